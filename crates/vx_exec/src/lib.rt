@@ -1,0 +1,6 @@
+//! The executive.
+#![tactic(auto)]
+
+mod standing;
+
+pub use standing::Standing;

@@ -1,0 +1,97 @@
+-- The canonical script of a system.
+use Rattle.std.specs.Prelude.{ℕ, ◌==◌, List, [], ◌∷◌, ◌++◌, map, flat_map, codes, decimal, Bool, true, false, slice_index_or, if◌then◌else◌}
+use Rattle.vx_base.specs.State.{one}
+use Rattle.vx_base.specs.declared.call.TheConstants.{SETEF, CLREF, READEF, EXIT}
+use Rattle.vx_base.specs.declared.call.Arg.{Arg}
+use Rattle.vx_base.specs.declared.call.Arg.TheVariants as arg
+use Rattle.vx_base.specs.declared.call.Operand.{Operand}
+use Rattle.vx_base.specs.declared.call.Operand.TheVariants.{Num}
+use Rattle.vx_base.specs.declared.call.Target.{Target}
+use Rattle.vx_base.specs.declared.call.Target.TheVariants.{Var, R0}
+use Rattle.vx_base.specs.declared.call.Args.{Args}
+use Rattle.vx_base.specs.declared.call.Call.{Call}
+use Rattle.vx_base.specs.declared.mode.Mode.{Mode}
+use Rattle.vx_base.specs.declared.mode.Mode.TheVariants.{Kernel, Exec, Super, User}
+use Rattle.vx_base.specs.declared.system.Stmt.{Stmt}
+use Rattle.vx_base.specs.declared.system.Stmt.TheVariants.{Service}
+use Rattle.vx_base.specs.declared.system.Image.{Image}
+use Rattle.vx_base.specs.declared.system.Privs.{Privs}
+use Rattle.vx_base.specs.declared.system.ProcDecl.{ProcDecl}
+use Rattle.vx_base.specs.declared.system.System.{System}
+use Rattle.vx_script.specs.Form.{ended_lines}
+
+abbrev pub service_name : ℕ → List ℕ
+service_name n = if n == SETEF then codes "$SETEF" else (if n == CLREF then codes "$CLREF" else (if n == READEF then codes "$READEF" else (if n == EXIT then codes "$EXIT" else [])))
+
+abbrev pub operand_text : Operand → List ℕ
+operand_text (Num n) = decimal n
+
+abbrev pub target_text : Target → List ℕ
+target_text (Var v) = v ∷ []
+target_text R0 = codes "R0"
+
+-- arguments up to the first that is not used, with this byte before the first and a comma before each other
+abbrev pub args_text : ℕ → List Arg → List ℕ
+args_text before [] = []
+args_text before (arg.Value x ∷ args) = before ∷ (operand_text x ++ args_text 44 args)
+args_text before (arg.Target t ∷ args) = before ∷ (target_text t ++ args_text 44 args)
+args_text before (arg.Unused ∷ args) = []
+
+abbrev pub args_list : Args → List Arg
+args_list a = a.a0 ∷ a.a1 ∷ a.a2 ∷ a.a3 ∷ a.a4 ∷ a.a5 ∷ a.a6 ∷ a.a7 ∷ a.a8 ∷ []
+
+-- a call: its service's name, and its arguments behind a space
+abbrev pub call_text : Call → List ℕ
+call_text c = service_name c.service ++ args_text 32 (args_list c.args)
+
+abbrev pub stmt_line : Stmt → List ℕ
+stmt_line (Service c) = codes "  " ++ call_text c
+
+abbrev pub image_lines : Image → List (List ℕ)
+image_lines i = (codes "IMAGE " ++ i.name) ∷ (map stmt_line i.stmts ++ codes "END" ∷ [])
+
+abbrev pub mode_name : Mode → List ℕ
+mode_name Kernel = codes "KERNEL"
+mode_name Exec = codes "EXEC"
+mode_name Super = codes "SUPER"
+mode_name User = codes "USER"
+
+-- a name where the privilege is held
+abbrev pub held : Bool → List ℕ → List (List ℕ)
+held true name = name ∷ []
+held false name = []
+
+abbrev pub privilege_names : Privs → List (List ℕ)
+privilege_names p = held p.cmexec (codes "CMEXEC") ++ held p.cmkrnl (codes "CMKRNL") ++ held p.group (codes "GROUP") ++ held p.prmceb (codes "PRMCEB") ++ held p.prmmbx (codes "PRMMBX") ++ held p.world (codes "WORLD")
+
+-- each with a plus before it
+abbrev pub and_names : List (List ℕ) → List ℕ
+and_names names = flat_map (λ name. 43 ∷ name) names
+
+-- the names joined by a plus, or NONE
+abbrev pub names_text : List (List ℕ) → List ℕ
+names_text [] = codes "NONE"
+names_text (name ∷ names) = name ++ and_names names
+
+abbrev pub no_image : Image
+no_image = record { name = []; stmts = [] }
+
+-- a PROCESS line with all its keys
+abbrev pub decl_line : List Image → ProcDecl → List ℕ
+decl_line images d =
+    codes "PROCESS " ++ d.name ++ codes " " ++ (slice_index_or images d.image no_image).name
+    ++ codes " UIC=" ++ decimal d.group ++ codes ":" ++ decimal d.member
+    ++ codes " MODE=" ++ mode_name d.mode
+    ++ codes " ASTLM=" ++ decimal d.limits.ast
+    ++ codes " BIOLM=" ++ decimal d.limits.bio
+    ++ codes " DIOLM=" ++ decimal d.limits.dio
+    ++ codes " BYTLM=" ++ decimal d.limits.byt
+    ++ codes " TQELM=" ++ decimal d.limits.tqe
+    ++ codes " PRIV=" ++ names_text (privilege_names d.privs)
+    ++ codes " START=" ++ decimal (one d.start)
+
+abbrev pub script_lines : System → List (List ℕ)
+script_lines s = flat_map image_lines s.images ++ map (decl_line s.images) s.decls
+
+abbrev pub script : System → List ℕ
+script s = ended_lines (script_lines s)

@@ -1,0 +1,2 @@
+//! Reads a script, and prints it.
+#![tactic(auto)]
