@@ -52,7 +52,9 @@ read_of s n = record { answer = Ok n; bytes = take n s.left; after = record s { 
 -- one read into so many bytes: a fault at the numbers that fail, and else as much as the buffer, the piece and what is
 -- left allow
 abbrev pub one_read : SourceState → ℕ → Read
-one_read s room = let t = called s in if is_among t.fails t.calls then read_fault t else read_of t (min (min room t.piece) (length t.left))
+one_read s room =
+    let t = called s in
+    if is_among t.fails t.calls then read_fault t else read_of t (min (min room t.piece) (length t.left))
 
 -- the answer, the front of the buffer and the source are those of the read, and the rest of the buffer is as it was
 pub record DoesRead (read : Read) (answer : Result ℕ Failed) (buf_old buf_new : List ℕ) (after : SourceState) : Type 0 where
@@ -80,7 +82,10 @@ write_of s bytes = record { answer = Ok (length bytes); after = record s { held 
 -- one write: a fault where its front is more than the room left, and at the numbers that fail, and else its front, as
 -- long as the piece allows
 abbrev pub one_write : SinkState → List ℕ → Write
-one_write s bytes = let t = sink_called s in let front = take t.piece bytes in if nat_lt (t.room - length t.held) (length front) || is_among t.fails t.calls then write_fault t else write_of t front
+one_write s bytes =
+    let t = sink_called s in
+    let front = take t.piece bytes in
+    if nat_lt (t.room - length t.held) (length front) || is_among t.fails t.calls then write_fault t else write_of t front
 
 -- the answer and the sink are those of the write
 pub record DoesWrite (write : Write) (answer : Result ℕ Failed) (after : SinkState) : Type 0 where

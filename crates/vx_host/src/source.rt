@@ -69,9 +69,12 @@ pub trait Source {
 /// All bytes up to the end, of which there may be `max`. Refuses a source with more, once it has given `max + 1`.
 pub fn read_all<S: Source>(alloc: Global, source: &mut S, max: u32) -> Result<Bytes, ReadFail>
     ensures all { IfOk result (λ bytes. TakesAll max (S.left source.old) (S.left source.new) bytes) }
-    ensures too_long { IsErrOf result ReadFail.TooLong → Takes (max + 1) (S.left source.old) (S.left source.new) }
-    ensures within { IsErrOf result ReadFail.Fault → TakesAtMost max (S.left source.old) (S.left source.new) }
-    ensures fault { IsErrOf result ReadFail.Fault → Rose (S.faults source.old) (S.faults source.new) }
+    ensures too_long { IsErrOf result ReadFail.TooLong →
+        Takes (max + 1) (S.left source.old) (S.left source.new) }
+    ensures within { IsErrOf result ReadFail.Fault →
+        TakesAtMost max (S.left source.old) (S.left source.new) }
+    ensures fault { IsErrOf result ReadFail.Fault →
+        Rose (S.faults source.old) (S.faults source.new) }
     ensures later { S.faults source.old ≤ S.faults source.new }
 {
     let mut bytes = Bytes::new(alloc);

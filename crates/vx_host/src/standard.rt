@@ -45,9 +45,11 @@ impl<R: Read + Drop> Source for StdSource<R> {
 
     fn read(&mut self, buf: &mut [u8]) -> Result<usize, Failed>
         ensures bound { ReadsAtMost result buf.new }
-        ensures bytes { ReadConsumes (R.remaining self.old.inner) (R.remaining self.new.inner) result buf.new }
+        ensures bytes { ReadConsumes (R.remaining self.old.inner) (R.remaining self.new.inner)
+            result buf.new }
         ensures cause { HasCause self.old.faults self.new.faults result }
-        ensures count { self.new.faults ≡ (if is_ok result then self.old.faults else counted self.old.faults) }
+        ensures count { self.new.faults ≡
+            (if is_ok result then self.old.faults else counted self.old.faults) }
     {
         match self.reader.read(buf) {
             Ok(count) => Ok(count),
@@ -92,9 +94,11 @@ impl<W: Write + Drop> Sink for StdSink<W> {
     fn write(&mut self, piece: &[u8]) -> Result<usize, Failed>
         ensures bound { WritesAtMost result piece.now }
         ensures takes { IfOk result (λ n. 0 < length piece.now → 0 < n) }
-        ensures bytes { WriteAppends (W.contents self.old.inner) (W.contents self.new.inner) result piece.now }
+        ensures bytes { WriteAppends (W.contents self.old.inner) (W.contents self.new.inner)
+            result piece.now }
         ensures cause { HasCause self.old.faults self.new.faults result }
-        ensures count { self.new.faults ≡ (if is_ok result then self.old.faults else counted self.old.faults) }
+        ensures count { self.new.faults ≡
+            (if is_ok result then self.old.faults else counted self.old.faults) }
     {
         match self.writer.write(piece) {
             Ok(count) if count > 0 || piece.is_empty() => Ok(count),
