@@ -1,10 +1,10 @@
 -- A source that gives its front, and a sink that takes a piece in several writes.
-use Rattle.std.proofs.Common.{ap, ◌≤◌, ◌<◌, min, take-append-drop, ◌≡◌, ℕ, ◌+◌, ◌-◌, arith, List, [], ◌++◌, length, take, drop, subst, sym, Option, Some, Ok, length-append, length-drop}
+use Rattle.std.proofs.Common.{ap, ◌≤◌, ◌<◌, min, take-append-drop, ◌≡◌, ℕ, ◌+◌, ◌-◌, arith, List, [], ◌++◌, length, take, drop, subst, sym, Option, length-append, length-drop}
 use Rattle.std.proofs.Math.Seq.{take-add}
-use Rattle.std.proofs.lemmas.List.{drop-drop, drop_all}
+use Rattle.std.proofs.lemmas.List.{drop_all}
 use Rattle.std.proofs.lemmas.Grind.{common_steps}
 use Rattle.std.proofs.KnownBytes.{Appends-trans}
-use Rattle.std.specs.Io.KnownBytes.{Appends, Consumes, IsAtEnd}
+use Rattle.std.specs.Io.KnownBytes.{Appends}
 
 pub Appends-take_more : (a b c : Option (List ℕ)) (piece : List ℕ) (n k : ℕ) → Appends a b (take n piece) → Appends b c (take k (drop n piece)) → Appends a c (take (n + k) piece)
 Appends-take_more a b c piece n k p q =

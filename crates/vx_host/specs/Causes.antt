@@ -1,5 +1,5 @@
 -- A count of faults that never falls.
-use Rattle.std.specs.Prelude.{◌≡◌, ◌≢◌, ℕ, ◌+◌, ◌-◌, ◌^◌, ◌<◌, ◌≤◌, min, Result, OnErr}
+use Rattle.std.specs.Prelude.{◌≢◌, ℕ, ◌+◌, ◌-◌, ◌^◌, ◌<◌, ◌≤◌, min, Result, OnErr}
 
 -- the last value of a count, 18446744073709551615, at which it stops
 abbrev pub last_count : ℕ

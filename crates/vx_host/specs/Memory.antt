@@ -1,5 +1,5 @@
 -- A source and a sink in memory, and what one call of each does.
-use Rattle.std.specs.Prelude.{◌≡◌, ℕ, ◌+◌, ◌-◌, min, nat_lt, ◌==◌, Bool, ◌||◌, if◌then◌else◌, List, [], ◌++◌, length, take, drop, Result, Ok, Err}
+use Rattle.std.specs.Prelude.{◌≡◌, ℕ, ◌-◌, min, nat_lt, ◌==◌, Bool, ◌||◌, if◌then◌else◌, List, [], ◌++◌, length, take, drop, Result, Ok, Err}
 use Rattle.std.specs.List.{list_any}
 use Rattle.vx_host.specs.Causes.{counted}
 use Rattle.vx_host.specs.declared.source.Failed.{Failed}

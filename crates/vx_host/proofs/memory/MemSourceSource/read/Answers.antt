@@ -1,4 +1,4 @@
-use Rattle.std.proofs.Common.{◌≡◌, ◌≤◌, ◌+◌, ◌-◌, min, length, take, drop, arith, ap, length-drop, sym}
+use Rattle.std.proofs.Common.{◌≡◌, min, length, take, drop, arith}
 use Rattle.std.proofs.lemmas.Grind.{common_steps}
 use Rattle.std.proofs.lemmas.List.{drop-drop}
 use Rattle.vx_host.proofs.Known.{Consumes-front, end_at_none}
