@@ -14,6 +14,8 @@ use Rattle.vx_base.specs.declared.system.Stmt.{Stmt}
 use Rattle.vx_base.specs.declared.system.Stmt.TheVariants.{Service}
 use Rattle.vx_base.specs.declared.system.ProcDecl.{ProcDecl}
 use Rattle.vx_base.specs.declared.system.System.{System}
+use Rattle.vx_script.specs.declared.fault.FaultKind.TheVariants.{Later}
+use Rattle.vx_script.specs.declared.fault.ScriptFault.{ScriptFault}
 
 -- a statement, as it is written
 pub data Statement : Type 0 where
@@ -110,3 +112,9 @@ pub record Reads (text : List ℕ) (system : System) : Type 0 where
 -- The text is not of the form.
 abbrev pub HasNoForm : List ℕ → Type 0
 HasNoForm text = (f : Form) → IsForm f → spelled f ≢ text
+
+-- The fault tells of the first line that it is not built yet, and the text is not of the form.
+pub record RefusesAll (fault : ScriptFault) (text : List ℕ) : Type 0 where
+  pub line : fault.line ≡ 1
+  pub kind : fault.kind ≡ Later
+  pub none : HasNoForm text

@@ -15,6 +15,7 @@ use Rattle.vx_base.specs.declared.mode.Mode.TheVariants.{Kernel, Exec, Super, Us
 use Rattle.vx_base.specs.declared.system.Stmt.{Stmt}
 use Rattle.vx_base.specs.declared.system.Stmt.TheVariants.{Service}
 use Rattle.vx_base.specs.declared.system.Image.{Image}
+use Rattle.vx_base.specs.declared.system.Need.{Need}
 use Rattle.vx_base.specs.declared.system.Privs.{Privs}
 use Rattle.vx_base.specs.declared.system.ProcDecl.{ProcDecl}
 use Rattle.vx_base.specs.declared.system.System.{System}
@@ -76,19 +77,30 @@ names_text (name ∷ names) = name ++ and_names names
 abbrev pub no_image : Image
 no_image = record { name = []; stmts = [] }
 
+-- a PROCESS line's names: its own, and its image's
+unfoldable pub decl_names : List Image → ProcDecl → List ℕ
+decl_names images d = codes "PROCESS " ++ d.name ++ codes " " ++ (slice_index_or images d.image no_image).name
+
+-- its keys for the identification code and the mode
+unfoldable pub rights_keys : ProcDecl → List ℕ
+rights_keys d = codes " UIC=" ++ decimal d.group ++ codes ":" ++ decimal d.member ++ codes " MODE=" ++ mode_name d.mode
+
+-- its keys for the quota limits
+unfoldable pub limits_keys : Need → List ℕ
+limits_keys n =
+    codes " ASTLM=" ++ decimal n.ast
+    ++ codes " BIOLM=" ++ decimal n.bio
+    ++ codes " DIOLM=" ++ decimal n.dio
+    ++ codes " BYTLM=" ++ decimal n.byt
+    ++ codes " TQELM=" ++ decimal n.tqe
+
+-- its keys for the privileges, and for whether it is there from the start
+unfoldable pub start_keys : ProcDecl → List ℕ
+start_keys d = codes " PRIV=" ++ names_text (privilege_names d.privs) ++ codes " START=" ++ decimal (one d.start)
+
 -- a PROCESS line with all its keys
-abbrev pub decl_line : List Image → ProcDecl → List ℕ
-decl_line images d =
-    codes "PROCESS " ++ d.name ++ codes " " ++ (slice_index_or images d.image no_image).name
-    ++ codes " UIC=" ++ decimal d.group ++ codes ":" ++ decimal d.member
-    ++ codes " MODE=" ++ mode_name d.mode
-    ++ codes " ASTLM=" ++ decimal d.limits.ast
-    ++ codes " BIOLM=" ++ decimal d.limits.bio
-    ++ codes " DIOLM=" ++ decimal d.limits.dio
-    ++ codes " BYTLM=" ++ decimal d.limits.byt
-    ++ codes " TQELM=" ++ decimal d.limits.tqe
-    ++ codes " PRIV=" ++ names_text (privilege_names d.privs)
-    ++ codes " START=" ++ decimal (one d.start)
+unfoldable pub decl_line : List Image → ProcDecl → List ℕ
+decl_line images d = decl_names images d ++ rights_keys d ++ limits_keys d.limits ++ start_keys d
 
 abbrev pub script_lines : System → List (List ℕ)
 script_lines s = flat_map image_lines s.images ++ map (decl_line s.images) s.decls
