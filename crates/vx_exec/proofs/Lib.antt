@@ -1,0 +1,5 @@
+pub mod Built
+pub mod Changed
+pub mod Enabled
+pub mod Keeps
+pub mod Words
