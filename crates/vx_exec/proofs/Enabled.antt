@@ -1,5 +1,5 @@
 -- What is known of an enabled event.
-use Rattle.std.proofs.Common.{◌≡◌, ℕ, zero, suc, ◌+◌, ◌-◌, ◌<◌, ◌≤◌, List, [], ◌∷◌, length, map, slice_index_or, Contains, Bool, true, false, cond, Some, None, inl, inr, nat_le, refl, arith}
+use Rattle.std.proofs.Common.{◌≡◌, ℕ, zero, suc, ◌+◌, ◌-◌, ◌<◌, ◌≤◌, List, [], ◌∷◌, length, map, slice_index_or, Contains, Bool, true, false, cond, Some, None, inl, inr, nat_le, refl, add-zero, arith}
 use Rattle.std.specs.List.{AllByRecursion}
 use Rattle.std.proofs.lemmas.Bool.{leb-false}
 use Rattle.std.proofs.lemmas.List.Elements.{Contains-append_cases}
@@ -10,34 +10,57 @@ use Rattle.vx_base.specs.declared.frame.Phase.TheVariants.{Alive, Handlers, Dele
 use Rattle.vx_base.specs.declared.number.Pid.{Pid}
 use Rattle.vx_base.specs.declared.record.End.TheVariants.{Done, Hung, Limit}
 use Rattle.vx_base.specs.declared.record.Event.{Event}
-use Rattle.vx_exec.specs.Model.{IsProcess, nobody, event_without_frame, event_of, events_from, enabled, end_with}
+use Rattle.vx_exec.specs.Model.{IsProcess, process_at, nobody, event_without_frame, event_of, events_from, enabled, end_with}
 use Rattle.vx_exec.specs.Sound.{IsDeclared, IsSound, process_of}
 
 only : (x e : Event) (k : ℕ) → k < 1 → slice_index_or (x ∷ []) k e ≡ e → x ≡ e
 only x e zero below is = is
 only x e (suc k) below is = absurd (omega arith)
 
--- it is of this process
+pub contains_one : (x e : Event) → Contains (x ∷ []) e → x ≡ e
+contains_one x e (k, below, is) = only x e k below is
+
+pub contains_none : {P : Type 0} (e : Event) → Contains [] e → P
+contains_none e (k, below, is) = absurd (omega arith)
+
+-- an event of a process is of its number
 number_without_frame : (n : ℕ) (phase : Phase) (e : Event) → Contains (event_without_frame n phase) e → (process_of e).0 ≡ n
-number_without_frame n Alive e (k, below, is) = rw (← only _ e k below is) refl
-number_without_frame n (Handlers m) e (k, below, is) = rw (← only _ e k below is) refl
-number_without_frame n Deleted e (k, below, is) = absurd (omega arith)
+number_without_frame n Alive e there = rw (← contains_one _ e there) refl
+number_without_frame n (Handlers m) e there = rw (← contains_one _ e there) refl
+number_without_frame n Deleted e there = contains_none e there
 
 number_of_event : (n : ℕ) (phase : Phase) (frames : List Frame) (e : Event) → Contains (event_of n phase frames) e → (process_of e).0 ≡ n
 number_of_event n phase [] e there = number_without_frame n phase e there
-number_of_event n phase (f ∷ fs) e (k, below, is) = rw (← only _ e k below is) refl
+number_of_event n phase (f ∷ fs) e there = rw (← contains_one _ e there) refl
 
-number_from : (n : ℕ) (prs : List Process) (e : Event) → Contains (events_from n prs) e → (n ≤ (process_of e).0) × ((process_of e).0 < n + length prs)
-number_from n [] e (k, below, is) = absurd (omega arith)
-number_from n (pr ∷ prs) e there =
+-- the process at place i, of those from number n on, is there and has this event
+record IsDue (n : ℕ) (prs : List Process) (e : Event) (i : ℕ) : Type 0 where
+  pub number : (process_of e).0 ≡ n + i
+  pub within : i < length prs
+  pub event : let pr = slice_index_or prs i nobody in Contains (event_of (n + i) pr.phase pr.frames) e
+
+due_from : (n : ℕ) (prs : List Process) (e : Event) → Contains (events_from n prs) e → (i : ℕ) × IsDue n prs e i
+due_from n [] e there = contains_none e there
+due_from n (pr ∷ prs) e there =
     elim (Contains-append_cases (event_of n pr.phase pr.frames) (events_from (n + 1) prs) e there) [
-      | inl here ↦ let same = number_of_event n pr.phase pr.frames e here in (omega arith, omega arith)
-      | inr later ↦ let rest = number_from (n + 1) prs e later in (omega arith, omega arith)
+      | inl here ↦ let same = number_of_event n pr.phase pr.frames e here in (0, record { number = omega arith; within = omega arith; event = rw add-zero here })
+      | inr later ↦
+          let (i, due) = due_from (n + 1) prs e later in
+          let e1 : n + 1 + i ≡ n + suc i = omega arith in
+          (suc i, record { number = omega (arith, due.number); within = omega (arith, due.within); event = rw e1 at due.event })
     ]
 
 -- the process of an enabled event is there
 pub enabled_made : (s : State) (e : Event) → Contains (enabled s) e → IsProcess s (process_of e)
-enabled_made s e there = let range = number_from 1 s.procs e there in record { above = omega arith; within = omega arith }
+enabled_made s e there = let (i, due) = due_from 1 s.procs e there in record { above = omega (arith, due.number); within = omega (arith, due.number, due.within) }
+
+-- and has it as its event
+pub enabled_due : (s : State) (e : Event) → Contains (enabled s) e → let pr = process_at s (process_of e) in Contains (event_of (process_of e).0 pr.phase pr.frames) e
+enabled_due s e there =
+    let (i, due) = due_from 1 s.procs e there in
+    let place : (process_of e).0 - 1 ≡ i = omega (arith, due.number) in
+    let number : (process_of e).0 ≡ 1 + i = due.number in
+    rw (place, number) due.event
 
 declared_at : (n : ℕ) (prs : List Process) (i : ℕ) → i < length prs → AllByRecursion (λ place. place < n) (map (λ (pr : Process). pr.decl) prs) → (slice_index_or prs i nobody).decl < n
 declared_at n [] i below all = absurd (omega arith)

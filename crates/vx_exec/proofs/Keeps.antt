@@ -18,10 +18,10 @@ use Rattle.vx_base.specs.declared.system.Stmt.TheVariants.{Service}
 use Rattle.vx_exec.specs.Model.{Outcome, IsProcess, process_at, nobody, with_flag, stored, exited, spot, put_flag_at, put_flag, read_flags_at, read_flags, value, target, service, next_stmt, past_stmt, run_at, step}
 use Rattle.vx_exec.specs.Sound.{Keeps, IsSound}
 
-keeps_all : (s : State) → Keeps s s
+pub keeps_all : (s : State) → Keeps s s
 keeps_all s = record { system = refl; decls = refl }
 
-keeps_more : (s t u : State) → Keeps s t → Keeps t u → Keeps s u
+pub keeps_more : (s t u : State) → Keeps s t → Keeps t u → Keeps s u
 keeps_more s t u k l = record { system = l.system ∙ k.system; decls = l.decls ∙ k.decls }
 
 -- a process in place of another of its declaration
@@ -29,7 +29,7 @@ keeps_put : (s : State) (p : Pid) (new : Process) → new.decl ≡ (process_at s
 keeps_put s p new same = record { system = refl; decls = map-set_same (λ (pr : Process). pr.decl) s.procs (p.0 - 1) new nobody same }
 
 -- what holds of both holds of the one that is chosen
-either : {A : Type 0} (P : A → Type 0) (b : Bool) (x y : A) → P x → P y → P (cond b x y)
+pub either : {A : Type 0} (P : A → Type 0) (b : Bool) (x y : A) → P x → P y → P (cond b x y)
 either P true x y h k = h
 either P false x y h k = k
 
@@ -78,7 +78,7 @@ pub step_keeps : (s : State) (e : Event) → Keeps s (step s e).after
 step_keeps s (Run p) = run_keeps s p (next_stmt s p)
 step_keeps s (Rdn p) = keeps_put s p _ refl
 
-same_length : (s t : State) → Keeps s t → length t.procs ≡ length s.procs
+pub same_length : (s t : State) → Keeps s t → length t.procs ≡ length s.procs
 same_length s t k = omega (arith, length-map s.procs (λ (pr : Process). pr.decl), length-map t.procs (λ (pr : Process). pr.decl), ap length k.decls)
 
 -- a service leaves a process a process

@@ -2,7 +2,7 @@
 
 ghost use Rattle.std.specs.Prelude.{◌≡◌, ◌<◌, ◌≤◌, ◌+◌, ◌-◌, Contains, IfOk, IsTrue, None, OnErr, OnOk, length, slice_get};
 ghost use Rattle.vx_base.specs.Built.{is_built};
-ghost use Rattle.vx_exec.specs.Model.{IsProcess, IsStep, decl_of, enabled, end_of, first, process_at, step};
+ghost use Rattle.vx_exec.specs.Model.{HasOneRun, IsProcess, IsStep, decl_of, enabled, end_of, first, process_at, step};
 ghost use Rattle.vx_exec.specs.Standing.{code_of, standing_of};
 ghost use Rattle.vx_exec.specs.View.{plan};
 
@@ -39,11 +39,13 @@ impl Model for Exec {
 
 impl Exec {
     /// The executive of a system before its first event, whose runs may have so many records.
+    #[tactic(auto, using(crate::proofs::OneRun::one_run))]
     pub fn new(alloc: Global, system: System, limit: u32) -> Result<Exec, NoMemory>
         requires built { IsTrue (is_built system) }
         requires above { 0 < limit }
         requires within { limit ≤ 100000 }
-        ensures { IfOk result (λ exec. exec ≡ record { state = first system; limit = limit; taken = 0 }) }
+        ensures opens { IfOk result (λ exec. exec ≡ record { state = first system; limit = limit; taken = 0 }) }
+        ensures one_run { HasOneRun (first system) }
     {
         let procs = first_procs(alloc, &system.decls)?;
         Ok(Exec {
