@@ -1,5 +1,5 @@
 -- How many records a state has left at most: each enabled event takes one.
-use Rattle.std.proofs.Common.{◌≡◌, ℕ, zero, suc, ◌+◌, ◌-◌, ◌<◌, ◌≤◌, List, [], ◌∷◌, length, slice_get, slice_index_or, slice_set, Contains, Bool, true, false, cond, Option, Some, None, IsTrue, nat_lt, ◌==◌, refl, arith}
+use Rattle.std.proofs.Common.{◌≡◌, ℕ, zero, suc, ◌+◌, ◌-◌, ◌<◌, ◌≤◌, List, [], ◌∷◌, length, slice_index_or, slice_set, Contains, Bool, true, false, Option, Some, None, IsTrue, nat_lt, ◌==◌, refl, arith}
 use Rattle.std.proofs.lemmas.Bool.{and_parts}
 use Rattle.std.proofs.lemmas.Option.{slice_get_within}
 use Rattle.vx_base.specs.Built.{is_built, are_built_decls}
@@ -13,7 +13,6 @@ use Rattle.vx_base.specs.declared.cond.Cond.{Cond}
 use Rattle.vx_base.specs.declared.frame.Frame.{Frame}
 use Rattle.vx_base.specs.declared.frame.Phase.{Phase}
 use Rattle.vx_base.specs.declared.frame.Phase.TheVariants.{Alive, Handlers, Deleted}
-use Rattle.vx_base.specs.declared.mode.Mode.{Mode}
 use Rattle.vx_base.specs.declared.number.Pid.{Pid}
 use Rattle.vx_base.specs.declared.record.Event.{Event}
 use Rattle.vx_base.specs.declared.record.Event.TheVariants.{Run, Rdn}
@@ -26,7 +25,6 @@ use Rattle.vx_base.specs.declared.system.Stmt.{Stmt}
 use Rattle.vx_base.specs.declared.system.Stmt.TheVariants.{Service}
 use Rattle.vx_base.specs.declared.system.System.{System}
 use Rattle.vx_exec.specs.Model.{Outcome, IsProcess, process_at, image_of, nobody, with_flag, stored, exited, spot, put_flag_at, put_flag, read_flags_at, read_flags, current, leaving, value, target, service, stmt_at, next_stmt, moved_on, past_stmt, run_at, step, event_of, enabled, born, born_from, first, IsRun}
-use Rattle.vx_exec.specs.Sound.{process_of}
 use Rattle.vx_exec.proofs.Built.{decls_built, image_small}
 use Rattle.vx_exec.proofs.Enabled.{contains_one, contains_none, enabled_made, enabled_due}
 use Rattle.vx_exec.proofs.Keeps.{either}

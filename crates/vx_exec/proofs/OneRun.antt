@@ -1,5 +1,5 @@
 -- A system that runs so far has one run.
-use Rattle.std.proofs.Common.{◌≡◌, ℕ, suc, ◌+◌, ◌-◌, ◌<◌, ◌≤◌, List, [], ◌∷◌, ◌++◌, ◌==◌, length, Contains, Bool, true, false, cond, IsTrue, refl, sym, ap, ◌∙◌, subst, arith, length-append}
+use Rattle.std.proofs.Common.{◌≡◌, ℕ, ◌+◌, ◌≤◌, List, [], ◌∷◌, ◌==◌, length, Contains, true, IsTrue, refl, sym, ap, ◌∙◌, subst, arith, length-append}
 use Rattle.std.specs.List.{list_all}
 use Rattle.std.proofs.lemmas.Bool.{and_parts}
 use Rattle.vx_base.specs.Built.{is_built, are_built_decls}
@@ -13,7 +13,7 @@ use Rattle.vx_base.specs.declared.record.Event.{Event}
 use Rattle.vx_base.specs.declared.record.Rec.{Rec}
 use Rattle.vx_base.specs.declared.system.ProcDecl.{ProcDecl}
 use Rattle.vx_base.specs.declared.system.System.{System}
-use Rattle.vx_exec.specs.Model.{event_of, events_from, enabled, is_last, is_deleted, are_deleted, born, born_from, first, step, IsStep, IsRun, IsWhole, after, HasOneRun}
+use Rattle.vx_exec.specs.Model.{event_of, events_from, enabled, is_last, is_deleted, are_deleted, born_from, first, step, IsStep, IsWhole, after, HasOneRun}
 use Rattle.vx_exec.specs.Sound.{Keeps}
 use Rattle.vx_exec.proofs.Built.{decls_built}
 use Rattle.vx_exec.proofs.Enabled.{contains_one, contains_none}
