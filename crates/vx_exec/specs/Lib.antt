@@ -1,3 +1,5 @@
 pub mod Model
+pub mod Procs
+pub mod Sound
 pub mod Standing
 pub mod View

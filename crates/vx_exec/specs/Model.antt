@@ -1,6 +1,7 @@
 -- The plain machine: what each event does to the plain state, which events are enabled, what a run is and how it ends.
 use Rattle.std.specs.Prelude.{◌≡◌, ℕ, ◌+◌, ◌-◌, ◌≤◌, nat_lt, nat_le, List, [], ◌∷◌, ◌++◌, length, replicate, slice_get, slice_index_or, slice_set, Contains, Bool, true, false, ◌==◌, Option, Some, None, if◌then◌else◌, ⊤}
 use Rattle.std.specs.List.{list_all}
+use Rattle.vx_base.specs.Built.{is_letter}
 use Rattle.vx_base.specs.Cond.{number_of}
 use Rattle.vx_base.specs.State.{Storage, Process, State, word}
 use Rattle.vx_base.specs.declared.call.TheConstants.{SETEF, CLREF, READEF, EXIT}
@@ -110,8 +111,9 @@ refused s c = answered c (nothing s)
 
 -- The store.
 
+-- a byte that is no letter names no variable
 abbrev pub with_target : Storage → Target → ℕ → Storage
-with_target store (Var v) n = record store { vars = slice_set store.vars (v - 65) n }
+with_target store (Var v) n = if is_letter v then record store { vars = slice_set store.vars (v - 65) n } else store
 with_target store R0 n = record store { r0 = n }
 
 abbrev pub stored : State → Pid → Target → ℕ → State

@@ -1,5 +1,5 @@
 -- What an executive stands for.
-use Rattle.std.specs.Prelude.{◌≡◌, ℕ, ◌+◌}
+use Rattle.std.specs.Prelude.{◌≡◌, ℕ}
 use Rattle.vx_base.specs.Log.{Log, logged}
 use Rattle.vx_base.specs.State.{State}
 use Rattle.vx_base.specs.declared.system.System.{System}

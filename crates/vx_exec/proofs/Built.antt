@@ -1,0 +1,38 @@
+-- What is known of a system that runs so far.
+use Rattle.std.proofs.Common.{◌≡◌, ℕ, zero, suc, ◌≤◌, List, [], ◌∷◌, length, slice_index_or, nat_le, Some, IsTrue, true, arith}
+use Rattle.std.specs.List.{list_all}
+use Rattle.std.proofs.lemmas.Bool.{and_parts, leb-true}
+use Rattle.std.proofs.lemmas.Option.{slice_get_within}
+use Rattle.vx_base.specs.Built.{is_built, is_built_stmt, are_built_images, are_built_decls}
+use Rattle.vx_base.specs.State.{Process, State}
+use Rattle.vx_base.specs.declared.frame.Frame.{Frame}
+use Rattle.vx_base.specs.declared.number.Pid.{Pid}
+use Rattle.vx_base.specs.declared.system.Image.{Image}
+use Rattle.vx_base.specs.declared.system.Stmt.{Stmt}
+use Rattle.vx_base.specs.declared.system.System.{System}
+use Rattle.vx_exec.specs.Model.{image_of, next_stmt, no_image, process_at, stmt_at}
+use Rattle.vx_exec.specs.Sound.{HasNextPlace}
+
+pub images_built : (s : System) → IsTrue (is_built s) → are_built_images s.images ≡ true
+images_built s built = (and_parts (are_built_images s.images) (are_built_decls s.decls) built).0
+
+pub decls_built : (s : System) → IsTrue (is_built s) → are_built_decls s.decls ≡ true
+decls_built s built = (and_parts (are_built_images s.images) (are_built_decls s.decls) built).1
+
+small_image : (images : List Image) (i : ℕ) → are_built_images images ≡ true → length (slice_index_or images i no_image).stmts ≤ 1000
+small_image [] i built = cc
+small_image (image ∷ []) zero built = leb-true (length image.stmts) 1000 (and_parts (nat_le (length image.stmts) 1000) (list_all is_built_stmt image.stmts) built).0
+small_image (image ∷ []) (suc i) built = omega arith
+small_image (image ∷ other ∷ images) i built = cc
+
+-- an image has at most 1,000 statements
+pub image_small : (s : System) (pr : Process) → IsTrue (is_built s) → length (image_of s pr).stmts ≤ 1000
+image_small s pr built = small_image s.images _ (images_built s built)
+
+has_place : (image : Image) (frames : List Frame) (stmt : Stmt) → length image.stmts ≤ 1000 → stmt_at image frames ≡ Some stmt → HasNextPlace frames
+has_place image [] stmt small there = tt
+has_place image (f ∷ fs) stmt small there = omega (arith, slice_get_within image.stmts f.pc stmt there)
+
+-- behind a statement there is a place
+pub next_place : (s : State) (p : Pid) (stmt : Stmt) → IsTrue (is_built s.system) → next_stmt s p ≡ Some stmt → HasNextPlace (process_at s p).frames
+next_place s p stmt built there = has_place (image_of s.system (process_at s p)) (process_at s p).frames stmt (image_small s.system (process_at s p) built) there
