@@ -1,0 +1,127 @@
+//! The top call.
+
+ghost use Rattle.std.specs.Prelude.{◌≡◌, ◌≢◌, ◌⊎◌, ◌≤◌, IfOk, OnOk};
+ghost use Rattle.std.specs.Io.KnownBytes.{Appends};
+ghost use Rattle.vx_host.specs.Causes.{Rose};
+ghost use Rattle.vx_host.specs.Streams.{AppendsFront};
+ghost use Rattle.vms.specs.Simulated.{WritesRun, WritesRefusal, BreaksInput};
+ghost use Rattle.vms.specs.Top.{usage, too_long, read_fault, fault_line, kind_word, no_memory, RefusesWords, Overflows, FailsToRead, RunsOut, WritesTranscript, WritesFault, Breaks};
+
+use crate::command::{Command, command_of};
+use crate::simulate::transcript;
+use crate::status::Status;
+use std::alloc::Global;
+use vx_base::{Bytes, NoMemory};
+use vx_host::{ReadFail, Sink, Source, read_all, write_all};
+use vx_script::{FaultKind, ScriptFail, ScriptFault, print_num, read_script};
+
+/// The most bytes of an input.
+const MOST: u32 = 67_108_864;
+
+/// Writes the text of a call, and answers its status, or `WriteFault`.
+fn tell<K: Sink>(sink: &mut K, text: &[u8], status: Status) -> Status
+    requires { status ≢ Status.WriteFault }
+    ensures status { (result ≡ status) ⊎ (result ≡ Status.WriteFault) }
+    ensures whole { result ≢ Status.WriteFault → Appends (K.held sink.old) (K.held sink.new) text.now }
+    ensures front { result ≡ Status.WriteFault → AppendsFront (K.held sink.old) (K.held sink.new) text.now }
+    ensures cause { result ≡ Status.WriteFault → Rose (K.faults sink.old) (K.faults sink.new) }
+    ensures later { K.faults sink.old ≤ K.faults sink.new }
+{
+    match write_all(sink, text) {
+        Ok(()) => status,
+        Err(_) => Status::WriteFault,
+    }
+}
+
+/// Writes that no memory was found.
+pub fn tell_no_memory<K: Sink>(sink: &mut K) -> Status
+    ensures status { (result ≡ Status.NoMemory) ⊎ (result ≡ Status.WriteFault) }
+    ensures whole { result ≢ Status.WriteFault → Appends (K.held sink.old) (K.held sink.new) no_memory }
+    ensures front { result ≡ Status.WriteFault → AppendsFront (K.held sink.old) (K.held sink.new) no_memory }
+    ensures cause { result ≡ Status.WriteFault → Rose (K.faults sink.old) (K.faults sink.new) }
+    ensures later { K.faults sink.old ≤ K.faults sink.new }
+{
+    tell(sink, b"vms: no memory\n", Status::NoMemory)
+}
+
+fn kind_word(kind: FaultKind) -> &'static [u8]
+    ensures { result.now ≡ kind_word kind }
+{
+    match kind {
+        FaultKind::Later => b"LATER",
+    }
+}
+
+/// The line of a fault.
+fn fault_line(alloc: Global, fault: ScriptFault) -> Result<Bytes, NoMemory>
+    ensures { IfOk result (λ text. text ≡ fault_line fault) }
+{
+    let mut text = Bytes::new(alloc);
+    text.push_all(b"vms: line ")?;
+    print_num(alloc, u64::from(fault.line), &mut text)?;
+    text.push_all(b" ")?;
+    text.push_all(kind_word(fault.kind))?;
+    text.push_all(b"\n")?;
+    Ok(text)
+}
+
+/// Simulates an input that was read whole, and writes what it comes to.
+fn simulate<K: Sink>(alloc: Global, input: &Bytes, sink: &mut K) -> Status
+    ensures status { (result ≡ Status.Done) ⊎ (result ≡ Status.Form) ⊎ (result ≡ Status.NoMemory) ⊎ (result ≡ Status.WriteFault) }
+    ensures done { result ≡ Status.Done → WritesRun input.now (K.held sink.old) (K.held sink.new) }
+    ensures form { result ≡ Status.Form → WritesRefusal input.now (K.held sink.old) (K.held sink.new) }
+    ensures no_memory { result ≡ Status.NoMemory → Appends (K.held sink.old) (K.held sink.new) no_memory }
+    ensures front { result ≡ Status.WriteFault → BreaksInput input.now (K.held sink.old) (K.held sink.new) }
+    ensures cause { result ≡ Status.WriteFault → Rose (K.faults sink.old) (K.faults sink.new) }
+    ensures later { K.faults sink.old ≤ K.faults sink.new }
+{
+    match read_script(alloc, input.as_slice()) {
+        Ok(system) => match transcript(alloc, system) {
+            Ok(text) => tell(sink, text.as_slice(), Status::Done),
+            Err(NoMemory) => tell_no_memory(sink),
+        },
+        Err(ScriptFail::Fault(fault)) => match fault_line(alloc, fault) {
+            Ok(text) => tell(sink, text.as_slice(), Status::Form),
+            Err(NoMemory) => tell_no_memory(sink),
+        },
+        Err(ScriptFail::NoMemory) => tell_no_memory(sink),
+    }
+}
+
+/// The call that the program makes: what the words ask for, from the source to the sink. It waits for nobody, and
+/// returns where the source and the sink do. The words are those behind the program's name.
+pub fn quiet_call<S: Source, K: Sink>(
+    alloc: Global,
+    words: &[Bytes],
+    source: &mut S,
+    sink: &mut K,
+) -> Status
+    // The transcript of the script's one run was written.
+    ensures done { result ≡ Status.Done → WritesTranscript words.now (S.left source.old) (S.left source.new) (K.held sink.old) (K.held sink.new) }
+
+    // Another line was written, each for its cause.
+    ensures words { result ≡ Status.Words → RefusesWords words.now (S.left source.old) (S.left source.new) × Appends (K.held sink.old) (K.held sink.new) usage }
+    ensures form { result ≡ Status.Form → WritesFault words.now (S.left source.old) (S.left source.new) (K.held sink.old) (K.held sink.new) }
+    ensures read_fault { result ≡ Status.ReadFault → FailsToRead words.now (S.left source.old) (S.left source.new) × Appends (K.held sink.old) (K.held sink.new) read_fault }
+    ensures too_long { result ≡ Status.TooLong → Overflows words.now (S.left source.old) (S.left source.new) × Appends (K.held sink.old) (K.held sink.new) too_long }
+    ensures no_memory { result ≡ Status.NoMemory → RunsOut words.now × Appends (K.held sink.old) (K.held sink.new) no_memory }
+
+    // The sink failed in the middle of one of these texts.
+    ensures write_fault { result ≡ Status.WriteFault → Breaks words.now (S.left source.old) (S.left source.new) (K.held sink.old) (K.held sink.new) }
+
+    // A fault is answered only where its count rose, and no count falls.
+    ensures source_rose { result ≡ Status.ReadFault → Rose (S.faults source.old) (S.faults source.new) }
+    ensures sink_rose { result ≡ Status.WriteFault → Rose (K.faults sink.old) (K.faults sink.new) }
+    ensures source_later { S.faults source.old ≤ S.faults source.new }
+    ensures sink_later { K.faults sink.old ≤ K.faults sink.new }
+{
+    let Some(Command::Sim) = command_of(words) else {
+        return tell(sink, b"vms: usage\n", Status::Words);
+    };
+    match read_all(alloc, source, MOST) {
+        Ok(input) => simulate(alloc, &input, sink),
+        Err(ReadFail::Fault) => tell(sink, b"vms: read fault\n", Status::ReadFault),
+        Err(ReadFail::TooLong) => tell(sink, b"vms: input too long\n", Status::TooLong),
+        Err(ReadFail::NoMemory) => tell_no_memory(sink),
+    }
+}

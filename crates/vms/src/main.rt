@@ -1,0 +1,51 @@
+//! The program `vms`, a hosted executive with asynchronous services in the manner of OpenVMS.
+//!
+//! `quiet_call` is the top call: what the words ask for, from a source of bytes to a sink of bytes. Its contract says all
+//! that the program may answer and write. `main` hands it standard input, standard output and the words.
+#![tactic(auto)]
+
+mod call;
+mod command;
+mod example;
+mod print;
+mod run;
+mod simulate;
+mod status;
+
+use call::quiet_call;
+use status::Status;
+use std::env;
+use std::io::ErrorKind;
+use std::process::ExitCode;
+use vx_base::{Bytes, NoMemory};
+use vx_host::{Sink, StdSink, StdSource, write_all};
+
+#[cfg(test)]
+mod tests;
+
+/// The words behind the program's name. No word, where one of them is no text: no command has such a word.
+fn words_of(rt: &HostRuntime) -> Result<Vec<Bytes>, NoMemory> {
+    let mut words = Vec::new(rt.alloc());
+    match env::args(rt) {
+        Ok(args) => {
+            for arg in args.skip(1) {
+                let mut word = Bytes::new(rt.alloc());
+                word.push_all(arg.as_bytes())?;
+                words.push(word)?;
+            }
+            Ok(words)
+        }
+        Err(error) if error.kind() == ErrorKind::OutOfMemory => Err(NoMemory),
+        Err(_) => Ok(words),
+    }
+}
+
+fn main(rt: HostRuntime) -> ExitCode {
+    let mut source = StdSource::new(rt.stdin());
+    let mut sink = StdSink::new(rt.stdout());
+    let status = match words_of(&rt) {
+        Ok(words) => quiet_call(rt.alloc(), words.as_slice(), &mut source, &mut sink),
+        Err(NoMemory) => call::tell_no_memory(&mut sink),
+    };
+    ExitCode::from(status.code())
+}

@@ -1,0 +1,204 @@
+//! Prints records and the trailer.
+//!
+//! Each function appends its text; where memory is wanting it may have appended a front of it.
+
+ghost use Rattle.std.specs.Prelude.{◌≡◌, ◌++◌, ◌∷◌, [], map, decimal, OnOk};
+ghost use Rattle.vx_script.specs.Form.{ended_lines};
+ghost use Rattle.vx_exec.specs.Model.{IsProcess, process_at};
+ghost use Rattle.vms.specs.Transcript.{cell_text, effect_line, event_text, answer_text, head_line, record_lines, records_lines, standing_word, standing_line, process_line, process_lines, end_word, end_line, trailer_lines};
+
+use std::alloc::Global;
+use vx_base::{Answer, Bytes, Cell, Effect, End, Event, Name, NoMemory, Pid, Rec};
+use vx_exec::{Exec, Standing};
+use vx_script::{print_call, print_num, print_target};
+
+fn print_cell(alloc: Global, cell: Cell, out: &mut Bytes) -> Result<(), NoMemory>
+    ensures { OnOk result (out.new ≡ out.old ++ cell_text cell) }
+{
+    match cell {
+        Cell::Local(p, efn) => {
+            print_num(alloc, u64::from(p.0), out)?;
+            out.push_all(b":")?;
+            print_num(alloc, u64::from(efn), out)
+        }
+    }
+}
+
+fn print_effect(alloc: Global, effect: &Effect, out: &mut Bytes) -> Result<(), NoMemory>
+    ensures { OnOk result (out.new ≡ out.old ++ (effect_line effect.now ++ 10 ∷ [])) }
+{
+    match effect {
+        Effect::Flag { cell, bit } => {
+            out.push_all(b" FLAG ")?;
+            print_cell(alloc, *cell, out)?;
+            out.push_all(b" ")?;
+            print_num(alloc, u64::from(*bit), out)?;
+        }
+        Effect::Var { p, v, n } => {
+            out.push_all(b" VAR ")?;
+            print_num(alloc, u64::from(p.0), out)?;
+            out.push_all(b" ")?;
+            print_target(*v, out)?;
+            out.push_all(b" ")?;
+            print_num(alloc, u64::from(*n), out)?;
+        }
+        Effect::Gone(p) => {
+            out.push_all(b" GONE ")?;
+            print_num(alloc, u64::from(p.0), out)?;
+        }
+    }
+    out.push_all(b"\n")
+}
+
+fn print_event(alloc: Global, event: Event, out: &mut Bytes) -> Result<(), NoMemory>
+    ensures { OnOk result (out.new ≡ out.old ++ event_text event) }
+{
+    let p = match event {
+        Event::Run(p) => {
+            out.push_all(b"RUN ")?;
+            p
+        }
+        Event::Rdn(p) => {
+            out.push_all(b"RDN ")?;
+            p
+        }
+    };
+    print_num(alloc, u64::from(p.0), out)
+}
+
+fn print_answer(alloc: Global, answer: &Answer, out: &mut Bytes) -> Result<(), NoMemory>
+    ensures { OnOk result (out.new ≡ out.old ++ answer_text answer.now) }
+{
+    match answer {
+        Answer::Service(call, cond) => {
+            print_call(alloc, call, out)?;
+            out.push_all(b" ")?;
+            out.push_all(cond.name().as_bytes())
+        }
+        Answer::End => out.push_all(b"END"),
+        Answer::Gone => out.push_all(b"GONE"),
+    }
+}
+
+fn print_effects(alloc: Global, effects: &[Effect], out: &mut Bytes) -> Result<(), NoMemory>
+    ensures { OnOk result (out.new ≡ out.old ++ ended_lines (map effect_line effects.now)) }
+{
+    for effect in effects {
+        print_effect(alloc, effect, out)?;
+    }
+    Ok(())
+}
+
+/// Appends record n: its head, and its effects.
+fn print_record(alloc: Global, n: u64, rec: &Rec, out: &mut Bytes) -> Result<(), NoMemory>
+    ensures { OnOk result (out.new ≡ out.old ++ ended_lines (record_lines n rec.now)) }
+{
+    print_num(alloc, n, out)?;
+    out.push_all(b" ")?;
+    print_event(alloc, rec.event, out)?;
+    out.push_all(b" ")?;
+    print_answer(alloc, &rec.answer, out)?;
+    out.push_all(b"\n")?;
+    print_effects(alloc, rec.effects.as_slice(), out)
+}
+
+/// Appends records, numbered from 1.
+pub fn print_records(alloc: Global, recs: &[Rec], out: &mut Bytes) -> Result<(), NoMemory>
+    ensures { OnOk result (out.new ≡ out.old ++ ended_lines (records_lines 1 recs.now)) }
+{
+    for (i, rec) in recs.iter().enumerate() {
+        print_record(alloc, i as u64 + 1, rec, out)?;
+    }
+    Ok(())
+}
+
+fn standing_word(standing: Standing) -> &'static [u8]
+    ensures { result.now ≡ standing_word standing }
+{
+    match standing {
+        Standing::Gone => b"GONE",
+        Standing::Rundown => b"RUNDOWN",
+        Standing::Active => b"ACTIVE",
+    }
+}
+
+/// Appends a text behind a space.
+fn print_spaced(text: &[u8], out: &mut Bytes) -> Result<(), NoMemory>
+    ensures { OnOk result (out.new ≡ out.old ++ 32 ∷ text.now) }
+{
+    out.push_all(b" ")?;
+    out.push_all(text)
+}
+
+/// Appends a number behind a space.
+fn print_spaced_num(alloc: Global, n: u32, out: &mut Bytes) -> Result<(), NoMemory>
+    ensures { OnOk result (out.new ≡ out.old ++ 32 ∷ decimal n) }
+{
+    out.push_all(b" ")?;
+    print_num(alloc, u64::from(n), out)
+}
+
+fn print_standing(
+    alloc: Global,
+    p: Pid,
+    name: Name,
+    standing: Standing,
+    code: u32,
+    out: &mut Bytes,
+) -> Result<(), NoMemory>
+    ensures { OnOk result (out.new ≡ out.old ++ (standing_line p.0 name standing code ++ 10 ∷ [])) }
+{
+    out.push_all(b"PROCESS")?;
+    print_spaced_num(alloc, p.0, out)?;
+    print_spaced(name.text(), out)?;
+    print_spaced(standing_word(standing), out)?;
+    print_spaced_num(alloc, code, out)?;
+    out.push_all(b"\n")
+}
+
+/// Appends how process p stands.
+fn print_process(alloc: Global, exec: &Exec, p: Pid, out: &mut Bytes) -> Result<(), NoMemory>
+    requires { IsProcess exec.now.state p }
+    ensures { OnOk result (out.new ≡ out.old ++ (process_line exec.now.state.system p.0 (process_at exec.now.state p) ++ 10 ∷ [])) }
+{
+    let (name, standing, code) = exec.standing(p);
+    print_standing(alloc, p, name, standing, code, out)
+}
+
+fn end_word(end: End) -> &'static [u8]
+    ensures { result.now ≡ end_word end }
+{
+    match end {
+        End::Done => b"DONE",
+        End::Hung => b"HUNG",
+        End::Limit => b"LIMIT",
+    }
+}
+
+/// Appends how each process stands.
+fn print_processes(alloc: Global, exec: &Exec, out: &mut Bytes) -> Result<(), NoMemory>
+    ensures { OnOk result (out.new ≡ out.old ++ ended_lines (process_lines exec.now.state.system 1 exec.now.state.procs)) }
+{
+    for n in 0..exec.made() {
+        print_process(alloc, exec, Pid(n + 1), out)?;
+    }
+    Ok(())
+}
+
+/// Appends the end after so many records.
+fn print_end(alloc: Global, end: End, taken: u32, out: &mut Bytes) -> Result<(), NoMemory>
+    ensures { OnOk result (out.new ≡ out.old ++ (end_line end taken ++ 10 ∷ [])) }
+{
+    out.push_all(b"$END")?;
+    print_spaced(end_word(end), out)?;
+    print_spaced_num(alloc, taken, out)?;
+    out.push_all(b"\n")
+}
+
+/// Appends the trailer: how the processes stand, and the end after the records that were taken.
+pub fn print_trailer(alloc: Global, exec: &Exec, end: End, out: &mut Bytes) -> Result<(), NoMemory>
+    ensures { OnOk result (out.new ≡ out.old ++ ended_lines (trailer_lines exec.now.state end exec.now.taken)) }
+{
+    print_processes(alloc, exec, out)?;
+    print_end(alloc, end, exec.taken(), out)
+}

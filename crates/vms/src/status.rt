@@ -1,0 +1,41 @@
+//! What a call answers.
+
+ghost use Rattle.std.specs.Prelude.{◌≡◌};
+
+/// What a call answers.
+#[derive(Clone, Copy, Debug, PartialEq, Eq)]
+pub enum Status {
+    /// The run ended with every process deleted, and its transcript was written.
+    Done,
+    /// The words are in no form of a command.
+    Words,
+    /// The input is no script.
+    Form,
+    /// The source failed.
+    ReadFault,
+    /// The sink failed; what was written is a front of the text.
+    WriteFault,
+    /// No memory was found.
+    NoMemory,
+    /// The input is longer than 67,108,864 bytes.
+    TooLong,
+}
+
+impl Status {
+    ghost use Rattle.vms.specs.Code.{code_of};
+
+    /// The status that the program ends with.
+    pub fn code(self) -> u8
+        ensures { result ≡ code_of self }
+    {
+        match self {
+            Status::Done => 0,
+            Status::Words => 2,
+            Status::Form => 3,
+            Status::ReadFault => 6,
+            Status::WriteFault => 7,
+            Status::NoMemory => 8,
+            Status::TooLong => 9,
+        }
+    }
+}

@@ -1,0 +1,228 @@
+use super::*;
+use crate::example::flag_example;
+use std::test::*;
+use vx_host::{MemSink, MemSource};
+
+const FLAG_SCRIPT: &[u8] = b"IMAGE MAIN
+$SETEF 5
+$READEF 5,A
+$CLREF 5
+$EXIT
+END
+PROCESS P MAIN
+";
+
+const FLAG_TRANSCRIPT: &[u8] = b"IMAGE MAIN
+  $SETEF 5
+  $READEF 5,A
+  $CLREF 5
+  $EXIT 1
+END
+PROCESS P MAIN UIC=1:1 MODE=USER ASTLM=24 BIOLM=18 DIOLM=18 BYTLM=8192 TQELM=10 PRIV=NONE START=1
+$JOURNAL 1
+1 RUN 1 $SETEF 5 WASCLR
+ FLAG 1:5 1
+2 RUN 1 $READEF 5,A WASSET
+ VAR 1 A 32
+3 RUN 1 $CLREF 5 WASSET
+ FLAG 1:5 0
+4 RUN 1 $EXIT 1 NORMAL
+5 RDN 1 GONE
+ GONE 1
+PROCESS 1 P GONE 1
+$END DONE 5
+";
+
+const REFUSED_SCRIPT: &[u8] = b"IMAGE MAIN
+$SETEF 31
+$SETEF 63
+$SETEF 64
+$SETEF 127
+$SETEF 128
+END
+PROCESS P MAIN
+";
+
+const REFUSED_TRANSCRIPT: &[u8] = b"IMAGE MAIN
+  $SETEF 31
+  $SETEF 63
+  $SETEF 64
+  $SETEF 127
+  $SETEF 128
+END
+PROCESS P MAIN UIC=1:1 MODE=USER ASTLM=24 BIOLM=18 DIOLM=18 BYTLM=8192 TQELM=10 PRIV=NONE START=1
+$JOURNAL 1
+1 RUN 1 $SETEF 31 WASCLR
+ FLAG 1:31 1
+2 RUN 1 $SETEF 63 WASCLR
+ FLAG 1:63 1
+3 RUN 1 $SETEF 64 UNASEFC
+4 RUN 1 $SETEF 127 UNASEFC
+5 RUN 1 $SETEF 128 ILLEFC
+6 RUN 1 END
+7 RDN 1 GONE
+ GONE 1
+PROCESS 1 P GONE 8052
+$END DONE 7
+";
+
+const EMPTY_SCRIPT: &[u8] = b"IMAGE I
+END
+PROCESS Q I
+";
+
+const EMPTY_TRANSCRIPT: &[u8] = b"IMAGE I
+END
+PROCESS Q I UIC=1:1 MODE=USER ASTLM=24 BIOLM=18 DIOLM=18 BYTLM=8192 TQELM=10 PRIV=NONE START=1
+$JOURNAL 1
+1 RUN 1 END
+2 RDN 1 GONE
+ GONE 1
+PROCESS 1 Q GONE 0
+$END DONE 2
+";
+
+/// How a call is tried: its word, the most bytes of a read and of a write, and the numbers of those that fail.
+#[derive(Clone, Copy)]
+struct Trial {
+    word: &'static [u8],
+    piece: u32,
+    read_fails: u32,
+    write_fails: u32,
+}
+
+const PLAIN: Trial = Trial {
+    word: b"sim",
+    piece: 1_000,
+    read_fails: 0,
+    write_fails: 0,
+};
+
+/// The top call on an input in memory: its status, and what the sink holds then.
+fn tried(rt: &HostRuntime, trial: Trial, input: Vec<u8>) -> Result<(Status, Vec<u8>), Fail> {
+    let mut word = Bytes::new(rt.alloc());
+    word.push_all(trial.word).ok().ok_or("memory")?;
+    let mut words = Vec::new(rt.alloc());
+    words.push(word)?;
+    let piece = trial.piece.max(1);
+    let read_fails = vec![in rt.alloc(); trial.read_fails]?;
+    let write_fails = vec![in rt.alloc(); trial.write_fails]?;
+    let mut source = MemSource::new(Bytes::from_vec(input), piece, read_fails);
+    let mut sink = MemSink::new(rt.alloc(), 100_000, piece, write_fails)
+        .ok()
+        .ok_or("memory")?;
+    let status = quiet_call(rt.alloc(), words.as_slice(), &mut source, &mut sink);
+    Ok((status, sink.held().to_vec(rt.alloc())?))
+}
+
+#[test]
+fn transcripts(rt: HostRuntime) -> Result<(), Fail> {
+    for (script, transcript) in [
+        (FLAG_SCRIPT, FLAG_TRANSCRIPT),
+        (REFUSED_SCRIPT, REFUSED_TRANSCRIPT),
+        (EMPTY_SCRIPT, EMPTY_TRANSCRIPT),
+    ] {
+        for piece in [1_000, 1] {
+            let trial = Trial { piece, ..PLAIN };
+            let (status, held) = tried(&rt, trial, script.to_vec(rt.alloc())?)?;
+            assert_eq!(rt; status, Status::Done);
+            assert!(rt; held.as_slice() == transcript);
+        }
+    }
+    Ok(())
+}
+
+#[test]
+fn other_words(rt: HostRuntime) -> Result<(), Fail> {
+    let trial = Trial {
+        word: b"simulate",
+        ..PLAIN
+    };
+    let (status, held) = tried(&rt, trial, FLAG_SCRIPT.to_vec(rt.alloc())?)?;
+    assert_eq!(rt; status, Status::Words);
+    assert!(rt; held.as_slice() == b"vms: usage\n".as_slice());
+    Ok(())
+}
+
+#[test]
+fn a_carriage_return(rt: HostRuntime) -> Result<(), Fail> {
+    let mut script = b"IMAGE MAIN\r".to_vec(rt.alloc())?;
+    script.extend_from_slice(&FLAG_SCRIPT[10..])?;
+    let (status, held) = tried(&rt, PLAIN, script)?;
+    assert_eq!(rt; status, Status::Form);
+    assert!(rt; held.as_slice() == b"vms: line 1 LATER\n".as_slice());
+    Ok(())
+}
+
+// The first read gives the whole script, and the second finds the end.
+#[test]
+fn a_second_read_that_fails(rt: HostRuntime) -> Result<(), Fail> {
+    let trial = Trial {
+        read_fails: 2,
+        ..PLAIN
+    };
+    let (status, held) = tried(&rt, trial, FLAG_SCRIPT.to_vec(rt.alloc())?)?;
+    assert_eq!(rt; status, Status::ReadFault);
+    assert!(rt; held.as_slice() == b"vms: read fault\n".as_slice());
+    Ok(())
+}
+
+// One byte a read: one read for each byte of the script, and one that finds the end.
+#[test]
+fn each_read_failing(rt: HostRuntime) -> Result<(), Fail> {
+    let script = b"IMAGE M\nEND\nPROCESS P M\n";
+    for k in 1..=script.len() as u32 + 1 {
+        let trial = Trial {
+            piece: 1,
+            read_fails: k,
+            ..PLAIN
+        };
+        let (status, held) = tried(&rt, trial, script.to_vec(rt.alloc())?)?;
+        assert_eq!(rt; status, Status::ReadFault, "at read {k}");
+        assert!(rt; held.as_slice() == b"vms: read fault\n".as_slice());
+    }
+    Ok(())
+}
+
+#[test]
+fn a_write_that_fails(rt: HostRuntime) -> Result<(), Fail> {
+    for (k, length) in [(1, 0), (2, 1), (10, 9)] {
+        let trial = Trial {
+            piece: 1,
+            write_fails: k,
+            ..PLAIN
+        };
+        let (status, held) = tried(&rt, trial, FLAG_SCRIPT.to_vec(rt.alloc())?)?;
+        assert_eq!(rt; status, Status::WriteFault, "at write {k}");
+        assert!(rt; held.as_slice() == &FLAG_TRANSCRIPT[..length]);
+    }
+    Ok(())
+}
+
+#[test]
+fn an_input_that_is_too_long(rt: HostRuntime) -> Result<(), Fail> {
+    let trial = Trial {
+        piece: 1_000_000,
+        ..PLAIN
+    };
+    let (status, held) = tried(&rt, trial, vec![in rt.alloc(); b' '; 67_108_865]?)?;
+    assert_eq!(rt; status, Status::TooLong);
+    assert!(rt; held.as_slice() == b"vms: input too long\n".as_slice());
+    Ok(())
+}
+
+#[test]
+fn codes(rt: HostRuntime) {
+    flag_example();
+    for (status, code) in [
+        (Status::Done, 0),
+        (Status::Words, 2),
+        (Status::Form, 3),
+        (Status::ReadFault, 6),
+        (Status::WriteFault, 7),
+        (Status::NoMemory, 8),
+        (Status::TooLong, 9),
+    ] {
+        assert_eq!(rt; status.code(), code);
+    }
+}
