@@ -10,6 +10,9 @@ use crate::procs::Core;
 use crate::setters::{cell, cluster_bits, is_set, leave, put_flag, spot, store};
 use vx_base::{Cond, Effect, Effects, Pid, Target};
 
+/// The last number that a flag may have.
+const LAST_FLAG: u32 = 127;
+
 /// The condition that tells how a flag was.
 fn how_it_was(set: bool) -> Cond
     ensures { result ≡ how_it_was set }
@@ -23,7 +26,7 @@ fn change_flag(core: &mut Core, p: Pid, efn: u32, on: bool, log: &mut Effects) -
     requires room { HasRoom log.old 1 }
     ensures { Does (flag_put (state core.old) p efn on) result log.old log.new (state core.new) }
 {
-    if efn > 127 {
+    if efn > LAST_FLAG {
         return Cond::IllEfc;
     }
     let Some(at) = spot(efn) else {
@@ -62,7 +65,7 @@ pub fn readef(core: &mut Core, p: Pid, efn: u32, v: Target, log: &mut Effects) -
     requires room { HasRoom log.old 1 }
     ensures { Does (read_flags (state core.old) p efn v) result log.old log.new (state core.new) }
 {
-    if efn > 127 {
+    if efn > LAST_FLAG {
         return Cond::IllEfc;
     }
     let Some(at) = spot(efn) else {
