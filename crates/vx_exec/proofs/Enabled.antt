@@ -1,17 +1,15 @@
 -- What is known of an enabled event.
-use Rattle.std.proofs.Common.{◌≡◌, ℕ, zero, suc, ◌+◌, ◌-◌, ◌<◌, List, [], ◌∷◌, length, map, slice_index_or, Contains, Bool, true, false, cond, Some, None, inl, inr, nat_le, refl, add-zero, arith}
-use Rattle.std.specs.List.{AllByRecursion}
+use Rattle.std.proofs.Common.{◌≡◌, ℕ, zero, suc, ◌+◌, ◌-◌, ◌<◌, List, [], ◌∷◌, length, slice_index_or, Contains, Bool, true, false, cond, Some, None, inl, inr, nat_le, refl, add-zero, arith}
 use Rattle.std.proofs.lemmas.Bool.{leb-false}
 use Rattle.std.proofs.lemmas.List.Elements.{Contains-append_cases}
 use Rattle.vx_base.specs.State.{Process, State}
 use Rattle.vx_base.specs.declared.frame.Frame.{Frame}
 use Rattle.vx_base.specs.declared.frame.Phase.{Phase}
 use Rattle.vx_base.specs.declared.frame.Phase.TheVariants.{Alive, Handlers, Deleted}
-use Rattle.vx_base.specs.declared.number.Pid.{Pid}
-use Rattle.vx_base.specs.declared.record.End.TheVariants.{Done, Hung, Limit}
+use Rattle.vx_base.specs.declared.record.End.TheVariants.{Limit}
 use Rattle.vx_base.specs.declared.record.Event.{Event}
 use Rattle.vx_exec.specs.Model.{IsProcess, process_at, nobody, event_without_frame, event_of, events_from, enabled, end_with}
-use Rattle.vx_exec.specs.Sound.{IsDeclared, IsSound, process_of}
+use Rattle.vx_exec.specs.Sound.{process_of}
 
 only : (x e : Event) (k : ℕ) → k < 1 → slice_index_or (x ∷ []) k e ≡ e → x ≡ e
 only x e zero below is = is
@@ -62,15 +60,6 @@ enabled_due s e there =
     let number : (process_of e).0 ≡ 1 + i = due.number in
     rw (place, number) due.event
 
-declared_at : (n : ℕ) (prs : List Process) (i : ℕ) → i < length prs → AllByRecursion (λ place. place < n) (map (λ (pr : Process). pr.decl) prs) → (slice_index_or prs i nobody).decl < n
-declared_at n [] i below all = absurd (omega arith)
-declared_at n (pr ∷ prs) zero below all = all.0
-declared_at n (pr ∷ prs) (suc i) below all = declared_at n prs i (omega arith) all.1
-
--- the declaration of a process is there
-pub sound_declared : (s : State) (p : Pid) → IsSound s → IsProcess s p → IsDeclared s p
-sound_declared s p sound made = declared_at (length s.system.decls) s.procs (p.0 - 1) (omega arith) sound.declared
-
 no_limit : (b : Bool) → cond b (Some Limit) None ≡ None → b ≡ false
 no_limit true e = cc
 no_limit false e = refl
@@ -79,13 +68,3 @@ no_limit false e = refl
 pub below_limit : (limit taken : ℕ) (deleted : Bool) (events : List Event) → end_with limit taken deleted events ≡ None → taken < limit
 below_limit limit taken deleted [] going = cc
 below_limit limit taken deleted (e ∷ es) going = leb-false limit taken (no_limit (nat_le limit taken) going)
-
--- with nothing enabled a run has ended
-pub end_at_rest : (limit taken : ℕ) (deleted : Bool) (events : List Event) → length events ≡ 0 → end_with limit taken deleted events ≡ Some (cond deleted Done Hung)
-end_at_rest limit taken deleted [] none = refl
-end_at_rest limit taken deleted (e ∷ es) none = absurd (omega arith)
-
--- and else at its limit
-pub end_at_work : (limit taken : ℕ) (deleted : Bool) (events : List Event) → 0 < length events → end_with limit taken deleted events ≡ cond (nat_le limit taken) (Some Limit) None
-end_at_work limit taken deleted [] some = absurd (omega arith)
-end_at_work limit taken deleted (e ∷ es) some = refl

@@ -16,7 +16,7 @@ use std::marker::Model;
 use vx_base::{Effects, End, Event, Name, NoMemory, Pid, Rec, System};
 
 /// The executive of one system: its processes, how many records its runs may have, and how many its steps have made.
-#[derive(Drop)]
+#[derive(Debug, Drop)]
 pub struct Exec {
     core: Core,
     limit: u32,

@@ -20,3 +20,6 @@ mod store;
 pub use exec::Exec;
 pub use standing::Standing;
 pub use vx_base::End;
+
+#[cfg(test)]
+mod tests;

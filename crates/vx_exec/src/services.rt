@@ -2,13 +2,16 @@
 
 ghost use Rattle.std.specs.Prelude.{◌≡◌, true, false};
 ghost use Rattle.vx_base.specs.Log.{HasRoom};
-ghost use Rattle.vx_exec.specs.Model.{IsProcess, put_flag as flag_put, read_flags, exit as exit_of, how_it_was};
+ghost use Rattle.vx_exec.specs.Model.{IsProcess, exit, how_it_was, put_flag, read_flags};
 ghost use Rattle.vx_exec.specs.Procs.{state};
 ghost use Rattle.vx_exec.specs.View.{Does};
 
 use crate::procs::Core;
-use crate::setters::{cell, cluster_bits, is_set, leave, put_flag, spot, store};
+use crate::setters::{cell, cluster_bits, is_set, leave, spot, store, write_flag};
 use vx_base::{Cond, Effect, Effects, Pid, Target};
+
+/// The last number that a flag may have.
+const LAST_FLAG: u32 = 127;
 
 /// The condition that tells how a flag was.
 fn how_it_was(set: bool) -> Cond
@@ -21,9 +24,9 @@ fn how_it_was(set: bool) -> Cond
 fn change_flag(core: &mut Core, p: Pid, efn: u32, on: bool, log: &mut Effects) -> Cond
     requires made { IsProcess (state core.old) p }
     requires room { HasRoom log.old 1 }
-    ensures { Does (flag_put (state core.old) p efn on) result log.old log.new (state core.new) }
+    ensures { Does (put_flag (state core.old) p efn on) result log.old log.new (state core.new) }
 {
-    if efn > 127 {
+    if efn > LAST_FLAG {
         return Cond::IllEfc;
     }
     let Some(at) = spot(efn) else {
@@ -34,7 +37,7 @@ fn change_flag(core: &mut Core, p: Pid, efn: u32, on: bool, log: &mut Effects) -
         cell: cell(p, at),
         bit: on,
     });
-    put_flag(core, p, at, on);
+    write_flag(core, p, at, on);
     how_it_was(was)
 }
 
@@ -42,7 +45,7 @@ fn change_flag(core: &mut Core, p: Pid, efn: u32, on: bool, log: &mut Effects) -
 pub fn setef(core: &mut Core, p: Pid, efn: u32, log: &mut Effects) -> Cond
     requires made { IsProcess (state core.old) p }
     requires room { HasRoom log.old 1 }
-    ensures { Does (flag_put (state core.old) p efn true) result log.old log.new (state core.new) }
+    ensures { Does (put_flag (state core.old) p efn true) result log.old log.new (state core.new) }
 {
     change_flag(core, p, efn, true, log)
 }
@@ -51,7 +54,7 @@ pub fn setef(core: &mut Core, p: Pid, efn: u32, log: &mut Effects) -> Cond
 pub fn clref(core: &mut Core, p: Pid, efn: u32, log: &mut Effects) -> Cond
     requires made { IsProcess (state core.old) p }
     requires room { HasRoom log.old 1 }
-    ensures { Does (flag_put (state core.old) p efn false) result log.old log.new (state core.new) }
+    ensures { Does (put_flag (state core.old) p efn false) result log.old log.new (state core.new) }
 {
     change_flag(core, p, efn, false, log)
 }
@@ -62,7 +65,7 @@ pub fn readef(core: &mut Core, p: Pid, efn: u32, v: Target, log: &mut Effects) -
     requires room { HasRoom log.old 1 }
     ensures { Does (read_flags (state core.old) p efn v) result log.old log.new (state core.new) }
 {
-    if efn > 127 {
+    if efn > LAST_FLAG {
         return Cond::IllEfc;
     }
     let Some(at) = spot(efn) else {
@@ -78,7 +81,7 @@ pub fn readef(core: &mut Core, p: Pid, efn: u32, v: Target, log: &mut Effects) -
 /// $EXIT: ends the frames of a process, with an exit code.
 pub fn exit(core: &mut Core, p: Pid, code: u32, log: &mut Effects) -> Cond
     requires { IsProcess (state core.old) p }
-    ensures { Does (exit_of (state core.old) p code) result log.old log.new (state core.new) }
+    ensures { Does (exit (state core.old) p code) result log.old log.new (state core.new) }
 {
     leave(core, p, code);
     Cond::Normal

@@ -84,7 +84,7 @@ pub fn r0(core: &Core, p: Pid) -> u32
 }
 
 /// Sets or clears a flag.
-pub fn put_flag(core: &mut Core, p: Pid, at: Spot, on: bool)
+pub fn write_flag(core: &mut Core, p: Pid, at: Spot, on: bool)
     requires made { IsProcess (state core.old) p }
     requires placed { IsPlaced at }
     ensures { state core.new ≡ change (state core.old) p (λ pr. with_flag pr at on) }

@@ -1,7 +1,7 @@
 use Rattle.std.proofs.Common.{slice_set}
 use Rattle.vx_base.specs.State.{Process}
 use Rattle.vx_exec.proofs.Changed.{changed}
-use Rattle.vx_exec.proofs.setters.put_flag.Goals as goal
+use Rattle.vx_exec.proofs.setters.write_flag.Goals as goal
 
 pub returns-in-Low : goal.returns-in-Low
 returns-in-Low c = rw c.in-Low.is (changed (λ (pr : Process). record pr { low = slice_set pr.low c.in-Low.n c.args.on }) c.args.core.now c.args.p c.index_mut.result.now _ c.requires.made c.index_mut.ensures.value (rw c.put.ensures))
