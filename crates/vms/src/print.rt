@@ -12,6 +12,22 @@ use vx_base::{Answer, Bytes, Cell, Effect, End, Event, Name, NoMemory, Pid, Rec}
 use vx_exec::{Exec, Standing};
 use vx_script::{print_call, print_num, print_target};
 
+/// Appends a text behind a space.
+fn print_spaced(text: &[u8], out: &mut Bytes) -> Result<(), NoMemory>
+    ensures { OnOk result (out.new ≡ out.old ++ 32 ∷ text.now) }
+{
+    out.push_all(b" ")?;
+    out.push_all(text)
+}
+
+/// Appends a number behind a space.
+fn print_spaced_num(alloc: Global, n: u32, out: &mut Bytes) -> Result<(), NoMemory>
+    ensures { OnOk result (out.new ≡ out.old ++ 32 ∷ decimal n) }
+{
+    out.push_all(b" ")?;
+    print_num(alloc, u64::from(n), out)
+}
+
 fn print_cell(alloc: Global, cell: Cell, out: &mut Bytes) -> Result<(), NoMemory>
     ensures { OnOk result (out.new ≡ out.old ++ cell_text cell) }
 {
@@ -31,20 +47,18 @@ fn print_effect(alloc: Global, effect: &Effect, out: &mut Bytes) -> Result<(), N
         Effect::Flag { cell, bit } => {
             out.push_all(b" FLAG ")?;
             print_cell(alloc, *cell, out)?;
-            out.push_all(b" ")?;
-            print_num(alloc, u64::from(*bit), out)?;
+            print_spaced_num(alloc, u32::from(*bit), out)?;
         }
         Effect::Var { p, v, n } => {
-            out.push_all(b" VAR ")?;
-            print_num(alloc, u64::from(p.0), out)?;
+            out.push_all(b" VAR")?;
+            print_spaced_num(alloc, p.0, out)?;
             out.push_all(b" ")?;
             print_target(*v, out)?;
-            out.push_all(b" ")?;
-            print_num(alloc, u64::from(*n), out)?;
+            print_spaced_num(alloc, *n, out)?;
         }
         Effect::Gone(p) => {
-            out.push_all(b" GONE ")?;
-            print_num(alloc, u64::from(p.0), out)?;
+            out.push_all(b" GONE")?;
+            print_spaced_num(alloc, p.0, out)?;
         }
     }
     out.push_all(b"\n")
@@ -53,17 +67,16 @@ fn print_effect(alloc: Global, effect: &Effect, out: &mut Bytes) -> Result<(), N
 fn print_event(alloc: Global, event: Event, out: &mut Bytes) -> Result<(), NoMemory>
     ensures { OnOk result (out.new ≡ out.old ++ event_text event) }
 {
-    let p = match event {
+    match event {
         Event::Run(p) => {
-            out.push_all(b"RUN ")?;
-            p
+            out.push_all(b"RUN")?;
+            print_spaced_num(alloc, p.0, out)
         }
         Event::Rdn(p) => {
-            out.push_all(b"RDN ")?;
-            p
+            out.push_all(b"RDN")?;
+            print_spaced_num(alloc, p.0, out)
         }
-    };
-    print_num(alloc, u64::from(p.0), out)
+    }
 }
 
 fn print_answer(alloc: Global, answer: &Answer, out: &mut Bytes) -> Result<(), NoMemory>
@@ -72,8 +85,7 @@ fn print_answer(alloc: Global, answer: &Answer, out: &mut Bytes) -> Result<(), N
     match answer {
         Answer::Service(call, cond) => {
             print_call(alloc, call, out)?;
-            out.push_all(b" ")?;
-            out.push_all(cond.name().as_bytes())
+            print_spaced(cond.name().as_bytes(), out)
         }
         Answer::End => out.push_all(b"END"),
         Answer::Gone => out.push_all(b"GONE"),
@@ -120,22 +132,6 @@ fn standing_word(standing: Standing) -> &'static [u8]
         Standing::Rundown => b"RUNDOWN",
         Standing::Active => b"ACTIVE",
     }
-}
-
-/// Appends a text behind a space.
-fn print_spaced(text: &[u8], out: &mut Bytes) -> Result<(), NoMemory>
-    ensures { OnOk result (out.new ≡ out.old ++ 32 ∷ text.now) }
-{
-    out.push_all(b" ")?;
-    out.push_all(text)
-}
-
-/// Appends a number behind a space.
-fn print_spaced_num(alloc: Global, n: u32, out: &mut Bytes) -> Result<(), NoMemory>
-    ensures { OnOk result (out.new ≡ out.old ++ 32 ∷ decimal n) }
-{
-    out.push_all(b" ")?;
-    print_num(alloc, u64::from(n), out)
 }
 
 fn print_standing(
