@@ -1,10 +1,10 @@
 -- A run that goes on by a step, and how a run ends.
-use Rattle.std.proofs.Common.{◌≡◌, ℕ, ◌<◌, List, [], ◌∷◌, ◌++◌, length, Bool, true, false, nat_le, Option, Some, None, slice_get, refl, arith}
+use Rattle.std.proofs.Common.{◌≡◌, ℕ, ◌<◌, List, [], ◌∷◌, ◌++◌, Bool, true, false, nat_le, Some, None, slice_get, refl, arith}
 use Rattle.std.specs.List.{Contains}
 use Rattle.std.proofs.lemmas.Bool.Decides.{nat_tests}
 use Rattle.vx_base.specs.State.{State}
 use Rattle.vx_base.specs.declared.record.End.{End}
-use Rattle.vx_base.specs.declared.record.End.TheVariants.{Done, Hung, Limit}
+use Rattle.vx_base.specs.declared.record.End.TheVariants.{Done}
 use Rattle.vx_base.specs.declared.record.Event.{Event}
 use Rattle.vx_base.specs.declared.record.Rec.{Rec}
 use Rattle.vx_exec.specs.Model.{step, IsStep, IsRun, after, end_with}

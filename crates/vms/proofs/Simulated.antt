@@ -1,5 +1,5 @@
 -- A run that an executive took, and its text.
-use Rattle.std.proofs.Common.{◌≡◌, ℕ, ◌+◌, ◌<◌, List, ◌∷◌, ◌++◌, length, Some, refl, ap, ◌∙◌, arith, append_assoc, codes}
+use Rattle.std.proofs.Common.{◌≡◌, ℕ, ◌<◌, List, ◌∷◌, ◌++◌, length, Some, ap, ◌∙◌, arith, append_assoc, codes}
 use Rattle.std.proofs.lemmas.Grind.{flat_map-append}
 use Rattle.vx_base.specs.declared.record.End.{End}
 use Rattle.vx_base.specs.declared.record.End.TheVariants.{Done}
@@ -9,7 +9,7 @@ use Rattle.vx_script.specs.Form.{ended_lines}
 use Rattle.vx_script.specs.Script.{script}
 use Rattle.vx_exec.specs.Model.{first, after, enabled, are_deleted, end_of, HasOneRun}
 use Rattle.vx_exec.specs.View.{Executive, Plan}
-use Rattle.vms.specs.Taken.{Takes}
+use Rattle.vms.specs.Taken.{TakesRun}
 use Rattle.vms.specs.Top.{IsSimulated}
 use Rattle.vms.specs.Transcript.{records_lines, trailer_lines}
 use Rattle.vms.proofs.Runs.{ends_done}
@@ -22,7 +22,7 @@ abbrev opened : System → Executive
 opened system = record { state = first system; limit = 10000; taken = 0 }
 
 -- what an executive of the system took up to an end is simulated, and its text is the script, the records and the trailer
-pub is_simulated : (system : System) (closed : Executive) (recs : List Rec) (e : End) (text : List ℕ) → HasOneRun (first system) → Takes (opened system) closed recs → end_of closed.limit closed.taken closed.state ≡ Some e → text ≡ ((script system ++ codes "$JOURNAL 1\n") ++ ended_lines (records_lines 1 recs)) ++ ended_lines (trailer_lines closed.state e closed.taken) → IsSimulated system text
+pub is_simulated : (system : System) (closed : Executive) (recs : List Rec) (e : End) (text : List ℕ) → HasOneRun (first system) → TakesRun (opened system) closed recs → end_of closed.limit closed.taken closed.state ≡ Some e → text ≡ ((script system ++ codes "$JOURNAL 1\n") ++ ended_lines (records_lines 1 recs)) ++ ended_lines (trailer_lines closed.state e closed.taken) → IsSimulated system text
 is_simulated system closed recs e text one takes ended spells =
     let limit : closed.limit ≡ 10000 = ap (λ (p : Plan). p.limit) takes.planned in
     let count : closed.taken ≡ length recs = omega (arith, takes.counted) in

@@ -4,6 +4,7 @@ use Rattle.std.specs.Io.KnownBytes.{Appends, Keeps}
 use Rattle.vx_base.specs.declared.record.End.TheVariants.{Done}
 use Rattle.vx_base.specs.declared.record.Rec.{Rec}
 use Rattle.vx_base.specs.declared.system.System.{System}
+use Rattle.vx_host.specs.Causes.{Rose}
 use Rattle.vx_host.specs.Streams.{TakesAll, Takes, TakesAtMost, AppendsFront}
 use Rattle.vx_script.specs.Form.{Reads, RefusesAll}
 use Rattle.vx_script.specs.declared.fault.FaultKind.{FaultKind}
@@ -43,7 +44,8 @@ fault_line f = codes "vms: line " ++ (decimal f.line ++ 32 ∷ (kind_word f.kind
 abbrev pub no_memory : List ℕ
 no_memory = codes "vms: no memory\n"
 
--- Why each answer comes: the words, and what the source gave, which had `left` before the call and `left_after` after it.
+-- Why each answer comes: by the words, and by what the source gave, which had the bytes `left` before the call and
+-- `left_after` after it, and as many faults as `faults` and `faults_after`.
 
 -- The words are no command's, and nothing was read.
 pub record RefusesWords (words : List (List ℕ)) (left left_after : Option (List ℕ)) : Type 0 where
@@ -55,10 +57,11 @@ pub record Overflows (words : List (List ℕ)) (left left_after : Option (List �
   pub asked : command_of words ≡ Some Sim
   pub taken : Takes 67108865 left left_after
 
--- The command is `sim`, and fewer bytes were read when a read failed.
-pub record FailsToRead (words : List (List ℕ)) (left left_after : Option (List ℕ)) : Type 0 where
+-- The command is `sim`, and a read failed before that: the source's count of faults rose.
+pub record FailsToRead (words : List (List ℕ)) (left left_after : Option (List ℕ)) (faults faults_after : ℕ) : Type 0 where
   pub asked : command_of words ≡ Some Sim
   pub taken : TakesAtMost 67108864 left left_after
+  pub rose : Rose faults faults_after
 
 -- The command is `sim`, and its input was read whole: to the source's end, and within the limit.
 pub record ReadsInput (words : List (List ℕ)) (left left_after : Option (List ℕ)) (input : List ℕ) : Type 0 where
@@ -93,15 +96,17 @@ pub record RunsOut (words : List (List ℕ)) : Type 0 where
   pub asked : command_of words ≡ Some Sim
 
 -- the texts of a call: each stands for one cause
-pub data IsTextOf (words : List (List ℕ)) (left left_after : Option (List ℕ)) : List ℕ → Type 0 where
-  of_words : RefusesWords words left left_after → IsTextOf words left left_after usage
-  of_overflow : Overflows words left left_after → IsTextOf words left left_after too_long
-  of_read_fault : FailsToRead words left left_after → IsTextOf words left left_after read_fault
-  of_form : (fault : ScriptFault) → RefusesText words left left_after fault → IsTextOf words left left_after (fault_line fault)
-  of_run : (text : List ℕ) → Simulates words left left_after text → IsTextOf words left left_after text
-  of_no_memory : RunsOut words → IsTextOf words left left_after no_memory
+pub data IsTextOf (words : List (List ℕ)) (left left_after : Option (List ℕ)) (faults faults_after : ℕ) : List ℕ → Type 0 where
+  of_words : RefusesWords words left left_after → IsTextOf words left left_after faults faults_after usage
+  of_overflow : Overflows words left left_after → IsTextOf words left left_after faults faults_after too_long
+  of_read_fault : FailsToRead words left left_after faults faults_after → IsTextOf words left left_after faults faults_after read_fault
+  of_form : (fault : ScriptFault) → RefusesText words left left_after fault → IsTextOf words left left_after faults faults_after (fault_line fault)
+  of_run : (text : List ℕ) → Simulates words left left_after text → IsTextOf words left left_after faults faults_after text
+  of_no_memory : RunsOut words → IsTextOf words left left_after faults faults_after no_memory
 
--- The sink holds the transcript more, which goes from `held` to `held_after`.
+-- What became of the text: the sink holds `held` before the call and `held_after` after it.
+
+-- The sink holds the transcript more.
 pub record WritesTranscript (words : List (List ℕ)) (left left_after held held_after : Option (List ℕ)) : Type 0 where
   pub text : List ℕ
   pub simulates : Simulates words left left_after text
@@ -114,7 +119,7 @@ pub record WritesFault (words : List (List ℕ)) (left left_after held held_afte
   pub written : Appends held held_after (fault_line fault)
 
 -- The sink holds a front of the text of the call more.
-pub record Breaks (words : List (List ℕ)) (left left_after held held_after : Option (List ℕ)) : Type 0 where
+pub record Breaks (words : List (List ℕ)) (left left_after : Option (List ℕ)) (faults faults_after : ℕ) (held held_after : Option (List ℕ)) : Type 0 where
   pub text : List ℕ
-  pub own : IsTextOf words left left_after text
+  pub own : IsTextOf words left left_after faults faults_after text
   pub front : AppendsFront held held_after text

@@ -1,5 +1,5 @@
 -- The transcript of a run: the canonical script, the records and the trailer, line by line.
-use Rattle.std.specs.Prelude.{ℕ, ◌+◌, List, [], ◌∷◌, ◌++◌, length, map, codes, decimal, Bool}
+use Rattle.std.specs.Prelude.{ℕ, ◌+◌, List, [], ◌∷◌, ◌++◌, length, map, codes, decimal}
 use Rattle.vx_base.specs.Cond.{name_of}
 use Rattle.vx_base.specs.State.{Process, State, one}
 use Rattle.vx_base.specs.declared.effects.Cell.{Cell}

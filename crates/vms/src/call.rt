@@ -102,16 +102,15 @@ pub fn quiet_call<S: Source, K: Sink>(
     // Another line was written, each for its cause.
     ensures words { result ≡ Status.Words → RefusesWords words.now (S.left source.old) (S.left source.new) × Appends (K.held sink.old) (K.held sink.new) usage }
     ensures form { result ≡ Status.Form → WritesFault words.now (S.left source.old) (S.left source.new) (K.held sink.old) (K.held sink.new) }
-    ensures read_fault { result ≡ Status.ReadFault → FailsToRead words.now (S.left source.old) (S.left source.new) × Appends (K.held sink.old) (K.held sink.new) read_fault }
+    ensures read_fault { result ≡ Status.ReadFault → FailsToRead words.now (S.left source.old) (S.left source.new) (S.faults source.old) (S.faults source.new) × Appends (K.held sink.old) (K.held sink.new) read_fault }
     ensures too_long { result ≡ Status.TooLong → Overflows words.now (S.left source.old) (S.left source.new) × Appends (K.held sink.old) (K.held sink.new) too_long }
     ensures no_memory { result ≡ Status.NoMemory → RunsOut words.now × Appends (K.held sink.old) (K.held sink.new) no_memory }
 
     // The sink failed in the middle of one of these texts.
-    ensures write_fault { result ≡ Status.WriteFault → Breaks words.now (S.left source.old) (S.left source.new) (K.held sink.old) (K.held sink.new) }
-
-    // A fault is answered only where its count rose, and no count falls.
-    ensures source_rose { result ≡ Status.ReadFault → Rose (S.faults source.old) (S.faults source.new) }
     ensures sink_rose { result ≡ Status.WriteFault → Rose (K.faults sink.old) (K.faults sink.new) }
+    ensures write_fault { result ≡ Status.WriteFault → Breaks words.now (S.left source.old) (S.left source.new) (S.faults source.old) (S.faults source.new) (K.held sink.old) (K.held sink.new) }
+
+    // No count falls.
     ensures source_later { S.faults source.old ≤ S.faults source.new }
     ensures sink_later { K.faults sink.old ≤ K.faults sink.new }
 {

@@ -14,13 +14,14 @@ returns-in_default-clause-write_fault g c = λ e. record {
 pub returns-in-Ok-clause-write_fault : goal.returns-in-Ok-clause-write_fault
 returns-in-Ok-clause-write_fault g c =
     let asked = asks c.args.words.now _ c.in-Some-Sim.field-0 c.command_of.ensures c.in-Some-Sim.is in
-    λ e. breaks_input c.args.words.now _ _ _ _ c.in-Ok.input (record { asked = asked; taken = c.in-Ok.ensures.all }) (c.simulate.ensures.front e)
+    λ e. breaks_input c.args.words.now _ _ _ _ _ _ c.in-Ok.input (record { asked = asked; taken = c.in-Ok.ensures.all }) (c.simulate.ensures.front e)
 
 pub returns-in-Err-Fault-clause-write_fault : goal.returns-in-Err-Fault-clause-write_fault
 returns-in-Err-Fault-clause-write_fault g c =
     let asked = asks c.args.words.now _ c.in-Some-Sim.field-0 c.command_of.ensures c.in-Some-Sim.is in
     let taken = c.in-Err-Fault.ensures.within (rw c.in-Err-Fault.field-0-is refl) in
-    λ e. record { text = read_fault; own = of_read_fault (record { asked = asked; taken = taken }); front = c.tell-in-Err-Fault.ensures.front e }
+    let rose = c.in-Err-Fault.ensures.fault (rw c.in-Err-Fault.field-0-is refl) in
+    λ e. record { text = read_fault; own = of_read_fault (record { asked = asked; taken = taken; rose = rose }); front = c.tell-in-Err-Fault.ensures.front e }
 
 pub returns-in-Err-TooLong-clause-write_fault : goal.returns-in-Err-TooLong-clause-write_fault
 returns-in-Err-TooLong-clause-write_fault g c =
