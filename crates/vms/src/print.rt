@@ -5,7 +5,7 @@
 ghost use Rattle.std.specs.Prelude.{◌≡◌, ◌++◌, ◌∷◌, [], map, decimal, OnOk};
 ghost use Rattle.vx_script.specs.Form.{ended_lines};
 ghost use Rattle.vx_exec.specs.Model.{IsProcess, process_at};
-ghost use Rattle.vms.specs.Transcript.{cell_text, effect_line, event_text, answer_text, head_line, record_lines, records_lines, standing_word, standing_line, process_line, process_lines, end_word, end_line, trailer_lines};
+ghost use Rattle.vms.specs.Transcript.{cell_text, effect_line, event_text, answer_text, record_lines, records_lines, standing_word, standing_line, process_line, process_lines, end_word, end_line, trailer_lines};
 
 use std::alloc::Global;
 use vx_base::{Answer, Bytes, Cell, Effect, End, Event, Name, NoMemory, Pid, Rec};
