@@ -4,6 +4,8 @@
 //! that the program may answer and write. `main` hands it standard input, standard output and the words.
 #![tactic(auto)]
 
+ghost use Rattle.std.specs.Prelude.{◌≡◌, IfOk, map, string_bytes};
+
 mod call;
 mod command;
 mod example;
@@ -12,8 +14,9 @@ mod run;
 mod simulate;
 mod status;
 
-use call::quiet_call;
+use call::{quiet_call, tell_no_memory};
 use status::Status;
+use std::alloc::Global;
 use std::env;
 use std::io::ErrorKind;
 use std::process::ExitCode;
@@ -23,20 +26,28 @@ use vx_host::{Sink, StdSink, StdSource, write_all};
 #[cfg(test)]
 mod tests;
 
+/// The bytes of each text.
+fn bytes_of(alloc: Global, texts: &[String]) -> Result<Vec<Bytes>, NoMemory>
+    ensures { IfOk result (λ words. words.items ≡ map string_bytes texts.now) }
+{
+    let mut words = Vec::new(alloc);
+    for text in texts {
+        let mut word = Bytes::new(alloc);
+        word.push_all(text.as_bytes())?;
+        words.push(word)?;
+    }
+    Ok(words)
+}
+
 /// The words behind the program's name. No word, where one of them is no text: no command has such a word.
 fn words_of(rt: &HostRuntime) -> Result<Vec<Bytes>, NoMemory> {
-    let mut words = Vec::new(rt.alloc());
     match env::args(rt) {
         Ok(args) => {
-            for arg in args.skip(1) {
-                let mut word = Bytes::new(rt.alloc());
-                word.push_all(arg.as_bytes())?;
-                words.push(word)?;
-            }
-            Ok(words)
+            let texts: Vec<String> = args.skip(1).collect(rt.alloc())?;
+            bytes_of(rt.alloc(), texts.as_slice())
         }
         Err(error) if error.kind() == ErrorKind::OutOfMemory => Err(NoMemory),
-        Err(_) => Ok(words),
+        Err(_) => Ok(Vec::new(rt.alloc())),
     }
 }
 
@@ -45,7 +56,7 @@ fn main(rt: HostRuntime) -> ExitCode {
     let mut sink = StdSink::new(rt.stdout());
     let status = match words_of(&rt) {
         Ok(words) => quiet_call(rt.alloc(), words.as_slice(), &mut source, &mut sink),
-        Err(NoMemory) => call::tell_no_memory(&mut sink),
+        Err(NoMemory) => tell_no_memory(&mut sink),
     };
     ExitCode::from(status.code())
 }

@@ -1,15 +1,18 @@
 //! Calls of system services.
+//!
+//! The services are those of the "OpenVMS System Services Reference Manual". Their numbers are this project's own: the
+//! places of their rows in its table of services, from 1.
 
-/// The number of $SETEF, "Set Event Flag".
+/// $SETEF, which sets an event flag.
 pub const SETEF: u8 = 1;
 
-/// The number of $CLREF, "Clear Event Flag".
+/// $CLREF, which clears an event flag.
 pub const CLREF: u8 = 2;
 
-/// The number of $READEF, "Read Event Flags".
+/// $READEF, which reads the flags of a cluster.
 pub const READEF: u8 = 3;
 
-/// The number of $EXIT, "Exit".
+/// $EXIT, which ends what a process runs.
 pub const EXIT: u8 = 25;
 
 /// What a value is read from.
