@@ -22,8 +22,10 @@ const MOST: u32 = 67_108_864;
 fn tell<K: Sink>(sink: &mut K, text: &[u8], status: Status) -> Status
     requires { status ≢ Status.WriteFault }
     ensures status { (result ≡ status) ⊎ (result ≡ Status.WriteFault) }
-    ensures whole { result ≢ Status.WriteFault → Appends (K.held sink.old) (K.held sink.new) text.now }
-    ensures front { result ≡ Status.WriteFault → AppendsFront (K.held sink.old) (K.held sink.new) text.now }
+    ensures whole { result ≢ Status.WriteFault →
+        Appends (K.held sink.old) (K.held sink.new) text.now }
+    ensures front { result ≡ Status.WriteFault →
+        AppendsFront (K.held sink.old) (K.held sink.new) text.now }
     ensures cause { result ≡ Status.WriteFault → Rose (K.faults sink.old) (K.faults sink.new) }
     ensures later { K.faults sink.old ≤ K.faults sink.new }
 {
@@ -36,8 +38,10 @@ fn tell<K: Sink>(sink: &mut K, text: &[u8], status: Status) -> Status
 /// Writes that no memory was found.
 pub fn tell_no_memory<K: Sink>(sink: &mut K) -> Status
     ensures status { (result ≡ Status.NoMemory) ⊎ (result ≡ Status.WriteFault) }
-    ensures whole { result ≢ Status.WriteFault → Appends (K.held sink.old) (K.held sink.new) no_memory }
-    ensures front { result ≡ Status.WriteFault → AppendsFront (K.held sink.old) (K.held sink.new) no_memory }
+    ensures whole { result ≢ Status.WriteFault →
+        Appends (K.held sink.old) (K.held sink.new) no_memory }
+    ensures front { result ≡ Status.WriteFault →
+        AppendsFront (K.held sink.old) (K.held sink.new) no_memory }
     ensures cause { result ≡ Status.WriteFault → Rose (K.faults sink.old) (K.faults sink.new) }
     ensures later { K.faults sink.old ≤ K.faults sink.new }
 {
@@ -67,11 +71,15 @@ fn fault_line(alloc: Global, fault: ScriptFault) -> Result<Bytes, NoMemory>
 
 /// Simulates an input that was read whole, and writes what it comes to.
 fn simulate<K: Sink>(alloc: Global, input: &Bytes, sink: &mut K) -> Status
-    ensures status { (result ≡ Status.Done) ⊎ (result ≡ Status.Form) ⊎ (result ≡ Status.NoMemory) ⊎ (result ≡ Status.WriteFault) }
+    ensures status { (result ≡ Status.Done) ⊎ (result ≡ Status.Form)
+        ⊎ (result ≡ Status.NoMemory) ⊎ (result ≡ Status.WriteFault) }
     ensures done { result ≡ Status.Done → WritesRun input.now (K.held sink.old) (K.held sink.new) }
-    ensures form { result ≡ Status.Form → WritesRefusal input.now (K.held sink.old) (K.held sink.new) }
-    ensures no_memory { result ≡ Status.NoMemory → Appends (K.held sink.old) (K.held sink.new) no_memory }
-    ensures front { result ≡ Status.WriteFault → BreaksInput input.now (K.held sink.old) (K.held sink.new) }
+    ensures form { result ≡ Status.Form →
+        WritesRefusal input.now (K.held sink.old) (K.held sink.new) }
+    ensures no_memory { result ≡ Status.NoMemory →
+        Appends (K.held sink.old) (K.held sink.new) no_memory }
+    ensures front { result ≡ Status.WriteFault →
+        BreaksInput input.now (K.held sink.old) (K.held sink.new) }
     ensures cause { result ≡ Status.WriteFault → Rose (K.faults sink.old) (K.faults sink.new) }
     ensures later { K.faults sink.old ≤ K.faults sink.new }
 {
@@ -97,18 +105,33 @@ pub fn quiet_call<S: Source, K: Sink>(
     sink: &mut K,
 ) -> Status
     // The transcript of the script's one run was written.
-    ensures done { result ≡ Status.Done → WritesTranscript words.now (S.left source.old) (S.left source.new) (K.held sink.old) (K.held sink.new) }
+    ensures done { result ≡ Status.Done →
+        WritesTranscript words.now (S.left source.old) (S.left source.new)
+        (K.held sink.old) (K.held sink.new) }
 
     // Another line was written, each for its cause.
-    ensures words { result ≡ Status.Words → RefusesWords words.now (S.left source.old) (S.left source.new) × Appends (K.held sink.old) (K.held sink.new) usage }
-    ensures form { result ≡ Status.Form → WritesFault words.now (S.left source.old) (S.left source.new) (K.held sink.old) (K.held sink.new) }
-    ensures read_fault { result ≡ Status.ReadFault → FailsToRead words.now (S.left source.old) (S.left source.new) (S.faults source.old) (S.faults source.new) × Appends (K.held sink.old) (K.held sink.new) read_fault }
-    ensures too_long { result ≡ Status.TooLong → Overflows words.now (S.left source.old) (S.left source.new) × Appends (K.held sink.old) (K.held sink.new) too_long }
-    ensures no_memory { result ≡ Status.NoMemory → RunsOut words.now × Appends (K.held sink.old) (K.held sink.new) no_memory }
+    ensures words { result ≡ Status.Words →
+        RefusesWords words.now (S.left source.old) (S.left source.new)
+        × Appends (K.held sink.old) (K.held sink.new) usage }
+    ensures form { result ≡ Status.Form →
+        WritesFault words.now (S.left source.old) (S.left source.new)
+        (K.held sink.old) (K.held sink.new) }
+    ensures read_fault { result ≡ Status.ReadFault →
+        FailsToRead words.now (S.left source.old) (S.left source.new)
+        (S.faults source.old) (S.faults source.new)
+        × Appends (K.held sink.old) (K.held sink.new) read_fault }
+    ensures too_long { result ≡ Status.TooLong →
+        Overflows words.now (S.left source.old) (S.left source.new)
+        × Appends (K.held sink.old) (K.held sink.new) too_long }
+    ensures no_memory { result ≡ Status.NoMemory →
+        RunsOut words.now × Appends (K.held sink.old) (K.held sink.new) no_memory }
 
     // The sink failed in the middle of one of these texts.
     ensures sink_rose { result ≡ Status.WriteFault → Rose (K.faults sink.old) (K.faults sink.new) }
-    ensures write_fault { result ≡ Status.WriteFault → Breaks words.now (S.left source.old) (S.left source.new) (S.faults source.old) (S.faults source.new) (K.held sink.old) (K.held sink.new) }
+    ensures write_fault { result ≡ Status.WriteFault →
+        Breaks words.now (S.left source.old) (S.left source.new)
+        (S.faults source.old) (S.faults source.new)
+        (K.held sink.old) (K.held sink.new) }
 
     // No count falls.
     ensures source_later { S.faults source.old ≤ S.faults source.new }

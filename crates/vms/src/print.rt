@@ -155,7 +155,8 @@ fn print_standing(
 /// Appends how process p stands.
 fn print_process(alloc: Global, exec: &Exec, p: Pid, out: &mut Bytes) -> Result<(), NoMemory>
     requires { IsProcess exec.now.state p }
-    ensures { OnOk result (out.new ≡ out.old ++ (process_line exec.now.state.system p.0 (process_at exec.now.state p) ++ 10 ∷ [])) }
+    ensures { OnOk result (out.new ≡ out.old
+        ++ (process_line exec.now.state.system p.0 (process_at exec.now.state p) ++ 10 ∷ [])) }
 {
     let (name, standing, code) = exec.standing(p);
     print_standing(alloc, p, name, standing, code, out)
@@ -173,7 +174,8 @@ fn end_word(end: End) -> &'static [u8]
 
 /// Appends how each process stands.
 fn print_processes(alloc: Global, exec: &Exec, out: &mut Bytes) -> Result<(), NoMemory>
-    ensures { OnOk result (out.new ≡ out.old ++ ended_lines (process_lines exec.now.state.system 1 exec.now.state.procs)) }
+    ensures { OnOk result (out.new ≡ out.old
+        ++ ended_lines (process_lines exec.now.state.system 1 exec.now.state.procs)) }
 {
     for n in 0..exec.made() {
         print_process(alloc, exec, Pid(n + 1), out)?;
@@ -193,7 +195,8 @@ fn print_end(alloc: Global, end: End, taken: u32, out: &mut Bytes) -> Result<(),
 
 /// Appends the trailer: how the processes stand, and the end after the records that were taken.
 pub fn print_trailer(alloc: Global, exec: &Exec, end: End, out: &mut Bytes) -> Result<(), NoMemory>
-    ensures { OnOk result (out.new ≡ out.old ++ ended_lines (trailer_lines exec.now.state end exec.now.taken)) }
+    ensures { OnOk result (out.new ≡ out.old
+        ++ ended_lines (trailer_lines exec.now.state end exec.now.taken)) }
 {
     print_processes(alloc, exec, out)?;
     print_end(alloc, end, exec.taken(), out)

@@ -170,14 +170,13 @@ fn a_second_read_that_fails(rt: HostRuntime) -> Result<(), Fail> {
 // One byte a read: one read for each byte of the script, and one that finds the end.
 #[test]
 fn each_read_failing(rt: HostRuntime) -> Result<(), Fail> {
-    let script = b"IMAGE M\nEND\nPROCESS P M\n";
-    for k in 1..=script.len() as u32 + 1 {
+    for k in 1..=FLAG_SCRIPT.len() as u32 + 1 {
         let trial = Trial {
             piece: 1,
             read_fails: k,
             ..PLAIN
         };
-        let (status, held) = tried(&rt, trial, script.to_vec(rt.alloc())?)?;
+        let (status, held) = tried(&rt, trial, FLAG_SCRIPT.to_vec(rt.alloc())?)?;
         assert_eq!(rt; status, Status::ReadFault, "at read {k}");
         assert!(rt; held.as_slice() == b"vms: read fault\n".as_slice());
     }

@@ -44,7 +44,8 @@ impl Exec {
         requires built { IsTrue (is_built system) }
         requires above { 0 < limit }
         requires within { limit ≤ 100000 }
-        ensures opens { IfOk result (λ exec. exec ≡ record { state = first system; limit = limit; taken = 0 }) }
+        ensures opens { IfOk result (λ exec.
+            exec ≡ record { state = first system; limit = limit; taken = 0 }) }
         ensures one_run { HasOneRun (first system) }
     {
         let procs = first_procs(alloc, &system.decls)?;
@@ -76,7 +77,10 @@ impl Exec {
         requires going { end_of self.old.limit self.old.taken self.old.state ≡ None }
         ensures event { IfOk result (λ rec. rec.event ≡ event) }
         ensures step { IfOk result (IsStep self.old.state) }
-        ensures after { OnOk result (self.new ≡ record self.old { state = (step self.old.state event).after; taken = self.old.taken + 1 }) }
+        ensures after { OnOk result (self.new ≡ record self.old {
+          state = (step self.old.state event).after;
+          taken = self.old.taken + 1;
+        }) }
         ensures err { OnErr result (self.new ≡ self.old) }
         ensures plan { plan self.new ≡ plan self.old }
     {

@@ -74,7 +74,8 @@ fn run(core: &mut Core, p: Pid, log: &mut Effects) -> Answer
     requires made { IsProcess (state core.old) p }
     requires declared { IsDeclared (state core.old) p }
     requires room { HasRoom log.old 1 }
-    ensures { Does (run_at (state core.old) p (next_stmt (state core.old) p)) result log.old log.new (state core.new) }
+    ensures { Does (run_at (state core.old) p (next_stmt (state core.old) p)) result
+        log.old log.new (state core.new) }
 {
     match next_stmt(core, p) {
         Some(Stmt::Service(call)) => {

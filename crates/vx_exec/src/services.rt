@@ -1,4 +1,4 @@
-//! The system services.
+//! The system services, each by its entry in the "OpenVMS System Services Reference Manual".
 
 ghost use Rattle.std.specs.Prelude.{◌≡◌, true, false};
 ghost use Rattle.vx_base.specs.Log.{HasRoom};

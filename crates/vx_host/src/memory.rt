@@ -53,7 +53,13 @@ impl MemSource {
     /// numbers, from 1. Takes no memory.
     pub fn new(bytes: Bytes, piece: u32, fails: Vec<u32>) -> MemSource
         requires { 0 < piece }
-        ensures { result ≡ record { left = bytes; piece = piece; fails = fails.items; calls = 0; faults = 0 } }
+        ensures { result ≡ record {
+          left = bytes;
+          piece = piece;
+          fails = fails.items;
+          calls = 0;
+          faults = 0;
+        } }
     {
         MemSource {
             bytes,

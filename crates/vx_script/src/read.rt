@@ -34,7 +34,8 @@ fn place(text: &[u8], at: u8) -> Option<usize>
 /// What stands before the first byte of a value, and what stands behind it.
 #[tactic(auto, using(crate::proofs::Cut::cut_is))]
 fn cut(text: &[u8], at: u8) -> Option<(&[u8], &[u8])>
-    ensures { MatchOption result (reader.cut at text.now ≡ None) (λ p. reader.cut at text.now ≡ Some (p.0.now, p.1.now)) }
+    ensures { MatchOption result (reader.cut at text.now ≡ None)
+        (λ p. reader.cut at text.now ≡ Some (p.0.now, p.1.now)) }
 {
     let place = place(text, at)?;
     Some((&text[..place], &text[place + 1..]))
@@ -279,7 +280,8 @@ fn read(alloc: Global, text: &[u8]) -> Result<System, ScriptFail>
 pub fn read_script(alloc: Global, text: &[u8]) -> Result<System, ScriptFail>
     ensures reads { IfOk result (Reads text.now) }
     ensures built { IfOk result (λ system. IsTrue (is_built system)) }
-    ensures refuses { (fault : ScriptFault) → result ≡ Err (ScriptFail.Fault fault) → RefusesAll fault text.now }
+    ensures refuses { (fault : ScriptFault) → result ≡ Err (ScriptFail.Fault fault) →
+        RefusesAll fault text.now }
 {
     read(alloc, text)
 }
