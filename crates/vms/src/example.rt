@@ -1,9 +1,14 @@
-//! A worked example, computed.
+//! Worked examples, computed.
 
-ghost use Rattle.vms.specs.Example.{IsFlagExample};
+ghost use Rattle.vms.specs.Example.{IsFlagExample, IsRefusedExample};
 
 /// The example's script spells its form, its records are the whole run of the machine, and its transcript is theirs:
 /// each by computation, from the definitions alone.
 pub fn flag_example()
     ensures { IsFlagExample }
+{}
+
+/// The same of an example whose flags are at the ends of their ranges, some of them refused, and whose image ends.
+pub fn refused_example()
+    ensures { IsRefusedExample }
 {}

@@ -1,5 +1,5 @@
 use super::*;
-use crate::example::flag_example;
+use crate::example::{flag_example, refused_example};
 use std::test::*;
 use vx_host::{MemSink, MemSource};
 
@@ -213,6 +213,7 @@ fn an_input_that_is_too_long(rt: HostRuntime) -> Result<(), Fail> {
 #[test]
 fn codes(rt: HostRuntime) {
     flag_example();
+    refused_example();
     for (status, code) in [
         (Status::Done, 0),
         (Status::Words, 2),
