@@ -75,7 +75,7 @@ pub record RefusesText (words : List (List ℕ)) (left left_after : Option (List
   pub refused : RefusesAll fault input
 
 -- The records are a run of the machine from the system's opening state that ends with every process deleted, within
--- 10,000 records; there is no other run; and the text is its transcript.
+-- 10,000 records; no other run is whole; and the text is its transcript.
 pub record IsSimulated (system : System) (text : List ℕ) : Type 0 where
   pub recs : List Rec
   pub run : IsRun (first system) recs

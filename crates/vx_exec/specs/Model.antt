@@ -333,8 +333,8 @@ after s (r ∷ rs) = after (step s r.event).after rs
 abbrev pub IsWhole : State → List Rec → Type 0
 IsWhole s rs = IsRun s rs × (enabled (after s rs) ≡ [])
 
--- There is one run from this state: at each of its moments at most one event is enabled, it has at most 1,002
--- records, where nothing is enabled any more all processes are deleted, and two whole runs are the same.
+-- Of the runs from this state two whole ones are the same: at each moment at most one event is enabled. None has more
+-- than 1,002 records, and a whole one ends with all processes deleted.
 pub record HasOneRun (s : State) : Type 0 where
   pub single : (rs : List Rec) → IsRun s rs → length (enabled (after s rs)) ≤ 1
   pub few : (rs : List Rec) → IsRun s rs → length rs ≤ 1002
