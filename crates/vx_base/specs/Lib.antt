@@ -1,6 +1,11 @@
-pub mod Built
 pub mod Cond
+pub mod Flags
+pub mod Lists
 pub mod Log
+pub mod Modes
 pub mod Name
 pub mod Padded
-pub mod State
+pub mod Pieces
+pub mod Queues
+pub mod Serving
+pub mod Services

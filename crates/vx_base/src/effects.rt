@@ -2,27 +2,146 @@
 
 ghost use Rattle.std.specs.Prelude.{◌≡◌, ◌<◌, ◌≤◌, ◌+◌, ◌++◌, ◌∷◌, [], length, OnOk, OnErr};
 
-use crate::bytes::NoMemory;
+use crate::bytes::{Bytes, NoMemory};
 use crate::call::Target;
-use crate::number::Pid;
+use crate::cond::Cond;
+use crate::mode::Mode;
+use crate::name::Name;
+use crate::number::{Id, Pid};
+use crate::request::Body;
 use crate::sequence::Sequence;
 use std::alloc::Global;
 use std::marker::Model;
+
+/// What was opened, and now has an id.
+#[derive(Clone, Copy, Debug, PartialEq, Eq)]
+pub enum Opened {
+    /// A buffered request, to a line unit or a mailbox.
+    Bio,
+    /// A direct request, to a block unit.
+    Dio,
+    /// An attention entry of a mailbox.
+    Attn,
+    /// A timer.
+    Timer,
+    /// A scheduled wake.
+    Wake,
+    /// A declared AST.
+    Ast,
+    /// A forced exit.
+    Force,
+    /// An exit handler.
+    Exh,
+}
 
 /// An event flag, as records name it.
 #[derive(Clone, Copy, Debug, PartialEq, Eq)]
 pub enum Cell {
     /// A process's own flag, by its number 0 to 63.
     Local(Pid, u32),
+    /// A flag of a common cluster, by the cluster's group and name and a number 0 to 31.
+    Common(u32, Name, u32),
 }
 
 /// One change that an event made.
 #[derive(Debug, Drop)]
 pub enum Effect {
+    /// An id was opened, of a kind, by a process (a forced exit: for one), with the mode of its routine, if it has one.
+    /// The number is the length of a buffered request, the repeat of a wake in ticks, else 0.
+    Open {
+        id: Id,
+        kind: Opened,
+        p: Pid,
+        mode: Option<Mode>,
+        n: u32,
+    },
+    /// A request finished.
+    Fin {
+        id: Id,
+        cond: Cond,
+    },
+    /// A request in service is to be aborted.
+    Mark(Id),
+    /// An AST was queued.
+    Que(Id),
+    /// A timer, wake or attention entry fired.
+    Fire(Id),
+    /// An id ended, and its routine is never entered.
+    Drop(Id),
+    /// An exit handler was entered.
+    Enter(Id),
+    /// An AST is no longer active.
+    Leave(Id),
     /// An event flag was set or cleared.
-    Flag { cell: Cell, bit: bool },
+    Flag {
+        cell: Cell,
+        bit: bool,
+    },
+    /// An I/O status block, 1 to 32, was filled, or cleared where it has no condition.
+    Iosb {
+        p: Pid,
+        i: u32,
+        cond: Option<Cond>,
+        count: u32,
+        info: u32,
+    },
+    /// Bytes were put at the start of a buffer, 0 to 31.
+    Buf {
+        p: Pid,
+        b: u32,
+        bytes: Bytes,
+    },
     /// An answer was put into a variable.
-    Var { p: Pid, v: Target, n: u32 },
+    Var {
+        p: Pid,
+        v: Target,
+        n: u32,
+    },
+    /// A message was written to a mailbox.
+    MPut {
+        name: Name,
+        id: Id,
+        body: Body,
+    },
+    /// A message, by the id of its write, went to a read.
+    MGet {
+        name: Name,
+        w: Id,
+        r: Id,
+    },
+    /// A stored message was withdrawn.
+    MCut {
+        name: Name,
+        w: Id,
+    },
+    /// A mailbox was made, or is gone.
+    Mbx {
+        name: Name,
+        bit: bool,
+    },
+    /// A common cluster was made, or is gone.
+    Cef {
+        group: u32,
+        name: Name,
+        bit: bool,
+    },
+    /// A process's cluster 2 or 3 was associated, by its group and name, or dissociated.
+    Clu {
+        p: Pid,
+        k: u32,
+        cluster: Option<(u32, Name)>,
+    },
+    /// AST delivery in a mode was enabled or disabled.
+    Enb {
+        p: Pid,
+        mode: Mode,
+        bit: bool,
+    },
+    /// A process was made from the declaration of this name.
+    New {
+        p: Pid,
+        name: Name,
+    },
     /// A process was deleted.
     Gone(Pid),
 }

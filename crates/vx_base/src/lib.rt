@@ -1,11 +1,15 @@
 //! The plain data that every other crate speaks of.
 //!
-//! What a script says (`System`), what an event did (`Rec`), and the small types that both are made of:
-//! names, bytes, conditions, modes, calls. For the crates above these are data of definitions: a clause
-//! sees an enum or a struct as it stands, and a type with private fields as the list of what it holds.
-//! `specs/State.antt` has the plain state of the executive, `specs/Built.antt` what of a system it runs so far.
+//! What a call of a service is (`Call`), what an event did (`Rec`), and the small types that both are made of: names,
+//! bytes, conditions, modes, ids, requests, frames. For the crates above these are data of definitions: a clause sees an
+//! enum or a struct as it stands, and a type with private fields as the list of what it holds.
+//!
+//! `specs/Pieces.antt` has the pieces that the plain state of the executive is made of, `specs/Lists.antt`,
+//! `specs/Flags.antt`, `specs/Queues.antt` and `specs/Serving.antt` the words on them, `specs/Services.antt` the services
+//! with their names and arguments.
 #![tactic(auto)]
 
+mod buffer;
 mod bytes;
 mod call;
 mod cond;
@@ -14,23 +18,30 @@ mod frame;
 mod mode;
 mod name;
 mod number;
+mod quota;
 mod record;
+mod request;
+mod routine;
+mod same;
 mod sequence;
-mod spot;
-mod system;
+mod service;
 
+pub use buffer::{BUFFER_BYTES, Buffer};
 pub use bytes::{Bytes, NoMemory};
-pub use call::{Arg, Args, CLREF, Call, EXIT, Operand, READEF, SETEF, Target};
+pub use call::{Arg, Args, Call, Operand, Target};
 pub use cond::{Cond, CondRow, CondTable, Severity, cond_table};
-pub use effects::{Cell, Effect, EffectList, Effects};
-pub use frame::{Frame, FrameKind, Phase};
-pub use mode::Mode;
-pub use name::Name;
-pub use number::Pid;
+pub use effects::{Cell, Effect, EffectList, Effects, Opened};
+pub use frame::{Frame, FrameKind, Phase, Wait};
+pub use mode::{Mode, outer_of};
+pub use name::{Name, is_name};
+pub use number::{BoxNo, Id, Pid, UnitNo};
+pub use quota::{Need, Privs};
 pub use record::{Answer, End, Event, Rec, Recs};
+pub use request::{Body, Device, Func, Msg, Reply, Req};
+pub use routine::{Entry, Routine, Scripted};
+pub use same::{Duplicate, Same};
 pub use sequence::Sequence;
-pub use spot::Spot;
-pub use system::{Image, Images, Need, Privs, ProcDecl, ProcDecls, Stmt, Stmts, System};
+pub use service::{Kind, Param, Service};
 
 #[cfg(test)]
 mod tests;

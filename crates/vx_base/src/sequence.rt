@@ -1,8 +1,9 @@
 //! A list that contracts see as a list.
 
-ghost use Rattle.std.specs.Prelude.{◌≡◌, [], ◌∷◌, ◌++◌, OnOk, OnErr};
+ghost use Rattle.std.specs.Prelude.{◌≡◌, ◌↔◌, [], ◌∷◌, ◌++◌, OnOk, OnErr, IfOk, IsTrue};
 
 use crate::bytes::NoMemory;
+use crate::same::{Duplicate, Same};
 use std::alloc::Global;
 use std::marker::Model;
 
@@ -53,5 +54,29 @@ impl<T: Drop> Sequence<T> {
     {
         self.items.push(item)?;
         Ok(())
+    }
+}
+
+impl<T: Same> Same for Sequence<T> {
+    fn same(&self, other: &Sequence<T>) -> bool {
+        if self.items.len() != other.items.len() {
+            return false;
+        }
+        for (i, item) in self.items.iter().enumerate() {
+            if !item.same(&other.items[i]) {
+                return false;
+            }
+        }
+        true
+    }
+}
+
+impl<T: Duplicate> Duplicate for Sequence<T> {
+    fn duplicate(&self) -> Result<Sequence<T>, NoMemory> {
+        let mut copy = Sequence::new(*self.items.allocator());
+        for item in &self.items {
+            copy.push(item.duplicate()?)?;
+        }
+        Ok(copy)
     }
 }
