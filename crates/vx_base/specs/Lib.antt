@@ -1,3 +1,5 @@
+pub mod Channels
+pub mod Clusters
 pub mod Cond
 pub mod Flags
 pub mod Lists
@@ -7,5 +9,6 @@ pub mod Name
 pub mod Padded
 pub mod Pieces
 pub mod Queues
+pub mod Quotas
 pub mod Serving
 pub mod Services
