@@ -1,2 +1,2 @@
-pub mod Over
+pub mod Computed
 pub mod Steps

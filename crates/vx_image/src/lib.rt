@@ -6,6 +6,7 @@
 #![tactic(auto)]
 
 mod decl;
+mod example;
 mod image;
 mod local;
 mod page;
@@ -18,6 +19,7 @@ mod system;
 mod unit;
 
 pub use decl::{ProcDecl, ProcDecls};
+pub use example::{past_example, round_example, wrapping_example};
 pub use image::{Image, Images, Label, Labels};
 pub use run::advance;
 pub use stmt::{Field, Rel, Stmt, Stmts};
@@ -25,3 +27,6 @@ pub use stop::Stop;
 pub use store::Store;
 pub use system::System;
 pub use unit::{Lines, Numbers, UnitDecl, UnitDecls};
+
+#[cfg(test)]
+mod tests;

@@ -13,7 +13,7 @@ use crate::store::Store;
 use vx_base::{Arg, Args, Call, Operand, Pid};
 
 /// The most local statements of one run.
-const MOST_LOCAL: u32 = 1000;
+pub(crate) const MOST_LOCAL: u32 = 1000;
 
 fn computed_arg(store: &Store, prm: u32, p: Pid, arg: Arg) -> Arg
     ensures { result ≡ computed_arg (record { prm = prm; p = p }) store.now arg }
@@ -55,7 +55,14 @@ fn stop_at(store: &Store, prm: u32, p: Pid, stmt: &Stmt) -> Stop
 }
 
 // Runs at most so many local statements.
-fn run_local(image: &Image, store: &mut Store, prm: u32, p: Pid, pc: u32, most: u32) -> (u32, Stop)
+pub(crate) fn run_local(
+    image: &Image,
+    store: &mut Store,
+    prm: u32,
+    p: Pid,
+    pc: u32,
+    most: u32,
+) -> (u32, Stop)
     requires small { length image.now.stmts ≤ 10000 }
     requires storable { IsTrue (list_all is_storable image.now.stmts) }
     ensures { record { store = store.new; place = result.0; stop = result.1 } ≡ run_local most image.now (record { prm = prm; p = p }) store.old pc }
