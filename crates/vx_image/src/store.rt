@@ -85,22 +85,23 @@ impl Store {
         })
     }
 
-    /// The value of a variable or of R0.
+    /// The value of a variable or of R0. A byte that is no capital letter names no variable, and has the value 0.
     pub fn value(&self, target: Target) -> u32
         ensures { result ≡ stored_in self.now target }
     {
         match target {
             Target::Var(v) => {
-                match self.vars.get(v.saturating_sub(b'A') as usize) {
-                    Some(n) => *n,
-                    None => 0,
+                if b'A' <= v && v <= b'Z' {
+                    self.vars[(v - b'A') as usize]
+                } else {
+                    0
                 }
             }
             Target::R0 => self.r0,
         }
     }
 
-    /// Puts a value into a variable or into R0. A byte that is no capital letter names no variable.
+    /// Puts a value into a variable or into R0. A byte that is no capital letter names no variable, and changes nothing.
     pub fn set(&mut self, target: Target, n: u32)
         ensures { self.new ≡ with_target self.old target n }
     {
