@@ -1,5 +1,5 @@
 -- Worked examples.
-use Rattle.std.proofs.Common.{ℕ, zero, suc, refl}
+use Rattle.std.proofs.Common.{zero, suc, refl}
 use Rattle.vx_image.specs.Example.{GoesRound}
 
 pub goes_round : GoesRound

@@ -177,7 +177,15 @@ fn a_run_has_at_most_1000_statements(rt: HostRuntime) -> Result<(), Fail> {
         (501, 500, 0, "LOCAL"),
     ];
     for (times, a, place, why) in rows {
-        runs_to(&rt, rt.alloc(), &[0], rounds(rt.alloc(), times)?, a, place, why)?;
+        runs_to(
+            &rt,
+            rt.alloc(),
+            &[0],
+            rounds(rt.alloc(), times)?,
+            a,
+            place,
+            why,
+        )?;
     }
     Ok(())
 }
@@ -186,18 +194,22 @@ fn a_run_has_at_most_1000_statements(rt: HostRuntime) -> Result<(), Fail> {
 fn the_1001st_statement_waits(rt: HostRuntime) -> Result<(), Fail> {
     let rows = [(499, 499, 3, "RETURN"), (500, 500, 2, "LOCAL")];
     for (times, a, place, why) in rows {
-        runs_to(&rt, rt.alloc(), &[1], rounds_after_one(rt.alloc(), times)?, a, place, why)?;
+        runs_to(
+            &rt,
+            rt.alloc(),
+            &[1],
+            rounds_after_one(rt.alloc(), times)?,
+            a,
+            place,
+            why,
+        )?;
     }
     Ok(())
 }
 
 #[test]
 fn a_run_goes_where_labels_say(rt: HostRuntime) -> Result<(), Fail> {
-    let rows = [
-        (0, 0, 0, "LOCAL"),
-        (1, 1, 2, "END"),
-        (2, 0, 2, "END"),
-    ];
+    let rows = [(0, 0, 0, "LOCAL"), (1, 1, 2, "END"), (2, 0, 2, "END")];
     for (label, a, place, why) in rows {
         let stmts = vec![in rt.alloc(); Stmt::Goto(label), Stmt::Let(A, Operand::Num(1))]?;
         runs_to(&rt, rt.alloc(), &[0, 1, 2], stmts, a, place, why)?;
@@ -238,7 +250,10 @@ fn values_are_read(rt: HostRuntime) -> Result<(), Fail> {
         (Operand::Prm, 3),
     ];
     for (x, want) in rows {
-        assert_eq!(rt; a_after(&rt, rt.alloc(), &mut store, Stmt::Let(A, x))?, want);
+        assert_eq!(rt;
+            a_after(&rt, rt.alloc(), &mut store, Stmt::Let(A, x))?,
+            want
+        );
     }
     Ok(())
 }
@@ -268,7 +283,11 @@ fn bytes_are_put_and_read(rt: HostRuntime) -> Result<(), Fail> {
     ];
     for (b, at, want) in rows {
         let byte = Stmt::Byte(A, b, Operand::Num(at));
-        assert_eq!(rt; a_after(&rt, rt.alloc(), &mut store, byte)?, want, "buffer {b} at {at}");
+        assert_eq!(rt;
+            a_after(&rt, rt.alloc(), &mut store, byte)?,
+            want,
+            "buffer {b} at {at}"
+        );
     }
     Ok(())
 }
@@ -287,7 +306,11 @@ fn status_blocks_are_read(rt: HostRuntime) -> Result<(), Fail> {
         (1, Field::Info, 8),
     ];
     for (i, field, want) in rows {
-        assert_eq!(rt; a_after(&rt, rt.alloc(), &mut store, Stmt::Iosb(A, i, field))?, want, "block {i}");
+        assert_eq!(rt;
+            a_after(&rt, rt.alloc(), &mut store, Stmt::Iosb(A, i, field))?,
+            want,
+            "block {i}"
+        );
     }
     assert_eq!(rt; store.iosb(32).1, 5);
     Ok(())
@@ -384,7 +407,12 @@ fn a_program_runs_to_its_exit(rt: HostRuntime) -> Result<(), Fail> {
     let mut store = Store::new(rt.alloc())?;
     let (place, stop) = go(&rt, &image, &mut store, 0);
     assert_eq!(rt; place, 13);
-    assert!(rt; is_call(&stop, &call_of(Service::Exit, Arg::Value(Operand::Num(9)), Arg::Unused)));
+    assert!(rt;
+        is_call(
+            &stop,
+            &call_of(Service::Exit, Arg::Value(Operand::Num(9)), Arg::Unused)
+        )
+    );
     let rows = [
         (b'A', 5),
         (b'B', MOST),
