@@ -8,11 +8,11 @@ use Rattle.vx_clusters.specs.Sound.{are_apart}
 pub any_less : {A : Type 0} (p q : A → Bool) (xs : List A) → IsTrue (list_any q (less p xs)) → IsTrue (list_any q xs)
 any_less p q [] h = h
 any_less p q (x ∷ xs) h = elim (cases_Bool (p x)) [
-      inl passes ↦ let below : IsTrue (list_any q xs) = rw passes at h in or_right (q x) (list_any q xs) below
-    | inr fails ↦
-        let both : IsTrue (q x || list_any q (less p xs)) = rw fails at h in
-        elim (or_cases (q x) (list_any q (less p xs)) both) [ inl here ↦ or_left (q x) (list_any q xs) here | inr below ↦ or_right (q x) (list_any q xs) (any_less p q xs below) ]
-    ]
+  | inl passes ↦ let below : IsTrue (list_any q xs) = rw passes at h in or_right (q x) (list_any q xs) below
+  | inr fails ↦
+      let both : IsTrue (q x || list_any q (less p xs)) = rw fails at h in
+      elim (or_cases (q x) (list_any q (less p xs)) both) [ inl here ↦ or_left (q x) (list_any q xs) here | inr below ↦ or_right (q x) (list_any q xs) (any_less p q xs below) ]
+]
 
 pub none_less : {A : Type 0} (p q : A → Bool) (xs : List A) → list_any q xs ≡ false → list_any q (less p xs) ≡ false
 none_less p q xs none = false_from_ne_true _ (λ some. both_ways _ none (any_less p q xs some))
@@ -22,8 +22,8 @@ all_less p q [] all = all
 all_less p q (x ∷ xs) all =
     let parts = and_parts (q x) (list_all q xs) all in
     elim (cases_Bool (p x)) [
-      inl passes ↦ rw passes parts.1
-    | inr fails ↦ rw fails (and_from _ _ parts.0 (all_less p q xs parts.1))
+      | inl passes ↦ rw passes parts.1
+      | inr fails ↦ rw fails (and_from _ _ parts.0 (all_less p q xs parts.1))
     ]
 
 pub apart_less : {A : Type 0} (same : A → A → Bool) (p : A → Bool) (xs : List A) → IsTrue (are_apart same xs) → IsTrue (are_apart same (less p xs))
@@ -31,8 +31,8 @@ apart_less same p [] apart = apart
 apart_less same p (x ∷ xs) apart =
     let parts = and_parts (not (list_any (same x) xs)) (are_apart same xs) apart in
     elim (cases_Bool (p x)) [
-      inl passes ↦ rw passes parts.1
-    | inr fails ↦ rw fails (and_from _ _ (not_from_false _ (none_less p (same x) xs (not-true _ parts.0))) (apart_less same p xs parts.1))
+      | inl passes ↦ rw passes parts.1
+      | inr fails ↦ rw fails (and_from _ _ (not_from_false _ (none_less p (same x) xs (not-true _ parts.0))) (apart_less same p xs parts.1))
     ]
 
 -- what no item passes, no item passes that asks more
@@ -79,17 +79,17 @@ apart_push same (x ∷ xs) y apart none =
 pub found_passes : {A : Type 0} (p : A → Bool) (xs : List A) (y : A) → find p xs ≡ Some y → IsTrue (p y)
 found_passes p [] y found = absurd (cc)
 found_passes {A = A} p (x ∷ xs) y found = elim (cases_Bool (p x)) [
-      inl passes ↦
-        let here : Some x ≡ Some y = rw passes at found in
-        let same : x ≡ y = cc in
-        let P : A → Type 0 = λ z. IsTrue (p z) in
-        subst P same passes
-    | inr fails ↦ let below : find p xs ≡ Some y = rw fails at found in found_passes p xs y below
-    ]
+  | inl passes ↦
+      let here : Some x ≡ Some y = rw passes at found in
+      let same : x ≡ y = cc in
+      let P : A → Type 0 = λ z. IsTrue (p z) in
+      subst P same passes
+  | inr fails ↦ let below : find p xs ≡ Some y = rw fails at found in found_passes p xs y below
+]
 
 pub none_found : {A : Type 0} (p : A → Bool) (xs : List A) → find p xs ≡ None → list_any p xs ≡ false
 none_found p [] none = refl
 none_found p (x ∷ xs) none = elim (cases_Bool (p x)) [
-      inl passes ↦ let here : Some x ≡ None = rw passes at none in absurd (cc)
-    | inr fails ↦ let below : find p xs ≡ None = rw fails at none in or_from _ _ fails (none_found p xs below)
-    ]
+  | inl passes ↦ let here : Some x ≡ None = rw passes at none in absurd (cc)
+  | inr fails ↦ let below : find p xs ≡ None = rw fails at none in or_from _ _ fails (none_found p xs below)
+]

@@ -7,13 +7,13 @@ use Rattle.vx_clusters.specs.Places.{item_at, without, changed_at}
 
 shifted : (n m : ℕ) → cond {A = Option ℕ} (nat_lt (1 + n) (suc m)) (Some (1 + n)) None ≡ option_map (λ i. suc i) (cond {A = Option ℕ} (nat_lt n m) (Some n) None)
 shifted n m = elim (cases_Bool (nat_lt n m)) [
-      inl below ↦
-        let further : nat_lt (1 + n) (suc m) ≡ true = lt-ltb _ _ (omega (arith, ltb-true n m below)) in
-        rw (further, below) (ap Some (omega arith))
-    | inr beyond ↦
-        let further : nat_lt (1 + n) (suc m) ≡ false = le-ltb _ _ (omega (arith, ltb-false n m beyond)) in
-        rw (further, beyond) refl
-    ]
+  | inl below ↦
+      let further : nat_lt (1 + n) (suc m) ≡ true = lt-ltb _ _ (omega (arith, ltb-true n m below)) in
+      rw (further, below) (ap Some (omega arith))
+  | inr beyond ↦
+      let further : nat_lt (1 + n) (suc m) ≡ false = le-ltb _ _ (omega (arith, ltb-false n m beyond)) in
+      rw (further, beyond) refl
+]
 
 at_once : (m : ℕ) → cond {A = Option ℕ} (nat_lt 0 (suc m)) (Some 0) None ≡ Some 0
 at_once m = let below : nat_lt 0 (suc m) ≡ true = lt-ltb _ _ (omega arith) in rw below refl

@@ -54,23 +54,23 @@ parted_keeps c p k s = record {
 has_less : (group : ℕ) (name : List ℕ) (a : Association) (xs : List Cluster) → is_user group name a ≡ false → IsTrue (has_cluster xs a) → IsTrue (has_cluster (less (is_cluster group name) xs) a)
 has_less group name a [] other has = has
 has_less group name a (x ∷ xs) other has = elim (cases_Bool (is_cluster group name x)) [
-      inl passes ↦
-        let below : IsTrue (has_cluster xs a) = elim (or_cases (is_cluster a.group a.name x) (has_cluster xs a) has) [
-          inl here ↦
+  | inl passes ↦
+      let below : IsTrue (has_cluster xs a) = elim (or_cases (is_cluster a.group a.name x) (has_cluster xs a) has) [
+        | inl here ↦
             let e = cluster_parts group name x passes in
             let f = cluster_parts a.group a.name x here in
             absurd (both_ways _ other (user_from group name a (sym f.0 ∙ e.0) (sym f.1 ∙ e.1)))
         | inr below ↦ below
-        ] in
-        rw passes below
-    | inr fails ↦
-        let rest : List Cluster = less (is_cluster group name) xs in
-        let both : IsTrue (has_cluster (x ∷ rest) a) = elim (or_cases (is_cluster a.group a.name x) (has_cluster xs a) has) [
-          inl here ↦ or_left (is_cluster a.group a.name x) (has_cluster rest a) here
+      ] in
+      rw passes below
+  | inr fails ↦
+      let rest : List Cluster = less (is_cluster group name) xs in
+      let both : IsTrue (has_cluster (x ∷ rest) a) = elim (or_cases (is_cluster a.group a.name x) (has_cluster xs a) has) [
+        | inl here ↦ or_left (is_cluster a.group a.name x) (has_cluster rest a) here
         | inr below ↦ or_right (is_cluster a.group a.name x) (has_cluster rest a) (has_less group name a xs other below)
-        ] in
-        rw fails both
-    ]
+      ] in
+      rw fails both
+]
 
 standing_less : (group : ℕ) (name : List ℕ) (clusters : List Cluster) (xs : List Association) → list_any (is_user group name) xs ≡ false → IsTrue (list_all (has_cluster clusters) xs) → IsTrue (list_all (has_cluster (less (is_cluster group name) clusters)) xs)
 standing_less group name clusters [] unused standing = refl
@@ -98,9 +98,9 @@ swept_at_keeps c (Some cl) unused s = elim (cl.permanent && not cl.marked) as (�
 
 swept_keeps : (c : Common) (group : ℕ) (name : List ℕ) → IsSound c → IsSound (swept c group name).after
 swept_keeps c group name s = elim (cases_Bool (is_used c group name)) [
-      inl used ↦ rw used s
-    | inr unused ↦ rw unused (swept_at_keeps c (find (is_cluster group name) c.clusters) (λ cl found. found_unused c group name cl found unused) s)
-    ]
+  | inl used ↦ rw used s
+  | inr unused ↦ rw unused (swept_at_keeps c (find (is_cluster group name) c.clusters) (λ cl found. found_unused c group name cl found unused) s)
+]
 
 dissociated_at_keeps : (c : Common) (p : Pid) (k : ℕ) (o : Option Association) → IsSound c → IsSound (dissociated_at c p k o).after
 dissociated_at_keeps c p k None s = s
@@ -123,10 +123,10 @@ none_left p k [] apart = refl
 none_left p k (x ∷ xs) apart =
     let parts = and_parts (not (list_any (is_same_association x) xs)) (are_apart is_same_association xs) apart in
     elim (cases_Bool (is_association p k x)) [
-      inl passes ↦
-        let e = association_parts p k x passes in
-        rw passes (none_stronger (is_same_association x) (is_association p k) (λ y same. let f = association_parts p k y same in association_from x.p x.k y (f.0 ∙ sym e.0) (f.1 ∙ sym e.1)) xs (not-true _ parts.0))
-    | inr fails ↦ rw fails (or_from _ _ fails (none_left p k xs parts.1))
+      | inl passes ↦
+          let e = association_parts p k x passes in
+          rw passes (none_stronger (is_same_association x) (is_association p k) (λ y same. let f = association_parts p k y same in association_from x.p x.k y (f.0 ∙ sym e.0) (f.1 ∙ sym e.1)) xs (not-true _ parts.0))
+      | inr fails ↦ rw fails (or_from _ _ fails (none_left p k xs parts.1))
     ]
 
 dissociated_at_none : (c : Common) (p : Pid) (k : ℕ) (o : Option Association) → find (is_association p k) c.associations ≡ o → IsSound c → list_any (is_association p k) (dissociated_at c p k o).after.associations ≡ false
@@ -158,9 +158,9 @@ joined_keeps c p k group name there none s =
 
 joins : (c : Common) (p : Pid) (k group : ℕ) (name : List ℕ) (permanent : Bool) → list_any (is_association p k) c.associations ≡ false → IsSound c → IsSound (joined (made_where_new c group name permanent).after p k group name).after
 joins c p k group name permanent none s = elim (cases_Bool (stands c group name)) [
-      inl there ↦ rw there (joined_keeps c p k group name there none s)
-    | inr new ↦ rw new (joined_keeps (made c group name permanent).after p k group name (made_stands c group name permanent) none (made_keeps c group name permanent new s))
-    ]
+  | inl there ↦ rw there (joined_keeps c p k group name there none s)
+  | inr new ↦ rw new (joined_keeps (made c group name permanent).after p k group name (made_stands c group name permanent) none (made_keeps c group name permanent new s))
+]
 
 pub associated_keeps : (c : Common) (p : Pid) (k group : ℕ) (name : List ℕ) (permanent : Bool) → IsSound c → IsSound (associated c p k group name permanent).after
 associated_keeps c p k group name permanent s =
@@ -204,10 +204,10 @@ marked_at_keeps c None s = s
 marked_at_keeps c (Some cl) s =
     let amended : List Cluster = amend (is_cluster cl.group cl.name) with_mark c.clusters in
     elim (not cl.permanent) as (λ b. IsSound (if b then unchanged c else (if is_used c cl.group cl.name then record { effects = []; after = record c { clusters = amended } } else gone c cl.group cl.name)).after) [
-      true ↦ s
-    | false ↦ elim (cases_Bool (is_used c cl.group cl.name)) [
-        inl used ↦ rw used (alike c amended (amend_keys (is_cluster cl.group cl.name) c.clusters) s)
-      | inr unused ↦ rw unused (gone_keeps c cl.group cl.name unused s)
+      | true ↦ s
+      | false ↦ elim (cases_Bool (is_used c cl.group cl.name)) [
+        | inl used ↦ rw used (alike c amended (amend_keys (is_cluster cl.group cl.name) c.clusters) s)
+        | inr unused ↦ rw unused (gone_keeps c cl.group cl.name unused s)
       ]
     ]
 

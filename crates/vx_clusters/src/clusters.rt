@@ -94,7 +94,13 @@ impl Clusters {
 
     /// Marks a permanent cluster for deletion; it goes at once where nobody has it ($DLCEFC). `may` is the privilege PRMCEB:
     /// NoPriv without it. Takes no memory.
-    pub fn mark(&mut self, group: u32, name: Name, may: bool, log: &mut Effects) -> Result<(), AscFail>
+    pub fn mark(
+        &mut self,
+        group: u32,
+        name: Name,
+        may: bool,
+        log: &mut Effects,
+    ) -> Result<(), AscFail>
         requires { HasRoom log.old (length (mark self.old.common group name may).effects) }
         ensures answer { result ≡ answer (mark_refusal may) }
         ensures does { Does (mark self.old.common group name may) self.old self.new log.old log.new }
@@ -161,5 +167,9 @@ impl Clusters {
 fn cluster_number(efn: u32) -> Option<u32>
     ensures { result ≡ (if is_common efn then Some (cluster_number efn) else None) }
 {
-    if 64 <= efn && efn <= 127 { Some(efn / 32) } else { None }
+    if 64 <= efn && efn <= 127 {
+        Some(efn / 32)
+    } else {
+        None
+    }
 }

@@ -87,7 +87,9 @@ impl Table {
     fn is_used(&self, group: u32, name: Name) -> bool
         ensures { result ≡ is_used self.now.common group name }
     {
-        self.associations.iter().any(|association| association.is_of(group, name))
+        self.associations
+            .iter()
+            .any(|association| association.is_of(group, name))
     }
 
     /// What a process has as its cluster k.
@@ -216,7 +218,15 @@ impl Table {
     }
 
     /// A process has a cluster as its cluster k, in place of what it had there.
-    pub(crate) fn associate(&mut self, p: Pid, k: u32, group: u32, name: Name, permanent: bool, log: &mut Effects)
+    pub(crate) fn associate(
+        &mut self,
+        p: Pid,
+        k: u32,
+        group: u32,
+        name: Name,
+        permanent: bool,
+        log: &mut Effects,
+    )
         requires cluster_room { length self.old.common.clusters < self.old.cluster_capacity }
         requires association_room { length self.old.common.associations < self.old.association_capacity }
         requires log { HasRoom log.old (length (associated self.old.common p k group name permanent).effects) }
@@ -339,5 +349,7 @@ fn place_of_association(associations: &[Association], p: Pid, k: u32) -> Option<
     ensures place { result ≡ position (is_association p k) associations.now }
     ensures within { IfSome result (λ i. i < length associations.now) }
 {
-    associations.iter().position(|association| association.is(p, k))
+    associations
+        .iter()
+        .position(|association| association.is(p, k))
 }
