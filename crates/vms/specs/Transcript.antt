@@ -1,7 +1,7 @@
 -- The transcript of a run: the canonical script, the records and the trailer, line by line.
 use Rattle.std.specs.Prelude.{ℕ, ◌+◌, List, [], ◌∷◌, ◌++◌, length, map, codes, decimal}
 use Rattle.vx_base.specs.Cond.{name_of}
-use Rattle.vx_base.specs.State.{Process, State, one}
+use Rattle.vx_exec.specs.State.{Process, State, one}
 use Rattle.vx_base.specs.declared.effects.Cell.{Cell}
 use Rattle.vx_base.specs.declared.effects.Cell.TheVariants.{Local}
 use Rattle.vx_base.specs.declared.effects.Effect.{Effect}
@@ -13,7 +13,7 @@ use Rattle.vx_base.specs.declared.record.End.TheVariants.{Done, Hung, Limit}
 use Rattle.vx_base.specs.declared.record.Event.{Event}
 use Rattle.vx_base.specs.declared.record.Event.TheVariants.{Run, Rdn}
 use Rattle.vx_base.specs.declared.record.Rec.{Rec}
-use Rattle.vx_base.specs.declared.system.System.{System}
+use Rattle.vx_image.specs.declared.system.System.{System}
 use Rattle.vx_script.specs.Form.{ended_lines}
 use Rattle.vx_script.specs.Script.{target_text, call_text, script}
 use Rattle.vx_exec.specs.Model.{decl_of, first, after}

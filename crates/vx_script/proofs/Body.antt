@@ -2,8 +2,8 @@
 use Rattle.std.proofs.Common.{◌≡◌, ℕ, zero, suc, ◌<◌, true, false, List, [], ◌∷◌, ◌++◌, refl, arith, Some, None}
 use Rattle.std.specs.Prelude.{bytes_eq, codes}
 use Rattle.vx_base.specs.declared.call.Call.{Call}
-use Rattle.vx_base.specs.declared.system.Stmt.{Stmt}
-use Rattle.vx_base.specs.declared.system.Stmt.TheVariants.{Service}
+use Rattle.vx_image.specs.declared.stmt.Stmt.{Stmt}
+use Rattle.vx_image.specs.declared.stmt.Stmt.TheVariants.{Service}
 use Rattle.vx_script.specs.Reader.{cut, call, finish, body}
 
 pub none_left : (image : List ℕ) (stmts : List Stmt) (k : ℕ) (text : List ℕ) → k ≡ 0 → body image stmts k text ≡ None

@@ -7,15 +7,15 @@ use Rattle.std.proofs.lemmas.List.{take-append-drop, append-nil, append_assoc}
 use Rattle.std.proofs.lemmas.Slice.Eq.{bytes_eq-Decides}
 use Rattle.std.proofs.lemmas.Fmt.{decimal-digits_value}
 use Rattle.vx_base.specs.Name.{is_name, is_digit}
-use Rattle.vx_base.specs.Built.{is_letter}
-use Rattle.vx_base.specs.declared.call.TheConstants.{SETEF, CLREF, READEF, EXIT}
+use Rattle.vx_base.specs.Name.{is_capital}
+use Rattle.vx_base.specs.declared.service.Service.TheVariants.{SetEf, ClrEf, ReadEf, Exit}
 use Rattle.vx_base.specs.declared.call.Arg.TheVariants.{Value, Target, Unused}
 use Rattle.vx_base.specs.declared.call.Operand.TheVariants.{Num}
 use Rattle.vx_base.specs.declared.call.Target.TheVariants.{Var}
 use Rattle.vx_base.specs.declared.call.Call.{Call}
-use Rattle.vx_base.specs.declared.system.Stmt.{Stmt}
-use Rattle.vx_base.specs.declared.system.Stmt.TheVariants.{Service}
-use Rattle.vx_base.specs.declared.system.System.{System}
+use Rattle.vx_image.specs.declared.stmt.Stmt.{Stmt}
+use Rattle.vx_image.specs.declared.stmt.Stmt.TheVariants.{Service}
+use Rattle.vx_image.specs.declared.system.System.{System}
 use Rattle.vx_script.specs.Form.{Statement, setef, clref, readef, exit, exit_with, line_of, fits, calling, call_of, stmt_of, Form, IsForm, ended_lines, lines_after, spelled, system_of}
 use Rattle.vx_script.specs.Reader.{after, cut, digits_value, value_of, is_misspelled, number, letter, number_call, variable_call, when_some, exit_call, call, process, system_from, if_empty, finish, body, read}
 use Rattle.vx_script.proofs.Digits.{own}
@@ -117,10 +117,10 @@ number_spells : (ds : List ℕ) (n : ℕ) → number ds ≡ Some n → Spells ds
 unfolding number
 number_spells ds n h = number_by ds n h
 
-letter_is : (l : List ℕ) (v : ℕ) → letter l ≡ Some v → (l ≡ v ∷ []) × (is_letter v ≡ true)
+letter_is : (l : List ℕ) (v : ℕ) → letter l ≡ Some v → (l ≡ v ∷ []) × (is_capital v ≡ true)
 letter_is [] v h = cc
 letter_is (x ∷ []) v h =
-    let w = when (is_letter x) (Some x) v h in
+    let w = when (is_capital x) (Some x) v h in
     let same : x ≡ v = some_same _ _ w.1 in
     (ap (λ z. z ∷ []) same, rw same at w.0)
 letter_is (x ∷ y ∷ ys) v h = cc
@@ -140,10 +140,10 @@ number_call_is service digits c h =
 
 variable_call_says : (line rest : List ℕ) (c : Call) → line ≡ codes "$READEF " ++ rest → variable_call rest ≡ Some c → Says line c
 variable_call_says line rest c e h =
-    let b = bound (cut 44 rest) (λ p. option_and_then (λ n. option_map (λ v. calling READEF (Value (Num n)) (Target (Var v))) (letter p.1)) (number p.0)) c h in
+    let b = bound (cut 44 rest) (λ p. option_and_then (λ n. option_map (λ v. calling ReadEf (Value (Num n)) (Target (Var v))) (letter p.1)) (number p.0)) c h in
     let p = b.value in
-    let d = bound (number p.0) (λ n. option_map (λ v. calling READEF (Value (Num n)) (Target (Var v))) (letter p.1)) c b.gives in
-    let m = mapped (letter p.1) (λ v. calling READEF (Value (Num d.value)) (Target (Var v))) c d.gives in
+    let d = bound (number p.0) (λ n. option_map (λ v. calling ReadEf (Value (Num n)) (Target (Var v))) (letter p.1)) c b.gives in
+    let m = mapped (letter p.1) (λ v. calling ReadEf (Value (Num d.value)) (Target (Var v))) c d.gives in
     let n = number_spells p.0 d.value d.is in
     let l = letter_is p.1 m.value m.is in
     let whole : rest ≡ p.0 ++ 44 ∷ p.1 = cut_is 44 rest p b.is in
@@ -156,7 +156,7 @@ variable_call_says line rest c e h =
 
 exit_call_says : (line : List ℕ) (c : Call) → exit_call line ≡ Some c → Says line c
 exit_call_says line c h =
-    let w = when (bytes_eq line (codes "$EXIT")) (Some (calling EXIT (Value (Num 1)) Unused)) c h in
+    let w = when (bytes_eq line (codes "$EXIT")) (Some (calling Exit (Value (Num 1)) Unused)) c h in
     record {
       statement = exit;
       fitting = refl;
@@ -167,16 +167,16 @@ exit_call_says line c h =
 pub call_says : (line : List ℕ) (c : Call) → call line ≡ Some c → Says line c
 unfolding call
 call_says line c h =
-    cases (after (codes "$SETEF ") line) (number_call SETEF) _ c (Says line c) h
-    (λ rest a g. let q = number_call_is SETEF rest c g in
+    cases (after (codes "$SETEF ") line) (number_call SetEf) _ c (Says line c) h
+    (λ rest a g. let q = number_call_is SetEf rest c g in
     record { statement = setef q.0; fitting = q.1.small; spells = rw q.1.is (sym (after_is (codes "$SETEF ") line rest a)); says = q.2 })
-    (λ h1. cases (after (codes "$CLREF ") line) (number_call CLREF) _ c (Says line c) h1
-    (λ rest a g. let q = number_call_is CLREF rest c g in
+    (λ h1. cases (after (codes "$CLREF ") line) (number_call ClrEf) _ c (Says line c) h1
+    (λ rest a g. let q = number_call_is ClrEf rest c g in
     record { statement = clref q.0; fitting = q.1.small; spells = rw q.1.is (sym (after_is (codes "$CLREF ") line rest a)); says = q.2 })
     (λ h2. cases (after (codes "$READEF ") line) variable_call _ c (Says line c) h2
     (λ rest a g. variable_call_says line rest c (after_is (codes "$READEF ") line rest a) g)
-    (λ h3. cases (after (codes "$EXIT ") line) (number_call EXIT) _ c (Says line c) h3
-    (λ rest a g. let q = number_call_is EXIT rest c g in
+    (λ h3. cases (after (codes "$EXIT ") line) (number_call Exit) _ c (Says line c) h3
+    (λ rest a g. let q = number_call_is Exit rest c g in
     record { statement = exit_with q.0; fitting = q.1.small; spells = rw q.1.is (sym (after_is (codes "$EXIT ") line rest a)); says = q.2 })
     (λ h4. exit_call_says line c h4))))
 

@@ -2,18 +2,18 @@
 use Rattle.std.specs.Prelude.{◌≡◌, ◌≢◌, ℕ, ◌≤◌, ◌^◌, nat_lt, List, [], ◌∷◌, ◌++◌, length, map, flat_map, codes, decimal, Bool, true, false, ◌&&◌, IsTrue}
 use Rattle.std.specs.List.{list_all}
 use Rattle.vx_base.specs.Name.{is_name}
-use Rattle.vx_base.specs.Built.{is_letter}
-use Rattle.vx_base.specs.declared.call.TheConstants.{SETEF, CLREF, READEF, EXIT}
+use Rattle.vx_base.specs.Name.{is_capital}
+use Rattle.vx_base.specs.declared.service.Service.TheVariants.{SetEf, ClrEf, ReadEf, Exit}
 use Rattle.vx_base.specs.declared.call.Arg.{Arg}
 use Rattle.vx_base.specs.declared.call.Arg.TheVariants.{Value, Target, Unused}
 use Rattle.vx_base.specs.declared.call.Operand.TheVariants.{Num}
 use Rattle.vx_base.specs.declared.call.Target.TheVariants.{Var}
 use Rattle.vx_base.specs.declared.call.Call.{Call}
 use Rattle.vx_base.specs.declared.mode.Mode.TheVariants.{User}
-use Rattle.vx_base.specs.declared.system.Stmt.{Stmt}
-use Rattle.vx_base.specs.declared.system.Stmt.TheVariants.{Service}
-use Rattle.vx_base.specs.declared.system.ProcDecl.{ProcDecl}
-use Rattle.vx_base.specs.declared.system.System.{System}
+use Rattle.vx_image.specs.declared.stmt.Stmt.{Stmt}
+use Rattle.vx_image.specs.declared.stmt.Stmt.TheVariants.{Service}
+use Rattle.vx_image.specs.declared.decl.ProcDecl.{ProcDecl}
+use Rattle.vx_image.specs.declared.system.System.{System}
 use Rattle.vx_script.specs.declared.fault.FaultKind.TheVariants.{Later}
 use Rattle.vx_script.specs.declared.fault.ScriptFault.{ScriptFault}
 
@@ -37,7 +37,7 @@ line_of (exit_with n) = codes "$EXIT " ++ decimal n
 abbrev pub fits : Statement → Bool
 fits (setef n) = nat_lt n (2 ^ 32)
 fits (clref n) = nat_lt n (2 ^ 32)
-fits (readef n v) = nat_lt n (2 ^ 32) && is_letter v
+fits (readef n v) = nat_lt n (2 ^ 32) && is_capital v
 fits exit = true
 fits (exit_with n) = nat_lt n (2 ^ 32)
 
@@ -47,11 +47,11 @@ calling service a b = record { service = service; args = record { a0 = a; a1 = b
 
 -- what it says: $EXIT alone has the code 1
 abbrev pub call_of : Statement → Call
-call_of (setef n) = calling SETEF (Value (Num n)) Unused
-call_of (clref n) = calling CLREF (Value (Num n)) Unused
-call_of (readef n v) = calling READEF (Value (Num n)) (Target (Var v))
-call_of exit = calling EXIT (Value (Num 1)) Unused
-call_of (exit_with n) = calling EXIT (Value (Num n)) Unused
+call_of (setef n) = calling SetEf (Value (Num n)) Unused
+call_of (clref n) = calling ClrEf (Value (Num n)) Unused
+call_of (readef n v) = calling ReadEf (Value (Num n)) (Target (Var v))
+call_of exit = calling Exit (Value (Num 1)) Unused
+call_of (exit_with n) = calling Exit (Value (Num n)) Unused
 
 abbrev pub stmt_of : Statement → Stmt
 stmt_of s = Service (call_of s)

@@ -1,7 +1,7 @@
 -- The canonical script of a system.
 use Rattle.std.specs.Prelude.{ℕ, ◌==◌, List, [], ◌∷◌, ◌++◌, map, flat_map, codes, decimal, Bool, true, false, slice_index_or, if◌then◌else◌}
-use Rattle.vx_base.specs.State.{one}
-use Rattle.vx_base.specs.declared.call.TheConstants.{SETEF, CLREF, READEF, EXIT}
+use Rattle.vx_exec.specs.State.{one}
+use Rattle.vx_base.specs.declared.service.Service.TheVariants.{SetEf, ClrEf, ReadEf, Exit}
 use Rattle.vx_base.specs.declared.call.Arg.{Arg}
 use Rattle.vx_base.specs.declared.call.Arg.TheVariants as arg
 use Rattle.vx_base.specs.declared.call.Operand.{Operand}
@@ -12,17 +12,17 @@ use Rattle.vx_base.specs.declared.call.Args.{Args}
 use Rattle.vx_base.specs.declared.call.Call.{Call}
 use Rattle.vx_base.specs.declared.mode.Mode.{Mode}
 use Rattle.vx_base.specs.declared.mode.Mode.TheVariants.{Kernel, Exec, Super, User}
-use Rattle.vx_base.specs.declared.system.Stmt.{Stmt}
-use Rattle.vx_base.specs.declared.system.Stmt.TheVariants.{Service}
-use Rattle.vx_base.specs.declared.system.Image.{Image}
-use Rattle.vx_base.specs.declared.system.Need.{Need}
-use Rattle.vx_base.specs.declared.system.Privs.{Privs}
-use Rattle.vx_base.specs.declared.system.ProcDecl.{ProcDecl}
-use Rattle.vx_base.specs.declared.system.System.{System}
+use Rattle.vx_image.specs.declared.stmt.Stmt.{Stmt}
+use Rattle.vx_image.specs.declared.stmt.Stmt.TheVariants.{Service}
+use Rattle.vx_image.specs.declared.image.Image.{Image}
+use Rattle.vx_base.specs.declared.quota.Need.{Need}
+use Rattle.vx_base.specs.declared.quota.Privs.{Privs}
+use Rattle.vx_image.specs.declared.decl.ProcDecl.{ProcDecl}
+use Rattle.vx_image.specs.declared.system.System.{System}
 use Rattle.vx_script.specs.Form.{ended_lines}
 
 abbrev pub service_name : ℕ → List ℕ
-service_name n = if n == SETEF then codes "$SETEF" else (if n == CLREF then codes "$CLREF" else (if n == READEF then codes "$READEF" else (if n == EXIT then codes "$EXIT" else [])))
+service_name n = if n == SetEf then codes "$SETEF" else (if n == ClrEf then codes "$CLREF" else (if n == ReadEf then codes "$READEF" else (if n == Exit then codes "$EXIT" else [])))
 
 abbrev pub operand_text : Operand → List ℕ
 operand_text (Num n) = decimal n

@@ -1,7 +1,7 @@
 //! The reader of the restricted form.
 
 ghost use Rattle.std.specs.Prelude.{◌≡◌, MatchOption, Some, None, position, ◌==◌, [], Err, IfOk, IsTrue};
-ghost use Rattle.vx_base.specs.Built.{is_built};
+ghost use Rattle.vx_image.specs.Built.{is_built};
 ghost use Rattle.vx_script.specs.Form.{calling, plain_decl, Reads, RefusesAll};
 ghost use Rattle.vx_script.specs.declared.fault.ScriptFail.{ScriptFail};
 ghost use Rattle.vx_script.specs.declared.fault.ScriptFault.{ScriptFault};
@@ -11,8 +11,8 @@ ghost use Rattle.vx_script.specs.Reader.{Gives};
 use crate::fault::{FaultKind, ScriptFail, ScriptFault};
 use std::alloc::Global;
 use vx_base::{
-    Arg, Args, CLREF, Call, EXIT, Image, Images, Mode, Name, Need, Operand, Privs, ProcDecl,
-    ProcDecls, READEF, SETEF, Stmt, Stmts, System, Target,
+    Arg, Args, ClrEf, Call, Exit, Image, Images, Mode, Name, Need, Operand, Privs, ProcDecl,
+    ProcDecls, ReadEf, SetEf, Stmt, Stmts, System, Target,
 };
 
 // Whatever is not of the form is told of the first line.
@@ -126,7 +126,7 @@ fn variable_call(rest: &[u8]) -> Option<Call>
     let n = number(digits)?;
     let v = letter(variable)?;
     Some(calling(
-        READEF,
+        ReadEf,
         Arg::Value(Operand::Num(n)),
         Arg::Target(Target::Var(v)),
     ))
@@ -139,7 +139,7 @@ fn exit_call(line: &[u8]) -> Option<Call>
     if line != b"$EXIT".as_slice() {
         return None;
     }
-    Some(calling(EXIT, Arg::Value(Operand::Num(1)), Arg::Unused))
+    Some(calling(Exit, Arg::Value(Operand::Num(1)), Arg::Unused))
 }
 
 /// The call of a line.
@@ -148,16 +148,16 @@ fn call(line: &[u8]) -> Option<Call>
     ensures { result ≡ reader.call line.now }
 {
     if let Some(digits) = line.strip_prefix(b"$SETEF ") {
-        return number_call(SETEF, digits);
+        return number_call(SetEf, digits);
     }
     if let Some(digits) = line.strip_prefix(b"$CLREF ") {
-        return number_call(CLREF, digits);
+        return number_call(ClrEf, digits);
     }
     if let Some(rest) = line.strip_prefix(b"$READEF ") {
         return variable_call(rest);
     }
     if let Some(digits) = line.strip_prefix(b"$EXIT ") {
-        return number_call(EXIT, digits);
+        return number_call(Exit, digits);
     }
     exit_call(line)
 }

@@ -4,7 +4,7 @@ ghost use Rattle.std.specs.Prelude.{◌≡◌, ◌++◌, OnOk, OnErr, decimal};
 ghost use Rattle.vx_script.specs.Script.{service_name, operand_text, target_text, args_text, args_list, call_text};
 
 use std::alloc::Global;
-use vx_base::{Arg, Args, Bytes, CLREF, Call, EXIT, NoMemory, Operand, READEF, SETEF, Target};
+use vx_base::{Arg, Args, Bytes, ClrEf, Call, Exit, NoMemory, Operand, ReadEf, SetEf, Target};
 
 /// Appends a number in decimal.
 pub fn print_num(alloc: Global, n: u64, out: &mut Bytes) -> Result<(), NoMemory>
@@ -38,10 +38,10 @@ fn service_name(service: u8) -> &'static [u8]
     ensures { result.now ≡ service_name service }
 {
     match service {
-        SETEF => b"$SETEF",
-        CLREF => b"$CLREF",
-        READEF => b"$READEF",
-        EXIT => b"$EXIT",
+        SetEf => b"$SETEF",
+        ClrEf => b"$CLREF",
+        ReadEf => b"$READEF",
+        Exit => b"$EXIT",
         _ => b"",
     }
 }
