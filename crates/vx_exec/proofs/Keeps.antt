@@ -1,5 +1,5 @@
 -- Every event keeps the system, and the processes by their declarations.
-use Rattle.std.proofs.Common.{◌≡◌, ℕ, ◌-◌, length, Bool, true, false, cond, Option, Some, None, slice_set, nat_lt, ◌==◌, refl, ap, ◌∙◌, arith}
+use Rattle.std.proofs.Common.{◌≡◌, ℕ, ◌-◌, length, Bool, true, false, cond, Option, Some, None, slice_set, nat_lt, refl, ap, ◌∙◌, arith}
 use Rattle.std.proofs.Math.Seq.{map-set_same}
 use Rattle.std.proofs.lemmas.List.{length-map}
 use Rattle.vx_exec.specs.State.{Process, State}

@@ -1,5 +1,5 @@
 -- The plain machine: what each event does to the plain state, which events are enabled, what a run is and how it ends.
-use Rattle.std.specs.Prelude.{◌≡◌, ℕ, ◌+◌, ◌-◌, ◌≤◌, nat_lt, nat_le, List, [], ◌∷◌, ◌++◌, length, replicate, slice_get, slice_index_or, slice_set, Contains, Bool, true, false, ◌==◌, Option, Some, None, if◌then◌else◌, ⊤}
+use Rattle.std.specs.Prelude.{◌≡◌, ℕ, ◌+◌, ◌-◌, ◌≤◌, nat_lt, nat_le, List, [], ◌∷◌, ◌++◌, length, replicate, slice_get, slice_index_or, slice_set, Contains, Bool, true, false, Option, Some, None, if◌then◌else◌, ⊤}
 use Rattle.std.specs.List.{list_all}
 use Rattle.vx_base.specs.Name.{is_capital}
 use Rattle.vx_base.specs.Cond.{number_of}

@@ -159,7 +159,11 @@ fn standing(rt: &impl Abort, exec: &Exec) -> (Standing, u32) {
 
 #[test]
 fn sets_reads_and_clears_a_flag(rt: HostRuntime) -> Result<(), Fail> {
-    let mut exec = exec_of(rt.alloc(), Vec::from_array(rt.alloc(), [setef(5), readef_to_a(5), clref(5), exit(1)])?, 1000)?;
+    let mut exec = exec_of(
+        rt.alloc(),
+        Vec::from_array(rt.alloc(), [setef(5), readef_to_a(5), clref(5), exit(1)])?,
+        1000,
+    )?;
     assert_eq!(rt; exec.count(), 1);
     runs(
         &rt,
@@ -182,7 +186,14 @@ fn sets_reads_and_clears_a_flag(rt: HostRuntime) -> Result<(), Fail> {
 
 #[test]
 fn refuses_flags_without_a_cluster(rt: HostRuntime) -> Result<(), Fail> {
-    let mut exec = exec_of(rt.alloc(), Vec::from_array(rt.alloc(), [setef(31), setef(63), setef(64), setef(127), setef(128)])?, 1000)?;
+    let mut exec = exec_of(
+        rt.alloc(),
+        Vec::from_array(
+            rt.alloc(),
+            [setef(31), setef(63), setef(64), setef(127), setef(128)],
+        )?,
+        1000,
+    )?;
     runs(
         &rt,
         rt.alloc(),
