@@ -22,7 +22,7 @@ abbrev opened : System → Executive
 opened system = record { state = first system; limit = 10000; taken = 0 }
 
 -- what an executive of the system took up to an end is simulated, and its text is the script, the records and the trailer
-pub is_simulated : (system : System) (closed : Executive) (recs : List Rec) (e : End) (text : List ℕ) → HasOneRun (first system) → TakesRun (opened system) closed recs → end_of closed.limit closed.taken closed.state ≡ Some e → text ≡ ((script system ++ codes "$JOURNAL 1\n") ++ ended_lines (records_lines 1 recs)) ++ ended_lines (trailer_lines closed.state e closed.taken) → IsSimulated system text
+pub is_simulated : (system : System) (closed : Executive) (recs : List Rec) (e : End) (text : List ℕ) → HasOneRun (first system) → TakesRun (opened system) closed recs → end_of closed.limit closed.taken closed.state ≡ Some e → text ≡ ((script system ++ codes "$JOURNAL 1\n") ++ ended_lines (records_lines closed.state.system.units 1 recs)) ++ ended_lines (trailer_lines closed.state e closed.taken) → IsSimulated system text
 is_simulated system closed recs e text one takes ended spells =
     let limit : closed.limit ≡ 10000 = ap (λ (p : Plan). p.limit) takes.planned in
     let count : closed.taken ≡ length recs = omega (arith, takes.counted) in

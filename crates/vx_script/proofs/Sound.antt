@@ -8,13 +8,14 @@ use Rattle.std.proofs.lemmas.Slice.Eq.{bytes_eq-Decides}
 use Rattle.std.proofs.lemmas.Fmt.{decimal-digits_value}
 use Rattle.vx_base.specs.Name.{is_name, is_digit}
 use Rattle.vx_base.specs.Name.{is_capital}
+use Rattle.vx_base.specs.declared.service.Service.{Service}
 use Rattle.vx_base.specs.declared.service.Service.TheVariants.{SetEf, ClrEf, ReadEf, Exit}
 use Rattle.vx_base.specs.declared.call.Arg.TheVariants.{Value, Target, Unused}
 use Rattle.vx_base.specs.declared.call.Operand.TheVariants.{Num}
 use Rattle.vx_base.specs.declared.call.Target.TheVariants.{Var}
 use Rattle.vx_base.specs.declared.call.Call.{Call}
 use Rattle.vx_image.specs.declared.stmt.Stmt.{Stmt}
-use Rattle.vx_image.specs.declared.stmt.Stmt.TheVariants.{Service}
+use Rattle.vx_image.specs.declared.stmt.Stmt.TheVariants as stmt
 use Rattle.vx_image.specs.declared.system.System.{System}
 use Rattle.vx_script.specs.Form.{Statement, setef, clref, readef, exit, exit_with, line_of, fits, calling, call_of, stmt_of, Form, IsForm, ended_lines, lines_after, spelled, system_of}
 use Rattle.vx_script.specs.Reader.{after, cut, digits_value, value_of, is_misspelled, number, letter, number_call, variable_call, when_some, exit_call, call, process, system_from, if_empty, finish, body, read}
@@ -133,7 +134,7 @@ pub record Says (line : List ℕ) (c : Call) : Type 0 where
   pub spells : line_of statement ≡ line
   pub says : c ≡ call_of statement
 
-number_call_is : (service : ℕ) (digits : List ℕ) (c : Call) → number_call service digits ≡ Some c → (n : ℕ) × Spells digits n × (c ≡ calling service (Value (Num n)) Unused)
+number_call_is : (service : Service) (digits : List ℕ) (c : Call) → number_call service digits ≡ Some c → (n : ℕ) × Spells digits n × (c ≡ calling service (Value (Num n)) Unused)
 number_call_is service digits c h =
     let m = mapped (number digits) (λ n. calling service (Value (Num n)) Unused) c h in
     (m.value, number_spells digits m.value m.is, sym m.gives)
@@ -253,7 +254,7 @@ body_end image stmts k text p system whole is_end e = record {
   says = rw append-nil e.says;
 }
 
-body_more : (image : List ℕ) (stmts : List Stmt) (k : ℕ) (text : List ℕ) (p : Parts) (c : Call) (system : System) → text ≡ p.0 ++ 10 ∷ p.1 → Says p.0 c → Runs image (stmts ++ Service c ∷ []) k p.1 system → Runs image stmts (suc k) text system
+body_more : (image : List ℕ) (stmts : List Stmt) (k : ℕ) (text : List ℕ) (p : Parts) (c : Call) (system : System) → text ≡ p.0 ++ 10 ∷ p.1 → Says p.0 c → Runs image (stmts ++ stmt.Service c ∷ []) k p.1 system → Runs image stmts (suc k) text system
 body_more image stmts k text p c system whole s r = record {
   statements = s.statement ∷ r.statements;
   fitting = rw (s.fitting, r.fitting) refl;
@@ -261,23 +262,23 @@ body_more image stmts k text p c system whole s r = record {
   process = r.process;
   name = r.name;
   spells = joined (line_of s.statement) p.0 _ p.1 text s.spells r.spells whole;
-  says = r.says ∙ ap (λ z. system_from image z r.process) (append_assoc stmts (Service c ∷ []) (map stmt_of r.statements) ∙ ap (λ z. stmts ++ Service z ∷ map stmt_of r.statements) s.says);
+  says = r.says ∙ ap (λ z. system_from image z r.process) (append_assoc stmts (stmt.Service c ∷ []) (map stmt_of r.statements) ∙ ap (λ z. stmts ++ stmt.Service z ∷ map stmt_of r.statements) s.says);
 }
 
-body_step : (image : List ℕ) (stmts : List Stmt) (k : ℕ) (text : List ℕ) (p : Parts) (system : System) (t : Bool) → bytes_eq p.0 (codes "END") ≡ t → ((c : Call) → body image (stmts ++ Service c ∷ []) k p.1 ≡ Some system → Runs image (stmts ++ Service c ∷ []) k p.1 system) → text ≡ p.0 ++ 10 ∷ p.1 → cond t (finish image stmts p.1) (option_and_then (λ c. body image (stmts ++ Service c ∷ []) k p.1) (call p.0)) ≡ Some system → Runs image stmts (suc k) text system
+body_step : (image : List ℕ) (stmts : List Stmt) (k : ℕ) (text : List ℕ) (p : Parts) (system : System) (t : Bool) → bytes_eq p.0 (codes "END") ≡ t → ((c : Call) → body image (stmts ++ stmt.Service c ∷ []) k p.1 ≡ Some system → Runs image (stmts ++ stmt.Service c ∷ []) k p.1 system) → text ≡ p.0 ++ 10 ∷ p.1 → cond t (finish image stmts p.1) (option_and_then (λ c. body image (stmts ++ stmt.Service c ∷ []) k p.1) (call p.0)) ≡ Some system → Runs image stmts (suc k) text system
 body_step image stmts k text p system true e ih whole h =
     body_end image stmts k text p system whole ((bytes_eq-Decides p.0 (codes "END")).0 e) (finish_ends image stmts p.1 system h)
 body_step image stmts k text p system false e ih whole h =
-    let b = bound (call p.0) (λ c. body image (stmts ++ Service c ∷ []) k p.1) system h in
+    let b = bound (call p.0) (λ c. body image (stmts ++ stmt.Service c ∷ []) k p.1) system h in
     body_more image stmts k text p b.value system whole (call_says p.0 b.value b.is) (ih b.value b.gives)
 
 body_runs : (image : List ℕ) (stmts : List Stmt) (k : ℕ) (text : List ℕ) (system : System) → body image stmts k text ≡ Some system → Runs image stmts k text system
 unfolding body
 body_runs image stmts zero text system h = cc
 body_runs image stmts (suc k) text system h =
-    let b = bound (cut 10 text) (λ p. cond (bytes_eq p.0 (codes "END")) (finish image stmts p.1) (option_and_then (λ c. body image (stmts ++ Service c ∷ []) k p.1) (call p.0))) system h in
+    let b = bound (cut 10 text) (λ p. cond (bytes_eq p.0 (codes "END")) (finish image stmts p.1) (option_and_then (λ c. body image (stmts ++ stmt.Service c ∷ []) k p.1) (call p.0))) system h in
     let p = b.value in
-    body_step image stmts k text p system (bytes_eq p.0 (codes "END")) refl (λ c. body_runs image (stmts ++ Service c ∷ []) k p.1 system) (cut_is 10 text p b.is) b.gives
+    body_step image stmts k text p system (bytes_eq p.0 (codes "END")) refl (λ c. body_runs image (stmts ++ stmt.Service c ∷ []) k p.1 system) (cut_is 10 text p b.is) b.gives
 
 -- the whole
 

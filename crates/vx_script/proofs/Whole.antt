@@ -4,7 +4,8 @@ use Rattle.std.specs.Prelude.{IfOk, IsTrue}
 use Rattle.std.specs.List.{list_all}
 use Rattle.std.proofs.lemmas.Bool.{le-leb}
 use Rattle.std.proofs.lemmas.List.{length-map}
-use Rattle.vx_image.specs.Built.{is_capital, is_built, is_built_stmt}
+use Rattle.vx_base.specs.Name.{is_capital}
+use Rattle.vx_image.specs.Built.{is_built, is_built_stmt}
 use Rattle.vx_image.specs.declared.system.System.{System}
 use Rattle.vx_script.specs.declared.fault.ScriptFault.{ScriptFault}
 use Rattle.vx_script.specs.declared.fault.ScriptFail.{ScriptFail}

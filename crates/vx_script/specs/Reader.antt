@@ -3,13 +3,14 @@ use Rattle.std.specs.Prelude.{◌≡◌, ℕ, zero, suc, ◌+◌, ◌-◌, ◌*�
 use Rattle.std.specs.List.{list_all, fold}
 use Rattle.vx_base.specs.Name.{is_name, is_digit}
 use Rattle.vx_base.specs.Name.{is_capital}
+use Rattle.vx_base.specs.declared.service.Service.{Service}
 use Rattle.vx_base.specs.declared.service.Service.TheVariants.{SetEf, ClrEf, ReadEf, Exit}
 use Rattle.vx_base.specs.declared.call.Arg.TheVariants.{Value, Target, Unused}
 use Rattle.vx_base.specs.declared.call.Operand.TheVariants.{Num}
 use Rattle.vx_base.specs.declared.call.Target.TheVariants.{Var}
 use Rattle.vx_base.specs.declared.call.Call.{Call}
 use Rattle.vx_image.specs.declared.stmt.Stmt.{Stmt}
-use Rattle.vx_image.specs.declared.stmt.Stmt.TheVariants.{Service}
+use Rattle.vx_image.specs.declared.stmt.Stmt.TheVariants as stmt
 use Rattle.vx_image.specs.declared.system.System.{System}
 use Rattle.vx_script.specs.Form.{calling, plain_decl}
 use Rattle.vx_script.specs.declared.fault.FaultKind.TheVariants.{Later}
@@ -55,7 +56,7 @@ letter (v ∷ []) = if is_capital v then Some v else None
 letter (v ∷ w ∷ vs) = None
 
 -- a call of a number
-abbrev pub number_call : ℕ → List ℕ → Option Call
+abbrev pub number_call : Service → List ℕ → Option Call
 number_call service digits = option_map (λ n. calling service (Value (Num n)) Unused) (number digits)
 
 -- a call of a number and a variable
@@ -86,7 +87,8 @@ process image line = option_and_then (λ rest. option_and_then (λ p. if is_name
 -- a system of one image and one process
 abbrev pub system_from : List ℕ → List Stmt → List ℕ → System
 system_from image stmts process = record {
-  images = record { name = image; stmts = stmts } ∷ [];
+  units = [];
+  images = record { name = image; labels = []; stmts = stmts } ∷ [];
   decls = plain_decl process ∷ [];
 }
 
@@ -102,7 +104,7 @@ finish image stmts text = option_and_then (λ p. option_and_then (λ name. if_em
 -- behind the line that begins the image, for at most so many lines
 unfoldable pub body : List ℕ → List Stmt → ℕ → List ℕ → Option System
 body image stmts zero text = None
-body image stmts (suc k) text = option_and_then (λ p. if bytes_eq p.0 (codes "END") then finish image stmts p.1 else option_and_then (λ c. body image (stmts ++ Service c ∷ []) k p.1) (call p.0)) (cut 10 text)
+body image stmts (suc k) text = option_and_then (λ p. if bytes_eq p.0 (codes "END") then finish image stmts p.1 else option_and_then (λ c. body image (stmts ++ stmt.Service c ∷ []) k p.1) (call p.0)) (cut 10 text)
 
 -- the system of a text
 unfoldable pub read : List ℕ → Option System
