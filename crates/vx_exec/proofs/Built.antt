@@ -10,7 +10,7 @@ use Rattle.vx_base.specs.declared.frame.Frame.{Frame}
 use Rattle.vx_base.specs.declared.number.Pid.{Pid}
 use Rattle.vx_image.specs.declared.image.Image.{Image}
 use Rattle.vx_image.specs.declared.stmt.Stmt.{Stmt}
-use Rattle.vx_image.specs.declared.advance.Stop.TheVariants as stop
+use Rattle.vx_image.specs.declared.stop.Stop.TheVariants as stop
 use Rattle.vx_image.specs.declared.system.System.{System}
 use Rattle.vx_exec.specs.Model.{image_of, next_stmt, next_stop, stop_of, no_image, process_at, stmt_at}
 use Rattle.vx_exec.specs.Sound.{HasNextPlace}

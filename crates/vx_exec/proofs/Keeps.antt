@@ -15,8 +15,8 @@ use Rattle.vx_base.specs.declared.record.Event.{Event}
 use Rattle.vx_base.specs.declared.record.Event.TheVariants.{Run, Ast, Rdn, Beg, Don, Tick}
 use Rattle.vx_exec.specs.declared.spot.Spot.{Spot}
 use Rattle.vx_exec.specs.declared.spot.Spot.TheVariants.{Low, High}
-use Rattle.vx_image.specs.declared.advance.Stop.{Stop}
-use Rattle.vx_image.specs.declared.advance.Stop.TheVariants as stop
+use Rattle.vx_image.specs.declared.stop.Stop.{Stop}
+use Rattle.vx_image.specs.declared.stop.Stop.TheVariants as stop
 use Rattle.vx_exec.specs.Model.{Outcome, IsProcess, process_at, nobody, with_flag, stored, exited, spot, put_flag_at, put_flag, read_flags_at, read_flags, value, target, serve, service, next_stop, past_stmt, run_at, step}
 use Rattle.vx_exec.specs.Sound.{Keeps, IsSound}
 

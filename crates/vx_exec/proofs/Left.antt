@@ -24,8 +24,8 @@ use Rattle.vx_exec.specs.declared.spot.Spot.TheVariants.{Low, High}
 use Rattle.vx_image.specs.declared.image.Image.{Image}
 use Rattle.vx_image.specs.declared.decl.ProcDecl.{ProcDecl}
 use Rattle.vx_image.specs.declared.stmt.Stmt.{Stmt}
-use Rattle.vx_image.specs.declared.advance.Stop.{Stop}
-use Rattle.vx_image.specs.declared.advance.Stop.TheVariants as stop
+use Rattle.vx_image.specs.declared.stop.Stop.{Stop}
+use Rattle.vx_image.specs.declared.stop.Stop.TheVariants as stop
 use Rattle.vx_image.specs.declared.system.System.{System}
 use Rattle.vx_exec.specs.Model.{Outcome, IsProcess, process_at, image_of, nobody, with_flag, stored, exited, spot, put_flag_at, put_flag, read_flags_at, read_flags, current, leaving, value, target, serve, service, stmt_at, next_stmt, next_stop, moved_on, past_stmt, run_at, step, event_of, enabled, born, born_from, first, IsRun}
 use Rattle.vx_exec.specs.Sound.{process_of}

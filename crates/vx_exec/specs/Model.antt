@@ -40,8 +40,8 @@ use Rattle.vx_base.specs.declared.quota.Privs.{Privs}
 use Rattle.vx_image.specs.declared.decl.ProcDecl.{ProcDecl}
 use Rattle.vx_image.specs.declared.stmt.Stmt.{Stmt}
 use Rattle.vx_image.specs.declared.stmt.Stmt.TheVariants as stmt
-use Rattle.vx_image.specs.declared.advance.Stop.{Stop}
-use Rattle.vx_image.specs.declared.advance.Stop.TheVariants as stop
+use Rattle.vx_image.specs.declared.stop.Stop.{Stop}
+use Rattle.vx_image.specs.declared.stop.Stop.TheVariants as stop
 use Rattle.vx_image.specs.declared.system.System.{System}
 
 -- What stands where nothing does.
