@@ -3,7 +3,6 @@
 //! Each function appends its text; where memory is wanting it may have appended a front of it.
 
 ghost use Rattle.std.specs.Prelude.{◌≡◌, ◌++◌, ◌∷◌, [], decimal, map, OnOk};
-ghost use Rattle.vx_base.specs.declared.effects.Effect.TheVariants as effect;
 ghost use Rattle.vx_script.specs.Form.{ended_lines};
 ghost use Rattle.vms.specs.Transcript.{id_text, bit_text, cluster_text, cell_text, opened_name, mode_text, cond_text, joined_text, body_text, spaced, effect_words, effect_line};
 

@@ -2,10 +2,10 @@
 //!
 //! Each function appends its text; where memory is wanting it may have appended a front of it.
 
-ghost use Rattle.std.specs.Prelude.{◌≡◌, ◌++◌, ◌∷◌, [], decimal, OnOk, slice_index_or};
+ghost use Rattle.std.specs.Prelude.{◌≡◌, ◌++◌, ◌∷◌, [], decimal, OnOk};
 ghost use Rattle.vx_script.specs.Form.{ended_lines};
 ghost use Rattle.vx_exec.specs.Model.{IsProcess, process_at};
-ghost use Rattle.vms.specs.Transcript.{no_unit, unit_name, event_text, answer_text, record_lines, records_lines, standing_word, standing_line, process_line, process_lines, end_word, end_line, trailer_lines};
+ghost use Rattle.vms.specs.Transcript.{unit_name, event_text, answer_text, record_lines, records_lines, standing_word, standing_line, process_line, process_lines, end_word, end_line, trailer_lines};
 
 use crate::effect::{print_effects, print_id, print_spaced, print_spaced_num};
 use std::alloc::Global;
