@@ -62,8 +62,8 @@ impl Chans {
         Ok(number)
     }
 
-    /// The device and the mode of a channel, for a process that runs in the current mode. IvChan where the number is not 1
-    /// to 64; NoPriv where the channel is free, or its mode is further in than the current one.
+    /// The device and the mode of a channel, for a process that runs in the current mode. IvChan where the number is not
+    /// 1 to 64; NoPriv where the channel is free, or its mode is further in than the current one.
     pub fn find(&self, chan: u32, current: Mode) -> Result<(Device, Mode), ChanFail>
         ensures { result ≡ found self.now chan current }
     {

@@ -1,5 +1,5 @@
 -- How many effects a change has at most.
-use Rattle.std.proofs.Common.{◌≡◌, ◌≤◌, ◌+◌, ℕ, List, [], ◌∷◌, ◌++◌, Bool, true, false, ◌&&◌, not, if◌then◌else◌, Option, Some, None, length, length-append, arith}
+use Rattle.std.proofs.Common.{◌≤◌, ◌+◌, ℕ, List, [], Bool, true, false, ◌&&◌, not, if◌then◌else◌, Option, Some, None, length, length-append, arith}
 use Rattle.std.specs.List.{find}
 use Rattle.vx_base.specs.Clusters.{Common, Change, unchanged, followed, is_cluster, is_association, stands, is_used, made, gone, parted, swept_at, swept, dissociated_at, dissociated, has_already, made_where_new, joined, associated, with_mark, marked_at, marked, cluster_number}
 use Rattle.vx_base.specs.Lists.{amend}

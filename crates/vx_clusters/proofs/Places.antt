@@ -1,5 +1,5 @@
 -- What a search by place finds, and what is left without it.
-use Rattle.std.proofs.Common.{◌≡◌, ◌∙◌, ℕ, zero, suc, ◌+◌, ◌<◌, inl, inr, not, List, [], ◌∷◌, Bool, true, false, if◌then◌else◌, cond, Option, Some, None, option_map, position, remove, length, nat_lt, refl, ap, sym, arith, rules}
+use Rattle.std.proofs.Common.{◌≡◌, ◌∙◌, ℕ, suc, ◌+◌, inl, inr, not, List, [], ◌∷◌, Bool, true, false, if◌then◌else◌, cond, Option, Some, None, option_map, position, length, nat_lt, refl, ap, arith}
 use Rattle.std.specs.List.{find, prefix_len}
 use Rattle.std.proofs.lemmas.Bool.{cases_Bool, lt-ltb, le-ltb, ltb-true, ltb-false}
 use Rattle.vx_base.specs.Lists.{less, amend}

@@ -1,16 +1,16 @@
 -- Every change of the common clusters keeps what is said of them.
-use Rattle.std.proofs.Common.{◌≡◌, ◌∙◌, ℕ, zero, suc, List, [], ◌∷◌, ◌++◌, Bool, true, false, ◌&&◌, ◌||◌, ◌==◌, not, if◌then◌else◌, IsTrue, Option, Some, None, inl, inr, map, bytes_eq, slice_set, slice_index_or, refl, sym, ap, subst}
+use Rattle.std.proofs.Common.{◌≡◌, ◌∙◌, ℕ, zero, suc, List, [], ◌∷◌, ◌++◌, Bool, true, false, ◌&&◌, ◌||◌, ◌==◌, not, if◌then◌else◌, IsTrue, Option, Some, None, inl, inr, map, bytes_eq, slice_set, slice_index_or, refl, sym, ap}
 use Rattle.std.specs.List.{find, list_any, list_all}
-use Rattle.std.proofs.lemmas.Bool.{cases_Bool, and_parts, and_from, or_cases, or_left, or_right, or_parts, or_from, not-true, not_from_false, false_from_ne_true, both_ways, eqb-true, eq-eqb}
+use Rattle.std.proofs.lemmas.Bool.{cases_Bool, and_parts, and_from, or_cases, or_left, or_right, or_parts, or_from, not-true, both_ways, eqb-true, eq-eqb}
 use Rattle.std.proofs.lemmas.Slice.Eq.{bytes_eq-Decides}
-use Rattle.vx_base.specs.Clusters.{Common, Change, unchanged, followed, cluster_number, is_cluster, is_association, is_user, stands, is_used, made, gone, joined, parted, swept_at, swept, dissociated_at, dissociated, has_already, made_where_new, associated, with_mark, marked_at, marked}
+use Rattle.vx_base.specs.Clusters.{Common, Change, unchanged, followed, is_cluster, is_association, is_user, stands, is_used, made, gone, joined, parted, swept_at, swept, dissociated_at, dissociated, has_already, made_where_new, associated, with_mark, marked_at, marked}
 use Rattle.vx_base.specs.Flags.{with_flag}
 use Rattle.vx_base.specs.Lists.{less, amend}
 use Rattle.vx_base.specs.Pieces.{Cluster, Association}
 use Rattle.vx_base.specs.declared.number.Pid.{Pid}
-use Rattle.vx_clusters.specs.Clusters.{with_flag_at, no_cluster, cluster_at}
+use Rattle.vx_clusters.specs.Clusters.{with_flag_at, no_cluster}
 use Rattle.vx_clusters.specs.Sound.{are_apart, is_same_cluster, is_same_association, has_cluster, IsSound}
-use Rattle.vx_clusters.proofs.Lists.{any_less, none_less, all_less, apart_less, none_stronger, any_push, any_last, all_push, all_weaker, apart_push, found_passes, none_found}
+use Rattle.vx_clusters.proofs.Lists.{all_less, apart_less, none_stronger, any_push, any_last, all_push, all_weaker, apart_push, found_passes, none_found}
 
 -- Keys.
 

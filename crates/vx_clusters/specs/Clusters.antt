@@ -1,5 +1,5 @@
 -- What the calls on the common event flag clusters answer and leave, in the words of `vx_base`.
-use Rattle.std.specs.Prelude.{◌≡◌, ℕ, ◌<◌, List, [], ◌∷◌, Bool, true, false, ◌&&◌, not, nat_le, if◌then◌else◌, Option, Some, None, Result, Ok, Err, length, slice_index_or, slice_set, position}
+use Rattle.std.specs.Prelude.{◌≡◌, ℕ, List, [], Bool, false, ◌&&◌, not, nat_le, if◌then◌else◌, Option, Some, None, Result, Ok, Err, slice_index_or, slice_set, position}
 use Rattle.std.specs.List.{find}
 use Rattle.vx_base.specs.Clusters.{Common, Change, unchanged, cluster_number, is_cluster, is_association, stands, associated, dissociated, marked}
 use Rattle.vx_base.specs.Flags.{with_flag}
@@ -14,6 +14,12 @@ pub record Shared : Type 0 where
   pub common : Common
   pub cluster_capacity : ℕ
   pub association_capacity : ℕ
+
+abbrev pub none : Shared
+none = record { common = record { clusters = []; associations = [] }; cluster_capacity = 0; association_capacity = 0 }
+
+abbrev pub with_clusters : Shared → List Cluster → Shared
+with_clusters s clusters = record s { common = record s.common { clusters = clusters } }
 
 -- the numbers of the flags of common clusters
 abbrev pub is_common : ℕ → Bool

@@ -1,7 +1,7 @@
 -- What every change of the common clusters keeps.
-use Rattle.std.specs.Prelude.{ℕ, List, [], ◌∷◌, Bool, true, ◌&&◌, not, IsTrue}
+use Rattle.std.specs.Prelude.{List, [], ◌∷◌, Bool, true, ◌&&◌, not, IsTrue}
 use Rattle.std.specs.List.{list_any, list_all}
-use Rattle.vx_base.specs.Clusters.{Common, is_cluster, is_association, stands}
+use Rattle.vx_base.specs.Clusters.{Common, is_cluster, is_association}
 use Rattle.vx_base.specs.Pieces.{Cluster, Association}
 
 -- no item is the same as a later one

@@ -1,10 +1,12 @@
 //! The common clusters, as services call on them.
 
-ghost use Rattle.std.specs.Prelude.{◌≡◌, ◌<◌, ◌≤◌, [], length, IfSome, OnOk, OnErr, Some, None, true, false, if◌then◌else◌};
+ghost use Rattle.std.specs.Prelude.{◌≡◌, ◌<◌, ◌≤◌, length, IfSome, OnOk, OnErr, Some, None, true, false, if◌then◌else◌};
 ghost use Rattle.vx_base.specs.Clusters.{cluster_number};
 ghost use Rattle.vx_base.specs.Flags.{is_set};
 ghost use Rattle.vx_base.specs.Log.{HasRoom};
-ghost use Rattle.vx_clusters.specs.Clusters.{Does, answer, associate_refusal, dissociate_refusal, mark_refusal, associate, dissociate, mark, is_common, resolved, cluster_at, with_flag_at};
+ghost use Rattle.vx_clusters.specs.Clusters.{answer, associate_refusal, dissociate_refusal, mark_refusal};
+ghost use Rattle.vx_clusters.specs.Clusters.{Does, associate, dissociate, mark};
+ghost use Rattle.vx_clusters.specs.Clusters.{none, is_common, resolved, cluster_at, with_flag_at};
 ghost use Rattle.vx_clusters.specs.Sound.{IsSound};
 
 use crate::fail::AscFail;
@@ -13,8 +15,8 @@ use std::alloc::Global;
 use std::marker::Model;
 use vx_base::{Effects, Name, NoMemory, Pid};
 
-/// The common event flag clusters of all groups, and which of them each process has associated as its clusters 2 (flags 64 to
-/// 95) and 3 (flags 96 to 127). Contracts see both lists, and how many of both there is room for in all.
+/// The common event flag clusters of all groups, and which of them each process has associated as its clusters 2 (flags 64
+/// to 95) and 3 (flags 96 to 127). Contracts see both lists, and how many of both there is room for in all.
 #[derive(Debug, Drop)]
 pub struct Clusters {
     table: Table,
@@ -34,14 +36,15 @@ impl Model for Clusters {
 impl Clusters {
     /// No clusters, and room for none. Takes no memory.
     pub fn new(alloc: Global) -> Clusters
-        ensures { result ≡ record { common = record { clusters = []; associations = [] }; cluster_capacity = 0; association_capacity = 0 } }
+        ensures { result ≡ none }
     {
         Clusters {
             table: Table::new(alloc),
         }
     }
 
-    /// Makes room for one cluster and one association more, or changes nothing.
+    /// Makes room for one cluster and one association more, or changes nothing. There is never room for more than
+    /// 4294967295 clusters.
     pub fn reserve(&mut self) -> Result<(), NoMemory>
         ensures common { self.new.common ≡ self.old.common }
         ensures kept_clusters { self.old.cluster_capacity ≤ self.new.cluster_capacity }
@@ -53,9 +56,9 @@ impl Clusters {
         self.table.reserve()
     }
 
-    /// A process has the cluster of its group and this name as the cluster of a flag from 64 to 127, in place of what it had
-    /// there; the cluster is made where it is new ($ASCEFC). `may` is the privilege PRMCEB. IllEfc where the flag is not from
-    /// 64 to 127; NoPriv where a permanent cluster would be made without the privilege. Takes no memory.
+    /// A process has the cluster of its group and this name as the cluster of a flag from 64 to 127, in place of what it
+    /// had there; the cluster is made where it is new ($ASCEFC). `may` is the privilege PRMCEB. IllEfc where the flag is
+    /// not from 64 to 127; NoPriv where a permanent cluster would be made without the privilege. Takes no memory.
     pub fn associate(
         &mut self,
         p: Pid,
@@ -80,8 +83,8 @@ impl Clusters {
         Ok(())
     }
 
-    /// A process has no cluster any more as the cluster of a flag from 64 to 127; a cluster that nobody has goes, but for a
-    /// permanent one that is not marked ($DACEFC). IllEfc where the flag is not from 64 to 127. Takes no memory.
+    /// A process has no cluster any more as the cluster of a flag from 64 to 127; a cluster that nobody has goes, but for
+    /// a permanent one that is not marked ($DACEFC). IllEfc where the flag is not from 64 to 127. Takes no memory.
     pub fn dissociate(&mut self, p: Pid, efn: u32, log: &mut Effects) -> Result<(), AscFail>
         requires { HasRoom log.old (length (dissociate self.old.common p efn).effects) }
         ensures answer { result ≡ answer (dissociate_refusal efn) }
@@ -92,8 +95,8 @@ impl Clusters {
         Ok(())
     }
 
-    /// Marks a permanent cluster for deletion; it goes at once where nobody has it ($DLCEFC). `may` is the privilege PRMCEB:
-    /// NoPriv without it. Takes no memory.
+    /// Marks a permanent cluster for deletion; it goes at once where nobody has it ($DLCEFC). `may` is the privilege
+    /// PRMCEB: NoPriv without it. Takes no memory.
     pub fn mark(
         &mut self,
         group: u32,

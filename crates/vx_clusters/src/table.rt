@@ -1,12 +1,14 @@
 //! The clusters and the associations, and the steps that a service makes on them.
 
-ghost use Rattle.std.specs.Prelude.{◌≡◌, ◌<◌, ◌≤◌, [], length, IfSome, OnOk, OnErr, option_map, position, true, false, vec_len, vec_capacity};
+ghost use Rattle.std.specs.Prelude.{◌≡◌, ◌<◌, ◌≤◌, length, IfSome, OnOk, OnErr, true, false};
+ghost use Rattle.std.specs.Prelude.{option_map, position, vec_len, vec_capacity};
 ghost use Rattle.std.specs.List.{find};
 ghost use Rattle.vx_base.specs.Lists.{amend};
-ghost use Rattle.vx_base.specs.Clusters.{is_cluster, is_association, stands, is_used, with_mark, made_where_new, gone, joined, parted, swept, dissociated, associated, marked, has_already};
+ghost use Rattle.vx_base.specs.Clusters.{is_cluster, is_association, stands, is_used, has_already, with_mark};
+ghost use Rattle.vx_base.specs.Clusters.{made_where_new, gone, joined, parted, swept, dissociated, associated, marked};
 ghost use Rattle.vx_base.specs.Flags.{is_set};
 ghost use Rattle.vx_base.specs.Log.{HasRoom};
-ghost use Rattle.vx_clusters.specs.Clusters.{Does, cluster_at, no_cluster, with_flag_at};
+ghost use Rattle.vx_clusters.specs.Clusters.{Does, none, with_clusters, cluster_at, no_cluster, with_flag_at};
 ghost use Rattle.vx_clusters.specs.Places.{without, changed_at};
 
 use crate::association::Association;
@@ -33,14 +35,22 @@ impl Model for Table {
 
     ghost Value = { Shared };
 
-    ghost view = { λ t. record { common = record { clusters = t.clusters.items; associations = t.associations.items }; cluster_capacity = t.cluster_room; association_capacity = t.association_room } };
+    ghost view = { λ t. record {
+      common = record { clusters = t.clusters.items; associations = t.associations.items };
+      cluster_capacity = t.cluster_room;
+      association_capacity = t.association_room;
+    } };
 
-    ghost invariant = { λ t. (vec_len t.clusters ≤ t.cluster_room) × (t.cluster_room ≤ vec_capacity t.clusters) × (vec_len t.associations ≤ t.association_room) × (t.association_room ≤ vec_capacity t.associations) × (t.cluster_room < 4294967296) };
+    ghost invariant = { λ t. (vec_len t.clusters ≤ t.cluster_room)
+        × (t.cluster_room ≤ vec_capacity t.clusters)
+        × (vec_len t.associations ≤ t.association_room)
+        × (t.association_room ≤ vec_capacity t.associations)
+        × (t.cluster_room < 4294967296) };
 }
 
 impl Table {
     pub(crate) fn new(alloc: Global) -> Table
-        ensures { result ≡ record { common = record { clusters = []; associations = [] }; cluster_capacity = 0; association_capacity = 0 } }
+        ensures { result ≡ none }
     {
         Table {
             clusters: Vec::new(alloc),
@@ -243,7 +253,7 @@ impl Table {
     /// A cluster is marked for deletion.
     #[tactic(auto, using(crate::proofs::Places::amended))]
     fn mark_cluster(&mut self, group: u32, name: Name)
-        ensures { self.new ≡ record self.old { common = record self.old.common { clusters = amend (is_cluster group name) with_mark self.old.common.clusters } } }
+        ensures { self.new ≡ with_clusters self.old (amend (is_cluster group name) with_mark self.old.common.clusters) }
     {
         let place = place_of_cluster(&self.clusters, group, name);
         mark_at(&mut self.clusters, place);

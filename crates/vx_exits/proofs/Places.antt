@@ -1,5 +1,5 @@
 -- What a search by place finds, and what is left without it.
-use Rattle.std.proofs.Common.{◌≡◌, ◌∙◌, ℕ, zero, suc, ◌+◌, ◌<◌, inl, inr, not, List, [], ◌∷◌, Bool, true, false, if◌then◌else◌, cond, Option, Some, None, option_map, position, remove, length, nat_lt, refl, ap, sym, arith, rules}
+use Rattle.std.proofs.Common.{◌≡◌, ◌∙◌, ℕ, suc, ◌+◌, inl, inr, not, List, [], ◌∷◌, Bool, true, false, if◌then◌else◌, cond, Option, Some, None, option_map, position, length, nat_lt, refl, ap, arith}
 use Rattle.std.specs.List.{find, prefix_len}
 use Rattle.std.proofs.lemmas.Bool.{cases_Bool, lt-ltb, le-ltb, ltb-true, ltb-false}
 use Rattle.vx_base.specs.Lists.{less}
@@ -7,13 +7,13 @@ use Rattle.vx_exits.specs.Places.{item_at, without}
 
 shifted : (n m : ℕ) → cond {A = Option ℕ} (nat_lt (1 + n) (suc m)) (Some (1 + n)) None ≡ option_map (λ i. suc i) (cond {A = Option ℕ} (nat_lt n m) (Some n) None)
 shifted n m = elim (cases_Bool (nat_lt n m)) [
-      inl below ↦
-        let further : nat_lt (1 + n) (suc m) ≡ true = lt-ltb _ _ (omega (arith, ltb-true n m below)) in
-        rw (further, below) (ap Some (omega arith))
-    | inr beyond ↦
-        let further : nat_lt (1 + n) (suc m) ≡ false = le-ltb _ _ (omega (arith, ltb-false n m beyond)) in
-        rw (further, beyond) refl
-    ]
+  | inl below ↦
+      let further : nat_lt (1 + n) (suc m) ≡ true = lt-ltb _ _ (omega (arith, ltb-true n m below)) in
+      rw (further, below) (ap Some (omega arith))
+  | inr beyond ↦
+      let further : nat_lt (1 + n) (suc m) ≡ false = le-ltb _ _ (omega (arith, ltb-false n m beyond)) in
+      rw (further, beyond) refl
+]
 
 at_once : (m : ℕ) → cond {A = Option ℕ} (nat_lt 0 (suc m)) (Some 0) None ≡ Some 0
 at_once m = let below : nat_lt 0 (suc m) ≡ true = lt-ltb _ _ (omega arith) in rw below refl

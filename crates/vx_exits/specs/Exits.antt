@@ -1,7 +1,5 @@
 -- The exit handlers of a process, the newest first.
-use Rattle.std.specs.Prelude.{ℕ, List, [], ◌∷◌, Bool, true, false, ◌&&◌, ◌==◌, if◌then◌else◌, Option, Some, None, Result, Ok, Err, option_map}
-use Rattle.std.specs.List.{find}
-use Rattle.vx_base.specs.Lists.{less}
+use Rattle.std.specs.Prelude.{ℕ, List, ◌∷◌, Bool, true, false, ◌&&◌, ◌==◌, if◌then◌else◌, Option, Some, None, Result, Ok, Err}
 use Rattle.vx_base.specs.Modes.{rank}
 use Rattle.vx_base.specs.Pieces.{Handler}
 use Rattle.vx_base.specs.declared.mode.Mode.{Mode}

@@ -1,9 +1,11 @@
 //! Handlers, the newest first.
 
-ghost use Rattle.std.specs.Prelude.{◌≡◌, ◌↔◌, ◌<◌, ◌≤◌, ◌∷◌, [], length, IsTrue, IsErr, IfErr, IfSome, OnOk, OnErr, option_map, position, vec_len, vec_capacity};
+ghost use Rattle.std.specs.Prelude.{◌≡◌, ◌↔◌, ◌<◌, ◌≤◌, [], length, IsTrue, IsErr, IfErr, IfSome, OnOk, OnErr};
+ghost use Rattle.std.specs.Prelude.{option_map, position, vec_len, vec_capacity};
 ghost use Rattle.std.specs.List.{find};
 ghost use Rattle.vx_base.specs.Lists.{less};
-ghost use Rattle.vx_exits.specs.Exits.{is_kernel, declared, is_of_mode, is_tagged, is_any, known, handed, handed_or, or_no_handler};
+ghost use Rattle.vx_exits.specs.Exits.{is_kernel, declared, is_of_mode, is_tagged, is_any};
+ghost use Rattle.vx_exits.specs.Exits.{known, handed, handed_or, or_no_handler};
 ghost use Rattle.vx_exits.specs.Places.{item_at, without};
 
 use crate::declared::Declared;
@@ -61,8 +63,8 @@ impl<R: Routine> Exits<R> {
         Ok(())
     }
 
-    /// Declares a handler, as the newest ($DCLEXH). IvSsRq in kernel mode: it hands the routine back, and changes nothing.
-    /// Takes no memory.
+    /// Declares a handler, as the newest ($DCLEXH). IvSsRq in kernel mode: it hands the routine back, and changes
+    /// nothing. Takes no memory.
     pub fn declare(&mut self, id: Id, mode: Mode, routine: R) -> Result<(), (ExitFail, R)>
         requires { length self.old.items < self.old.capacity }
         ensures refused { IsErr result ↔ IsTrue (is_kernel mode) }
@@ -78,7 +80,8 @@ impl<R: Routine> Exits<R> {
         }
     }
 
-    /// Takes out the newest handler of a mode that has a tag ($CANEXH). NoHandler, and nothing changed, where there is none.
+    /// Takes out the newest handler of a mode that has a tag ($CANEXH). NoHandler, and nothing changed, where there is
+    /// none.
     #[tactic(auto, using(crate::proofs::Places::found, crate::proofs::Places::rest))]
     pub fn cancel(&mut self, mode: Mode, tag: Entry) -> Result<(Id, R), ExitFail>
         ensures answer { handed_or R.tagged result ≡ or_no_handler (option_map known (find (is_tagged mode tag) self.old.items)) }
@@ -148,5 +151,7 @@ fn place_of_tag<R: Routine>(items: &[Declared<R>], mode: Mode, tag: Entry) -> Op
     ensures place { result ≡ position (is_tagged mode tag) items.now }
     ensures within { IfSome result (λ i. i < length items.now) }
 {
-    items.iter().position(|handler| handler.is_tagged(mode, tag))
+    items
+        .iter()
+        .position(|handler| handler.is_tagged(mode, tag))
 }

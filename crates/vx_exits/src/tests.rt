@@ -6,7 +6,11 @@ use vx_base::{Entry, Id, Mode, NoMemory, Routine, Scripted};
 /// Declares three handlers, and tells the ids that come out: of a tag, of a mode, and of any; and whether none is left.
 fn ids_out<R: Routine>(alloc: Global) -> Result<([Option<Id>; 3], bool), NoMemory> {
     let mut exits: Exits<R> = Exits::new(alloc);
-    let places = [(Id(1), Mode::User, 7), (Id(2), Mode::Super, 8), (Id(3), Mode::User, 8)];
+    let places = [
+        (Id(1), Mode::User, 7),
+        (Id(2), Mode::Super, 8),
+        (Id(3), Mode::User, 8),
+    ];
     for (id, mode, label) in places {
         exits.reserve()?;
         let _refused = exits.declare(id, mode, R::scripted(Entry::Label(label, 0)));
@@ -36,10 +40,21 @@ fn the_newest_comes_first_with_its_routine(rt: HostRuntime) -> Result<(), Fail> 
     let mut exits: Exits<Scripted> = Exits::new(rt.alloc());
     assert!(rt; exits.pop_any().is_none());
     exits.reserve().ok().ok_or("memory")?;
-    assert!(rt; exits.declare(Id(1), Mode::User, Scripted::scripted(Entry::Host(7))).is_ok());
+    assert!(rt;
+        exits
+            .declare(Id(1), Mode::User, Scripted::scripted(Entry::Host(7)))
+            .is_ok()
+    );
     exits.reserve().ok().ok_or("memory")?;
-    assert!(rt; exits.declare(Id(2), Mode::User, Scripted::scripted(Entry::Host(7))).is_ok());
-    let (id, routine) = exits.cancel(Mode::User, Entry::Host(7)).ok().ok_or("handler")?;
+    assert!(rt;
+        exits
+            .declare(Id(2), Mode::User, Scripted::scripted(Entry::Host(7)))
+            .is_ok()
+    );
+    let (id, routine) = exits
+        .cancel(Mode::User, Entry::Host(7))
+        .ok()
+        .ok_or("handler")?;
     assert_eq!(rt; id, Id(2));
     assert_eq!(rt; routine.enter(), Entry::Host(7));
     assert_eq!(rt; exits.len(), 1);
@@ -57,6 +72,9 @@ fn a_refusal_hands_the_routine_back(rt: HostRuntime) -> Result<(), Fail> {
         .ok_or("refused")?;
     assert_eq!(rt; fail, ExitFail::IvSsRq);
     assert_eq!(rt; routine.enter(), Entry::Exit(3));
-    assert_eq!(rt; exits.cancel(Mode::User, Entry::Exit(3)).err(), Some(ExitFail::NoHandler));
+    assert_eq!(rt;
+        exits.cancel(Mode::User, Entry::Exit(3)).err(),
+        Some(ExitFail::NoHandler)
+    );
     Ok(())
 }

@@ -37,8 +37,8 @@ impl Account {
         Account { used, limits }
     }
 
-    /// Charges an amount in each account and answers true; or changes nothing and answers false, where that much more is
-    /// above a limit.
+    /// Charges an amount in each account and answers true; or changes nothing and answers false, where that much more
+    /// is above a limit.
     pub fn charge(&mut self, need: Need) -> bool
         ensures done { result ≡ has_left self.old need }
         ensures after { self.new ≡ charged self.old need }
