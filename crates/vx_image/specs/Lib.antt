@@ -1,0 +1,4 @@
+pub mod Built
+pub mod Local
+pub mod Storage
+pub mod WellFormed

@@ -1,0 +1,16 @@
+pub mod Asts
+pub mod Cancel
+pub mod Channels
+pub mod Charges
+pub mod Control
+pub mod Events
+pub mod Finish
+pub mod Flags
+pub mod Mailboxes
+pub mod Parts
+pub mod Requests
+pub mod Rundown
+pub mod Runs
+pub mod Services
+pub mod State
+pub mod Timers

@@ -1,0 +1,170 @@
+-- The plain state of the executive: one list of each thing, and nothing of how the code keeps it.
+use Rattle.std.specs.Prelude.{◌≡◌, ℕ, ◌+◌, ◌-◌, ◌≤◌, List, [], ◌∷◌, Bool, true, false, Option, None, length, replicate, slice_index_or, slice_set}
+use Rattle.vx_base.specs.Clusters.{Common}
+use Rattle.vx_base.specs.Pieces.{Queued, Enables, all_on, Channel, Handler, Request, Timer, Attention, Mailbox, DeviceUnit, Contents, Lines, Blocks}
+use Rattle.vx_base.specs.Quotas.{no_need}
+use Rattle.vx_base.specs.declared.frame.Frame.{Frame}
+use Rattle.vx_base.specs.declared.frame.Phase.{Phase}
+use Rattle.vx_base.specs.declared.frame.Phase.TheVariants.{Deleted}
+use Rattle.vx_base.specs.declared.mode.Mode.{Mode}
+use Rattle.vx_base.specs.declared.mode.Mode.TheVariants.{User}
+use Rattle.vx_base.specs.declared.number.Id.{Id}
+use Rattle.vx_base.specs.declared.number.Pid.{Pid}
+use Rattle.vx_base.specs.declared.number.UnitNo.{UnitNo}
+use Rattle.vx_base.specs.declared.number.BoxNo.{BoxNo}
+use Rattle.vx_base.specs.declared.quota.Need.{Need}
+use Rattle.vx_base.specs.declared.quota.Privs.{Privs}
+use Rattle.vx_image.specs.Storage.{Storage}
+use Rattle.vx_image.specs.declared.decl.ProcDecl.{ProcDecl}
+use Rattle.vx_image.specs.declared.image.Image.{Image}
+use Rattle.vx_image.specs.declared.system.System.{System}
+use Rattle.vx_image.specs.declared.unit.UnitDecl.{UnitDecl}
+
+-- A process: the place of its declaration, from 0; its group, member and privileges; what it stores; its frames, the top
+-- first; its AST enables and queued ASTs, the first queued first; its channels by number; its exit handlers, the newest
+-- first; its event flags 0 to 31 and 32 to 63; whether a wake pends, it is suspended, and $DELPRC named it; its exit code
+-- and its phase.
+pub record Process : Type 0 where
+  pub decl : ℕ
+  pub group : ℕ
+  pub member : ℕ
+  pub privs : Privs
+  pub store : Storage
+  pub frames : List Frame
+  pub enables : Enables
+  pub asts : List Queued
+  pub channels : List (Option Channel)
+  pub handlers : List Handler
+  pub low : ℕ
+  pub high : ℕ
+  pub wake : Bool
+  pub suspended : Bool
+  pub named : Bool
+  pub code : ℕ
+  pub phase : Phase
+
+-- The whole: what the script says; the time, in ticks, and the next id; the processes in number order; the common event
+-- flag clusters with their associations; the outstanding requests in order of acceptance; timers and scheduled wakes, and
+-- attention entries, each in id order; the mailboxes by number, from 0, None where there is none; the units.
+pub record State : Type 0 where
+  pub system : System
+  pub time : ℕ
+  pub next : ℕ
+  pub procs : List Process
+  pub common : Common
+  pub requests : List Request
+  pub timers : List Timer
+  pub attention : List Attention
+  pub boxes : List (Option Mailbox)
+  pub units : List DeviceUnit
+
+-- What stands where nothing does.
+
+abbrev pub no_privs : Privs
+no_privs = record { cmexec = false; cmkrnl = false; group = false; prmceb = false; prmmbx = false; world = false }
+
+abbrev pub empty_store : Storage
+empty_store = record { vars = []; r0 = 0; buffers = []; statuses = [] }
+
+abbrev pub nobody : Process
+nobody = record {
+  decl = 0;
+  group = 0;
+  member = 0;
+  privs = no_privs;
+  store = empty_store;
+  frames = [];
+  enables = all_on;
+  asts = [];
+  channels = [];
+  handlers = [];
+  low = 0;
+  high = 0;
+  wake = false;
+  suspended = false;
+  named = false;
+  code = 0;
+  phase = Deleted;
+}
+
+abbrev pub no_decl : ProcDecl
+no_decl = record { name = []; image = 0; group = 0; member = 0; mode = User; limits = no_need; privs = no_privs; start = false }
+
+abbrev pub no_image : Image
+no_image = record { name = []; labels = []; stmts = [] }
+
+abbrev pub no_unit_decl : UnitDecl
+no_unit_decl = record { name = []; blocks = 0; inputs = []; faults = [] }
+
+abbrev pub no_unit : DeviceUnit
+no_unit = record { contents = Lines [] []; faults = []; services = 0 }
+
+-- Processes.
+
+-- p is one of n processes
+pub record IsWithin (n : ℕ) (p : Pid) : Type 0 where
+  pub above : 1 ≤ p.0
+  pub within : p.0 ≤ n
+
+abbrev pub IsProcess : State → Pid → Type 0
+IsProcess s p = IsWithin (length s.procs) p
+
+abbrev pub process_at : State → Pid → Process
+process_at s p = slice_index_or s.procs (p.0 - 1) nobody
+
+-- process p changed by f, and all else as it was
+abbrev pub change : State → Pid → (Process → Process) → State
+change s p f = record s { procs = slice_set s.procs (p.0 - 1) (f (process_at s p)) }
+
+abbrev pub decl_of : State → Pid → ProcDecl
+decl_of s p = slice_index_or s.system.decls (process_at s p).decl no_decl
+
+-- the image that a process runs
+abbrev pub image_of : State → Pid → Image
+image_of s p = slice_index_or s.system.images (decl_of s p).image no_image
+
+-- the limits of its quotas
+abbrev pub limits_of : State → Pid → Need
+limits_of s p = (decl_of s p).limits
+
+abbrev pub pid : ℕ → Pid
+pid n = record { 0 = n }
+
+-- Frames.
+
+abbrev pub HasFrame : State → Pid → Type 0
+HasFrame s p = 1 ≤ length (process_at s p).frames
+
+abbrev pub top_mode : List Frame → Mode
+top_mode [] = User
+top_mode (f ∷ fs) = f.mode
+
+-- the mode in which a process runs: that of its top frame
+abbrev pub current : State → Pid → Mode
+current s p = top_mode (process_at s p).frames
+
+-- the top frame changed
+abbrev pub with_top : (Frame → Frame) → List Frame → List Frame
+with_top f [] = []
+with_top f (top ∷ below) = f top ∷ below
+
+-- Units, mailboxes, ids.
+
+abbrev pub unit_decl : State → UnitNo → UnitDecl
+unit_decl s u = slice_index_or s.system.units u.0 no_unit_decl
+
+abbrev pub unit_at : State → UnitNo → DeviceUnit
+unit_at s u = slice_index_or s.units u.0 no_unit
+
+abbrev pub box_at : State → BoxNo → Option Mailbox
+box_at s b = slice_index_or s.boxes b.0 None
+
+abbrev pub with_box : State → BoxNo → Option Mailbox → State
+with_box s b box = record s { boxes = slice_set s.boxes b.0 box }
+
+-- the id that is opened next
+abbrev pub next_id : State → Id
+next_id s = record { 0 = s.next }
+
+abbrev pub past_id : State → State
+past_id s = record s { next = s.next + 1 }
