@@ -164,8 +164,8 @@ insert_first f p (x ∷ xs) y h =
     let n = position_or_len (λ z. p (f z)) xs in
     let P : Bool → Type 0 = λ b. cond (not b) (1 + n) 0 < length (x ∷ xs) → map f (insert (x ∷ xs) (cond (not b) (1 + n) 0) y) ≡ cond b (f y ∷ f x ∷ map f xs) (f x ∷ put_before p (f y) (map f xs)) in
     elim (p (f x)) as P [
-      true ↦ λ _. refl
-    | false ↦ λ within. ap (map f) (insert_past x xs n y) ∙ ap (λ zs. f x ∷ zs) (insert_first f p xs y (omega arith))
+      | true ↦ λ _. refl
+      | false ↦ λ within. ap (map f) (insert_past x xs n y) ∙ ap (λ zs. f x ∷ zs) (insert_first f p xs y (omega arith))
     ] h
 
 -- put before the first that passes, at its place
@@ -178,8 +178,8 @@ put_last : {Y : Type 0} (p : Y → Bool) (y : Y) (ys : List Y) → None ≡ find
 put_last p y [] e = refl
 put_last p y (z ∷ zs) e =
     elim (p z) as (λ b. None ≡ cond b (Some z) (find p zs) → z ∷ zs ++ y ∷ [] ≡ cond b (y ∷ z ∷ zs) (z ∷ put_before p y zs)) [
-      true ↦ λ found. absurd (cc)
-    | false ↦ λ found. ap (λ ws. z ∷ ws) (put_last p y zs found)
+      | true ↦ λ found. absurd (cc)
+      | false ↦ λ found. ap (λ ws. z ∷ ws) (put_last p y zs found)
     ] e
 
 -- put at the end, where none passes

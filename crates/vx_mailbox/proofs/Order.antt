@@ -36,6 +36,6 @@ pub in_order_put : (a : Asked) (xs : List Asked) → IsInIdOrder xs → IsInIdOr
 in_order_put a [] order = (tt, tt)
 in_order_put a (x ∷ xs) order =
     elim (nat_le a.id.0 x.id.0) as (λ b. nat_le a.id.0 x.id.0 ≡ b → IsInIdOrder (cond b (a ∷ x ∷ xs) (x ∷ inserted a xs))) [
-      true ↦ λ is. let low = nat_le-true a.id.0 x.id.0 is in ((low, none_below_lower a.id.0 x.id.0 xs low order.0), order)
-    | false ↦ λ is. (none_below_put x.id.0 (λ b. nat_le a.id.0 b.id.0) a xs (nat_le-false a.id.0 x.id.0 is) order.0, in_order_put a xs order.1)
+      | true ↦ λ is. let low = nat_le-true a.id.0 x.id.0 is in ((low, none_below_lower a.id.0 x.id.0 xs low order.0), order)
+      | false ↦ λ is. (none_below_put x.id.0 (λ b. nat_le a.id.0 b.id.0) a xs (nat_le-false a.id.0 x.id.0 is) order.0, in_order_put a xs order.1)
     ] refl

@@ -63,7 +63,10 @@ fn place_from<R: Routine>(items: &[Attention<R>], id: Id) -> Option<usize>
 }
 
 // Takes out the entry at a place, if there is one.
-fn take_at<R: Routine>(entries: &mut Store<Attention<R>>, place: Option<usize>) -> Option<Attention<R>>
+fn take_at<R: Routine>(
+    entries: &mut Store<Attention<R>>,
+    place: Option<usize>,
+) -> Option<Attention<R>>
     requires { IfSome place (λ i. i < length entries.old.0) }
     ensures found { (p : Asked → Bool) → place ≡ position (λ a. p (asked_of R.tagged a)) entries.old.0 → option_map (asked_of R.tagged) result ≡ find p (map (asked_of R.tagged) entries.old.0) }
     ensures after { (p : Asked → Bool) → place ≡ position (λ a. p (asked_of R.tagged a)) entries.old.0 → map (asked_of R.tagged) entries.new.0 ≡ less p (map (asked_of R.tagged) entries.old.0) }
@@ -85,7 +88,11 @@ pub fn take_by<R: Routine>(entries: &mut Store<Attention<R>>, func: Func) -> Opt
 }
 
 /// Takes out the first entry by which a process asks on a channel.
-pub fn take_on<R: Routine>(entries: &mut Store<Attention<R>>, p: Pid, chan: u32) -> Option<Attention<R>>
+pub fn take_on<R: Routine>(
+    entries: &mut Store<Attention<R>>,
+    p: Pid,
+    chan: u32,
+) -> Option<Attention<R>>
     ensures found { option_map (asked_of R.tagged) result ≡ find (asks_on p chan) (map (asked_of R.tagged) entries.old.0) }
     ensures after { map (asked_of R.tagged) entries.new.0 ≡ less (asks_on p chan) (map (asked_of R.tagged) entries.old.0) }
     ensures order { IsInIdOrder (map (asked_of R.tagged) entries.old.0) → IsInIdOrder (map (asked_of R.tagged) entries.new.0) }

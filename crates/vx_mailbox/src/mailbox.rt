@@ -35,10 +35,10 @@ impl<R: Routine> Model for Mailbox<R> {
     ghost Value = { Attended };
 
     ghost view = { λ b. record {
-        mailbox = record { name = b.name; permanent = b.permanent; marked = b.marked; maxmsg = b.maxmsg; bufquo = b.bufquo; messages = b.messages.0 };
-        reads = b.reads.0;
-        attention = map (asked_of R.tagged) b.attention.0;
-        rooms = record { messages = b.messages.1; reads = b.reads.1; attention = b.attention.1 }
+      mailbox = record { name = b.name; permanent = b.permanent; marked = b.marked; maxmsg = b.maxmsg; bufquo = b.bufquo; messages = b.messages.0 };
+      reads = b.reads.0;
+      attention = map (asked_of R.tagged) b.attention.0;
+      rooms = record { messages = b.messages.1; reads = b.reads.1; attention = b.attention.1 };
     } };
 
     ghost invariant = { λ b. AreApart b.messages.0 b.reads.0 × IsInIdOrder (map (asked_of R.tagged) b.attention.0) };
@@ -164,7 +164,11 @@ impl<R: Routine> Mailbox<R> {
         ensures count { result ≡ count_by (is_of p) self.now.attention }
         ensures order { IsInIdOrder self.now.attention }
     {
-        self.attention.as_slice().iter().filter(|a| a.p.0 == p.0).count()
+        self.attention
+            .as_slice()
+            .iter()
+            .filter(|a| a.p.0 == p.0)
+            .count()
     }
 
     /// Its name.

@@ -45,8 +45,8 @@ in_order_put t [] fresh order = (tt, tt)
 in_order_put t (u ∷ us) fresh order =
     let other = or_false (has_id t.id u) (list_any (has_id t.id) us) fresh in
     elim (nat_le t.id.0 u.id.0) as (λ b. nat_le t.id.0 u.id.0 ≡ b → IsInIdOrder (cond b (t ∷ u ∷ us) (u ∷ inserted t us))) [
-      true ↦ λ is. let low : t.id.0 < u.id.0 = below t.id.0 u.id.0 is other.0 in ((low, above_lower t.id.0 u.id.0 us low order.0), order)
-    | false ↦ λ is. let high : u.id.0 < t.id.0 = nat_le-false t.id.0 u.id.0 is in (above_put u.id.0 (λ v. nat_le t.id.0 v.id.0) t us high order.0, in_order_put t us other.1 order.1)
+      | true ↦ λ is. let low : t.id.0 < u.id.0 = below t.id.0 u.id.0 is other.0 in ((low, above_lower t.id.0 u.id.0 us low order.0), order)
+      | false ↦ λ is. let high : u.id.0 < t.id.0 = nat_le-false t.id.0 u.id.0 is in (above_put u.id.0 (λ v. nat_le t.id.0 v.id.0) t us high order.0, in_order_put t us other.1 order.1)
     ] refl
 
 le-nat_le : (a b : ℕ) → a ≤ b → nat_le a b ≡ true
@@ -65,8 +65,8 @@ due_of_two : (u : Timer) (us : List Timer) (t : Timer) (o : Option Timer) → ((
 due_of_two u us t None rest e = let same : u ≡ t = cc in subst (λ (w : Timer). find (is_due_at w.due) (u ∷ us) ≡ Some w) same (due_first u us)
 due_of_two u us t (Some v) rest e =
     elim (nat_le u.due v.due) as (λ b. nat_le u.due v.due ≡ b → Some (cond b u v) ≡ Some t → find (is_due_at t.due) (u ∷ us) ≡ Some t) [
-      true ↦ λ is found. let same : u ≡ t = cc in subst (λ (w : Timer). find (is_due_at w.due) (u ∷ us) ≡ Some w) same (due_first u us)
-    | false ↦ λ is found. let same : v ≡ t = cc in subst (λ (w : Timer). find (is_due_at w.due) (u ∷ us) ≡ Some w) same (ap (λ b. cond b (Some u) (find (is_due_at v.due) us)) (differ u.due v.due is) ∙ rest v refl)
+      | true ↦ λ is found. let same : u ≡ t = cc in subst (λ (w : Timer). find (is_due_at w.due) (u ∷ us) ≡ Some w) same (due_first u us)
+      | false ↦ λ is found. let same : v ≡ t = cc in subst (λ (w : Timer). find (is_due_at w.due) (u ∷ us) ≡ Some w) same (ap (λ b. cond b (Some u) (find (is_due_at v.due) us)) (differ u.due v.due is) ∙ rest v refl)
     ] refl e
 
 -- the entry that falls due first is the first that is due at its time
@@ -78,8 +78,8 @@ found_above : (n : ℕ) (p : Timer → Bool) (ts : List Timer) (t : Timer) → A
 found_above n p [] t all e = absurd (cc)
 found_above n p (u ∷ us) t all e =
     elim (p u) as (λ b. cond b (Some u) (find p us) ≡ Some t → n < t.id.0) [
-      true ↦ λ found. let same : u ≡ t = cc in subst (λ (v : Timer). n < v.id.0) same all.0
-    | false ↦ λ found. found_above n p us t all.1 found
+      | true ↦ λ found. let same : u ≡ t = cc in subst (λ (v : Timer). n < v.id.0) same all.0
+      | false ↦ λ found. found_above n p us t all.1 found
     ] e
 
 -- in id order, the first that passes is the one with its id
@@ -87,8 +87,8 @@ less_by_id : (p : Timer → Bool) (ts : List Timer) (t : Timer) → IsInIdOrder 
 less_by_id p [] t order e = refl
 less_by_id p (u ∷ us) t order e =
     elim (p u) as (λ b. cond b (Some u) (find p us) ≡ Some t → cond b us (u ∷ less p us) ≡ cond (has_id t.id u) us (u ∷ less (has_id t.id) us)) [
-      true ↦ λ found. let same : u ≡ t = cc in subst (λ (v : Timer). us ≡ cond (has_id v.id u) us (u ∷ less (has_id v.id) us)) same (sym (ap (λ b. cond b us (u ∷ less (has_id u.id) us)) (eq-eqb u.id.0 u.id.0 refl)))
-    | false ↦ λ found. ap (λ ts. u ∷ ts) (less_by_id p us t order.1 found) ∙ sym (ap (λ b. cond b us (u ∷ less (has_id t.id) us)) (lower u.id.0 t.id.0 (found_above u.id.0 p us t order.0 found)))
+      | true ↦ λ found. let same : u ≡ t = cc in subst (λ (v : Timer). us ≡ cond (has_id v.id u) us (u ∷ less (has_id v.id) us)) same (sym (ap (λ b. cond b us (u ∷ less (has_id u.id) us)) (eq-eqb u.id.0 u.id.0 refl)))
+      | false ↦ λ found. ap (λ ts. u ∷ ts) (less_by_id p us t order.1 found) ∙ sym (ap (λ b. cond b us (u ∷ less (has_id t.id) us)) (lower u.id.0 t.id.0 (found_above u.id.0 p us t order.0 found)))
     ] e
 
 popped_entry : (now : ℕ) (ts : List Timer) (n : ℕ) (o : Option Timer) → least_due ts ≡ o → option_map (λ t. t.due) o ≡ Some n → n ≤ now → find (is_due_at n) ts ≡ if_due_by now o

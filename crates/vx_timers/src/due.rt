@@ -182,7 +182,12 @@ pub fn take_due_at<R: Routine>(items: &mut Vec<Due<R>>, time: u64) -> Option<Due
 }
 
 /// Takes out the first timer of a process of a mode or an outer one, with an identification, 0 for any.
-pub fn take_timer_with<R: Routine>(items: &mut Vec<Due<R>>, p: Pid, reqid: u32, mode: Mode) -> Option<Due<R>>
+pub fn take_timer_with<R: Routine>(
+    items: &mut Vec<Due<R>>,
+    p: Pid,
+    reqid: u32,
+    mode: Mode,
+) -> Option<Due<R>>
     ensures found { option_map (timer_of R.tagged) result ≡ find (sets p (is_timer_with reqid mode)) (map (timer_of R.tagged) items.old.items) }
     ensures after { map (timer_of R.tagged) items.new.items ≡ less (sets p (is_timer_with reqid mode)) (map (timer_of R.tagged) items.old.items) }
     ensures order { IsInIdOrder (map (timer_of R.tagged) items.old.items) → IsInIdOrder (map (timer_of R.tagged) items.new.items) }
@@ -235,6 +240,19 @@ pub fn insert<R: Routine>(items: &mut Vec<Due<R>>, due: Due<R>)
             Err(_) => unreachable!(),
         },
     }
+}
+
+fn any_of_id<R: Routine>(items: &[Due<R>], id: Id) -> bool
+    ensures { result ≡ list_any (λ d. has_id id (timer_of R.tagged d)) items.now }
+{
+    items.iter().any(|d| d.id.0 == id.0)
+}
+
+/// Whether there is an entry with an id.
+pub fn any_with_id<R: Routine>(items: &[Due<R>], id: Id) -> bool
+    ensures { result ≡ list_any (has_id id) (map (timer_of R.tagged) items.now) }
+{
+    any_of_id(items, id)
 }
 
 // The lesser of two times, where the first may be missing.

@@ -9,10 +9,8 @@ mod due;
 mod place;
 mod timers;
 
-
 pub use due::{Due, What};
 pub use timers::Timers;
-
 
 #[cfg(test)]
 mod tests;

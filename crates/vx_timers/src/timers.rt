@@ -8,11 +8,12 @@ ghost use Rattle.vx_timers.specs.Timing.{has_id, inserted, IsInIdOrder, first_du
 ghost use Rattle.vx_timers.specs.Seen.{timer_of};
 
 use crate::due::{
-    Due, insert, is_charged_to, is_timer_of, least_time, take_due_at, take_timer_with, take_wake_for, take_wake_of,
+    Due, any_with_id, insert, is_charged_to, is_timer_of, least_time, take_due_at, take_timer_with,
+    take_wake_for, take_wake_of,
 };
 use std::alloc::Global;
 use std::marker::Model;
-use vx_base::{Mode, NoMemory, Pid, Routine};
+use vx_base::{Id, Mode, NoMemory, Pid, Routine};
 
 /// The timers and scheduled wakes of all processes. What is taken out leaves its room, so that it can be added again
 /// without memory.
@@ -117,6 +118,13 @@ impl<R: Routine> Timers<R> {
         ensures order { IsInIdOrder self.now.items }
     {
         self.items.len()
+    }
+
+    /// Whether there is an entry with an id.
+    pub fn has(&self, id: Id) -> bool
+        ensures { result ≡ list_any (has_id id) self.now.items }
+    {
+        any_with_id(&self.items, id)
     }
 
     /// How many timers a process has set.

@@ -18,8 +18,8 @@ returns-clause-after g c =
     let test = is_due_at c.in_ok-due.due in
     let order = subst (λ (q : Timing). IsInIdOrder q.items) c.self.view_is c.self.invariant.2 in
     let rest =
-        c.take_due_at.ensures.after
-        ∙ ap (λ (q : Timing). less test q.items) c.self.view_is
-        ∙ popped_less c.args.now c.args.self.now.items c.in_ok-due.due order (sym c.least.ensures ∙ c.in_ok-due.was) c.if-now-due.false in
+    c.take_due_at.ensures.after
+    ∙ ap (λ (q : Timing). less test q.items) c.self.view_is
+    ∙ popped_less c.args.now c.args.self.now.items c.in_ok-due.due order (sym c.least.ensures ∙ c.in_ok-due.was) c.if-now-due.false in
     ap (λ (ts : List Timer). let new : Timing = record { items = ts; capacity = c.self.inside.room } in new) rest
     ∙ ap (λ (q : Timing). let new : Timing = record { items = less_entry (first_due c.args.now c.args.self.now.items) c.args.self.now.items; capacity = q.capacity } in new) c.self.view_is
