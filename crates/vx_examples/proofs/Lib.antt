@@ -1,3 +1,9 @@
+pub mod Asts
+pub mod Channels
+pub mod CommonClusters
+pub mod Control
+pub mod Flags
+pub mod Leaving
 pub mod RunAllOfNoFlags
 pub mod RunAstInAst
 pub mod RunAstQuota
@@ -38,3 +44,4 @@ pub mod RunRefusals
 pub mod RunTimerAstQuota
 pub mod RunTimerQuota
 pub mod RunTimers
+pub mod Timers

@@ -1,6 +1,5 @@
 -- BYTLM counts the bytes of outstanding buffered requests; requests that no unit has begun finish at the rundown.
 use Rattle.std.specs.Prelude.{◌≡◌, refl, List, [], ◌∷◌, true, false, codes, Some, None}
-use Rattle.vx_base.specs.declared.call.Operand.TheVariants as operand
 use Rattle.vx_base.specs.declared.cond.Cond.TheVariants as cond
 use Rattle.vx_base.specs.declared.effects.Opened.TheVariants as opened
 use Rattle.vx_base.specs.declared.mode.Mode.TheVariants as mode
@@ -9,7 +8,7 @@ use Rattle.vx_base.specs.declared.record.Rec.{Rec}
 use Rattle.vx_base.specs.declared.request.Func.TheVariants as func
 use Rattle.vx_base.specs.declared.service.Service.TheVariants as service
 use Rattle.vx_examples.specs.Along.{exit_codes}
-use Rattle.vx_examples.specs.Script.{letter, value, valued, variable, named, no_routine, in_mode, function, call, calls, usual_limits, declared, runs, is_gone, opens, fin, flag, puts, gone}
+use Rattle.vx_examples.specs.Script.{value, variable, named, no_routine, in_mode, call, calls, usual_limits, declared, runs, is_gone, opens, fin, flag, puts, gone, held_in, request}
 use Rattle.vx_image.specs.declared.image.Image.{Image}
 use Rattle.vx_image.specs.declared.system.System.{System}
 use Rattle.vx_record.specs.Runs.{chosen, end_after}
@@ -19,12 +18,12 @@ image_main = record {
   name = codes "MAIN";
   labels = [];
   stmts =
-      calls service.Assign (variable (codes "A") ∷ named (codes "TT") ∷ in_mode mode.Kernel ∷ []) ∷
-      calls service.Qio (value 1 ∷ valued (operand.Var (letter (codes "A"))) ∷ function func.Read ∷ value 0 ∷ no_routine ∷ value 0 ∷ value 0 ∷ value 100 ∷ value 0 ∷ []) ∷
-      calls service.Qio (value 1 ∷ valued (operand.Var (letter (codes "A"))) ∷ function func.Read ∷ value 0 ∷ no_routine ∷ value 0 ∷ value 0 ∷ value 1 ∷ value 0 ∷ []) ∷
-      calls service.Qio (value 1 ∷ valued (operand.Var (letter (codes "A"))) ∷ function func.Read ∷ value 0 ∷ no_routine ∷ value 0 ∷ value 0 ∷ value 0 ∷ value 0 ∷ []) ∷
-      calls service.Exit (value 1 ∷ []) ∷
-      [];
+    calls service.Assign (variable (codes "A") ∷ named (codes "TT") ∷ in_mode mode.Kernel ∷ []) ∷
+    calls service.Qio (request 1 (held_in (codes "A")) func.Read 0 no_routine 0 0 100 0) ∷
+    calls service.Qio (request 1 (held_in (codes "A")) func.Read 0 no_routine 0 0 1 0) ∷
+    calls service.Qio (request 1 (held_in (codes "A")) func.Read 0 no_routine 0 0 0 0) ∷
+    calls service.Exit (value 1 ∷ []) ∷
+    [];
 }
 
 abbrev pub script : System
@@ -37,13 +36,16 @@ script = record {
 -- its records
 abbrev pub records : List Rec
 records =
-    runs 1 (call service.Assign (variable (codes "A") ∷ named (codes "TT") ∷ in_mode mode.Kernel ∷ [])) cond.Normal (puts 1 (codes "A") 1 ∷ []) ∷
-    runs 1 (call service.Qio (value 1 ∷ value 1 ∷ function func.Read ∷ value 0 ∷ no_routine ∷ value 0 ∷ value 0 ∷ value 100 ∷ value 0 ∷ [])) cond.Normal (flag 1 1 false ∷ opens 1 opened.Bio 1 None 100 ∷ []) ∷
-    runs 1 (call service.Qio (value 1 ∷ value 1 ∷ function func.Read ∷ value 0 ∷ no_routine ∷ value 0 ∷ value 0 ∷ value 1 ∷ value 0 ∷ [])) cond.ExQuota [] ∷
-    runs 1 (call service.Qio (value 1 ∷ value 1 ∷ function func.Read ∷ value 0 ∷ no_routine ∷ value 0 ∷ value 0 ∷ value 0 ∷ value 0 ∷ [])) cond.Normal (flag 1 1 false ∷ opens 2 opened.Bio 1 None 0 ∷ []) ∷
-    runs 1 (call service.Exit (value 1 ∷ [])) cond.Normal [] ∷
-    is_gone 1 (fin 1 cond.Cancel ∷ flag 1 1 true ∷ fin 2 cond.Cancel ∷ flag 1 1 true ∷ gone 1 ∷ []) ∷
-    []
+  runs 1 (call service.Assign (variable (codes "A") ∷ named (codes "TT") ∷ in_mode mode.Kernel ∷ [])) cond.Normal
+       (puts 1 (codes "A") 1 ∷ []) ∷
+  runs 1 (call service.Qio (request 1 (value 1) func.Read 0 no_routine 0 0 100 0)) cond.Normal
+       (flag 1 1 false ∷ opens 1 opened.Bio 1 None 100 ∷ []) ∷
+  runs 1 (call service.Qio (request 1 (value 1) func.Read 0 no_routine 0 0 1 0)) cond.ExQuota [] ∷
+  runs 1 (call service.Qio (request 1 (value 1) func.Read 0 no_routine 0 0 0 0)) cond.Normal
+       (flag 1 1 false ∷ opens 2 opened.Bio 1 None 0 ∷ []) ∷
+  runs 1 (call service.Exit (value 1 ∷ [])) cond.Normal [] ∷
+  is_gone 1 (fin 1 cond.Cancel ∷ flag 1 1 true ∷ fin 2 cond.Cancel ∷ flag 1 1 true ∷ gone 1 ∷ []) ∷
+  []
 
 pub buffered_bytes : chosen script 0 10000 ≡ records
 buffered_bytes = refl

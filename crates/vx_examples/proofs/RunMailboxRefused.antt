@@ -6,7 +6,7 @@ use Rattle.vx_base.specs.declared.record.End.TheVariants as end
 use Rattle.vx_base.specs.declared.record.Rec.{Rec}
 use Rattle.vx_base.specs.declared.service.Service.TheVariants as service
 use Rattle.vx_examples.specs.Along.{exit_codes}
-use Rattle.vx_examples.specs.Script.{value, variable, named, in_mode, call, calls, declared, runs, ends, is_gone, gone}
+use Rattle.vx_examples.specs.Script.{call, calls, declared, runs, ends, is_gone, gone, mailbox}
 use Rattle.vx_image.specs.declared.image.Image.{Image}
 use Rattle.vx_image.specs.declared.system.System.{System}
 use Rattle.vx_record.specs.Runs.{chosen, end_after}
@@ -16,9 +16,9 @@ image_main = record {
   name = codes "MAIN";
   labels = [];
   stmts =
-      calls service.CreMbx (variable (codes "A") ∷ named (codes "BOX") ∷ value 1 ∷ value 256 ∷ value 1024 ∷ in_mode mode.Kernel ∷ []) ∷
-      calls service.CreMbx (variable (codes "A") ∷ named (codes "BOX") ∷ value 0 ∷ value 0 ∷ value 1024 ∷ in_mode mode.Kernel ∷ []) ∷
-      [];
+    calls service.CreMbx (mailbox (codes "A") (codes "BOX") 1 256 1024 mode.Kernel) ∷
+    calls service.CreMbx (mailbox (codes "A") (codes "BOX") 0 0 1024 mode.Kernel) ∷
+    [];
 }
 
 abbrev pub script : System
@@ -31,11 +31,11 @@ script = record {
 -- its records
 abbrev pub records : List Rec
 records =
-    runs 1 (call service.CreMbx (variable (codes "A") ∷ named (codes "BOX") ∷ value 1 ∷ value 256 ∷ value 1024 ∷ in_mode mode.Kernel ∷ [])) cond.NoPriv [] ∷
-    runs 1 (call service.CreMbx (variable (codes "A") ∷ named (codes "BOX") ∷ value 0 ∷ value 0 ∷ value 1024 ∷ in_mode mode.Kernel ∷ [])) cond.BadParam [] ∷
-    ends 1 [] ∷
-    is_gone 1 (gone 1 ∷ []) ∷
-    []
+  runs 1 (call service.CreMbx (mailbox (codes "A") (codes "BOX") 1 256 1024 mode.Kernel)) cond.NoPriv [] ∷
+  runs 1 (call service.CreMbx (mailbox (codes "A") (codes "BOX") 0 0 1024 mode.Kernel)) cond.BadParam [] ∷
+  ends 1 [] ∷
+  is_gone 1 (gone 1 ∷ []) ∷
+  []
 
 pub mailbox_refused : chosen script 0 10000 ≡ records
 mailbox_refused = refl

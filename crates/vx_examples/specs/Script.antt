@@ -1,5 +1,5 @@
 -- Words for scripts and for the records of their runs, so that examples read as transcripts do.
-use Rattle.std.specs.Prelude.{ℕ, List, Bool, true, false, Option, Some, None, slice_index_or}
+use Rattle.std.specs.Prelude.{ℕ, List, [], ◌∷◌, Bool, true, false, Option, Some, None, slice_index_or}
 use Rattle.vx_base.specs.declared.call.Arg.{Arg}
 use Rattle.vx_base.specs.declared.call.Arg.TheVariants as arg
 use Rattle.vx_base.specs.declared.call.Call.{Call}
@@ -57,6 +57,10 @@ value n = arg.Value (operand.Num n)
 abbrev pub valued : Operand → Arg
 valued x = arg.Value x
 
+-- what a variable holds
+abbrev pub held_in : List ℕ → Arg
+held_in text = valued (operand.Var (letter text))
+
 abbrev pub variable : List ℕ → Arg
 variable text = arg.Target (target.Var (letter text))
 
@@ -80,6 +84,14 @@ function f = arg.Func f
 
 abbrev pub nth : List Arg → ℕ → Arg
 nth args n = slice_index_or args n arg.Unused
+
+-- the arguments of $QIO and $QIOW, in their order
+abbrev pub request : ℕ → Arg → Func → ℕ → Arg → ℕ → ℕ → ℕ → ℕ → List Arg
+request efn chan func iosb ast prm buf len blk = value efn ∷ chan ∷ function func ∷ value iosb ∷ ast ∷ value prm ∷ value buf ∷ value len ∷ value blk ∷ []
+
+-- those of $CREMBX
+abbrev pub mailbox : List ℕ → List ℕ → ℕ → ℕ → ℕ → Mode → List Arg
+mailbox place name perm maxmsg bufquo mode = variable place ∷ named name ∷ value perm ∷ value maxmsg ∷ value bufquo ∷ in_mode mode ∷ []
 
 -- a call with its arguments, and none behind them
 abbrev pub call : Service → List Arg → Call
