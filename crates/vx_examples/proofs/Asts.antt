@@ -87,7 +87,6 @@ may_exec = record somebody { privs = record no_privs { cmexec = true } }
 abbrev may_kernel : Process
 may_kernel = record somebody { privs = record no_privs { cmkrnl = true } }
 
--- new_frame keeps the place of the label in the image's list; the image says where it is
 pub cmexec-by_cmexec : Answers (with may_exec) (call service.CmExec (routine (codes "T") ∷ value 9 ∷ [])) cond.Normal [] (with (calling mode.Exec may_exec))
 cmexec-by_cmexec = refl
 

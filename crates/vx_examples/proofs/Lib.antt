@@ -1,9 +1,12 @@
 pub mod Asts
+pub mod Cancels
 pub mod Channels
 pub mod CommonClusters
 pub mod Control
 pub mod Flags
 pub mod Leaving
+pub mod Mailboxes
+pub mod Requests
 pub mod RunAllOfNoFlags
 pub mod RunAstInAst
 pub mod RunAstQuota
@@ -45,3 +48,4 @@ pub mod RunTimerAstQuota
 pub mod RunTimerQuota
 pub mod RunTimers
 pub mod Timers
+pub mod Units

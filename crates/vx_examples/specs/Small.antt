@@ -1,6 +1,6 @@
 -- Small states: one process, or two, with little in each, and words for what a call comes to on them.
 use Rattle.std.specs.Prelude.{◌≡◌, ℕ, List, [], ◌∷◌, Bool, true, false, codes, Option, Some, None, replicate}
-use Rattle.vx_base.specs.Pieces.{Channel, Cluster, Association, Mailbox, Contents, Lines, Blocks, all_on, cleared}
+use Rattle.vx_base.specs.Pieces.{Request, Status, Channel, Cluster, Association, Mailbox, Contents, Lines, Blocks, all_on, cleared}
 use Rattle.vx_base.specs.declared.call.Call.{Call}
 use Rattle.vx_base.specs.declared.cond.Cond.{Cond}
 use Rattle.vx_base.specs.declared.effects.Effect.{Effect}
@@ -11,7 +11,10 @@ use Rattle.vx_base.specs.declared.frame.Phase.TheVariants as phase
 use Rattle.vx_base.specs.declared.frame.Wait.{Wait}
 use Rattle.vx_base.specs.declared.mode.Mode.{Mode}
 use Rattle.vx_base.specs.declared.mode.Mode.TheVariants.{Kernel, User}
+use Rattle.vx_base.specs.declared.number.Id.{Id}
+use Rattle.vx_base.specs.declared.request.Device.{Device}
 use Rattle.vx_base.specs.declared.request.Device.TheVariants as device
+use Rattle.vx_base.specs.declared.request.Func.{Func}
 use Rattle.vx_base.specs.declared.request.Msg.{Msg}
 use Rattle.vx_image.specs.Storage.{Storage}
 use Rattle.vx_image.specs.declared.image.Image.{Image}
@@ -22,7 +25,7 @@ use Rattle.vx_record.specs.Services.{service}
 use Rattle.vx_record.specs.State.{Process, State}
 use Rattle.vx_record.specs.declared.served.Served.{Served}
 use Rattle.vx_record.specs.declared.served.Served.TheVariants.{Answered, Waits}
-use Rattle.vx_examples.specs.Script.{process, unit, box, declared, no_privs}
+use Rattle.vx_examples.specs.Script.{process, id, unit, box, declared, no_privs}
 
 -- Scripts.
 
@@ -165,3 +168,52 @@ Suspends s c effects after = service s (process 1) c ≡ record { answer = Waits
 -- it is answered with a condition, whatever its effects
 abbrev pub Comes : State → Call → Cond → Type 0
 Comes s c cond = (service s (process 1) c).answer ≡ Answered cond
+
+-- Requests.
+
+-- an outstanding request of process 1 on channel 1: event flag 1, status block 1, buffer 1, 3 bytes, block 0, and no AST
+abbrev pub outstanding : ℕ → Device → Func → Request
+outstanding n dev func = record {
+  req = record {
+    id = id n;
+    p = process 1;
+    chan = 1;
+    chan_mode = User;
+    device = dev;
+    func = func;
+    efn = 1;
+    iosb = 1;
+    buf = 1;
+    len = 3;
+    blk = 0;
+    bytes = [];
+  };
+  ast = None;
+  served = false;
+  marked = false;
+}
+
+abbrev pub line_unit : Device
+line_unit = device.Unit (unit 0)
+
+abbrev pub block_unit : Device
+block_unit = device.Unit (unit 1)
+
+abbrev pub in_box : Device
+in_box = device.Mailbox (box 0)
+
+-- process 1 with a channel to each: the line unit, the block unit, mailbox 0
+abbrev pub connected : Process
+connected = record somebody { channels = Some (on_unit 0 User) ∷ Some (on_unit 1 User) ∷ Some (on_box 0 User) ∷ [] }
+
+-- it alone, with that mailbox, empty
+abbrev pub online : State
+online = record (with connected) { boxes = Some (box_holding []) ∷ None ∷ [] }
+
+-- a status block
+abbrev pub filled : Cond → ℕ → ℕ → Status
+filled cond count info = record { cond = Some cond; count = count; info = info }
+
+-- process 1, connected, with a store
+abbrev pub connected_with : List (List ℕ) → List Status → Process
+connected_with buffers statuses = record connected { store = record small_store { buffers = buffers; statuses = statuses } }
