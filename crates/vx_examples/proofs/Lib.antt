@@ -1,11 +1,14 @@
 pub mod Asts
 pub mod Cancels
 pub mod Channels
+pub mod Charges
 pub mod CommonClusters
 pub mod Control
+pub mod Events
 pub mod Flags
 pub mod Leaving
 pub mod Mailboxes
+pub mod Picks
 pub mod Requests
 pub mod RunAllOfNoFlags
 pub mod RunAstInAst
@@ -47,5 +50,6 @@ pub mod RunRefusals
 pub mod RunTimerAstQuota
 pub mod RunTimerQuota
 pub mod RunTimers
+pub mod Rundown
 pub mod Timers
 pub mod Units
