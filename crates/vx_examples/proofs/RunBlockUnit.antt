@@ -8,6 +8,7 @@ use Rattle.vx_base.specs.declared.record.Rec.{Rec}
 use Rattle.vx_base.specs.declared.request.Func.TheVariants as func
 use Rattle.vx_base.specs.declared.service.Service.TheVariants as service
 use Rattle.vx_examples.specs.Along.{exit_codes}
+use Rattle.vx_examples.specs.Along.{outputs}
 use Rattle.vx_examples.specs.Script.{value, variable, named, no_routine, in_mode, call, calls, declared, runs, waits, resumes, is_gone, begins, is_done, opens, fin, flag, status, cleared_status, bytes_put, puts, gone, held_in, request}
 use Rattle.vx_image.specs.declared.image.Image.{Image}
 use Rattle.vx_image.specs.declared.system.System.{System}
@@ -73,3 +74,7 @@ block_unit-end = refl
 -- the exit codes
 pub block_unit-codes : exit_codes script records ≡ 1 ∷ []
 block_unit-codes = refl
+
+-- the lines that the units were given
+pub block_unit-outputs : outputs script records ≡ [] ∷ []
+block_unit-outputs = refl

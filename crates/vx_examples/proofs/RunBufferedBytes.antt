@@ -8,6 +8,7 @@ use Rattle.vx_base.specs.declared.record.Rec.{Rec}
 use Rattle.vx_base.specs.declared.request.Func.TheVariants as func
 use Rattle.vx_base.specs.declared.service.Service.TheVariants as service
 use Rattle.vx_examples.specs.Along.{exit_codes}
+use Rattle.vx_examples.specs.Along.{outputs}
 use Rattle.vx_examples.specs.Script.{value, variable, named, no_routine, in_mode, call, calls, usual_limits, declared, runs, is_gone, opens, fin, flag, puts, gone, held_in, request}
 use Rattle.vx_image.specs.declared.image.Image.{Image}
 use Rattle.vx_image.specs.declared.system.System.{System}
@@ -56,3 +57,7 @@ buffered_bytes-end = refl
 -- the exit codes
 pub buffered_bytes-codes : exit_codes script records ≡ 1 ∷ []
 buffered_bytes-codes = refl
+
+-- the lines that the units were given
+pub buffered_bytes-outputs : outputs script records ≡ [] ∷ []
+buffered_bytes-outputs = refl

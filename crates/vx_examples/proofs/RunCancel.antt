@@ -12,6 +12,7 @@ use Rattle.vx_base.specs.declared.request.Func.TheVariants as func
 use Rattle.vx_base.specs.declared.service.Service.TheVariants as service
 use Rattle.vx_examples.specs.Along.{along, are_enabled}
 use Rattle.vx_examples.specs.Along.{exit_codes}
+use Rattle.vx_examples.specs.Along.{outputs}
 use Rattle.vx_examples.specs.Script.{process, unit, value, variable, named, no_routine, in_mode, call, calls, declared, runs, is_gone, begins, is_done, opens, fin, mark, flag, status, cleared_status, puts, gone, held_in, request}
 use Rattle.vx_image.specs.declared.image.Image.{Image}
 use Rattle.vx_image.specs.declared.system.System.{System}
@@ -51,7 +52,8 @@ records =
        (flag 1 3 false ∷ cleared_status 1 3 ∷ opens 3 opened.Bio 1 None 8 ∷ []) ∷
   begins 0 1 [] ∷
   runs 1 (call service.Cancel (value 1 ∷ [])) cond.Normal
-       (mark 1 ∷ fin 2 cond.Cancel ∷ status 1 2 cond.Cancel 0 0 ∷ flag 1 2 true ∷ fin 3 cond.Cancel ∷ status 1 3 cond.Cancel 0 0 ∷ flag 1 3 true ∷ []) ∷
+       (mark 1 ∷ fin 2 cond.Cancel ∷ status 1 2 cond.Cancel 0 0 ∷ flag 1 2 true ∷ fin 3 cond.Cancel ∷ status 1 3
+         cond.Cancel 0 0 ∷ flag 1 3 true ∷ []) ∷
   is_done 0 1 (fin 1 cond.Abort ∷ status 1 1 cond.Abort 0 0 ∷ flag 1 1 true ∷ []) ∷
   runs 1 (call service.Exit (value 1 ∷ [])) cond.Normal [] ∷
   is_gone 1 (gone 1 ∷ []) ∷
@@ -59,7 +61,8 @@ records =
 
 -- the events that happen
 abbrev events : List Event
-events = event.Run (process 1) ∷ event.Run (process 1) ∷ event.Run (process 1) ∷ event.Run (process 1) ∷ event.Beg (unit 0) ∷ event.Run (process 1) ∷ event.Don (unit 0) ∷ event.Run (process 1) ∷ event.Rdn (process 1) ∷ []
+events = event.Run (process 1) ∷ event.Run (process 1) ∷ event.Run (process 1) ∷ event.Run (process 1) ∷ event.Beg
+  (unit 0) ∷ event.Run (process 1) ∷ event.Don (unit 0) ∷ event.Run (process 1) ∷ event.Rdn (process 1) ∷ []
 
 -- each is enabled at its moment
 pub cancel-enabled : IsTrue (are_enabled (first script) events)
@@ -74,3 +77,7 @@ cancel-end = refl
 -- the exit codes
 pub cancel-codes : exit_codes script records ≡ 1 ∷ []
 cancel-codes = refl
+
+-- the lines that the units were given
+pub cancel-outputs : outputs script records ≡ [] ∷ []
+cancel-outputs = refl

@@ -1,4 +1,5 @@
--- The channel test: a channel of an inner mode, numbers that are none, a free channel; the least free number is assigned.
+-- The channel test: a channel of an inner mode, numbers that are none, a free channel; the least free number is
+-- assigned.
 use Rattle.std.specs.Prelude.{◌≡◌, refl, List, [], ◌∷◌, true, codes, Some}
 use Rattle.vx_base.specs.declared.cond.Cond.TheVariants as cond
 use Rattle.vx_base.specs.declared.mode.Mode.TheVariants as mode
@@ -6,6 +7,7 @@ use Rattle.vx_base.specs.declared.record.End.TheVariants as end
 use Rattle.vx_base.specs.declared.record.Rec.{Rec}
 use Rattle.vx_base.specs.declared.service.Service.TheVariants as service
 use Rattle.vx_examples.specs.Along.{exit_codes}
+use Rattle.vx_examples.specs.Along.{outputs}
 use Rattle.vx_examples.specs.Script.{value, variable, named, routine, in_mode, call, calls, no_privs, declared, runs, returns, is_gone, puts, gone, held_in}
 use Rattle.vx_image.specs.declared.image.Image.{Image}
 use Rattle.vx_image.specs.declared.stmt.Stmt.TheVariants as stmt
@@ -66,3 +68,7 @@ channel_test-end = refl
 -- the exit codes
 pub channel_test-codes : exit_codes script records ≡ 1 ∷ []
 channel_test-codes = refl
+
+-- the lines that the units were given
+pub channel_test-outputs : outputs script records ≡ [] ∷ []
+channel_test-outputs = refl

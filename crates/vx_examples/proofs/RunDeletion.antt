@@ -12,6 +12,7 @@ use Rattle.vx_base.specs.declared.request.Func.TheVariants as func
 use Rattle.vx_base.specs.declared.service.Service.TheVariants as service
 use Rattle.vx_examples.specs.Along.{along, are_enabled}
 use Rattle.vx_examples.specs.Along.{exit_codes}
+use Rattle.vx_examples.specs.Along.{outputs}
 use Rattle.vx_examples.specs.Script.{process, unit, value, variable, named, routine, no_routine, in_mode, call, calls, declared, runs, waits, is_busy, is_gone, begins, is_done, opens, fin, mark, que, drops, flag, status, cleared_status, puts, enb, gone, held_in, request}
 use Rattle.vx_image.specs.declared.image.Image.{Image}
 use Rattle.vx_image.specs.declared.stmt.Stmt.TheVariants as stmt
@@ -82,7 +83,10 @@ records =
 
 -- the events that happen
 abbrev events : List Event
-events = event.Run (process 1) ∷ event.Run (process 1) ∷ event.Run (process 1) ∷ event.Run (process 1) ∷ event.Run (process 1) ∷ event.Run (process 1) ∷ event.Run (process 1) ∷ event.Beg (unit 0) ∷ event.Run (process 2) ∷ event.Rdn (process 1) ∷ event.Run (process 2) ∷ event.Don (unit 0) ∷ event.Rdn (process 1) ∷ event.Run (process 2) ∷ event.Rdn (process 2) ∷ []
+events = event.Run (process 1) ∷ event.Run (process 1) ∷ event.Run (process 1) ∷ event.Run (process 1) ∷ event.Run
+  (process 1) ∷ event.Run (process 1) ∷ event.Run (process 1) ∷ event.Beg (unit 0) ∷ event.Run (process 2) ∷ event.Rdn
+    (process 1) ∷ event.Run (process 2) ∷ event.Don (unit 0) ∷ event.Rdn (process 1) ∷ event.Run (process 2) ∷
+    event.Rdn (process 2) ∷ []
 
 -- each is enabled at its moment
 pub deletion-enabled : IsTrue (are_enabled (first script) events)
@@ -97,3 +101,7 @@ deletion-end = refl
 -- the exit codes
 pub deletion-codes : exit_codes script records ≡ 0 ∷ 1 ∷ []
 deletion-codes = refl
+
+-- the lines that the units were given
+pub deletion-outputs : outputs script records ≡ [] ∷ []
+deletion-outputs = refl

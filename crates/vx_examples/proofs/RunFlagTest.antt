@@ -1,4 +1,5 @@
--- The flag test at its edges: the last own flag, the first and the last common one with nothing associated, and one above.
+-- The flag test at its edges: the last own flag, the first and the last common one with nothing associated, and one
+-- above.
 use Rattle.std.specs.Prelude.{◌≡◌, refl, List, [], ◌∷◌, true, codes, Some}
 use Rattle.vx_base.specs.declared.cond.Cond.TheVariants as cond
 use Rattle.vx_base.specs.declared.record.End.TheVariants as end

@@ -11,6 +11,7 @@ use Rattle.vx_base.specs.declared.request.Body.TheVariants as body
 use Rattle.vx_base.specs.declared.request.Func.TheVariants as func
 use Rattle.vx_base.specs.declared.service.Service.TheVariants as service
 use Rattle.vx_examples.specs.Along.{exit_codes}
+use Rattle.vx_examples.specs.Along.{outputs}
 use Rattle.vx_examples.specs.Script.{letter, value, variable, named, no_routine, in_mode, function, call, calls, declared, runs, waits, resumes, is_gone, begins, is_done, opens, fin, flag, status, cleared_status, bytes_put, puts, mput, mget, mbx, gone, held_in, request, mailbox}
 use Rattle.vx_image.specs.declared.image.Image.{Image}
 use Rattle.vx_image.specs.declared.stmt.Field.TheVariants as field
@@ -33,7 +34,8 @@ image_prod = record {
     stmt.Iosb (target.Var (letter (codes "S"))) 1 field.Status ∷
     stmt.If (operand.Var (letter (codes "S"))) rel.Eq (operand.Cond cond.EndOfFile) 1 ∷
     stmt.Iosb (target.Var (letter (codes "C"))) 1 field.Count ∷
-    calls service.QioW (value 1 ∷ held_in (codes "M") ∷ function func.Write ∷ value 1 ∷ no_routine ∷ value 0 ∷ value 0 ∷ held_in (codes "C") ∷ value 0 ∷ []) ∷
+    calls service.QioW (value 1 ∷ held_in (codes "M") ∷ function func.Write ∷ value 1 ∷ no_routine ∷ value 0 ∷ value
+      0 ∷ held_in (codes "C") ∷ value 0 ∷ []) ∷
     stmt.Goto 0 ∷
     calls service.QioW (request 1 (held_in (codes "M")) func.Eof 1 no_routine 0 0 0 0) ∷
     calls service.Exit (value 1 ∷ []) ∷
@@ -53,7 +55,8 @@ image_cons = record {
     calls service.QioW (request 1 (held_in (codes "M")) func.Read 1 no_routine 0 0 80 0) ∷
     stmt.Iosb (target.Var (letter (codes "S"))) 1 field.Status ∷
     stmt.If (operand.Var (letter (codes "S"))) rel.Eq (operand.Cond cond.EndOfFile) 1 ∷
-    calls service.QioW (value 2 ∷ held_in (codes "D") ∷ function func.Write ∷ value 2 ∷ no_routine ∷ value 0 ∷ value 0 ∷ value 512 ∷ held_in (codes "B") ∷ []) ∷
+    calls service.QioW (value 2 ∷ held_in (codes "D") ∷ function func.Write ∷ value 2 ∷ no_routine ∷ value 0 ∷ value
+      0 ∷ value 512 ∷ held_in (codes "B") ∷ []) ∷
     stmt.Add (target.Var (letter (codes "B"))) (operand.Var (letter (codes "B"))) (operand.Num 1) ∷
     stmt.Goto 0 ∷
     calls service.Exit (value 1 ∷ []) ∷
@@ -62,7 +65,8 @@ image_cons = record {
 
 abbrev pub script : System
 script = record {
-  units = record { name = codes "TT"; blocks = 0; inputs = (codes "alpha") ∷ (codes "beta") ∷ []; faults = [] } ∷ record { name = codes "DK"; blocks = 16; inputs = []; faults = [] } ∷ [];
+  units = record { name = codes "TT"; blocks = 0; inputs = (codes "alpha") ∷ (codes "beta") ∷ []; faults = [] } ∷
+  record { name = codes "DK"; blocks = 16; inputs = []; faults = [] } ∷ [];
   images = image_prod ∷ image_cons ∷ [];
   decls =
     declared (codes "PRODUCER") 0 ∷
@@ -90,7 +94,10 @@ records =
        (fin 1 cond.Normal ∷ bytes_put 1 0 (codes "alpha") ∷ status 1 1 cond.Normal 5 0 ∷ flag 1 1 true ∷ []) ∷
   resumes 1 cond.Normal [] ∷
   runs 1 (call service.QioW (request 1 (value 2) func.Write 1 no_routine 0 0 5 0)) cond.Normal
-       (flag 1 1 false ∷ cleared_status 1 1 ∷ opens 3 opened.Bio 1 None 5 ∷ mput (codes "BOX") 3 (body.Text (codes "alpha")) ∷ mget (codes "BOX") 3 2 ∷ fin 2 cond.Normal ∷ bytes_put 2 0 (codes "alpha") ∷ status 2 1 cond.Normal 5 1 ∷ flag 2 1 true ∷ fin 3 cond.Normal ∷ status 1 1 cond.Normal 5 0 ∷ flag 1 1 true ∷ []) ∷
+       (flag 1 1 false ∷ cleared_status 1 1 ∷ opens 3 opened.Bio 1 None 5 ∷ mput (codes "BOX") 3
+         (body.Text (codes "alpha")) ∷ mget (codes "BOX") 3 2 ∷ fin 2 cond.Normal ∷ bytes_put 2 0 (codes "alpha") ∷
+         status 2 1 cond.Normal 5 1 ∷ flag 2 1 true ∷ fin 3 cond.Normal ∷ status 1 1 cond.Normal 5 0 ∷ flag 1 1 true ∷
+         []) ∷
   resumes 2 cond.Normal [] ∷
   waits 1 (call service.QioW (request 1 (value 1) func.Read 1 no_routine 0 0 80 0))
        (flag 1 1 false ∷ cleared_status 1 1 ∷ opens 4 opened.Bio 1 None 80 ∷ []) ∷
@@ -100,12 +107,15 @@ records =
   is_done 0 4 (fin 4 cond.Normal ∷ bytes_put 1 0 (codes "beta") ∷ status 1 1 cond.Normal 4 0 ∷ flag 1 1 true ∷ []) ∷
   resumes 1 cond.Normal [] ∷
   waits 1 (call service.QioW (request 1 (value 2) func.Write 1 no_routine 0 0 4 0))
-       (flag 1 1 false ∷ cleared_status 1 1 ∷ opens 6 opened.Bio 1 None 4 ∷ mput (codes "BOX") 6 (body.Text (codes "beta")) ∷ []) ∷
+       (flag 1 1 false ∷ cleared_status 1 1 ∷ opens 6 opened.Bio 1 None 4 ∷ mput (codes "BOX") 6
+         (body.Text (codes "beta")) ∷ []) ∷
   begins 1 5 [] ∷
   is_done 1 5 (fin 5 cond.Normal ∷ status 2 2 cond.Normal 512 0 ∷ flag 2 2 true ∷ []) ∷
   resumes 2 cond.Normal [] ∷
   runs 2 (call service.QioW (request 1 (value 1) func.Read 1 no_routine 0 0 80 0)) cond.Normal
-       (flag 2 1 false ∷ cleared_status 2 1 ∷ opens 7 opened.Bio 2 None 80 ∷ mget (codes "BOX") 6 7 ∷ fin 7 cond.Normal ∷ bytes_put 2 0 (codes "beta") ∷ status 2 1 cond.Normal 4 1 ∷ flag 2 1 true ∷ fin 6 cond.Normal ∷ status 1 1 cond.Normal 4 0 ∷ flag 1 1 true ∷ []) ∷
+       (flag 2 1 false ∷ cleared_status 2 1 ∷ opens 7 opened.Bio 2 None 80 ∷ mget (codes "BOX") 6 7 ∷ fin 7
+         cond.Normal ∷ bytes_put 2 0 (codes "beta") ∷ status 2 1 cond.Normal 4 1 ∷ flag 2 1 true ∷ fin 6 cond.Normal ∷
+         status 1 1 cond.Normal 4 0 ∷ flag 1 1 true ∷ []) ∷
   waits 2 (call service.QioW (request 2 (value 2) func.Write 2 no_routine 0 0 512 1))
        (flag 2 2 false ∷ cleared_status 2 2 ∷ opens 8 opened.Dio 2 None 0 ∷ []) ∷
   resumes 1 cond.Normal [] ∷
@@ -120,7 +130,9 @@ records =
        (flag 1 1 false ∷ cleared_status 1 1 ∷ opens 10 opened.Bio 1 None 0 ∷ mput (codes "BOX") 10 body.Eof ∷ []) ∷
   resumes 2 cond.Normal [] ∷
   runs 2 (call service.QioW (request 1 (value 1) func.Read 1 no_routine 0 0 80 0)) cond.Normal
-       (flag 2 1 false ∷ cleared_status 2 1 ∷ opens 11 opened.Bio 2 None 80 ∷ mget (codes "BOX") 10 11 ∷ fin 11 cond.EndOfFile ∷ status 2 1 cond.EndOfFile 0 1 ∷ flag 2 1 true ∷ fin 10 cond.Normal ∷ status 1 1 cond.Normal 0 0 ∷ flag 1 1 true ∷ []) ∷
+       (flag 2 1 false ∷ cleared_status 2 1 ∷ opens 11 opened.Bio 2 None 80 ∷ mget (codes "BOX") 10 11 ∷ fin 11
+         cond.EndOfFile ∷ status 2 1 cond.EndOfFile 0 1 ∷ flag 2 1 true ∷ fin 10 cond.Normal ∷ status 1 1 cond.Normal
+           0 0 ∷ flag 1 1 true ∷ []) ∷
   resumes 1 cond.Normal [] ∷
   runs 2 (call service.Exit (value 1 ∷ [])) cond.Normal [] ∷
   runs 1 (call service.Exit (value 1 ∷ [])) cond.Normal [] ∷
@@ -137,3 +149,7 @@ producer_seeded-end = refl
 -- the exit codes
 pub producer_seeded-codes : exit_codes script records ≡ 1 ∷ 1 ∷ []
 producer_seeded-codes = refl
+
+-- the lines that the units were given
+pub producer_seeded-outputs : outputs script records ≡ [] ∷ [] ∷ []
+producer_seeded-outputs = refl

@@ -1,5 +1,5 @@
--- Timers: cancelled by identification, fired by due time and id, and not cancelled from a mode further out; one of an inner
--- mode ends with the process.
+-- Timers: cancelled by identification, fired by due time and id, and not cancelled from a mode further out; one of an
+-- inner mode ends with the process.
 use Rattle.std.specs.Prelude.{◌≡◌, refl, List, [], ◌∷◌, true, false, codes, Some, None}
 use Rattle.vx_base.specs.declared.cond.Cond.TheVariants as cond
 use Rattle.vx_base.specs.declared.effects.Opened.TheVariants as opened

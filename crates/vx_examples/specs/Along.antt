@@ -1,6 +1,7 @@
 -- Runs along given events, where these are not those that a seed chooses.
 use Rattle.std.specs.Prelude.{ℕ, List, [], ◌∷◌, Bool, true, false, ◌&&◌, ◌==◌, map}
 use Rattle.std.specs.List.{list_any}
+use Rattle.vx_base.specs.Pieces.{Contents, Lines, Blocks}
 use Rattle.vx_base.specs.declared.record.Event.{Event}
 use Rattle.vx_base.specs.declared.record.Event.TheVariants as event
 use Rattle.vx_base.specs.declared.record.Rec.{Rec}
@@ -31,3 +32,11 @@ are_enabled s (e ∷ es) = list_any (is_event e) (enabled s) && are_enabled (ste
 -- the exit codes of the processes after records
 abbrev pub exit_codes : System → List Rec → List ℕ
 exit_codes system recs = map (λ pr. pr.code) (after system recs).procs
+
+abbrev pub written_to : Contents → List (List ℕ)
+written_to (Lines inputs outputs) = outputs
+written_to (Blocks bytes) = []
+
+-- the lines that each unit was given, after records
+abbrev pub outputs : System → List Rec → List (List (List ℕ))
+outputs system recs = map (λ u. written_to u.contents) (after system recs).units

@@ -130,7 +130,8 @@ both = with_both somebody somebody
 
 -- a cluster of group 1, with its flags
 abbrev pub cluster : List ℕ → Bool → Bool → ℕ → Cluster
-cluster name permanent marked flags = record { group = 1; name = name; permanent = permanent; marked = marked; flags = flags }
+cluster name permanent marked flags = record
+  { group = 1; name = name; permanent = permanent; marked = marked; flags = flags }
 
 abbrev pub association : ℕ → ℕ → List ℕ → Association
 association p k name = record { p = process p; k = k; group = 1; name = name }
@@ -149,13 +150,15 @@ on_box b mode = record { device = device.Mailbox (box b); mode = mode }
 
 -- a temporary mailbox for messages of at most 3 bytes, and 5 bytes together
 abbrev pub box_holding : List Msg → Mailbox
-box_holding messages = record { name = codes "BOX"; permanent = false; marked = false; maxmsg = 3; bufquo = 5; messages = messages }
+box_holding messages = record { name = codes "BOX"; permanent = false; marked = false; maxmsg = 3; bufquo = 5;
+  messages = messages }
 
 -- Calls.
 
 -- a call of process 1 is answered with a condition, these effects and this state
 abbrev pub Answers : State → Call → Cond → List Effect → State → Type 0
-Answers s c cond effects after = service s (process 1) c ≡ record { answer = Answered cond; effects = effects; after = after }
+Answers s c cond effects after = service s (process 1) c ≡ record
+  { answer = Answered cond; effects = effects; after = after }
 
 -- it is refused: nothing is logged, and nothing is changed
 abbrev pub Refuses : State → Call → Cond → Type 0
@@ -171,7 +174,8 @@ Comes s c cond = (service s (process 1) c).answer ≡ Answered cond
 
 -- Requests.
 
--- an outstanding request of process 1 on channel 1: event flag 1, status block 1, buffer 1, 3 bytes, block 0, and no AST
+-- an outstanding request of process 1 on channel 1: event flag 1, status block 1, buffer 1, 3 bytes, block 0, and no
+-- AST
 abbrev pub outstanding : ℕ → Device → Func → Request
 outstanding n dev func = record {
   req = record {
@@ -216,4 +220,5 @@ filled cond count info = record { cond = Some cond; count = count; info = info }
 
 -- process 1, connected, with a store
 abbrev pub connected_with : List (List ℕ) → List Status → Process
-connected_with buffers statuses = record connected { store = record small_store { buffers = buffers; statuses = statuses } }
+connected_with buffers statuses = record connected
+  { store = record small_store { buffers = buffers; statuses = statuses } }
