@@ -46,28 +46,36 @@ abbrev of_other : Request → Request
 of_other r = record r { req = record r.req { p = process 2 } }
 
 abbrev asks : ℕ → Attention
-asks p = record { id = id 1; p = process p; chan = 3; box = box 0; func = func.WrtAttn; mode = mode.User;
-  tag = entry.Label 0 0 }
+asks p = record {
+  id = id 1;
+  p = process p;
+  chan = 3;
+  box = box 0;
+  func = func.WrtAttn;
+  mode = mode.User;
+  tag = entry.Label 0 0;
+}
 
 abbrev later : ℕ → Alarm → Timer
 later p what = record { id = id 1; p = process p; due = 200; what = what }
 
 abbrev queued_ones : List Queued
 queued_ones =
-  record { id = id 1; mode = mode.User; tag = entry.Label 0 0; charged = true } ∷
-  record { id = id 1; mode = mode.User; tag = entry.Exit 5; charged = false } ∷
-  []
+    record { id = id 1; mode = mode.User; tag = entry.Label 0 0; charged = true } ∷
+    record { id = id 1; mode = mode.User; tag = entry.Exit 5; charged = false } ∷
+    []
 
 abbrev busy : State
 busy = record (with_both (record somebody { asts = queued_ones }) (record somebody { asts = queued_ones })) {
   requests =
-    mine (outstanding 1 line_unit func.Read) ∷ outstanding 1 in_box func.Eof ∷ outstanding 1 block_unit func.Read ∷
-    of_other (mine (outstanding 1 line_unit func.Read)) ∷ [];
+      mine (outstanding 1 line_unit func.Read) ∷ outstanding 1 in_box func.Eof ∷ outstanding 1 block_unit
+      func.Read ∷
+      of_other (mine (outstanding 1 line_unit func.Read)) ∷ [];
   attention = asks 1 ∷ asks 2 ∷ [];
   timers =
-    later 1 (OfTimer 1 0 mode.User (Some (entry.Label 0 0))) ∷ later 1 (OfTimer 1 0 mode.User None) ∷ later 1
+      later 1 (OfTimer 1 0 mode.User (Some (entry.Label 0 0))) ∷ later 1 (OfTimer 1 0 mode.User None) ∷ later 1
       (OfWake (process 2) 0) ∷
-    later 2 (OfWake (process 1) 5) ∷ [];
+      later 2 (OfWake (process 1) 5) ∷ [];
 }
 
 pub charged-mine : charge busy (process 1) ≡ record { ast = 5; bio = 2; dio = 1; byt = 3; tqe = 2 }

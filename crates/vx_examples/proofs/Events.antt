@@ -31,22 +31,26 @@ pub enabled-processes : enabled both ≡ event.Run (process 1) ∷ event.Run (pr
 enabled-processes = refl
 
 abbrev with_ast : Process → Process
-with_ast pr = record pr { asts = record { id = id 4; mode = mode.User; tag = entry.Label 0 9; charged = true } ∷ [] }
+with_ast pr = record pr {
+  asts = record { id = id 4; mode = mode.User; tag = entry.Label 0 9; charged = true } ∷
+      [];
+}
 
 -- an AST that may start comes before what the process would run, also where it waits
 pub enabled-ast :
-  enabled (with_both (with_ast (waiting wait.Hiber)) (with_ast somebody)) ≡ event.Ast (process 1) ∷ event.Ast
+    enabled (with_both (with_ast (waiting wait.Hiber)) (with_ast somebody)) ≡ event.Ast (process 1) ∷ event.Ast
     (process 2) ∷ []
 enabled-ast = refl
 
 -- one that may not start leaves the process to run
 pub enabled-ast_disabled :
-  enabled (with (record (with_ast somebody) { enables = record all_on { user = false } })) ≡ event.Run (process 1) ∷ []
+    enabled (with (record (with_ast somebody) { enables = record all_on { user = false } })) ≡ event.Run
+    (process 1) ∷ []
 enabled-ast_disabled = refl
 
 -- a suspended process gives nothing: to run, an AST, to be run down
 pub enabled-suspended :
-  enabled (with_both (record (with_ast somebody) { suspended = true })
+    enabled (with_both (record (with_ast somebody) { suspended = true })
     (record somebody { suspended = true; frames = []; phase = phase.Handlers mode.User })) ≡ []
 enabled-suspended = refl
 
@@ -54,7 +58,7 @@ pub enabled-waiting : enabled (with_both (waiting wait.Hiber) (waiting (wait.Fla
 enabled-waiting = refl
 
 pub enabled-satisfied :
-  enabled (with_both (record (waiting wait.Hiber) { wake = true })
+    enabled (with_both (record (waiting wait.Hiber) { wake = true })
     (record (waiting (wait.Flags 5 32 false)) { low = 32 })) ≡ event.Run (process 1) ∷ event.Run (process 2) ∷ []
 enabled-satisfied = refl
 
@@ -68,7 +72,7 @@ abbrev leaving : Phase → Process
 leaving ph = record somebody { frames = []; phase = ph }
 
 pub enabled-rundown :
-  enabled (with_both (leaving (phase.Handlers mode.User)) (leaving (phase.Draining mode.Kernel))) ≡ event.Rdn
+    enabled (with_both (leaving (phase.Handlers mode.User)) (leaving (phase.Draining mode.Kernel))) ≡ event.Rdn
     (process 1) ∷ event.Rdn (process 2) ∷ []
 enabled-rundown = refl
 
@@ -78,30 +82,30 @@ enabled-deleted = refl
 -- a request of user mode is served at the line unit, and another is queued there; one is queued at the block unit
 abbrev requests : List Request
 requests = record (outstanding 1 line_unit func.Read) { served = true } ∷ outstanding 2 line_unit func.Read ∷
-  outstanding 3 block_unit func.Read ∷ []
+    outstanding 3 block_unit func.Read ∷ []
 
 pub enabled-draining :
-  enabled (record (with (leaving (phase.Draining mode.User))) { requests = requests }) ≡ event.Don (unit 0) ∷
-  event.Beg (unit 1) ∷ []
+    enabled (record (with (leaving (phase.Draining mode.User))) { requests = requests }) ≡ event.Don (unit 0) ∷
+    event.Beg (unit 1) ∷ []
 enabled-draining = refl
 
 -- its handlers are not kept back by requests, nor is the draining of an inner mode
 pub enabled-handlers :
-  enabled (record (with (leaving (phase.Handlers mode.User))) { requests = requests }) ≡ event.Rdn (process 1) ∷
-  event.Don (unit 0) ∷ event.Beg (unit 1) ∷ []
+    enabled (record (with (leaving (phase.Handlers mode.User))) { requests = requests }) ≡ event.Rdn (process 1) ∷
+    event.Don (unit 0) ∷ event.Beg (unit 1) ∷ []
 enabled-handlers = refl
 
 abbrev of_inner_mode : Request
 of_inner_mode = record (outstanding 1 line_unit func.Read)
-  { req = record ((outstanding 1 line_unit func.Read).req) { chan_mode = mode.Super } }
+    { req = record ((outstanding 1 line_unit func.Read).req) { chan_mode = mode.Super } }
 
 pub enabled-inner :
-  enabled (record (with (leaving (phase.Draining mode.User))) { requests = of_inner_mode ∷ [] }) ≡ event.Rdn
+    enabled (record (with (leaving (phase.Draining mode.User))) { requests = of_inner_mode ∷ [] }) ≡ event.Rdn
     (process 1) ∷ event.Beg (unit 0) ∷ []
 enabled-inner = refl
 
 pub enabled-same_mode :
-  enabled (record (with (leaving (phase.Draining mode.Super))) { requests = of_inner_mode ∷ [] }) ≡ event.Beg
+    enabled (record (with (leaving (phase.Draining mode.Super))) { requests = of_inner_mode ∷ [] }) ≡ event.Beg
     (unit 0) ∷ []
 enabled-same_mode = refl
 
@@ -110,7 +114,7 @@ abbrev timers : List Timer
 timers = record { id = id 5; p = process 1; due = 200; what = OfTimer 1 0 mode.User None } ∷ []
 
 pub enabled-all : enabled (record both { requests = requests; timers = timers }) ≡
-  event.Run (process 1) ∷ event.Run (process 2) ∷ event.Don (unit 0) ∷ event.Beg (unit 1) ∷ event.Tick ∷ []
+    event.Run (process 1) ∷ event.Run (process 2) ∷ event.Don (unit 0) ∷ event.Beg (unit 1) ∷ event.Tick ∷ []
 enabled-all = refl
 
 -- RUN with a wait only ends it: R0 takes the condition.
@@ -119,11 +123,11 @@ abbrev with_r0 : ℕ → Process → Process
 with_r0 n pr = record pr { store = record small_store { r0 = n } }
 
 pub resume-flags :
-  step (with (record (waiting (wait.Flags 5 32 false)) { low = 32 })) (event.Run (process 1)) ≡ record {
-  answer = answer.Resume cond.Normal;
-  effects = [];
-  after = with (with_r0 1 (record somebody { low = 32 }));
-}
+    step (with (record (waiting (wait.Flags 5 32 false)) { low = 32 })) (event.Run (process 1)) ≡ record {
+      answer = answer.Resume cond.Normal;
+      effects = [];
+      after = with (with_r0 1 (record somebody { low = 32 }));
+    }
 resume-flags = refl
 
 pub resume-unnamed : step (with (waiting (wait.Flags 64 1 true))) (event.Run (process 1)) ≡ record {
@@ -143,11 +147,12 @@ resume-hiber = refl
 
 -- and by no other wait
 pub resume-flags_wake :
-  step (with (record (waiting (wait.Flags 5 32 false)) { low = 32; wake = true })) (event.Run (process 1)) ≡ record {
-  answer = answer.Resume cond.Normal;
-  effects = [];
-  after = with (with_r0 1 (record somebody { low = 32; wake = true }));
-}
+    step (with (record (waiting (wait.Flags 5 32 false)) { low = 32; wake = true })) (event.Run (process 1)) ≡
+    record {
+      answer = answer.Resume cond.Normal;
+      effects = [];
+      after = with (with_r0 1 (record somebody { low = 32; wake = true }));
+    }
 resume-flags_wake = refl
 
 -- RUN of a service: local statements first, with the values of its call computed; the place is behind it; R0 takes the
@@ -161,13 +166,13 @@ at_place n pr = record pr { frames = record (frame_of kind.Main mode.User) { pc 
 
 abbrev sets_flag : List Stmt
 sets_flag = stmt.Let (target.Var 65) (operand.Num 3) ∷ stmt.Add (target.Var 66) (operand.Var 65) operand.Pid ∷ calls
-  service.SetEf (held_in (codes "B") ∷ []) ∷ []
+    service.SetEf (held_in (codes "B") ∷ []) ∷ []
 
 pub run-service : step (running sets_flag (with (with_r0 9 somebody))) (event.Run (process 1)) ≡ record {
   answer = answer.Service (call service.SetEf (value 4 ∷ [])) cond.WasClr;
   effects = flag 1 4 true ∷ [];
   after = running sets_flag (with
-    (at_place 3 (record somebody { low = 16; store = record small_store { vars = 3 ∷ 4 ∷ []; r0 = 1 } })));
+      (at_place 3 (record somebody { low = 16; store = record small_store { vars = 3 ∷ 4 ∷ []; r0 = 1 } })));
 }
 run-service = refl
 
@@ -201,7 +206,7 @@ pub run-waits : step (running hibernates (with (with_r0 9 somebody))) (event.Run
   answer = answer.Wait (call service.Hiber []);
   effects = [];
   after = running hibernates (with
-    (with_r0 9 (record somebody
+      (with_r0 9 (record somebody
       { frames = record (frame_of kind.Main mode.User) { pc = 1; wait = Some wait.Hiber } ∷ [] })));
 }
 run-waits = refl
@@ -213,14 +218,15 @@ changes_mode = calls service.CmExec (routine (codes "H") ∷ value 9 ∷ []) ∷
 abbrev may_exec : Process → Process
 may_exec pr = record pr { privs = record no_privs { cmexec = true } }
 
-pub run-cmexec : step (running changes_mode (with (with_r0 9 (may_exec somebody)))) (event.Run (process 1)) ≡ record {
-  answer = answer.Service (call service.CmExec (routine (codes "H") ∷ value 9 ∷ [])) cond.Normal;
-  effects = [];
-  after = running changes_mode (with (with_r0 1 (may_exec (record somebody {
-    frames = record (frame_of kind.Change mode.Exec) { pc = 2; prm = 9 } ∷ record (frame_of kind.Main mode.User)
-      { pc = 1 } ∷ [];
-  }))));
-}
+pub run-cmexec :
+    step (running changes_mode (with (with_r0 9 (may_exec somebody)))) (event.Run (process 1)) ≡ record {
+      answer = answer.Service (call service.CmExec (routine (codes "H") ∷ value 9 ∷ [])) cond.Normal;
+      effects = [];
+      after = running changes_mode (with (with_r0 1 (may_exec (record somebody {
+        frames = record (frame_of kind.Change mode.Exec) { pc = 2; prm = 9 } ∷ record (frame_of kind.Main mode.User)
+            { pc = 1 } ∷ [];
+      }))));
+    }
 run-cmexec = refl
 
 -- a process that is deleted by its own call has no frame: R0 is set all the same
@@ -231,7 +237,7 @@ pub run-delprc : step (running deletes_itself alone) (event.Run (process 1)) ≡
   answer = answer.Service (call service.DelPrc (value 0 ∷ [])) cond.Normal;
   effects = [];
   after = running deletes_itself (with
-    (with_r0 1 (record somebody { frames = []; named = true; phase = phase.Handlers mode.User })));
+      (with_r0 1 (record somebody { frames = []; named = true; phase = phase.Handlers mode.User })));
 }
 run-delprc = refl
 
@@ -260,21 +266,21 @@ return-ast_end = refl
 
 -- of a routine in another mode, and of an exit handler: R0 stays
 pub return-change :
-  step (with (with_r0 5 (above (frame_of kind.Change mode.Exec) somebody))) (event.Run (process 1)) ≡ record {
-  answer = answer.Return;
-  effects = [];
-  after = with (with_r0 5 somebody);
-}
+    step (with (with_r0 5 (above (frame_of kind.Change mode.Exec) somebody))) (event.Run (process 1)) ≡ record {
+      answer = answer.Return;
+      effects = [];
+      after = with (with_r0 5 somebody);
+    }
 return-change = refl
 
 pub return-handler :
-  step (with (with_r0 5
+    step (with (with_r0 5
     (record somebody { frames = frame_of kind.Handler mode.User ∷ []; phase = phase.Handlers mode.User })))
-      (event.Run (process 1)) ≡ record {
-  answer = answer.Return;
-  effects = [];
-  after = with (with_r0 5 (record somebody { frames = []; phase = phase.Handlers mode.User }));
-}
+    (event.Run (process 1)) ≡ record {
+      answer = answer.Return;
+      effects = [];
+      after = with (with_r0 5 (record somebody { frames = []; phase = phase.Handlers mode.User }));
+    }
 return-handler = refl
 
 -- of the main frame: an exit with R0 as code
@@ -296,12 +302,13 @@ end-main = refl
 
 abbrev counts : List Stmt
 counts = stmt.Let (target.Var 66) (operand.Num 7) ∷ stmt.Add (target.Var 65) (operand.Var 65) (operand.Num 1) ∷
-  stmt.Goto 0 ∷ []
+    stmt.Goto 0 ∷ []
 
 pub run-local : step (running counts alone) (event.Run (process 1)) ≡ record {
   answer = answer.Local;
   effects = [];
-  after = running counts (with (at_place 2 (record somebody { store = record small_store { vars = 500 ∷ 7 ∷ [] } })));
+  after = running counts (with
+      (at_place 2 (record somebody { store = record small_store { vars = 500 ∷ 7 ∷ [] } })));
 }
 run-local = refl
 
@@ -310,19 +317,20 @@ pub ast-starts : step (with (with_r0 5 (with_ast (waiting wait.Hiber)))) (event.
   answer = answer.Ast (id 4);
   effects = [];
   after = with (with_r0 5
-    (above (record (frame_of (kind.Ast (id 4)) mode.User) { pc = 1; prm = 9; saved_r0 = 5 }) (waiting wait.Hiber)));
+      (above (record (frame_of (kind.Ast (id 4)) mode.User) { pc = 1; prm = 9; saved_r0 = 5 })
+      (waiting wait.Hiber)));
 }
 ast-starts = refl
 
 -- a forced exit: its own id is left, and then it exits; R0 stays
 pub ast-forced :
-  step (with (with_r0 5
+    step (with (with_r0 5
     (record somebody { asts = record { id = id 4; mode = mode.User; tag = entry.Exit 44; charged = false } ∷ [] })))
-      (event.Ast (process 1)) ≡ record {
-  answer = answer.Ast (id 4);
-  effects = leaves 4 ∷ [];
-  after = with (with_r0 5 (record somebody { frames = []; code = 44; phase = phase.Handlers mode.User }));
-}
+    (event.Ast (process 1)) ≡ record {
+      answer = answer.Ast (id 4);
+      effects = leaves 4 ∷ [];
+      after = with (with_r0 5 (record somebody { frames = []; code = 44; phase = phase.Handlers mode.User }));
+    }
 ast-forced = refl
 
 -- The end of a run.

@@ -12,24 +12,25 @@ use Rattle.vx_record.specs.State.{Process}
 -- $SETEF: the answer says how the flag was.
 
 pub setef-clear :
-  Answers alone (call service.SetEf (value 5 ∷ [])) cond.WasClr (flag 1 5 true ∷ [])
+    Answers alone (call service.SetEf (value 5 ∷ [])) cond.WasClr (flag 1 5 true ∷ [])
     (with (record somebody { low = 32 }))
 setef-clear = refl
 
 pub setef-set :
-  Answers (with (record somebody { low = 33 })) (call service.SetEf (value 5 ∷ [])) cond.WasSet (flag 1 5 true ∷ [])
+    Answers (with (record somebody { low = 33 })) (call service.SetEf (value 5 ∷ [])) cond.WasSet
+    (flag 1 5 true ∷ [])
     (with (record somebody { low = 33 }))
 setef-set = refl
 
 -- flag 63 is the last of the process's second word
 pub setef-63 :
-  Answers alone (call service.SetEf (value 63 ∷ [])) cond.WasClr (flag 1 63 true ∷ [])
+    Answers alone (call service.SetEf (value 63 ∷ [])) cond.WasClr (flag 1 63 true ∷ [])
     (with (record somebody { high = 2147483648 }))
 setef-63 = refl
 
 -- a common flag: 70 is flag 6 of the cluster that is associated as 2
 pub setef-common :
-  Answers (sharing alone (cluster (codes "C") false false 1 ∷ []) (association 1 2 (codes "C") ∷ []))
+    Answers (sharing alone (cluster (codes "C") false false 1 ∷ []) (association 1 2 (codes "C") ∷ []))
     (call service.SetEf (value 70 ∷ [])) cond.WasClr
     (common_flag 1 (codes "C") 6 true ∷ [])
     (sharing alone (cluster (codes "C") false false 65 ∷ []) (association 1 2 (codes "C") ∷ []))
@@ -43,19 +44,20 @@ setef-unnamed = refl
 
 -- the cluster is another process's, or is associated as 3
 pub setef-other :
-  Refuses (sharing both (cluster (codes "C") false false 0 ∷ []) (association 2 2 (codes "C") ∷ []))
+    Refuses (sharing both (cluster (codes "C") false false 0 ∷ []) (association 2 2 (codes "C") ∷ []))
     (call service.SetEf (value 95 ∷ [])) cond.UnasEfc
 setef-other = refl
 
 pub setef-other_number :
-  Refuses (sharing alone (cluster (codes "C") false false 0 ∷ []) (association 1 3 (codes "C") ∷ []))
+    Refuses (sharing alone (cluster (codes "C") false false 0 ∷ []) (association 1 3 (codes "C") ∷ []))
     (call service.SetEf (value 95 ∷ [])) cond.UnasEfc
 setef-other_number = refl
 
 -- $CLREF
 
 pub clref-set :
-  Answers (with (record somebody { low = 33 })) (call service.ClrEf (value 5 ∷ [])) cond.WasSet (flag 1 5 false ∷ [])
+    Answers (with (record somebody { low = 33 })) (call service.ClrEf (value 5 ∷ [])) cond.WasSet
+    (flag 1 5 false ∷ [])
     (with (record somebody { low = 1 }))
 clref-set = refl
 
@@ -71,17 +73,18 @@ clref-unnamed = refl
 -- $READEF: the 32 flags of the cluster
 
 pub readef-own :
-  Answers (with (record somebody { low = 33; high = 6 })) (call service.ReadEf (value 33 ∷ variable (codes "B") ∷ []))
+    Answers (with (record somebody { low = 33; high = 6 }))
+    (call service.ReadEf (value 33 ∷ variable (codes "B") ∷ []))
     cond.WasSet (puts 1 (codes "B") 6 ∷ [])
     (with (record somebody { low = 33; high = 6; store = record small_store { vars = 0 ∷ 6 ∷ [] } }))
 readef-own = refl
 
 pub readef-common :
-  Answers (sharing alone (cluster (codes "C") false false 65 ∷ []) (association 1 3 (codes "C") ∷ []))
+    Answers (sharing alone (cluster (codes "C") false false 65 ∷ []) (association 1 3 (codes "C") ∷ []))
     (call service.ReadEf (value 97 ∷ in_r0 ∷ [])) cond.WasClr
     (puts_r0 1 65 ∷ [])
     (sharing (with (record somebody { store = record small_store { r0 = 65 } }))
-      (cluster (codes "C") false false 65 ∷ []) (association 1 3 (codes "C") ∷ []))
+    (cluster (codes "C") false false 65 ∷ []) (association 1 3 (codes "C") ∷ []))
 readef-common = refl
 
 pub readef-above : Refuses alone (call service.ReadEf (value 128 ∷ in_r0 ∷ [])) cond.IllEfc
@@ -93,12 +96,12 @@ readef-unnamed = refl
 -- $WAITFR: one flag
 
 pub waitfr-set :
-  Answers (with (record somebody { low = 32 })) (call service.WaitFr (value 5 ∷ [])) cond.Normal []
+    Answers (with (record somebody { low = 32 })) (call service.WaitFr (value 5 ∷ [])) cond.Normal []
     (with (record somebody { low = 32 }))
 waitfr-set = refl
 
 pub waitfr-clear :
-  Suspends (with (record somebody { low = 223 })) (call service.WaitFr (value 5 ∷ [])) []
+    Suspends (with (record somebody { low = 223 })) (call service.WaitFr (value 5 ∷ [])) []
     (with (record (waiting (wait.Flags 5 32 false)) { low = 223 }))
 waitfr-clear = refl
 
@@ -111,12 +114,12 @@ waitfr-unnamed = refl
 -- $WFLOR: any flag of a mask
 
 pub wflor-one :
-  Answers (with (record somebody { high = 2 })) (call service.WflOr (value 40 ∷ value 3 ∷ [])) cond.Normal []
+    Answers (with (record somebody { high = 2 })) (call service.WflOr (value 40 ∷ value 3 ∷ [])) cond.Normal []
     (with (record somebody { high = 2 }))
 wflor-one = refl
 
 pub wflor-none :
-  Suspends (with (record somebody { low = 3; high = 4 })) (call service.WflOr (value 40 ∷ value 3 ∷ [])) []
+    Suspends (with (record somebody { low = 3; high = 4 })) (call service.WflOr (value 40 ∷ value 3 ∷ [])) []
     (with (record (waiting (wait.Flags 40 3 false)) { low = 3; high = 4 }))
 wflor-none = refl
 
@@ -129,12 +132,12 @@ wflor-unnamed = refl
 -- $WFLAND: all flags of a mask
 
 pub wfland-all :
-  Answers (with (record somebody { low = 7 })) (call service.WflAnd (value 31 ∷ value 3 ∷ [])) cond.Normal []
+    Answers (with (record somebody { low = 7 })) (call service.WflAnd (value 31 ∷ value 3 ∷ [])) cond.Normal []
     (with (record somebody { low = 7 }))
 wfland-all = refl
 
 pub wfland-one :
-  Suspends (with (record somebody { low = 5 })) (call service.WflAnd (value 31 ∷ value 3 ∷ [])) []
+    Suspends (with (record somebody { low = 5 })) (call service.WflAnd (value 31 ∷ value 3 ∷ [])) []
     (with (record (waiting (wait.Flags 31 3 true)) { low = 5 }))
 wfland-one = refl
 
@@ -147,13 +150,14 @@ wfland-unnamed = refl
 -- When a wait ends, and with which condition.
 
 pub satisfied-set :
-  satisfied (with (record somebody { low = 32 })) (process 1) (wait.Flags 5 32 false) ≡ Some cond.Normal
+    satisfied (with (record somebody { low = 32 })) (process 1) (wait.Flags 5 32 false) ≡ Some cond.Normal
 satisfied-set = refl
 
 pub satisfied-clear : satisfied alone (process 1) (wait.Flags 5 32 false) ≡ None
 satisfied-clear = refl
 
-pub satisfied-all : satisfied (with (record somebody { low = 3 })) (process 1) (wait.Flags 5 3 true) ≡ Some cond.Normal
+pub satisfied-all :
+    satisfied (with (record somebody { low = 3 })) (process 1) (wait.Flags 5 3 true) ≡ Some cond.Normal
 satisfied-all = refl
 
 pub satisfied-not_all : satisfied (with (record somebody { low = 2 })) (process 1) (wait.Flags 5 3 true) ≡ None
@@ -167,7 +171,8 @@ pub synchronized-unnamed : satisfied alone (process 1) (wait.Synch 64 1) ≡ Som
 synchronized-unnamed = refl
 
 -- a flag alone, where no status block is named
-pub synchronized-flag : satisfied (with (record somebody { low = 32 })) (process 1) (wait.Synch 5 0) ≡ Some cond.Normal
+pub synchronized-flag :
+    satisfied (with (record somebody { low = 32 })) (process 1) (wait.Synch 5 0) ≡ Some cond.Normal
 synchronized-flag = refl
 
 pub synchronized-clear : satisfied alone (process 1) (wait.Synch 5 0) ≡ None
@@ -178,10 +183,13 @@ pub synchronized-status : satisfied (with (record somebody { low = 32 })) (proce
 synchronized-status = refl
 
 abbrev filled : Process
-filled = record somebody { store = record small_store
-  { statuses = cleared ∷ record { cond = Some cond.Abort; count = 0; info = 0 } ∷ [] } }
+filled = record somebody {
+  store = record small_store
+      { statuses = cleared ∷ record { cond = Some cond.Abort; count = 0; info = 0 } ∷ [] };
+}
 
-pub synchronized-both : satisfied (with (record filled { low = 32 })) (process 1) (wait.Synch 5 2) ≡ Some cond.Normal
+pub synchronized-both :
+    satisfied (with (record filled { low = 32 })) (process 1) (wait.Synch 5 2) ≡ Some cond.Normal
 synchronized-both = refl
 
 -- the status block is filled, and the flag is clear

@@ -15,8 +15,8 @@ image_main = record {
   name = codes "MAIN";
   labels = [];
   stmts =
-    calls service.WflAnd (value 1 ∷ value 0 ∷ []) ∷
-    [];
+      calls service.WflAnd (value 1 ∷ value 0 ∷ []) ∷
+      [];
 }
 
 abbrev pub script : System
@@ -29,10 +29,10 @@ script = record {
 -- its records
 abbrev pub records : List Rec
 records =
-  runs 1 (call service.WflAnd (value 1 ∷ value 0 ∷ [])) cond.Normal [] ∷
-  ends 1 [] ∷
-  is_gone 1 (gone 1 ∷ []) ∷
-  []
+    runs 1 (call service.WflAnd (value 1 ∷ value 0 ∷ [])) cond.Normal [] ∷
+    ends 1 [] ∷
+    is_gone 1 (gone 1 ∷ []) ∷
+    []
 
 pub all_of_no_flags : chosen script 0 10000 ≡ records
 all_of_no_flags = refl

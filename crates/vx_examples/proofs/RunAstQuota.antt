@@ -18,15 +18,15 @@ image_main = record {
   name = codes "MAIN";
   labels = record { name = codes "T"; place = 5 } ∷ record { name = codes "V"; place = 7 } ∷ [];
   stmts =
-    calls service.SetAst (value 0 ∷ []) ∷
-    calls service.DclAst (routine (codes "T") ∷ value 0 ∷ in_mode mode.Kernel ∷ []) ∷
-    calls service.DclAst (routine (codes "T") ∷ value 0 ∷ in_mode mode.Kernel ∷ []) ∷
-    calls service.SetAst (value 1 ∷ []) ∷
-    calls service.Exit (value 1 ∷ []) ∷
-    calls service.DclAst (routine (codes "V") ∷ value 0 ∷ in_mode mode.Kernel ∷ []) ∷
-    stmt.Return ∷
-    stmt.Return ∷
-    [];
+      calls service.SetAst (value 0 ∷ []) ∷
+      calls service.DclAst (routine (codes "T") ∷ value 0 ∷ in_mode mode.Kernel ∷ []) ∷
+      calls service.DclAst (routine (codes "T") ∷ value 0 ∷ in_mode mode.Kernel ∷ []) ∷
+      calls service.SetAst (value 1 ∷ []) ∷
+      calls service.Exit (value 1 ∷ []) ∷
+      calls service.DclAst (routine (codes "V") ∷ value 0 ∷ in_mode mode.Kernel ∷ []) ∷
+      stmt.Return ∷
+      stmt.Return ∷
+      [];
 }
 
 abbrev pub script : System
@@ -39,20 +39,20 @@ script = record {
 -- its records
 abbrev pub records : List Rec
 records =
-  runs 1 (call service.SetAst (value 0 ∷ [])) cond.WasSet (enb 1 mode.User false ∷ []) ∷
-  runs 1 (call service.DclAst (routine (codes "T") ∷ value 0 ∷ in_mode mode.Kernel ∷ [])) cond.Normal
-       (opens 1 opened.Ast 1 (Some mode.User) 0 ∷ que 1 ∷ []) ∷
-  runs 1 (call service.DclAst (routine (codes "T") ∷ value 0 ∷ in_mode mode.Kernel ∷ [])) cond.ExQuota [] ∷
-  runs 1 (call service.SetAst (value 1 ∷ [])) cond.WasClr (enb 1 mode.User true ∷ []) ∷
-  starts 1 1 [] ∷
-  runs 1 (call service.DclAst (routine (codes "V") ∷ value 0 ∷ in_mode mode.Kernel ∷ [])) cond.Normal
-       (opens 2 opened.Ast 1 (Some mode.User) 0 ∷ que 2 ∷ []) ∷
-  returns 1 (leaves 1 ∷ []) ∷
-  starts 1 2 [] ∷
-  returns 1 (leaves 2 ∷ []) ∷
-  runs 1 (call service.Exit (value 1 ∷ [])) cond.Normal [] ∷
-  is_gone 1 (gone 1 ∷ []) ∷
-  []
+    runs 1 (call service.SetAst (value 0 ∷ [])) cond.WasSet (enb 1 mode.User false ∷ []) ∷
+    runs 1 (call service.DclAst (routine (codes "T") ∷ value 0 ∷ in_mode mode.Kernel ∷ [])) cond.Normal
+    (opens 1 opened.Ast 1 (Some mode.User) 0 ∷ que 1 ∷ []) ∷
+    runs 1 (call service.DclAst (routine (codes "T") ∷ value 0 ∷ in_mode mode.Kernel ∷ [])) cond.ExQuota [] ∷
+    runs 1 (call service.SetAst (value 1 ∷ [])) cond.WasClr (enb 1 mode.User true ∷ []) ∷
+    starts 1 1 [] ∷
+    runs 1 (call service.DclAst (routine (codes "V") ∷ value 0 ∷ in_mode mode.Kernel ∷ [])) cond.Normal
+    (opens 2 opened.Ast 1 (Some mode.User) 0 ∷ que 2 ∷ []) ∷
+    returns 1 (leaves 1 ∷ []) ∷
+    starts 1 2 [] ∷
+    returns 1 (leaves 2 ∷ []) ∷
+    runs 1 (call service.Exit (value 1 ∷ [])) cond.Normal [] ∷
+    is_gone 1 (gone 1 ∷ []) ∷
+    []
 
 pub ast_quota : chosen script 0 10000 ≡ records
 ast_quota = refl

@@ -17,22 +17,22 @@ abbrev image_main : Image
 image_main = record {
   name = codes "MAIN";
   labels =
-    record { name = codes "U1"; place = 2 } ∷
-    record { name = codes "X"; place = 4 } ∷
-    record { name = codes "U2"; place = 7 } ∷
-    record { name = codes "E"; place = 8 } ∷
-    [];
+      record { name = codes "U1"; place = 2 } ∷
+      record { name = codes "X"; place = 4 } ∷
+      record { name = codes "U2"; place = 7 } ∷
+      record { name = codes "E"; place = 8 } ∷
+      [];
   stmts =
-    calls service.DclAst (routine (codes "U1") ∷ value 0 ∷ in_mode mode.Kernel ∷ []) ∷
-    calls service.Exit (value 1 ∷ []) ∷
-    calls service.CmExec (routine (codes "X") ∷ value 0 ∷ []) ∷
-    stmt.Return ∷
-    calls service.DclAst (routine (codes "U2") ∷ value 0 ∷ in_mode mode.User ∷ []) ∷
-    calls service.DclAst (routine (codes "E") ∷ value 0 ∷ in_mode mode.Kernel ∷ []) ∷
-    stmt.Return ∷
-    stmt.Return ∷
-    stmt.Return ∷
-    [];
+      calls service.DclAst (routine (codes "U1") ∷ value 0 ∷ in_mode mode.Kernel ∷ []) ∷
+      calls service.Exit (value 1 ∷ []) ∷
+      calls service.CmExec (routine (codes "X") ∷ value 0 ∷ []) ∷
+      stmt.Return ∷
+      calls service.DclAst (routine (codes "U2") ∷ value 0 ∷ in_mode mode.User ∷ []) ∷
+      calls service.DclAst (routine (codes "E") ∷ value 0 ∷ in_mode mode.Kernel ∷ []) ∷
+      stmt.Return ∷
+      stmt.Return ∷
+      stmt.Return ∷
+      [];
 }
 
 abbrev pub script : System
@@ -45,23 +45,23 @@ script = record {
 -- its records
 abbrev pub records : List Rec
 records =
-  runs 1 (call service.DclAst (routine (codes "U1") ∷ value 0 ∷ in_mode mode.Kernel ∷ [])) cond.Normal
-       (opens 1 opened.Ast 1 (Some mode.User) 0 ∷ que 1 ∷ []) ∷
-  starts 1 1 [] ∷
-  runs 1 (call service.CmExec (routine (codes "X") ∷ value 0 ∷ [])) cond.Normal [] ∷
-  runs 1 (call service.DclAst (routine (codes "U2") ∷ value 0 ∷ in_mode mode.User ∷ [])) cond.Normal
-       (opens 2 opened.Ast 1 (Some mode.User) 0 ∷ que 2 ∷ []) ∷
-  runs 1 (call service.DclAst (routine (codes "E") ∷ value 0 ∷ in_mode mode.Kernel ∷ [])) cond.Normal
-       (opens 3 opened.Ast 1 (Some mode.Exec) 0 ∷ que 3 ∷ []) ∷
-  starts 1 3 [] ∷
-  returns 1 (leaves 3 ∷ []) ∷
-  returns 1 [] ∷
-  returns 1 (leaves 1 ∷ []) ∷
-  starts 1 2 [] ∷
-  returns 1 (leaves 2 ∷ []) ∷
-  runs 1 (call service.Exit (value 1 ∷ [])) cond.Normal [] ∷
-  is_gone 1 (gone 1 ∷ []) ∷
-  []
+    runs 1 (call service.DclAst (routine (codes "U1") ∷ value 0 ∷ in_mode mode.Kernel ∷ [])) cond.Normal
+    (opens 1 opened.Ast 1 (Some mode.User) 0 ∷ que 1 ∷ []) ∷
+    starts 1 1 [] ∷
+    runs 1 (call service.CmExec (routine (codes "X") ∷ value 0 ∷ [])) cond.Normal [] ∷
+    runs 1 (call service.DclAst (routine (codes "U2") ∷ value 0 ∷ in_mode mode.User ∷ [])) cond.Normal
+    (opens 2 opened.Ast 1 (Some mode.User) 0 ∷ que 2 ∷ []) ∷
+    runs 1 (call service.DclAst (routine (codes "E") ∷ value 0 ∷ in_mode mode.Kernel ∷ [])) cond.Normal
+    (opens 3 opened.Ast 1 (Some mode.Exec) 0 ∷ que 3 ∷ []) ∷
+    starts 1 3 [] ∷
+    returns 1 (leaves 3 ∷ []) ∷
+    returns 1 [] ∷
+    returns 1 (leaves 1 ∷ []) ∷
+    starts 1 2 [] ∷
+    returns 1 (leaves 2 ∷ []) ∷
+    runs 1 (call service.Exit (value 1 ∷ [])) cond.Normal [] ∷
+    is_gone 1 (gone 1 ∷ []) ∷
+    []
 
 pub asts_by_mode : chosen script 0 10000 ≡ records
 asts_by_mode = refl

@@ -20,15 +20,15 @@ image_main = record {
   name = codes "MAIN";
   labels = record { name = codes "T"; place = 6 } ∷ [];
   stmts =
-    calls service.SetAst (value 0 ∷ []) ∷
-    calls service.DclAst (routine (codes "T") ∷ value 7 ∷ in_mode mode.Kernel ∷ []) ∷
-    calls service.DclAst (routine (codes "T") ∷ value 8 ∷ in_mode mode.Kernel ∷ []) ∷
-    calls service.SetAst (value 1 ∷ []) ∷
-    stmt.Let (target.Var (letter (codes "B"))) (operand.Var (letter (codes "A"))) ∷
-    calls service.Exit (held_in (codes "B") ∷ []) ∷
-    stmt.Let (target.Var (letter (codes "A"))) operand.Prm ∷
-    stmt.Return ∷
-    [];
+      calls service.SetAst (value 0 ∷ []) ∷
+      calls service.DclAst (routine (codes "T") ∷ value 7 ∷ in_mode mode.Kernel ∷ []) ∷
+      calls service.DclAst (routine (codes "T") ∷ value 8 ∷ in_mode mode.Kernel ∷ []) ∷
+      calls service.SetAst (value 1 ∷ []) ∷
+      stmt.Let (target.Var (letter (codes "B"))) (operand.Var (letter (codes "A"))) ∷
+      calls service.Exit (held_in (codes "B") ∷ []) ∷
+      stmt.Let (target.Var (letter (codes "A"))) operand.Prm ∷
+      stmt.Return ∷
+      [];
 }
 
 abbrev pub script : System
@@ -41,19 +41,19 @@ script = record {
 -- its records
 abbrev pub records : List Rec
 records =
-  runs 1 (call service.SetAst (value 0 ∷ [])) cond.WasSet (enb 1 mode.User false ∷ []) ∷
-  runs 1 (call service.DclAst (routine (codes "T") ∷ value 7 ∷ in_mode mode.Kernel ∷ [])) cond.Normal
-       (opens 1 opened.Ast 1 (Some mode.User) 0 ∷ que 1 ∷ []) ∷
-  runs 1 (call service.DclAst (routine (codes "T") ∷ value 8 ∷ in_mode mode.Kernel ∷ [])) cond.Normal
-       (opens 2 opened.Ast 1 (Some mode.User) 0 ∷ que 2 ∷ []) ∷
-  runs 1 (call service.SetAst (value 1 ∷ [])) cond.WasClr (enb 1 mode.User true ∷ []) ∷
-  starts 1 1 [] ∷
-  returns 1 (leaves 1 ∷ []) ∷
-  starts 1 2 [] ∷
-  returns 1 (leaves 2 ∷ []) ∷
-  runs 1 (call service.Exit (value 8 ∷ [])) cond.Normal [] ∷
-  is_gone 1 (gone 1 ∷ []) ∷
-  []
+    runs 1 (call service.SetAst (value 0 ∷ [])) cond.WasSet (enb 1 mode.User false ∷ []) ∷
+    runs 1 (call service.DclAst (routine (codes "T") ∷ value 7 ∷ in_mode mode.Kernel ∷ [])) cond.Normal
+    (opens 1 opened.Ast 1 (Some mode.User) 0 ∷ que 1 ∷ []) ∷
+    runs 1 (call service.DclAst (routine (codes "T") ∷ value 8 ∷ in_mode mode.Kernel ∷ [])) cond.Normal
+    (opens 2 opened.Ast 1 (Some mode.User) 0 ∷ que 2 ∷ []) ∷
+    runs 1 (call service.SetAst (value 1 ∷ [])) cond.WasClr (enb 1 mode.User true ∷ []) ∷
+    starts 1 1 [] ∷
+    returns 1 (leaves 1 ∷ []) ∷
+    starts 1 2 [] ∷
+    returns 1 (leaves 2 ∷ []) ∷
+    runs 1 (call service.Exit (value 8 ∷ [])) cond.Normal [] ∷
+    is_gone 1 (gone 1 ∷ []) ∷
+    []
 
 pub asts_in_turn : chosen script 0 10000 ≡ records
 asts_in_turn = refl

@@ -20,12 +20,12 @@ image_main = record {
   name = codes "MAIN";
   labels = record { name = codes "T"; place = 4 } ∷ [];
   stmts =
-    calls service.CreMbx (mailbox (codes "A") (codes "BOX") 0 256 1024 mode.Kernel) ∷
-    calls service.Qio (request 1 (held_in (codes "A")) func.WrtAttn 1 (routine (codes "T")) 0 0 0 0) ∷
-    calls service.Qio (request 2 (held_in (codes "A")) func.WriteNow 0 no_routine 0 0 1 0) ∷
-    calls service.Exit (value 1 ∷ []) ∷
-    stmt.Return ∷
-    [];
+      calls service.CreMbx (mailbox (codes "A") (codes "BOX") 0 256 1024 mode.Kernel) ∷
+      calls service.Qio (request 1 (held_in (codes "A")) func.WrtAttn 1 (routine (codes "T")) 0 0 0 0) ∷
+      calls service.Qio (request 2 (held_in (codes "A")) func.WriteNow 0 no_routine 0 0 1 0) ∷
+      calls service.Exit (value 1 ∷ []) ∷
+      stmt.Return ∷
+      [];
 }
 
 abbrev pub script : System
@@ -38,19 +38,19 @@ script = record {
 -- its records
 abbrev pub records : List Rec
 records =
-  runs 1 (call service.CreMbx (mailbox (codes "A") (codes "BOX") 0 256 1024 mode.Kernel)) cond.Normal
-       (mbx (codes "BOX") true ∷ puts 1 (codes "A") 1 ∷ []) ∷
-  runs 1 (call service.Qio (request 1 (value 1) func.WrtAttn 1 (routine (codes "T")) 0 0 0 0)) cond.Normal
-       (flag 1 1 false ∷ cleared_status 1 1 ∷ opens 1 opened.Attn 1 (Some mode.User) 0 ∷ status 1 1 cond.Normal 0 0 ∷
-       flag 1 1 true ∷ []) ∷
-  runs 1 (call service.Qio (request 2 (value 1) func.WriteNow 0 no_routine 0 0 1 0)) cond.Normal
-       (flag 1 2 false ∷ opens 2 opened.Bio 1 None 1 ∷ mput (codes "BOX") 2 (body.Text (0 ∷ [])) ∷ fin 2 cond.Normal ∷
-       flag 1 2 true ∷ fires 1 ∷ que 1 ∷ []) ∷
-  starts 1 1 [] ∷
-  returns 1 (leaves 1 ∷ []) ∷
-  runs 1 (call service.Exit (value 1 ∷ [])) cond.Normal [] ∷
-  is_gone 1 (mbx (codes "BOX") false ∷ gone 1 ∷ []) ∷
-  []
+    runs 1 (call service.CreMbx (mailbox (codes "A") (codes "BOX") 0 256 1024 mode.Kernel)) cond.Normal
+    (mbx (codes "BOX") true ∷ puts 1 (codes "A") 1 ∷ []) ∷
+    runs 1 (call service.Qio (request 1 (value 1) func.WrtAttn 1 (routine (codes "T")) 0 0 0 0)) cond.Normal
+    (flag 1 1 false ∷ cleared_status 1 1 ∷ opens 1 opened.Attn 1 (Some mode.User) 0 ∷ status 1 1 cond.Normal 0 0 ∷
+    flag 1 1 true ∷ []) ∷
+    runs 1 (call service.Qio (request 2 (value 1) func.WriteNow 0 no_routine 0 0 1 0)) cond.Normal
+    (flag 1 2 false ∷ opens 2 opened.Bio 1 None 1 ∷ mput (codes "BOX") 2 (body.Text (0 ∷ [])) ∷ fin 2 cond.Normal ∷
+    flag 1 2 true ∷ fires 1 ∷ que 1 ∷ []) ∷
+    starts 1 1 [] ∷
+    returns 1 (leaves 1 ∷ []) ∷
+    runs 1 (call service.Exit (value 1 ∷ [])) cond.Normal [] ∷
+    is_gone 1 (mbx (codes "BOX") false ∷ gone 1 ∷ []) ∷
+    []
 
 pub attention : chosen script 0 10000 ≡ records
 attention = refl

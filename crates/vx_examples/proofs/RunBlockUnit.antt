@@ -19,13 +19,13 @@ image_main = record {
   name = codes "MAIN";
   labels = [];
   stmts =
-    calls service.Assign (variable (codes "A") ∷ named (codes "DK") ∷ in_mode mode.Kernel ∷ []) ∷
-    calls service.QioW (request 1 (held_in (codes "A")) func.Read 1 no_routine 0 0 512 1) ∷
-    calls service.QioW (request 1 (held_in (codes "A")) func.Read 1 no_routine 0 0 512 2) ∷
-    calls service.QioW (request 1 (held_in (codes "A")) func.Read 1 no_routine 0 0 0 1) ∷
-    calls service.QioW (request 1 (held_in (codes "A")) func.Read 1 no_routine 0 0 0 1) ∷
-    calls service.Exit (value 1 ∷ []) ∷
-    [];
+      calls service.Assign (variable (codes "A") ∷ named (codes "DK") ∷ in_mode mode.Kernel ∷ []) ∷
+      calls service.QioW (request 1 (held_in (codes "A")) func.Read 1 no_routine 0 0 512 1) ∷
+      calls service.QioW (request 1 (held_in (codes "A")) func.Read 1 no_routine 0 0 512 2) ∷
+      calls service.QioW (request 1 (held_in (codes "A")) func.Read 1 no_routine 0 0 0 1) ∷
+      calls service.QioW (request 1 (held_in (codes "A")) func.Read 1 no_routine 0 0 0 1) ∷
+      calls service.Exit (value 1 ∷ []) ∷
+      [];
 }
 
 abbrev pub script : System
@@ -38,32 +38,32 @@ script = record {
 -- its records
 abbrev pub records : List Rec
 records =
-  runs 1 (call service.Assign (variable (codes "A") ∷ named (codes "DK") ∷ in_mode mode.Kernel ∷ [])) cond.Normal
-       (puts 1 (codes "A") 1 ∷ []) ∷
-  waits 1 (call service.QioW (request 1 (value 1) func.Read 1 no_routine 0 0 512 1))
-       (flag 1 1 false ∷ cleared_status 1 1 ∷ opens 1 opened.Dio 1 None 0 ∷ []) ∷
-  begins 0 1 [] ∷
-  is_done 0 1
-       (fin 1 cond.Normal ∷ bytes_put 1 0 (replicate 512 0) ∷ status 1 1 cond.Normal 512 0 ∷ flag 1 1 true ∷ []) ∷
-  resumes 1 cond.Normal [] ∷
-  waits 1 (call service.QioW (request 1 (value 1) func.Read 1 no_routine 0 0 512 2))
-       (flag 1 1 false ∷ cleared_status 1 1 ∷ opens 2 opened.Dio 1 None 0 ∷ []) ∷
-  begins 0 2 [] ∷
-  is_done 0 2 (fin 2 cond.IllBlkNum ∷ status 1 1 cond.IllBlkNum 0 0 ∷ flag 1 1 true ∷ []) ∷
-  resumes 1 cond.Normal [] ∷
-  waits 1 (call service.QioW (request 1 (value 1) func.Read 1 no_routine 0 0 0 1))
-       (flag 1 1 false ∷ cleared_status 1 1 ∷ opens 3 opened.Dio 1 None 0 ∷ []) ∷
-  begins 0 3 [] ∷
-  is_done 0 3 (fin 3 cond.Normal ∷ status 1 1 cond.Normal 0 0 ∷ flag 1 1 true ∷ []) ∷
-  resumes 1 cond.Normal [] ∷
-  waits 1 (call service.QioW (request 1 (value 1) func.Read 1 no_routine 0 0 0 1))
-       (flag 1 1 false ∷ cleared_status 1 1 ∷ opens 4 opened.Dio 1 None 0 ∷ []) ∷
-  begins 0 4 [] ∷
-  is_done 0 4 (fin 4 cond.CtrlErr ∷ status 1 1 cond.CtrlErr 0 0 ∷ flag 1 1 true ∷ []) ∷
-  resumes 1 cond.Normal [] ∷
-  runs 1 (call service.Exit (value 1 ∷ [])) cond.Normal [] ∷
-  is_gone 1 (gone 1 ∷ []) ∷
-  []
+    runs 1 (call service.Assign (variable (codes "A") ∷ named (codes "DK") ∷ in_mode mode.Kernel ∷ [])) cond.Normal
+    (puts 1 (codes "A") 1 ∷ []) ∷
+    waits 1 (call service.QioW (request 1 (value 1) func.Read 1 no_routine 0 0 512 1))
+    (flag 1 1 false ∷ cleared_status 1 1 ∷ opens 1 opened.Dio 1 None 0 ∷ []) ∷
+    begins 0 1 [] ∷
+    is_done 0 1
+    (fin 1 cond.Normal ∷ bytes_put 1 0 (replicate 512 0) ∷ status 1 1 cond.Normal 512 0 ∷ flag 1 1 true ∷ []) ∷
+    resumes 1 cond.Normal [] ∷
+    waits 1 (call service.QioW (request 1 (value 1) func.Read 1 no_routine 0 0 512 2))
+    (flag 1 1 false ∷ cleared_status 1 1 ∷ opens 2 opened.Dio 1 None 0 ∷ []) ∷
+    begins 0 2 [] ∷
+    is_done 0 2 (fin 2 cond.IllBlkNum ∷ status 1 1 cond.IllBlkNum 0 0 ∷ flag 1 1 true ∷ []) ∷
+    resumes 1 cond.Normal [] ∷
+    waits 1 (call service.QioW (request 1 (value 1) func.Read 1 no_routine 0 0 0 1))
+    (flag 1 1 false ∷ cleared_status 1 1 ∷ opens 3 opened.Dio 1 None 0 ∷ []) ∷
+    begins 0 3 [] ∷
+    is_done 0 3 (fin 3 cond.Normal ∷ status 1 1 cond.Normal 0 0 ∷ flag 1 1 true ∷ []) ∷
+    resumes 1 cond.Normal [] ∷
+    waits 1 (call service.QioW (request 1 (value 1) func.Read 1 no_routine 0 0 0 1))
+    (flag 1 1 false ∷ cleared_status 1 1 ∷ opens 4 opened.Dio 1 None 0 ∷ []) ∷
+    begins 0 4 [] ∷
+    is_done 0 4 (fin 4 cond.CtrlErr ∷ status 1 1 cond.CtrlErr 0 0 ∷ flag 1 1 true ∷ []) ∷
+    resumes 1 cond.Normal [] ∷
+    runs 1 (call service.Exit (value 1 ∷ [])) cond.Normal [] ∷
+    is_gone 1 (gone 1 ∷ []) ∷
+    []
 
 pub block_unit : chosen script 0 10000 ≡ records
 block_unit = refl

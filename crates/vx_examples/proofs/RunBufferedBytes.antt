@@ -19,12 +19,12 @@ image_main = record {
   name = codes "MAIN";
   labels = [];
   stmts =
-    calls service.Assign (variable (codes "A") ∷ named (codes "TT") ∷ in_mode mode.Kernel ∷ []) ∷
-    calls service.Qio (request 1 (held_in (codes "A")) func.Read 0 no_routine 0 0 100 0) ∷
-    calls service.Qio (request 1 (held_in (codes "A")) func.Read 0 no_routine 0 0 1 0) ∷
-    calls service.Qio (request 1 (held_in (codes "A")) func.Read 0 no_routine 0 0 0 0) ∷
-    calls service.Exit (value 1 ∷ []) ∷
-    [];
+      calls service.Assign (variable (codes "A") ∷ named (codes "TT") ∷ in_mode mode.Kernel ∷ []) ∷
+      calls service.Qio (request 1 (held_in (codes "A")) func.Read 0 no_routine 0 0 100 0) ∷
+      calls service.Qio (request 1 (held_in (codes "A")) func.Read 0 no_routine 0 0 1 0) ∷
+      calls service.Qio (request 1 (held_in (codes "A")) func.Read 0 no_routine 0 0 0 0) ∷
+      calls service.Exit (value 1 ∷ []) ∷
+      [];
 }
 
 abbrev pub script : System
@@ -37,16 +37,16 @@ script = record {
 -- its records
 abbrev pub records : List Rec
 records =
-  runs 1 (call service.Assign (variable (codes "A") ∷ named (codes "TT") ∷ in_mode mode.Kernel ∷ [])) cond.Normal
-       (puts 1 (codes "A") 1 ∷ []) ∷
-  runs 1 (call service.Qio (request 1 (value 1) func.Read 0 no_routine 0 0 100 0)) cond.Normal
-       (flag 1 1 false ∷ opens 1 opened.Bio 1 None 100 ∷ []) ∷
-  runs 1 (call service.Qio (request 1 (value 1) func.Read 0 no_routine 0 0 1 0)) cond.ExQuota [] ∷
-  runs 1 (call service.Qio (request 1 (value 1) func.Read 0 no_routine 0 0 0 0)) cond.Normal
-       (flag 1 1 false ∷ opens 2 opened.Bio 1 None 0 ∷ []) ∷
-  runs 1 (call service.Exit (value 1 ∷ [])) cond.Normal [] ∷
-  is_gone 1 (fin 1 cond.Cancel ∷ flag 1 1 true ∷ fin 2 cond.Cancel ∷ flag 1 1 true ∷ gone 1 ∷ []) ∷
-  []
+    runs 1 (call service.Assign (variable (codes "A") ∷ named (codes "TT") ∷ in_mode mode.Kernel ∷ [])) cond.Normal
+    (puts 1 (codes "A") 1 ∷ []) ∷
+    runs 1 (call service.Qio (request 1 (value 1) func.Read 0 no_routine 0 0 100 0)) cond.Normal
+    (flag 1 1 false ∷ opens 1 opened.Bio 1 None 100 ∷ []) ∷
+    runs 1 (call service.Qio (request 1 (value 1) func.Read 0 no_routine 0 0 1 0)) cond.ExQuota [] ∷
+    runs 1 (call service.Qio (request 1 (value 1) func.Read 0 no_routine 0 0 0 0)) cond.Normal
+    (flag 1 1 false ∷ opens 2 opened.Bio 1 None 0 ∷ []) ∷
+    runs 1 (call service.Exit (value 1 ∷ [])) cond.Normal [] ∷
+    is_gone 1 (fin 1 cond.Cancel ∷ flag 1 1 true ∷ fin 2 cond.Cancel ∷ flag 1 1 true ∷ gone 1 ∷ []) ∷
+    []
 
 pub buffered_bytes : chosen script 0 10000 ≡ records
 buffered_bytes = refl

@@ -23,13 +23,13 @@ image_main = record {
   name = codes "MAIN";
   labels = [];
   stmts =
-    calls service.Assign (variable (codes "A") ∷ named (codes "TT") ∷ in_mode mode.Kernel ∷ []) ∷
-    calls service.Qio (request 1 (held_in (codes "A")) func.Read 1 no_routine 0 0 8 0) ∷
-    calls service.Qio (request 2 (held_in (codes "A")) func.Read 2 no_routine 0 0 8 0) ∷
-    calls service.Qio (request 3 (held_in (codes "A")) func.Read 3 no_routine 0 0 8 0) ∷
-    calls service.Cancel (held_in (codes "A") ∷ []) ∷
-    calls service.Exit (value 1 ∷ []) ∷
-    [];
+      calls service.Assign (variable (codes "A") ∷ named (codes "TT") ∷ in_mode mode.Kernel ∷ []) ∷
+      calls service.Qio (request 1 (held_in (codes "A")) func.Read 1 no_routine 0 0 8 0) ∷
+      calls service.Qio (request 2 (held_in (codes "A")) func.Read 2 no_routine 0 0 8 0) ∷
+      calls service.Qio (request 3 (held_in (codes "A")) func.Read 3 no_routine 0 0 8 0) ∷
+      calls service.Cancel (held_in (codes "A") ∷ []) ∷
+      calls service.Exit (value 1 ∷ []) ∷
+      [];
 }
 
 abbrev pub script : System
@@ -42,27 +42,27 @@ script = record {
 -- its records
 abbrev pub records : List Rec
 records =
-  runs 1 (call service.Assign (variable (codes "A") ∷ named (codes "TT") ∷ in_mode mode.Kernel ∷ [])) cond.Normal
-       (puts 1 (codes "A") 1 ∷ []) ∷
-  runs 1 (call service.Qio (request 1 (value 1) func.Read 1 no_routine 0 0 8 0)) cond.Normal
-       (flag 1 1 false ∷ cleared_status 1 1 ∷ opens 1 opened.Bio 1 None 8 ∷ []) ∷
-  runs 1 (call service.Qio (request 2 (value 1) func.Read 2 no_routine 0 0 8 0)) cond.Normal
-       (flag 1 2 false ∷ cleared_status 1 2 ∷ opens 2 opened.Bio 1 None 8 ∷ []) ∷
-  runs 1 (call service.Qio (request 3 (value 1) func.Read 3 no_routine 0 0 8 0)) cond.Normal
-       (flag 1 3 false ∷ cleared_status 1 3 ∷ opens 3 opened.Bio 1 None 8 ∷ []) ∷
-  begins 0 1 [] ∷
-  runs 1 (call service.Cancel (value 1 ∷ [])) cond.Normal
-       (mark 1 ∷ fin 2 cond.Cancel ∷ status 1 2 cond.Cancel 0 0 ∷ flag 1 2 true ∷ fin 3 cond.Cancel ∷ status 1 3
-         cond.Cancel 0 0 ∷ flag 1 3 true ∷ []) ∷
-  is_done 0 1 (fin 1 cond.Abort ∷ status 1 1 cond.Abort 0 0 ∷ flag 1 1 true ∷ []) ∷
-  runs 1 (call service.Exit (value 1 ∷ [])) cond.Normal [] ∷
-  is_gone 1 (gone 1 ∷ []) ∷
-  []
+    runs 1 (call service.Assign (variable (codes "A") ∷ named (codes "TT") ∷ in_mode mode.Kernel ∷ [])) cond.Normal
+    (puts 1 (codes "A") 1 ∷ []) ∷
+    runs 1 (call service.Qio (request 1 (value 1) func.Read 1 no_routine 0 0 8 0)) cond.Normal
+    (flag 1 1 false ∷ cleared_status 1 1 ∷ opens 1 opened.Bio 1 None 8 ∷ []) ∷
+    runs 1 (call service.Qio (request 2 (value 1) func.Read 2 no_routine 0 0 8 0)) cond.Normal
+    (flag 1 2 false ∷ cleared_status 1 2 ∷ opens 2 opened.Bio 1 None 8 ∷ []) ∷
+    runs 1 (call service.Qio (request 3 (value 1) func.Read 3 no_routine 0 0 8 0)) cond.Normal
+    (flag 1 3 false ∷ cleared_status 1 3 ∷ opens 3 opened.Bio 1 None 8 ∷ []) ∷
+    begins 0 1 [] ∷
+    runs 1 (call service.Cancel (value 1 ∷ [])) cond.Normal
+    (mark 1 ∷ fin 2 cond.Cancel ∷ status 1 2 cond.Cancel 0 0 ∷ flag 1 2 true ∷ fin 3 cond.Cancel ∷ status 1 3
+    cond.Cancel 0 0 ∷ flag 1 3 true ∷ []) ∷
+    is_done 0 1 (fin 1 cond.Abort ∷ status 1 1 cond.Abort 0 0 ∷ flag 1 1 true ∷ []) ∷
+    runs 1 (call service.Exit (value 1 ∷ [])) cond.Normal [] ∷
+    is_gone 1 (gone 1 ∷ []) ∷
+    []
 
 -- the events that happen
 abbrev events : List Event
 events = event.Run (process 1) ∷ event.Run (process 1) ∷ event.Run (process 1) ∷ event.Run (process 1) ∷ event.Beg
-  (unit 0) ∷ event.Run (process 1) ∷ event.Don (unit 0) ∷ event.Run (process 1) ∷ event.Rdn (process 1) ∷ []
+    (unit 0) ∷ event.Run (process 1) ∷ event.Don (unit 0) ∷ event.Run (process 1) ∷ event.Rdn (process 1) ∷ []
 
 -- each is enabled at its moment
 pub cancel-enabled : IsTrue (are_enabled (first script) events)

@@ -19,18 +19,18 @@ image_main = record {
   name = codes "MAIN";
   labels = record { name = codes "X"; place = 9 } ∷ [];
   stmts =
-    calls service.CmExec (routine (codes "X") ∷ value 0 ∷ []) ∷
-    calls service.Dassgn (value 1 ∷ []) ∷
-    calls service.Dassgn (value 0 ∷ []) ∷
-    calls service.Dassgn (value 64 ∷ []) ∷
-    calls service.Dassgn (value 65 ∷ []) ∷
-    calls service.Assign (variable (codes "B") ∷ named (codes "TT") ∷ in_mode mode.Kernel ∷ []) ∷
-    calls service.Dassgn (held_in (codes "B") ∷ []) ∷
-    calls service.Dassgn (held_in (codes "B") ∷ []) ∷
-    calls service.Exit (value 1 ∷ []) ∷
-    calls service.Assign (variable (codes "A") ∷ named (codes "TT") ∷ in_mode mode.Kernel ∷ []) ∷
-    stmt.Return ∷
-    [];
+      calls service.CmExec (routine (codes "X") ∷ value 0 ∷ []) ∷
+      calls service.Dassgn (value 1 ∷ []) ∷
+      calls service.Dassgn (value 0 ∷ []) ∷
+      calls service.Dassgn (value 64 ∷ []) ∷
+      calls service.Dassgn (value 65 ∷ []) ∷
+      calls service.Assign (variable (codes "B") ∷ named (codes "TT") ∷ in_mode mode.Kernel ∷ []) ∷
+      calls service.Dassgn (held_in (codes "B") ∷ []) ∷
+      calls service.Dassgn (held_in (codes "B") ∷ []) ∷
+      calls service.Exit (value 1 ∷ []) ∷
+      calls service.Assign (variable (codes "A") ∷ named (codes "TT") ∷ in_mode mode.Kernel ∷ []) ∷
+      stmt.Return ∷
+      [];
 }
 
 abbrev pub script : System
@@ -43,21 +43,21 @@ script = record {
 -- its records
 abbrev pub records : List Rec
 records =
-  runs 1 (call service.CmExec (routine (codes "X") ∷ value 0 ∷ [])) cond.Normal [] ∷
-  runs 1 (call service.Assign (variable (codes "A") ∷ named (codes "TT") ∷ in_mode mode.Kernel ∷ [])) cond.Normal
-       (puts 1 (codes "A") 1 ∷ []) ∷
-  returns 1 [] ∷
-  runs 1 (call service.Dassgn (value 1 ∷ [])) cond.NoPriv [] ∷
-  runs 1 (call service.Dassgn (value 0 ∷ [])) cond.IvChan [] ∷
-  runs 1 (call service.Dassgn (value 64 ∷ [])) cond.NoPriv [] ∷
-  runs 1 (call service.Dassgn (value 65 ∷ [])) cond.IvChan [] ∷
-  runs 1 (call service.Assign (variable (codes "B") ∷ named (codes "TT") ∷ in_mode mode.Kernel ∷ [])) cond.Normal
-       (puts 1 (codes "B") 2 ∷ []) ∷
-  runs 1 (call service.Dassgn (value 2 ∷ [])) cond.Normal [] ∷
-  runs 1 (call service.Dassgn (value 2 ∷ [])) cond.NoPriv [] ∷
-  runs 1 (call service.Exit (value 1 ∷ [])) cond.Normal [] ∷
-  is_gone 1 (gone 1 ∷ []) ∷
-  []
+    runs 1 (call service.CmExec (routine (codes "X") ∷ value 0 ∷ [])) cond.Normal [] ∷
+    runs 1 (call service.Assign (variable (codes "A") ∷ named (codes "TT") ∷ in_mode mode.Kernel ∷ [])) cond.Normal
+    (puts 1 (codes "A") 1 ∷ []) ∷
+    returns 1 [] ∷
+    runs 1 (call service.Dassgn (value 1 ∷ [])) cond.NoPriv [] ∷
+    runs 1 (call service.Dassgn (value 0 ∷ [])) cond.IvChan [] ∷
+    runs 1 (call service.Dassgn (value 64 ∷ [])) cond.NoPriv [] ∷
+    runs 1 (call service.Dassgn (value 65 ∷ [])) cond.IvChan [] ∷
+    runs 1 (call service.Assign (variable (codes "B") ∷ named (codes "TT") ∷ in_mode mode.Kernel ∷ [])) cond.Normal
+    (puts 1 (codes "B") 2 ∷ []) ∷
+    runs 1 (call service.Dassgn (value 2 ∷ [])) cond.Normal [] ∷
+    runs 1 (call service.Dassgn (value 2 ∷ [])) cond.NoPriv [] ∷
+    runs 1 (call service.Exit (value 1 ∷ [])) cond.Normal [] ∷
+    is_gone 1 (gone 1 ∷ []) ∷
+    []
 
 pub channel_test : chosen script 0 10000 ≡ records
 channel_test = refl

@@ -16,11 +16,11 @@ image_b = record {
   name = codes "B";
   labels = [];
   stmts =
-    calls service.SetImr (value 1 ∷ value 5 ∷ no_routine ∷ value 0 ∷ []) ∷
-    calls service.CrePrc (variable (codes "A") ∷ named (codes "KID") ∷ []) ∷
-    calls service.WaitFr (value 1 ∷ []) ∷
-    calls service.Exit (value 1 ∷ []) ∷
-    [];
+      calls service.SetImr (value 1 ∷ value 5 ∷ no_routine ∷ value 0 ∷ []) ∷
+      calls service.CrePrc (variable (codes "A") ∷ named (codes "KID") ∷ []) ∷
+      calls service.WaitFr (value 1 ∷ []) ∷
+      calls service.Exit (value 1 ∷ []) ∷
+      [];
 }
 
 abbrev image_k : Image
@@ -28,9 +28,9 @@ image_k = record {
   name = codes "K";
   labels = [];
   stmts =
-    calls service.SetImr (value 1 ∷ value 3 ∷ no_routine ∷ value 0 ∷ []) ∷
-    calls service.Exit (value 1 ∷ []) ∷
-    [];
+      calls service.SetImr (value 1 ∷ value 3 ∷ no_routine ∷ value 0 ∷ []) ∷
+      calls service.Exit (value 1 ∷ []) ∷
+      [];
 }
 
 abbrev pub script : System
@@ -38,28 +38,28 @@ script = record {
   units = [];
   images = image_b ∷ image_k ∷ [];
   decls =
-    record (declared (codes "BOSS") 0) { limits = record usual_limits { tqe = 1 } } ∷
-    record (declared (codes "KID") 1) { start = false } ∷
-    [];
+      record (declared (codes "BOSS") 0) { limits = record usual_limits { tqe = 1 } } ∷
+      record (declared (codes "KID") 1) { start = false } ∷
+      [];
 }
 
 -- its records
 abbrev pub records : List Rec
 records =
-  runs 1 (call service.SetImr (value 1 ∷ value 5 ∷ no_routine ∷ value 0 ∷ [])) cond.Normal
-       (flag 1 1 false ∷ opens 1 opened.Timer 1 None 0 ∷ []) ∷
-  runs 1 (call service.CrePrc (variable (codes "A") ∷ named (codes "KID") ∷ [])) cond.Normal
-       (new 2 (codes "KID") ∷ puts 1 (codes "A") 2 ∷ []) ∷
-  waits 1 (call service.WaitFr (value 1 ∷ [])) [] ∷
-  runs 2 (call service.SetImr (value 1 ∷ value 3 ∷ no_routine ∷ value 0 ∷ [])) cond.Normal
-       (flag 2 1 false ∷ opens 2 opened.Timer 2 None 0 ∷ []) ∷
-  runs 2 (call service.Exit (value 1 ∷ [])) cond.Normal [] ∷
-  is_gone 2 (drops 2 ∷ gone 2 ∷ []) ∷
-  ticks 5 (fires 1 ∷ flag 1 1 true ∷ []) ∷
-  resumes 1 cond.Normal [] ∷
-  runs 1 (call service.Exit (value 1 ∷ [])) cond.Normal [] ∷
-  is_gone 1 (gone 1 ∷ []) ∷
-  []
+    runs 1 (call service.SetImr (value 1 ∷ value 5 ∷ no_routine ∷ value 0 ∷ [])) cond.Normal
+    (flag 1 1 false ∷ opens 1 opened.Timer 1 None 0 ∷ []) ∷
+    runs 1 (call service.CrePrc (variable (codes "A") ∷ named (codes "KID") ∷ [])) cond.Normal
+    (new 2 (codes "KID") ∷ puts 1 (codes "A") 2 ∷ []) ∷
+    waits 1 (call service.WaitFr (value 1 ∷ [])) [] ∷
+    runs 2 (call service.SetImr (value 1 ∷ value 3 ∷ no_routine ∷ value 0 ∷ [])) cond.Normal
+    (flag 2 1 false ∷ opens 2 opened.Timer 2 None 0 ∷ []) ∷
+    runs 2 (call service.Exit (value 1 ∷ [])) cond.Normal [] ∷
+    is_gone 2 (drops 2 ∷ gone 2 ∷ []) ∷
+    ticks 5 (fires 1 ∷ flag 1 1 true ∷ []) ∷
+    resumes 1 cond.Normal [] ∷
+    runs 1 (call service.Exit (value 1 ∷ [])) cond.Normal [] ∷
+    is_gone 1 (gone 1 ∷ []) ∷
+    []
 
 pub created_timer : chosen script 0 10000 ≡ records
 created_timer = refl

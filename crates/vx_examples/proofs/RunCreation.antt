@@ -14,11 +14,11 @@ image_b = record {
   name = codes "B";
   labels = [];
   stmts =
-    calls service.Suspnd (value 2 ∷ []) ∷
-    calls service.Suspnd (value 9 ∷ []) ∷
-    calls service.CrePrc (variable (codes "A") ∷ named (codes "KID") ∷ []) ∷
-    calls service.Exit (value 1 ∷ []) ∷
-    [];
+      calls service.Suspnd (value 2 ∷ []) ∷
+      calls service.Suspnd (value 9 ∷ []) ∷
+      calls service.CrePrc (variable (codes "A") ∷ named (codes "KID") ∷ []) ∷
+      calls service.Exit (value 1 ∷ []) ∷
+      [];
 }
 
 abbrev image_i : Image
@@ -26,8 +26,8 @@ image_i = record {
   name = codes "I";
   labels = [];
   stmts =
-    calls service.Exit (value 1 ∷ []) ∷
-    [];
+      calls service.Exit (value 1 ∷ []) ∷
+      [];
 }
 
 abbrev pub script : System
@@ -35,24 +35,24 @@ script = record {
   units = [];
   images = image_b ∷ image_i ∷ [];
   decls =
-    record (declared (codes "BOSS") 0) { privs = record no_privs { group = true } } ∷
-    record (declared (codes "OTHER") 1) { member = 2 } ∷
-    record (declared (codes "KID") 1) { group = 7; member = 7; start = false } ∷
-    [];
+      record (declared (codes "BOSS") 0) { privs = record no_privs { group = true } } ∷
+      record (declared (codes "OTHER") 1) { member = 2 } ∷
+      record (declared (codes "KID") 1) { group = 7; member = 7; start = false } ∷
+      [];
 }
 
 -- its records
 abbrev pub records : List Rec
 records =
-  runs 1 (call service.Suspnd (value 2 ∷ [])) cond.Normal [] ∷
-  runs 1 (call service.Suspnd (value 9 ∷ [])) cond.NonExpr [] ∷
-  runs 1 (call service.CrePrc (variable (codes "A") ∷ named (codes "KID") ∷ [])) cond.Normal
-       (new 3 (codes "KID") ∷ puts 1 (codes "A") 3 ∷ []) ∷
-  runs 1 (call service.Exit (value 1 ∷ [])) cond.Normal [] ∷
-  is_gone 1 (gone 1 ∷ []) ∷
-  runs 3 (call service.Exit (value 1 ∷ [])) cond.Normal [] ∷
-  is_gone 3 (gone 3 ∷ []) ∷
-  []
+    runs 1 (call service.Suspnd (value 2 ∷ [])) cond.Normal [] ∷
+    runs 1 (call service.Suspnd (value 9 ∷ [])) cond.NonExpr [] ∷
+    runs 1 (call service.CrePrc (variable (codes "A") ∷ named (codes "KID") ∷ [])) cond.Normal
+    (new 3 (codes "KID") ∷ puts 1 (codes "A") 3 ∷ []) ∷
+    runs 1 (call service.Exit (value 1 ∷ [])) cond.Normal [] ∷
+    is_gone 1 (gone 1 ∷ []) ∷
+    runs 3 (call service.Exit (value 1 ∷ [])) cond.Normal [] ∷
+    is_gone 3 (gone 3 ∷ []) ∷
+    []
 
 pub creation : chosen script 0 10000 ≡ records
 creation = refl

@@ -18,11 +18,11 @@ image_a = record {
   name = codes "A";
   labels = [];
   stmts =
-    calls service.SetEf (value 1 ∷ []) ∷
-    stmt.Add (target.Var (letter (codes "A"))) (operand.Var (letter (codes "A"))) (operand.Num 1) ∷
-    calls service.ReadEf (value 1 ∷ variable (codes "B") ∷ []) ∷
-    calls service.ClrEf (value 1 ∷ []) ∷
-    [];
+      calls service.SetEf (value 1 ∷ []) ∷
+      stmt.Add (target.Var (letter (codes "A"))) (operand.Var (letter (codes "A"))) (operand.Num 1) ∷
+      calls service.ReadEf (value 1 ∷ variable (codes "B") ∷ []) ∷
+      calls service.ClrEf (value 1 ∷ []) ∷
+      [];
 }
 
 abbrev image_b : Image
@@ -30,12 +30,12 @@ image_b = record {
   name = codes "B";
   labels = [];
   stmts =
-    calls service.SetEf (value 2 ∷ []) ∷
-    calls service.SetEf (value 31 ∷ []) ∷
-    calls service.ReadEf (value 2 ∷ in_r0 ∷ []) ∷
-    stmt.Sub (target.Var (letter (codes "C"))) operand.R0 (operand.Num 1) ∷
-    calls service.Exit (held_in (codes "C") ∷ []) ∷
-    [];
+      calls service.SetEf (value 2 ∷ []) ∷
+      calls service.SetEf (value 31 ∷ []) ∷
+      calls service.ReadEf (value 2 ∷ in_r0 ∷ []) ∷
+      stmt.Sub (target.Var (letter (codes "C"))) operand.R0 (operand.Num 1) ∷
+      calls service.Exit (held_in (codes "C") ∷ []) ∷
+      [];
 }
 
 abbrev pub script : System
@@ -43,25 +43,25 @@ script = record {
   units = [];
   images = image_a ∷ image_b ∷ [];
   decls =
-    declared (codes "P") 0 ∷
-    declared (codes "Q") 1 ∷
-    [];
+      declared (codes "P") 0 ∷
+      declared (codes "Q") 1 ∷
+      [];
 }
 
 -- its records
 abbrev pub records : List Rec
 records =
-  runs 1 (call service.SetEf (value 1 ∷ [])) cond.WasClr (flag 1 1 true ∷ []) ∷
-  runs 2 (call service.SetEf (value 2 ∷ [])) cond.WasClr (flag 2 2 true ∷ []) ∷
-  runs 1 (call service.ReadEf (value 1 ∷ variable (codes "B") ∷ [])) cond.WasSet (puts 1 (codes "B") 2 ∷ []) ∷
-  runs 1 (call service.ClrEf (value 1 ∷ [])) cond.WasSet (flag 1 1 false ∷ []) ∷
-  ends 1 [] ∷
-  runs 2 (call service.SetEf (value 31 ∷ [])) cond.WasClr (flag 2 31 true ∷ []) ∷
-  is_gone 1 (gone 1 ∷ []) ∷
-  runs 2 (call service.ReadEf (value 2 ∷ in_r0 ∷ [])) cond.WasSet (puts_r0 2 2147483652 ∷ []) ∷
-  runs 2 (call service.Exit (value 8 ∷ [])) cond.Normal [] ∷
-  is_gone 2 (gone 2 ∷ []) ∷
-  []
+    runs 1 (call service.SetEf (value 1 ∷ [])) cond.WasClr (flag 1 1 true ∷ []) ∷
+    runs 2 (call service.SetEf (value 2 ∷ [])) cond.WasClr (flag 2 2 true ∷ []) ∷
+    runs 1 (call service.ReadEf (value 1 ∷ variable (codes "B") ∷ [])) cond.WasSet (puts 1 (codes "B") 2 ∷ []) ∷
+    runs 1 (call service.ClrEf (value 1 ∷ [])) cond.WasSet (flag 1 1 false ∷ []) ∷
+    ends 1 [] ∷
+    runs 2 (call service.SetEf (value 31 ∷ [])) cond.WasClr (flag 2 31 true ∷ []) ∷
+    is_gone 1 (gone 1 ∷ []) ∷
+    runs 2 (call service.ReadEf (value 2 ∷ in_r0 ∷ [])) cond.WasSet (puts_r0 2 2147483652 ∷ []) ∷
+    runs 2 (call service.Exit (value 8 ∷ [])) cond.Normal [] ∷
+    is_gone 2 (gone 2 ∷ []) ∷
+    []
 
 pub first_pick : chosen script 1 10000 ≡ records
 first_pick = refl

@@ -16,12 +16,12 @@ image_main = record {
   name = codes "MAIN";
   labels = [];
   stmts =
-    calls service.SetEf (value 31 ∷ []) ∷
-    calls service.SetEf (value 63 ∷ []) ∷
-    calls service.SetEf (value 64 ∷ []) ∷
-    calls service.SetEf (value 127 ∷ []) ∷
-    calls service.SetEf (value 128 ∷ []) ∷
-    [];
+      calls service.SetEf (value 31 ∷ []) ∷
+      calls service.SetEf (value 63 ∷ []) ∷
+      calls service.SetEf (value 64 ∷ []) ∷
+      calls service.SetEf (value 127 ∷ []) ∷
+      calls service.SetEf (value 128 ∷ []) ∷
+      [];
 }
 
 abbrev pub script : System
@@ -34,14 +34,14 @@ script = record {
 -- its records
 abbrev pub records : List Rec
 records =
-  runs 1 (call service.SetEf (value 31 ∷ [])) cond.WasClr (flag 1 31 true ∷ []) ∷
-  runs 1 (call service.SetEf (value 63 ∷ [])) cond.WasClr (flag 1 63 true ∷ []) ∷
-  runs 1 (call service.SetEf (value 64 ∷ [])) cond.UnasEfc [] ∷
-  runs 1 (call service.SetEf (value 127 ∷ [])) cond.UnasEfc [] ∷
-  runs 1 (call service.SetEf (value 128 ∷ [])) cond.IllEfc [] ∷
-  ends 1 [] ∷
-  is_gone 1 (gone 1 ∷ []) ∷
-  []
+    runs 1 (call service.SetEf (value 31 ∷ [])) cond.WasClr (flag 1 31 true ∷ []) ∷
+    runs 1 (call service.SetEf (value 63 ∷ [])) cond.WasClr (flag 1 63 true ∷ []) ∷
+    runs 1 (call service.SetEf (value 64 ∷ [])) cond.UnasEfc [] ∷
+    runs 1 (call service.SetEf (value 127 ∷ [])) cond.UnasEfc [] ∷
+    runs 1 (call service.SetEf (value 128 ∷ [])) cond.IllEfc [] ∷
+    ends 1 [] ∷
+    is_gone 1 (gone 1 ∷ []) ∷
+    []
 
 pub flag_test : chosen script 0 100 ≡ records
 flag_test = refl

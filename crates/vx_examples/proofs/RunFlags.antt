@@ -15,11 +15,11 @@ image_main = record {
   name = codes "MAIN";
   labels = [];
   stmts =
-    calls service.SetEf (value 5 ∷ []) ∷
-    calls service.ReadEf (value 5 ∷ variable (codes "A") ∷ []) ∷
-    calls service.ClrEf (value 5 ∷ []) ∷
-    calls service.Exit (value 1 ∷ []) ∷
-    [];
+      calls service.SetEf (value 5 ∷ []) ∷
+      calls service.ReadEf (value 5 ∷ variable (codes "A") ∷ []) ∷
+      calls service.ClrEf (value 5 ∷ []) ∷
+      calls service.Exit (value 1 ∷ []) ∷
+      [];
 }
 
 abbrev pub script : System
@@ -32,12 +32,12 @@ script = record {
 -- its records
 abbrev pub records : List Rec
 records =
-  runs 1 (call service.SetEf (value 5 ∷ [])) cond.WasClr (flag 1 5 true ∷ []) ∷
-  runs 1 (call service.ReadEf (value 5 ∷ variable (codes "A") ∷ [])) cond.WasSet (puts 1 (codes "A") 32 ∷ []) ∷
-  runs 1 (call service.ClrEf (value 5 ∷ [])) cond.WasSet (flag 1 5 false ∷ []) ∷
-  runs 1 (call service.Exit (value 1 ∷ [])) cond.Normal [] ∷
-  is_gone 1 (gone 1 ∷ []) ∷
-  []
+    runs 1 (call service.SetEf (value 5 ∷ [])) cond.WasClr (flag 1 5 true ∷ []) ∷
+    runs 1 (call service.ReadEf (value 5 ∷ variable (codes "A") ∷ [])) cond.WasSet (puts 1 (codes "A") 32 ∷ []) ∷
+    runs 1 (call service.ClrEf (value 5 ∷ [])) cond.WasSet (flag 1 5 false ∷ []) ∷
+    runs 1 (call service.Exit (value 1 ∷ [])) cond.Normal [] ∷
+    is_gone 1 (gone 1 ∷ []) ∷
+    []
 
 pub one_process : chosen script 0 10000 ≡ records
 one_process = refl

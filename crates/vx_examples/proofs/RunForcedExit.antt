@@ -17,10 +17,10 @@ image_main = record {
   name = codes "MAIN";
   labels = [];
   stmts =
-    calls service.SchdWk (value 0 ∷ value 5 ∷ value 0 ∷ []) ∷
-    calls service.Hiber [] ∷
-    calls service.ForceX (value 0 ∷ value 44 ∷ []) ∷
-    [];
+      calls service.SchdWk (value 0 ∷ value 5 ∷ value 0 ∷ []) ∷
+      calls service.Hiber [] ∷
+      calls service.ForceX (value 0 ∷ value 44 ∷ []) ∷
+      [];
 }
 
 abbrev pub script : System
@@ -33,15 +33,16 @@ script = record {
 -- its records
 abbrev pub records : List Rec
 records =
-  runs 1 (call service.SchdWk (value 0 ∷ value 5 ∷ value 0 ∷ [])) cond.Normal (opens 1 opened.Wake 1 None 0 ∷ []) ∷
-  waits 1 (call service.Hiber []) [] ∷
-  ticks 5 (fires 1 ∷ []) ∷
-  resumes 1 cond.Normal [] ∷
-  runs 1 (call service.ForceX (value 0 ∷ value 44 ∷ [])) cond.Normal
-       (opens 2 opened.Force 1 (Some mode.User) 0 ∷ que 2 ∷ []) ∷
-  starts 1 2 (leaves 2 ∷ []) ∷
-  is_gone 1 (gone 1 ∷ []) ∷
-  []
+    runs 1 (call service.SchdWk (value 0 ∷ value 5 ∷ value 0 ∷ [])) cond.Normal
+    (opens 1 opened.Wake 1 None 0 ∷ []) ∷
+    waits 1 (call service.Hiber []) [] ∷
+    ticks 5 (fires 1 ∷ []) ∷
+    resumes 1 cond.Normal [] ∷
+    runs 1 (call service.ForceX (value 0 ∷ value 44 ∷ [])) cond.Normal
+    (opens 2 opened.Force 1 (Some mode.User) 0 ∷ que 2 ∷ []) ∷
+    starts 1 2 (leaves 2 ∷ []) ∷
+    is_gone 1 (gone 1 ∷ []) ∷
+    []
 
 pub forced_exit : chosen script 0 10000 ≡ records
 forced_exit = refl

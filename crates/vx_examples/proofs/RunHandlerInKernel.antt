@@ -16,12 +16,12 @@ image_main = record {
   name = codes "MAIN";
   labels = record { name = codes "X"; place = 2 } ∷ record { name = codes "H"; place = 4 } ∷ [];
   stmts =
-    calls service.CmKrnl (routine (codes "X") ∷ value 0 ∷ []) ∷
-    calls service.Exit (value 1 ∷ []) ∷
-    calls service.DclExh (routine (codes "H") ∷ []) ∷
-    stmt.Return ∷
-    stmt.Return ∷
-    [];
+      calls service.CmKrnl (routine (codes "X") ∷ value 0 ∷ []) ∷
+      calls service.Exit (value 1 ∷ []) ∷
+      calls service.DclExh (routine (codes "H") ∷ []) ∷
+      stmt.Return ∷
+      stmt.Return ∷
+      [];
 }
 
 abbrev pub script : System
@@ -34,12 +34,12 @@ script = record {
 -- its records
 abbrev pub records : List Rec
 records =
-  runs 1 (call service.CmKrnl (routine (codes "X") ∷ value 0 ∷ [])) cond.Normal [] ∷
-  runs 1 (call service.DclExh (routine (codes "H") ∷ [])) cond.IvSsRq [] ∷
-  returns 1 [] ∷
-  runs 1 (call service.Exit (value 1 ∷ [])) cond.Normal [] ∷
-  is_gone 1 (gone 1 ∷ []) ∷
-  []
+    runs 1 (call service.CmKrnl (routine (codes "X") ∷ value 0 ∷ [])) cond.Normal [] ∷
+    runs 1 (call service.DclExh (routine (codes "H") ∷ [])) cond.IvSsRq [] ∷
+    returns 1 [] ∷
+    runs 1 (call service.Exit (value 1 ∷ [])) cond.Normal [] ∷
+    is_gone 1 (gone 1 ∷ []) ∷
+    []
 
 pub handler_in_kernel : chosen script 0 10000 ≡ records
 handler_in_kernel = refl

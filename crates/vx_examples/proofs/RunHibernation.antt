@@ -14,11 +14,11 @@ image_main = record {
   name = codes "MAIN";
   labels = [];
   stmts =
-    calls service.Wake (value 0 ∷ []) ∷
-    calls service.Wake (value 0 ∷ []) ∷
-    calls service.Hiber [] ∷
-    calls service.Hiber [] ∷
-    [];
+      calls service.Wake (value 0 ∷ []) ∷
+      calls service.Wake (value 0 ∷ []) ∷
+      calls service.Hiber [] ∷
+      calls service.Hiber [] ∷
+      [];
 }
 
 abbrev pub script : System
@@ -31,11 +31,11 @@ script = record {
 -- its records
 abbrev pub records : List Rec
 records =
-  runs 1 (call service.Wake (value 0 ∷ [])) cond.Normal [] ∷
-  runs 1 (call service.Wake (value 0 ∷ [])) cond.Normal [] ∷
-  runs 1 (call service.Hiber []) cond.Normal [] ∷
-  waits 1 (call service.Hiber []) [] ∷
-  []
+    runs 1 (call service.Wake (value 0 ∷ [])) cond.Normal [] ∷
+    runs 1 (call service.Wake (value 0 ∷ [])) cond.Normal [] ∷
+    runs 1 (call service.Hiber []) cond.Normal [] ∷
+    waits 1 (call service.Hiber []) [] ∷
+    []
 
 pub hibernation : chosen script 0 10000 ≡ records
 hibernation = refl

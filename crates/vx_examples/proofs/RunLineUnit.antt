@@ -19,12 +19,12 @@ image_main = record {
   name = codes "MAIN";
   labels = [];
   stmts =
-    calls service.Assign (variable (codes "A") ∷ named (codes "TT") ∷ in_mode mode.Kernel ∷ []) ∷
-    calls service.QioW (request 1 (held_in (codes "A")) func.Read 1 no_routine 0 0 3 0) ∷
-    calls service.QioW (request 1 (held_in (codes "A")) func.Read 1 no_routine 0 0 3 0) ∷
-    calls service.QioW (request 1 (held_in (codes "A")) func.Write 0 no_routine 0 0 3 0) ∷
-    calls service.Exit (value 1 ∷ []) ∷
-    [];
+      calls service.Assign (variable (codes "A") ∷ named (codes "TT") ∷ in_mode mode.Kernel ∷ []) ∷
+      calls service.QioW (request 1 (held_in (codes "A")) func.Read 1 no_routine 0 0 3 0) ∷
+      calls service.QioW (request 1 (held_in (codes "A")) func.Read 1 no_routine 0 0 3 0) ∷
+      calls service.QioW (request 1 (held_in (codes "A")) func.Write 0 no_routine 0 0 3 0) ∷
+      calls service.Exit (value 1 ∷ []) ∷
+      [];
 }
 
 abbrev pub script : System
@@ -37,27 +37,27 @@ script = record {
 -- its records
 abbrev pub records : List Rec
 records =
-  runs 1 (call service.Assign (variable (codes "A") ∷ named (codes "TT") ∷ in_mode mode.Kernel ∷ [])) cond.Normal
-       (puts 1 (codes "A") 1 ∷ []) ∷
-  waits 1 (call service.QioW (request 1 (value 1) func.Read 1 no_routine 0 0 3 0))
-       (flag 1 1 false ∷ cleared_status 1 1 ∷ opens 1 opened.Bio 1 None 3 ∷ []) ∷
-  begins 0 1 [] ∷
-  is_done 0 1
-       (fin 1 cond.BufferOvf ∷ bytes_put 1 0 (codes "HEL") ∷ status 1 1 cond.BufferOvf 3 0 ∷ flag 1 1 true ∷ []) ∷
-  resumes 1 cond.Normal [] ∷
-  waits 1 (call service.QioW (request 1 (value 1) func.Read 1 no_routine 0 0 3 0))
-       (flag 1 1 false ∷ cleared_status 1 1 ∷ opens 2 opened.Bio 1 None 3 ∷ []) ∷
-  begins 0 2 [] ∷
-  is_done 0 2 (fin 2 cond.EndOfFile ∷ status 1 1 cond.EndOfFile 0 0 ∷ flag 1 1 true ∷ []) ∷
-  resumes 1 cond.Normal [] ∷
-  waits 1 (call service.QioW (request 1 (value 1) func.Write 0 no_routine 0 0 3 0))
-       (flag 1 1 false ∷ opens 3 opened.Bio 1 None 3 ∷ []) ∷
-  begins 0 3 [] ∷
-  is_done 0 3 (fin 3 cond.Normal ∷ flag 1 1 true ∷ []) ∷
-  resumes 1 cond.Normal [] ∷
-  runs 1 (call service.Exit (value 1 ∷ [])) cond.Normal [] ∷
-  is_gone 1 (gone 1 ∷ []) ∷
-  []
+    runs 1 (call service.Assign (variable (codes "A") ∷ named (codes "TT") ∷ in_mode mode.Kernel ∷ [])) cond.Normal
+    (puts 1 (codes "A") 1 ∷ []) ∷
+    waits 1 (call service.QioW (request 1 (value 1) func.Read 1 no_routine 0 0 3 0))
+    (flag 1 1 false ∷ cleared_status 1 1 ∷ opens 1 opened.Bio 1 None 3 ∷ []) ∷
+    begins 0 1 [] ∷
+    is_done 0 1
+    (fin 1 cond.BufferOvf ∷ bytes_put 1 0 (codes "HEL") ∷ status 1 1 cond.BufferOvf 3 0 ∷ flag 1 1 true ∷ []) ∷
+    resumes 1 cond.Normal [] ∷
+    waits 1 (call service.QioW (request 1 (value 1) func.Read 1 no_routine 0 0 3 0))
+    (flag 1 1 false ∷ cleared_status 1 1 ∷ opens 2 opened.Bio 1 None 3 ∷ []) ∷
+    begins 0 2 [] ∷
+    is_done 0 2 (fin 2 cond.EndOfFile ∷ status 1 1 cond.EndOfFile 0 0 ∷ flag 1 1 true ∷ []) ∷
+    resumes 1 cond.Normal [] ∷
+    waits 1 (call service.QioW (request 1 (value 1) func.Write 0 no_routine 0 0 3 0))
+    (flag 1 1 false ∷ opens 3 opened.Bio 1 None 3 ∷ []) ∷
+    begins 0 3 [] ∷
+    is_done 0 3 (fin 3 cond.Normal ∷ flag 1 1 true ∷ []) ∷
+    resumes 1 cond.Normal [] ∷
+    runs 1 (call service.Exit (value 1 ∷ [])) cond.Normal [] ∷
+    is_gone 1 (gone 1 ∷ []) ∷
+    []
 
 pub line_unit : chosen script 0 10000 ≡ records
 line_unit = refl

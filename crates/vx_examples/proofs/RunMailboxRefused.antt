@@ -16,9 +16,9 @@ image_main = record {
   name = codes "MAIN";
   labels = [];
   stmts =
-    calls service.CreMbx (mailbox (codes "A") (codes "BOX") 1 256 1024 mode.Kernel) ∷
-    calls service.CreMbx (mailbox (codes "A") (codes "BOX") 0 0 1024 mode.Kernel) ∷
-    [];
+      calls service.CreMbx (mailbox (codes "A") (codes "BOX") 1 256 1024 mode.Kernel) ∷
+      calls service.CreMbx (mailbox (codes "A") (codes "BOX") 0 0 1024 mode.Kernel) ∷
+      [];
 }
 
 abbrev pub script : System
@@ -31,11 +31,11 @@ script = record {
 -- its records
 abbrev pub records : List Rec
 records =
-  runs 1 (call service.CreMbx (mailbox (codes "A") (codes "BOX") 1 256 1024 mode.Kernel)) cond.NoPriv [] ∷
-  runs 1 (call service.CreMbx (mailbox (codes "A") (codes "BOX") 0 0 1024 mode.Kernel)) cond.BadParam [] ∷
-  ends 1 [] ∷
-  is_gone 1 (gone 1 ∷ []) ∷
-  []
+    runs 1 (call service.CreMbx (mailbox (codes "A") (codes "BOX") 1 256 1024 mode.Kernel)) cond.NoPriv [] ∷
+    runs 1 (call service.CreMbx (mailbox (codes "A") (codes "BOX") 0 0 1024 mode.Kernel)) cond.BadParam [] ∷
+    ends 1 [] ∷
+    is_gone 1 (gone 1 ∷ []) ∷
+    []
 
 pub mailbox_refused : chosen script 0 10000 ≡ records
 mailbox_refused = refl

@@ -20,15 +20,15 @@ image_main = record {
   name = codes "MAIN";
   labels = [];
   stmts =
-    calls service.CreMbx (mailbox (codes "A") (codes "BOX") 0 256 1024 mode.Kernel) ∷
-    stmt.Put 0 (codes "ABCDE") ∷
-    calls service.Qio (request 1 (held_in (codes "A")) func.Write 1 no_routine 0 0 5 0) ∷
-    calls service.QioW (request 2 (held_in (codes "A")) func.Read 2 no_routine 0 1 3 0) ∷
-    calls service.Qio (request 1 (held_in (codes "A")) func.Eof 1 no_routine 0 0 0 0) ∷
-    calls service.QioW (request 2 (held_in (codes "A")) func.Read 2 no_routine 0 1 3 0) ∷
-    calls service.QioW (request 2 (held_in (codes "A")) func.ReadNow 2 no_routine 0 1 3 0) ∷
-    calls service.Exit (value 1 ∷ []) ∷
-    [];
+      calls service.CreMbx (mailbox (codes "A") (codes "BOX") 0 256 1024 mode.Kernel) ∷
+      stmt.Put 0 (codes "ABCDE") ∷
+      calls service.Qio (request 1 (held_in (codes "A")) func.Write 1 no_routine 0 0 5 0) ∷
+      calls service.QioW (request 2 (held_in (codes "A")) func.Read 2 no_routine 0 1 3 0) ∷
+      calls service.Qio (request 1 (held_in (codes "A")) func.Eof 1 no_routine 0 0 0 0) ∷
+      calls service.QioW (request 2 (held_in (codes "A")) func.Read 2 no_routine 0 1 3 0) ∷
+      calls service.QioW (request 2 (held_in (codes "A")) func.ReadNow 2 no_routine 0 1 3 0) ∷
+      calls service.Exit (value 1 ∷ []) ∷
+      [];
 }
 
 abbrev pub script : System
@@ -41,27 +41,27 @@ script = record {
 -- its records
 abbrev pub records : List Rec
 records =
-  runs 1 (call service.CreMbx (mailbox (codes "A") (codes "BOX") 0 256 1024 mode.Kernel)) cond.Normal
-       (mbx (codes "BOX") true ∷ puts 1 (codes "A") 1 ∷ []) ∷
-  runs 1 (call service.Qio (request 1 (value 1) func.Write 1 no_routine 0 0 5 0)) cond.Normal
-       (flag 1 1 false ∷ cleared_status 1 1 ∷ opens 1 opened.Bio 1 None 5 ∷ mput (codes "BOX") 1
-         (body.Text (codes "ABCDE")) ∷ []) ∷
-  runs 1 (call service.QioW (request 2 (value 1) func.Read 2 no_routine 0 1 3 0)) cond.Normal
-       (flag 1 2 false ∷ cleared_status 1 2 ∷ opens 2 opened.Bio 1 None 3 ∷ mget (codes "BOX") 1 2 ∷ fin 2
-         cond.BufferOvf ∷ bytes_put 1 1 (codes "ABC") ∷ status 1 2 cond.BufferOvf 3 1 ∷ flag 1 2 true ∷ fin 1
-           cond.Normal ∷ status 1 1 cond.Normal 5 0 ∷ flag 1 1 true ∷ []) ∷
-  runs 1 (call service.Qio (request 1 (value 1) func.Eof 1 no_routine 0 0 0 0)) cond.Normal
-       (flag 1 1 false ∷ cleared_status 1 1 ∷ opens 3 opened.Bio 1 None 0 ∷ mput (codes "BOX") 3 body.Eof ∷ []) ∷
-  runs 1 (call service.QioW (request 2 (value 1) func.Read 2 no_routine 0 1 3 0)) cond.Normal
-       (flag 1 2 false ∷ cleared_status 1 2 ∷ opens 4 opened.Bio 1 None 3 ∷ mget (codes "BOX") 3 4 ∷ fin 4
-         cond.EndOfFile ∷ status 1 2 cond.EndOfFile 0 1 ∷ flag 1 2 true ∷ fin 3 cond.Normal ∷ status 1 1 cond.Normal 0
-           0 ∷ flag 1 1 true ∷ []) ∷
-  runs 1 (call service.QioW (request 2 (value 1) func.ReadNow 2 no_routine 0 1 3 0)) cond.Normal
-       (flag 1 2 false ∷ cleared_status 1 2 ∷ opens 5 opened.Bio 1 None 3 ∷ fin 5 cond.EndOfFile ∷ status 1 2
-         cond.EndOfFile 0 0 ∷ flag 1 2 true ∷ []) ∷
-  runs 1 (call service.Exit (value 1 ∷ [])) cond.Normal [] ∷
-  is_gone 1 (mbx (codes "BOX") false ∷ gone 1 ∷ []) ∷
-  []
+    runs 1 (call service.CreMbx (mailbox (codes "A") (codes "BOX") 0 256 1024 mode.Kernel)) cond.Normal
+    (mbx (codes "BOX") true ∷ puts 1 (codes "A") 1 ∷ []) ∷
+    runs 1 (call service.Qio (request 1 (value 1) func.Write 1 no_routine 0 0 5 0)) cond.Normal
+    (flag 1 1 false ∷ cleared_status 1 1 ∷ opens 1 opened.Bio 1 None 5 ∷ mput (codes "BOX") 1
+    (body.Text (codes "ABCDE")) ∷ []) ∷
+    runs 1 (call service.QioW (request 2 (value 1) func.Read 2 no_routine 0 1 3 0)) cond.Normal
+    (flag 1 2 false ∷ cleared_status 1 2 ∷ opens 2 opened.Bio 1 None 3 ∷ mget (codes "BOX") 1 2 ∷ fin 2
+    cond.BufferOvf ∷ bytes_put 1 1 (codes "ABC") ∷ status 1 2 cond.BufferOvf 3 1 ∷ flag 1 2 true ∷ fin 1
+    cond.Normal ∷ status 1 1 cond.Normal 5 0 ∷ flag 1 1 true ∷ []) ∷
+    runs 1 (call service.Qio (request 1 (value 1) func.Eof 1 no_routine 0 0 0 0)) cond.Normal
+    (flag 1 1 false ∷ cleared_status 1 1 ∷ opens 3 opened.Bio 1 None 0 ∷ mput (codes "BOX") 3 body.Eof ∷ []) ∷
+    runs 1 (call service.QioW (request 2 (value 1) func.Read 2 no_routine 0 1 3 0)) cond.Normal
+    (flag 1 2 false ∷ cleared_status 1 2 ∷ opens 4 opened.Bio 1 None 3 ∷ mget (codes "BOX") 3 4 ∷ fin 4
+    cond.EndOfFile ∷ status 1 2 cond.EndOfFile 0 1 ∷ flag 1 2 true ∷ fin 3 cond.Normal ∷ status 1 1 cond.Normal 0
+    0 ∷ flag 1 1 true ∷ []) ∷
+    runs 1 (call service.QioW (request 2 (value 1) func.ReadNow 2 no_routine 0 1 3 0)) cond.Normal
+    (flag 1 2 false ∷ cleared_status 1 2 ∷ opens 5 opened.Bio 1 None 3 ∷ fin 5 cond.EndOfFile ∷ status 1 2
+    cond.EndOfFile 0 0 ∷ flag 1 2 true ∷ []) ∷
+    runs 1 (call service.Exit (value 1 ∷ [])) cond.Normal [] ∷
+    is_gone 1 (mbx (codes "BOX") false ∷ gone 1 ∷ []) ∷
+    []
 
 pub messages : chosen script 0 10000 ≡ records
 messages = refl

@@ -13,8 +13,8 @@ image_main = record {
   name = codes "MAIN";
   labels = [];
   stmts =
-    calls service.WflOr (value 1 ∷ value 0 ∷ []) ∷
-    [];
+      calls service.WflOr (value 1 ∷ value 0 ∷ []) ∷
+      [];
 }
 
 abbrev pub script : System
@@ -27,8 +27,8 @@ script = record {
 -- its records
 abbrev pub records : List Rec
 records =
-  waits 1 (call service.WflOr (value 1 ∷ value 0 ∷ [])) [] ∷
-  []
+    waits 1 (call service.WflOr (value 1 ∷ value 0 ∷ [])) [] ∷
+    []
 
 pub no_flags : chosen script 0 10000 ≡ records
 no_flags = refl

@@ -16,11 +16,11 @@ image_main = record {
   name = codes "MAIN";
   labels = record { name = codes "H"; place = 3 } ∷ [];
   stmts =
-    calls service.CanExh (routine (codes "H") ∷ []) ∷
-    calls service.CanExh (no_routine ∷ []) ∷
-    calls service.Exit (value 1 ∷ []) ∷
-    stmt.Return ∷
-    [];
+      calls service.CanExh (routine (codes "H") ∷ []) ∷
+      calls service.CanExh (no_routine ∷ []) ∷
+      calls service.Exit (value 1 ∷ []) ∷
+      stmt.Return ∷
+      [];
 }
 
 abbrev pub script : System
@@ -33,11 +33,11 @@ script = record {
 -- its records
 abbrev pub records : List Rec
 records =
-  runs 1 (call service.CanExh (routine (codes "H") ∷ [])) cond.NoHandler [] ∷
-  runs 1 (call service.CanExh (no_routine ∷ [])) cond.Normal [] ∷
-  runs 1 (call service.Exit (value 1 ∷ [])) cond.Normal [] ∷
-  is_gone 1 (gone 1 ∷ []) ∷
-  []
+    runs 1 (call service.CanExh (routine (codes "H") ∷ [])) cond.NoHandler [] ∷
+    runs 1 (call service.CanExh (no_routine ∷ [])) cond.Normal [] ∷
+    runs 1 (call service.Exit (value 1 ∷ [])) cond.Normal [] ∷
+    is_gone 1 (gone 1 ∷ []) ∷
+    []
 
 pub no_handler : chosen script 0 10000 ≡ records
 no_handler = refl

@@ -15,11 +15,11 @@ image_b = record {
   name = codes "B";
   labels = [];
   stmts =
-    calls service.Suspnd (value 2 ∷ []) ∷
-    calls service.Suspnd (value 9 ∷ []) ∷
-    calls service.CrePrc (variable (codes "A") ∷ named (codes "KID") ∷ []) ∷
-    calls service.Exit (value 1 ∷ []) ∷
-    [];
+      calls service.Suspnd (value 2 ∷ []) ∷
+      calls service.Suspnd (value 9 ∷ []) ∷
+      calls service.CrePrc (variable (codes "A") ∷ named (codes "KID") ∷ []) ∷
+      calls service.Exit (value 1 ∷ []) ∷
+      [];
 }
 
 abbrev image_i : Image
@@ -27,8 +27,8 @@ image_i = record {
   name = codes "I";
   labels = [];
   stmts =
-    calls service.Exit (value 1 ∷ []) ∷
-    [];
+      calls service.Exit (value 1 ∷ []) ∷
+      [];
 }
 
 abbrev pub script : System
@@ -36,26 +36,26 @@ script = record {
   units = [];
   images = image_b ∷ image_i ∷ [];
   decls =
-    declared (codes "BOSS") 0 ∷
-    record (declared (codes "OTHER") 1) { member = 2 } ∷
-    record (declared (codes "KID") 1) { group = 7; member = 7; start = false } ∷
-    [];
+      declared (codes "BOSS") 0 ∷
+      record (declared (codes "OTHER") 1) { member = 2 } ∷
+      record (declared (codes "KID") 1) { group = 7; member = 7; start = false } ∷
+      [];
 }
 
 -- its records
 abbrev pub records : List Rec
 records =
-  runs 1 (call service.Suspnd (value 2 ∷ [])) cond.NoPriv [] ∷
-  runs 1 (call service.Suspnd (value 9 ∷ [])) cond.NonExpr [] ∷
-  runs 1 (call service.CrePrc (variable (codes "A") ∷ named (codes "KID") ∷ [])) cond.Normal
-       (new 3 (codes "KID") ∷ puts 1 (codes "A") 3 ∷ []) ∷
-  runs 1 (call service.Exit (value 1 ∷ [])) cond.Normal [] ∷
-  is_gone 1 (gone 1 ∷ []) ∷
-  runs 2 (call service.Exit (value 1 ∷ [])) cond.Normal [] ∷
-  is_gone 2 (gone 2 ∷ []) ∷
-  runs 3 (call service.Exit (value 1 ∷ [])) cond.Normal [] ∷
-  is_gone 3 (gone 3 ∷ []) ∷
-  []
+    runs 1 (call service.Suspnd (value 2 ∷ [])) cond.NoPriv [] ∷
+    runs 1 (call service.Suspnd (value 9 ∷ [])) cond.NonExpr [] ∷
+    runs 1 (call service.CrePrc (variable (codes "A") ∷ named (codes "KID") ∷ [])) cond.Normal
+    (new 3 (codes "KID") ∷ puts 1 (codes "A") 3 ∷ []) ∷
+    runs 1 (call service.Exit (value 1 ∷ [])) cond.Normal [] ∷
+    is_gone 1 (gone 1 ∷ []) ∷
+    runs 2 (call service.Exit (value 1 ∷ [])) cond.Normal [] ∷
+    is_gone 2 (gone 2 ∷ []) ∷
+    runs 3 (call service.Exit (value 1 ∷ [])) cond.Normal [] ∷
+    is_gone 3 (gone 3 ∷ []) ∷
+    []
 
 pub no_privilege : chosen script 0 10000 ≡ records
 no_privilege = refl

@@ -20,12 +20,12 @@ image_main = record {
   name = codes "MAIN";
   labels = record { name = codes "H"; place = 3 } ∷ record { name = codes "Z"; place = 5 } ∷ [];
   stmts =
-    calls service.DclExh (routine (codes "H") ∷ []) ∷
-    stmt.Let target.R0 (operand.Num 7) ∷
-    stmt.Goto 1 ∷
-    calls service.SetEf (valued operand.R0 ∷ []) ∷
-    stmt.Return ∷
-    [];
+      calls service.DclExh (routine (codes "H") ∷ []) ∷
+      stmt.Let target.R0 (operand.Num 7) ∷
+      stmt.Goto 1 ∷
+      calls service.SetEf (valued operand.R0 ∷ []) ∷
+      stmt.Return ∷
+      [];
 }
 
 abbrev pub script : System
@@ -38,14 +38,14 @@ script = record {
 -- its records
 abbrev pub records : List Rec
 records =
-  runs 1 (call service.DclExh (routine (codes "H") ∷ [])) cond.Normal
-       (opens 1 opened.Exh 1 (Some mode.User) 0 ∷ []) ∷
-  ends 1 [] ∷
-  handles 1 (enters 1 ∷ []) ∷
-  runs 1 (call service.SetEf (value 7 ∷ [])) cond.WasClr (flag 1 7 true ∷ []) ∷
-  returns 1 [] ∷
-  is_gone 1 (gone 1 ∷ []) ∷
-  []
+    runs 1 (call service.DclExh (routine (codes "H") ∷ [])) cond.Normal
+    (opens 1 opened.Exh 1 (Some mode.User) 0 ∷ []) ∷
+    ends 1 [] ∷
+    handles 1 (enters 1 ∷ []) ∷
+    runs 1 (call service.SetEf (value 7 ∷ [])) cond.WasClr (flag 1 7 true ∷ []) ∷
+    returns 1 [] ∷
+    is_gone 1 (gone 1 ∷ []) ∷
+    []
 
 pub r0_at_end : chosen script 0 10000 ≡ records
 r0_at_end = refl

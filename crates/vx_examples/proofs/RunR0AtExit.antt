@@ -19,11 +19,11 @@ image_main = record {
   name = codes "MAIN";
   labels = record { name = codes "H"; place = 2 } ∷ [];
   stmts =
-    calls service.DclExh (routine (codes "H") ∷ []) ∷
-    calls service.Exit (value 44 ∷ []) ∷
-    calls service.SetEf (valued operand.R0 ∷ []) ∷
-    stmt.Return ∷
-    [];
+      calls service.DclExh (routine (codes "H") ∷ []) ∷
+      calls service.Exit (value 44 ∷ []) ∷
+      calls service.SetEf (valued operand.R0 ∷ []) ∷
+      stmt.Return ∷
+      [];
 }
 
 abbrev pub script : System
@@ -36,14 +36,14 @@ script = record {
 -- its records
 abbrev pub records : List Rec
 records =
-  runs 1 (call service.DclExh (routine (codes "H") ∷ [])) cond.Normal
-       (opens 1 opened.Exh 1 (Some mode.User) 0 ∷ []) ∷
-  runs 1 (call service.Exit (value 44 ∷ [])) cond.Normal [] ∷
-  handles 1 (enters 1 ∷ []) ∷
-  runs 1 (call service.SetEf (value 1 ∷ [])) cond.WasClr (flag 1 1 true ∷ []) ∷
-  returns 1 [] ∷
-  is_gone 1 (gone 1 ∷ []) ∷
-  []
+    runs 1 (call service.DclExh (routine (codes "H") ∷ [])) cond.Normal
+    (opens 1 opened.Exh 1 (Some mode.User) 0 ∷ []) ∷
+    runs 1 (call service.Exit (value 44 ∷ [])) cond.Normal [] ∷
+    handles 1 (enters 1 ∷ []) ∷
+    runs 1 (call service.SetEf (value 1 ∷ [])) cond.WasClr (flag 1 1 true ∷ []) ∷
+    returns 1 [] ∷
+    is_gone 1 (gone 1 ∷ []) ∷
+    []
 
 pub r0_at_exit : chosen script 0 10000 ≡ records
 r0_at_exit = refl

@@ -20,12 +20,12 @@ image_main = record {
   name = codes "MAIN";
   labels = record { name = codes "H"; place = 3 } ∷ [];
   stmts =
-    calls service.DclExh (routine (codes "H") ∷ []) ∷
-    stmt.Let target.R0 (operand.Num 9) ∷
-    calls service.ForceX (value 0 ∷ value 5 ∷ []) ∷
-    calls service.SetEf (valued operand.R0 ∷ []) ∷
-    stmt.Return ∷
-    [];
+      calls service.DclExh (routine (codes "H") ∷ []) ∷
+      stmt.Let target.R0 (operand.Num 9) ∷
+      calls service.ForceX (value 0 ∷ value 5 ∷ []) ∷
+      calls service.SetEf (valued operand.R0 ∷ []) ∷
+      stmt.Return ∷
+      [];
 }
 
 abbrev pub script : System
@@ -38,16 +38,16 @@ script = record {
 -- its records
 abbrev pub records : List Rec
 records =
-  runs 1 (call service.DclExh (routine (codes "H") ∷ [])) cond.Normal
-       (opens 1 opened.Exh 1 (Some mode.User) 0 ∷ []) ∷
-  runs 1 (call service.ForceX (value 0 ∷ value 5 ∷ [])) cond.Normal
-       (opens 2 opened.Force 1 (Some mode.User) 0 ∷ que 2 ∷ []) ∷
-  starts 1 2 (leaves 2 ∷ []) ∷
-  handles 1 (enters 1 ∷ []) ∷
-  runs 1 (call service.SetEf (value 1 ∷ [])) cond.WasClr (flag 1 1 true ∷ []) ∷
-  returns 1 [] ∷
-  is_gone 1 (gone 1 ∷ []) ∷
-  []
+    runs 1 (call service.DclExh (routine (codes "H") ∷ [])) cond.Normal
+    (opens 1 opened.Exh 1 (Some mode.User) 0 ∷ []) ∷
+    runs 1 (call service.ForceX (value 0 ∷ value 5 ∷ [])) cond.Normal
+    (opens 2 opened.Force 1 (Some mode.User) 0 ∷ que 2 ∷ []) ∷
+    starts 1 2 (leaves 2 ∷ []) ∷
+    handles 1 (enters 1 ∷ []) ∷
+    runs 1 (call service.SetEf (value 1 ∷ [])) cond.WasClr (flag 1 1 true ∷ []) ∷
+    returns 1 [] ∷
+    is_gone 1 (gone 1 ∷ []) ∷
+    []
 
 pub r0_forced : chosen script 0 10000 ≡ records
 r0_forced = refl

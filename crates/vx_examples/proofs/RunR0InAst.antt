@@ -20,14 +20,14 @@ image_main = record {
   name = codes "MAIN";
   labels = record { name = codes "T"; place = 3 } ∷ record { name = codes "H"; place = 5 } ∷ [];
   stmts =
-    calls service.DclExh (routine (codes "H") ∷ []) ∷
-    calls service.DclAst (routine (codes "T") ∷ value 0 ∷ in_mode mode.Kernel ∷ []) ∷
-    calls service.Exit (value 3 ∷ []) ∷
-    stmt.Let target.R0 (operand.Num 8) ∷
-    calls service.Exit (valued operand.R0 ∷ []) ∷
-    calls service.SetEf (valued operand.R0 ∷ []) ∷
-    stmt.Return ∷
-    [];
+      calls service.DclExh (routine (codes "H") ∷ []) ∷
+      calls service.DclAst (routine (codes "T") ∷ value 0 ∷ in_mode mode.Kernel ∷ []) ∷
+      calls service.Exit (value 3 ∷ []) ∷
+      stmt.Let target.R0 (operand.Num 8) ∷
+      calls service.Exit (valued operand.R0 ∷ []) ∷
+      calls service.SetEf (valued operand.R0 ∷ []) ∷
+      stmt.Return ∷
+      [];
 }
 
 abbrev pub script : System
@@ -40,17 +40,17 @@ script = record {
 -- its records
 abbrev pub records : List Rec
 records =
-  runs 1 (call service.DclExh (routine (codes "H") ∷ [])) cond.Normal
-       (opens 1 opened.Exh 1 (Some mode.User) 0 ∷ []) ∷
-  runs 1 (call service.DclAst (routine (codes "T") ∷ value 0 ∷ in_mode mode.Kernel ∷ [])) cond.Normal
-       (opens 2 opened.Ast 1 (Some mode.User) 0 ∷ que 2 ∷ []) ∷
-  starts 1 2 [] ∷
-  runs 1 (call service.Exit (value 8 ∷ [])) cond.Normal (leaves 2 ∷ []) ∷
-  handles 1 (enters 1 ∷ []) ∷
-  runs 1 (call service.SetEf (value 1 ∷ [])) cond.WasClr (flag 1 1 true ∷ []) ∷
-  returns 1 [] ∷
-  is_gone 1 (gone 1 ∷ []) ∷
-  []
+    runs 1 (call service.DclExh (routine (codes "H") ∷ [])) cond.Normal
+    (opens 1 opened.Exh 1 (Some mode.User) 0 ∷ []) ∷
+    runs 1 (call service.DclAst (routine (codes "T") ∷ value 0 ∷ in_mode mode.Kernel ∷ [])) cond.Normal
+    (opens 2 opened.Ast 1 (Some mode.User) 0 ∷ que 2 ∷ []) ∷
+    starts 1 2 [] ∷
+    runs 1 (call service.Exit (value 8 ∷ [])) cond.Normal (leaves 2 ∷ []) ∷
+    handles 1 (enters 1 ∷ []) ∷
+    runs 1 (call service.SetEf (value 1 ∷ [])) cond.WasClr (flag 1 1 true ∷ []) ∷
+    returns 1 [] ∷
+    is_gone 1 (gone 1 ∷ []) ∷
+    []
 
 pub r0_in_ast : chosen script 0 10000 ≡ records
 r0_in_ast = refl

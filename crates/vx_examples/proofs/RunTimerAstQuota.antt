@@ -17,12 +17,12 @@ image_main = record {
   name = codes "MAIN";
   labels = record { name = codes "T"; place = 4 } ∷ [];
   stmts =
-    calls service.SetImr (value 1 ∷ value 5 ∷ no_routine ∷ value 0 ∷ []) ∷
-    calls service.SetImr (value 1 ∷ value 5 ∷ routine (codes "T") ∷ value 0 ∷ []) ∷
-    calls service.SchdWk (value 0 ∷ value 5 ∷ value 0 ∷ []) ∷
-    calls service.Exit (value 1 ∷ []) ∷
-    stmt.Return ∷
-    [];
+      calls service.SetImr (value 1 ∷ value 5 ∷ no_routine ∷ value 0 ∷ []) ∷
+      calls service.SetImr (value 1 ∷ value 5 ∷ routine (codes "T") ∷ value 0 ∷ []) ∷
+      calls service.SchdWk (value 0 ∷ value 5 ∷ value 0 ∷ []) ∷
+      calls service.Exit (value 1 ∷ []) ∷
+      stmt.Return ∷
+      [];
 }
 
 abbrev pub script : System
@@ -35,13 +35,13 @@ script = record {
 -- its records
 abbrev pub records : List Rec
 records =
-  runs 1 (call service.SetImr (value 1 ∷ value 5 ∷ no_routine ∷ value 0 ∷ [])) cond.Normal
-       (flag 1 1 false ∷ opens 1 opened.Timer 1 None 0 ∷ []) ∷
-  runs 1 (call service.SetImr (value 1 ∷ value 5 ∷ routine (codes "T") ∷ value 0 ∷ [])) cond.ExQuota [] ∷
-  runs 1 (call service.SchdWk (value 0 ∷ value 5 ∷ value 0 ∷ [])) cond.ExQuota [] ∷
-  runs 1 (call service.Exit (value 1 ∷ [])) cond.Normal [] ∷
-  is_gone 1 (drops 1 ∷ gone 1 ∷ []) ∷
-  []
+    runs 1 (call service.SetImr (value 1 ∷ value 5 ∷ no_routine ∷ value 0 ∷ [])) cond.Normal
+    (flag 1 1 false ∷ opens 1 opened.Timer 1 None 0 ∷ []) ∷
+    runs 1 (call service.SetImr (value 1 ∷ value 5 ∷ routine (codes "T") ∷ value 0 ∷ [])) cond.ExQuota [] ∷
+    runs 1 (call service.SchdWk (value 0 ∷ value 5 ∷ value 0 ∷ [])) cond.ExQuota [] ∷
+    runs 1 (call service.Exit (value 1 ∷ [])) cond.Normal [] ∷
+    is_gone 1 (drops 1 ∷ gone 1 ∷ []) ∷
+    []
 
 pub timer_ast_quota : chosen script 0 10000 ≡ records
 timer_ast_quota = refl

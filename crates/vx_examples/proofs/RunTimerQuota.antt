@@ -15,10 +15,10 @@ image_main = record {
   name = codes "MAIN";
   labels = [];
   stmts =
-    calls service.SetEf (value 1 ∷ []) ∷
-    calls service.SetImr (value 1 ∷ value 5 ∷ no_routine ∷ value 0 ∷ []) ∷
-    calls service.ReadEf (value 1 ∷ variable (codes "A") ∷ []) ∷
-    [];
+      calls service.SetEf (value 1 ∷ []) ∷
+      calls service.SetImr (value 1 ∷ value 5 ∷ no_routine ∷ value 0 ∷ []) ∷
+      calls service.ReadEf (value 1 ∷ variable (codes "A") ∷ []) ∷
+      [];
 }
 
 abbrev pub script : System
@@ -31,12 +31,12 @@ script = record {
 -- its records
 abbrev pub records : List Rec
 records =
-  runs 1 (call service.SetEf (value 1 ∷ [])) cond.WasClr (flag 1 1 true ∷ []) ∷
-  runs 1 (call service.SetImr (value 1 ∷ value 5 ∷ no_routine ∷ value 0 ∷ [])) cond.ExQuota [] ∷
-  runs 1 (call service.ReadEf (value 1 ∷ variable (codes "A") ∷ [])) cond.WasSet (puts 1 (codes "A") 2 ∷ []) ∷
-  ends 1 [] ∷
-  is_gone 1 (gone 1 ∷ []) ∷
-  []
+    runs 1 (call service.SetEf (value 1 ∷ [])) cond.WasClr (flag 1 1 true ∷ []) ∷
+    runs 1 (call service.SetImr (value 1 ∷ value 5 ∷ no_routine ∷ value 0 ∷ [])) cond.ExQuota [] ∷
+    runs 1 (call service.ReadEf (value 1 ∷ variable (codes "A") ∷ [])) cond.WasSet (puts 1 (codes "A") 2 ∷ []) ∷
+    ends 1 [] ∷
+    is_gone 1 (gone 1 ∷ []) ∷
+    []
 
 pub timer_quota : chosen script 0 10000 ≡ records
 timer_quota = refl

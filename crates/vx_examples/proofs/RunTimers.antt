@@ -19,18 +19,18 @@ image_main = record {
   name = codes "MAIN";
   labels = record { name = codes "X"; place = 8 } ∷ record { name = codes "T"; place = 10 } ∷ [];
   stmts =
-    calls service.CmExec (routine (codes "X") ∷ value 0 ∷ []) ∷
-    calls service.SetImr (value 1 ∷ value 10 ∷ routine (codes "T") ∷ value 7 ∷ []) ∷
-    calls service.SetImr (value 2 ∷ value 10 ∷ routine (codes "T") ∷ value 8 ∷ []) ∷
-    calls service.SetImr (value 3 ∷ value 10 ∷ no_routine ∷ value 9 ∷ []) ∷
-    calls service.CanTim (value 8 ∷ in_mode mode.Kernel ∷ []) ∷
-    calls service.WaitFr (value 1 ∷ []) ∷
-    calls service.CanTim (value 0 ∷ in_mode mode.Kernel ∷ []) ∷
-    calls service.Exit (value 1 ∷ []) ∷
-    calls service.SetImr (value 4 ∷ value 30 ∷ no_routine ∷ value 7 ∷ []) ∷
-    stmt.Return ∷
-    stmt.Return ∷
-    [];
+      calls service.CmExec (routine (codes "X") ∷ value 0 ∷ []) ∷
+      calls service.SetImr (value 1 ∷ value 10 ∷ routine (codes "T") ∷ value 7 ∷ []) ∷
+      calls service.SetImr (value 2 ∷ value 10 ∷ routine (codes "T") ∷ value 8 ∷ []) ∷
+      calls service.SetImr (value 3 ∷ value 10 ∷ no_routine ∷ value 9 ∷ []) ∷
+      calls service.CanTim (value 8 ∷ in_mode mode.Kernel ∷ []) ∷
+      calls service.WaitFr (value 1 ∷ []) ∷
+      calls service.CanTim (value 0 ∷ in_mode mode.Kernel ∷ []) ∷
+      calls service.Exit (value 1 ∷ []) ∷
+      calls service.SetImr (value 4 ∷ value 30 ∷ no_routine ∷ value 7 ∷ []) ∷
+      stmt.Return ∷
+      stmt.Return ∷
+      [];
 }
 
 abbrev pub script : System
@@ -43,26 +43,26 @@ script = record {
 -- its records
 abbrev pub records : List Rec
 records =
-  runs 1 (call service.CmExec (routine (codes "X") ∷ value 0 ∷ [])) cond.Normal [] ∷
-  runs 1 (call service.SetImr (value 4 ∷ value 30 ∷ no_routine ∷ value 7 ∷ [])) cond.Normal
-       (flag 1 4 false ∷ opens 1 opened.Timer 1 None 0 ∷ []) ∷
-  returns 1 [] ∷
-  runs 1 (call service.SetImr (value 1 ∷ value 10 ∷ routine (codes "T") ∷ value 7 ∷ [])) cond.Normal
-       (flag 1 1 false ∷ opens 2 opened.Timer 1 (Some mode.User) 0 ∷ []) ∷
-  runs 1 (call service.SetImr (value 2 ∷ value 10 ∷ routine (codes "T") ∷ value 8 ∷ [])) cond.Normal
-       (flag 1 2 false ∷ opens 3 opened.Timer 1 (Some mode.User) 0 ∷ []) ∷
-  runs 1 (call service.SetImr (value 3 ∷ value 10 ∷ no_routine ∷ value 9 ∷ [])) cond.Normal
-       (flag 1 3 false ∷ opens 4 opened.Timer 1 None 0 ∷ []) ∷
-  runs 1 (call service.CanTim (value 8 ∷ in_mode mode.Kernel ∷ [])) cond.Normal (drops 3 ∷ []) ∷
-  waits 1 (call service.WaitFr (value 1 ∷ [])) [] ∷
-  ticks 10 (fires 2 ∷ flag 1 1 true ∷ que 2 ∷ fires 4 ∷ flag 1 3 true ∷ []) ∷
-  starts 1 2 [] ∷
-  returns 1 (leaves 2 ∷ []) ∷
-  resumes 1 cond.Normal [] ∷
-  runs 1 (call service.CanTim (value 0 ∷ in_mode mode.Kernel ∷ [])) cond.Normal [] ∷
-  runs 1 (call service.Exit (value 1 ∷ [])) cond.Normal [] ∷
-  is_gone 1 (drops 1 ∷ gone 1 ∷ []) ∷
-  []
+    runs 1 (call service.CmExec (routine (codes "X") ∷ value 0 ∷ [])) cond.Normal [] ∷
+    runs 1 (call service.SetImr (value 4 ∷ value 30 ∷ no_routine ∷ value 7 ∷ [])) cond.Normal
+    (flag 1 4 false ∷ opens 1 opened.Timer 1 None 0 ∷ []) ∷
+    returns 1 [] ∷
+    runs 1 (call service.SetImr (value 1 ∷ value 10 ∷ routine (codes "T") ∷ value 7 ∷ [])) cond.Normal
+    (flag 1 1 false ∷ opens 2 opened.Timer 1 (Some mode.User) 0 ∷ []) ∷
+    runs 1 (call service.SetImr (value 2 ∷ value 10 ∷ routine (codes "T") ∷ value 8 ∷ [])) cond.Normal
+    (flag 1 2 false ∷ opens 3 opened.Timer 1 (Some mode.User) 0 ∷ []) ∷
+    runs 1 (call service.SetImr (value 3 ∷ value 10 ∷ no_routine ∷ value 9 ∷ [])) cond.Normal
+    (flag 1 3 false ∷ opens 4 opened.Timer 1 None 0 ∷ []) ∷
+    runs 1 (call service.CanTim (value 8 ∷ in_mode mode.Kernel ∷ [])) cond.Normal (drops 3 ∷ []) ∷
+    waits 1 (call service.WaitFr (value 1 ∷ [])) [] ∷
+    ticks 10 (fires 2 ∷ flag 1 1 true ∷ que 2 ∷ fires 4 ∷ flag 1 3 true ∷ []) ∷
+    starts 1 2 [] ∷
+    returns 1 (leaves 2 ∷ []) ∷
+    resumes 1 cond.Normal [] ∷
+    runs 1 (call service.CanTim (value 0 ∷ in_mode mode.Kernel ∷ [])) cond.Normal [] ∷
+    runs 1 (call service.Exit (value 1 ∷ [])) cond.Normal [] ∷
+    is_gone 1 (drops 1 ∷ gone 1 ∷ []) ∷
+    []
 
 pub timers : chosen script 0 10000 ≡ records
 timers = refl

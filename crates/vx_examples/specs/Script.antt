@@ -88,12 +88,13 @@ nth args n = slice_index_or args n arg.Unused
 -- the arguments of $QIO and $QIOW, in their order
 abbrev pub request : ℕ → Arg → Func → ℕ → Arg → ℕ → ℕ → ℕ → ℕ → List Arg
 request efn chan func iosb ast prm buf len blk = value efn ∷ chan ∷ function func ∷ value iosb ∷ ast ∷ value prm ∷
-  value buf ∷ value len ∷ value blk ∷ []
+    value buf ∷ value len ∷ value blk ∷ []
 
 -- those of $CREMBX
 abbrev pub mailbox : List ℕ → List ℕ → ℕ → ℕ → ℕ → Mode → List Arg
-mailbox place name perm maxmsg bufquo mode = variable place ∷ named name ∷ value perm ∷ value maxmsg ∷ value bufquo ∷
-  in_mode mode ∷ []
+mailbox place name perm maxmsg bufquo mode = variable place ∷ named name ∷ value perm ∷ value maxmsg ∷ value
+    bufquo ∷
+    in_mode mode ∷ []
 
 -- a call with its arguments, and none behind them
 abbrev pub call : Service → List Arg → Call
@@ -126,8 +127,16 @@ usual_limits = record { ast = 24; bio = 18; dio = 18; byt = 8192; tqe = 10 }
 
 -- a process of an image, with all keys as they are by default
 abbrev pub declared : List ℕ → ℕ → ProcDecl
-declared name image = record { name = name; image = image; group = 1; member = 1; mode = User; limits = usual_limits;
-  privs = no_privs; start = true }
+declared name image = record {
+  name = name;
+  image = image;
+  group = 1;
+  member = 1;
+  mode = User;
+  limits = usual_limits;
+  privs = no_privs;
+  start = true;
+}
 
 -- Records.
 

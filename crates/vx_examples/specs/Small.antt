@@ -1,6 +1,6 @@
 -- Small states: one process, or two, with little in each, and words for what a call comes to on them.
-use Rattle.std.specs.Prelude.{◌≡◌, ℕ, List, [], ◌∷◌, Bool, true, false, codes, Option, Some, None, replicate}
-use Rattle.vx_base.specs.Pieces.{Request, Status, Channel, Cluster, Association, Mailbox, Contents, Lines, Blocks, all_on, cleared}
+use Rattle.std.specs.Prelude.{◌≡◌, ℕ, List, [], ◌∷◌, Bool, false, codes, Some, None, replicate}
+use Rattle.vx_base.specs.Pieces.{Request, Status, Channel, Cluster, Association, Mailbox, Lines, Blocks, all_on, cleared}
 use Rattle.vx_base.specs.declared.call.Call.{Call}
 use Rattle.vx_base.specs.declared.cond.Cond.{Cond}
 use Rattle.vx_base.specs.declared.effects.Effect.{Effect}
@@ -10,8 +10,7 @@ use Rattle.vx_base.specs.declared.frame.FrameKind.TheVariants as kind
 use Rattle.vx_base.specs.declared.frame.Phase.TheVariants as phase
 use Rattle.vx_base.specs.declared.frame.Wait.{Wait}
 use Rattle.vx_base.specs.declared.mode.Mode.{Mode}
-use Rattle.vx_base.specs.declared.mode.Mode.TheVariants.{Kernel, User}
-use Rattle.vx_base.specs.declared.number.Id.{Id}
+use Rattle.vx_base.specs.declared.mode.Mode.TheVariants.{User}
 use Rattle.vx_base.specs.declared.request.Device.{Device}
 use Rattle.vx_base.specs.declared.request.Device.TheVariants as device
 use Rattle.vx_base.specs.declared.request.Func.{Func}
@@ -20,10 +19,8 @@ use Rattle.vx_image.specs.Storage.{Storage}
 use Rattle.vx_image.specs.declared.image.Image.{Image}
 use Rattle.vx_image.specs.declared.stmt.Stmt.TheVariants as stmt
 use Rattle.vx_image.specs.declared.system.System.{System}
-use Rattle.vx_record.specs.Parts.{Outcome}
 use Rattle.vx_record.specs.Services.{service}
 use Rattle.vx_record.specs.State.{Process, State}
-use Rattle.vx_record.specs.declared.served.Served.{Served}
 use Rattle.vx_record.specs.declared.served.Served.TheVariants.{Answered, Waits}
 use Rattle.vx_examples.specs.Script.{process, id, unit, box, declared, no_privs}
 
@@ -41,9 +38,9 @@ small_image = record {
 abbrev pub small_system : System
 small_system = record {
   units =
-    record { name = codes "TT"; blocks = 0; inputs = []; faults = [] } ∷
-    record { name = codes "DK"; blocks = 1; inputs = []; faults = [] } ∷
-    [];
+      record { name = codes "TT"; blocks = 0; inputs = []; faults = [] } ∷
+      record { name = codes "DK"; blocks = 1; inputs = []; faults = [] } ∷
+      [];
   images = small_image ∷ [];
   decls = declared (codes "P") 0 ∷ declared (codes "Q") 0 ∷ [];
 }
@@ -107,9 +104,9 @@ with_all procs = record {
   attention = [];
   boxes = None ∷ None ∷ [];
   units =
-    record { contents = Lines [] []; faults = []; services = 0 } ∷
-    record { contents = Blocks (replicate 512 0); faults = []; services = 0 } ∷
-    [];
+      record { contents = Lines [] []; faults = []; services = 0 } ∷
+      record { contents = Blocks (replicate 512 0); faults = []; services = 0 } ∷
+      [];
 }
 
 -- process 1 alone
@@ -131,7 +128,7 @@ both = with_both somebody somebody
 -- a cluster of group 1, with its flags
 abbrev pub cluster : List ℕ → Bool → Bool → ℕ → Cluster
 cluster name permanent marked flags = record
-  { group = 1; name = name; permanent = permanent; marked = marked; flags = flags }
+    { group = 1; name = name; permanent = permanent; marked = marked; flags = flags }
 
 abbrev pub association : ℕ → ℕ → List ℕ → Association
 association p k name = record { p = process p; k = k; group = 1; name = name }
@@ -150,15 +147,21 @@ on_box b mode = record { device = device.Mailbox (box b); mode = mode }
 
 -- a temporary mailbox for messages of at most 3 bytes, and 5 bytes together
 abbrev pub box_holding : List Msg → Mailbox
-box_holding messages = record { name = codes "BOX"; permanent = false; marked = false; maxmsg = 3; bufquo = 5;
-  messages = messages }
+box_holding messages = record {
+  name = codes "BOX";
+  permanent = false;
+  marked = false;
+  maxmsg = 3;
+  bufquo = 5;
+  messages = messages;
+}
 
 -- Calls.
 
 -- a call of process 1 is answered with a condition, these effects and this state
 abbrev pub Answers : State → Call → Cond → List Effect → State → Type 0
 Answers s c cond effects after = service s (process 1) c ≡ record
-  { answer = Answered cond; effects = effects; after = after }
+    { answer = Answered cond; effects = effects; after = after }
 
 -- it is refused: nothing is logged, and nothing is changed
 abbrev pub Refuses : State → Call → Cond → Type 0
@@ -221,4 +224,4 @@ filled cond count info = record { cond = Some cond; count = count; info = info }
 -- process 1, connected, with a store
 abbrev pub connected_with : List (List ℕ) → List Status → Process
 connected_with buffers statuses = record connected
-  { store = record small_store { buffers = buffers; statuses = statuses } }
+    { store = record small_store { buffers = buffers; statuses = statuses } }
