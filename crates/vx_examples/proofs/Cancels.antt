@@ -106,15 +106,15 @@ pub cancel-mailbox :
     (record (with_both connected connected) {
       boxes = Some (box_holding (message 2 1 ∷ message 3 2 ∷ message 4 1 ∷ [])) ∷ None ∷ [];
       requests = on_3 2 func.Write ∷ of_process_2 ∷ on_3 4 func.Eof ∷ [];
-      attention = entry_on 1 1 3 ∷ entry_on 5 2 3 ∷ entry_on 6 1 3 ∷ [];
+      attention = entry_on 1 1 3 ∷ entry_on 5 2 3 ∷ entry_on 6 1 3 ∷ entry_on 8 1 2 ∷ [];
     })
     (call service.Cancel (value 3 ∷ [])) cond.Normal
-    (mcut (codes "BOX") 2 ∷ fin 2 cond.Cancel ∷ flag 1 2 true ∷ mcut (codes "BOX") 4 ∷ fin 4 cond.Cancel ∷ flag 1 2
-    true ∷ drops 1 ∷ drops 6 ∷ [])
+    (mcut (codes "BOX") 2 ∷ fin 2 cond.Cancel ∷ flag 1 2 true ∷ mcut (codes "BOX") 4 ∷ fin 4 cond.Cancel ∷
+    flag 1 2 true ∷ drops 1 ∷ drops 6 ∷ [])
     (record (with_both (record connected { low = 4 }) connected) {
       boxes = Some (box_holding (message 3 2 ∷ [])) ∷ None ∷ [];
       requests = of_process_2 ∷ [];
-      attention = entry_on 5 2 3 ∷ [];
+      attention = entry_on 5 2 3 ∷ entry_on 8 1 2 ∷ [];
     })
 cancel-mailbox = refl
 
@@ -134,8 +134,7 @@ cancel-write_now = refl
 pub dassgn-cancels :
     Answers (record online {
       boxes = Some (box_holding (message 2 1 ∷ [])) ∷ None ∷ [];
-      requests = on_3 2 func.Write ∷
-          [];
+      requests = on_3 2 func.Write ∷ [];
       attention = entry_on 1 1 3 ∷ [];
     })
     (call service.Dassgn (value 3 ∷ [])) cond.Normal

@@ -105,6 +105,11 @@ pub waitfr-clear :
     (with (record (waiting (wait.Flags 5 32 false)) { low = 223 }))
 waitfr-clear = refl
 
+-- flag 40 is flag 8 of its word
+pub waitfr-high :
+    Suspends alone (call service.WaitFr (value 40 ∷ [])) [] (with (waiting (wait.Flags 40 256 false)))
+waitfr-high = refl
+
 pub waitfr-above : Refuses alone (call service.WaitFr (value 128 ∷ [])) cond.IllEfc
 waitfr-above = refl
 
