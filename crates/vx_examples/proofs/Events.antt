@@ -18,6 +18,7 @@ use Rattle.vx_base.specs.declared.routine.Entry.TheVariants as entry
 use Rattle.vx_base.specs.declared.service.Service.TheVariants as service
 use Rattle.vx_examples.specs.Script.{call, calls, flag, held_in, id, in_r0, leaves, no_privs, process, puts_r0, routine, unit, value}
 use Rattle.vx_examples.specs.Small.{alone, block_unit, both, frame_of, line_unit, outstanding, small_image, small_store, small_system, somebody, waiting, with, with_both}
+use Rattle.vx_image.specs.declared.stmt.Rel.TheVariants as rel
 use Rattle.vx_image.specs.declared.stmt.Stmt.TheVariants as stmt
 use Rattle.vx_image.specs.declared.stmt.Stmt.{Stmt}
 use Rattle.vx_record.specs.Events.{enabled, step}
@@ -311,6 +312,34 @@ pub run-local : step (running counts alone) (event.Run (process 1)) ≡ record {
       (at_place 2 (record somebody { store = record small_store { vars = 500 ∷ 7 ∷ [] } })));
 }
 run-local = refl
+
+-- A loop of two statements, and a call behind it: where it takes the 1,000 statements, the call is left for the next
+-- RUN.
+
+abbrev loops : List Stmt
+loops =
+    stmt.Return ∷ stmt.Add (target.Var 65) (operand.Var 65) (operand.Num 1) ∷
+    stmt.If (operand.Var 65) rel.Ne (operand.Num 500) 0 ∷ calls service.SetEf (value 5 ∷ []) ∷ []
+
+abbrev counted : ℕ → Process → Process
+counted n pr = record pr { store = record small_store { vars = n ∷ 0 ∷ [] } }
+
+pub run-last_local : step (running loops (with (at_place 1 somebody))) (event.Run (process 1)) ≡ record {
+  answer = answer.Local;
+  effects = [];
+  after = running loops (with (at_place 3 (counted 500 somebody)));
+}
+run-last_local = refl
+
+pub run-after_local :
+    (step (running loops (with (at_place 3 (counted 500 somebody)))) (event.Run (process 1))).answer ≡
+    answer.Service (call service.SetEf (value 5 ∷ [])) cond.WasClr
+run-after_local = refl
+
+pub run-fewer_local :
+    (step (running loops (with (at_place 1 (counted 1 somebody)))) (event.Run (process 1))).answer ≡
+    answer.Service (call service.SetEf (value 5 ∷ [])) cond.WasClr
+run-fewer_local = refl
 
 -- AST: the routine starts in a frame of its own, with R0 saved; the AST is queued no more.
 pub ast-starts : step (with (with_r0 5 (with_ast (waiting wait.Hiber)))) (event.Ast (process 1)) ≡ record {

@@ -29,9 +29,11 @@ pub mod RunFirstPick
 pub mod RunFlagTest
 pub mod RunFlags
 pub mod RunForcedExit
+pub mod RunFourProcesses
 pub mod RunFullMailbox
 pub mod RunHandlerInKernel
 pub mod RunHibernation
+pub mod RunLimit
 pub mod RunLineFault
 pub mod RunLineUnit
 pub mod RunLocalStatements
@@ -50,6 +52,7 @@ pub mod RunRefusals
 pub mod RunTimerAstQuota
 pub mod RunTimerQuota
 pub mod RunTimers
+pub mod RunTwoUnits
 pub mod Rundown
 pub mod Timers
 pub mod Units

@@ -41,11 +41,11 @@ records =
     runs 1 (call service.CreMbx (mailbox (codes "A") (codes "BOX") 0 256 1024 mode.Kernel)) cond.Normal
     (mbx (codes "BOX") true ∷ puts 1 (codes "A") 1 ∷ []) ∷
     runs 1 (call service.Qio (request 1 (value 1) func.WrtAttn 1 (routine (codes "T")) 0 0 0 0)) cond.Normal
-    (flag 1 1 false ∷ cleared_status 1 1 ∷ opens 1 opened.Attn 1 (Some mode.User) 0 ∷ status 1 1 cond.Normal 0 0 ∷
-    flag 1 1 true ∷ []) ∷
+    (flag 1 1 false ∷ cleared_status 1 1 ∷ opens 1 opened.Attn 1 (Some mode.User) 0 ∷ status 1 1 cond.Normal 0
+    0 ∷ flag 1 1 true ∷ []) ∷
     runs 1 (call service.Qio (request 2 (value 1) func.WriteNow 0 no_routine 0 0 1 0)) cond.Normal
-    (flag 1 2 false ∷ opens 2 opened.Bio 1 None 1 ∷ mput (codes "BOX") 2 (body.Text (0 ∷ [])) ∷ fin 2 cond.Normal ∷
-    flag 1 2 true ∷ fires 1 ∷ que 1 ∷ []) ∷
+    (flag 1 2 false ∷ opens 2 opened.Bio 1 None 1 ∷ mput (codes "BOX") 2 (body.Text (0 ∷ [])) ∷ fin 2
+    cond.Normal ∷ flag 1 2 true ∷ fires 1 ∷ que 1 ∷ []) ∷
     starts 1 1 [] ∷
     returns 1 (leaves 1 ∷ []) ∷
     runs 1 (call service.Exit (value 1 ∷ [])) cond.Normal [] ∷

@@ -85,9 +85,8 @@ records =
 abbrev events : List Event
 events = event.Run (process 1) ∷ event.Run (process 1) ∷ event.Run (process 1) ∷ event.Run (process 1) ∷ event.Run
     (process 1) ∷ event.Run (process 1) ∷ event.Run (process 1) ∷ event.Beg (unit 0) ∷ event.Run (process 2) ∷
-    event.Rdn
-    (process 1) ∷ event.Run (process 2) ∷ event.Don (unit 0) ∷ event.Rdn (process 1) ∷ event.Run (process 2) ∷
-    event.Rdn (process 2) ∷ []
+    event.Rdn (process 1) ∷ event.Run (process 2) ∷ event.Don (unit 0) ∷ event.Rdn (process 1) ∷ event.Run
+    (process 2) ∷ event.Rdn (process 2) ∷ []
 
 -- each is enabled at its moment
 pub deletion-enabled : IsTrue (are_enabled (first script) events)

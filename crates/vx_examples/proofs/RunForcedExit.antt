@@ -33,8 +33,7 @@ script = record {
 -- its records
 abbrev pub records : List Rec
 records =
-    runs 1 (call service.SchdWk (value 0 ∷ value 5 ∷ value 0 ∷ [])) cond.Normal
-    (opens 1 opened.Wake 1 None 0 ∷ []) ∷
+    runs 1 (call service.SchdWk (value 0 ∷ value 5 ∷ value 0 ∷ [])) cond.Normal (opens 1 opened.Wake 1 None 0 ∷ []) ∷
     waits 1 (call service.Hiber []) [] ∷
     ticks 5 (fires 1 ∷ []) ∷
     resumes 1 cond.Normal [] ∷

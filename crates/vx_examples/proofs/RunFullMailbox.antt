@@ -41,12 +41,12 @@ records =
     (mbx (codes "BOX") true ∷ puts 1 (codes "A") 1 ∷ []) ∷
     runs 1 (call service.Qio (request 1 (value 1) func.WriteNow 0 no_routine 0 0 5 0)) cond.MbTooSml [] ∷
     runs 1 (call service.Qio (request 1 (value 1) func.WriteNow 0 no_routine 0 0 4 0)) cond.Normal
-    (flag 1 1 false ∷ opens 1 opened.Bio 1 None 4 ∷ mput (codes "BOX") 1 (body.Text (0 ∷ 0 ∷ 0 ∷ 0 ∷ [])) ∷ fin 1
-    cond.Normal ∷ flag 1 1 true ∷ []) ∷
+    (flag 1 1 false ∷ opens 1 opened.Bio 1 None 4 ∷ mput (codes "BOX") 1 (body.Text (0 ∷ 0 ∷ 0 ∷ 0 ∷ [])) ∷ fin
+    1 cond.Normal ∷ flag 1 1 true ∷ []) ∷
     runs 1 (call service.Qio (request 1 (value 1) func.WriteNow 0 no_routine 0 0 1 0)) cond.MbFull [] ∷
     runs 1 (call service.Qio (request 1 (value 1) func.WriteNow 0 no_routine 0 0 0 0)) cond.Normal
-    (flag 1 1 false ∷ opens 2 opened.Bio 1 None 0 ∷ mput (codes "BOX") 2 (body.Text []) ∷ fin 2 cond.Normal ∷ flag
-    1 1 true ∷ []) ∷
+    (flag 1 1 false ∷ opens 2 opened.Bio 1 None 0 ∷ mput (codes "BOX") 2 (body.Text []) ∷ fin 2 cond.Normal ∷
+    flag 1 1 true ∷ []) ∷
     ends 1 [] ∷
     is_gone 1 (mbx (codes "BOX") false ∷ gone 1 ∷ []) ∷
     []

@@ -54,8 +54,8 @@ records =
     (flag 1 1 false ∷ cleared_status 1 1 ∷ opens 3 opened.Bio 1 None 0 ∷ mput (codes "BOX") 3 body.Eof ∷ []) ∷
     runs 1 (call service.QioW (request 2 (value 1) func.Read 2 no_routine 0 1 3 0)) cond.Normal
     (flag 1 2 false ∷ cleared_status 1 2 ∷ opens 4 opened.Bio 1 None 3 ∷ mget (codes "BOX") 3 4 ∷ fin 4
-    cond.EndOfFile ∷ status 1 2 cond.EndOfFile 0 1 ∷ flag 1 2 true ∷ fin 3 cond.Normal ∷ status 1 1 cond.Normal 0
-    0 ∷ flag 1 1 true ∷ []) ∷
+    cond.EndOfFile ∷ status 1 2 cond.EndOfFile 0 1 ∷ flag 1 2 true ∷ fin 3 cond.Normal ∷ status 1 1
+    cond.Normal 0 0 ∷ flag 1 1 true ∷ []) ∷
     runs 1 (call service.QioW (request 2 (value 1) func.ReadNow 2 no_routine 0 1 3 0)) cond.Normal
     (flag 1 2 false ∷ cleared_status 1 2 ∷ opens 5 opened.Bio 1 None 3 ∷ fin 5 cond.EndOfFile ∷ status 1 2
     cond.EndOfFile 0 0 ∷ flag 1 2 true ∷ []) ∷

@@ -35,8 +35,7 @@ image_prod = record {
       stmt.If (operand.Var (letter (codes "S"))) rel.Eq (operand.Cond cond.EndOfFile) 1 ∷
       stmt.Iosb (target.Var (letter (codes "C"))) 1 field.Count ∷
       calls service.QioW (value 1 ∷ held_in (codes "M") ∷ function func.Write ∷ value 1 ∷ no_routine ∷ value 0 ∷
-      value
-      0 ∷ held_in (codes "C") ∷ value 0 ∷ []) ∷
+      value 0 ∷ held_in (codes "C") ∷ value 0 ∷ []) ∷
       stmt.Goto 0 ∷
       calls service.QioW (request 1 (held_in (codes "M")) func.Eof 1 no_routine 0 0 0 0) ∷
       calls service.Exit (value 1 ∷ []) ∷
@@ -57,8 +56,7 @@ image_cons = record {
       stmt.Iosb (target.Var (letter (codes "S"))) 1 field.Status ∷
       stmt.If (operand.Var (letter (codes "S"))) rel.Eq (operand.Cond cond.EndOfFile) 1 ∷
       calls service.QioW (value 2 ∷ held_in (codes "D") ∷ function func.Write ∷ value 2 ∷ no_routine ∷ value 0 ∷
-      value
-      0 ∷ value 512 ∷ held_in (codes "B") ∷ []) ∷
+      value 0 ∷ value 512 ∷ held_in (codes "B") ∷ []) ∷
       stmt.Add (target.Var (letter (codes "B"))) (operand.Var (letter (codes "B"))) (operand.Num 1) ∷
       stmt.Goto 0 ∷
       calls service.Exit (value 1 ∷ []) ∷
@@ -97,17 +95,16 @@ records =
     resumes 1 cond.Normal [] ∷
     runs 1 (call service.QioW (request 1 (value 2) func.Write 1 no_routine 0 0 5 0)) cond.Normal
     (flag 1 1 false ∷ cleared_status 1 1 ∷ opens 3 opened.Bio 1 None 5 ∷ mput (codes "BOX") 3
-    (body.Text (codes "alpha")) ∷ mget (codes "BOX") 3 2 ∷ fin 2 cond.Normal ∷ bytes_put 2 0 (codes "alpha") ∷
-    status 2 1 cond.Normal 5 1 ∷ flag 2 1 true ∷ fin 3 cond.Normal ∷ status 1 1 cond.Normal 5 0 ∷ flag 1 1 true ∷
-    []) ∷
+    (body.Text (codes "alpha")) ∷ mget (codes "BOX") 3 2 ∷ fin 2 cond.Normal ∷ bytes_put 2 0
+    (codes "alpha") ∷ status 2 1 cond.Normal 5 1 ∷ flag 2 1 true ∷ fin 3 cond.Normal ∷ status 1 1
+    cond.Normal 5 0 ∷ flag 1 1 true ∷ []) ∷
     resumes 2 cond.Normal [] ∷
     waits 1 (call service.QioW (request 1 (value 1) func.Read 1 no_routine 0 0 80 0))
     (flag 1 1 false ∷ cleared_status 1 1 ∷ opens 4 opened.Bio 1 None 80 ∷ []) ∷
     waits 2 (call service.QioW (request 2 (value 2) func.Write 2 no_routine 0 0 512 0))
     (flag 2 2 false ∷ cleared_status 2 2 ∷ opens 5 opened.Dio 2 None 0 ∷ []) ∷
     begins 0 4 [] ∷
-    is_done 0 4 (fin 4 cond.Normal ∷ bytes_put 1 0 (codes "beta") ∷ status 1 1 cond.Normal 4 0 ∷ flag 1 1 true ∷
-    []) ∷
+    is_done 0 4 (fin 4 cond.Normal ∷ bytes_put 1 0 (codes "beta") ∷ status 1 1 cond.Normal 4 0 ∷ flag 1 1 true ∷ []) ∷
     resumes 1 cond.Normal [] ∷
     waits 1 (call service.QioW (request 1 (value 2) func.Write 1 no_routine 0 0 4 0))
     (flag 1 1 false ∷ cleared_status 1 1 ∷ opens 6 opened.Bio 1 None 4 ∷ mput (codes "BOX") 6
@@ -117,8 +114,8 @@ records =
     resumes 2 cond.Normal [] ∷
     runs 2 (call service.QioW (request 1 (value 1) func.Read 1 no_routine 0 0 80 0)) cond.Normal
     (flag 2 1 false ∷ cleared_status 2 1 ∷ opens 7 opened.Bio 2 None 80 ∷ mget (codes "BOX") 6 7 ∷ fin 7
-    cond.Normal ∷ bytes_put 2 0 (codes "beta") ∷ status 2 1 cond.Normal 4 1 ∷ flag 2 1 true ∷ fin 6 cond.Normal ∷
-    status 1 1 cond.Normal 4 0 ∷ flag 1 1 true ∷ []) ∷
+    cond.Normal ∷ bytes_put 2 0 (codes "beta") ∷ status 2 1 cond.Normal 4 1 ∷ flag 2 1 true ∷ fin 6
+    cond.Normal ∷ status 1 1 cond.Normal 4 0 ∷ flag 1 1 true ∷ []) ∷
     waits 2 (call service.QioW (request 2 (value 2) func.Write 2 no_routine 0 0 512 1))
     (flag 2 2 false ∷ cleared_status 2 2 ∷ opens 8 opened.Dio 2 None 0 ∷ []) ∷
     resumes 1 cond.Normal [] ∷
@@ -134,8 +131,8 @@ records =
     resumes 2 cond.Normal [] ∷
     runs 2 (call service.QioW (request 1 (value 1) func.Read 1 no_routine 0 0 80 0)) cond.Normal
     (flag 2 1 false ∷ cleared_status 2 1 ∷ opens 11 opened.Bio 2 None 80 ∷ mget (codes "BOX") 10 11 ∷ fin 11
-    cond.EndOfFile ∷ status 2 1 cond.EndOfFile 0 1 ∷ flag 2 1 true ∷ fin 10 cond.Normal ∷ status 1 1 cond.Normal
-    0 0 ∷ flag 1 1 true ∷ []) ∷
+    cond.EndOfFile ∷ status 2 1 cond.EndOfFile 0 1 ∷ flag 2 1 true ∷ fin 10 cond.Normal ∷ status 1 1
+    cond.Normal 0 0 ∷ flag 1 1 true ∷ []) ∷
     resumes 1 cond.Normal [] ∷
     runs 2 (call service.Exit (value 1 ∷ [])) cond.Normal [] ∷
     runs 1 (call service.Exit (value 1 ∷ [])) cond.Normal [] ∷
