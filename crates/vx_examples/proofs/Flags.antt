@@ -1,5 +1,5 @@
 -- Event flags: the services that set, clear, read and await them. RunFlags and RunFlagTest show whole runs.
-use Rattle.std.specs.Prelude.{◌≡◌, ◌∷◌, [], None, Some, codes, false, refl, true}
+use Rattle.std.specs.Prelude.{◌≡◌, ◌∷◌, [], ℕ, None, Some, codes, false, refl, true}
 use Rattle.vx_base.specs.Pieces.{cleared}
 use Rattle.vx_base.specs.declared.cond.Cond.TheVariants as cond
 use Rattle.vx_base.specs.declared.frame.Wait.TheVariants as wait
@@ -7,7 +7,7 @@ use Rattle.vx_base.specs.declared.service.Service.TheVariants as service
 use Rattle.vx_examples.specs.Script.{call, common_flag, flag, in_r0, process, puts, puts_r0, value, variable}
 use Rattle.vx_examples.specs.Small.{Answers, Refuses, Suspends, alone, association, both, cluster, sharing, small_store, somebody, waiting, with}
 use Rattle.vx_record.specs.Flags.{satisfied}
-use Rattle.vx_record.specs.State.{Process}
+use Rattle.vx_record.specs.State.{Process, State}
 
 -- $SETEF: the answer says how the flag was.
 
@@ -35,6 +35,21 @@ pub setef-common :
     (common_flag 1 (codes "C") 6 true ∷ [])
     (sharing alone (cluster (codes "C") false false 65 ∷ []) (association 1 2 (codes "C") ∷ []))
 setef-common = refl
+
+-- a cluster of another group than the process's number: its flag is told by group, name and number
+abbrev of_group : ℕ → State
+of_group flags =
+    record (with (record somebody { group = 3 })) {
+      common = record {
+        clusters = record (cluster (codes "C") false false flags) { group = 3 } ∷ [];
+        associations = record (association 1 3 (codes "C")) { group = 3 } ∷ [];
+      };
+    }
+
+pub setef-group :
+    Answers (of_group 0) (call service.SetEf (value 127 ∷ [])) cond.WasClr (common_flag 3 (codes "C") 31 true ∷ [])
+    (of_group 2147483648)
+setef-group = refl
 
 pub setef-above : Refuses alone (call service.SetEf (value 128 ∷ [])) cond.IllEfc
 setef-above = refl
