@@ -1,4 +1,4 @@
-//! Running local statements.
+//! Why a run of local statements stops.
 
 use vx_base::Call;
 
