@@ -1,0 +1,67 @@
+-- A stated fault of a line unit: its first service fails, and no line is lost.
+use Rattle.std.specs.Prelude.{◌≡◌, refl, List, [], ◌∷◌, true, false, codes, Some, None}
+use Rattle.vx_base.specs.declared.cond.Cond.TheVariants as cond
+use Rattle.vx_base.specs.declared.effects.Opened.TheVariants as opened
+use Rattle.vx_base.specs.declared.mode.Mode.TheVariants as mode
+use Rattle.vx_base.specs.declared.record.End.TheVariants as end
+use Rattle.vx_base.specs.declared.record.Rec.{Rec}
+use Rattle.vx_base.specs.declared.request.Func.TheVariants as func
+use Rattle.vx_base.specs.declared.service.Service.TheVariants as service
+use Rattle.vx_examples.specs.Along.{exit_codes}
+use Rattle.vx_examples.specs.Along.{outputs}
+use Rattle.vx_examples.specs.Script.{value, variable, named, no_routine, in_mode, call, calls, declared, runs, waits, resumes, is_gone, begins, is_done, opens, fin, flag, status, cleared_status, bytes_put, puts, gone, held_in, request}
+use Rattle.vx_image.specs.declared.image.Image.{Image}
+use Rattle.vx_image.specs.declared.system.System.{System}
+use Rattle.vx_record.specs.Runs.{chosen, end_after}
+
+abbrev image_main : Image
+image_main = record {
+  name = codes "MAIN";
+  labels = [];
+  stmts =
+      calls service.Assign (variable (codes "A") ∷ named (codes "TT") ∷ in_mode mode.Kernel ∷ []) ∷
+      calls service.QioW (request 1 (held_in (codes "A")) func.Read 1 no_routine 0 0 8 0) ∷
+      calls service.QioW (request 1 (held_in (codes "A")) func.Read 1 no_routine 0 0 8 0) ∷
+      calls service.Exit (value 1 ∷ []) ∷
+      [];
+}
+
+abbrev pub script : System
+script = record {
+  units = record { name = codes "TT"; blocks = 0; inputs = (codes "AB") ∷ []; faults = 1 ∷ [] } ∷ [];
+  images = image_main ∷ [];
+  decls = declared (codes "P") 0 ∷ [];
+}
+
+-- its records
+abbrev pub records : List Rec
+records =
+    runs 1 (call service.Assign (variable (codes "A") ∷ named (codes "TT") ∷ in_mode mode.Kernel ∷ [])) cond.Normal
+    (puts 1 (codes "A") 1 ∷ []) ∷
+    waits 1 (call service.QioW (request 1 (value 1) func.Read 1 no_routine 0 0 8 0))
+    (flag 1 1 false ∷ cleared_status 1 1 ∷ opens 1 opened.Bio 1 None 8 ∷ []) ∷
+    begins 0 1 [] ∷
+    is_done 0 1 (fin 1 cond.CtrlErr ∷ status 1 1 cond.CtrlErr 0 0 ∷ flag 1 1 true ∷ []) ∷
+    resumes 1 cond.Normal [] ∷
+    waits 1 (call service.QioW (request 1 (value 1) func.Read 1 no_routine 0 0 8 0))
+    (flag 1 1 false ∷ cleared_status 1 1 ∷ opens 2 opened.Bio 1 None 8 ∷ []) ∷
+    begins 0 2 [] ∷
+    is_done 0 2 (fin 2 cond.Normal ∷ bytes_put 1 0 (codes "AB") ∷ status 1 1 cond.Normal 2 0 ∷ flag 1 1 true ∷ []) ∷
+    resumes 1 cond.Normal [] ∷
+    runs 1 (call service.Exit (value 1 ∷ [])) cond.Normal [] ∷
+    is_gone 1 (gone 1 ∷ []) ∷
+    []
+
+pub line_fault : chosen script 0 10000 ≡ records
+line_fault = refl
+
+pub line_fault-end : end_after script records 10000 ≡ Some end.Done
+line_fault-end = refl
+
+-- the exit codes
+pub line_fault-codes : exit_codes script records ≡ 1 ∷ []
+line_fault-codes = refl
+
+-- the lines that the units were given
+pub line_fault-outputs : outputs script records ≡ [] ∷ []
+line_fault-outputs = refl

@@ -1,0 +1,3 @@
+pub mod Along
+pub mod Script
+pub mod Small
