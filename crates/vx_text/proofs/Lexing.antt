@@ -6,6 +6,9 @@ use Rattle.std.proofs.lemmas.Bool.Decides.{nat_tests}
 use Rattle.std.proofs.lemmas.Bool.{le-ltb}
 use borrow.Author.Tests.{ltb-true, leb-true}
 use Rattle.vx_text.proofs.Turns.{lex_from-skip}
+use Rattle.vx_base.specs.declared.cond.Cond.{Cond}
+use Rattle.vx_base.specs.declared.cond.Cond.TheVariants.{Normal}
+use Rattle.vx_base.specs.Cond.{name_of}
 use Rattle.vx_base.specs.Name.{is_name, is_capital, is_name_byte}
 use Rattle.vx_text.specs.declared.token.Tok.{Tok}
 use Rattle.vx_text.specs.declared.token.Tok.TheVariants as tok
@@ -13,7 +16,7 @@ use Rattle.vx_text.specs.declared.first.First.TheVariants.{Found}
 use Rattle.vx_text.specs.Bytes.{upper, is_letter, is_word_byte, is_service_byte, is_gap}
 use Rattle.vx_text.specs.First.{first, first_by, word, word_of, service}
 use Rattle.vx_text.specs.Lex.{lex_from, with_front, token_at}
-use Rattle.vx_text.proofs.Tests.{and_parts, and_false, stops, run_of}
+use Rattle.vx_text.proofs.Runs.{and_parts, and_false, stops, run_of}
 use Rattle.vx_text.proofs.Leading.{first-cons, letter_leads}
 
 capital_letter : (b : ℕ) → is_capital b ≡ true → is_letter b ≡ true
@@ -71,11 +74,35 @@ word_of-name name h =
     let short : nat_lt 31 (length name) ≡ false = le-ltb _ _ n.short in
     rw (short, no_cond name n.bytes, h) refl
 
+-- a run of a word's bytes stands first where it does
+word-run : (run rest : List ℕ) (t : Tok) → list_all is_word_byte run ≡ true → stops is_word_byte rest → map upper run ≡ run → word_of run ≡ Some t → word (run ++ rest) ≡ Found t (length run)
+word-run run rest t bytes s capitals is =
+    let cut : take_while is_word_byte (run ++ rest) ≡ run = run_of is_word_byte run rest bytes s in
+    rw (cut, capitals, is) refl
+
 word-name : (name rest : List ℕ) → is_name name ≡ true → stops is_word_byte rest → word (name ++ rest) ≡ Found (tok.Word name) (length name)
 word-name name rest h s =
     let n = named name h in
-    let run : take_while is_word_byte (name ++ rest) ≡ name = run_of is_word_byte name rest (all_word name n.bytes) s in
-    rw (run, names_upper name n.bytes, word_of-name name h) refl
+    word-run name rest (tok.Word name) (all_word name n.bytes) s (names_upper name n.bytes) (word_of-name name h)
+
+abbrev cond_text : Cond → List ℕ
+cond_text c = codes "SS$_" ++ name_of c
+
+cond_bytes : (c : Cond) → list_all is_word_byte (cond_text c) ≡ true
+cond_bytes Normal = refl
+cond_bytes _ = refl
+
+cond_capitals : (c : Cond) → map upper (cond_text c) ≡ cond_text c
+cond_capitals Normal = refl
+cond_capitals _ = refl
+
+cond_word : (c : Cond) → word_of (cond_text c) ≡ Some (tok.Cond c)
+cond_word Normal = refl
+cond_word _ = refl
+
+-- a condition stands first where its spelling does
+pub first-cond : (c : Cond) (rest : List ℕ) → stops is_word_byte rest → first ((codes "SS$_" ++ name_of c) ++ rest) ≡ Found (tok.Cond c) (length (codes "SS$_" ++ name_of c))
+first-cond c rest s = first-cons 83 ((codes "S$_" ++ name_of c) ++ rest) ∙ letter_leads 83 (cond_text c ++ rest) refl ∙ word-run (cond_text c) rest (tok.Cond c) (cond_bytes c) s (cond_capitals c) (cond_word c)
 
 -- a name stands first where a name does
 pub first-name : (name rest : List ℕ) → is_name name ≡ true → stops is_word_byte rest → first (name ++ rest) ≡ Found (tok.Word name) (length name)

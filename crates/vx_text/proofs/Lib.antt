@@ -6,5 +6,5 @@ pub mod Lexing
 pub mod Numbers
 pub mod Order
 pub mod Local
-pub mod Tests
+pub mod Runs
 pub mod Turns

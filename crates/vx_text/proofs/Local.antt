@@ -21,7 +21,7 @@ use Rattle.vx_text.specs.Bytes.{upper, is_letter, is_digit, is_hex_digit, is_alp
 use Rattle.vx_text.specs.Quoted.{step_of, behind, by_step, quoted, quoted_text}
 use Rattle.vx_text.specs.First.{first, first_by, unquoted, found_or, word_of, word, service_of, service, number, hex_number, quote, text_found}
 use Rattle.vx_text.specs.Lex.{IsReading}
-use Rattle.vx_text.proofs.Tests.{by_test, or_true, run_cons, run_twice}
+use Rattle.vx_text.proofs.Runs.{by_test, or_true, run_cons, run_twice}
 use Rattle.vx_text.proofs.Leading.{first-cons, letter_leads, digit_leads}
 
 found_or-reading : (bytes : List ℕ) (kind : LexFail) (t : Option Tok) (len : ℕ) → 0 < len → len ≤ length bytes → first (take len bytes) ≡ found_or kind t len → IsReading bytes (found_or kind t len)

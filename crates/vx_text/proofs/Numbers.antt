@@ -9,7 +9,7 @@ use Rattle.vx_text.specs.declared.token.Tok.TheVariants as tok
 use Rattle.vx_text.specs.declared.first.First.TheVariants.{Found}
 use Rattle.vx_text.specs.Bytes.{with_digit, digits_value, is_digit, is_letter, is_gap, is_alphanumeric, decimal_of}
 use Rattle.vx_text.specs.First.{first, first_by, number}
-use Rattle.vx_text.proofs.Tests.{and_parts, stops, run_of}
+use Rattle.vx_text.proofs.Runs.{and_parts, stops, run_of}
 use Rattle.vx_text.proofs.Leading.{first-cons, digit_leads}
 
 fold_more : (n d : ℕ) (ds : List ℕ) → fold with_digit n (ds ++ d ∷ []) ≡ with_digit (fold with_digit n ds) d

@@ -1,0 +1,4 @@
+pub mod Back
+pub mod Cuts
+pub mod Laws
+pub mod Texts
