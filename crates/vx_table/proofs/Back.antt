@@ -95,7 +95,7 @@ token_back kind.LabelOrNone (arg.Label None) h = refl
 token_back kind.Func (arg.Func f) h = rw (func_back f) refl
 token_back _ _ h = cc
 
-abbrev single : Arg → List Tok
+abbrev pub single : Arg → List Tok
 single a = arg_token a ∷ []
 
 cuts_by : (t : Tok) (a : Arg) (args : List Arg) (u : Bool) → is_unused a ≡ u → is_comma t ≡ false → (is_unused a ≡ false → cut (arg_token a ∷ args_tokens (comma ∷ []) args) ≡ (arg_token a ∷ []) ∷ map single (used args)) → cut (t ∷ cond u [] (comma ∷ arg_token a ∷ args_tokens (comma ∷ []) args)) ≡ (t ∷ []) ∷ map single (cond u [] (a ∷ used args))
@@ -125,7 +125,7 @@ args_back k (p ∷ params) (a ∷ args) h =
     rw (kind_used (kind_of p) a parts.0, token_back (kind_of p) a parts.0, args_back (k + 1) params args parts.1) refl
 
 -- the first n arguments, and none after them
-abbrev firsts : ℕ → List Arg → List Arg
+abbrev pub firsts : ℕ → List Arg → List Arg
 firsts zero args = []
 firsts (suc n) args = arg_first args ∷ firsts n (arg_rest args)
 

@@ -1,4 +1,5 @@
 pub mod Back
 pub mod Cuts
 pub mod Laws
+pub mod Steps
 pub mod Texts

@@ -1,3 +1,4 @@
+pub mod Back
 pub mod Cutting
 pub mod Reading
 pub mod Rows

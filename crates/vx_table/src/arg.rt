@@ -17,14 +17,11 @@ fn letter(b: u8) -> Option<u8>
 fn long_operand(word: &[u8]) -> Option<Operand>
     ensures { result ≡ spec.long_operand word.now }
 {
-    if word == b"R0" {
-        Some(Operand::R0)
-    } else if word == b"PID" {
-        Some(Operand::Pid)
-    } else if word == b"PRM" {
-        Some(Operand::Prm)
-    } else {
-        None
+    match word {
+        b"R0" => Some(Operand::R0),
+        b"PID" => Some(Operand::Pid),
+        b"PRM" => Some(Operand::Prm),
+        _ => None,
     }
 }
 
@@ -41,25 +38,23 @@ fn operand_word(word: &[u8]) -> Option<Operand>
 fn target_word(word: &[u8]) -> Option<Target>
     ensures { result ≡ spec.target_word word.now }
 {
-    if word.len() == 1 {
-        letter(word[0]).map(Target::Var)
-    } else if word == b"R0" {
-        Some(Target::R0)
-    } else {
-        None
+    match word {
+        [b] => letter(*b).map(Target::Var),
+        b"R0" => Some(Target::R0),
+        _ => None,
     }
 }
 
 fn mode_word(word: &[u8]) -> Option<Mode>
     ensures { result ≡ spec.mode_word word.now }
 {
-    if word == b"KERNEL" {
+    if word == b"KERNEL".as_slice() {
         Some(Mode::Kernel)
-    } else if word == b"EXEC" {
+    } else if word == b"EXEC".as_slice() {
         Some(Mode::Exec)
-    } else if word == b"SUPER" {
+    } else if word == b"SUPER".as_slice() {
         Some(Mode::Super)
-    } else if word == b"USER" {
+    } else if word == b"USER".as_slice() {
         Some(Mode::User)
     } else {
         None
@@ -69,21 +64,21 @@ fn mode_word(word: &[u8]) -> Option<Mode>
 fn func_word(word: &[u8]) -> Option<Func>
     ensures { result ≡ spec.func_word word.now }
 {
-    if word == b"READ" {
+    if word == b"READ".as_slice() {
         Some(Func::Read)
-    } else if word == b"READNOW" {
+    } else if word == b"READNOW".as_slice() {
         Some(Func::ReadNow)
-    } else if word == b"WRITE" {
+    } else if word == b"WRITE".as_slice() {
         Some(Func::Write)
-    } else if word == b"WRITENOW" {
+    } else if word == b"WRITENOW".as_slice() {
         Some(Func::WriteNow)
-    } else if word == b"EOF" {
+    } else if word == b"EOF".as_slice() {
         Some(Func::Eof)
-    } else if word == b"EOFNOW" {
+    } else if word == b"EOFNOW".as_slice() {
         Some(Func::EofNow)
-    } else if word == b"READATTN" {
+    } else if word == b"READATTN".as_slice() {
         Some(Func::ReadAttn)
-    } else if word == b"WRTATTN" {
+    } else if word == b"WRTATTN".as_slice() {
         Some(Func::WrtAttn)
     } else {
         None

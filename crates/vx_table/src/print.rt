@@ -1,8 +1,9 @@
 //! The canonical spelling of calls.
 
-ghost use Rattle.std.specs.Prelude.{◌≡◌, ◌++◌, OnOk, OnErr, IfOk};
+ghost use Rattle.std.specs.Prelude.{◌≡◌, ◌++◌, OnOk, IfOk};
 ghost use Rattle.vx_base.specs.Services.{args_list, is_unused};
 ghost use Rattle.vx_table.specs.Spelling as spec;
+ghost use Rattle.vx_table.specs.Back.{IsHeldOperand, IsHeldLabel, IsHeld, AreHeld};
 
 use crate::table::service_name;
 use std::alloc::Global;
@@ -43,7 +44,8 @@ fn print_cond(cond: vx_base::Cond, out: &mut Bytes) -> Result<(), NoMemory>
 }
 
 fn print_operand(alloc: Global, operand: Operand, out: &mut Bytes) -> Result<(), NoMemory>
-    ensures { OnOk result (out.new ≡ out.old ++ spec.operand_text operand) }
+    ensures text { OnOk result (out.new ≡ out.old ++ spec.operand_text operand) }
+    ensures held { IsHeldOperand operand }
 {
     match operand {
         Operand::Num(n) => print_num(alloc, out, u64::from(n)),
@@ -65,7 +67,8 @@ fn print_target(target: Target, out: &mut Bytes) -> Result<(), NoMemory>
 }
 
 fn print_label(label: Option<Name>, out: &mut Bytes) -> Result<(), NoMemory>
-    ensures { OnOk result (out.new ≡ out.old ++ spec.label_text label) }
+    ensures text { OnOk result (out.new ≡ out.old ++ spec.label_text label) }
+    ensures held { IsHeldLabel label }
 {
     match label {
         Some(name) => out.push_all(name.text()),
@@ -74,7 +77,8 @@ fn print_label(label: Option<Name>, out: &mut Bytes) -> Result<(), NoMemory>
 }
 
 fn print_arg(alloc: Global, arg: &Arg, out: &mut Bytes) -> Result<(), NoMemory>
-    ensures { OnOk result (out.new ≡ out.old ++ spec.arg_text arg.now) }
+    ensures text { OnOk result (out.new ≡ out.old ++ spec.arg_text arg.now) }
+    ensures held { IsHeld arg.now }
 {
     match *arg {
         Arg::Value(operand) => print_operand(alloc, operand, out),
@@ -94,7 +98,8 @@ fn is_unused(arg: &Arg) -> bool
 }
 
 fn print_args(alloc: Global, args: &[Arg], out: &mut Bytes) -> Result<(), NoMemory>
-    ensures { OnOk result (out.new ≡ out.old ++ spec.args_text 32 args.now) }
+    ensures text { OnOk result (out.new ≡ out.old ++ spec.args_text 32 args.now) }
+    ensures held { OnOk result (AreHeld args.now) }
 {
     let mut before = b' ';
     for arg in args {
@@ -117,21 +122,13 @@ fn args_list(args: &Args) -> [Arg; 9]
 }
 
 // The text of a call.
-fn call_text(alloc: Global, call: &Call) -> Result<Bytes, NoMemory>
-    ensures { IfOk result (λ text. text ≡ spec.call_text call.now) }
+pub fn call_text(alloc: Global, call: &Call) -> Result<Bytes, NoMemory>
+    ensures text { IfOk result (λ text. text ≡ spec.call_text call.now) }
+    ensures held { OnOk result (AreHeld (args_list call.now.args)) }
 {
     let mut text = Bytes::new(alloc);
     text.push_all(b"$")?;
     text.push_all(service_name(call.service).as_bytes())?;
     print_args(alloc, &args_list(&call.args), &mut text)?;
     Ok(text)
-}
-
-/// Appends a call canonically, or changes nothing.
-pub fn print_call(alloc: Global, call: &Call, out: &mut Bytes) -> Result<(), NoMemory>
-    ensures ok { OnOk result (out.new ≡ out.old ++ spec.call_text call.now) }
-    ensures err { OnErr result (out.new ≡ out.old) }
-{
-    let text = call_text(alloc, call)?;
-    out.push_all(text.as_slice())
 }

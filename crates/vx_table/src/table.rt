@@ -1,14 +1,18 @@
 //! The table of the services.
 
-ghost use Rattle.std.specs.Prelude.{◌≡◌, ◌↔◌, IsTrue, map, IfOk};
+ghost use Rattle.std.specs.Prelude.{◌≡◌, ◌++◌, IsTrue, map, OnOk, OnErr};
 ghost use Rattle.vx_base.specs.Services.{service_rows, service_name, is_call};
 ghost use Rattle.vx_table.specs.Rows.{row_of, is_table, HasLaws};
+ghost use Rattle.vx_table.specs.Back.{ReadsBack};
 ghost use Rattle.vx_table.specs.Reading as reading;
+ghost use Rattle.vx_table.specs.Spelling.{call_text};
 
 use crate::fail::CallFail;
+use crate::print;
 use crate::read::read_args;
+use std::alloc::Global;
 use std::marker::Model;
-use vx_base::{Arg, Args, Call, Kind, Mode, Operand, Param, Service};
+use vx_base::{Arg, Bytes, Call, Kind, Mode, NoMemory, Operand, Param, Service};
 use vx_text::{Tok, Token};
 
 /// A row: a service and its arguments in order, and no argument after them.
@@ -157,6 +161,19 @@ pub fn service_table() -> ServiceTable<36>
     ServiceTable::of_rows(services!(table_of))
 }
 
+// A call of a row's service, whose arguments these tokens are.
+fn read_row(row: &Row, args: &[Token]) -> Result<Call, CallFail>
+    ensures { result ≡ reading.read_row (row_of row.now) (reading.toks args.now) }
+{
+    match read_args(&row.params, args) {
+        Ok(args) => Ok(Call {
+            service: row.service,
+            args,
+        }),
+        Err(fail) => Err(fail),
+    }
+}
+
 impl<const N: usize> ServiceTable<N> {
     // The table of these rows.
     fn of_rows(rows: [Row; N]) -> ServiceTable<N>
@@ -164,5 +181,44 @@ impl<const N: usize> ServiceTable<N> {
         ensures { result ≡ map row_of rows.entry }
     {
         ServiceTable { rows }
+    }
+
+    // A call of the service of this name, whose arguments these tokens are.
+    fn read_named(&self, name: &[u8], args: &[Token]) -> Result<Call, CallFail>
+        ensures { result ≡ reading.read_named self.now name.now (reading.toks args.now) }
+    {
+        for row in &self.rows {
+            if service_name(row.service).as_bytes() == name {
+                return read_row(row, args);
+            }
+        }
+        Err(CallFail::UnknownService)
+    }
+
+    /// Reads a call from its tokens: a service, and its arguments between commas. An argument without tokens takes its
+    /// default. Of more than one fault the leftmost is given, and `Extra` comes last. Takes no memory.
+    pub fn read_call(&self, tokens: &[Token]) -> Result<Call, CallFail>
+        requires { reading.BeginsCall (reading.toks tokens.now) }
+        ensures { result ≡ reading.read_call self.now (reading.toks tokens.now) }
+    {
+        let [first, args @ ..] = tokens else {
+            return Err(CallFail::UnknownService);
+        };
+        match &first.tok {
+            Tok::Service(name) => self.read_named(name.text(), args),
+            _ => Err(CallFail::UnknownService),
+        }
+    }
+
+    /// Appends a call canonically, or changes nothing: `$` and its service's name, and all its arguments between commas
+    /// behind a space. What it writes reads back as the same call.
+    pub fn print_call(&self, alloc: Global, call: &Call, out: &mut Bytes) -> Result<(), NoMemory>
+        requires { IsTrue (is_call call.now) }
+        ensures ok { OnOk result (out.new ≡ out.old ++ call_text call.now) }
+        ensures back { OnOk result (self.now ≡ service_rows → ReadsBack self.now call.now) }
+        ensures err { OnErr result (out.new ≡ out.old) }
+    {
+        let text = print::call_text(alloc, call)?;
+        out.push_all(text.as_slice())
     }
 }

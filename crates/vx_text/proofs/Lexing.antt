@@ -143,7 +143,7 @@ service-name name rest h short s =
 pub first-service : (name rest : List ℕ) → is_name name ≡ true → length name ≤ 30 → stops is_service_byte rest → first (36 ∷ (name ++ rest)) ≡ Found (tok.Service name) (1 + length name)
 first-service name rest h short s = first-cons 36 (name ++ rest) ∙ service-name name rest h short s
 
-lex_nothing : (at : ℕ) → lex_from 0 at [] ≡ Ok []
+pub lex_nothing : (at : ℕ) → lex_from 0 at [] ≡ Ok []
 unfolding lex_from
 lex_nothing at = refl
 
