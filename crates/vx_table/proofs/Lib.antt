@@ -3,3 +3,4 @@ pub mod Cuts
 pub mod Laws
 pub mod Steps
 pub mod Texts
+pub mod Calls

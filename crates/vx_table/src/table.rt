@@ -1,6 +1,6 @@
 //! The table of the services.
 
-ghost use Rattle.std.specs.Prelude.{◌≡◌, ◌++◌, IsTrue, map, OnOk, OnErr};
+ghost use Rattle.std.specs.Prelude.{◌≡◌, ◌++◌, IsTrue, map, IfOk, OnOk, OnErr};
 ghost use Rattle.vx_base.specs.Services.{service_rows, service_name, is_call};
 ghost use Rattle.vx_table.specs.Rows.{row_of, is_table, HasLaws};
 ghost use Rattle.vx_table.specs.Back.{ReadsBack};
@@ -156,7 +156,8 @@ pub fn service_name(service: Service) -> &'static str
 
 /// The table of all services.
 pub fn service_table() -> ServiceTable<36>
-    ensures { result ≡ service_rows }
+    ensures rows { result ≡ service_rows }
+    ensures laws { HasLaws result }
 {
     ServiceTable::of_rows(services!(table_of))
 }
@@ -176,9 +177,11 @@ fn read_row(row: &Row, args: &[Token]) -> Result<Call, CallFail>
 
 impl<const N: usize> ServiceTable<N> {
     // The table of these rows.
+    #[tactic(auto, using(crate::proofs::Laws::laws_of))]
     fn of_rows(rows: [Row; N]) -> ServiceTable<N>
         requires { IsTrue (is_table (map row_of rows)) }
-        ensures { result ≡ map row_of rows.entry }
+        ensures rows { result ≡ map row_of rows.entry }
+        ensures laws { HasLaws result }
     {
         ServiceTable { rows }
     }
@@ -195,10 +198,8 @@ impl<const N: usize> ServiceTable<N> {
         Err(CallFail::UnknownService)
     }
 
-    /// Reads a call from its tokens: a service, and its arguments between commas. An argument without tokens takes its
-    /// default. Of more than one fault the leftmost is given, and `Extra` comes last. Takes no memory.
-    pub fn read_call(&self, tokens: &[Token]) -> Result<Call, CallFail>
-        requires { reading.BeginsCall (reading.toks tokens.now) }
+    // The call that these tokens are.
+    fn read_tokens(&self, tokens: &[Token]) -> Result<Call, CallFail>
         ensures { result ≡ reading.read_call self.now (reading.toks tokens.now) }
     {
         let [first, args @ ..] = tokens else {
@@ -208,6 +209,16 @@ impl<const N: usize> ServiceTable<N> {
             Tok::Service(name) => self.read_named(name.text(), args),
             _ => Err(CallFail::UnknownService),
         }
+    }
+
+    /// Reads a call from its tokens: a service, and its arguments between commas. An argument without tokens takes its
+    /// default. Of more than one fault the leftmost is given, and `Extra` comes last. Takes no memory.
+    pub fn read_call(&self, tokens: &[Token]) -> Result<Call, CallFail>
+        requires { reading.BeginsCall (reading.toks tokens.now) }
+        ensures read { result ≡ reading.read_call self.now (reading.toks tokens.now) }
+        ensures call { self.now ≡ service_rows → IfOk result (λ call. IsTrue (is_call call)) }
+    {
+        self.read_tokens(tokens)
     }
 
     /// Appends a call canonically, or changes nothing: `$` and its service's name, and all its arguments between commas
