@@ -1,12 +1,11 @@
 -- The tokens of a call are read as the call.
-use Rattle.std.proofs.Common.{◌≡◌, ℕ, zero, suc, ◌+◌, ◌<◌, ◌≤◌, Bool, true, false, ◌&&◌, cond, IsTrue, List, [], ◌∷◌, ◌++◌, length, map, Option, None, Some, Result, Ok, Err, refl, sym, ap, ◌∙◌, arith, rules, subst}
+use Rattle.std.proofs.Common.{◌≡◌, ℕ, zero, suc, ◌+◌, Bool, true, false, cond, List, [], ◌∷◌, length, map, None, Some, Result, Ok, refl, sym, ap, ◌∙◌}
 use Rattle.vx_base.specs.declared.call.Arg.{Arg}
 use Rattle.vx_base.specs.declared.call.Arg.TheVariants as arg
 use Rattle.vx_base.specs.declared.call.Args.{Args}
 use Rattle.vx_base.specs.declared.call.Call.{Call}
 use Rattle.vx_base.specs.declared.call.Operand.{Operand}
 use Rattle.vx_base.specs.declared.call.Operand.TheVariants as operand
-use Rattle.vx_base.specs.declared.call.Target.{Target}
 use Rattle.vx_base.specs.declared.call.Target.TheVariants as target
 use Rattle.vx_base.specs.declared.mode.Mode.{Mode}
 use Rattle.vx_base.specs.declared.mode.Mode.TheVariants.{Kernel, Exec, Super, User}
@@ -17,12 +16,12 @@ use Rattle.vx_base.specs.declared.service.Kind.TheVariants as kind
 use Rattle.vx_base.specs.declared.service.Param.{Param}
 use Rattle.vx_base.specs.declared.service.Service.{Service}
 use Rattle.vx_base.specs.declared.service.Service.TheVariants.{SetEf}
-use Rattle.vx_base.specs.Services.{ServiceRow, service_name, service_rows, service_row, params_of, args_list, args_of, arg_first, arg_rest, is_of_kind, is_unused, are_args, kind_of, is_call}
+use Rattle.vx_base.specs.Services.{service_name, service_rows, service_row, params_of, args_list, args_of, arg_first, arg_rest, is_of_kind, is_unused, are_args, kind_of, is_call}
 use Rattle.vx_text.specs.declared.token.Tok.{Tok}
 use Rattle.vx_text.proofs.Runs.{and_parts}
 use Rattle.vx_table.specs.declared.fail.CallFail.{CallFail}
 use Rattle.vx_table.specs.Spelling.{mode_name, func_name, arg_token, operand_token, comma, args_tokens, call_tokens}
-use Rattle.vx_table.specs.Reading.{is_comma, mode_word, func_word, token_arg, arg_or, read_arg, and_args, read_args, cut, pieces, as_args, call_with, read_row, read_named, read_call}
+use Rattle.vx_table.specs.Reading.{is_comma, mode_word, func_word, token_arg, read_args, cut, pieces, as_args, call_with, read_row, read_named, read_call}
 
 -- the arguments up to the first that is not used
 abbrev pub used : List Arg → List Arg

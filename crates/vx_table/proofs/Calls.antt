@@ -1,10 +1,9 @@
 -- What is read as a call is one.
-use Rattle.std.proofs.Common.{◌≡◌, ℕ, zero, suc, ◌+◌, ◌<◌, ◌≤◌, ◌==◌, Bool, true, false, ◌&&◌, cond, List, [], ◌∷◌, length, map, slice_index, bytes_eq, codes, Option, None, Some, option_map, Result, Ok, Err, refl, sym, subst, ap, ◌∙◌, arith, rules, lit≤, IsTrue}
+use Rattle.std.proofs.Common.{◌≡◌, ℕ, zero, suc, ◌+◌, ◌≤◌, ◌==◌, true, List, [], ◌∷◌, length, map, slice_index, bytes_eq, codes, Option, None, Some, option_map, Result, Ok, Err, refl, sym, subst, ap, ◌∙◌, arith, lit≤, IsTrue}
 use Rattle.std.specs.Prelude.{IfOk}
 use Rattle.std.specs.List.{list_all}
 use Rattle.vx_base.specs.declared.call.Arg.{Arg}
 use Rattle.vx_base.specs.declared.call.Arg.TheVariants as arg
-use Rattle.vx_base.specs.declared.call.Args.{Args}
 use Rattle.vx_base.specs.declared.call.Call.{Call}
 use Rattle.vx_base.specs.declared.call.Operand.{Operand}
 use Rattle.vx_base.specs.declared.call.Operand.TheVariants as operand
@@ -25,7 +24,7 @@ use Rattle.vx_text.specs.declared.token.Tok.{Tok}
 use Rattle.vx_text.specs.declared.token.Tok.TheVariants as tok
 use Rattle.vx_text.proofs.Runs.{and_parts, by_test}
 use Rattle.vx_table.specs.declared.fail.CallFail.{CallFail}
-use Rattle.vx_table.specs.Reading.{letter, long_operand, operand_word, target_word, mode_word, func_word, word_arg, token_arg, arg_or, read_arg, and_args, read_args, first_piece, more_pieces, pieces, as_args, call_with, read_row, read_named, read_call}
+use Rattle.vx_table.specs.Reading.{letter, long_operand, operand_word, target_word, word_arg, token_arg, arg_or, read_arg, and_args, read_args, first_piece, more_pieces, pieces, as_args, call_with, read_named, read_call}
 use Rattle.vx_table.proofs.Back.{firsts}
 
 abbrev IsOperandOr : Option Operand → Type 0

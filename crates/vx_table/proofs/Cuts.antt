@@ -1,18 +1,14 @@
 -- Tokens that are cut at the commas, piece by piece.
-use Rattle.std.proofs.Common.{◌≡◌, ℕ, zero, suc, ◌+◌, ◌-◌, ◌<◌, ◌≤◌, ◌⊎◌, Bool, true, false, not, cond, List, [], ◌∷◌, ◌++◌, length, map, take, drop, get_or, nat_lt, refl, sym, ap, ◌∙◌, arith, rules, inl, inr}
+use Rattle.std.proofs.Common.{◌≡◌, ℕ, suc, ◌+◌, ◌-◌, ◌<◌, ◌≤◌, ◌⊎◌, Bool, true, false, List, [], ◌∷◌, length, take, drop, nat_lt, refl, sym, ap, ◌∙◌, arith, rules, inl, inr}
 use borrow.Author.Tests.{ltb-true, ltb-false}
 use Rattle.std.specs.List.{prefix_len}
 use Rattle.std.proofs.Math.Seq.{drop-cons}
 use Rattle.std.proofs.lemmas.List.{drop-drop, drop_all, length-drop, take_all}
 use Rattle.std.proofs.lemmas.List.Sums.{prefix_len-le-length}
-use Rattle.vx_base.specs.declared.call.Arg.{Arg}
-use Rattle.vx_base.specs.declared.call.Args.{Args}
-use Rattle.vx_base.specs.Services.{args_of}
 use Rattle.vx_text.specs.declared.token.Tok.{Tok}
 use Rattle.vx_text.specs.declared.token.Token.{Token}
-use Rattle.vx_text.proofs.Runs.{by_test}
 use Rattle.vx_table.specs.Spelling.{comma}
-use Rattle.vx_table.specs.Reading.{toks, is_comma, onto_first, cut, pieces, first_piece, more_pieces}
+use Rattle.vx_table.specs.Reading.{toks, is_comma, cut, first_piece, more_pieces}
 use Rattle.vx_table.specs.Cutting.{stays, left}
 
 -- what is left behind a comma
@@ -81,4 +77,3 @@ pub lead_within : (at n : ℕ) (tokens : List Token) → n ≡ lead (take (lengt
 lead_within at n tokens e h =
     let is : n ≡ lead (drop at tokens) = e ∙ ap lead (rest_of at tokens) in
     omega (arith, prefix_len-le-length stays (drop at tokens), length-drop at tokens)
-

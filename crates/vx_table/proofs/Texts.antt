@@ -1,12 +1,10 @@
 -- The text of a call has the call's tokens.
-use Rattle.std.proofs.Common.{◌≡◌, ℕ, zero, suc, ◌+◌, ◌<◌, ◌≤◌, ◌^◌, Bool, true, false, ◌&&◌, cond, List, [], ◌∷◌, ◌++◌, length, map, codes, None, Some, Result, Ok, Err, refl, sym, ap, ◌∙◌, arith, rules, lit<, lit≤, length-append}
-use Rattle.std.specs.Prelude.{decimal, OnOk}
+use Rattle.std.proofs.Common.{◌≡◌, ℕ, ◌+◌, ◌<◌, ◌≤◌, Bool, true, false, cond, List, [], ◌∷◌, ◌++◌, length, codes, None, Some, Result, Ok, Err, refl, ap, ◌∙◌, arith, lit<, lit≤}
+use Rattle.std.specs.Prelude.{OnOk}
 use Rattle.vx_base.specs.declared.call.Arg.{Arg}
 use Rattle.vx_base.specs.declared.call.Arg.TheVariants as arg
 use Rattle.vx_base.specs.declared.call.Call.{Call}
-use Rattle.vx_base.specs.declared.call.Operand.{Operand}
 use Rattle.vx_base.specs.declared.call.Operand.TheVariants as operand
-use Rattle.vx_base.specs.declared.call.Target.{Target}
 use Rattle.vx_base.specs.declared.call.Target.TheVariants as target
 use Rattle.vx_base.specs.declared.mode.Mode.{Mode}
 use Rattle.vx_base.specs.declared.mode.Mode.TheVariants.{Kernel, Exec, Super, User}
@@ -18,7 +16,6 @@ use Rattle.vx_base.specs.declared.service.Param.{Param}
 use Rattle.vx_base.specs.declared.service.Service.{Service}
 use Rattle.vx_base.specs.declared.service.Service.TheVariants.{SetEf}
 use Rattle.vx_base.specs.Name.{is_name, is_capital}
-use Rattle.vx_base.specs.Cond.{name_of}
 use Rattle.vx_base.specs.Services.{service_name, service_rows, params_of, args_list, is_of_kind, is_unused, are_args, kind_of, is_call}
 use Rattle.vx_text.specs.declared.token.LexFail.{LexFail}
 use Rattle.vx_text.specs.declared.token.Tok.{Tok}
@@ -27,14 +24,14 @@ use Rattle.vx_text.specs.declared.token.Token.{Token}
 use Rattle.vx_text.specs.declared.first.First.TheVariants.{Found}
 use Rattle.vx_text.specs.Bytes.{is_word_byte, is_alphanumeric, is_service_byte}
 use Rattle.vx_text.specs.First.{first}
-use Rattle.vx_text.specs.Lex.{lex, lex_from, with_front, token_at}
+use Rattle.vx_text.specs.Lex.{lex_from, with_front, token_at}
 use Rattle.vx_text.proofs.Runs.{and_parts, stops}
 use Rattle.vx_text.proofs.Leading.{first-cons}
 use Rattle.vx_text.proofs.Lexing.{first-name, first-cond, first-service, lex_found, lex_gap, lex_nothing, name_some}
 use Rattle.vx_text.proofs.Numbers.{first-number, decimal_some}
-use Rattle.vx_table.specs.Spelling.{mode_name, func_name, operand_token, operand_text, target_token, target_text, label_token, label_text, arg_token, arg_text, comma, args_tokens, args_text, call_tokens, call_text}
+use Rattle.vx_table.specs.Spelling.{mode_name, func_name, arg_token, arg_text, comma, args_tokens, args_text, call_tokens, call_text}
 use Rattle.vx_table.specs.Back.{IsHeld, AreHeld, held_unless, toks_of, ReadsBack}
-use Rattle.vx_table.proofs.Back.{kind_used, call_back}
+use Rattle.vx_table.proofs.Back.{call_back}
 
 -- an argument's text stands first as its token
 record Stands (text : List ℕ) (t : Tok) (rest : List ℕ) : Type 0 where

@@ -1,5 +1,5 @@
 -- Where the arguments stand in the tokens of a call, as the reader goes over them.
-use Rattle.std.specs.Prelude.{ℕ, ◌+◌, Bool, not, List, [], ◌∷◌, length, drop, nat_lt, if◌then◌else◌, Result, Ok, Err}
+use Rattle.std.specs.Prelude.{ℕ, Bool, not, List, [], ◌∷◌, length, drop, nat_lt, if◌then◌else◌, Result, Ok, Err}
 use Rattle.vx_base.specs.declared.call.Arg.{Arg}
 use Rattle.vx_base.specs.declared.call.Args.{Args}
 use Rattle.vx_base.specs.Services.{args_of}

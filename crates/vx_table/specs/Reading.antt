@@ -1,5 +1,5 @@
 -- How the tokens of a call are read.
-use Rattle.std.specs.Prelude.{◌≡◌, ℕ, ◌+◌, ◌==◌, Bool, true, false, IsTrue, List, [], ◌∷◌, ◌++◌, map, length, slice_index, codes, bytes_eq, if◌then◌else◌, Option, None, Some, option_map, Result, Ok, Err}
+use Rattle.std.specs.Prelude.{ℕ, ◌+◌, ◌==◌, Bool, true, false, List, [], ◌∷◌, ◌++◌, map, length, slice_index, codes, bytes_eq, if◌then◌else◌, Option, None, Some, option_map, Result, Ok, Err}
 use Rattle.std.specs.List.{find}
 use Rattle.vx_base.specs.Name.{is_capital}
 use Rattle.vx_base.specs.declared.call.Arg.{Arg}

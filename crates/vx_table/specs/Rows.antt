@@ -1,5 +1,5 @@
 -- The table's rows, and their laws.
-use Rattle.std.specs.Prelude.{◌≢◌, ℕ, ◌≤◌, Bool, true, not, ◌&&◌, IsTrue, List, [], ◌∷◌, All, AllPairs, length, nat_le, Option, None, Some, bytes_eq}
+use Rattle.std.specs.Prelude.{◌≢◌, ◌≤◌, Bool, true, not, ◌&&◌, IsTrue, List, [], ◌∷◌, All, AllPairs, length, nat_le, Option, None, Some, bytes_eq}
 use Rattle.std.specs.List.{list_all}
 use Rattle.vx_base.specs.declared.service.Param.{Param}
 use Rattle.vx_base.specs.Services.{ServiceRow, service_name, has_right_default}

@@ -22,7 +22,10 @@ fn is_comma(tok: &Tok) -> bool
 fn piece_len(tokens: &[Token]) -> usize
     ensures { result ≡ prefix_len cutting.stays tokens.now }
 {
-    tokens.iter().take_while(|token| !is_comma(&token.tok)).count()
+    tokens
+        .iter()
+        .take_while(|token| !is_comma(&token.tok))
+        .count()
 }
 
 fn kind_of(param: &Param) -> Kind

@@ -24,8 +24,8 @@ pub struct Row {
 
 /// A table of N services, which contracts see as its rows in order: a service with the arguments that it takes.
 ///
-/// In a table no two rows have one name, a service takes at most nine arguments, and what stands for an argument that is
-/// left out is of the argument's kind.
+/// In a table no two rows have one name, a service takes at most nine arguments, and what stands for an argument that
+/// is left out is of the argument's kind.
 #[derive(Drop)]
 pub struct ServiceTable<const N: usize> {
     rows: [Row; N],

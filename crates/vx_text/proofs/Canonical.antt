@@ -1,13 +1,13 @@
 -- The canonical spelling of a text is read as the text.
-use Rattle.std.proofs.Common.{◌≡◌, ℕ, zero, suc, ◌+◌, ◌-◌, ◌*◌, ◌/◌, ◌%◌, ◌<◌, ◌≤◌, ◌==◌, Bool, true, false, cond, List, [], ◌∷◌, ◌++◌, length, Option, None, Some, refl, sym, ap, ◌∙◌, arith, rules, append_assoc, length-append, nat_lt, nat_eq, ◌≢◌, take, drop}
+use Rattle.std.proofs.Common.{◌≡◌, ℕ, ◌+◌, ◌-◌, ◌*◌, ◌/◌, ◌%◌, ◌<◌, ◌≤◌, ◌==◌, Bool, true, false, cond, List, [], ◌∷◌, ◌++◌, length, Option, None, Some, refl, ap, ◌∙◌, arith, append_assoc, length-append, nat_lt, nat_eq, ◌≢◌, take, drop}
 use Rattle.std.specs.Cmp.Lexicographic.{pointwise}
 use Rattle.std.proofs.lemmas.Bool.Decides.{Decides-eqb, not_from_Decides}
 use Rattle.std.proofs.lemmas.Slice.Eq.{slice_eq-Decides}
 use borrow.Author.Tests.{ltb-true, ltb-false}
 use Rattle.vx_text.proofs.Turns.{rest_of}
 use Rattle.std.proofs.lemmas.Bool.Decides.{nat_tests}
-use Rattle.vx_text.specs.declared.quoted.Place.TheVariants.{Plain, Escaped, Half}
-use Rattle.vx_text.specs.declared.quoted.Step.TheVariants.{Close, Byte, Into, Fault}
+use Rattle.vx_text.specs.declared.quoted.Place.TheVariants.{Plain}
+use Rattle.vx_text.specs.declared.quoted.Step.TheVariants.{Byte}
 use Rattle.vx_text.specs.declared.quoted.Text.{Text}
 use Rattle.vx_text.specs.declared.token.Tok.TheVariants as tok
 use Rattle.vx_text.specs.declared.first.First.TheVariants.{Found}

@@ -1,5 +1,5 @@
 -- A number that is too large stays so.
-use Rattle.std.proofs.Common.{◌≡◌, ℕ, ◌<◌, ◌≤◌, List, [], ◌∷◌, Bool, true, false, ◌&&◌, nat_le, None, arith, refl, rules}
+use Rattle.std.proofs.Common.{◌≡◌, ℕ, ◌<◌, ◌≤◌, List, [], ◌∷◌, false, nat_le, None, arith, refl, rules}
 use Rattle.std.specs.List.{fold}
 use Rattle.vx_text.specs.Bytes.{with_digit, digits_value, decimal_of, with_hex_digit, hex_digits_value, hex_of}
 use Rattle.vx_text.proofs.Runs.{and_false}

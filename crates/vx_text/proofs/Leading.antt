@@ -1,10 +1,8 @@
 -- What a line begins with, by its first byte.
-use Rattle.std.proofs.Common.{◌≡◌, ℕ, ◌==◌, Bool, true, false, List, ◌∷◌, length, refl, ◌∙◌, arith, rules}
+use Rattle.std.proofs.Common.{◌≡◌, ℕ, ◌==◌, true, false, List, ◌∷◌, length, refl, arith, rules}
 use Rattle.std.proofs.lemmas.Bool.Decides.{nat_tests}
-use Rattle.vx_text.specs.declared.token.Tok.TheVariants as tok
-use Rattle.vx_text.specs.declared.first.First.TheVariants.{Found}
-use Rattle.vx_text.specs.Bytes.{is_letter, is_digit, is_gap, is_sign}
-use Rattle.vx_text.specs.First.{first, first_by, unquoted, word, number, hex_number, service, quote}
+use Rattle.vx_text.specs.Bytes.{is_letter, is_digit, is_gap}
+use Rattle.vx_text.specs.First.{first, first_by, word, number}
 
 pub first-cons : (b : ℕ) (bs : List ℕ) → first (b ∷ bs) ≡ first_by b (b ∷ bs)
 first-cons b bs =

@@ -1,7 +1,7 @@
 -- The tokens of canonical pieces.
-use Rattle.std.proofs.Common.{◌≡◌, ℕ, ◌+◌, ◌-◌, ◌<◌, ◌≤◌, ◌&&◌, ◌==◌, Bool, true, false, List, [], ◌∷◌, ◌++◌, length, map, slice_index, nat_lt, nat_le, nat_eq, codes, refl, sym, ap, ◌∙◌, arith, rules, Some, Ok, append-nil}
-use Rattle.std.specs.List.{list_all, prefix_len, take_while, starts_with}
-use Rattle.std.proofs.Math.Seq.{take-append_seam, drop-append_seam}
+use Rattle.std.proofs.Common.{◌≡◌, ℕ, ◌+◌, ◌-◌, ◌<◌, ◌≤◌, true, false, List, [], ◌∷◌, ◌++◌, length, map, slice_index, nat_lt, nat_le, nat_eq, codes, refl, sym, ap, ◌∙◌, arith, Some, Ok, append-nil}
+use Rattle.std.specs.List.{list_all, take_while, starts_with}
+use Rattle.std.proofs.Math.Seq.{drop-append_seam}
 use Rattle.std.proofs.lemmas.Bool.Decides.{nat_tests}
 use Rattle.std.proofs.lemmas.Bool.{le-ltb}
 use borrow.Author.Tests.{ltb-true, leb-true}
@@ -13,8 +13,8 @@ use Rattle.vx_base.specs.Name.{is_name, is_capital, is_name_byte}
 use Rattle.vx_text.specs.declared.token.Tok.{Tok}
 use Rattle.vx_text.specs.declared.token.Tok.TheVariants as tok
 use Rattle.vx_text.specs.declared.first.First.TheVariants.{Found}
-use Rattle.vx_text.specs.Bytes.{upper, is_letter, is_word_byte, is_service_byte, is_gap}
-use Rattle.vx_text.specs.First.{first, first_by, word, word_of, service}
+use Rattle.vx_text.specs.Bytes.{upper, is_letter, is_word_byte, is_service_byte}
+use Rattle.vx_text.specs.First.{first, word, word_of, service}
 use Rattle.vx_text.specs.Lex.{lex_from, with_front, token_at}
 use Rattle.vx_text.proofs.Runs.{and_parts, and_false, stops, run_of}
 use Rattle.vx_text.proofs.Leading.{first-cons, letter_leads}

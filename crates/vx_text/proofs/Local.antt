@@ -1,8 +1,8 @@
 -- What stands first is read from its own bytes alone.
-use Rattle.std.proofs.Common.{◌≡◌, ℕ, zero, suc, ◌+◌, ◌-◌, ◌*◌, ◌<◌, ◌≤◌, ◌==◌, Bool, true, false, cond, List, [], ◌∷◌, ◌++◌, length, take, drop, slice_index, Option, None, Some, refl, subst, sym, ap, ◌∙◌, arith, rules, map, option_map, Result, Ok, Err}
+use Rattle.std.proofs.Common.{◌≡◌, ℕ, suc, ◌+◌, ◌<◌, ◌≤◌, ◌==◌, Bool, true, List, [], ◌∷◌, length, take, Option, None, Some, refl, subst, sym, ap, ◌∙◌, arith, map, option_map, Result, Ok, Err}
 use Rattle.std.specs.Prelude.{IfOk}
 use Rattle.vx_base.specs.declared.bytes.NoMemory.{NoMemory}
-use Rattle.std.specs.List.{prefix_len, take_while}
+use Rattle.std.specs.List.{take_while}
 use Rattle.std.proofs.lemmas.List.Folds.{length-prefix_len}
 use Rattle.std.proofs.lemmas.List.Sums.{prefix_len-le-length}
 use Rattle.std.proofs.lemmas.Bool.{eqb-true}
@@ -11,7 +11,6 @@ use Rattle.vx_text.specs.declared.token.Tok.TheVariants as tok
 use Rattle.vx_text.specs.declared.token.LexFail.{LexFail}
 use Rattle.vx_text.specs.declared.token.LexFail.TheVariants as fail
 use Rattle.vx_text.specs.declared.first.First.{First}
-use Rattle.vx_text.specs.declared.first.First.TheVariants.{Found, Bad}
 use Rattle.vx_text.specs.declared.quoted.Place.{Place}
 use Rattle.vx_text.specs.declared.quoted.Place.TheVariants.{Plain}
 use Rattle.vx_text.specs.declared.quoted.Step.{Step}
@@ -19,7 +18,7 @@ use Rattle.vx_text.specs.declared.quoted.Step.TheVariants.{Close, Byte, Into, Fa
 use Rattle.vx_text.specs.declared.quoted.Text.{Text}
 use Rattle.vx_text.specs.Bytes.{upper, is_letter, is_digit, is_hex_digit, is_alphanumeric, is_word_byte, is_service_byte, is_gap, is_sign, decimal_of, hex_of}
 use Rattle.vx_text.specs.Quoted.{step_of, behind, by_step, quoted, quoted_text}
-use Rattle.vx_text.specs.First.{first, first_by, unquoted, found_or, word_of, word, service_of, service, number, hex_number, quote, text_found}
+use Rattle.vx_text.specs.First.{first, first_by, found_or, word_of, word, service_of, service, number, hex_number, quote, text_found}
 use Rattle.vx_text.specs.Lex.{IsReading}
 use Rattle.vx_text.proofs.Runs.{by_test, or_true, run_cons, run_twice}
 use Rattle.vx_text.proofs.Leading.{first-cons, letter_leads, digit_leads}

@@ -1,5 +1,5 @@
 -- Decimal spellings are read back.
-use Rattle.std.proofs.Common.{◌≡◌, ℕ, ◌+◌, ◌/◌, ◌%◌, ◌<◌, ◌≤◌, ◌^◌, ◌==◌, true, false, List, [], ◌∷◌, ◌++◌, length, nat_le, refl, ◌∙◌, arith, Some, length-append}
+use Rattle.std.proofs.Common.{◌≡◌, ℕ, ◌+◌, ◌/◌, ◌%◌, ◌<◌, ◌≤◌, ◌^◌, true, List, [], ◌∷◌, ◌++◌, length, nat_le, refl, ◌∙◌, arith, Some, length-append}
 use Rattle.std.specs.List.{list_all, fold}
 use Rattle.std.specs.Prelude.{decimal}
 use Rattle.std.proofs.lemmas.Fmt.{decimal_by_steps}
@@ -7,8 +7,8 @@ use Rattle.std.proofs.lemmas.Bool.{le-leb}
 use Rattle.std.proofs.lemmas.Bool.Decides.{nat_tests}
 use Rattle.vx_text.specs.declared.token.Tok.TheVariants as tok
 use Rattle.vx_text.specs.declared.first.First.TheVariants.{Found}
-use Rattle.vx_text.specs.Bytes.{with_digit, digits_value, is_digit, is_letter, is_gap, is_alphanumeric, decimal_of}
-use Rattle.vx_text.specs.First.{first, first_by, number}
+use Rattle.vx_text.specs.Bytes.{with_digit, digits_value, is_digit, is_alphanumeric, decimal_of}
+use Rattle.vx_text.specs.First.{first, number}
 use Rattle.vx_text.proofs.Runs.{and_parts, stops, run_of}
 use Rattle.vx_text.proofs.Leading.{first-cons, digit_leads}
 

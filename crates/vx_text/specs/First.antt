@@ -1,5 +1,5 @@
 -- What stands first in bytes: a gap, a comment or the end, a token with its length, or a fault.
-use Rattle.std.specs.Prelude.{ℕ, ◌+◌, ◌==◌, ◌&&◌, List, length, map, drop, slice_index, nat_lt, nat_eq, codes, bytes_eq, if◌then◌else◌, Option, Some, None, option_map}
+use Rattle.std.specs.Prelude.{ℕ, ◌+◌, ◌==◌, List, length, map, drop, slice_index, nat_lt, nat_eq, codes, bytes_eq, if◌then◌else◌, Option, Some, None, option_map}
 use Rattle.std.specs.List.{take_while, starts_with, find}
 use Rattle.vx_base.specs.Name.{is_name}
 use Rattle.vx_base.specs.Cond.{name_of, all_conds}

@@ -56,8 +56,8 @@ fn spelled(alloc: Global, bytes: &[u8]) -> Result<Bytes, NoMemory>
     Ok(text)
 }
 
-/// Appends a text between quotes, or changes nothing: a byte from 32 to 126 but `"` and `\` stands for itself, any other
-/// as `\` and its two hexadecimal digits.
+/// Appends a text between quotes, or changes nothing: a byte from 32 to 126 but `"` and `\` stands for itself, any
+/// other as `\` and its two hexadecimal digits.
 pub fn print_quote(alloc: Global, out: &mut Bytes, bytes: &[u8]) -> Result<(), NoMemory>
     ensures ok { OnOk result (out.new ≡ out.old ++ spec.quote_text bytes.now) }
     ensures err { OnErr result (out.new ≡ out.old) }

@@ -1,6 +1,4 @@
-use Rattle.std.proofs.Common.{◌≡◌, ◌+◌, ◌-◌, ◌++◌, ◌∷◌, [], take, drop, length, arith, sym, ◌∙◌, refl, ap, Ok}
-use Rattle.vx_table.specs.Rows.{params_in}
-use Rattle.vx_table.specs.Reading.{behind_args, read_args}
+use Rattle.std.proofs.Common.{◌+◌, ◌-◌, take, arith, ◌∙◌}
 use Rattle.vx_table.specs.Cutting.{left}
 use Rattle.vx_table.proofs.Steps.{args_of-front, finished, no_param, a_param, params_end, stepped, taken, still_unused}
 use Rattle.vx_table.proofs.read.read_args.Goals as goal

@@ -1,4 +1,4 @@
-use Rattle.std.proofs.Common.{◌≡◌, List, ℕ, sym, ◌∙◌, ap, option_map}
+use Rattle.std.proofs.Common.{◌≡◌, sym, ◌∙◌, ap, option_map}
 use Rattle.vx_text.specs.declared.quoted.Text.{Text}
 use Rattle.vx_text.specs.Quote.{quote_text}
 use Rattle.vx_text.proofs.Canonical.{spelled_read, told_apart, bytes_of}
