@@ -1,0 +1,5 @@
+pub mod Back
+pub mod Cutting
+pub mod Reading
+pub mod Rows
+pub mod Spelling

@@ -1,0 +1,20 @@
+//! The service table: what arguments each system service takes, and calls read and printed by it.
+//!
+//! The services are those of the "OpenVMS System Services Reference Manual". A row of the table has a service and its
+//! arguments in order: the kind of each, and what stands for it where it is left out, if it may be. `service_table`
+//! gives the table, `read_call` reads a call from the tokens of a line, and `print_call` writes one canonically, so
+//! that it reads back as the same call (`specs/Spelling.antt`, `specs/Reading.antt`).
+#![tactic(auto)]
+
+mod arg;
+mod fail;
+mod print;
+mod read;
+mod table;
+
+pub use fail::CallFail;
+pub use table::{ServiceTable, service_table};
+pub use vx_base::Kind;
+
+#[cfg(test)]
+mod tests;

@@ -1,0 +1,10 @@
+pub mod Canonical
+pub mod Conditions
+pub mod Digits
+pub mod Leading
+pub mod Lexing
+pub mod Numbers
+pub mod Order
+pub mod Local
+pub mod Runs
+pub mod Turns

@@ -1,0 +1,5 @@
+pub mod Bytes
+pub mod First
+pub mod Lex
+pub mod Quote
+pub mod Quoted
