@@ -1,6 +1,5 @@
 pub mod Code
 pub mod Example
-pub mod Quote
 pub mod Simulated
 pub mod Taken
 pub mod Top

@@ -31,7 +31,7 @@ use Rattle.vx_exec.specs.Model.{decl_of, first, after}
 use Rattle.vx_exec.specs.Standing.{standing_of, code_of}
 use Rattle.vx_exec.specs.declared.standing.Standing.{Standing}
 use Rattle.vx_exec.specs.declared.standing.Standing.TheVariants as standing
-use Rattle.vms.specs.Quote.{quote_text}
+use Rattle.vx_text.specs.Quote.{quote_text}
 
 -- What effects name.
 

@@ -6,10 +6,10 @@ ghost use Rattle.std.specs.Prelude.{◌≡◌, ◌++◌, ◌∷◌, [], decimal,
 ghost use Rattle.vx_script.specs.Form.{ended_lines};
 ghost use Rattle.vms.specs.Transcript.{id_text, bit_text, cluster_text, cell_text, opened_name, mode_text, cond_text, joined_text, body_text, spaced, effect_words, effect_line};
 
-use crate::quote::print_quote;
 use std::alloc::Global;
 use vx_base::{Body, Bytes, Cell, Cond, Effect, Id, Mode, Name, NoMemory, Opened, Pid};
 use vx_script::{mode_name, print_num, print_target};
+use vx_text::print_quote;
 
 /// Appends a text behind a space.
 pub fn print_spaced(text: &[u8], out: &mut Bytes) -> Result<(), NoMemory>
@@ -106,11 +106,11 @@ fn cond_text(cond: Option<Cond>) -> &'static [u8]
     }
 }
 
-fn print_body(body: &Body, out: &mut Bytes) -> Result<(), NoMemory>
+fn print_body(alloc: Global, body: &Body, out: &mut Bytes) -> Result<(), NoMemory>
     ensures { OnOk result (out.new ≡ out.old ++ body_text body.now) }
 {
     match body {
-        Body::Text(bytes) => print_quote(bytes.as_slice(), out),
+        Body::Text(bytes) => print_quote(alloc, out, bytes.as_slice()),
         Body::Eof => out.push_all(b"EOF"),
     }
 }
@@ -202,7 +202,7 @@ fn print_words(alloc: Global, effect: &Effect, out: &mut Bytes) -> Result<(), No
             print_of_pid(alloc, b"BUF", *p, out)?;
             print_spaced_num(alloc, *b, out)?;
             out.push_all(b" ")?;
-            print_quote(bytes.as_slice(), out)
+            print_quote(alloc, out, bytes.as_slice())
         }
         Effect::Var { p, v, n } => {
             print_of_pid(alloc, b"VAR", *p, out)?;
@@ -214,7 +214,7 @@ fn print_words(alloc: Global, effect: &Effect, out: &mut Bytes) -> Result<(), No
             print_of_name(b"MPUT", name, out)?;
             print_spaced_id(alloc, *id, out)?;
             out.push_all(b" ")?;
-            print_body(body, out)
+            print_body(alloc, body, out)
         }
         Effect::MGet { name, w, r } => {
             print_of_name(b"MGET", name, out)?;

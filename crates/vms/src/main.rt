@@ -11,7 +11,6 @@ mod command;
 mod effect;
 mod example;
 mod print;
-mod quote;
 mod run;
 mod simulate;
 mod status;
