@@ -83,10 +83,12 @@ read_ending r m (body.Text bytes) = ending (if nat_lt r.len (length bytes) then 
 abbrev pub write_ending : Msg → Ending
 write_ending m = ending Normal (length (body_bytes m.body)) 0 []
 
--- a message goes to a read: the read finishes, and then its write where that is held
-abbrev pub transferred : State → BoxNo → Msg → Request → Part
-transferred s b m r =
-    and_then (and_then (mget_part s b m r.req.id) (λ a. finish a r (read_ending r.req m m.body))) (λ c. part_if m.held (finish_id c m.id (write_ending m)) c)
+-- a message goes to a read, which finishes
+abbrev pub received : State → BoxNo → Msg → Request → Part
+received s b m r = and_then (mget_part s b m r.req.id) (λ a. finish a r (read_ending r.req m m.body))
+
+abbrev pub write_done : State → Msg → Part
+write_done s m = finish_id s m.id (write_ending m)
 
 -- Attention.
 
@@ -114,13 +116,13 @@ call_attention s b func = each fire_attention (filter (is_attention_at b func) s
 
 -- a message that no read waits for is stored; a write with NOW is finished; and whoever asked for attention gets it
 abbrev pub store_message : State → BoxNo → Msg → Part
-store_message s b m = and_then (part_if (not m.held) (finish_id s m.id (write_ending m)) s) (λ a. call_attention a b WrtAttn)
+store_message s b m = and_then (part_if (not m.held) (write_done s m) s) (λ a. call_attention a b WrtAttn)
 
 abbrev pub hand_over : State → BoxNo → Msg → Option Request → Part
 hand_over s b m None = store_message s b m
-hand_over s b m (Some r) = transferred s b m r
+hand_over s b m (Some r) = and_then (received s b m r) (λ a. write_done a m)
 
--- a write or an end of file: the oldest read that waits takes it
+-- a write or an end of file: the oldest read that waits takes it, and both finish
 abbrev pub write_box : State → BoxNo → Msg → Part
 write_box s b m = and_then (mput_part s b m) (λ a. hand_over a b m (find (waits_at b) a.requests))
 
@@ -129,9 +131,9 @@ wait_for_message s b r = and_then (part_if (not (is_waiting_func r.req.func)) (f
 
 abbrev pub take_message : State → BoxNo → Request → List Msg → Part
 take_message s b r [] = wait_for_message s b r
-take_message s b r (m ∷ ms) = transferred s b m r
+take_message s b r (m ∷ ms) = and_then (received s b m r) (λ a. part_if m.held (write_done a m) a)
 
--- a read: it takes the oldest message, or waits, or with NOW finds an end of file
+-- a read: it takes the oldest message, whose write finishes where it is held; or waits; or with NOW finds an end of file
 abbrev pub read_box : State → BoxNo → Request → Part
 read_box s b r = take_message s b r (mailbox_at s b).messages
 
