@@ -24,7 +24,7 @@ use Rattle.vx_record.specs.Services.{with_variable}
 use Rattle.vx_record.specs.Events.{uses_wake, resumed_with, with_r0, moved_to, moved_behind, without_top, below_top, put_back}
 use Rattle.vx_record.specs.Sound.{ground, IsRoutine, IsRoutineOf, is_drained, IsIdle, ProcessStands, IsSound}
 use Rattle.vx_record.proofs.Lists.{either, all_append, all_less, all_at}
-use Rattle.vx_record.proofs.Ground.{Seat, Still, change_still}
+use Rattle.vx_record.proofs.Ground.{Seat, Still, change_sound, change_still}
 
 -- Idle processes.
 
@@ -69,6 +69,7 @@ pub record Quiet (x y : Process) : Type 0 where
   pub handlers : y.handlers ≡ x.handlers
   pub phase : y.phase ≡ x.phase
   pub idle : IsIdle x.phase x.frames → IsIdle x.phase y.frames
+  pub down : x.frames ≡ [] → y.frames ≡ []
 
 quiet_seat : (x y : Process) → Quiet x y → Seat x y
 quiet_seat x y q = record {
@@ -85,11 +86,12 @@ quiet_then x y z a b = record {
   handlers = b.handlers ∙ a.handlers;
   phase = b.phase ∙ a.phase;
   idle = λ i. rw (sym a.phase) (b.idle (rw a.phase (a.idle i)));
+  down = λ e. b.down (a.down e);
 }
 
 pub quiet_still : (s : State) (p : Pid) (f : Process → Process) → Quiet (process_at s p) (f (process_at s p)) → IsSound s → Still s (change s p f)
 quiet_still s p f q h =
-    change_still s p f (quiet_seat (process_at s p) (f (process_at s p)) q)
+    change_still s p f (quiet_seat (process_at s p) (f (process_at s p)) q) q.down
     (λ k. record {
       decl = rw q.decl k.decl;
       numbers = rw q.channels k.numbers;
@@ -100,13 +102,13 @@ quiet_still s p f q h =
     }) h
 
 same_frames : (x y : Process) → y.decl ≡ x.decl → y.channels ≡ x.channels → y.asts ≡ x.asts → y.handlers ≡ x.handlers → y.phase ≡ x.phase → y.frames ≡ x.frames → Quiet x y
-same_frames x y a b c d e f = record { decl = a; channels = b; asts = c; handlers = d; phase = e; idle = λ i. rw f i }
+same_frames x y a b c d e f = record { decl = a; channels = b; asts = c; handlers = d; phase = e; idle = λ i. rw f i; down = λ e. f ∙ e }
 
 pub with_local_flag_quiet : (n : ℕ) (on : Bool) (pr : Process) → Quiet pr (with_local_flag n on pr)
 with_local_flag_quiet n on pr = either (Quiet pr) (nat_lt n 32) _ _ (same_frames pr _ refl refl refl refl refl refl) (same_frames pr _ refl refl refl refl refl refl)
 
 pub with_wait_quiet : (w : Option Wait) (pr : Process) → Quiet pr (with_wait w pr)
-with_wait_quiet w pr = record { decl = refl; channels = refl; asts = refl; handlers = refl; phase = refl; idle = idle_top pr.phase (λ f. record f { wait = w }) pr.frames }
+with_wait_quiet w pr = record { decl = refl; channels = refl; asts = refl; handlers = refl; phase = refl; idle = idle_top pr.phase (λ f. record f { wait = w }) pr.frames; down = λ e. ap (with_top (λ f. record f { wait = w })) e }
 
 pub with_delivery_quiet : (m : Mode) (on : Bool) (pr : Process) → Quiet pr (with_delivery m on pr)
 with_delivery_quiet m on pr = same_frames pr _ refl refl refl refl refl refl
@@ -127,16 +129,16 @@ pub with_variable_quiet : (t : Target) (n : ℕ) (pr : Process) → Quiet pr (wi
 with_variable_quiet t n pr = same_frames pr _ refl refl refl refl refl refl
 
 pub moved_to_quiet : (store : Storage) (place : ℕ) (pr : Process) → Quiet pr (moved_to store place pr)
-moved_to_quiet store place pr = record { decl = refl; channels = refl; asts = refl; handlers = refl; phase = refl; idle = idle_top pr.phase (λ f. record f { pc = place }) pr.frames }
+moved_to_quiet store place pr = record { decl = refl; channels = refl; asts = refl; handlers = refl; phase = refl; idle = idle_top pr.phase (λ f. record f { pc = place }) pr.frames; down = λ e. ap (with_top (λ f. record f { pc = place })) e }
 
 pub moved_behind_quiet : (place : ℕ) (pr : Process) → Quiet pr (moved_behind place pr)
 moved_behind_quiet place pr = moved_to_quiet pr.store (place + 1) pr
 
 pub below_top_quiet : (pr : Process) → Quiet pr (below_top pr)
-below_top_quiet pr = record { decl = refl; channels = refl; asts = refl; handlers = refl; phase = refl; idle = idle_below pr.phase pr.frames }
+below_top_quiet pr = record { decl = refl; channels = refl; asts = refl; handlers = refl; phase = refl; idle = idle_below pr.phase pr.frames; down = λ e. ap without_top e }
 
 pub put_back_quiet : (r0 : ℕ) (pr : Process) → Quiet pr (put_back r0 pr)
-put_back_quiet r0 pr = record { decl = refl; channels = refl; asts = refl; handlers = refl; phase = refl; idle = idle_below pr.phase pr.frames }
+put_back_quiet r0 pr = record { decl = refl; channels = refl; asts = refl; handlers = refl; phase = refl; idle = idle_below pr.phase pr.frames; down = λ e. ap without_top e }
 
 uses_wake_quiet : (w : Wait) (pr : Process) → Quiet pr (uses_wake w pr)
 uses_wake_quiet (wait.Flags a b c) pr = same_frames pr _ refl refl refl refl refl refl
@@ -156,7 +158,7 @@ same_seat_of x y a b c = record { decl = a; channel = λ n ch e. rw b e; going =
 pub with_queued_still : (s : State) (p : Pid) (q : Queued) → IsRoutineOf (ground s) p q.tag → IsSound s → Still s (change s p (with_queued q))
 with_queued_still s p q r h =
     let pr = process_at s p in
-    change_still s p (with_queued q) (same_seat_of pr (with_queued q pr) refl refl refl)
+    change_still s p (with_queued q) (same_seat_of pr (with_queued q pr) refl refl refl) (λ e. e)
     (λ k. record {
       decl = k.decl;
       numbers = k.numbers;
@@ -169,7 +171,7 @@ with_queued_still s p q r h =
 pub without_ast_still : (s : State) (p : Pid) (id : Id) → IsSound s → Still s (change s p (without_ast id))
 without_ast_still s p id h =
     let pr = process_at s p in
-    change_still s p (without_ast id) (same_seat_of pr (without_ast id pr) refl refl refl)
+    change_still s p (without_ast id) (same_seat_of pr (without_ast id pr) refl refl refl) (λ e. e)
     (λ k. record {
       decl = k.decl;
       numbers = k.numbers;
@@ -182,7 +184,7 @@ without_ast_still s p id h =
 pub with_handler_still : (s : State) (p : Pid) (d : Handler) → IsRoutineOf (ground s) p d.tag → IsSound s → Still s (change s p (with_handler d))
 with_handler_still s p d r h =
     let pr = process_at s p in
-    change_still s p (with_handler d) (same_seat_of pr (with_handler d pr) refl refl refl)
+    change_still s p (with_handler d) (same_seat_of pr (with_handler d pr) refl refl refl) (λ e. e)
     (λ k. record {
       decl = k.decl;
       numbers = k.numbers;
@@ -195,7 +197,7 @@ with_handler_still s p d r h =
 pub without_handler_still : (s : State) (p : Pid) (id : Id) → IsSound s → Still s (change s p (without_handler id))
 without_handler_still s p id h =
     let pr = process_at s p in
-    change_still s p (without_handler id) (same_seat_of pr (without_handler id pr) refl refl refl)
+    change_still s p (without_handler id) (same_seat_of pr (without_handler id pr) refl refl refl) (λ e. e)
     (λ k. record {
       decl = k.decl;
       numbers = k.numbers;
@@ -208,10 +210,10 @@ without_handler_still s p id h =
 -- Frames.
 
 -- a process that drains nothing may get a frame
-pub with_frame_still : (s : State) (p : Pid) (f : Frame) → IsIdle (process_at s p).phase (f ∷ (process_at s p).frames) → IsSound s → Still s (change s p (with_frame f))
-with_frame_still s p f i h =
+pub with_frame_sound : (s : State) (p : Pid) (f : Frame) → IsIdle (process_at s p).phase (f ∷ (process_at s p).frames) → IsSound s → IsSound (change s p (with_frame f))
+with_frame_sound s p f i h =
     let pr = process_at s p in
-    change_still s p (with_frame f) (same_seat_of pr (with_frame f pr) refl refl refl)
+    change_sound s p (with_frame f) (same_seat_of pr (with_frame f pr) refl refl refl)
     (λ k. record {
       decl = k.decl;
       numbers = k.numbers;
@@ -221,10 +223,10 @@ with_frame_still s p f i h =
       idle = i;
     }) h
 
-pub entering_still : (s : State) (p : Pid) (f : Frame) (id : Id) → IsIdle (process_at s p).phase (f ∷ (process_at s p).frames) → IsSound s → Still s (change s p (entering f id))
-entering_still s p f id i h =
+pub entering_sound : (s : State) (p : Pid) (f : Frame) (id : Id) → IsIdle (process_at s p).phase (f ∷ (process_at s p).frames) → IsSound s → IsSound (change s p (entering f id))
+entering_sound s p f id i h =
     let pr = process_at s p in
-    change_still s p (entering f id) (same_seat_of pr (entering f id pr) refl refl refl)
+    change_sound s p (entering f id) (same_seat_of pr (entering f id pr) refl refl refl)
     (λ k. record {
       decl = k.decl;
       numbers = k.numbers;
@@ -249,7 +251,7 @@ deleted_going phase.Deleted n h = h
 pub without_frames_still : (s : State) (p : Pid) (code : ℕ) → IsSound s → Still s (change s p (without_frames code))
 without_frames_still s p code h =
     let pr = process_at s p in
-    change_still s p (without_frames code) (record { decl = refl; channel = λ n ch e. e; going = leaving_going pr.phase (top_mode pr.frames) })
+    change_still s p (without_frames code) (record { decl = refl; channel = λ n ch e. e; going = leaving_going pr.phase (top_mode pr.frames) }) (λ e. refl)
     (λ k. record {
       decl = k.decl;
       numbers = k.numbers;
@@ -262,7 +264,7 @@ without_frames_still s p code h =
 pub named_for_deletion_still : (s : State) (p : Pid) → IsSound s → Still s (change s p named_for_deletion)
 named_for_deletion_still s p h =
     let pr = process_at s p in
-    change_still s p named_for_deletion (record { decl = refl; channel = λ n ch e. e; going = deleted_going pr.phase })
+    change_still s p named_for_deletion (record { decl = refl; channel = λ n ch e. e; going = deleted_going pr.phase }) (λ e. refl)
     (λ k. record {
       decl = k.decl;
       numbers = k.numbers;
@@ -276,7 +278,7 @@ named_for_deletion_still s p h =
 pub in_phase_still : (s : State) (p : Pid) (ph : Phase) → ((m : Mode) → is_drained ph m ≡ false) → IsIdle ph (process_at s p).frames → IsSound s → Still s (change s p (in_phase ph))
 in_phase_still s p ph g i h =
     let pr = process_at s p in
-    change_still s p (in_phase ph) (record { decl = refl; channel = λ n ch e. e; going = λ m e. g m })
+    change_still s p (in_phase ph) (record { decl = refl; channel = λ n ch e. e; going = λ m e. g m }) (λ e. e)
     (λ k. record {
       decl = k.decl;
       numbers = k.numbers;

@@ -13,7 +13,7 @@ use Rattle.vx_base.specs.declared.request.Device.TheVariants as device
 use Rattle.vx_base.specs.declared.routine.Entry.{Entry}
 use Rattle.vx_base.specs.declared.routine.Entry.TheVariants as entry
 use Rattle.vx_image.specs.declared.system.System.{System}
-use Rattle.vx_record.specs.State.{Process, State, IsWithin, nobody, process_at, change, past_id}
+use Rattle.vx_record.specs.State.{Process, State, IsWithin, IsProcess, nobody, process_at, change, past_id}
 use Rattle.vx_record.specs.Sound.{Ground, ground, IsMade, process_of, IsRoutine, IsRoutineOf, BoxStands, DeviceStands, ChannelStands, HasChannel, IsRooted, RequestStands, AlarmStands, TimerStands, is_drained, AttentionStands, ProcessStands, AssociationStands, AreOrdered, request_id, timer_id, attention_id, IsSound}
 use Rattle.vx_record.proofs.Lists.{all_weaker, all_set, ordered_below}
 
@@ -135,34 +135,40 @@ association_moves n m c k a f = record { made = record { above = f.made.above; w
 
 -- States.
 
+-- a process without a frame gets none
+abbrev pub StaysDown : State → State → Type 0
+StaysDown s t = (p : Pid) → IsProcess s p → (process_at s p).frames ≡ [] → (process_at t p).frames ≡ []
+
 pub record Still (s t : State) : Type 0 where
   pub sound : IsSound t
   pub keeps : Keeps (ground s) (ground t)
+  pub down : StaysDown s t
 
 pub still : (s : State) → IsSound s → Still s s
-still s h = record { sound = h; keeps = keeps_all (ground s) }
+still s h = record { sound = h; keeps = keeps_all (ground s); down = λ p m e. e }
 
 pub still_then : {s t u : State} → Still s t → Still t u → Still s u
-still_then {s} {t} {u} a b = record { sound = b.sound; keeps = keeps_more (ground s) (ground t) (ground u) a.keeps b.keeps }
+still_then {s} {t} {u} a b = record {
+  sound = b.sound;
+  keeps = keeps_more (ground s) (ground t) (ground u) a.keeps b.keeps;
+  down = λ p m e. b.down p (made_keeps (ground s) (ground t) a.keeps p m) (a.down p m e);
+}
 
 -- other processes, mailboxes and units
-pub moved : (s : State) (procs : List Process) (boxes : List (Option Mailbox)) (units : List DeviceUnit) → length units ≡ length s.units → Keeps (ground s) (ground (record s { procs = procs; boxes = boxes; units = units })) → AllByRecursion (ProcessStands (ground (record s { procs = procs; boxes = boxes; units = units }))) procs → IsSound s → Still s (record s { procs = procs; boxes = boxes; units = units })
+pub moved : (s : State) (procs : List Process) (boxes : List (Option Mailbox)) (units : List DeviceUnit) → length units ≡ length s.units → Keeps (ground s) (ground (record s { procs = procs; boxes = boxes; units = units })) → AllByRecursion (ProcessStands (ground (record s { procs = procs; boxes = boxes; units = units }))) procs → IsSound s → IsSound (record s { procs = procs; boxes = boxes; units = units })
 moved s procs boxes units e k f h =
     let g = ground s in
     let to = ground (record s { procs = procs; boxes = boxes; units = units }) in
     record {
-      keeps = k;
-      sound = record {
-        units = e ∙ h.units;
-        procs = f;
-        associations = all_weaker (AssociationStands (length s.procs) s.common) (AssociationStands (length procs) s.common) (association_moves (length s.procs) (length procs) s.common k.base.more) s.common.associations h.associations;
-        requests = all_weaker (RequestStands g) (RequestStands to) (request_keeps g to k) s.requests h.requests;
-        timers = all_weaker (TimerStands g) (TimerStands to) (timer_moves g to k.base) s.timers h.timers;
-        attention = all_weaker (AttentionStands g) (AttentionStands to) (attention_keeps g to k) s.attention h.attention;
-        request_ids = h.request_ids;
-        timer_ids = h.timer_ids;
-        attention_ids = h.attention_ids;
-      };
+      units = e ∙ h.units;
+      procs = f;
+      associations = all_weaker (AssociationStands (length s.procs) s.common) (AssociationStands (length procs) s.common) (association_moves (length s.procs) (length procs) s.common k.base.more) s.common.associations h.associations;
+      requests = all_weaker (RequestStands g) (RequestStands to) (request_keeps g to k) s.requests h.requests;
+      timers = all_weaker (TimerStands g) (TimerStands to) (timer_moves g to k.base) s.timers h.timers;
+      attention = all_weaker (AttentionStands g) (AttentionStands to) (attention_keeps g to k) s.attention h.attention;
+      request_ids = h.request_ids;
+      timer_ids = h.timer_ids;
+      attention_ids = h.attention_ids;
     }
 
 -- other requests, timers, attention entries, associations, another time and next id
@@ -170,6 +176,7 @@ moved s procs boxes units e k f h =
 pub requests_still : (s : State) (xs : List Request) → AllByRecursion (RequestStands (ground s)) xs → AreOrdered request_id 0 s.next xs → IsSound s → Still s (record s { requests = xs })
 requests_still s xs f o h = record {
   keeps = keeps_all (ground s);
+  down = λ p m e. e;
   sound = record {
     units = h.units;
     procs = h.procs;
@@ -186,6 +193,7 @@ requests_still s xs f o h = record {
 pub timers_still : (s : State) (xs : List Timer) → AllByRecursion (TimerStands (ground s)) xs → AreOrdered timer_id 0 s.next xs → IsSound s → Still s (record s { timers = xs })
 timers_still s xs f o h = record {
   keeps = keeps_all (ground s);
+  down = λ p m e. e;
   sound = record {
     units = h.units;
     procs = h.procs;
@@ -202,6 +210,7 @@ timers_still s xs f o h = record {
 pub attention_still : (s : State) (xs : List Attention) → AllByRecursion (AttentionStands (ground s)) xs → AreOrdered attention_id 0 s.next xs → IsSound s → Still s (record s { attention = xs })
 attention_still s xs f o h = record {
   keeps = keeps_all (ground s);
+  down = λ p m e. e;
   sound = record {
     units = h.units;
     procs = h.procs;
@@ -218,6 +227,7 @@ attention_still s xs f o h = record {
 pub common_still : (s : State) (c : Common) → AllByRecursion (AssociationStands (length s.procs) c) c.associations → IsSound s → Still s (record s { common = c })
 common_still s c f h = record {
   keeps = keeps_all (ground s);
+  down = λ p m e. e;
   sound = record {
     units = h.units;
     procs = h.procs;
@@ -234,6 +244,7 @@ common_still s c f h = record {
 pub later_still : (s : State) (time next : ℕ) → s.next ≤ next → IsSound s → Still s (record s { time = time; next = next })
 later_still s time next k h = record {
   keeps = keeps_all (ground s);
+  down = λ p m e. e;
   sound = record {
     units = h.units;
     procs = h.procs;
@@ -283,9 +294,16 @@ change_keeps s p f k =
       going = λ q m made e. (seat q).going m e;
     }
 
-pub change_still : (s : State) (p : Pid) (f : Process → Process) → Seat (process_at s p) (f (process_at s p)) → (ProcessStands (ground s) (process_at s p) → ProcessStands (ground s) (f (process_at s p))) → IsSound s → Still s (change s p f)
-change_still s p f k stands h =
+pub change_sound : (s : State) (p : Pid) (f : Process → Process) → Seat (process_at s p) (f (process_at s p)) → (ProcessStands (ground s) (process_at s p) → ProcessStands (ground s) (f (process_at s p))) → IsSound s → IsSound (change s p f)
+change_sound s p f k stands h =
     let to = ground (change s p f) in
     moved s (change s p f).procs s.boxes s.units refl (change_keeps s p f k)
     (all_weaker (ProcessStands (ground s)) (ProcessStands to) (process_moves (ground s) to refl refl (λ b e. e)) (change s p f).procs
     (all_set (ProcessStands (ground s)) s.procs (p.0 - 1) (f (process_at s p)) nobody stands h.procs)) h
+
+pub change_still : (s : State) (p : Pid) (f : Process → Process) → Seat (process_at s p) (f (process_at s p)) → ((process_at s p).frames ≡ [] → (f (process_at s p)).frames ≡ []) → (ProcessStands (ground s) (process_at s p) → ProcessStands (ground s) (f (process_at s p))) → IsSound s → Still s (change s p f)
+change_still s p f k none stands h = record {
+  sound = change_sound s p f k stands h;
+  keeps = change_keeps s p f k;
+  down = λ q m e. at_set (λ (x y : Process). x.frames ≡ [] → y.frames ≡ []) (λ x r. r) s.procs (p.0 - 1) (q.0 - 1) (f (process_at s p)) nobody none e;
+}

@@ -24,7 +24,7 @@ use Rattle.vx_record.specs.Timers.{this_timer, with_timer, drop_timer, drop_time
 use Rattle.vx_record.specs.Sound.{ground, IsMade, IsRoutineOf, IsIdle, TimerStands, timer_id, IsSound}
 use Rattle.vx_record.proofs.Lists.{either, all_append, all_less, all_amend, all_filter, all_weaker, ordered_less, ordered_amend, ordered_more}
 use Rattle.vx_record.proofs.Ground.{Keeps, keeps_all, made_keeps, routine_of_moves, some_weaker, timer_moves, Still, still, still_then, timers_still, later_still, past_id_still}
-use Rattle.vx_record.proofs.Changes.{idle_of, stands_at, quiet_still, with_queued_still, with_frame_still, with_delivery_quiet, with_wake_quiet}
+use Rattle.vx_record.proofs.Changes.{idle_of, stands_at, quiet_still, with_queued_still, with_frame_sound, with_delivery_quiet, with_wake_quiet}
 use Rattle.vx_record.proofs.SoundFlags.{flag_part_still, flag_where_named_still, at_flag_sound}
 
 -- ASTs.
@@ -52,12 +52,12 @@ framed s p f m has h = idle_of (process_at s p).phase (process_at s p).frames (f
 pub cmexec_sound : (s : State) (p : Pid) (tag : Entry) → IsProcess s p → HasFrame s p → IsSound s → IsSound (cmexec s p tag).after
 cmexec_sound s p tag m has h =
     let f = new_frame s p kind.Change (inner (current s p) Exec) tag 0 in
-    either (λ (o : Outcome Cond). IsSound o.after) (is_inside (current s p) || ((process_at s p).privs.cmexec || (process_at s p).privs.cmkrnl)) _ _ (with_frame_still s p f (framed s p f m has h) h).sound h
+    either (λ (o : Outcome Cond). IsSound o.after) (is_inside (current s p) || ((process_at s p).privs.cmexec || (process_at s p).privs.cmkrnl)) _ _ (with_frame_sound s p f (framed s p f m has h) h) h
 
 pub cmkrnl_sound : (s : State) (p : Pid) (tag : Entry) → IsProcess s p → HasFrame s p → IsSound s → IsSound (cmkrnl s p tag).after
 cmkrnl_sound s p tag m has h =
     let f = new_frame s p kind.Change Kernel tag 0 in
-    either (λ (o : Outcome Cond). IsSound o.after) (is_inside (current s p) || (process_at s p).privs.cmkrnl) _ _ (with_frame_still s p f (framed s p f m has h) h).sound h
+    either (λ (o : Outcome Cond). IsSound o.after) (is_inside (current s p) || (process_at s p).privs.cmkrnl) _ _ (with_frame_sound s p f (framed s p f m has h) h) h
 
 -- Timers.
 

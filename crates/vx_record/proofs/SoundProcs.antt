@@ -118,7 +118,7 @@ creprc_sound s p place k h =
     either (λ (o : Outcome (Result ℕ Cond)). IsSound o.after) (nat_le 1000 (length s.procs)) _ _ h
     (moved s (s.procs ++ pr ∷ []) s.boxes s.units refl (more_keeps s pr)
     (all_weaker (ProcessStands (ground s)) (ProcessStands to) (process_moves (ground s) to refl refl (λ b e. e)) (s.procs ++ pr ∷ [])
-    (all_append (ProcessStands (ground s)) s.procs (pr ∷ []) h.procs (born_stands s place pr.group pr.member pr.privs _ k, tt))) h).sound
+    (all_append (ProcessStands (ground s)) s.procs (pr ∷ []) h.procs (born_stands s place pr.group pr.member pr.privs _ k, tt))) h)
 
 -- Exit.
 
