@@ -6,6 +6,11 @@
 //! examples, computed from the definitions, and the law that references stand (`specs/Sound.antt`).
 #![tactic(auto)]
 
+mod same;
 mod served;
 
+pub use same::same_rec;
 pub use served::Served;
+
+#[cfg(test)]
+mod tests;
