@@ -15,7 +15,7 @@ use Rattle.vx_record.specs.Parts.{Part, nothing, and_then, each, part_if}
 use Rattle.vx_record.specs.Flags.{flag_where_named, cell}
 use Rattle.vx_record.specs.Asts.{que_part, charged_ast}
 use Rattle.vx_record.specs.Finish.{Ending, ending, is_read, this_request, fin_part, with_stored_bytes, buf_part, with_stored_status, put_status, iosb_part, status_of, done_flag_part, done_ast_part, finish, finish_found, finish_id}
-use Rattle.vx_record.specs.Mailboxes.{mailbox_at, with_messages, waits_at, is_waiting_func, mput_part, mget_part, mcut_part, this_message, read_ending, write_ending, transferred, is_attention_at, this_attention, fire_attention, call_attention, store_message, hand_over, write_box, wait_for_message, take_message, read_box, is_answered_now, attend}
+use Rattle.vx_record.specs.Mailboxes.{mailbox_at, with_messages, waits_at, is_waiting_func, mput_part, mget_part, mcut_part, this_message, read_ending, write_ending, received, write_done, is_attention_at, this_attention, fire_attention, call_attention, store_message, hand_over, write_box, wait_for_message, take_message, read_box, is_answered_now, attend}
 use Rattle.vx_record.specs.Sound.{ground, BoxStands, IsRoutineOf, RequestStands, AttentionStands, ProcessStands, request_id, attention_id, IsSound}
 use Rattle.vx_record.proofs.Lists.{either, all_weaker, all_less, all_filter, ordered_less}
 use Rattle.vx_record.proofs.Ground.{Keeps, some_weaker, routine_of_moves, request_keeps, attention_keeps, process_moves, Still, still, still_then, moved, requests_still, attention_still, at_set}
@@ -92,14 +92,14 @@ box_still s b box h =
 pub with_messages_still : (s : State) (b : BoxNo) (messages : List Msg) → IsSound s → Still s (with_messages s b messages)
 with_messages_still s b messages h = box_still s b (record (mailbox_at s b) { messages = messages }) h
 
-transferred_still : (s : State) (b : BoxNo) (m : Msg) (r : Request) → RequestStands (ground s) r → IsSound s → Still s (transferred s b m r).after
-transferred_still s b m r k h =
+received_still : (s : State) (b : BoxNo) (m : Msg) (r : Request) → RequestStands (ground s) r → IsSound s → Still s (received s b m r).after
+received_still s b m r k h =
     let a = (mget_part s b m r.req.id).after in
     let one : Still s a = with_messages_still s b (less (this_message m.id) (mailbox_at s b).messages) h in
-    let e = read_ending r.req m m.body in
-    let c = (finish a r e).after in
-    let two : Still s c = still_then one (finish_still a r e (request_keeps (ground s) (ground a) one.keeps r k) one.sound) in
-    still_then two (part_if_still c m.held (finish_id c m.id (write_ending m)) (finish_id_still c m.id (write_ending m) two.sound) two.sound)
+    still_then one (finish_still a r (read_ending r.req m m.body) (request_keeps (ground s) (ground a) one.keeps r k) one.sound)
+
+write_done_still : (s : State) (m : Msg) → IsSound s → Still s (write_done s m).after
+write_done_still s m h = finish_id_still s m.id (write_ending m) h
 
 -- Attention.
 
@@ -126,13 +126,16 @@ call_attention_still s b func h =
 
 store_message_still : (s : State) (b : BoxNo) (m : Msg) → IsSound s → Still s (store_message s b m).after
 store_message_still s b m h =
-    let part = part_if (not m.held) (finish_id s m.id (write_ending m)) s in
-    let one : Still s part.after = part_if_still s (not m.held) (finish_id s m.id (write_ending m)) (finish_id_still s m.id (write_ending m) h) h in
+    let part = part_if (not m.held) (write_done s m) s in
+    let one : Still s part.after = part_if_still s (not m.held) (write_done s m) (write_done_still s m h) h in
     still_then one (call_attention_still part.after b WrtAttn one.sound)
 
 hand_over_still : (s : State) (b : BoxNo) (m : Msg) (o : Option Request) → IfSome o (RequestStands (ground s)) → IsSound s → Still s (hand_over s b m o).after
 hand_over_still s b m None k h = store_message_still s b m h
-hand_over_still s b m (Some r) k h = transferred_still s b m r k h
+hand_over_still s b m (Some r) k h =
+    let a = (received s b m r).after in
+    let one : Still s a = received_still s b m r k h in
+    still_then one (write_done_still a m one.sound)
 
 pub write_box_still : (s : State) (b : BoxNo) (m : Msg) → IsSound s → Still s (write_box s b m).after
 write_box_still s b m h =
@@ -149,7 +152,10 @@ wait_for_message_still s b r k h =
 
 take_message_still : (s : State) (b : BoxNo) (r : Request) (messages : List Msg) → RequestStands (ground s) r → IsSound s → Still s (take_message s b r messages).after
 take_message_still s b r [] k h = wait_for_message_still s b r k h
-take_message_still s b r (m ∷ ms) k h = transferred_still s b m r k h
+take_message_still s b r (m ∷ ms) k h =
+    let a = (received s b m r).after in
+    let one : Still s a = received_still s b m r k h in
+    still_then one (part_if_still a m.held (write_done a m) (write_done_still a m one.sound) one.sound)
 
 pub read_box_still : (s : State) (b : BoxNo) (r : Request) → RequestStands (ground s) r → IsSound s → Still s (read_box s b r).after
 read_box_still s b r k h = take_message_still s b r (mailbox_at s b).messages k h
