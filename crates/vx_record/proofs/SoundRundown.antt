@@ -233,3 +233,203 @@ draining_sound s a p m made k left none =
             let apart : x.p.0 - 1 ≢ p.0 - 1 = λ i. other (omega (arith, made.above, e.made.above, i)) in
             rw (get_or-set_other a.procs (p.0 - 1) (x.p.0 - 1) (f (process_at a p)) nobody apart) was
         ]
+
+-- The channels of a mode that is drained are freed: nothing hangs on them.
+
+RowReached : Mode → Option Channel → Type 0
+RowReached m None = Unit {0}
+RowReached m (Some ch) = reaches ch.mode m ≡ true
+
+row_reached : (m : Mode) (o : Option Channel) → is_reached m o ≡ true → RowReached m o
+unfolding RowReached
+row_reached m None e = tt
+row_reached m (Some ch) e = e
+
+-- what of a process a freed channel leaves as it was
+swept_procs : (s : State) (o : Option Channel) → (swept_box s o).after.procs ≡ s.procs
+swept_procs s None = refl
+swept_procs s (Some ch) = device_procs ch.device
+  where
+    device_procs : (d : Device) → (swept_device s d).after.procs ≡ s.procs
+    device_procs (device.Unit u) = refl
+    device_procs (device.Mailbox b) = either (λ (x : Part). x.after.procs ≡ s.procs) (not (is_assigned s b) && goes_unused (mailbox_at s b)) (box_gone s b) (nothing s) refl refl
+
+swept_requests : (s : State) (o : Option Channel) → (swept_box s o).after.requests ≡ s.requests
+swept_requests s None = refl
+swept_requests s (Some ch) = device_requests ch.device
+  where
+    device_requests : (d : Device) → (swept_device s d).after.requests ≡ s.requests
+    device_requests (device.Unit u) = refl
+    device_requests (device.Mailbox b) = either (λ (x : Part). x.after.requests ≡ s.requests) (not (is_assigned s b) && goes_unused (mailbox_at s b)) (box_gone s b) (nothing s) refl refl
+
+freed_procs : (s : State) (p : Pid) (n : ℕ) → (free_channel s p n).after.procs ≡ set s.procs (p.0 - 1) (with_channel n None (process_at s p))
+freed_procs s p n = swept_procs (change s p (with_channel n None)) (channel_at (process_at s p).channels n)
+
+freed_requests : (s : State) (p : Pid) (n : ℕ) → (free_channel s p n).after.requests ≡ s.requests
+freed_requests s p n = swept_requests (change s p (with_channel n None)) (channel_at (process_at s p).channels n)
+
+freed_seat : (R : Process → Process → Type 0) → ((x : Process) → R x x) → (s : State) (p : Pid) (n : ℕ) → R (process_at s p) (with_channel n None (process_at s p)) → R (process_at s p) (process_at (free_channel s p n).after p)
+freed_seat R same s p n k =
+    subst (λ (ps : List Process). R (process_at s p) (get_or ps (p.0 - 1) nobody)) (sym (freed_procs s p n))
+    (at_set R same s.procs (p.0 - 1) (p.0 - 1) (with_channel n None (process_at s p)) nobody k)
+
+-- a number whose channel is free, or of the mode or an outer one
+IsFreed : State → Pid → Mode → ℕ → Type 0
+IsFreed s p m n = (is_channel_number n ≡ true) × RowReached m (channel_at (process_at s p).channels n)
+
+record Freeing (s : State) (p : Pid) (m : Mode) (ns : List ℕ) : Type 0 where
+  pub down : Down s p
+  pub phase : (process_at s p).phase ≡ phase.Draining m
+  pub idle : AllByRecursion (λ r. keeps_busy p m r ≡ false) s.requests
+  pub rows : AllByRecursion (IsFreed s p m) ns
+
+clear_request : (s : State) (p : Pid) (m : Mode) (n : ℕ) (q : Pid) (k : ℕ) (mode : Mode) (d : Device) → RowReached m (channel_at (process_at s p).channels n) → IsRooted (ground s) q k mode d → (is_same q p && reaches mode m) ≡ false → (is_on_box d && (is_same q p && (k == n))) ≡ true → ⊥
+unfolding RowReached
+clear_request s p m n q k mode (device.Unit u) row c idle e = cc
+clear_request s p m n q k mode (device.Mailbox b) row c idle e =
+    let parts = and_parts (is_same q p) (k == n) e in
+    let one : q.0 ≡ p.0 = eqb-true q.0 p.0 parts.0 in
+    let two : k ≡ n = eqb-true k n parts.1 in
+    let ch : Channel = record { device = device.Mailbox b; mode = mode } in
+    let its : channel_at (process_of (ground s) q).channels k ≡ channel_at (process_at s p).channels n = ap (λ (i : ℕ). channel_at (get_or s.procs (i - 1) nobody).channels k) one ∙ ap (λ (i : ℕ). channel_at (process_at s p).channels i) two in
+    let there : RowReached m (Some ch) = subst (RowReached m) (sym its ∙ c.row) row in
+    apart_bools (is_same q p && reaches mode m) (and_from (is_same q p) (reaches mode m) parts.0 there) idle
+
+clear_attention : (s : State) (p : Pid) (m : Mode) (n : ℕ) (a : Attention) → (process_at s p).phase ≡ phase.Draining m → RowReached m (channel_at (process_at s p).channels n) → AttentionStands (ground s) a → is_attention_on p n a ≡ true → ⊥
+unfolding RowReached
+clear_attention s p m n a drained row k e =
+    let parts = and_parts (is_same a.p p) (a.chan == n) e in
+    let one : a.p.0 ≡ p.0 = eqb-true a.p.0 p.0 parts.0 in
+    let two : a.chan ≡ n = eqb-true a.chan n parts.1 in
+    let ch : Channel = record { device = device.Mailbox a.box; mode = k.channel_mode } in
+    let its : channel_at (process_of (ground s) a.p).channels a.chan ≡ channel_at (process_at s p).channels n = ap (λ (i : ℕ). channel_at (get_or s.procs (i - 1) nobody).channels a.chan) one ∙ ap (λ (i : ℕ). channel_at (process_at s p).channels i) two in
+    let there : RowReached m (Some ch) = subst (RowReached m) (sym its ∙ k.channel.row) row in
+    let ph : (process_of (ground s) a.p).phase ≡ phase.Draining m = ap (λ (i : ℕ). (get_or s.procs (i - 1) nobody).phase) one ∙ drained in
+    let going : is_drained (phase.Draining m) k.channel_mode ≡ false = subst (λ (x : Phase). is_drained x k.channel_mode ≡ false) ph k.going in
+    apart_bools (reaches k.channel_mode m) there going
+
+freeing_clear : (s : State) (p : Pid) (m : Mode) (n : ℕ) (ns : List ℕ) → Freeing s p m (n ∷ ns) → IsClear s p n
+unfolding IsFreed
+freeing_clear s p m n ns f =
+    let row = f.rows.0.1 in
+    record {
+      requests = all_weaker (λ r. RequestStands (ground s) r × (keeps_busy p m r ≡ false)) (λ r. (is_on_box r.req.device && is_request_on p n r) ≡ false)
+      (λ r k. false_from _ (clear_request s p m n r.req.p r.req.chan r.req.chan_mode r.req.device row k.0.rooted k.1)) s.requests
+      (all_both (RequestStands (ground s)) (λ r. keeps_busy p m r ≡ false) s.requests f.down.sound.requests f.idle);
+      attention = all_weaker (AttentionStands (ground s)) (λ a. is_attention_on p n a ≡ false) (λ a k. false_from _ (clear_attention s p m n a f.phase row k)) s.attention f.down.sound.attention;
+    }
+
+row_freed : (m : Mode) (x : Process) (n k : ℕ) → RowReached m (channel_at x.channels k) → RowReached m (channel_at (with_channel n None x).channels k)
+unfolding RowReached
+row_freed m x n k r = at_set (λ (a b : Option Channel). RowReached m a → RowReached m b) (λ a e. e) x.channels (n - 1) (k - 1) None None (λ e. tt) r
+
+is_freed_after : (s : State) (p : Pid) (m : Mode) (n k : ℕ) → IsFreed s p m k → IsFreed (free_channel s p n).after p m k
+unfolding IsFreed
+is_freed_after s p m n k e =
+    (e.0, freed_seat (λ (x y : Process). RowReached m (channel_at x.channels k) → RowReached m (channel_at y.channels k)) (λ x r. r) s p n (row_freed m (process_at s p) n k) e.1)
+
+numbered : (s : State) (p : Pid) (m : Mode) (n : ℕ) → IsFreed s p m n → is_channel_number n ≡ true
+unfolding IsFreed
+numbered s p m n e = e.0
+
+free_one_down : (s : State) (p : Pid) (m : Mode) (n : ℕ) (ns : List ℕ) → Freeing s p m (n ∷ ns) → Freeing (free_channel s p n).after p m ns
+free_one_down s p m n ns f =
+    let t = (free_channel s p n).after in
+    let size : length t.procs ≡ length s.procs = ap length (freed_procs s p n) ∙ length-set s.procs (p.0 - 1) (with_channel n None (process_at s p)) in
+    record {
+      down = record {
+        sound = free_channel_sound s p n f.down.made (numbered s p m n f.rows.0) (freeing_clear s p m n ns f) f.down.sound;
+        made = record { above = f.down.made.above; within = omega (arith, size, f.down.made.within) };
+        none = freed_seat (λ (x y : Process). x.frames ≡ [] → y.frames ≡ []) (λ x e. e) s p n (λ e. e) f.down.none;
+      };
+      phase = freed_seat (λ (x y : Process). x.phase ≡ phase.Draining m → y.phase ≡ phase.Draining m) (λ x e. e) s p n (λ e. e) f.phase;
+      idle = subst (AllByRecursion (λ r. keeps_busy p m r ≡ false)) (sym (freed_requests s p n)) f.idle;
+      rows = all_weaker (IsFreed s p m) (IsFreed t p m) (is_freed_after s p m n) ns f.rows.1;
+    }
+
+each_free_down : (p : Pid) (m : Mode) (s : State) (ns : List ℕ) → Freeing s p m ns → Down (each (free_one p) ns s).after p
+each_free_down p m s [] f = f.down
+each_free_down p m s (n ∷ ns) f = each_free_down p m (free_channel s p n).after ns (free_one_down s p m n ns f)
+
+freeing_rows : (s : State) (p : Pid) (m : Mode) → Down s p → AllByRecursion (IsFreed s p m) (channels_of m (process_at s p).channels)
+unfolding IsFreed
+freeing_rows s p m d =
+    let rows = (process_at s p).channels in
+    let many = (stands_at s p d.sound d.made).numbers in
+    all_weaker (λ n. (1 ≤ n) × (n < 1 + length rows) × (is_reached m (get_or rows (n - 1) None) ≡ true)) (IsFreed s p m)
+    (λ n e. (and_from (nat_le 1 n) (nat_le n 64) (le-leb 1 n e.0) (le-leb n 64 (omega (arith, e.1, many))), row_reached m (channel_at rows n) e.2)) (channels_of m rows) (reached_rows 1 m rows)
+
+each_drop_ast_still : (p : Pid) (s : State) (qs : List Queued) → IsSound s → Still s (each (drop_ast p) qs s).after
+each_drop_ast_still p s [] h = still s h
+each_drop_ast_still p s (q ∷ qs) h = let one = without_ast_still s p q.id h in still_then one (each_drop_ast_still p (drop_ast p s q).after qs one.sound)
+
+release_down : (s : State) (p : Pid) (m : Mode) → Down s p → (process_at s p).phase ≡ phase.Draining m → is_busy s p m ≡ false → Down (release s p m).after p
+release_down s p m d drained idle =
+    let ns = channels_of m (process_at s p).channels in
+    let a = (each (free_one p) ns s).after in
+    let one : Down a p = each_free_down p m s ns (record { down = d; phase = drained; idle = none_passes (keeps_busy p m) s.requests idle; rows = freeing_rows s p m d }) in
+    let b = (drop_asts p m a).after in
+    let two : Still a b = each_drop_ast_still p a (filter (is_ast_reached m) (process_at a p).asts) one.sound in
+    let c = (part_with p 2 b).after in
+    let three : Still a c = still_then two (part_with_still b p 2 two.sound) in
+    down_still p one (still_then three (part_with_still c p 3 three.sound))
+
+-- The steps of a rundown.
+
+drain_sound : (s : State) (p : Pid) (m : Mode) (next : State → Outcome Answer) → Down s p → (process_at s p).phase ≡ phase.Draining m → ((t : State) → Down t p → IsSound (next t).after) → IsSound (drain p m next s).after
+drain_sound s p m next d drained go =
+    either_by (λ (o : Outcome Answer). IsSound o.after) (is_busy s p m) _ _ (λ e. d.sound) (λ idle. go (release s p m).after (release_down s p m d drained idle))
+
+phase_after : (s : State) (p : Pid) (ph : Phase) → IsProcess s p → (process_at (change s p (in_phase ph)) p).phase ≡ ph
+phase_after s p ph made = ap (λ (x : Process). x.phase) (get_or-set_same s.procs (p.0 - 1) (in_phase ph (process_at s p)) nobody (omega (arith, made.above, made.within)))
+
+draining_down : (s : State) (p : Pid) (m : Mode) → Down s p → Down (cancelled_in s p m).after p
+draining_down s p m d =
+    let a = (cancel_modes s p m).after in
+    let f = in_phase (phase.Draining m) in
+    let k : Swept s a p (channels_of m (process_at s p).channels) = cancel_modes_sweeps s p m d.sound in
+    let e : Down a p = down_still p d k.still in
+    record {
+      sound = draining_sound s a p m d.made k.still k.left e.none;
+      made = record { above = d.made.above; within = omega (arith, e.made.within, length-set a.procs (p.0 - 1) (f (process_at a p))) };
+      none = at_set (λ (x y : Process). x.frames ≡ [] → y.frames ≡ []) (λ x r. r) a.procs (p.0 - 1) (p.0 - 1) (f (process_at a p)) nobody (λ r. r) e.none;
+    }
+
+cancelled_phase : (s : State) (p : Pid) (m : Mode) → Down s p → (process_at (cancelled_in s p m).after p).phase ≡ phase.Draining m
+cancelled_phase s p m d =
+    let a = (cancel_modes s p m).after in
+    let k : Swept s a p (channels_of m (process_at s p).channels) = cancel_modes_sweeps s p m d.sound in
+    phase_after a p (phase.Draining m) (down_still p d k.still).made
+
+entered_sound : (s : State) (p : Pid) (m : Mode) (x : Handler) → (process_at s p).phase ≡ phase.Handlers m → IsSound s → IsSound (entered s p x).after
+entered_sound s p m x e h =
+    let frame = handler_frame s p x in
+    entering_sound s p frame x.id (subst (λ (ph : Phase). IsIdle ph (frame ∷ (process_at s p).frames)) (sym e) tt) h
+
+run_handlers_sound : (s : State) (p : Pid) (m : Mode) (next : State → Outcome Answer) (o : Option Handler) → Down s p → (process_at s p).phase ≡ phase.Handlers m → ((t : State) → Down t p → IsSound (next t).after) → IsSound (run_handlers s p m next o).after
+run_handlers_sound s p m next None d e go = drain_sound (cancelled_in s p m).after p m next (draining_down s p m d) (cancelled_phase s p m d) go
+run_handlers_sound s p m next (Some x) d e go = entered_sound s p m x e d.sound
+
+gone_sound : (s : State) (p : Pid) → Down s p → IsSound (gone s p).after
+gone_sound s p d =
+    let a = (drop_all_handlers p s).after in
+    let one : Still s a = drop_handlers_still s p any_handler d.sound in
+    let b = (drop_timers (is_wake_for p) a).after in
+    let two : Still s b = still_then one (drop_timers_still a (is_wake_for p) one.sound) in
+    (in_phase_still b p phase.Deleted (λ m. refl) tt two.sound).sound
+
+run_down_sound : (ms : List Mode) (p : Pid) (s : State) → Down s p → IsSound (run_down p ms s).after
+run_down_sound [] p s d = gone_sound s p d
+run_down_sound (m ∷ ms) p s d =
+    let t = handling p m s in
+    let one : Still s t = in_phase_still s p (phase.Handlers m) (λ n. refl) tt d.sound in
+    run_handlers_sound t p m (run_down p ms) (find (is_handler_of m) (process_at s p).handlers) (down_still p d one) (phase_after s p (phase.Handlers m) d.made) (λ u e. run_down_sound ms p u e)
+
+rundown_from_sound : (s : State) (p : Pid) (ph : Phase) → (process_at s p).phase ≡ ph → Down s p → IsSound (rundown_from p ph s).after
+rundown_from_sound s p (phase.Handlers m) e d = run_down_sound (m ∷ inner_modes m) p s d
+rundown_from_sound s p (phase.Draining m) e d = drain_sound s p m (run_down p (inner_modes m)) d e (λ t k. run_down_sound (inner_modes m) p t k)
+rundown_from_sound s p phase.Alive e d = d.sound
+rundown_from_sound s p phase.Deleted e d = d.sound
+
+pub rundown_sound : (s : State) (p : Pid) → IsProcess s p → (process_at s p).frames ≡ [] → IsSound s → IsSound (rundown s p).after
+rundown_sound s p made none h = rundown_from_sound s p (process_at s p).phase refl (record { sound = h; made = made; none = none })
