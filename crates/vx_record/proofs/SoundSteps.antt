@@ -17,6 +17,7 @@ use Rattle.vx_base.specs.declared.number.UnitNo.{UnitNo}
 use Rattle.vx_base.specs.declared.record.Answer.{Answer}
 use Rattle.vx_base.specs.declared.record.Event.{Event}
 use Rattle.vx_base.specs.declared.record.Event.TheVariants as event
+use Rattle.vx_base.specs.declared.record.Rec.{Rec}
 use Rattle.vx_base.specs.declared.routine.Entry.{Entry}
 use Rattle.vx_base.specs.declared.routine.Entry.TheVariants as entry
 use Rattle.vx_image.specs.Local.{Reader, Advanced, advanced}
@@ -33,7 +34,7 @@ use Rattle.vx_record.specs.Flags.{satisfied}
 use Rattle.vx_record.specs.Rundown.{exited, rundown, without_ast}
 use Rattle.vx_record.specs.Services.{service}
 use Rattle.vx_record.specs.Events.{can_run, can_step_down, can_run_down, run_events, ast_or_run, process_events, processes_from, beg_event, don_or_beg, unit_events, units_from, tick_events, enabled, or_normal, resumed_with, resumed, moved_to, served_call, called, with_r0, below_top, put_back, r0_of, returned_from, returned, moved_behind, run_on, run_advanced, reader, run_frame, run, started, delivered, beg, don, step}
-use Rattle.vx_record.specs.Runs.{born_of, born_from, first_unit, first}
+use Rattle.vx_record.specs.Runs.{born_of, born_from, first_unit, first, IsStep, AreSteps, IsRun, after_from, after}
 use Rattle.vx_record.specs.Sound.{ground, IsIdle, RequestStands, ProcessStands, IsSound, ChannelStands}
 use Rattle.vx_record.specs.declared.served.Served.{Served}
 use Rattle.vx_record.specs.declared.served.Served.TheVariants.{Answered, Waits}
@@ -47,6 +48,7 @@ use Rattle.vx_record.proofs.SoundRequests.{all_get, begun_sound, done_sound}
 use Rattle.vx_record.proofs.SoundRundown.{rundown_sound}
 use Rattle.vx_record.proofs.SoundCalls.{all_from_list, FitsImage, StopFits, advanced_fits}
 use Rattle.vx_record.proofs.SoundServices.{variable_sound, service_sound}
+use Rattle.vx_record.proofs.SystemKept.{step_keeps_system}
 
 -- What is enabled: events of processes that are there, and rundowns of processes that have no frame.
 
@@ -269,3 +271,18 @@ first_sound system w = record {
   timer_ids = omega arith;
   attention_ids = omega arith;
 }
+
+-- Along a run.
+
+pub run_sound : (s : State) (recs : List Rec) → IsWellFormed s.system → IsSound s → AreSteps s recs → IsSound (after_from s recs)
+run_sound s [] w h steps = h
+run_sound s (r ∷ rs) w h steps =
+    let t = (step s r.event).after in
+    run_sound t rs (subst IsWellFormed (sym (step_keeps_system s r.event)) w) (step_sound s r.event w h steps.0.enabled) steps.1
+
+pub every_run_sound : (system : System) (recs : List Rec) → IsWellFormed system → IsRun system recs → IsSound (after system recs)
+every_run_sound system recs w run = run_sound (first system) recs w (first_sound system w) run.steps
+
+pub run_keeps_system : (s : State) (recs : List Rec) → (after_from s recs).system ≡ s.system
+run_keeps_system s [] = refl
+run_keeps_system s (r ∷ rs) = run_keeps_system (step s r.event).after rs ∙ step_keeps_system s r.event
