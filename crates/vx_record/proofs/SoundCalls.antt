@@ -19,6 +19,7 @@ use Rattle.vx_image.specs.declared.image.Image.{Image}
 use Rattle.vx_image.specs.declared.image.Label.{Label}
 use Rattle.vx_image.specs.declared.stmt.Stmt.{Stmt}
 use Rattle.vx_image.specs.declared.stmt.Stmt.TheVariants as stmt
+use Rattle.vx_record.specs.Sound.{FitsImage}
 use Rattle.vx_record.specs.Services.{label, label_place, routine_at, or_start}
 use Rattle.vx_record.proofs.Lists.{either, either_by}
 
@@ -109,11 +110,6 @@ computed_args who store (p ∷ ps) [] h = h
 computed_args who store (p ∷ ps) (a ∷ more) h =
     let parts = and_parts (is_of_kind (kind_of p) a) (are_args ps more) h in
     and_from (is_of_kind (kind_of p) (computed_arg who store a)) (are_args ps (map (computed_arg who store) more)) (computed_kind (kind_of p) who store a parts.0) (computed_args who store ps more parts.1)
-
--- what services rely on: arguments of the right kinds, and labels that are the image's
-pub record FitsImage (image : Image) (c : Call) : Type 0 where
-  pub args : is_call c ≡ true
-  pub labels : list_all (has_its_label image) (args_list c.args) ≡ true
 
 fits_of : (names : List (List ℕ)) (image : Image) (c : Call) → is_call_of names image c ≡ true → FitsImage image c
 fits_of names image c h =

@@ -24,7 +24,7 @@ use Rattle.vx_record.specs.Timers.{gettim}
 use Rattle.vx_record.specs.Control.{creprc}
 use Rattle.vx_record.specs.Channels.{assign, crembx}
 use Rattle.vx_record.specs.Services.{number, place, access_mode, text, label, routine_at, or_start, routine, routine_or_none, decl_place, asked, with_variable, var_part, valued, valued_at, numbered_at, service_of, service}
-use Rattle.vx_record.specs.Sound.{ground, IsRoutineOf, IsSound}
+use Rattle.vx_record.specs.Sound.{ground, IsRoutineOf, IsSound, FitsImage}
 use Rattle.vx_record.proofs.Ground.{Still}
 use Rattle.vx_record.proofs.Changes.{stands_at, quiet_still, with_variable_quiet}
 use Rattle.vx_record.proofs.SoundFlags.{setef_sound, clref_sound, readef_sound, waitfr_sound, wflor_sound, wfland_sound, ascefc_sound, dacefc_sound, dlcefc_sound}
@@ -33,7 +33,7 @@ use Rattle.vx_record.proofs.SoundProcs.{hiber_sound, wake_sound, suspnd_sound, r
 use Rattle.vx_record.proofs.SoundRequests.{qio_sound, qiow_sound, synch_sound}
 use Rattle.vx_record.proofs.SoundChannels.{assign_sound, crembx_sound, delmbx_sound}
 use Rattle.vx_record.proofs.SoundCancel.{cancel_sound, dassgn_sound}
-use Rattle.vx_record.proofs.SoundCalls.{placed, labelled, labelled_or_none, FitsImage}
+use Rattle.vx_record.proofs.SoundCalls.{placed, labelled, labelled_or_none}
 
 -- A variable takes an answer.
 

@@ -35,7 +35,7 @@ use Rattle.vx_record.specs.Rundown.{exited, rundown, without_ast}
 use Rattle.vx_record.specs.Services.{service}
 use Rattle.vx_record.specs.Events.{can_run, can_step_down, can_run_down, run_events, ast_or_run, process_events, processes_from, beg_event, don_or_beg, unit_events, units_from, tick_events, enabled, or_normal, resumed_with, resumed, moved_to, served_call, called, with_r0, below_top, put_back, r0_of, returned_from, returned, moved_behind, run_on, run_advanced, reader, run_frame, run, started, delivered, beg, don, step}
 use Rattle.vx_record.specs.Runs.{born_of, born_from, first_unit, first, IsStep, AreSteps, IsRun, after_from, after}
-use Rattle.vx_record.specs.Sound.{ground, IsIdle, RequestStands, ProcessStands, IsSound, ChannelStands}
+use Rattle.vx_record.specs.Sound.{ground, IsIdle, RequestStands, ProcessStands, IsSound, ChannelStands, FitsImage}
 use Rattle.vx_record.specs.declared.served.Served.{Served}
 use Rattle.vx_record.specs.declared.served.Served.TheVariants.{Answered, Waits}
 use Rattle.vx_record.proofs.Lists.{either, either_by, all_append, all_at}
@@ -46,7 +46,7 @@ use Rattle.vx_record.proofs.SoundProcs.{exited_still}
 use Rattle.vx_record.proofs.SoundBoxes.{some_found}
 use Rattle.vx_record.proofs.SoundRequests.{all_get, begun_sound, done_sound}
 use Rattle.vx_record.proofs.SoundRundown.{rundown_sound}
-use Rattle.vx_record.proofs.SoundCalls.{all_from_list, FitsImage, StopFits, advanced_fits}
+use Rattle.vx_record.proofs.SoundCalls.{all_from_list, StopFits, advanced_fits}
 use Rattle.vx_record.proofs.SoundServices.{variable_sound, service_sound}
 use Rattle.vx_record.proofs.SystemKept.{step_keeps_system}
 

@@ -1,11 +1,13 @@
 -- References stand: what the state names is there, and what services tested of it still holds. Services and events rely on
 -- it, and keep it.
 use Rattle.std.specs.Prelude.{◌≡◌, ℕ, ◌+◌, ◌-◌, ◌<◌, ◌≤◌, List, [], ◌∷◌, Bool, true, false, IsTrue, IfSome, not, Option, Some, None, length, is_some, slice_index_or, ⊤}
-use Rattle.std.specs.List.{AllByRecursion}
+use Rattle.std.specs.List.{AllByRecursion, list_all}
 use Rattle.vx_base.specs.Channels.{is_channel_number, channel_at}
 use Rattle.vx_base.specs.Clusters.{Common, stands}
 use Rattle.vx_base.specs.Modes.{reaches}
 use Rattle.vx_base.specs.Pieces.{Queued, Channel, Handler, Request, Promised, Timer, Alarm, OfTimer, OfWake, Attention, Association, Mailbox}
+use Rattle.vx_base.specs.Services.{is_call, args_list}
+use Rattle.vx_base.specs.declared.call.Call.{Call}
 use Rattle.vx_base.specs.declared.frame.Frame.{Frame}
 use Rattle.vx_base.specs.declared.frame.Phase.{Phase}
 use Rattle.vx_base.specs.declared.frame.Phase.TheVariants as phase
@@ -16,6 +18,7 @@ use Rattle.vx_base.specs.declared.request.Device.{Device}
 use Rattle.vx_base.specs.declared.request.Device.TheVariants as device
 use Rattle.vx_base.specs.declared.routine.Entry.{Entry}
 use Rattle.vx_base.specs.declared.routine.Entry.TheVariants as entry
+use Rattle.vx_image.specs.WellFormed.{has_its_label}
 use Rattle.vx_image.specs.declared.image.Image.{Image}
 use Rattle.vx_image.specs.declared.system.System.{System}
 use Rattle.vx_record.specs.State.{Process, State, IsWithin, nobody, no_decl, no_image}
@@ -166,3 +169,9 @@ pub record IsSound (s : State) : Type 0 where
   pub request_ids : AreOrdered request_id 0 s.next s.requests
   pub timer_ids : AreOrdered timer_id 0 s.next s.timers
   pub attention_ids : AreOrdered attention_id 0 s.next s.attention
+
+-- What a caller of a service owes: the call's arguments are of the kinds that the service takes, and the labels that they
+-- name are the image's.
+pub record FitsImage (image : Image) (c : Call) : Type 0 where
+  pub args : IsTrue (is_call c)
+  pub labels : IsTrue (list_all (has_its_label image) (args_list c.args))
