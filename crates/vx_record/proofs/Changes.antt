@@ -1,10 +1,8 @@
 -- Changes of one process that keep references.
-use Rattle.std.proofs.Common.{◌≡◌, ℕ, zero, suc, ◌+◌, ◌-◌, ◌<◌, ◌≤◌, List, [], ◌∷◌, ◌++◌, Bool, true, false, cond, nat_lt, length, Option, Some, None, IfSome, IsTrue, get_or, set, refl, sym, ap, ◌∙◌, arith}
-use Rattle.std.specs.List.{AllByRecursion}
+use Rattle.std.proofs.Common.{◌≡◌, ℕ, ◌+◌, ◌-◌, ◌≤◌, List, [], ◌∷◌, Bool, false, nat_lt, length, Option, None, refl, sym, ap, ◌∙◌, arith}
 use Rattle.vx_base.specs.Pieces.{Queued, Handler, Status}
 use Rattle.vx_base.specs.declared.call.Target.{Target}
 use Rattle.vx_base.specs.declared.frame.Frame.{Frame}
-use Rattle.vx_base.specs.declared.frame.FrameKind.{FrameKind}
 use Rattle.vx_base.specs.declared.frame.Phase.{Phase}
 use Rattle.vx_base.specs.declared.frame.Phase.TheVariants as phase
 use Rattle.vx_base.specs.declared.frame.Wait.{Wait}
@@ -12,16 +10,15 @@ use Rattle.vx_base.specs.declared.frame.Wait.TheVariants as wait
 use Rattle.vx_base.specs.declared.mode.Mode.{Mode}
 use Rattle.vx_base.specs.declared.number.Id.{Id}
 use Rattle.vx_base.specs.declared.number.Pid.{Pid}
-use Rattle.vx_base.specs.declared.routine.Entry.{Entry}
 use Rattle.vx_image.specs.Storage.{Storage}
-use Rattle.vx_record.specs.State.{Process, State, IsProcess, HasFrame, process_at, change, top_mode, with_top}
+use Rattle.vx_record.specs.State.{Process, State, IsProcess, process_at, change, top_mode, with_top}
 use Rattle.vx_record.specs.Flags.{with_local_flag, with_wait}
 use Rattle.vx_record.specs.Asts.{with_queued, with_delivery, with_frame}
 use Rattle.vx_record.specs.Finish.{with_stored_bytes, with_stored_status}
 use Rattle.vx_record.specs.Control.{with_wake, with_suspension}
-use Rattle.vx_record.specs.Rundown.{leaving, without_frames, this_handler, with_handler, without_handler, leaving_deleted, named_for_deletion, in_phase, without_ast, entering}
+use Rattle.vx_record.specs.Rundown.{leaving, without_frames, with_handler, without_handler, leaving_deleted, named_for_deletion, in_phase, without_ast, entering}
 use Rattle.vx_record.specs.Services.{with_variable}
-use Rattle.vx_record.specs.Events.{uses_wake, resumed_with, with_r0, moved_to, moved_behind, without_top, below_top, put_back}
+use Rattle.vx_record.specs.Events.{uses_wake, with_r0, moved_to, moved_behind, without_top, below_top, put_back}
 use Rattle.vx_record.specs.Sound.{ground, IsRoutine, IsRoutineOf, is_drained, IsIdle, ProcessStands, IsSound}
 use Rattle.vx_record.proofs.Lists.{either, all_append, all_less, all_at}
 use Rattle.vx_record.proofs.Ground.{Seat, Still, change_sound, change_still}

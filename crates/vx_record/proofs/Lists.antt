@@ -1,7 +1,7 @@
 -- Facts that hold of each of a list, and ids that rise.
-use Rattle.std.proofs.Common.{◌≡◌, ◌≢◌, ℕ, zero, suc, ◌+◌, ◌-◌, ◌<◌, ◌≤◌, List, [], ◌∷◌, ◌++◌, Bool, true, false, cond, ◌==◌, ◌||◌, length, Option, Some, None, IsTrue, get_or, set, refl, sym, ap, ◌∙◌, arith, inl, inr, Contains}
-use Rattle.std.specs.List.{AllByRecursion, filter, find, list_any, list_all}
-use Rattle.std.proofs.lemmas.Bool.{eq-eqb, eqb-true, cases_eq, or_cases, and_parts}
+use Rattle.std.proofs.Common.{◌≡◌, ◌≢◌, ℕ, zero, suc, ◌+◌, ◌<◌, ◌≤◌, List, [], ◌∷◌, ◌++◌, Bool, true, false, cond, ◌==◌, length, Option, Some, get_or, set, refl, arith}
+use Rattle.std.specs.List.{AllByRecursion, filter, find}
+use Rattle.std.proofs.lemmas.Bool.{eq-eqb, eqb-true}
 use Rattle.vx_base.specs.Lists.{less, amend}
 use Rattle.vx_record.specs.Sound.{AreOrdered}
 

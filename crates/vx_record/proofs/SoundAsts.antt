@@ -1,12 +1,11 @@
 -- References stand after what is done to ASTs, timers and scheduled wakes.
-use Rattle.std.proofs.Common.{◌≡◌, ℕ, zero, suc, ◌+◌, ◌-◌, ◌<◌, ◌≤◌, List, [], ◌∷◌, ◌++◌, Bool, true, false, cond, not, ◌==◌, ◌||◌, length, Option, Some, None, IfSome, IsTrue, is_some, refl, sym, ap, ◌∙◌, arith}
+use Rattle.std.proofs.Common.{◌≡◌, ℕ, List, [], ◌∷◌, ◌++◌, Bool, true, false, not, ◌==◌, ◌||◌, Option, Some, None, IfSome, is_some, refl, ap, arith}
 use Rattle.std.specs.List.{AllByRecursion, filter}
 use Rattle.vx_base.specs.Lists.{less, amend}
 use Rattle.vx_base.specs.Modes.{inner, outer}
 use Rattle.vx_base.specs.Pieces.{Queued, Timer, Alarm, OfTimer, OfWake}
 use Rattle.vx_base.specs.declared.cond.Cond.{Cond}
 use Rattle.vx_base.specs.declared.effects.Cell.{Cell}
-use Rattle.vx_base.specs.declared.effects.Opened.TheVariants as opened
 use Rattle.vx_base.specs.declared.frame.Frame.{Frame}
 use Rattle.vx_base.specs.declared.frame.FrameKind.TheVariants as kind
 use Rattle.vx_base.specs.declared.mode.Mode.{Mode}
@@ -14,16 +13,16 @@ use Rattle.vx_base.specs.declared.mode.Mode.TheVariants.{Kernel, Exec}
 use Rattle.vx_base.specs.declared.number.Id.{Id}
 use Rattle.vx_base.specs.declared.number.Pid.{Pid}
 use Rattle.vx_base.specs.declared.routine.Entry.{Entry}
-use Rattle.vx_record.specs.State.{Process, State, IsProcess, HasFrame, process_at, change, current, next_id, past_id}
-use Rattle.vx_record.specs.Parts.{Part, Outcome, nothing, and_then, each, answered, refused}
+use Rattle.vx_record.specs.State.{State, IsProcess, HasFrame, process_at, current, next_id, past_id}
+use Rattle.vx_record.specs.Parts.{Outcome, each, refused}
 use Rattle.vx_record.specs.Charges.{exceeds, ast_need, timer_need}
 use Rattle.vx_record.specs.Flags.{flag_part, flag_where_named, cell}
-use Rattle.vx_record.specs.Asts.{que_part, charged_ast, declared_ast, dclast, setast, is_inside, new_frame, cmexec, cmkrnl, with_delivery}
+use Rattle.vx_record.specs.Asts.{que_part, charged_ast, dclast, setast, is_inside, new_frame, cmexec, cmkrnl, with_delivery}
 use Rattle.vx_record.specs.Control.{with_wake}
-use Rattle.vx_record.specs.Timers.{this_timer, with_timer, drop_timer, drop_timers, new_timer, open_timer, timer_set, setimr_at, setimr, cantim, is_cancelled_timer, new_wake, que_timer, fire_timer, due_again, after_wake, fired, fire, is_due, at_time, ticked_to, next_time, tick}
+use Rattle.vx_record.specs.Timers.{this_timer, with_timer, drop_timer, drop_timers, new_timer, open_timer, timer_set, setimr_at, setimr, cantim, is_cancelled_timer, que_timer, fire_timer, due_again, after_wake, fired, fire, is_due, at_time, next_time, tick}
 use Rattle.vx_record.specs.Sound.{ground, IsMade, IsRoutineOf, IsIdle, TimerStands, timer_id, IsSound}
 use Rattle.vx_record.proofs.Lists.{either, all_append, all_less, all_amend, all_filter, all_weaker, ordered_less, ordered_amend, ordered_more}
-use Rattle.vx_record.proofs.Ground.{Keeps, keeps_all, made_keeps, routine_of_moves, some_weaker, timer_moves, Still, still, still_then, timers_still, later_still, past_id_still}
+use Rattle.vx_record.proofs.Ground.{made_keeps, routine_of_moves, some_weaker, timer_moves, Still, still, still_then, timers_still, later_still, past_id_still}
 use Rattle.vx_record.proofs.Changes.{idle_of, stands_at, quiet_still, with_queued_still, with_frame_sound, with_delivery_quiet, with_wake_quiet}
 use Rattle.vx_record.proofs.SoundFlags.{flag_part_still, flag_where_named_still, at_flag_sound}
 

@@ -1,5 +1,5 @@
 -- References stand after a request finishes, and after what mailboxes do.
-use Rattle.std.proofs.Common.{◌≡◌, ℕ, zero, suc, ◌+◌, ◌-◌, ◌<◌, ◌≤◌, List, [], ◌∷◌, ◌++◌, Bool, true, false, cond, not, ◌==◌, ◌&&◌, nat_lt, length, Option, Some, None, IfSome, IsTrue, is_some, get_or, set, refl, sym, ap, ◌∙◌, arith}
+use Rattle.std.proofs.Common.{ℕ, List, [], ◌∷◌, ◌++◌, Bool, true, not, ◌==◌, ◌&&◌, nat_lt, Option, Some, None, IfSome, IsTrue, is_some, refl, arith}
 use Rattle.std.specs.List.{AllByRecursion, filter, find}
 use Rattle.vx_base.specs.Lists.{less}
 use Rattle.vx_base.specs.Pieces.{Request, Promised, Attention, Mailbox, Status}
@@ -10,15 +10,15 @@ use Rattle.vx_base.specs.declared.request.Func.{Func}
 use Rattle.vx_base.specs.declared.request.Func.TheVariants.{ReadAttn, WrtAttn}
 use Rattle.vx_base.specs.declared.request.Msg.{Msg}
 use Rattle.vx_base.specs.declared.request.Req.{Req}
-use Rattle.vx_record.specs.State.{Process, State, IsProcess, process_at, change, box_at, with_box}
-use Rattle.vx_record.specs.Parts.{Part, nothing, and_then, each, part_if}
-use Rattle.vx_record.specs.Flags.{flag_where_named, cell}
-use Rattle.vx_record.specs.Asts.{que_part, charged_ast}
-use Rattle.vx_record.specs.Finish.{Ending, ending, is_read, this_request, fin_part, with_stored_bytes, buf_part, with_stored_status, put_status, iosb_part, status_of, done_flag_part, done_ast_part, finish, finish_found, finish_id}
-use Rattle.vx_record.specs.Mailboxes.{mailbox_at, with_messages, waits_at, is_waiting_func, mput_part, mget_part, mcut_part, this_message, read_ending, write_ending, received, write_done, is_attention_at, this_attention, fire_attention, call_attention, store_message, hand_over, write_box, wait_for_message, take_message, read_box, is_answered_now, attend}
-use Rattle.vx_record.specs.Sound.{ground, BoxStands, IsRoutineOf, RequestStands, AttentionStands, ProcessStands, request_id, attention_id, IsSound}
+use Rattle.vx_record.specs.State.{State, process_at, with_box}
+use Rattle.vx_record.specs.Parts.{Part, nothing, each, part_if}
+use Rattle.vx_record.specs.Flags.{cell}
+use Rattle.vx_record.specs.Asts.{charged_ast}
+use Rattle.vx_record.specs.Finish.{Ending, ending, is_read, this_request, fin_part, with_stored_bytes, buf_part, with_stored_status, iosb_part, status_of, done_flag_part, done_ast_part, finish, finish_found, finish_id}
+use Rattle.vx_record.specs.Mailboxes.{mailbox_at, with_messages, waits_at, is_waiting_func, mput_part, mget_part, this_message, read_ending, write_ending, received, write_done, is_attention_at, this_attention, fire_attention, call_attention, store_message, hand_over, write_box, wait_for_message, take_message, read_box, is_answered_now, attend}
+use Rattle.vx_record.specs.Sound.{ground, IsRoutineOf, RequestStands, AttentionStands, ProcessStands, request_id, attention_id, IsSound}
 use Rattle.vx_record.proofs.Lists.{either, all_weaker, all_less, all_filter, ordered_less}
-use Rattle.vx_record.proofs.Ground.{Keeps, some_weaker, routine_of_moves, request_keeps, attention_keeps, process_moves, Still, still, still_then, moved, requests_still, attention_still, at_set}
+use Rattle.vx_record.proofs.Ground.{Keeps, request_keeps, attention_keeps, process_moves, Still, still, still_then, moved, requests_still, attention_still, at_set}
 use Rattle.vx_record.proofs.Changes.{quiet_still, with_stored_bytes_quiet, with_stored_status_quiet}
 use Rattle.vx_record.proofs.SoundFlags.{flag_where_named_still}
 use Rattle.vx_record.proofs.SoundAsts.{que_part_still}

@@ -1,16 +1,15 @@
 -- A call that a well formed image makes names labels of the image, also with its arguments computed.
-use Rattle.std.proofs.Common.{◌≡◌, ℕ, zero, suc, ◌+◌, ◌-◌, ◌<◌, ◌≤◌, List, [], ◌∷◌, ◌++◌, Bool, true, false, cond, not, ◌==◌, ◌&&◌, nat_lt, nat_le, length, map, Option, Some, None, IfSome, IsTrue, position, unwrap_or, option_map, bytes_eq, slice_get, get_or, refl, sym, ap, ◌∙◌, arith}
+use Rattle.std.proofs.Common.{◌≡◌, ℕ, zero, suc, ◌<◌, List, [], ◌∷◌, Bool, true, ◌&&◌, nat_lt, nat_le, length, map, Option, Some, None, IfSome, position, unwrap_or, bytes_eq, slice_get, refl, arith}
 use Rattle.std.proofs.lemmas.Bool.{and_parts, and_from, ltb-true}
 use Rattle.std.specs.List.{AllByRecursion, list_all, list_any, position_or_len}
 use Rattle.vx_base.specs.Services.{is_of_kind, kind_of, is_unused, are_args, args_list, is_call, params_of}
 use Rattle.vx_base.specs.declared.call.Arg.{Arg}
 use Rattle.vx_base.specs.declared.call.Arg.TheVariants as arg
-use Rattle.vx_base.specs.declared.call.Args.{Args}
 use Rattle.vx_base.specs.declared.call.Call.{Call}
 use Rattle.vx_base.specs.declared.service.Kind.{Kind}
 use Rattle.vx_base.specs.declared.service.Kind.TheVariants as kind
 use Rattle.vx_base.specs.declared.service.Param.{Param}
-use Rattle.vx_image.specs.Local.{Reader, Moved, Advanced, computed_arg, computed, local, stop_at, go_on, local_at, run_local, advanced}
+use Rattle.vx_image.specs.Local.{Reader, Moved, Advanced, computed_arg, computed, stop_at, go_on, local_at, run_local, advanced}
 use Rattle.vx_image.specs.Storage.{Storage}
 use Rattle.vx_image.specs.WellFormed.{is_among, are_distinct, falls_nowhere, label_names, label_places, has_its_label, has_its_decl, is_call_of, is_stmt, is_image}
 use Rattle.vx_image.specs.declared.advance.Stop.{Stop}
@@ -20,8 +19,8 @@ use Rattle.vx_image.specs.declared.image.Label.{Label}
 use Rattle.vx_image.specs.declared.stmt.Stmt.{Stmt}
 use Rattle.vx_image.specs.declared.stmt.Stmt.TheVariants as stmt
 use Rattle.vx_record.specs.Sound.{FitsImage}
-use Rattle.vx_record.specs.Services.{label, label_place, routine_at, or_start}
-use Rattle.vx_record.proofs.Lists.{either, either_by}
+use Rattle.vx_record.specs.Services.{label, label_place, or_start}
+use Rattle.vx_record.proofs.Lists.{either_by}
 
 pub all_from_list : {A : Type 0} (p : A → Bool) (xs : List A) → list_all p xs ≡ true → AllByRecursion (λ x. p x ≡ true) xs
 all_from_list p [] h = tt

@@ -1,28 +1,22 @@
 -- References stand after a channel is cancelled, and nothing hangs on it then.
-use Rattle.std.proofs.Common.{◌≡◌, ◌≢◌, ℕ, zero, suc, ◌+◌, ◌-◌, ◌<◌, ◌≤◌, List, [], ◌∷◌, ◌++◌, Bool, true, false, cond, not, ◌==◌, ◌&&◌, ◌||◌, nat_lt, length, Option, Some, None, IfSome, IsTrue, is_some, get_or, set, refl, sym, ap, ◌∙◌, arith, inl, inr}
+use Rattle.std.proofs.Common.{◌≡◌, ◌≢◌, ℕ, List, [], ◌∷◌, Bool, true, false, not, ◌==◌, ◌&&◌, ◌||◌, nat_lt, Option, Some, None, refl, sym, ap, ◌∙◌, inl, inr}
 use Rattle.std.proofs.lemmas.Bool.{and_parts, and_from, eqb-true, eq-eqb, or_cases}
-use Rattle.std.specs.List.{AllByRecursion, filter, find, list_any}
+use Rattle.std.specs.List.{AllByRecursion, filter, list_any}
 use Rattle.vx_base.specs.Lists.{less, amend}
-use Rattle.vx_base.specs.Channels.{is_channel_number, channel_at}
-use Rattle.vx_base.specs.Pieces.{Channel, Request, Promised, Attention, Mailbox, Status}
-use Rattle.vx_base.specs.declared.cond.Cond.{Cond}
+use Rattle.vx_base.specs.Pieces.{Request, Promised, Attention}
 use Rattle.vx_base.specs.declared.cond.Cond.TheVariants.{Cancel}
 use Rattle.vx_base.specs.declared.effects.Cell.{Cell}
 use Rattle.vx_base.specs.declared.effects.Cell.TheVariants.{Local, Common as Shared}
-use Rattle.vx_base.specs.declared.number.BoxNo.{BoxNo}
-use Rattle.vx_base.specs.declared.number.Id.{Id}
 use Rattle.vx_base.specs.declared.number.Pid.{Pid}
 use Rattle.vx_base.specs.declared.request.Device.{Device}
 use Rattle.vx_base.specs.declared.request.Device.TheVariants as device
 use Rattle.vx_base.specs.declared.request.Req.{Req}
-use Rattle.vx_record.specs.State.{Process, State, IsProcess, process_at}
-use Rattle.vx_record.specs.Parts.{Part, Outcome, nothing, and_then, each, part_if}
-use Rattle.vx_record.specs.Charges.{is_same}
+use Rattle.vx_record.specs.State.{State, IsProcess}
+use Rattle.vx_record.specs.Parts.{Part, nothing, each, part_if}
 use Rattle.vx_record.specs.Flags.{cell, flag_where_named}
 use Rattle.vx_record.specs.Finish.{Ending, ending, is_read, this_request, fin_part, buf_part, status_of, iosb_part, done_flag_part, done_ast_part, finish}
 use Rattle.vx_record.specs.Mailboxes.{mailbox_at, this_message, mcut_part, this_attention}
-use Rattle.vx_record.specs.Channels.{free_channel}
-use Rattle.vx_record.specs.Cancel.{with_abort, mark_part, withdraw_from, withdraw, cancelled_request, cancel_request, is_request_on, is_attention_on, drop_attention, drop_attentions, cancel_channel, cancel_at, cancel, dassgn_at, dassgn}
+use Rattle.vx_record.specs.Cancel.{with_abort, mark_part, withdraw, cancelled_request, cancel_request, is_request_on, is_attention_on, drop_attention, cancel_channel, cancel_at, cancel, dassgn_at, dassgn}
 use Rattle.vx_record.specs.Sound.{ground, MayBeServed, RequestStands, AttentionStands, request_id, attention_id, IsSound}
 use Rattle.vx_record.proofs.Lists.{either, either_by, all_weaker, all_both, all_less, all_amend, all_filter, ordered_amend, ordered_less, removed}
 use Rattle.vx_record.proofs.Ground.{made_keeps, request_keeps, Still, still, still_then, requests_still, attention_still}
@@ -151,7 +145,7 @@ past_served : (p : Pid) (n : ℕ) (t : Request) (ts : List Request) → t.served
 unfolding takes Covered
 past_served p n t ts served r k e =
     elim (or_cases (takes r t) (list_any (takes r) ts) (k e)) [
-      inl here ↦ absurd (apart_bools t.served served (not_true t.served (and_parts (this_request t.req.id r) (not t.served) here).1))
+      | inl here ↦ absurd (apart_bools t.served served (not_true t.served (and_parts (this_request t.req.id r) (not t.served) here).1))
       | inr there ↦ there
     ]
 
@@ -159,7 +153,7 @@ past_gone : (p : Pid) (n : ℕ) (t : Request) (ts : List Request) (r : Request) 
 unfolding takes Covered
 past_gone p n t ts r other k e =
     elim (or_cases (takes r t) (list_any (takes r) ts) (k e)) [
-      inl here ↦ absurd (other (eqb-true (request_id r) t.req.id.0 (and_parts (this_request t.req.id r) (not t.served) here).0))
+      | inl here ↦ absurd (other (eqb-true (request_id r) t.req.id.0 (and_parts (this_request t.req.id r) (not t.served) here).0))
       | inr there ↦ there
     ]
 
@@ -278,9 +272,9 @@ each_drop s p n (t ∷ ts) k h =
     let a = (drop_attention s t).after in
     let one : Still s a = drop_attention_still s t h in
     let left =
-      all_weaker (λ x. Awaited p n (t ∷ ts) x × (attention_id x ≢ t.id.0)) (Awaited p n ts) (λ x e. past_dropped p n t ts x e.1 e.0) (less (this_attention t.id) s.attention)
-      (all_both (Awaited p n (t ∷ ts)) (λ x. attention_id x ≢ t.id.0) (less (this_attention t.id) s.attention) (all_less (Awaited p n (t ∷ ts)) (this_attention t.id) s.attention k)
-      (removed attention_id t.id.0 0 s.next s.attention h.attention_ids)) in
+    all_weaker (λ x. Awaited p n (t ∷ ts) x × (attention_id x ≢ t.id.0)) (Awaited p n ts) (λ x e. past_dropped p n t ts x e.1 e.0) (less (this_attention t.id) s.attention)
+    (all_both (Awaited p n (t ∷ ts)) (λ x. attention_id x ≢ t.id.0) (less (this_attention t.id) s.attention) (all_less (Awaited p n (t ∷ ts)) (this_attention t.id) s.attention k)
+    (removed attention_id t.id.0 0 s.next s.attention h.attention_ids)) in
     let rest = each_drop a p n ts left one.sound in
     record { still = still_then one rest.still; requests = rest.requests; clear = rest.clear }
 

@@ -1,30 +1,27 @@
 -- References stand after channels are assigned and freed, and mailboxes come and go.
-use Rattle.std.proofs.Common.{◌≡◌, ◌≢◌, ℕ, zero, suc, ◌+◌, ◌-◌, ◌<◌, ◌≤◌, List, [], ◌∷◌, ◌++◌, Bool, true, false, cond, not, ◌==◌, ◌&&◌, ◌||◌, nat_lt, nat_le, length, Option, Some, None, Result, Ok, Err, IfSome, IsTrue, is_some, is_none, get_or, set, position, refl, sym, ap, ◌∙◌, arith, inl, inr, get_or-set_same, get_or-set_other}
+use Rattle.std.proofs.Common.{◌≡◌, ◌≢◌, ℕ, zero, suc, ◌+◌, ◌-◌, ◌<◌, ◌≤◌, List, [], ◌∷◌, Bool, true, false, not, ◌==◌, ◌&&◌, nat_le, length, Option, Some, None, Result, Ok, Err, IfSome, is_some, is_none, get_or, position, refl, sym, ap, ◌∙◌, arith, inl, inr, get_or-set_same, get_or-set_other}
 use Rattle.std.proofs.Math.ListN.{length-set}
-use Rattle.std.proofs.lemmas.Bool.{leb-true, and_parts, and_from, eqb-true, eq-eqb, eqb-false, cases_eq}
+use Rattle.std.proofs.lemmas.Bool.{leb-true, and_parts, and_from, eq-eqb, eqb-false, cases_eq}
 use Rattle.std.proofs.lemmas.List.Quantifiers.{position-Some}
-use Rattle.std.specs.List.{AllByRecursion, find, list_any}
-use Rattle.vx_base.specs.Channels.{is_channel_number, channel_at, free_from, least_free}
+use Rattle.std.specs.List.{AllByRecursion}
+use Rattle.vx_base.specs.Channels.{is_channel_number, channel_at, free_from}
 use Rattle.vx_base.specs.Modes.{outer}
-use Rattle.vx_base.specs.Pieces.{Channel, Request, Attention, Timer, Mailbox, Queued, Handler, Association}
+use Rattle.vx_base.specs.Pieces.{Channel, Mailbox}
 use Rattle.vx_base.specs.declared.cond.Cond.{Cond}
 use Rattle.vx_base.specs.declared.mode.Mode.{Mode}
 use Rattle.vx_base.specs.declared.number.BoxNo.{BoxNo}
 use Rattle.vx_base.specs.declared.number.Pid.{Pid}
-use Rattle.vx_base.specs.declared.number.UnitNo.{UnitNo}
 use Rattle.vx_base.specs.declared.request.Device.{Device}
 use Rattle.vx_base.specs.declared.request.Device.TheVariants as device
-use Rattle.vx_image.specs.declared.unit.UnitDecl.{UnitDecl}
-use Rattle.vx_record.specs.State.{Process, State, IsWithin, IsProcess, process_at, change, current, box_at, with_box, nobody, no_unit_decl}
-use Rattle.vx_record.specs.Parts.{Part, Outcome, nothing, and_then, part_if, answered, refused}
+use Rattle.vx_record.specs.State.{Process, State, IsProcess, process_at, change, current, with_box, nobody, no_unit_decl}
+use Rattle.vx_record.specs.Parts.{Part, Outcome, nothing, refused}
 use Rattle.vx_record.specs.Charges.{is_same}
 use Rattle.vx_record.specs.Mailboxes.{is_box, mailbox_at}
 use Rattle.vx_record.specs.Cancel.{is_request_on, is_attention_on}
-use Rattle.vx_record.specs.Channels.{channel_test, at_tested, at_channel, is_unit_of, is_box_of, unit_number, box_number, unit_named, box_named, unit_or_box, device_named, with_channel, assigned, free_channel_of, assign_at, assign_to, assign, is_bad_box, new_box, box_made, make_box, make_box_in, create_box, find_or_create, crembx, marked_box, delete_box, delmbx_on, delmbx_at, delmbx, is_channel_to, has_channel_to, is_assigned, goes_unused, box_gone, swept_device, swept_box, free_channel}
-use Rattle.vx_record.specs.Sound.{Ground, ground, IsMade, process_of, IsRoutineOf, BoxStands, DeviceStands, ChannelStands, HasChannel, IsRooted, RequestStands, is_drained, TimerStands, AttentionStands, ProcessStands, AssociationStands, IsSound}
+use Rattle.vx_record.specs.Channels.{channel_test, at_tested, at_channel, is_unit_of, is_box_of, box_number, unit_named, box_named, unit_or_box, device_named, with_channel, assigned, free_channel_of, assign_at, assign_to, assign, is_bad_box, new_box, make_box, make_box_in, create_box, find_or_create, crembx, marked_box, delete_box, delmbx_on, delmbx_at, delmbx, is_channel_to, has_channel_to, is_assigned, goes_unused, box_gone, swept_device, swept_box, free_channel}
+use Rattle.vx_record.specs.Sound.{ground, BoxStands, DeviceStands, ChannelStands, HasChannel, IsRooted, RequestStands, is_drained, TimerStands, AttentionStands, ProcessStands, AssociationStands, IsSound}
 use Rattle.vx_record.proofs.Lists.{either, either_by, all_weaker, all_both, all_set, all_at}
-use Rattle.vx_record.proofs.Ground.{Base, Keeps, made_base, routine_of_moves, request_moves, timer_moves, process_moves, association_moves, Still, still, still_then, change_still, at_set}
-use Rattle.vx_record.proofs.Changes.{stands_at}
+use Rattle.vx_record.proofs.Ground.{Base, made_base, routine_of_moves, request_moves, timer_moves, process_moves, association_moves, Still, change_still, at_set}
 use Rattle.vx_record.proofs.SoundFlags.{none_passes}
 use Rattle.vx_record.proofs.SoundBoxes.{box_still}
 use Rattle.vx_record.proofs.SoundRequests.{all_get, tested_channel}
@@ -157,12 +154,12 @@ channel_stays s p q n m b mode made also number other c =
     record {
       number = c.number;
       row = elim (cases_eq m n) [
-        inl same ↦
-          let apart : q.0 - 1 ≢ p.0 - 1 = λ e. let yes : (is_same q p && (m == n)) ≡ true = and_from (is_same q p) (m == n) (eq-eqb q.0 p.0 (omega (arith, made.above, also.above, e))) (eq-eqb m n same) in cc in
-          rw (get_or-set_other s.procs (p.0 - 1) (q.0 - 1) (f (process_at s p)) nobody apart) c.row
+        | inl same ↦
+            let apart : q.0 - 1 ≢ p.0 - 1 = λ e. let yes : (is_same q p && (m == n)) ≡ true = and_from (is_same q p) (m == n) (eq-eqb q.0 p.0 (omega (arith, made.above, also.above, e))) (eq-eqb m n same) in cc in
+            rw (get_or-set_other s.procs (p.0 - 1) (q.0 - 1) (f (process_at s p)) nobody apart) c.row
         | inr ne ↦
-          at_set (λ (x y : Process). channel_at x.channels m ≡ Some ch → channel_at y.channels m ≡ Some ch) (λ x e. e) s.procs (p.0 - 1) (q.0 - 1) (f (process_at s p)) nobody
-          (λ e. freed_row (process_at s p) n m ch (λ k. ne (omega (arith, low, high, k))) e) c.row
+            at_set (λ (x y : Process). channel_at x.channels m ≡ Some ch → channel_at y.channels m ≡ Some ch) (λ x e. e) s.procs (p.0 - 1) (q.0 - 1) (f (process_at s p)) nobody
+            (λ e. freed_row (process_at s p) n m ch (λ k. ne (omega (arith, low, high, k))) e) c.row
       ];
     }
 
@@ -185,30 +182,30 @@ freed_sound s p n made number clear h =
     record {
       units = h.units;
       procs = all_weaker (ProcessStands g) (ProcessStands to) (process_moves g to refl refl (λ b e. e)) t.procs
-      (all_set (ProcessStands g) s.procs (p.0 - 1) (f (process_at s p)) nobody
-      (λ k. record {
-        decl = k.decl;
-        numbers = length-set (process_at s p).channels (n - 1) None ∙ k.numbers;
-        channels = all_set (ChannelStands g) (process_at s p).channels (n - 1) None None (λ u. tt) k.channels;
-        asts = k.asts;
-        handlers = k.handlers;
-        idle = k.idle;
-      }) h.procs);
+          (all_set (ProcessStands g) s.procs (p.0 - 1) (f (process_at s p)) nobody
+          (λ k. record {
+            decl = k.decl;
+            numbers = length-set (process_at s p).channels (n - 1) None ∙ k.numbers;
+            channels = all_set (ChannelStands g) (process_at s p).channels (n - 1) None None (λ u. tt) k.channels;
+            asts = k.asts;
+            handlers = k.handlers;
+            idle = k.idle;
+          }) h.procs);
       associations = all_weaker (AssociationStands (length s.procs) s.common) (AssociationStands (length t.procs) s.common) (association_moves (length s.procs) (length t.procs) s.common base.more) s.common.associations h.associations;
       requests = all_weaker (λ r. RequestStands g r × ((is_on_box r.req.device && is_request_on p n r) ≡ false)) (RequestStands to)
-      (λ r k. request_moves g to base r (λ e. e) (rooted_stays s p r.req.p n r.req.chan r.req.chan_mode r.req.device made k.0.made number k.1) k.0) s.requests
-      (all_both (RequestStands g) (λ r. (is_on_box r.req.device && is_request_on p n r) ≡ false) s.requests h.requests clear.requests);
+          (λ r k. request_moves g to base r (λ e. e) (rooted_stays s p r.req.p n r.req.chan r.req.chan_mode r.req.device made k.0.made number k.1) k.0) s.requests
+          (all_both (RequestStands g) (λ r. (is_on_box r.req.device && is_request_on p n r) ≡ false) s.requests h.requests clear.requests);
       timers = all_weaker (TimerStands g) (TimerStands to) (timer_moves g to base) s.timers h.timers;
       attention = all_weaker (λ a. AttentionStands g a × (is_attention_on p n a ≡ false)) (AttentionStands to)
-      (λ a k. record {
-        made = made_base g to base a.p k.0.made;
-        stands = k.0.stands;
-        channel_mode = k.0.channel_mode;
-        channel = channel_stays s p a.p n a.chan a.box k.0.channel_mode made k.0.made number k.1 k.0.channel;
-        going = at_set (λ (x y : Process). is_drained x.phase k.0.channel_mode ≡ false → is_drained y.phase k.0.channel_mode ≡ false) (λ x e. e) s.procs (p.0 - 1) (a.p.0 - 1) (f (process_at s p)) nobody (λ e. e) k.0.going;
-        routine = routine_of_moves g to base a.p a.tag k.0.made k.0.routine;
-      }) s.attention
-      (all_both (AttentionStands g) (λ a. is_attention_on p n a ≡ false) s.attention h.attention clear.attention);
+          (λ a k. record {
+            made = made_base g to base a.p k.0.made;
+            stands = k.0.stands;
+            channel_mode = k.0.channel_mode;
+            channel = channel_stays s p a.p n a.chan a.box k.0.channel_mode made k.0.made number k.1 k.0.channel;
+            going = at_set (λ (x y : Process). is_drained x.phase k.0.channel_mode ≡ false → is_drained y.phase k.0.channel_mode ≡ false) (λ x e. e) s.procs (p.0 - 1) (a.p.0 - 1) (f (process_at s p)) nobody (λ e. e) k.0.going;
+            routine = routine_of_moves g to base a.p a.tag k.0.made k.0.routine;
+          }) s.attention
+          (all_both (AttentionStands g) (λ a. is_attention_on p n a ≡ false) s.attention h.attention clear.attention);
       request_ids = h.request_ids;
       timer_ids = h.timer_ids;
       attention_ids = h.attention_ids;
@@ -253,29 +250,29 @@ gone_sound s b none h =
     record {
       units = h.units;
       procs = all_weaker (λ x. ProcessStands g x × (has_channel_to b x ≡ false)) (ProcessStands to)
-      (λ x k. record {
-        decl = k.0.decl;
-        numbers = k.0.numbers;
-        channels = all_weaker (λ o. ChannelStands g o × (is_channel_to b o ≡ false)) (ChannelStands to) (λ o e. row_stays s b o e.1 e.0) x.channels
-        (all_both (ChannelStands g) (λ o. is_channel_to b o ≡ false) x.channels k.0.channels (none_passes (is_channel_to b) x.channels k.1));
-        asts = k.0.asts;
-        handlers = k.0.handlers;
-        idle = k.0.idle;
-      }) s.procs
-      (all_both (ProcessStands g) (λ x. has_channel_to b x ≡ false) s.procs h.procs (none_passes (has_channel_to b) s.procs none));
+          (λ x k. record {
+            decl = k.0.decl;
+            numbers = k.0.numbers;
+            channels = all_weaker (λ o. ChannelStands g o × (is_channel_to b o ≡ false)) (ChannelStands to) (λ o e. row_stays s b o e.1 e.0) x.channels
+                (all_both (ChannelStands g) (λ o. is_channel_to b o ≡ false) x.channels k.0.channels (none_passes (is_channel_to b) x.channels k.1));
+            asts = k.0.asts;
+            handlers = k.0.handlers;
+            idle = k.0.idle;
+          }) s.procs
+          (all_both (ProcessStands g) (λ x. has_channel_to b x ≡ false) s.procs h.procs (none_passes (has_channel_to b) s.procs none));
       associations = h.associations;
       requests = all_weaker (RequestStands g) (RequestStands to)
-      (λ r k. request_moves g to base r (device_rooted_stays s b r.req.p r.req.chan r.req.chan_mode r.req.device none k.made k.rooted) (rooted_same s b r.req.p r.req.chan r.req.chan_mode r.req.device) k) s.requests h.requests;
+          (λ r k. request_moves g to base r (device_rooted_stays s b r.req.p r.req.chan r.req.chan_mode r.req.device none k.made k.rooted) (rooted_same s b r.req.p r.req.chan r.req.chan_mode r.req.device) k) s.requests h.requests;
       timers = all_weaker (TimerStands g) (TimerStands to) (timer_moves g to base) s.timers h.timers;
       attention = all_weaker (AttentionStands g) (AttentionStands to)
-      (λ a k. record {
-        made = k.made;
-        stands = box_stays s b a.box (no_channel_to s b a.p a.chan a.box k.channel_mode none k.made k.channel) k.stands;
-        channel_mode = k.channel_mode;
-        channel = record { number = k.channel.number; row = k.channel.row };
-        going = k.going;
-        routine = k.routine;
-      }) s.attention h.attention;
+          (λ a k. record {
+            made = k.made;
+            stands = box_stays s b a.box (no_channel_to s b a.p a.chan a.box k.channel_mode none k.made k.channel) k.stands;
+            channel_mode = k.channel_mode;
+            channel = record { number = k.channel.number; row = k.channel.row };
+            going = k.going;
+            routine = k.routine;
+          }) s.attention h.attention;
       request_ids = h.request_ids;
       timer_ids = h.timer_ids;
       attention_ids = h.attention_ids;

@@ -1,5 +1,5 @@
 -- References stand after what is done to event flags and common clusters.
-use Rattle.std.proofs.Common.{◌≡◌, ◌≢◌, ℕ, zero, suc, ◌+◌, ◌-◌, ◌^◌, ◌%◌, ◌<◌, ◌≤◌, List, [], ◌∷◌, ◌++◌, Bool, true, false, cond, not, nat_lt, ◌==◌, ◌&&◌, ◌||◌, length, Option, Some, None, IfSome, IsTrue, bytes_eq, get_or, set, refl, sym, ap, ◌∙◌, arith, inl, inr}
+use Rattle.std.proofs.Common.{◌≡◌, ℕ, ◌^◌, ◌%◌, List, [], ◌∷◌, ◌++◌, Bool, true, false, not, nat_lt, ◌==◌, ◌&&◌, ◌||◌, length, Option, Some, None, IfSome, bytes_eq, refl, sym, ◌∙◌, inl, inr}
 use Rattle.std.specs.List.{AllByRecursion, find, list_any}
 use Rattle.std.proofs.lemmas.Bool.{eq-eqb, eqb-true, or_cases, and_parts, and_from}
 use Rattle.std.proofs.lemmas.Slice.Eq.{bytes_eq-Decides}
@@ -12,13 +12,12 @@ use Rattle.vx_base.specs.declared.effects.Cell.TheVariants.{Local, Common as Sha
 use Rattle.vx_base.specs.declared.frame.Wait.{Wait}
 use Rattle.vx_base.specs.declared.frame.Wait.TheVariants as wait
 use Rattle.vx_base.specs.declared.number.Pid.{Pid}
-use Rattle.vx_record.specs.State.{Process, State, IsWithin, IsProcess, process_at, change}
-use Rattle.vx_record.specs.Parts.{Part, Outcome, nothing, answered, refused, commonly}
+use Rattle.vx_record.specs.State.{State, IsWithin, IsProcess, process_at, change}
+use Rattle.vx_record.specs.Parts.{Outcome, refused, commonly}
 use Rattle.vx_record.specs.Flags.{cell, with_local_flag, with_cluster_flag, with_cell, flag_part, flag_where_named, at_named, at_flag, put_flag_at, setef, clref, refused_value, readef_at, readef, with_wait, refused_wait, satisfied, awaited_at, awaited, waits_on, waitfr, wflor, wfland, is_common, wants_prmceb, ascefc, dacefc, dlcefc}
 use Rattle.vx_record.specs.Sound.{AssociationStands, IsSound}
-use Rattle.vx_record.specs.declared.served.Served.{Served}
 use Rattle.vx_record.proofs.Lists.{either, either_by, all_weaker, all_both, all_append, all_less, find_passes}
-use Rattle.vx_record.proofs.Ground.{Still, still, still_then, common_still}
+use Rattle.vx_record.proofs.Ground.{Still, still, common_still}
 use Rattle.vx_record.proofs.Changes.{quiet_still, with_local_flag_quiet, with_wait_quiet}
 
 -- Lists.

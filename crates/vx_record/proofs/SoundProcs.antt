@@ -1,25 +1,23 @@
 -- References stand after the services on processes and exit handlers.
-use Rattle.std.proofs.Common.{◌≡◌, ℕ, zero, suc, ◌+◌, ◌-◌, ◌<◌, ◌≤◌, List, [], ◌∷◌, ◌++◌, Bool, true, false, cond, not, ◌==◌, ◌&&◌, ◌||◌, nat_le, length, replicate, Option, Some, None, Result, Ok, Err, IfSome, IsTrue, get_or, refl, sym, ap, ◌∙◌, arith, slice_get}
-use Rattle.std.proofs.lemmas.Bool.{and_parts, leb-true, not-true, cases_eq}
+use Rattle.std.proofs.Common.{◌≡◌, ℕ, zero, suc, ◌-◌, ◌<◌, List, [], ◌∷◌, ◌++◌, Bool, true, false, not, nat_le, length, replicate, Option, Some, None, Result, Ok, Err, get_or, refl, ap, arith}
+use Rattle.std.proofs.lemmas.Bool.{and_parts, leb-true}
 use Rattle.std.proofs.lemmas.List.{length-append, get_or_append_left}
 use Rattle.std.specs.List.{AllByRecursion, filter, find}
-use Rattle.vx_base.specs.Pieces.{Queued, Handler, Channel}
+use Rattle.vx_base.specs.Pieces.{Handler}
 use Rattle.vx_base.specs.declared.cond.Cond.{Cond}
 use Rattle.vx_base.specs.declared.frame.Frame.{Frame}
 use Rattle.vx_base.specs.declared.frame.FrameKind.{FrameKind}
 use Rattle.vx_base.specs.declared.frame.FrameKind.TheVariants as kind
 use Rattle.vx_base.specs.declared.mode.Mode.{Mode}
-use Rattle.vx_base.specs.declared.number.Id.{Id}
 use Rattle.vx_base.specs.declared.number.Pid.{Pid}
 use Rattle.vx_base.specs.declared.routine.Entry.{Entry}
-use Rattle.vx_record.specs.State.{Process, State, IsWithin, IsProcess, process_at, change, current, next_id, past_id, pid, nobody}
-use Rattle.vx_record.specs.Parts.{Part, Outcome, nothing, and_then, each, answered, refused}
+use Rattle.vx_record.specs.State.{Process, State, IsProcess, process_at, change, current, next_id, past_id, nobody}
+use Rattle.vx_record.specs.Parts.{Outcome, each, refused}
 use Rattle.vx_record.specs.Charges.{exceeds, ast_need}
-use Rattle.vx_record.specs.Flags.{with_wait}
-use Rattle.vx_record.specs.Control.{exists_for_control, may_control, named_process, process_test, at_tested, at_process, changed_process, with_wake, with_suspension, hiber, wake, suspnd, resume, exit_ast, forced, forcex, born, created, new_part, creprc}
-use Rattle.vx_record.specs.Timers.{with_timer, new_wake, scheduled, schdwk, is_wake_for, unscheduled, canwak}
-use Rattle.vx_record.specs.Rundown.{without_frames, leave_kind, leave_frame, leave_all, exited, exit, this_handler, is_handler_of, is_handler_with, new_handler, handler_declared, is_kernel, dclexh, drop_handler, drop_handlers, any_handler, cancel_found, cancel_handlers, canexh, named_for_deletion, deleted_by, delprc}
-use Rattle.vx_record.specs.Sound.{ground, IsMade, IsRoutineOf, ProcessStands, ChannelStands, IsSound}
+use Rattle.vx_record.specs.Control.{exists_for_control, may_control, named_process, process_test, at_tested, at_process, changed_process, with_wake, with_suspension, hiber, wake, suspnd, resume, exit_ast, forced, forcex, born, created, creprc}
+use Rattle.vx_record.specs.Timers.{new_wake, scheduled, schdwk, is_wake_for, unscheduled, canwak}
+use Rattle.vx_record.specs.Rundown.{without_frames, leave_kind, leave_frame, leave_all, exited, exit, is_handler_of, is_handler_with, new_handler, is_kernel, dclexh, drop_handler, drop_handlers, any_handler, cancel_found, cancel_handlers, canexh, named_for_deletion, deleted_by, delprc}
+use Rattle.vx_record.specs.Sound.{ground, IsRoutineOf, ProcessStands, ChannelStands, IsSound}
 use Rattle.vx_record.specs.declared.served.Served.{Served}
 use Rattle.vx_record.proofs.Lists.{either, either_by, all_append, all_weaker}
 use Rattle.vx_record.proofs.Ground.{Keeps, Still, still, still_then, moved, past_id_still, process_moves}

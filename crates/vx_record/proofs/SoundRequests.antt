@@ -1,19 +1,18 @@
 -- References stand after the services on requests, and after what units do.
-use Rattle.std.proofs.Common.{◌≡◌, ◌≢◌, ℕ, zero, suc, ◌+◌, ◌-◌, ◌<◌, ◌≤◌, List, [], ◌∷◌, ◌++◌, Bool, true, false, cond, not, ◌==◌, ◌&&◌, ◌||◌, nat_lt, length, Option, Some, None, Result, Ok, Err, IfSome, IsTrue, is_some, is_none, get_or, set, refl, sym, ap, ◌∙◌, arith}
+use Rattle.std.proofs.Common.{◌≡◌, ℕ, zero, suc, ◌+◌, ◌-◌, ◌≤◌, List, [], ◌∷◌, ◌++◌, Bool, true, false, not, ◌||◌, nat_lt, Option, Some, None, Result, Ok, Err, IfSome, is_some, get_or, refl, ap, arith}
 use Rattle.std.proofs.Math.ListN.{length-set}
-use Rattle.std.proofs.lemmas.Bool.{ltb-false, and_parts, eqb-true, eq-eqb}
-use Rattle.std.specs.List.{AllByRecursion, find, list_any}
+use Rattle.std.proofs.lemmas.Bool.{ltb-false, and_parts, eqb-true}
+use Rattle.std.specs.List.{AllByRecursion, find}
 use Rattle.vx_base.specs.Channels.{is_channel_number, channel_at}
 use Rattle.vx_base.specs.Lists.{amend}
 use Rattle.vx_base.specs.Modes.{is_inner}
 use Rattle.vx_base.specs.Pieces.{Channel, Request, Promised, Attention, cleared}
-use Rattle.vx_base.specs.Queues.{is_unit, is_on, is_served_by, waits_for, front, in_service}
+use Rattle.vx_base.specs.Queues.{is_unit, is_on, waits_for}
 use Rattle.vx_base.specs.Serving.{serve, settled}
 use Rattle.vx_base.specs.declared.cond.Cond.{Cond}
 use Rattle.vx_base.specs.declared.effects.Cell.{Cell}
 use Rattle.vx_base.specs.declared.frame.Wait.TheVariants as wait
 use Rattle.vx_base.specs.declared.mode.Mode.{Mode}
-use Rattle.vx_base.specs.declared.number.BoxNo.{BoxNo}
 use Rattle.vx_base.specs.declared.number.Id.{Id}
 use Rattle.vx_base.specs.declared.number.Pid.{Pid}
 use Rattle.vx_base.specs.declared.number.UnitNo.{UnitNo}
@@ -21,21 +20,21 @@ use Rattle.vx_base.specs.declared.request.Device.{Device}
 use Rattle.vx_base.specs.declared.request.Device.TheVariants as device
 use Rattle.vx_base.specs.declared.routine.Entry.{Entry}
 use Rattle.vx_base.specs.Pieces.{DeviceUnit}
-use Rattle.vx_record.specs.State.{Process, State, IsProcess, HasFrame, process_at, current, next_id, past_id, unit_at}
-use Rattle.vx_record.specs.Parts.{Part, Outcome, nothing, and_then, answered, refused, followed_by, part_if}
+use Rattle.vx_record.specs.State.{State, IsProcess, HasFrame, process_at, current, next_id, past_id, unit_at}
+use Rattle.vx_record.specs.Parts.{Part, Outcome}
 use Rattle.vx_record.specs.Charges.{exceeds, request_need, is_direct, is_attention}
-use Rattle.vx_record.specs.Flags.{cell, flag_part, flag_where_named, awaited, refused_wait}
+use Rattle.vx_record.specs.Flags.{cell, flag_part, flag_where_named}
 use Rattle.vx_record.specs.Finish.{iosb_part, is_read, this_request}
-use Rattle.vx_record.specs.Mailboxes.{message_of, read_box, write_box, attend}
+use Rattle.vx_record.specs.Mailboxes.{message_of}
 use Rattle.vx_record.specs.Channels.{usable_in, channel_test}
-use Rattle.vx_record.specs.Requests.{Asked, is_bad, has_function, is_too_long, is_full, device_test, on_channel, on_cell, request_test, promised, new_request, cleared_part, with_request, opened_request, begun_on, transfer, new_attention, with_attention, done_at_once, attention_opened, attention_set, attention_on, asked_of, accepted, qio_tested, qio, qiow_tested, qiow, synch, taken_up, begun, with_unit, unit_ending, done}
-use Rattle.vx_record.specs.Sound.{Ground, ground, IsMade, process_of, IsRoutineOf, DeviceStands, ChannelStands, HasChannel, IsRooted, MayBeServed, RequestStands, is_drained, AttentionStands, ProcessStands, AreOrdered, request_id, attention_id, IsSound}
+use Rattle.vx_record.specs.Requests.{Asked, is_bad, has_function, is_too_long, is_full, device_test, on_channel, on_cell, request_test, promised, new_request, cleared_part, with_request, opened_request, begun_on, transfer, new_attention, done_at_once, attention_opened, attention_set, attention_on, asked_of, accepted, qio_tested, qio, qiow_tested, qiow, synch, taken_up, begun, with_unit, unit_ending, done}
+use Rattle.vx_record.specs.Sound.{Ground, ground, IsMade, process_of, IsRoutineOf, DeviceStands, ChannelStands, IsRooted, MayBeServed, RequestStands, is_drained, AttentionStands, ProcessStands, AreOrdered, request_id, attention_id, IsSound}
 use Rattle.vx_record.specs.declared.served.Served.{Served}
-use Rattle.vx_record.proofs.Lists.{either, either_by, all_weaker, all_both, all_append, all_set, all_find, find_passes, ordered_more, ordered_amend, all_from}
-use Rattle.vx_record.proofs.Ground.{Base, Keeps, made_keeps, keeps_all, some_weaker, routine_of_moves, device_moves, request_keeps, attention_keeps, process_moves, Still, still, still_then, moved, requests_still, attention_still, past_id_still}
+use Rattle.vx_record.proofs.Lists.{either, either_by, all_weaker, all_append, all_find, ordered_more, ordered_amend, all_from}
+use Rattle.vx_record.proofs.Ground.{Keeps, made_keeps, some_weaker, routine_of_moves, device_moves, request_keeps, attention_keeps, process_moves, Still, still, still_then, moved, requests_still, attention_still, past_id_still}
 use Rattle.vx_record.proofs.Changes.{going_of, stands_at}
-use Rattle.vx_record.proofs.SoundFlags.{none_passes, flag_part_still, flag_where_named_still, awaited_sound, waits_sound}
-use Rattle.vx_record.proofs.SoundBoxes.{some_found, iosb_part_still, finish_still, read_box_still, write_box_still, attend_still}
+use Rattle.vx_record.proofs.SoundFlags.{flag_part_still, flag_where_named_still, awaited_sound, waits_sound}
+use Rattle.vx_record.proofs.SoundBoxes.{iosb_part_still, finish_still, read_box_still, write_box_still, attend_still}
 
 -- A channel that passed the test.
 

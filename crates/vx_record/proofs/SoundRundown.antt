@@ -1,33 +1,32 @@
 -- References stand while a process is run down.
-use Rattle.std.proofs.Common.{◌≡◌, ◌≢◌, ℕ, zero, suc, ◌+◌, ◌-◌, ◌<◌, ◌≤◌, List, [], ◌∷◌, ◌++◌, Bool, true, false, cond, not, ◌==◌, ◌&&◌, ◌||◌, nat_lt, nat_le, length, Option, Some, None, IfSome, IsTrue, is_some, get_or, set, refl, sym, ap, ◌∙◌, arith, subst, inl, inr, get_or-set_same, get_or-set_other}
+use Rattle.std.proofs.Common.{◌≡◌, ◌≢◌, ℕ, zero, suc, ◌+◌, ◌-◌, ◌<◌, ◌≤◌, List, [], ◌∷◌, Bool, true, false, not, ◌==◌, ◌&&◌, ◌||◌, nat_le, length, Option, Some, None, get_or, set, refl, sym, ap, ◌∙◌, arith, subst, inl, inr, get_or-set_same, get_or-set_other}
 use Rattle.std.proofs.Math.ListN.{length-set}
 use Rattle.std.proofs.lemmas.Bool.{and_parts, and_from, eqb-true, eq-eqb, le-leb, or_cases, cases_eq}
 use Rattle.std.specs.List.{AllByRecursion, filter, find, list_any}
 use Rattle.vx_base.specs.Channels.{is_channel_number, channel_at, is_reached, reached_from, channels_of}
 use Rattle.vx_base.specs.Modes.{reaches}
-use Rattle.vx_base.specs.Pieces.{Channel, Request, Attention, Timer, Handler, Queued}
+use Rattle.vx_base.specs.Pieces.{Channel, Attention, Timer, Handler, Queued}
 use Rattle.vx_base.specs.declared.frame.Frame.{Frame}
 use Rattle.vx_base.specs.declared.frame.Phase.{Phase}
 use Rattle.vx_base.specs.declared.frame.Phase.TheVariants as phase
 use Rattle.vx_base.specs.declared.mode.Mode.{Mode}
-use Rattle.vx_base.specs.declared.mode.Mode.TheVariants.{Kernel, Exec, Super, User}
 use Rattle.vx_base.specs.declared.number.BoxNo.{BoxNo}
 use Rattle.vx_base.specs.declared.number.Pid.{Pid}
 use Rattle.vx_base.specs.declared.record.Answer.{Answer}
 use Rattle.vx_base.specs.declared.request.Device.{Device}
 use Rattle.vx_base.specs.declared.request.Device.TheVariants as device
 use Rattle.vx_record.specs.State.{Process, State, IsProcess, process_at, change, nobody}
-use Rattle.vx_record.specs.Parts.{Part, Outcome, nothing, and_then, each, part_if, followed_by}
+use Rattle.vx_record.specs.Parts.{Part, Outcome, nothing, each}
 use Rattle.vx_record.specs.Charges.{is_same}
 use Rattle.vx_record.specs.Mailboxes.{mailbox_at}
 use Rattle.vx_record.specs.Timers.{drop_timer, drop_timers, is_wake_for}
 use Rattle.vx_record.specs.Channels.{with_channel, is_assigned, goes_unused, box_gone, swept_device, swept_box, free_channel}
 use Rattle.vx_record.specs.Cancel.{cancel_channel, is_request_on, is_attention_on}
-use Rattle.vx_record.specs.Rundown.{in_phase, keeps_busy, is_busy, cancel_one, free_one, is_timer_in, is_wake_by, cancel_modes, without_ast, drop_ast, is_ast_reached, drop_asts, part_with, release, is_handler_of, any_handler, handler_frame, entered, gone_part, drop_all_handlers, gone, drain, draining, cancelled_in, run_handlers, handling, run_down, inner_modes, rundown_from, rundown}
-use Rattle.vx_record.specs.Sound.{Ground, ground, process_of, IsRooted, HasChannel, RequestStands, TimerStands, is_drained, IsIdle, AttentionStands, ProcessStands, AssociationStands, IsSound}
-use Rattle.vx_record.proofs.Lists.{either, either_by, all_weaker, all_both, all_set, all_at}
+use Rattle.vx_record.specs.Rundown.{in_phase, keeps_busy, is_busy, cancel_one, free_one, is_timer_in, is_wake_by, cancel_modes, drop_ast, is_ast_reached, drop_asts, part_with, release, is_handler_of, any_handler, handler_frame, entered, drop_all_handlers, gone, drain, draining, cancelled_in, run_handlers, handling, run_down, inner_modes, rundown_from, rundown}
+use Rattle.vx_record.specs.Sound.{ground, process_of, IsRooted, HasChannel, RequestStands, TimerStands, is_drained, IsIdle, AttentionStands, ProcessStands, AssociationStands, IsSound}
+use Rattle.vx_record.proofs.Lists.{either, either_by, all_weaker, all_both, all_set}
 use Rattle.vx_record.proofs.Ground.{Base, made_base, made_keeps, routine_of_moves, request_moves, timer_moves, process_moves, association_moves, has_channel_keeps, Still, still, still_then, at_set}
-use Rattle.vx_record.proofs.Changes.{idle_none, stands_at, without_ast_still, entering_sound, in_phase_still}
+use Rattle.vx_record.proofs.Changes.{stands_at, without_ast_still, entering_sound, in_phase_still}
 use Rattle.vx_record.proofs.SoundFlags.{none_passes, part_with_still}
 use Rattle.vx_record.proofs.SoundAsts.{drop_timers_still}
 use Rattle.vx_record.proofs.SoundProcs.{drop_handlers_still}
@@ -46,6 +45,7 @@ reached_rows k m (row ∷ rows) =
   where
     further : (n : ℕ) → (k + 1 ≤ n) × (n < (k + 1) + length rows) × (is_reached m (get_or rows (n - (k + 1)) None) ≡ true) → (k ≤ n) × (n < k + length (row ∷ rows)) × (is_reached m (get_or (row ∷ rows) (n - k) None) ≡ true)
     further n h = let place : n - k ≡ suc (n - (k + 1)) = omega (arith, h.0) in (omega (arith, h.0), omega (arith, h.1), rw place h.2)
+
     first : is_reached m row ≡ true → is_reached m (get_or (row ∷ rows) (k - k) None) ≡ true
     first e = let place : k - k ≡ zero = omega arith in rw place e
 
@@ -53,20 +53,21 @@ reached_there : (k n : ℕ) (m : Mode) (rows : List (Option Channel)) → k ≤ 
 reached_there k n m [] h e = cc
 reached_there k n m (row ∷ rows) h e =
     elim (cases_eq n k) [
-      inl here ↦
-        let place : n - k ≡ zero = omega arith in
-        let first : is_reached m row ≡ true = rw place at e in
-        rw first (or_left (n == k) _ (eq-eqb n k here))
+      | inl here ↦
+          let place : n - k ≡ zero = omega arith in
+          let first : is_reached m row ≡ true = rw place at e in
+          rw first (or_left (n == k) _ (eq-eqb n k here))
       | inr past ↦
-        let above : k + 1 ≤ n = omega arith in
-        let place : n - k ≡ suc (n - (k + 1)) = omega arith in
-        let rest = reached_there (k + 1) n m rows above (rw place at e) in
-        either (λ (ns : List ℕ). list_any (λ j. n == j) ns ≡ true) (is_reached m row) (k ∷ reached_from (k + 1) m rows) (reached_from (k + 1) m rows) (or_right (n == k) _ rest) rest
+          let above : k + 1 ≤ n = omega arith in
+          let place : n - k ≡ suc (n - (k + 1)) = omega arith in
+          let rest = reached_there (k + 1) n m rows above (rw place at e) in
+          either (λ (ns : List ℕ). list_any (λ j. n == j) ns ≡ true) (is_reached m row) (k ∷ reached_from (k + 1) m rows) (reached_from (k + 1) m rows) (or_right (n == k) _ rest) rest
     ]
   where
     or_left : (a b : Bool) → a ≡ true → (a || b) ≡ true
     or_left true b h = refl
     or_left false b h = cc
+
     or_right : (a b : Bool) → b ≡ true → (a || b) ≡ true
     or_right true b h = refl
     or_right false b h = h
@@ -79,6 +80,7 @@ any_weaker f g k (x ∷ xs) h =
     left : (a b : Bool) → a ≡ true → (a || b) ≡ true
     left true b h = refl
     left false b h = cc
+
     right : (a b : Bool) → b ≡ true → (a || b) ≡ true
     right true b h = refl
     right false b h = h
@@ -141,7 +143,7 @@ cancel_modes_sweeps s p m h =
     let b = (drop_timers (is_timer_in p m) a).after in
     let two : Still s b = still_then one (drop_timers_still a (is_timer_in p m) one.sound) in
     let there =
-      all_both (AttentionStands (ground s)) (λ x. list_any (λ n. is_attention_on p n x) ns ≡ false) a.attention (each_cancel_one_all (AttentionStands (ground s)) p s ns h.attention) (each_cancel_one_clear p s ns h) in
+    all_both (AttentionStands (ground s)) (λ x. list_any (λ n. is_attention_on p n x) ns ≡ false) a.attention (each_cancel_one_all (AttentionStands (ground s)) p s ns h.attention) (each_cancel_one_clear p s ns h) in
     record {
       still = still_then two (drop_timers_still b (is_wake_by p) two.sound);
       left = rw (each_drop_timer_attention b (filter (is_wake_by p) b.timers), each_drop_timer_attention a (filter (is_timer_in p m) a.timers)) there;
@@ -191,31 +193,31 @@ draining_sound s a p m made k left none =
     } in
     let idle : IsIdle (phase.Draining m) (process_at a p).frames = subst (λ (fs : List Frame). IsIdle (phase.Draining m) fs) (sym none) tt in
     let phased = λ (x : Attention) (e : AttentionStands (ground s) x) (none : list_any (λ n. is_attention_on p n x) (channels_of m (process_at s p).channels) ≡ false).
-      going x e none in
+    going x e none in
     record {
       units = h.units;
       procs = all_weaker (ProcessStands g) (ProcessStands to) (process_moves g to refl refl (λ b e. e)) t.procs
-      (all_set (ProcessStands g) a.procs (p.0 - 1) (f (process_at a p)) nobody
-      (λ e. record {
-        decl = e.decl;
-        numbers = e.numbers;
-        channels = e.channels;
-        asts = e.asts;
-        handlers = e.handlers;
-        idle = idle;
-      }) h.procs);
+          (all_set (ProcessStands g) a.procs (p.0 - 1) (f (process_at a p)) nobody
+          (λ e. record {
+            decl = e.decl;
+            numbers = e.numbers;
+            channels = e.channels;
+            asts = e.asts;
+            handlers = e.handlers;
+            idle = idle;
+          }) h.procs);
       associations = all_weaker (AssociationStands (length a.procs) a.common) (AssociationStands (length t.procs) a.common) (association_moves (length a.procs) (length t.procs) a.common base.more) a.common.associations h.associations;
       requests = all_weaker (RequestStands g) (RequestStands to) (λ r e. request_moves g to base r (λ d. d) (draining_root a p r.req.p m r.req.chan r.req.chan_mode r.req.device) e) a.requests h.requests;
       timers = all_weaker (TimerStands g) (TimerStands to) (timer_moves g to base) a.timers h.timers;
       attention = all_weaker (λ x. AttentionStands (ground s) x × (list_any (λ n. is_attention_on p n x) (channels_of m (process_at s p).channels) ≡ false)) (AttentionStands to)
-      (λ x e. record {
-        made = made_base g to base x.p (made_keeps (ground s) g k.keeps x.p e.0.made);
-        stands = k.keeps.box x.box e.0.stands;
-        channel_mode = e.0.channel_mode;
-        channel = draining_rooted a p x.p m x.chan x.box e.0.channel_mode (has_channel_keeps (ground s) g k.keeps x.p x.chan x.box e.0.channel_mode e.0.made e.0.channel);
-        going = phased x e.0 e.1;
-        routine = routine_of_moves g to base x.p x.tag (made_keeps (ground s) g k.keeps x.p e.0.made) (routine_of_moves (ground s) g k.keeps.base x.p x.tag e.0.made e.0.routine);
-      }) a.attention left;
+          (λ x e. record {
+            made = made_base g to base x.p (made_keeps (ground s) g k.keeps x.p e.0.made);
+            stands = k.keeps.box x.box e.0.stands;
+            channel_mode = e.0.channel_mode;
+            channel = draining_rooted a p x.p m x.chan x.box e.0.channel_mode (has_channel_keeps (ground s) g k.keeps x.p x.chan x.box e.0.channel_mode e.0.made e.0.channel);
+            going = phased x e.0 e.1;
+            routine = routine_of_moves g to base x.p x.tag (made_keeps (ground s) g k.keeps x.p e.0.made) (routine_of_moves (ground s) g k.keeps.base x.p x.tag e.0.made e.0.routine);
+          }) a.attention left;
       request_ids = h.request_ids;
       timer_ids = h.timer_ids;
       attention_ids = h.attention_ids;
@@ -226,12 +228,12 @@ draining_sound s a p m made k left none =
         let f = in_phase (phase.Draining m) in
         let was : is_drained (process_at a x.p).phase e.channel_mode ≡ false = k.keeps.going x.p e.channel_mode e.made e.going in
         elim (cases_eq x.p.0 p.0) [
-          inl same ↦
-            at_set (λ (y z : Process). is_drained y.phase e.channel_mode ≡ false → is_drained z.phase e.channel_mode ≡ false) (λ y r. r) a.procs (p.0 - 1) (x.p.0 - 1) (f (process_at a p)) nobody
-            (λ r. still_going s p m x made (e, none) e same none) was
+          | inl same ↦
+              at_set (λ (y z : Process). is_drained y.phase e.channel_mode ≡ false → is_drained z.phase e.channel_mode ≡ false) (λ y r. r) a.procs (p.0 - 1) (x.p.0 - 1) (f (process_at a p)) nobody
+              (λ r. still_going s p m x made (e, none) e same none) was
           | inr other ↦
-            let apart : x.p.0 - 1 ≢ p.0 - 1 = λ i. other (omega (arith, made.above, e.made.above, i)) in
-            rw (get_or-set_other a.procs (p.0 - 1) (x.p.0 - 1) (f (process_at a p)) nobody apart) was
+              let apart : x.p.0 - 1 ≢ p.0 - 1 = λ i. other (omega (arith, made.above, e.made.above, i)) in
+              rw (get_or-set_other a.procs (p.0 - 1) (x.p.0 - 1) (f (process_at a p)) nobody apart) was
         ]
 
 -- The channels of a mode that is drained are freed: nothing hangs on them.
@@ -314,8 +316,8 @@ freeing_clear s p m n ns f =
     let row = f.rows.0.1 in
     record {
       requests = all_weaker (λ r. RequestStands (ground s) r × (keeps_busy p m r ≡ false)) (λ r. (is_on_box r.req.device && is_request_on p n r) ≡ false)
-      (λ r k. false_from _ (clear_request s p m n r.req.p r.req.chan r.req.chan_mode r.req.device row k.0.rooted k.1)) s.requests
-      (all_both (RequestStands (ground s)) (λ r. keeps_busy p m r ≡ false) s.requests f.down.sound.requests f.idle);
+          (λ r k. false_from _ (clear_request s p m n r.req.p r.req.chan r.req.chan_mode r.req.device row k.0.rooted k.1)) s.requests
+          (all_both (RequestStands (ground s)) (λ r. keeps_busy p m r ≡ false) s.requests f.down.sound.requests f.idle);
       attention = all_weaker (AttentionStands (ground s)) (λ a. is_attention_on p n a ≡ false) (λ a k. false_from _ (clear_attention s p m n a f.phase row k)) s.attention f.down.sound.attention;
     }
 

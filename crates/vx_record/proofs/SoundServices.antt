@@ -1,31 +1,27 @@
 -- References stand after each service.
-use Rattle.std.proofs.Common.{◌≡◌, ℕ, zero, suc, ◌+◌, ◌-◌, ◌<◌, ◌≤◌, List, [], ◌∷◌, Bool, true, false, ◌&&◌, length, Option, Some, None, Result, Ok, Err, IfSome, option_map, bytes_eq, position, unwrap_or, refl, sym, ap, ◌∙◌, arith}
+use Rattle.std.proofs.Common.{◌≡◌, ℕ, ◌<◌, List, [], ◌∷◌, true, ◌&&◌, length, Option, Some, None, Result, Ok, Err, IfSome, option_map, bytes_eq, arith}
 use Rattle.std.proofs.lemmas.Bool.{and_parts}
 use Rattle.std.specs.List.{list_all}
 use Rattle.vx_base.specs.Services.{is_of_kind, are_args, args_list, params_of}
-use Rattle.vx_base.specs.declared.call.Arg.{Arg}
 use Rattle.vx_base.specs.declared.call.Args.{Args}
 use Rattle.vx_base.specs.declared.call.Call.{Call}
 use Rattle.vx_base.specs.declared.call.Target.{Target}
 use Rattle.vx_base.specs.declared.cond.Cond.{Cond}
-use Rattle.vx_base.specs.declared.cond.Cond.TheVariants.{Normal}
 use Rattle.vx_base.specs.declared.number.Pid.{Pid}
-use Rattle.vx_base.specs.declared.routine.Entry.{Entry}
 use Rattle.vx_base.specs.declared.service.Kind.TheVariants as kind
 use Rattle.vx_base.specs.declared.service.Service.{Service}
 use Rattle.vx_base.specs.declared.service.Service.TheVariants.{SetEf, ClrEf, ReadEf, WaitFr, WflOr, WflAnd, AscEfc, DacEfc, DlcEfc, DclAst, SetAst, CmExec, CmKrnl, SetImr, CanTim, SchdWk, CanWak, Hiber, Wake, Suspnd, Resume, ForceX, CrePrc, DelPrc, Exit, DclExh, CanExh, Assign, Dassgn, CreMbx, DelMbx, Qio, QioW, Synch, Cancel, GetTim}
 use Rattle.vx_image.specs.WellFormed.{has_its_label}
 use Rattle.vx_image.specs.declared.decl.ProcDecl.{ProcDecl}
 use Rattle.vx_image.specs.declared.image.Image.{Image}
-use Rattle.vx_record.specs.State.{Process, State, IsProcess, HasFrame, process_at, change, image_of}
-use Rattle.vx_record.specs.Parts.{Part, Outcome, part_of, nothing}
+use Rattle.vx_record.specs.State.{State, IsProcess, HasFrame, process_at, change, image_of}
+use Rattle.vx_record.specs.Parts.{Part, part_of}
 use Rattle.vx_record.specs.Flags.{readef}
 use Rattle.vx_record.specs.Timers.{gettim}
 use Rattle.vx_record.specs.Control.{creprc}
 use Rattle.vx_record.specs.Channels.{assign, crembx}
 use Rattle.vx_record.specs.Services.{number, place, access_mode, text, label, routine_at, or_start, routine, routine_or_none, decl_place, asked, with_variable, var_part, valued, valued_at, numbered_at, service_of, service}
 use Rattle.vx_record.specs.Sound.{ground, IsRoutineOf, IsSound, FitsImage}
-use Rattle.vx_record.proofs.Ground.{Still}
 use Rattle.vx_record.proofs.Changes.{stands_at, quiet_still, with_variable_quiet}
 use Rattle.vx_record.proofs.SoundFlags.{setef_sound, clref_sound, readef_sound, waitfr_sound, wflor_sound, wfland_sound, ascefc_sound, dacefc_sound, dlcefc_sound}
 use Rattle.vx_record.proofs.SoundAsts.{dclast_sound, setast_sound, cmexec_sound, cmkrnl_sound, setimr_sound, cantim_sound}

@@ -1,46 +1,43 @@
 -- References stand at first, and after each step.
-use Rattle.std.proofs.Common.{◌≡◌, ◌≢◌, ℕ, zero, suc, ◌+◌, ◌-◌, ◌<◌, ◌≤◌, List, [], ◌∷◌, ◌++◌, Bool, true, false, cond, not, ◌==◌, ◌&&◌, length, map, replicate, Option, Some, None, Result, IfSome, IsTrue, Contains, is_some, get_or, set, refl, sym, ap, ◌∙◌, arith, subst}
-use Rattle.std.proofs.lemmas.List.{length-map, length-append}
+use Rattle.std.proofs.Common.{◌≡◌, ℕ, zero, suc, ◌+◌, ◌-◌, ◌≤◌, List, [], ◌∷◌, ◌++◌, true, length, replicate, Option, Some, None, IfSome, Contains, refl, sym, ap, ◌∙◌, arith, subst}
+use Rattle.std.proofs.lemmas.List.{length-map}
 use Rattle.std.specs.List.{AllByRecursion, find, list_any}
 use Rattle.vx_base.specs.Pieces.{Queued, Request, DeviceUnit, Timer}
-use Rattle.vx_base.specs.Queues.{is_served_by, waits_for, front, in_service, deliverable}
+use Rattle.vx_base.specs.Queues.{is_served_by, waits_for, front, in_service}
 use Rattle.vx_base.specs.declared.call.Call.{Call}
 use Rattle.vx_base.specs.declared.call.Target.TheVariants as target
-use Rattle.vx_base.specs.declared.cond.Cond.{Cond}
 use Rattle.vx_base.specs.declared.frame.Frame.{Frame}
 use Rattle.vx_base.specs.declared.frame.FrameKind.{FrameKind}
 use Rattle.vx_base.specs.declared.frame.FrameKind.TheVariants as kind
-use Rattle.vx_base.specs.declared.frame.Phase.{Phase}
 use Rattle.vx_base.specs.declared.frame.Wait.{Wait}
 use Rattle.vx_base.specs.declared.number.Pid.{Pid}
 use Rattle.vx_base.specs.declared.number.UnitNo.{UnitNo}
-use Rattle.vx_base.specs.declared.record.Answer.{Answer}
 use Rattle.vx_base.specs.declared.record.Event.{Event}
 use Rattle.vx_base.specs.declared.record.Event.TheVariants as event
 use Rattle.vx_base.specs.declared.record.Rec.{Rec}
 use Rattle.vx_base.specs.declared.routine.Entry.{Entry}
 use Rattle.vx_base.specs.declared.routine.Entry.TheVariants as entry
-use Rattle.vx_image.specs.Local.{Reader, Advanced, advanced}
+use Rattle.vx_image.specs.Local.{Advanced, advanced}
 use Rattle.vx_image.specs.WellFormed.{is_image, decl_names, IsWellFormed}
 use Rattle.vx_image.specs.declared.advance.Stop.{Stop}
 use Rattle.vx_image.specs.declared.advance.Stop.TheVariants as stop
 use Rattle.vx_image.specs.declared.decl.ProcDecl.{ProcDecl}
 use Rattle.vx_image.specs.declared.image.Image.{Image}
 use Rattle.vx_image.specs.declared.system.System.{System}
-use Rattle.vx_record.specs.State.{Process, State, IsWithin, IsProcess, HasFrame, process_at, change, image_of, decl_of, pid, with_top, nobody, no_image}
-use Rattle.vx_record.specs.Parts.{Part, Outcome, nothing, tells, answered}
-use Rattle.vx_record.specs.Asts.{deliverable_at, deliverable_ast, with_frame, new_frame}
+use Rattle.vx_record.specs.State.{Process, State, IsProcess, HasFrame, process_at, change, image_of, decl_of, pid, with_top, nobody, no_image}
+use Rattle.vx_record.specs.Parts.{Outcome}
+use Rattle.vx_record.specs.Asts.{deliverable_at, deliverable_ast, new_frame}
 use Rattle.vx_record.specs.Flags.{satisfied}
-use Rattle.vx_record.specs.Rundown.{exited, rundown, without_ast}
+use Rattle.vx_record.specs.Rundown.{without_ast}
 use Rattle.vx_record.specs.Services.{service}
-use Rattle.vx_record.specs.Events.{can_run, can_step_down, can_run_down, run_events, ast_or_run, process_events, processes_from, beg_event, don_or_beg, unit_events, units_from, tick_events, enabled, or_normal, resumed_with, resumed, moved_to, served_call, called, with_r0, below_top, put_back, r0_of, returned_from, returned, moved_behind, run_on, run_advanced, reader, run_frame, run, started, delivered, beg, don, step}
-use Rattle.vx_record.specs.Runs.{born_of, born_from, first_unit, first, IsStep, AreSteps, IsRun, after_from, after}
+use Rattle.vx_record.specs.Events.{can_run, can_run_down, run_events, ast_or_run, process_events, processes_from, beg_event, don_or_beg, unit_events, units_from, tick_events, enabled, or_normal, resumed_with, moved_to, served_call, below_top, put_back, r0_of, returned_from, returned, moved_behind, run_on, run_advanced, reader, run_frame, run, started, delivered, beg, don, step}
+use Rattle.vx_record.specs.Runs.{born_of, born_from, first_unit, first, AreSteps, IsRun, after_from, after}
 use Rattle.vx_record.specs.Sound.{ground, IsIdle, RequestStands, ProcessStands, IsSound, ChannelStands, FitsImage}
 use Rattle.vx_record.specs.declared.served.Served.{Served}
 use Rattle.vx_record.specs.declared.served.Served.TheVariants.{Answered, Waits}
 use Rattle.vx_record.proofs.Lists.{either, either_by, all_append, all_at}
-use Rattle.vx_record.proofs.Ground.{Still, still, still_then, made_keeps, at_set}
-use Rattle.vx_record.proofs.Changes.{idle_of, stands_at, quiet_still, moved_to_quiet, moved_behind_quiet, put_back_quiet, below_top_quiet, woken_quiet, without_ast_still, with_frame_sound}
+use Rattle.vx_record.proofs.Ground.{Still, made_keeps, at_set}
+use Rattle.vx_record.proofs.Changes.{idle_of, stands_at, quiet_still, moved_to_quiet, put_back_quiet, below_top_quiet, woken_quiet, without_ast_still, with_frame_sound}
 use Rattle.vx_record.proofs.SoundAsts.{tick_sound}
 use Rattle.vx_record.proofs.SoundProcs.{exited_still}
 use Rattle.vx_record.proofs.SoundBoxes.{some_found}
@@ -108,8 +105,8 @@ ticks_allowed s (t ∷ ts) = (tt, tt)
 enabled_allowed : (s : State) (e : Event) → Contains (enabled s) e → Allowed s e
 enabled_allowed s e c =
     let all =
-      all_append (Allowed s) (processes_from s 1 s.procs) (units_from s 0 s.units ++ tick_events s.timers) (processes_allowed s 1 s.procs (omega arith) refl)
-      (all_append (Allowed s) (units_from s 0 s.units) (tick_events s.timers) (units_allowed s 0 s.units) (ticks_allowed s s.timers)) in
+    all_append (Allowed s) (processes_from s 1 s.procs) (units_from s 0 s.units ++ tick_events s.timers) (processes_allowed s 1 s.procs (omega arith) refl)
+    (all_append (Allowed s) (units_from s 0 s.units) (tick_events s.timers) (units_allowed s 0 s.units) (ticks_allowed s s.timers)) in
     subst (Allowed s) c.2 (all_at (Allowed s) (enabled s) c.0 e all c.1)
 
 -- RUN.
@@ -259,8 +256,8 @@ born_stand s place (d ∷ ds) e =
     } in
     either (AllByRecursion (ProcessStands (ground s))) d.start (born_of place d ∷ born_from (place + 1) ds) (born_from (place + 1) ds) (here, rest) rest
 
-pub first_sound : (system : System) → IsWellFormed system → IsSound (first system)
-first_sound system w = record {
+pub first_sound : (system : System) → IsSound (first system)
+first_sound system = record {
   units = length-map system.units first_unit;
   procs = born_stand (first system) 0 system.decls (omega arith);
   associations = tt;
@@ -281,7 +278,7 @@ run_sound s (r ∷ rs) w h steps =
     run_sound t rs (subst IsWellFormed (sym (step_keeps_system s r.event)) w) (step_sound s r.event w h steps.0.enabled) steps.1
 
 pub every_run_sound : (system : System) (recs : List Rec) → IsWellFormed system → IsRun system recs → IsSound (after system recs)
-every_run_sound system recs w run = run_sound (first system) recs w (first_sound system w) run.steps
+every_run_sound system recs w run = run_sound (first system) recs w (first_sound system) run.steps
 
 pub run_keeps_system : (s : State) (recs : List Rec) → (after_from s recs).system ≡ s.system
 run_keeps_system s [] = refl

@@ -1,7 +1,6 @@
 -- Every event keeps the system.
-use Rattle.std.proofs.Common.{◌≡◌, ℕ, ◌^◌, ◌%◌, List, [], ◌∷◌, ◌++◌, Bool, true, false, cond, not, ◌==◌, ◌&&◌, ◌||◌, nat_lt, nat_le, length, Option, Some, None, Result, Ok, Err, is_some, position, is_none, option_map, refl, sym, ap, ◌∙◌}
+use Rattle.std.proofs.Common.{◌≡◌, ℕ, ◌^◌, ◌%◌, List, [], ◌∷◌, Bool, true, false, cond, not, ◌==◌, ◌&&◌, ◌||◌, nat_lt, nat_le, length, Option, Some, None, Result, Ok, Err, is_some, position, is_none, refl, ◌∙◌}
 use Rattle.std.specs.List.{filter, find, list_any}
-use Rattle.vx_base.specs.Clusters.{cluster_number}
 use Rattle.vx_base.specs.Modes.{outer}
 use Rattle.vx_base.specs.Pieces.{Queued, Channel, Handler, Request, Promised, Timer, Alarm, OfTimer, OfWake, Attention, Mailbox, Status, cleared}
 use Rattle.vx_base.specs.Queues.{front, in_service}
@@ -22,7 +21,6 @@ use Rattle.vx_base.specs.declared.frame.Wait.{Wait}
 use Rattle.vx_base.specs.declared.frame.Wait.TheVariants as wait
 use Rattle.vx_base.specs.declared.mode.Mode.{Mode}
 use Rattle.vx_base.specs.declared.number.BoxNo.{BoxNo}
-use Rattle.vx_base.specs.declared.number.Id.{Id}
 use Rattle.vx_base.specs.declared.number.Pid.{Pid}
 use Rattle.vx_base.specs.declared.number.UnitNo.{UnitNo}
 use Rattle.vx_base.specs.declared.record.Answer.{Answer}
@@ -41,22 +39,22 @@ use Rattle.vx_base.specs.declared.service.Service.TheVariants.{SetEf, ClrEf, Rea
 use Rattle.vx_image.specs.Local.{Advanced, advanced}
 use Rattle.vx_image.specs.declared.advance.Stop.{Stop}
 use Rattle.vx_image.specs.declared.advance.Stop.TheVariants as stop
-use Rattle.vx_record.specs.State.{Process, State, process_at, change, current, next_id, past_id, image_of, unit_at}
-use Rattle.vx_record.specs.Parts.{Part, Outcome, nothing, and_then, each, part_if, answered, refused, part_of}
+use Rattle.vx_record.specs.State.{State, process_at, change, current, image_of, unit_at}
+use Rattle.vx_record.specs.Parts.{Part, Outcome, nothing, each, part_if, refused, part_of}
 use Rattle.vx_record.specs.Charges.{exceeds, ast_need, timer_need, is_direct, is_attention}
-use Rattle.vx_record.specs.Flags.{cell, with_cell, flag_part, flag_where_named, at_named, at_flag, put_flag_at, setef, clref, refused_value, readef_at, readef, refused_wait, satisfied, awaited_at, awaited, waits_on, waitfr, wflor, wfland, is_common, wants_prmceb, ascefc, dacefc, dlcefc}
-use Rattle.vx_record.specs.Asts.{charged_ast, que_part, dclast, setast, is_inside, cmexec, cmkrnl, deliverable_ast}
-use Rattle.vx_record.specs.Finish.{Ending, ending, is_read, fin_part, buf_part, status_of, iosb_part, done_flag_part, done_ast_part, finish, finish_found, finish_id, this_request}
-use Rattle.vx_record.specs.Mailboxes.{mailbox_at, is_waiting_func, waits_at, this_message, mput_part, mget_part, mcut_part, message_of, read_ending, write_ending, received, write_done, is_attention_at, fire_attention, call_attention, store_message, hand_over, write_box, wait_for_message, take_message, read_box, is_answered_now, attend}
+use Rattle.vx_record.specs.Flags.{cell, with_cell, flag_part, flag_where_named, at_named, at_flag, put_flag_at, refused_value, readef_at, readef, refused_wait, satisfied, awaited_at, awaited, waits_on, is_common, wants_prmceb}
+use Rattle.vx_record.specs.Asts.{is_inside, deliverable_ast}
+use Rattle.vx_record.specs.Finish.{Ending, ending, is_read, fin_part, buf_part, status_of, iosb_part, done_flag_part, done_ast_part, finish, finish_found, this_request}
+use Rattle.vx_record.specs.Mailboxes.{mailbox_at, is_waiting_func, waits_at, this_message, mput_part, mget_part, mcut_part, message_of, read_ending, write_ending, received, write_done, is_attention_at, fire_attention, call_attention, store_message, hand_over, write_box, take_message, read_box, is_answered_now, attend}
 use Rattle.vx_record.specs.Channels.{channel_test, at_channel, unit_named, box_named, device_named, with_channel, free_channel_of, assign_at, assign_to, assign, is_bad_box, new_box, make_box, make_box_in, create_box, find_or_create, crembx, marked_box, delete_box, delmbx_on, delmbx_at, delmbx, is_assigned, goes_unused, box_gone, swept_device, swept_box, free_channel}
 use Rattle.vx_record.specs.Channels as channels
-use Rattle.vx_record.specs.Cancel.{mark_part, withdraw_from, withdraw, cancelled_request, cancel_request, is_request_on, is_attention_on, drop_attention, drop_attentions, cancel_channel, cancel_at, cancel, dassgn_at, dassgn}
-use Rattle.vx_record.specs.Requests.{Asked, request_test, is_bad, cleared_part, new_request, opened_request, begun_on, transfer, new_attention, attention_opened, done_at_once, attention_set, attention_on, asked_of, accepted, qio_tested, qio, qiow_tested, qiow, synch, unit_ending, with_unit, done}
+use Rattle.vx_record.specs.Cancel.{mark_part, withdraw, cancelled_request, cancel_request, is_request_on, is_attention_on, drop_attention, cancel_channel, cancel_at, dassgn_at}
+use Rattle.vx_record.specs.Requests.{Asked, request_test, new_request, opened_request, begun_on, transfer, new_attention, attention_opened, done_at_once, attention_on, asked_of, accepted, qio_tested, qiow_tested, unit_ending, with_unit}
 use Rattle.vx_record.specs.Control.{process_test, at_process, changed_process, with_wake, with_suspension, hiber, wake, suspnd, resume, forced, forcex, creprc}
 use Rattle.vx_record.specs.Control as control
-use Rattle.vx_record.specs.Timers.{drop_timer, drop_timers, setimr_at, setimr, timer_set, cantim, is_cancelled_timer, scheduled, schdwk, is_wake_for, unscheduled, canwak, que_timer, fire_timer, after_wake, fired, fire, is_due, at_time, next_time, tick}
-use Rattle.vx_record.specs.Rundown.{leave_kind, leave_frame, leave_all, exited, without_frames, exit, is_kernel, dclexh, is_handler_of, is_handler_with, drop_handler, drop_handlers, any_handler, cancel_found, cancel_handlers, canexh, named_for_deletion, deleted_by, delprc, cancel_one, free_one, is_timer_in, is_wake_by, cancel_modes, drop_ast, is_ast_reached, drop_asts, part_with, release, entered, drop_all_handlers, gone_part, gone, is_busy, drain, draining, cancelled_in, run_handlers, handling, run_down, inner_modes, rundown_from, rundown, without_ast}
-use Rattle.vx_record.specs.Services.{number, place, access_mode, text, routine, routine_or_none, decl_place, asked, valued, valued_at, numbered_at, service_of, service}
+use Rattle.vx_record.specs.Timers.{drop_timer, drop_timers, setimr_at, setimr, is_cancelled_timer, scheduled, is_wake_for, unscheduled, que_timer, fire_timer, fired, fire, is_due, at_time, next_time, tick}
+use Rattle.vx_record.specs.Rundown.{leave_kind, leave_frame, leave_all, exited, without_frames, is_kernel, is_handler_of, is_handler_with, drop_handler, drop_handlers, any_handler, cancel_found, cancel_handlers, named_for_deletion, deleted_by, cancel_one, free_one, is_timer_in, is_wake_by, cancel_modes, drop_ast, is_ast_reached, release, drop_all_handlers, is_busy, drain, cancelled_in, run_handlers, handling, run_down, inner_modes, rundown_from, without_ast}
+use Rattle.vx_record.specs.Services.{number, place, access_mode, text, routine_or_none, decl_place, asked, valued_at, numbered_at, service_of, service}
 use Rattle.vx_record.specs.Events.{r0_of, returned_from, returned, served_call, moved_behind, moved_to, run_on, run_advanced, reader, run_frame, run, started, delivered, beg, don, step}
 use Rattle.vx_record.specs.declared.served.Served.{Served}
 use Rattle.vx_record.specs.declared.served.Served.TheVariants.{Answered, Waits}

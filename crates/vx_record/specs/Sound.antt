@@ -1,11 +1,11 @@
 -- References stand: what the state names is there, and what services tested of it still holds. Services and events rely on
 -- it, and keep it.
-use Rattle.std.specs.Prelude.{◌≡◌, ℕ, ◌+◌, ◌-◌, ◌<◌, ◌≤◌, List, [], ◌∷◌, Bool, true, false, IsTrue, IfSome, not, Option, Some, None, length, is_some, slice_index_or, ⊤}
+use Rattle.std.specs.Prelude.{◌≡◌, ℕ, ◌+◌, ◌-◌, ◌<◌, ◌≤◌, List, [], ◌∷◌, Bool, false, IsTrue, IfSome, Option, Some, None, length, is_some, slice_index_or, ⊤}
 use Rattle.std.specs.List.{AllByRecursion, list_all}
 use Rattle.vx_base.specs.Channels.{is_channel_number, channel_at}
 use Rattle.vx_base.specs.Clusters.{Common, stands}
 use Rattle.vx_base.specs.Modes.{reaches}
-use Rattle.vx_base.specs.Pieces.{Queued, Channel, Handler, Request, Promised, Timer, Alarm, OfTimer, OfWake, Attention, Association, Mailbox}
+use Rattle.vx_base.specs.Pieces.{Channel, Request, Timer, Alarm, OfTimer, OfWake, Attention, Association, Mailbox}
 use Rattle.vx_base.specs.Services.{is_call, args_list}
 use Rattle.vx_base.specs.declared.call.Call.{Call}
 use Rattle.vx_base.specs.declared.frame.Frame.{Frame}
