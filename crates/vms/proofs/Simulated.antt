@@ -4,7 +4,7 @@ use Rattle.std.proofs.lemmas.Grind.{flat_map-append}
 use Rattle.vx_base.specs.declared.record.End.{End}
 use Rattle.vx_base.specs.declared.record.End.TheVariants.{Done}
 use Rattle.vx_base.specs.declared.record.Rec.{Rec}
-use Rattle.vx_base.specs.declared.system.System.{System}
+use Rattle.vx_image.specs.declared.system.System.{System}
 use Rattle.vx_script.specs.Form.{ended_lines}
 use Rattle.vx_script.specs.Script.{script}
 use Rattle.vx_exec.specs.Model.{first, after, enabled, are_deleted, end_of, HasOneRun}
@@ -22,9 +22,11 @@ abbrev opened : System → Executive
 opened system = record { state = first system; limit = 10000; taken = 0 }
 
 -- what an executive of the system took up to an end is simulated, and its text is the script, the records and the trailer
-pub is_simulated : (system : System) (closed : Executive) (recs : List Rec) (e : End) (text : List ℕ) → HasOneRun (first system) → TakesRun (opened system) closed recs → end_of closed.limit closed.taken closed.state ≡ Some e → text ≡ ((script system ++ codes "$JOURNAL 1\n") ++ ended_lines (records_lines 1 recs)) ++ ended_lines (trailer_lines closed.state e closed.taken) → IsSimulated system text
+pub is_simulated : (system : System) (closed : Executive) (recs : List Rec) (e : End) (text : List ℕ) → HasOneRun (first system) → TakesRun (opened system) closed recs → end_of closed.limit closed.taken closed.state ≡ Some e → text ≡ ((script system ++ codes "$JOURNAL 1\n") ++ ended_lines (records_lines closed.state.system.units 1 recs)) ++ ended_lines (trailer_lines closed.state e closed.taken) → IsSimulated system text
 is_simulated system closed recs e text one takes ended spells =
     let limit : closed.limit ≡ 10000 = ap (λ (p : Plan). p.limit) takes.planned in
+    let units : closed.state.system.units ≡ system.units = ap (λ (p : Plan). p.system.units) takes.planned in
+    let own : text ≡ ((script system ++ codes "$JOURNAL 1\n") ++ ended_lines (records_lines system.units 1 recs)) ++ ended_lines (trailer_lines closed.state e closed.taken) = rw units at spells in
     let count : closed.taken ≡ length recs = omega (arith, takes.counted) in
     let ended_there : end_of 10000 (length recs) (after (first system) recs) ≡ Some e = rw (limit, count, takes.now) at ended in
     let few : length recs < 10000 = omega (arith, one.few recs takes.run) in
@@ -34,5 +36,5 @@ is_simulated system closed recs e text one takes ended spells =
       run = takes.run;
       done = rw is_done at ended_there;
       one_run = one;
-      spells = spells ∙ rw (takes.now, count, is_done) (printed (script system) (records_lines 1 recs) (trailer_lines (after (first system) recs) Done (length recs)));
+      spells = own ∙ rw (takes.now, count, is_done) (printed (script system) (records_lines system.units 1 recs) (trailer_lines (after (first system) recs) Done (length recs)));
     }

@@ -1,6 +1,6 @@
 -- Two worked examples: a script that sets, reads and clears a flag and exits, and one whose flags are refused.
 use Rattle.std.specs.Prelude.{◌≡◌, ℕ, List, [], ◌∷◌, codes, true, false}
-use Rattle.vx_base.specs.declared.call.TheConstants.{SETEF, CLREF, READEF, EXIT}
+use Rattle.vx_base.specs.declared.service.Service.TheVariants.{SetEf, ClrEf, ReadEf, Exit}
 use Rattle.vx_base.specs.declared.call.Arg.TheVariants.{Value, Target, Unused}
 use Rattle.vx_base.specs.declared.call.Call.{Call}
 use Rattle.vx_base.specs.declared.call.Operand.TheVariants.{Num}
@@ -36,10 +36,10 @@ called call cond effects = record { event = Run first_pid; answer = Service call
 
 abbrev pub flag_records : List Rec
 flag_records =
-    called (calling SETEF (Value (Num 5)) Unused) WasClr (effect.Flag (Local first_pid 5) true ∷ [])
-    ∷ called (calling READEF (Value (Num 5)) (Target (Var 65))) WasSet (effect.Var first_pid (Var 65) 32 ∷ [])
-    ∷ called (calling CLREF (Value (Num 5)) Unused) WasSet (effect.Flag (Local first_pid 5) false ∷ [])
-    ∷ called (calling EXIT (Value (Num 1)) Unused) Normal []
+    called (calling SetEf (Value (Num 5)) Unused) WasClr (effect.Flag (Local first_pid 5) true ∷ [])
+    ∷ called (calling ReadEf (Value (Num 5)) (Target (Var 65))) WasSet (effect.Var first_pid (Var 65) 32 ∷ [])
+    ∷ called (calling ClrEf (Value (Num 5)) Unused) WasSet (effect.Flag (Local first_pid 5) false ∷ [])
+    ∷ called (calling Exit (Value (Num 1)) Unused) Normal []
     ∷ record { event = Rdn first_pid; answer = Gone; effects = effect.Gone first_pid ∷ [] }
     ∷ []
 
@@ -63,7 +63,7 @@ refused_script = codes "IMAGE MAIN\n$SETEF 31\n$SETEF 63\n$SETEF 64\n$SETEF 127\
 
 -- process 1 sets a flag
 abbrev pub sets : ℕ → Cond → List Effect → Rec
-sets n cond effects = called (calling SETEF (Value (Num n)) Unused) cond effects
+sets n cond effects = called (calling SetEf (Value (Num n)) Unused) cond effects
 
 abbrev pub refused_records : List Rec
 refused_records =

@@ -1,5 +1,6 @@
 pub mod Code
 pub mod Example
+pub mod Quote
 pub mod Simulated
 pub mod Taken
 pub mod Top

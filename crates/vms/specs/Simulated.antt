@@ -1,7 +1,7 @@
 -- What the simulation of an input that was read writes.
 use Rattle.std.specs.Prelude.{ℕ, List, Option}
 use Rattle.std.specs.Io.KnownBytes.{Appends}
-use Rattle.vx_base.specs.declared.system.System.{System}
+use Rattle.vx_image.specs.declared.system.System.{System}
 use Rattle.vx_host.specs.Streams.{AppendsFront}
 use Rattle.vx_script.specs.Form.{Reads, RefusesAll}
 use Rattle.vx_script.specs.declared.fault.ScriptFault.{ScriptFault}

@@ -3,7 +3,7 @@ use Rattle.std.specs.Prelude.{◌≡◌, ℕ, List, [], ◌∷◌, ◌++◌, len
 use Rattle.std.specs.Io.KnownBytes.{Appends, Keeps}
 use Rattle.vx_base.specs.declared.record.End.TheVariants.{Done}
 use Rattle.vx_base.specs.declared.record.Rec.{Rec}
-use Rattle.vx_base.specs.declared.system.System.{System}
+use Rattle.vx_image.specs.declared.system.System.{System}
 use Rattle.vx_host.specs.Causes.{Rose}
 use Rattle.vx_host.specs.Streams.{TakesAll, Takes, TakesAtMost, AppendsFront}
 use Rattle.vx_script.specs.Form.{Reads, RefusesAll}

@@ -8,8 +8,10 @@ ghost use Rattle.std.specs.Prelude.{◌≡◌, IfOk, map, string_bytes};
 
 mod call;
 mod command;
+mod effect;
 mod example;
 mod print;
+mod quote;
 mod run;
 mod simulate;
 mod status;

@@ -2,80 +2,59 @@
 //!
 //! Each function appends its text; where memory is wanting it may have appended a front of it.
 
-ghost use Rattle.std.specs.Prelude.{◌≡◌, ◌++◌, ◌∷◌, [], map, decimal, OnOk};
+ghost use Rattle.std.specs.Prelude.{◌≡◌, ◌++◌, ◌∷◌, [], decimal, OnOk};
 ghost use Rattle.vx_script.specs.Form.{ended_lines};
 ghost use Rattle.vx_exec.specs.Model.{IsProcess, process_at};
-ghost use Rattle.vms.specs.Transcript.{cell_text, effect_line, event_text, answer_text, record_lines, records_lines, standing_word, standing_line, process_line, process_lines, end_word, end_line, trailer_lines};
+ghost use Rattle.vms.specs.Transcript.{unit_name, event_text, answer_text, record_lines, records_lines, standing_word, standing_line, process_line, process_lines, end_word, end_line, trailer_lines};
 
+use crate::effect::{print_effects, print_id, print_spaced, print_spaced_num};
 use std::alloc::Global;
-use vx_base::{Answer, Bytes, Cell, Effect, End, Event, Name, NoMemory, Pid, Rec};
+use vx_base::{Answer, Bytes, End, Event, Name, NoMemory, Pid, Rec, UnitNo};
 use vx_exec::{Exec, Standing};
-use vx_script::{print_call, print_num, print_target};
+use vx_image::UnitDecl;
+use vx_script::{print_call, print_num};
 
-/// Appends a text behind a space.
-fn print_spaced(text: &[u8], out: &mut Bytes) -> Result<(), NoMemory>
-    ensures { OnOk result (out.new ≡ out.old ++ 32 ∷ text.now) }
+/// The name of a unit, empty where there is none.
+fn unit_name(units: &[UnitDecl], u: UnitNo) -> &[u8]
+    ensures { result.now ≡ unit_name units.now u }
 {
-    out.push_all(b" ")?;
-    out.push_all(text)
-}
-
-/// Appends a number behind a space.
-fn print_spaced_num(alloc: Global, n: u32, out: &mut Bytes) -> Result<(), NoMemory>
-    ensures { OnOk result (out.new ≡ out.old ++ 32 ∷ decimal n) }
-{
-    out.push_all(b" ")?;
-    print_num(alloc, u64::from(n), out)
-}
-
-fn print_cell(alloc: Global, cell: Cell, out: &mut Bytes) -> Result<(), NoMemory>
-    ensures { OnOk result (out.new ≡ out.old ++ cell_text cell) }
-{
-    match cell {
-        Cell::Local(p, efn) => {
-            print_num(alloc, u64::from(p.0), out)?;
-            out.push_all(b":")?;
-            print_num(alloc, u64::from(efn), out)
-        }
+    match units.get(u.0 as usize) {
+        Some(unit) => unit.name.text(),
+        None => &[],
     }
 }
 
-fn print_effect(alloc: Global, effect: &Effect, out: &mut Bytes) -> Result<(), NoMemory>
-    ensures { OnOk result (out.new ≡ out.old ++ (effect_line effect.now ++ 10 ∷ [])) }
-{
-    match effect {
-        Effect::Flag { cell, bit } => {
-            out.push_all(b" FLAG ")?;
-            print_cell(alloc, *cell, out)?;
-            print_spaced_num(alloc, u32::from(*bit), out)?;
-        }
-        Effect::Var { p, v, n } => {
-            out.push_all(b" VAR")?;
-            print_spaced_num(alloc, p.0, out)?;
-            out.push_all(b" ")?;
-            print_target(*v, out)?;
-            print_spaced_num(alloc, *n, out)?;
-        }
-        Effect::Gone(p) => {
-            out.push_all(b" GONE")?;
-            print_spaced_num(alloc, p.0, out)?;
-        }
-    }
-    out.push_all(b"\n")
-}
-
-fn print_event(alloc: Global, event: Event, out: &mut Bytes) -> Result<(), NoMemory>
-    ensures { OnOk result (out.new ≡ out.old ++ event_text event) }
+/// Appends an event; a unit's by its name.
+fn print_event(
+    alloc: Global,
+    units: &[UnitDecl],
+    event: Event,
+    out: &mut Bytes,
+) -> Result<(), NoMemory>
+    ensures { OnOk result (out.new ≡ out.old ++ event_text units.now event) }
 {
     match event {
         Event::Run(p) => {
             out.push_all(b"RUN")?;
             print_spaced_num(alloc, p.0, out)
         }
+        Event::Ast(p) => {
+            out.push_all(b"AST")?;
+            print_spaced_num(alloc, p.0, out)
+        }
         Event::Rdn(p) => {
             out.push_all(b"RDN")?;
             print_spaced_num(alloc, p.0, out)
         }
+        Event::Beg(u) => {
+            out.push_all(b"BEG")?;
+            print_spaced(unit_name(units, u), out)
+        }
+        Event::Don(u) => {
+            out.push_all(b"DON")?;
+            print_spaced(unit_name(units, u), out)
+        }
+        Event::Tick => out.push_all(b"TICK"),
     }
 }
 
@@ -87,39 +66,55 @@ fn print_answer(alloc: Global, answer: &Answer, out: &mut Bytes) -> Result<(), N
             print_call(alloc, call, out)?;
             print_spaced(cond.name().as_bytes(), out)
         }
+        Answer::Wait(call) => {
+            print_call(alloc, call, out)?;
+            out.push_all(b" WAIT")
+        }
+        Answer::Resume(cond) => {
+            out.push_all(b"RESUME")?;
+            print_spaced(cond.name().as_bytes(), out)
+        }
+        Answer::Return => out.push_all(b"RETURN"),
         Answer::End => out.push_all(b"END"),
+        Answer::Local => out.push_all(b"LOCAL"),
+        Answer::Handler => out.push_all(b"HANDLER"),
+        Answer::Busy => out.push_all(b"BUSY"),
         Answer::Gone => out.push_all(b"GONE"),
+        Answer::Ast(id) | Answer::Unit(id) => print_id(alloc, *id, out),
+        Answer::Time(ticks) => print_num(alloc, *ticks, out),
     }
-}
-
-fn print_effects(alloc: Global, effects: &[Effect], out: &mut Bytes) -> Result<(), NoMemory>
-    ensures { OnOk result (out.new ≡ out.old ++ ended_lines (map effect_line effects.now)) }
-{
-    for effect in effects {
-        print_effect(alloc, effect, out)?;
-    }
-    Ok(())
 }
 
 /// Appends record n: its head, and its effects.
-fn print_record(alloc: Global, n: u64, rec: &Rec, out: &mut Bytes) -> Result<(), NoMemory>
-    ensures { OnOk result (out.new ≡ out.old ++ ended_lines (record_lines n rec.now)) }
+fn print_record(
+    alloc: Global,
+    units: &[UnitDecl],
+    n: u64,
+    rec: &Rec,
+    out: &mut Bytes,
+) -> Result<(), NoMemory>
+    ensures { OnOk result (out.new ≡ out.old ++ ended_lines (record_lines units.now n rec.now)) }
 {
     print_num(alloc, n, out)?;
     out.push_all(b" ")?;
-    print_event(alloc, rec.event, out)?;
+    print_event(alloc, units, rec.event, out)?;
     out.push_all(b" ")?;
     print_answer(alloc, &rec.answer, out)?;
     out.push_all(b"\n")?;
     print_effects(alloc, rec.effects.as_slice(), out)
 }
 
-/// Appends records, numbered from 1.
-pub fn print_records(alloc: Global, recs: &[Rec], out: &mut Bytes) -> Result<(), NoMemory>
-    ensures { OnOk result (out.new ≡ out.old ++ ended_lines (records_lines 1 recs.now)) }
+/// Appends records, numbered from 1; units by the names of these.
+pub fn print_records(
+    alloc: Global,
+    units: &[UnitDecl],
+    recs: &[Rec],
+    out: &mut Bytes,
+) -> Result<(), NoMemory>
+    ensures { OnOk result (out.new ≡ out.old ++ ended_lines (records_lines units.now 1 recs.now)) }
 {
     for (i, rec) in recs.iter().enumerate() {
-        print_record(alloc, i as u64 + 1, rec, out)?;
+        print_record(alloc, units, i as u64 + 1, rec, out)?;
     }
     Ok(())
 }

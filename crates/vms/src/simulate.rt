@@ -1,14 +1,15 @@
 //! Simulates a system: from what a script says to the transcript of its run.
 
 ghost use Rattle.std.specs.Prelude.{IfOk, IsTrue};
-ghost use Rattle.vx_base.specs.Built.{is_built};
+ghost use Rattle.vx_image.specs.Built.{is_built};
 ghost use Rattle.vms.specs.Top.{IsSimulated};
 
 use crate::print::{print_records, print_trailer};
 use crate::run::take_run;
 use std::alloc::Global;
-use vx_base::{Bytes, NoMemory, System};
+use vx_base::{Bytes, NoMemory};
 use vx_exec::Exec;
+use vx_image::System;
 use vx_script::print_script;
 
 /// How many records a run may have where the words name no limit.
@@ -23,7 +24,8 @@ pub fn transcript(alloc: Global, system: System) -> Result<Bytes, NoMemory>
     let mut exec = Exec::new(alloc, system, LIMIT)?;
     let (recs, end) = take_run(alloc, &mut exec)?;
     text.push_all(b"$JOURNAL 1\n")?;
-    print_records(alloc, recs.as_slice(), &mut text)?;
+    let units = exec.system().units.as_slice();
+    print_records(alloc, units, recs.as_slice(), &mut text)?;
     print_trailer(alloc, &exec, end, &mut text)?;
     Ok(text)
 }

@@ -1,7 +1,13 @@
 use super::*;
+use crate::effect::print_effects;
 use crate::example::{flag_example, refused_example};
+use crate::print::print_records;
 use std::test::*;
+use vx_base::{
+    Answer, Body, Cell, Effect, EffectList, Event, Id, Mode, Name, Opened, Pid, Rec, UnitNo,
+};
 use vx_host::{MemSink, MemSource};
+use vx_image::{Lines, Numbers, UnitDecl};
 
 const FLAG_SCRIPT: &[u8] = b"IMAGE MAIN
 $SETEF 5
@@ -225,4 +231,73 @@ fn codes(rt: HostRuntime) {
     ] {
         assert_eq!(rt; status.code(), code);
     }
+}
+
+#[test]
+fn effects_of_later_services(rt: HostRuntime) -> Result<(), Fail> {
+    let name = Name::new(b"BOX").ok_or("a name")?;
+    let bytes = Bytes::from_vec(Vec::from_array(rt.alloc(), [0, b'"', b'A'])?);
+    let effects = [
+        Effect::Open {
+            id: Id(1),
+            kind: Opened::Attn,
+            p: Pid(1),
+            mode: Some(Mode::User),
+            n: 0,
+        },
+        Effect::Iosb {
+            p: Pid(1),
+            i: 1,
+            cond: None,
+            count: 0,
+            info: 0,
+        },
+        Effect::MPut {
+            name,
+            id: Id(2),
+            body: Body::Text(bytes),
+        },
+        Effect::Flag {
+            cell: Cell::Common(1, name, 31),
+            bit: true,
+        },
+        Effect::Clu {
+            p: Pid(1),
+            k: 2,
+            cluster: None,
+        },
+    ];
+    let mut text = Bytes::new(rt.alloc());
+    print_effects(rt.alloc(), &effects, &mut text)
+        .ok()
+        .ok_or("memory")?;
+    let expected = b" OPEN #1 ATTN 1 USER 0
+ IOSB 1 1 - 0 0
+ MPUT BOX #2 \"\\00\\22A\"
+ FLAG 1:BOX:31 1
+ CLU 1 2 -
+";
+    assert!(rt; text.as_slice() == expected.as_slice());
+    Ok(())
+}
+
+#[test]
+fn a_unit_by_its_name(rt: HostRuntime) -> Result<(), Fail> {
+    let unit = UnitDecl {
+        name: Name::new(b"TT").ok_or("a name")?,
+        blocks: 0,
+        inputs: Lines::new(rt.alloc()),
+        faults: Numbers::new(rt.alloc()),
+    };
+    let rec = Rec {
+        event: Event::Beg(UnitNo(0)),
+        answer: Answer::Unit(Id(1)),
+        effects: EffectList::new(rt.alloc()),
+    };
+    let mut text = Bytes::new(rt.alloc());
+    print_records(rt.alloc(), &[unit], &[rec], &mut text)
+        .ok()
+        .ok_or("memory")?;
+    assert!(rt; text.as_slice() == b"1 BEG TT #1\n".as_slice());
+    Ok(())
 }

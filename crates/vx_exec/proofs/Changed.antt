@@ -3,7 +3,7 @@ use Rattle.std.proofs.Common.{◌≡◌, ◌-◌, ◌<◌, length, List, map, sl
 use Rattle.std.proofs.lemmas.List.{map-set, get_or-map, length-map}
 use Rattle.std.specs.Vec.{with_item}
 use Rattle.vx_base.specs.declared.number.Pid.{Pid}
-use Rattle.vx_base.specs.State.{Process}
+use Rattle.vx_exec.specs.State.{Process}
 use Rattle.vx_exec.specs.Model.{IsProcess, process_at, change, nobody}
 use Rattle.vx_exec.specs.Procs.{process, state}
 use Rattle.vx_exec.specs.declared.process.Proc.{Proc}

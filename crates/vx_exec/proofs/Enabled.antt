@@ -2,10 +2,10 @@
 use Rattle.std.proofs.Common.{◌≡◌, ℕ, zero, suc, ◌+◌, ◌-◌, ◌<◌, List, [], ◌∷◌, length, slice_index_or, Contains, Bool, true, false, cond, Some, None, inl, inr, nat_le, refl, add-zero, arith}
 use Rattle.std.proofs.lemmas.Bool.{leb-false}
 use Rattle.std.proofs.lemmas.List.Elements.{Contains-append_cases}
-use Rattle.vx_base.specs.State.{Process, State}
+use Rattle.vx_exec.specs.State.{Process, State}
 use Rattle.vx_base.specs.declared.frame.Frame.{Frame}
 use Rattle.vx_base.specs.declared.frame.Phase.{Phase}
-use Rattle.vx_base.specs.declared.frame.Phase.TheVariants.{Alive, Handlers, Deleted}
+use Rattle.vx_base.specs.declared.frame.Phase.TheVariants.{Alive, Handlers, Draining, Deleted}
 use Rattle.vx_base.specs.declared.record.End.TheVariants.{Limit}
 use Rattle.vx_base.specs.declared.record.Event.{Event}
 use Rattle.vx_exec.specs.Model.{IsProcess, process_at, nobody, event_without_frame, event_of, events_from, enabled, end_with}
@@ -25,6 +25,7 @@ contains_none e (k, below, is) = absurd (omega arith)
 number_without_frame : (n : ℕ) (phase : Phase) (e : Event) → Contains (event_without_frame n phase) e → (process_of e).0 ≡ n
 number_without_frame n Alive e there = rw (← contains_one _ e there) refl
 number_without_frame n (Handlers m) e there = rw (← contains_one _ e there) refl
+number_without_frame n (Draining m) e there = rw (← contains_one _ e there) refl
 number_without_frame n Deleted e there = contains_none e there
 
 number_of_event : (n : ℕ) (phase : Phase) (frames : List Frame) (e : Event) → Contains (event_of n phase frames) e → (process_of e).0 ≡ n

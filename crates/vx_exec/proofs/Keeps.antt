@@ -1,21 +1,23 @@
 -- Every event keeps the system, and the processes by their declarations.
-use Rattle.std.proofs.Common.{◌≡◌, ℕ, ◌-◌, length, Bool, true, false, cond, Option, Some, None, slice_set, nat_lt, ◌==◌, refl, ap, ◌∙◌, arith}
+use Rattle.std.proofs.Common.{◌≡◌, ℕ, ◌-◌, length, Bool, true, false, cond, Option, Some, None, slice_set, nat_lt, refl, ap, ◌∙◌, arith}
 use Rattle.std.proofs.Math.Seq.{map-set_same}
 use Rattle.std.proofs.lemmas.List.{length-map}
-use Rattle.vx_base.specs.State.{Process, State}
+use Rattle.vx_exec.specs.State.{Process, State}
+use Rattle.vx_base.specs.declared.call.Args.{Args}
 use Rattle.vx_base.specs.declared.call.Call.{Call}
-use Rattle.vx_base.specs.declared.call.TheConstants.{SETEF, CLREF, READEF, EXIT}
+use Rattle.vx_base.specs.declared.service.Service.{Service}
+use Rattle.vx_base.specs.declared.service.Service.TheVariants.{SetEf, ClrEf, ReadEf, Exit}
 use Rattle.vx_base.specs.declared.call.Target.{Target}
 use Rattle.vx_base.specs.declared.call.Target.TheVariants.{R0}
 use Rattle.vx_base.specs.declared.cond.Cond.{Cond}
 use Rattle.vx_base.specs.declared.number.Pid.{Pid}
 use Rattle.vx_base.specs.declared.record.Event.{Event}
-use Rattle.vx_base.specs.declared.record.Event.TheVariants.{Run, Rdn}
-use Rattle.vx_base.specs.declared.spot.Spot.{Spot}
-use Rattle.vx_base.specs.declared.spot.Spot.TheVariants.{Low, High}
-use Rattle.vx_base.specs.declared.system.Stmt.{Stmt}
-use Rattle.vx_base.specs.declared.system.Stmt.TheVariants.{Service}
-use Rattle.vx_exec.specs.Model.{Outcome, IsProcess, process_at, nobody, with_flag, stored, exited, spot, put_flag_at, put_flag, read_flags_at, read_flags, value, target, service, next_stmt, past_stmt, run_at, step}
+use Rattle.vx_base.specs.declared.record.Event.TheVariants.{Run, Ast, Rdn, Beg, Don, Tick}
+use Rattle.vx_exec.specs.declared.spot.Spot.{Spot}
+use Rattle.vx_exec.specs.declared.spot.Spot.TheVariants.{Low, High}
+use Rattle.vx_image.specs.declared.stop.Stop.{Stop}
+use Rattle.vx_image.specs.declared.stop.Stop.TheVariants as stop
+use Rattle.vx_exec.specs.Model.{Outcome, IsProcess, process_at, nobody, with_flag, stored, exited, spot, put_flag_at, put_flag, read_flags_at, read_flags, value, target, serve, service, next_stop, past_stmt, run_at, step}
 use Rattle.vx_exec.specs.Sound.{Keeps, IsSound}
 
 pub keeps_all : (s : State) → Keeps s s
@@ -60,30 +62,41 @@ read_flags_at_keeps s p t (Some at) = stored_keeps s p t _
 read_flags_keeps : (s : State) (p : Pid) (efn : ℕ) (t : Target) → Keeps s (read_flags s p efn t).after
 read_flags_keeps s p efn t = either (λ (o : Outcome Cond). Keeps s o.after) (nat_lt 127 efn) _ _ (keeps_all s) (read_flags_at_keeps s p t (spot efn))
 
-service_keeps : (s : State) (p : Pid) (c : Call) → Keeps s (service s p c).after
-service_keeps s p c =
-    let P = λ (o : Outcome Cond). Keeps s o.after in
-    either P (c.service == SETEF) _ _ (put_flag_keeps s p (value c.args.a0) true)
-    (either P (c.service == CLREF) _ _ (put_flag_keeps s p (value c.args.a0) false)
-    (either P (c.service == READEF) _ _ (read_flags_keeps s p (value c.args.a0) (target c.args.a1))
-    (either P (c.service == EXIT) _ _ (exited_keeps s p (value c.args.a0)) (keeps_all s))))
+serve_keeps : (s : State) (p : Pid) (name : Service) (args : Args) → Keeps s (serve s p name args).after
+serve_keeps s p SetEf args = put_flag_keeps s p (value args.a0) true
+serve_keeps s p ClrEf args = put_flag_keeps s p (value args.a0) false
+serve_keeps s p ReadEf args = read_flags_keeps s p (value args.a0) (target args.a1)
+serve_keeps s p Exit args = exited_keeps s p (value args.a0)
+serve_keeps s p _ args = keeps_all s
 
-run_keeps : (s : State) (p : Pid) (stmt : Option Stmt) → Keeps s (run_at s p stmt).after
-run_keeps s p None = exited_keeps s p _
-run_keeps s p (Some (Service c)) =
+service_keeps : (s : State) (p : Pid) (c : Call) → Keeps s (service s p c).after
+service_keeps s p c = serve_keeps s p c.service c.args
+
+run_keeps : (s : State) (p : Pid) (at : Stop) → Keeps s (run_at s p at).after
+run_keeps s p (stop.Call c) =
     keeps_more s (past_stmt s p) _ (past_stmt_keeps s p)
     (keeps_more (past_stmt s p) _ _ (service_keeps (past_stmt s p) p c) (stored_keeps (service (past_stmt s p) p c).after p R0 _))
+run_keeps s p stop.Return = exited_keeps s p _
+run_keeps s p stop.End = exited_keeps s p _
+run_keeps s p stop.Local = past_stmt_keeps s p
 
 pub step_keeps : (s : State) (e : Event) → Keeps s (step s e).after
-step_keeps s (Run p) = run_keeps s p (next_stmt s p)
+step_keeps s (Run p) = run_keeps s p (next_stop s p)
+step_keeps s (Ast p) = keeps_all s
 step_keeps s (Rdn p) = keeps_put s p _ refl
+step_keeps s (Beg u) = keeps_all s
+step_keeps s (Don u) = keeps_all s
+step_keeps s Tick = keeps_all s
 
 pub same_length : (s t : State) → Keeps s t → length t.procs ≡ length s.procs
 same_length s t k = omega (arith, length-map s.procs (λ (pr : Process). pr.decl), length-map t.procs (λ (pr : Process). pr.decl), ap length k.decls)
 
--- a service leaves a process a process
-pub service_made : (s : State) (p : Pid) (c : Call) → IsProcess s p → IsProcess (service s p c).after p
-service_made s p c made = let same = same_length s _ (service_keeps s p c) in record { above = made.above; within = rw same made.within }
+-- a call that is served leaves a process a process
+pub served_made : (s moved served : State) (p : Pid) (c : Call) → moved ≡ past_stmt s p → served ≡ (service moved p c).after → IsProcess s p → IsProcess served p
+served_made s moved served p c is_moved is_served made =
+    let kept = keeps_more s (past_stmt s p) _ (past_stmt_keeps s p) (service_keeps (past_stmt s p) p c) in
+    let after : IsProcess (service (past_stmt s p) p c).after p = record { above = made.above; within = rw (same_length s _ kept) made.within } in
+    rw (is_served, is_moved) after
 
 -- and what is kept is sound
 pub sound_after : (s t : State) → Keeps s t → IsSound s → IsSound t

@@ -2,17 +2,17 @@
 use Rattle.std.proofs.Common.{◌≡◌, ℕ, ◌+◌, ◌≤◌, List, [], ◌∷◌, ◌==◌, length, Contains, true, IsTrue, refl, sym, ap, ◌∙◌, subst, arith, length-append}
 use Rattle.std.specs.List.{list_all}
 use Rattle.std.proofs.lemmas.Bool.{and_parts}
-use Rattle.vx_base.specs.Built.{is_built, are_built_decls}
-use Rattle.vx_base.specs.State.{Process, State}
+use Rattle.vx_image.specs.Built.{is_built, are_built_decls}
+use Rattle.vx_exec.specs.State.{Process, State}
 use Rattle.vx_base.specs.declared.effects.Effect.{Effect}
 use Rattle.vx_base.specs.declared.frame.Frame.{Frame}
 use Rattle.vx_base.specs.declared.frame.Phase.{Phase}
-use Rattle.vx_base.specs.declared.frame.Phase.TheVariants.{Alive, Handlers, Deleted}
+use Rattle.vx_base.specs.declared.frame.Phase.TheVariants.{Alive, Handlers, Draining, Deleted}
 use Rattle.vx_base.specs.declared.record.Answer.{Answer}
 use Rattle.vx_base.specs.declared.record.Event.{Event}
 use Rattle.vx_base.specs.declared.record.Rec.{Rec}
-use Rattle.vx_base.specs.declared.system.ProcDecl.{ProcDecl}
-use Rattle.vx_base.specs.declared.system.System.{System}
+use Rattle.vx_image.specs.declared.decl.ProcDecl.{ProcDecl}
+use Rattle.vx_image.specs.declared.system.System.{System}
 use Rattle.vx_exec.specs.Model.{event_of, events_from, enabled, is_last, is_deleted, are_deleted, born_from, first, step, IsStep, IsWhole, after, HasOneRun}
 use Rattle.vx_exec.specs.Sound.{Keeps}
 use Rattle.vx_exec.proofs.Built.{decls_built}
@@ -25,6 +25,7 @@ use Rattle.vx_exec.proofs.Left.{first_left, run_few}
 one_event : (n : ℕ) (phase : Phase) (frames : List Frame) → length (event_of n phase frames) ≤ 1
 one_event n Alive [] = omega arith
 one_event n (Handlers m) [] = omega arith
+one_event n (Draining m) [] = omega arith
 one_event n Deleted [] = omega arith
 one_event n phase (f ∷ fs) = omega arith
 
@@ -45,6 +46,7 @@ single s rs one = omega (arith, few_events 1 (after s rs).procs, same_length s (
 at_rest : (n : ℕ) (phase : Phase) (frames : List Frame) → length (event_of n phase frames) ≡ 0 → is_last phase ≡ true
 at_rest n Alive [] none = absurd (omega arith)
 at_rest n (Handlers m) [] none = absurd (omega arith)
+at_rest n (Draining m) [] none = absurd (omega arith)
 at_rest n Deleted [] none = refl
 at_rest n phase (f ∷ fs) none = absurd (omega arith)
 

@@ -1,6 +1,7 @@
 -- The number of a list of flags, read from its end.
 use Rattle.std.proofs.Common.{◌≡◌, ℕ, ◌+◌, ◌-◌, ◌*◌, ◌^◌, ◌<◌, ◌≤◌, List, Bool, false, length, get_or, drop, drop-cons, suc, arith, ap, ◌∙◌}
-use Rattle.vx_base.specs.State.{one, word}
+use Rattle.vx_base.specs.Flags.{one}
+use Rattle.vx_exec.specs.State.{word}
 
 pub word-drop : (on : List Bool) (n : ℕ) → 0 < n → n ≤ length on → word (drop (n - 1) on) ≡ one (get_or on (n - 1) false) + 2 * word (drop n on)
 word-drop on n above within =

@@ -1,15 +1,17 @@
 -- The plain machine: what each event does to the plain state, which events are enabled, what a run is and how it ends.
-use Rattle.std.specs.Prelude.{◌≡◌, ℕ, ◌+◌, ◌-◌, ◌≤◌, nat_lt, nat_le, List, [], ◌∷◌, ◌++◌, length, replicate, slice_get, slice_index_or, slice_set, Contains, Bool, true, false, ◌==◌, Option, Some, None, if◌then◌else◌, ⊤}
+use Rattle.std.specs.Prelude.{◌≡◌, ℕ, ◌+◌, ◌-◌, ◌≤◌, nat_lt, nat_le, List, [], ◌∷◌, ◌++◌, length, replicate, slice_get, slice_index_or, slice_set, Contains, Bool, true, false, Option, Some, None, if◌then◌else◌, ⊤}
 use Rattle.std.specs.List.{list_all}
-use Rattle.vx_base.specs.Built.{is_letter}
+use Rattle.vx_base.specs.Name.{is_capital}
 use Rattle.vx_base.specs.Cond.{number_of}
-use Rattle.vx_base.specs.State.{Storage, Process, State, word}
-use Rattle.vx_base.specs.declared.call.TheConstants.{SETEF, CLREF, READEF, EXIT}
+use Rattle.vx_exec.specs.State.{Storage, Process, State, word}
+use Rattle.vx_base.specs.declared.service.Service.{Service}
+use Rattle.vx_base.specs.declared.service.Service.TheVariants.{SetEf, ClrEf, ReadEf, Exit}
 use Rattle.vx_base.specs.declared.call.Arg.{Arg}
 use Rattle.vx_base.specs.declared.call.Arg.TheVariants as arg
 use Rattle.vx_base.specs.declared.call.Operand.TheVariants.{Num}
 use Rattle.vx_base.specs.declared.call.Target.{Target}
 use Rattle.vx_base.specs.declared.call.Target.TheVariants.{Var, R0}
+use Rattle.vx_base.specs.declared.call.Args.{Args}
 use Rattle.vx_base.specs.declared.call.Call.{Call}
 use Rattle.vx_base.specs.declared.cond.Cond.{Cond}
 use Rattle.vx_base.specs.declared.cond.Cond.TheVariants.{Normal, WasClr, WasSet, IllEfc, UnasEfc}
@@ -20,7 +22,7 @@ use Rattle.vx_base.specs.declared.effects.Effect.TheVariants as effect
 use Rattle.vx_base.specs.declared.frame.Frame.{Frame}
 use Rattle.vx_base.specs.declared.frame.FrameKind.TheVariants.{Main}
 use Rattle.vx_base.specs.declared.frame.Phase.{Phase}
-use Rattle.vx_base.specs.declared.frame.Phase.TheVariants.{Alive, Handlers, Deleted}
+use Rattle.vx_base.specs.declared.frame.Phase.TheVariants.{Alive, Handlers, Draining, Deleted}
 use Rattle.vx_base.specs.declared.mode.Mode.{Mode}
 use Rattle.vx_base.specs.declared.mode.Mode.TheVariants.{User}
 use Rattle.vx_base.specs.declared.number.Pid.{Pid}
@@ -31,14 +33,16 @@ use Rattle.vx_base.specs.declared.record.End.TheVariants.{Done, Hung, Limit}
 use Rattle.vx_base.specs.declared.record.Event.{Event}
 use Rattle.vx_base.specs.declared.record.Event.TheVariants.{Run, Rdn}
 use Rattle.vx_base.specs.declared.record.Rec.{Rec}
-use Rattle.vx_base.specs.declared.spot.Spot.{Spot}
-use Rattle.vx_base.specs.declared.spot.Spot.TheVariants.{Low, High}
-use Rattle.vx_base.specs.declared.system.Image.{Image}
-use Rattle.vx_base.specs.declared.system.Privs.{Privs}
-use Rattle.vx_base.specs.declared.system.ProcDecl.{ProcDecl}
-use Rattle.vx_base.specs.declared.system.Stmt.{Stmt}
-use Rattle.vx_base.specs.declared.system.Stmt.TheVariants.{Service}
-use Rattle.vx_base.specs.declared.system.System.{System}
+use Rattle.vx_exec.specs.declared.spot.Spot.{Spot}
+use Rattle.vx_exec.specs.declared.spot.Spot.TheVariants.{Low, High}
+use Rattle.vx_image.specs.declared.image.Image.{Image}
+use Rattle.vx_base.specs.declared.quota.Privs.{Privs}
+use Rattle.vx_image.specs.declared.decl.ProcDecl.{ProcDecl}
+use Rattle.vx_image.specs.declared.stmt.Stmt.{Stmt}
+use Rattle.vx_image.specs.declared.stmt.Stmt.TheVariants as stmt
+use Rattle.vx_image.specs.declared.stop.Stop.{Stop}
+use Rattle.vx_image.specs.declared.stop.Stop.TheVariants as stop
+use Rattle.vx_image.specs.declared.system.System.{System}
 
 -- What stands where nothing does.
 
@@ -55,7 +59,7 @@ abbrev pub nobody : Process
 nobody = record { decl = 0; group = 0; member = 0; privs = no_privs; store = no_storage; frames = []; low = no_flags; high = no_flags; code = 0; phase = Deleted }
 
 abbrev pub no_image : Image
-no_image = record { name = []; stmts = [] }
+no_image = record { name = []; labels = []; stmts = [] }
 
 abbrev pub no_decl : ProcDecl
 no_decl = record { name = []; image = 0; group = 0; member = 0; mode = User; limits = record { ast = 0; bio = 0; dio = 0; byt = 0; tqe = 0 }; privs = no_privs; start = false }
@@ -113,7 +117,7 @@ refused s c = answered c (nothing s)
 
 -- a byte that is no letter names no variable
 abbrev pub with_target : Storage → Target → ℕ → Storage
-with_target store (Var v) n = if is_letter v then record store { vars = slice_set store.vars (v - 65) n } else store
+with_target store (Var v) n = if is_capital v then record store { vars = slice_set store.vars (v - 65) n } else store
 with_target store R0 n = record store { r0 = n }
 
 abbrev pub stored : State → Pid → Target → ℕ → State
@@ -186,6 +190,7 @@ current (f ∷ fs) = f.mode
 abbrev pub leaving : Phase → Mode → Phase
 leaving Alive m = Handlers m
 leaving (Handlers n) m = Handlers n
+leaving (Draining n) m = Draining n
 leaving Deleted m = Deleted
 
 -- $EXIT: the frames go, and the code is set
@@ -198,21 +203,23 @@ exit s p code = answered Normal (nothing (exited s p code))
 -- an argument that is a value, and one that is a target
 abbrev pub value : Arg → ℕ
 value (arg.Value (Num n)) = n
-value (arg.Target t) = 0
-value arg.Unused = 0
+value _ = 0
 
 abbrev pub target : Arg → Target
-target (arg.Value x) = R0
 target (arg.Target t) = t
-target arg.Unused = R0
+target _ = R0
 
--- a call; a number that is no service's has no effect
+-- by name and arguments; a service that is not built has no effect
+abbrev pub serve : State → Pid → Service → Args → Outcome Cond
+serve s p SetEf args = put_flag s p (value args.a0) true
+serve s p ClrEf args = put_flag s p (value args.a0) false
+serve s p ReadEf args = read_flags s p (value args.a0) (target args.a1)
+serve s p Exit args = exit s p (value args.a0)
+serve s p _ args = refused s Normal
+
+-- a call
 abbrev pub service : State → Pid → Call → Outcome Cond
-service s p c =
-    if c.service == SETEF then put_flag s p (value c.args.a0) true else (
-    if c.service == CLREF then put_flag s p (value c.args.a0) false else (
-    if c.service == READEF then read_flags s p (value c.args.a0) (target c.args.a1) else (
-    if c.service == EXIT then exit s p (value c.args.a0) else refused s Normal)))
+service s p c = serve s p c.service c.args
 
 -- RUN: the statement at the place of the top frame.
 
@@ -222,6 +229,15 @@ stmt_at image (f ∷ fs) = slice_get image.stmts f.pc
 
 abbrev pub next_stmt : State → Pid → Option Stmt
 next_stmt s p = stmt_at (image_of s.system (process_at s p)) (process_at s p).frames
+
+-- where it stops: at a service, at the image's end, and behind a statement that is not built
+abbrev pub stop_of : Option Stmt → Stop
+stop_of None = stop.End
+stop_of (Some (stmt.Service c)) = stop.Call c
+stop_of (Some _) = stop.Local
+
+abbrev pub next_stop : State → Pid → Stop
+next_stop s p = stop_of (next_stmt s p)
 
 -- the place behind the statement
 abbrev pub moved_on : List Frame → List Frame
@@ -236,14 +252,16 @@ abbrev pub served : Pid → Call → Outcome Cond → Outcome Answer
 served p c o = record { answer = answered_by.Service c o.answer; effects = o.effects; after = stored o.after p R0 (number_of o.answer) }
 
 -- a call is served with the place behind it; the end of the image does as $EXIT with R0 as code
-abbrev pub run_at : State → Pid → Option Stmt → Outcome Answer
-run_at s p (Some (Service c)) = served p c (service (past_stmt s p) p c)
-run_at s p None = answered answered_by.End (nothing (exited s p (process_at s p).store.r0))
+abbrev pub run_at : State → Pid → Stop → Outcome Answer
+run_at s p (stop.Call c) = served p c (service (past_stmt s p) p c)
+run_at s p stop.Local = answered answered_by.Local (nothing (past_stmt s p))
+run_at s p _ = answered answered_by.End (nothing (exited s p (process_at s p).store.r0))
 
--- An event.
+-- An event. Those that are not built are never enabled, and do nothing.
 abbrev pub step : State → Event → Outcome Answer
-step s (Run p) = run_at s p (next_stmt s p)
+step s (Run p) = run_at s p (next_stop s p)
 step s (Rdn p) = answered answered_by.Gone (gone_part s p)
+step s _ = answered answered_by.Gone (nothing s)
 
 -- What is enabled.
 
@@ -251,6 +269,7 @@ step s (Rdn p) = answered answered_by.Gone (gone_part s p)
 abbrev pub event_without_frame : ℕ → Phase → List Event
 event_without_frame n Alive = Rdn (record { 0 = n }) ∷ []
 event_without_frame n (Handlers m) = Rdn (record { 0 = n }) ∷ []
+event_without_frame n (Draining m) = Rdn (record { 0 = n }) ∷ []
 event_without_frame n Deleted = []
 
 abbrev pub event_of : ℕ → Phase → List Frame → List Event
@@ -271,6 +290,7 @@ enabled s = events_from 1 s.procs
 abbrev pub is_last : Phase → Bool
 is_last Alive = false
 is_last (Handlers m) = false
+is_last (Draining m) = false
 is_last Deleted = true
 
 abbrev pub is_deleted : Process → Bool
@@ -297,7 +317,7 @@ born place d = record {
   member = d.member;
   privs = d.privs;
   store = no_storage;
-  frames = record { kind = Main; mode = d.mode; pc = 0; prm = 0; saved_r0 = 0 } ∷ [];
+  frames = record { kind = Main; mode = d.mode; pc = 0; prm = 0; saved_r0 = 0; wait = None } ∷ [];
   low = no_flags;
   high = no_flags;
   code = 0;

@@ -1,6 +1,6 @@
 -- What the processes of the code stand for.
 use Rattle.std.specs.Prelude.{map, option_to_list}
-use Rattle.vx_base.specs.State.{Process, State}
+use Rattle.vx_exec.specs.State.{Process, State}
 use Rattle.vx_exec.specs.declared.process.Proc.{Proc}
 use Rattle.vx_exec.specs.declared.procs.Core.{Core}
 

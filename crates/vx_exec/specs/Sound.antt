@@ -1,14 +1,14 @@
 -- What the executive keeps of its state.
 use Rattle.std.specs.Prelude.{◌≡◌, ℕ, ◌+◌, ◌^◌, ◌<◌, ◌≤◌, List, [], ◌∷◌, length, map, IsTrue, ⊤}
 use Rattle.std.specs.List.{AllByRecursion}
-use Rattle.vx_base.specs.Built.{is_built}
-use Rattle.vx_base.specs.State.{State}
+use Rattle.vx_image.specs.Built.{is_built}
+use Rattle.vx_exec.specs.State.{State}
 use Rattle.vx_base.specs.declared.frame.Frame.{Frame}
 use Rattle.vx_base.specs.declared.number.Pid.{Pid}
 use Rattle.vx_base.specs.declared.record.Event.{Event}
 use Rattle.vx_base.specs.declared.record.Event.TheVariants.{Run, Rdn}
-use Rattle.vx_base.specs.declared.spot.Spot.{Spot}
-use Rattle.vx_base.specs.declared.spot.Spot.TheVariants.{Low, High}
+use Rattle.vx_exec.specs.declared.spot.Spot.{Spot}
+use Rattle.vx_exec.specs.declared.spot.Spot.TheVariants.{Low, High}
 use Rattle.vx_exec.specs.Model.{process_at}
 
 -- the declaration of each process, by its place
@@ -25,10 +25,11 @@ pub record IsSound (s : State) : Type 0 where
 abbrev pub IsDeclared : State → Pid → Type 0
 IsDeclared s p = (process_at s p).decl < length s.system.decls
 
--- the process of an event
+-- the process of an event, 0 where it is of none or not built
 abbrev pub process_of : Event → Pid
 process_of (Run p) = p
 process_of (Rdn p) = p
+process_of _ = record { 0 = 0 }
 
 -- it is within its cluster
 abbrev pub IsPlaced : Spot → Type 0

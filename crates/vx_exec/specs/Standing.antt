@@ -1,6 +1,6 @@
 -- How a process stands when a run is over.
 use Rattle.std.specs.Prelude.{ℕ, List, [], ◌∷◌, Bool, true, false}
-use Rattle.vx_base.specs.State.{Process}
+use Rattle.vx_exec.specs.State.{Process}
 use Rattle.vx_base.specs.declared.frame.Frame.{Frame}
 use Rattle.vx_exec.specs.Model.{is_deleted}
 use Rattle.vx_exec.specs.declared.standing.Standing.{Standing}

@@ -1,8 +1,8 @@
 -- What an executive stands for.
 use Rattle.std.specs.Prelude.{◌≡◌, ℕ}
 use Rattle.vx_base.specs.Log.{Log, logged}
-use Rattle.vx_base.specs.State.{State}
-use Rattle.vx_base.specs.declared.system.System.{System}
+use Rattle.vx_exec.specs.State.{State}
+use Rattle.vx_image.specs.declared.system.System.{System}
 use Rattle.vx_exec.specs.Model.{Outcome}
 
 -- its state, how many records its runs may have, and how many its steps have made

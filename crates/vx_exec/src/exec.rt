@@ -1,7 +1,7 @@
 //! The executive.
 
 ghost use Rattle.std.specs.Prelude.{◌≡◌, ◌<◌, ◌≤◌, ◌+◌, ◌-◌, Contains, IfOk, IsTrue, None, OnErr, OnOk, length, slice_get};
-ghost use Rattle.vx_base.specs.Built.{is_built};
+ghost use Rattle.vx_image.specs.Built.{is_built};
 ghost use Rattle.vx_exec.specs.Model.{HasOneRun, IsProcess, IsStep, decl_of, enabled, end_of, first, process_at, step};
 ghost use Rattle.vx_exec.specs.Standing.{code_of, standing_of};
 ghost use Rattle.vx_exec.specs.View.{plan};
@@ -13,7 +13,8 @@ use crate::setters::{declaration, process_of};
 use crate::standing::Standing;
 use std::alloc::Global;
 use std::marker::Model;
-use vx_base::{Effects, End, Event, Name, NoMemory, Pid, Rec, System};
+use vx_base::{Effects, End, Event, Name, NoMemory, Pid, Rec};
+use vx_image::System;
 
 /// The executive of one system: its processes, how many records its runs may have, and how many its steps have made.
 #[derive(Debug, Drop)]

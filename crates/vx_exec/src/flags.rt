@@ -1,7 +1,7 @@
 //! Thirty-two event flags.
 
 ghost use Rattle.std.specs.Prelude.{◌≡◌, ◌<◌, false, replicate, slice_index_or, slice_set};
-ghost use Rattle.vx_base.specs.State.{word};
+ghost use Rattle.vx_exec.specs.State.{word};
 
 use std::marker::Model;
 

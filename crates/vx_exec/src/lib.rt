@@ -1,9 +1,9 @@
 //! The executive: it takes one event of a system at a time, and gives its record.
 //!
-//! `Exec` stands for the plain state of `vx_base`, the limit of its runs and how many records its steps have made
-//! (`specs/View.antt`). What is enabled, what a step does and when a run ends is the machine of `specs/Model.antt`:
-//! `count` and `enabled` are the list of its enabled events, `step` takes any one of them and leaves the state after it,
-//! `ended` is its end. A step whose memory is short changes nothing, and no other call takes memory but `new`.
+//! `Exec` stands for the plain state of `specs/State.antt`, the limit of its runs and how many records its steps have
+//! made (`specs/View.antt`). What is enabled, what a step does and when a run ends is the machine of `specs/Model.antt`:
+//! `count` and `enabled` are the list of its enabled events, `step` takes any one of them and leaves the state after
+//! it, `ended` is its end. A step whose memory is short changes nothing, and no other call takes memory but `new`.
 #![tactic(auto)]
 
 mod events;
@@ -14,6 +14,7 @@ mod process;
 mod procs;
 mod services;
 mod setters;
+mod spot;
 mod standing;
 mod store;
 

@@ -8,7 +8,8 @@ ghost use Rattle.vx_exec.specs.Standing.{code_of, standing_of};
 use crate::flags::Flags;
 use crate::standing::Standing;
 use crate::store::Store;
-use vx_base::{Frame, FrameKind, Mode, Phase, Privs, ProcDecl};
+use vx_base::{Frame, FrameKind, Mode, Phase, Privs};
+use vx_image::ProcDecl;
 
 /// A process: the place of its declaration; its group, member and privileges; its store; its frame, if it has one;
 /// its local event flags 0 to 31 and 32 to 63; its exit code and its phase.
@@ -43,6 +44,7 @@ impl Proc {
                 pc: 0,
                 prm: 0,
                 saved_r0: 0,
+                wait: None,
             }),
             low: Flags::new(),
             high: Flags::new(),

@@ -6,7 +6,8 @@ ghost use Rattle.vx_exec.specs.Procs.{process};
 
 use crate::process::Proc;
 use std::alloc::Global;
-use vx_base::{NoMemory, ProcDecls, System};
+use vx_base::NoMemory;
+use vx_image::{ProcDecls, System};
 
 /// What the script says, and the processes in the order of their numbers from 1.
 #[derive(Debug, Drop)]

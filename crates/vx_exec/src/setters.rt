@@ -1,14 +1,16 @@
 //! Reads and changes of one process.
 
 ghost use Rattle.std.specs.Prelude.{◌≡◌, IfSome};
-ghost use Rattle.vx_base.specs.State.{word};
+ghost use Rattle.vx_exec.specs.State.{word};
 ghost use Rattle.vx_exec.specs.Model.{IsProcess, process_at, decl_of, change, spot, cell_of, cluster, is_set, with_flag, stored, exited, past_stmt, gone_part};
 ghost use Rattle.vx_exec.specs.Procs.{process, state};
 ghost use Rattle.vx_exec.specs.Sound.{IsDeclared, IsPlaced, HasNextPlace};
 
 use crate::process::Proc;
 use crate::procs::Core;
-use vx_base::{Cell, Phase, Pid, ProcDecl, Spot, Target};
+use crate::spot::Spot;
+use vx_base::{Cell, Phase, Pid, Target};
+use vx_image::ProcDecl;
 
 /// A process.
 pub fn process_of(core: &Core, p: Pid) -> &Proc

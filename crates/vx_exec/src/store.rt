@@ -1,7 +1,7 @@
 //! What a process stores.
 
 ghost use Rattle.std.specs.Prelude.{◌≡◌};
-ghost use Rattle.vx_base.specs.Built.{is_letter};
+ghost use Rattle.vx_base.specs.Name.{is_capital};
 ghost use Rattle.vx_exec.specs.Model.{no_storage, with_target};
 
 use std::marker::Model;
@@ -15,15 +15,15 @@ pub struct Store {
 }
 
 impl Model for Store {
-    ghost use Rattle.vx_base.specs.State.{Storage};
+    ghost use Rattle.vx_exec.specs.State.{Storage};
 
     ghost Value = { Storage };
 
     ghost view = { λ s. record { vars = s.vars; r0 = s.r0 } };
 }
 
-fn is_letter(b: u8) -> bool
-    ensures { result ≡ is_letter b }
+fn is_capital(b: u8) -> bool
+    ensures { result ≡ is_capital b }
 {
     65 <= b && b <= 90
 }
@@ -45,7 +45,7 @@ impl Store {
     {
         match target {
             Target::Var(v) => {
-                if is_letter(v) {
+                if is_capital(v) {
                     self.vars[v as usize - 65] = n;
                 }
             }

@@ -1,15 +1,15 @@
 ghost use Rattle.std.specs.Prelude.{◌≡◌, ◌<◌, ◌≤◌, IfOk, IsTrue, length};
 ghost use Rattle.std.specs.List.{list_all};
-ghost use Rattle.vx_base.specs.Built.{is_built, is_built_stmt};
+ghost use Rattle.vx_image.specs.Built.{is_built, is_built_stmt};
 
 use super::*;
 use std::alloc::{AllocError, Global};
 use std::process::Abort;
 use std::test::*;
 use vx_base::{
-    Answer, Arg, Args, CLREF, Call, EXIT, Image, Images, Mode, Name, Need, Operand, Pid, Privs,
-    ProcDecl, ProcDecls, READEF, Rec, SETEF, Stmt, Stmts, System, Target,
+    Answer, Arg, Args, Call, Mode, Name, Need, Operand, Pid, Privs, Rec, Service, Target,
 };
+use vx_image::{Image, Images, Labels, ProcDecl, ProcDecls, Stmt, Stmts, System, UnitDecls};
 
 const P: Pid = Pid(1);
 
@@ -17,17 +17,16 @@ fn args(a0: Arg, a1: Arg) -> Args
     ensures first { result.a0 ≡ a0 }
     ensures second { result.a1 ≡ a1 }
 {
-    let none = Arg::Unused;
     Args {
         a0,
         a1,
-        a2: none,
-        a3: none,
-        a4: none,
-        a5: none,
-        a6: none,
-        a7: none,
-        a8: none,
+        a2: Arg::Unused,
+        a3: Arg::Unused,
+        a4: Arg::Unused,
+        a5: Arg::Unused,
+        a6: Arg::Unused,
+        a7: Arg::Unused,
+        a8: Arg::Unused,
     }
 }
 
@@ -35,7 +34,7 @@ fn setef(n: u32) -> Stmt
     ensures { IsTrue (is_built_stmt result) }
 {
     Stmt::Service(Call {
-        service: SETEF,
+        service: Service::SetEf,
         args: args(Arg::Value(Operand::Num(n)), Arg::Unused),
     })
 }
@@ -44,7 +43,7 @@ fn clref(n: u32) -> Stmt
     ensures { IsTrue (is_built_stmt result) }
 {
     Stmt::Service(Call {
-        service: CLREF,
+        service: Service::ClrEf,
         args: args(Arg::Value(Operand::Num(n)), Arg::Unused),
     })
 }
@@ -53,7 +52,7 @@ fn readef_to_a(n: u32) -> Stmt
     ensures { IsTrue (is_built_stmt result) }
 {
     Stmt::Service(Call {
-        service: READEF,
+        service: Service::ReadEf,
         args: args(Arg::Value(Operand::Num(n)), Arg::Target(Target::Var(b'A'))),
     })
 }
@@ -62,21 +61,22 @@ fn exit(code: u32) -> Stmt
     ensures { IsTrue (is_built_stmt result) }
 {
     Stmt::Service(Call {
-        service: EXIT,
+        service: Service::Exit,
         args: args(Arg::Value(Operand::Num(code)), Arg::Unused),
     })
 }
 
 // The system of one process P, whose image has these statements.
-fn system_of(alloc: Global, stmts: &[Stmt]) -> Result<System, Fail>
-    requires small { length stmts.now ≤ 1000 }
-    requires built { IsTrue (list_all is_built_stmt stmts.now) }
+fn system_of(alloc: Global, stmts: Vec<Stmt>) -> Result<System, Fail>
+    requires small { length stmts.items ≤ 1000 }
+    requires built { IsTrue (list_all is_built_stmt stmts.items) }
     ensures { IfOk result (λ system. IsTrue (is_built system)) }
 {
     let mut images = Images::new(alloc);
     images.push(Image {
         name: Name::new(b"MAIN").ok_or("a name")?,
-        stmts: Stmts::from_vec(Vec::from_slice(alloc, stmts)?),
+        labels: Labels::new(alloc),
+        stmts: Stmts::from_vec(stmts),
     })?;
     let mut decls = ProcDecls::new(alloc);
     decls.push(ProcDecl {
@@ -102,13 +102,17 @@ fn system_of(alloc: Global, stmts: &[Stmt]) -> Result<System, Fail>
         },
         start: true,
     })?;
-    Ok(System { images, decls })
+    Ok(System {
+        units: UnitDecls::new(alloc),
+        images,
+        decls,
+    })
 }
 
 // The executive of one process P, whose image has these statements.
-fn exec_of(alloc: Global, stmts: &[Stmt], limit: u32) -> Result<Exec, Fail>
-    requires small { length stmts.now ≤ 1000 }
-    requires built { IsTrue (list_all is_built_stmt stmts.now) }
+fn exec_of(alloc: Global, stmts: Vec<Stmt>, limit: u32) -> Result<Exec, Fail>
+    requires small { length stmts.items ≤ 1000 }
+    requires built { IsTrue (list_all is_built_stmt stmts.items) }
     requires above { 0 < limit }
     requires within { limit ≤ 100000 }
 {
@@ -126,9 +130,9 @@ fn next(exec: &mut Exec) -> Option<Rec> {
 
 // What a record says, without the call.
 fn line(alloc: Global, rec: &Rec) -> Result<String, AllocError> {
-    let cond = match rec.answer {
-        Answer::Service(_, cond) => Some(cond),
-        Answer::End | Answer::Gone => None,
+    let cond = match &rec.answer {
+        Answer::Service(_, cond) => Some(*cond),
+        _ => None,
     };
     let event = rec.event;
     let effects = rec.effects.as_slice();
@@ -157,7 +161,7 @@ fn standing(rt: &impl Abort, exec: &Exec) -> (Standing, u32) {
 fn sets_reads_and_clears_a_flag(rt: HostRuntime) -> Result<(), Fail> {
     let mut exec = exec_of(
         rt.alloc(),
-        &[setef(5), readef_to_a(5), clref(5), exit(1)],
+        Vec::from_array(rt.alloc(), [setef(5), readef_to_a(5), clref(5), exit(1)])?,
         1000,
     )?;
     assert_eq!(rt; exec.count(), 1);
@@ -184,7 +188,10 @@ fn sets_reads_and_clears_a_flag(rt: HostRuntime) -> Result<(), Fail> {
 fn refuses_flags_without_a_cluster(rt: HostRuntime) -> Result<(), Fail> {
     let mut exec = exec_of(
         rt.alloc(),
-        &[setef(31), setef(63), setef(64), setef(127), setef(128)],
+        Vec::from_array(
+            rt.alloc(),
+            [setef(31), setef(63), setef(64), setef(127), setef(128)],
+        )?,
         1000,
     )?;
     runs(
@@ -207,7 +214,7 @@ fn refuses_flags_without_a_cluster(rt: HostRuntime) -> Result<(), Fail> {
 
 #[test]
 fn ends_an_image_without_statements(rt: HostRuntime) -> Result<(), Fail> {
-    let mut exec = exec_of(rt.alloc(), &[], 2)?;
+    let mut exec = exec_of(rt.alloc(), Vec::new(rt.alloc()), 2)?;
     runs(
         &rt,
         rt.alloc(),
@@ -221,7 +228,7 @@ fn ends_an_image_without_statements(rt: HostRuntime) -> Result<(), Fail> {
 
 #[test]
 fn stops_at_its_limit(rt: HostRuntime) -> Result<(), Fail> {
-    let mut exec = exec_of(rt.alloc(), &[], 1)?;
+    let mut exec = exec_of(rt.alloc(), Vec::new(rt.alloc()), 1)?;
     assert_eq!(rt; standing(&rt, &exec), (Standing::Active, 0));
     runs(&rt, rt.alloc(), &mut exec, &["Run(Pid(1)) None []"])?;
     assert_eq!(rt; exec.ended(), Some(End::Limit));

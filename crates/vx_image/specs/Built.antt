@@ -1,5 +1,5 @@
 -- What of a system the executive runs so far.
-use Rattle.std.specs.Prelude.{ℕ, nat_le, Bool, true, false, ◌&&◌, ◌||◌, ◌==◌, List, [], ◌∷◌, length}
+use Rattle.std.specs.Prelude.{nat_le, Bool, true, false, ◌&&◌, ◌==◌, List, [], ◌∷◌, length}
 use Rattle.std.specs.List.{list_all}
 use Rattle.vx_base.specs.Name.{is_capital}
 use Rattle.vx_base.specs.declared.call.Arg.{Arg}

@@ -1,4 +1,5 @@
 pub mod Built
+pub mod Example
 pub mod Local
 pub mod Storage
 pub mod WellFormed

@@ -1,10 +1,9 @@
 -- Local statements: what each does to the store, and a run of them up to a service.
-use Rattle.std.specs.Prelude.{ℕ, zero, suc, ◌+◌, ◌-◌, ◌%◌, Bool, ◌==◌, not, nat_lt, List, [], Option, Some, None, if◌then◌else◌, slice_get, slice_index, slice_index_or}
+use Rattle.std.specs.Prelude.{ℕ, zero, suc, ◌+◌, ◌-◌, ◌%◌, Bool, true, ◌==◌, ◌&&◌, not, nat_lt, nat_le, length, [], Option, Some, None, if◌then◌else◌, slice_get, slice_index, slice_index_or}
 use Rattle.vx_base.specs.Cond.{number_of}
 use Rattle.vx_base.specs.Pieces.{Status}
 use Rattle.vx_base.specs.declared.call.Arg.{Arg}
 use Rattle.vx_base.specs.declared.call.Arg.TheVariants as arg
-use Rattle.vx_base.specs.declared.call.Args.{Args}
 use Rattle.vx_base.specs.declared.call.Call.{Call}
 use Rattle.vx_base.specs.declared.call.Operand.{Operand}
 use Rattle.vx_base.specs.declared.call.Operand.TheVariants as operand
@@ -15,8 +14,8 @@ use Rattle.vx_base.specs.declared.number.Pid.{Pid}
 use Rattle.vx_image.specs.Storage.{Storage, stored_in, with_target, status_at, buffer_at, with_bytes}
 use Rattle.vx_image.specs.declared.image.Image.{Image}
 use Rattle.vx_image.specs.declared.image.Label.{Label}
-use Rattle.vx_image.specs.declared.advance.Stop.{Stop}
-use Rattle.vx_image.specs.declared.advance.Stop.TheVariants as stop
+use Rattle.vx_image.specs.declared.stop.Stop.{Stop}
+use Rattle.vx_image.specs.declared.stop.Stop.TheVariants as stop
 use Rattle.vx_image.specs.declared.stmt.Field.{Field}
 use Rattle.vx_image.specs.declared.stmt.Field.TheVariants as field
 use Rattle.vx_image.specs.declared.stmt.Rel.{Rel}
@@ -93,6 +92,13 @@ local image who store place (stmt.Byte t b x) = Some (set_to store place t (slic
 local image who store place (stmt.Iosb t i f) = Some (set_to store place t (field_of (status_at store i) f))
 local image who store place stmt.Return = None
 local image who store place (stmt.Service c) = None
+
+-- the buffer, the status block and the text of a statement are ones for which a store has room
+abbrev pub is_storable : Stmt → Bool
+is_storable (stmt.Put b bytes) = nat_lt b 32 && nat_le (length bytes) 2048
+is_storable (stmt.Byte t b x) = nat_lt b 32
+is_storable (stmt.Iosb t i f) = nat_le 1 i && nat_le i 32
+is_storable _ = true
 
 -- A run of local statements.
 

@@ -19,7 +19,7 @@ no_storage = record { vars = replicate 26 0; r0 = 0; buffers = replicate 32 (rep
 
 -- a byte that is no letter names no variable
 abbrev pub stored_in : Storage → Target → ℕ
-stored_in store (Var v) = slice_index_or store.vars (v - 65) 0
+stored_in store (Var v) = if is_capital v then slice_index_or store.vars (v - 65) 0 else 0
 stored_in store R0 = store.r0
 
 abbrev pub with_target : Storage → Target → ℕ → Storage

@@ -1,5 +1,5 @@
 -- What a script may say of a system.
-use Rattle.std.specs.Prelude.{ℕ, List, [], ◌∷◌, Bool, true, false, ◌&&◌, ◌||◌, ◌==◌, not, nat_lt, nat_le, Option, Some, None, IsTrue, length, map, bytes_eq}
+use Rattle.std.specs.Prelude.{ℕ, List, [], ◌∷◌, Bool, true, ◌&&◌, ◌||◌, ◌==◌, not, nat_lt, nat_le, Some, IsTrue, length, map, bytes_eq}
 use Rattle.std.specs.List.{list_all, list_any}
 use Rattle.vx_base.specs.Services.{is_call, is_operand, is_target, args_list}
 use Rattle.vx_base.specs.declared.call.Arg.{Arg}
@@ -10,7 +10,6 @@ use Rattle.vx_base.specs.declared.service.Service.{Service}
 use Rattle.vx_base.specs.declared.service.Service.TheVariants.{CrePrc}
 use Rattle.vx_image.specs.declared.decl.ProcDecl.{ProcDecl}
 use Rattle.vx_image.specs.declared.image.Image.{Image}
-use Rattle.vx_image.specs.declared.image.Label.{Label}
 use Rattle.vx_image.specs.declared.stmt.Stmt.{Stmt}
 use Rattle.vx_image.specs.declared.stmt.Stmt.TheVariants as stmt
 use Rattle.vx_image.specs.declared.system.System.{System}
@@ -88,6 +87,10 @@ is_image decls image =
     are_distinct (label_names image) && (
     falls_nowhere 0 (label_places image) && (
     list_all (λ place. nat_le place (length image.stmts)) (label_places image) && list_all (is_stmt decls image) image.stmts)))
+
+-- an image that a system may have, whatever its process declarations are named
+abbrev pub IsImage : Image → Type 0
+IsImage image = (decls : List (List ℕ)) × IsTrue (is_image decls image)
 
 -- Process declarations: an image that is there, group 1 to 16382, member 0 to 65534, limits of at most 1,000,000.
 

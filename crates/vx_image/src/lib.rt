@@ -5,16 +5,28 @@
 //! stores, and `advance` runs an image's local statements on it: `specs/Local.antt`.
 #![tactic(auto)]
 
-mod advance;
 mod decl;
+mod example;
 mod image;
+mod local;
+mod page;
+mod run;
+mod same;
 mod stmt;
+mod stop;
+mod store;
 mod system;
 mod unit;
 
-pub use advance::Stop;
 pub use decl::{ProcDecl, ProcDecls};
+pub use example::{past_example, round_example, wrapping_example};
 pub use image::{Image, Images, Label, Labels};
+pub use run::advance;
 pub use stmt::{Field, Rel, Stmt, Stmts};
+pub use stop::Stop;
+pub use store::Store;
 pub use system::System;
 pub use unit::{Lines, Numbers, UnitDecl, UnitDecls};
+
+#[cfg(test)]
+mod tests;

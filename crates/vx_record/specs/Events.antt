@@ -27,8 +27,8 @@ use Rattle.vx_base.specs.declared.routine.Entry.{Entry}
 use Rattle.vx_base.specs.declared.routine.Entry.TheVariants as entry
 use Rattle.vx_image.specs.Local.{Reader, Advanced, advanced}
 use Rattle.vx_image.specs.Storage.{Storage, with_target}
-use Rattle.vx_image.specs.declared.advance.Stop.{Stop}
-use Rattle.vx_image.specs.declared.advance.Stop.TheVariants as stop
+use Rattle.vx_image.specs.declared.stop.Stop.{Stop}
+use Rattle.vx_image.specs.declared.stop.Stop.TheVariants as stop
 use Rattle.vx_record.specs.State.{Process, State, process_at, change, image_of, pid, with_top, no_unit}
 use Rattle.vx_record.specs.Parts.{Part, Outcome, nothing, tells, and_then, answered}
 use Rattle.vx_record.specs.Flags.{satisfied, with_wait}

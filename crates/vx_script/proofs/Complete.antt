@@ -9,8 +9,8 @@ use Rattle.std.proofs.lemmas.List.Folds.{list_all-append}
 use Rattle.std.proofs.lemmas.Slice.Eq.{bytes_eq-Decides}
 use Rattle.std.proofs.lemmas.Fmt.{digits_decimal, digits_value-decimal, decimal_nonempty, first_decimal, decimal_digit}
 use Rattle.vx_base.specs.Name.{is_name, is_digit, is_capital, is_name_byte}
-use Rattle.vx_base.specs.Built.{is_letter}
-use Rattle.vx_base.specs.declared.system.Stmt.{Stmt}
+use Rattle.vx_base.specs.Name.{is_capital}
+use Rattle.vx_image.specs.declared.stmt.Stmt.{Stmt}
 use Rattle.vx_script.specs.Form.{Statement, setef, clref, readef, exit, exit_with, line_of, fits, call_of, stmt_of, Form, IsForm, ended_lines, lines_after, spelled, system_of}
 use Rattle.vx_script.specs.Reader.{cut, digits_value, is_misspelled, number, call, process, system_from, finish, body, read}
 use Rattle.vx_script.proofs.Digits.{own}
@@ -73,19 +73,19 @@ unfolding call
 call_of_line (setef n) h = rw (number_of n h) refl
 call_of_line (clref n) h = rw (number_of n h) refl
 call_of_line (readef n v) h =
-    let t = both (nat_lt n (2 ^ 32)) (is_letter v) h in
+    let t = both (nat_lt n (2 ^ 32)) (is_capital v) h in
     rw (cut_at 44 (decimal n) (v ∷ []) (lacks_digits 44 n refl t.0), number_of n t.0, t.1) refl
 call_of_line exit h = refl
 call_of_line (exit_with n) h = rw (number_of n h) refl
 
-letter_no_feed : (v : ℕ) → is_letter v ≡ true → not (v == 10) ≡ true
+letter_no_feed : (v : ℕ) → is_capital v ≡ true → not (v == 10) ≡ true
 letter_no_feed v h = grind (arith, nat_tests, h)
 
 line_lacks : (s : Statement) → fits s ≡ true → lacks 10 (line_of s) ≡ true
 line_lacks (setef n) h = lacks_digits 10 n refl h
 line_lacks (clref n) h = lacks_digits 10 n refl h
 line_lacks (readef n v) h =
-    let t = both (nat_lt n (2 ^ 32)) (is_letter v) h in
+    let t = both (nat_lt n (2 ^ 32)) (is_capital v) h in
     list_all-append (λ b. not (b == 10)) (decimal n) (44 ∷ v ∷ []) ∙ rw (lacks_digits 10 n refl t.0, letter_no_feed v t.1) refl
 line_lacks exit h = refl
 line_lacks (exit_with n) h = lacks_digits 10 n refl h

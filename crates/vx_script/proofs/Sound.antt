@@ -7,15 +7,16 @@ use Rattle.std.proofs.lemmas.List.{take-append-drop, append-nil, append_assoc}
 use Rattle.std.proofs.lemmas.Slice.Eq.{bytes_eq-Decides}
 use Rattle.std.proofs.lemmas.Fmt.{decimal-digits_value}
 use Rattle.vx_base.specs.Name.{is_name, is_digit}
-use Rattle.vx_base.specs.Built.{is_letter}
-use Rattle.vx_base.specs.declared.call.TheConstants.{SETEF, CLREF, READEF, EXIT}
+use Rattle.vx_base.specs.Name.{is_capital}
+use Rattle.vx_base.specs.declared.service.Service.{Service}
+use Rattle.vx_base.specs.declared.service.Service.TheVariants.{SetEf, ClrEf, ReadEf, Exit}
 use Rattle.vx_base.specs.declared.call.Arg.TheVariants.{Value, Target, Unused}
 use Rattle.vx_base.specs.declared.call.Operand.TheVariants.{Num}
 use Rattle.vx_base.specs.declared.call.Target.TheVariants.{Var}
 use Rattle.vx_base.specs.declared.call.Call.{Call}
-use Rattle.vx_base.specs.declared.system.Stmt.{Stmt}
-use Rattle.vx_base.specs.declared.system.Stmt.TheVariants.{Service}
-use Rattle.vx_base.specs.declared.system.System.{System}
+use Rattle.vx_image.specs.declared.stmt.Stmt.{Stmt}
+use Rattle.vx_image.specs.declared.stmt.Stmt.TheVariants as stmt
+use Rattle.vx_image.specs.declared.system.System.{System}
 use Rattle.vx_script.specs.Form.{Statement, setef, clref, readef, exit, exit_with, line_of, fits, calling, call_of, stmt_of, Form, IsForm, ended_lines, lines_after, spelled, system_of}
 use Rattle.vx_script.specs.Reader.{after, cut, digits_value, value_of, is_misspelled, number, letter, number_call, variable_call, when_some, exit_call, call, process, system_from, if_empty, finish, body, read}
 use Rattle.vx_script.proofs.Digits.{own}
@@ -117,10 +118,10 @@ number_spells : (ds : List ℕ) (n : ℕ) → number ds ≡ Some n → Spells ds
 unfolding number
 number_spells ds n h = number_by ds n h
 
-letter_is : (l : List ℕ) (v : ℕ) → letter l ≡ Some v → (l ≡ v ∷ []) × (is_letter v ≡ true)
+letter_is : (l : List ℕ) (v : ℕ) → letter l ≡ Some v → (l ≡ v ∷ []) × (is_capital v ≡ true)
 letter_is [] v h = cc
 letter_is (x ∷ []) v h =
-    let w = when (is_letter x) (Some x) v h in
+    let w = when (is_capital x) (Some x) v h in
     let same : x ≡ v = some_same _ _ w.1 in
     (ap (λ z. z ∷ []) same, rw same at w.0)
 letter_is (x ∷ y ∷ ys) v h = cc
@@ -133,17 +134,17 @@ pub record Says (line : List ℕ) (c : Call) : Type 0 where
   pub spells : line_of statement ≡ line
   pub says : c ≡ call_of statement
 
-number_call_is : (service : ℕ) (digits : List ℕ) (c : Call) → number_call service digits ≡ Some c → (n : ℕ) × Spells digits n × (c ≡ calling service (Value (Num n)) Unused)
+number_call_is : (service : Service) (digits : List ℕ) (c : Call) → number_call service digits ≡ Some c → (n : ℕ) × Spells digits n × (c ≡ calling service (Value (Num n)) Unused)
 number_call_is service digits c h =
     let m = mapped (number digits) (λ n. calling service (Value (Num n)) Unused) c h in
     (m.value, number_spells digits m.value m.is, sym m.gives)
 
 variable_call_says : (line rest : List ℕ) (c : Call) → line ≡ codes "$READEF " ++ rest → variable_call rest ≡ Some c → Says line c
 variable_call_says line rest c e h =
-    let b = bound (cut 44 rest) (λ p. option_and_then (λ n. option_map (λ v. calling READEF (Value (Num n)) (Target (Var v))) (letter p.1)) (number p.0)) c h in
+    let b = bound (cut 44 rest) (λ p. option_and_then (λ n. option_map (λ v. calling ReadEf (Value (Num n)) (Target (Var v))) (letter p.1)) (number p.0)) c h in
     let p = b.value in
-    let d = bound (number p.0) (λ n. option_map (λ v. calling READEF (Value (Num n)) (Target (Var v))) (letter p.1)) c b.gives in
-    let m = mapped (letter p.1) (λ v. calling READEF (Value (Num d.value)) (Target (Var v))) c d.gives in
+    let d = bound (number p.0) (λ n. option_map (λ v. calling ReadEf (Value (Num n)) (Target (Var v))) (letter p.1)) c b.gives in
+    let m = mapped (letter p.1) (λ v. calling ReadEf (Value (Num d.value)) (Target (Var v))) c d.gives in
     let n = number_spells p.0 d.value d.is in
     let l = letter_is p.1 m.value m.is in
     let whole : rest ≡ p.0 ++ 44 ∷ p.1 = cut_is 44 rest p b.is in
@@ -156,7 +157,7 @@ variable_call_says line rest c e h =
 
 exit_call_says : (line : List ℕ) (c : Call) → exit_call line ≡ Some c → Says line c
 exit_call_says line c h =
-    let w = when (bytes_eq line (codes "$EXIT")) (Some (calling EXIT (Value (Num 1)) Unused)) c h in
+    let w = when (bytes_eq line (codes "$EXIT")) (Some (calling Exit (Value (Num 1)) Unused)) c h in
     record {
       statement = exit;
       fitting = refl;
@@ -167,16 +168,16 @@ exit_call_says line c h =
 pub call_says : (line : List ℕ) (c : Call) → call line ≡ Some c → Says line c
 unfolding call
 call_says line c h =
-    cases (after (codes "$SETEF ") line) (number_call SETEF) _ c (Says line c) h
-    (λ rest a g. let q = number_call_is SETEF rest c g in
+    cases (after (codes "$SETEF ") line) (number_call SetEf) _ c (Says line c) h
+    (λ rest a g. let q = number_call_is SetEf rest c g in
     record { statement = setef q.0; fitting = q.1.small; spells = rw q.1.is (sym (after_is (codes "$SETEF ") line rest a)); says = q.2 })
-    (λ h1. cases (after (codes "$CLREF ") line) (number_call CLREF) _ c (Says line c) h1
-    (λ rest a g. let q = number_call_is CLREF rest c g in
+    (λ h1. cases (after (codes "$CLREF ") line) (number_call ClrEf) _ c (Says line c) h1
+    (λ rest a g. let q = number_call_is ClrEf rest c g in
     record { statement = clref q.0; fitting = q.1.small; spells = rw q.1.is (sym (after_is (codes "$CLREF ") line rest a)); says = q.2 })
     (λ h2. cases (after (codes "$READEF ") line) variable_call _ c (Says line c) h2
     (λ rest a g. variable_call_says line rest c (after_is (codes "$READEF ") line rest a) g)
-    (λ h3. cases (after (codes "$EXIT ") line) (number_call EXIT) _ c (Says line c) h3
-    (λ rest a g. let q = number_call_is EXIT rest c g in
+    (λ h3. cases (after (codes "$EXIT ") line) (number_call Exit) _ c (Says line c) h3
+    (λ rest a g. let q = number_call_is Exit rest c g in
     record { statement = exit_with q.0; fitting = q.1.small; spells = rw q.1.is (sym (after_is (codes "$EXIT ") line rest a)); says = q.2 })
     (λ h4. exit_call_says line c h4))))
 
@@ -253,7 +254,7 @@ body_end image stmts k text p system whole is_end e = record {
   says = rw append-nil e.says;
 }
 
-body_more : (image : List ℕ) (stmts : List Stmt) (k : ℕ) (text : List ℕ) (p : Parts) (c : Call) (system : System) → text ≡ p.0 ++ 10 ∷ p.1 → Says p.0 c → Runs image (stmts ++ Service c ∷ []) k p.1 system → Runs image stmts (suc k) text system
+body_more : (image : List ℕ) (stmts : List Stmt) (k : ℕ) (text : List ℕ) (p : Parts) (c : Call) (system : System) → text ≡ p.0 ++ 10 ∷ p.1 → Says p.0 c → Runs image (stmts ++ stmt.Service c ∷ []) k p.1 system → Runs image stmts (suc k) text system
 body_more image stmts k text p c system whole s r = record {
   statements = s.statement ∷ r.statements;
   fitting = rw (s.fitting, r.fitting) refl;
@@ -261,23 +262,23 @@ body_more image stmts k text p c system whole s r = record {
   process = r.process;
   name = r.name;
   spells = joined (line_of s.statement) p.0 _ p.1 text s.spells r.spells whole;
-  says = r.says ∙ ap (λ z. system_from image z r.process) (append_assoc stmts (Service c ∷ []) (map stmt_of r.statements) ∙ ap (λ z. stmts ++ Service z ∷ map stmt_of r.statements) s.says);
+  says = r.says ∙ ap (λ z. system_from image z r.process) (append_assoc stmts (stmt.Service c ∷ []) (map stmt_of r.statements) ∙ ap (λ z. stmts ++ stmt.Service z ∷ map stmt_of r.statements) s.says);
 }
 
-body_step : (image : List ℕ) (stmts : List Stmt) (k : ℕ) (text : List ℕ) (p : Parts) (system : System) (t : Bool) → bytes_eq p.0 (codes "END") ≡ t → ((c : Call) → body image (stmts ++ Service c ∷ []) k p.1 ≡ Some system → Runs image (stmts ++ Service c ∷ []) k p.1 system) → text ≡ p.0 ++ 10 ∷ p.1 → cond t (finish image stmts p.1) (option_and_then (λ c. body image (stmts ++ Service c ∷ []) k p.1) (call p.0)) ≡ Some system → Runs image stmts (suc k) text system
+body_step : (image : List ℕ) (stmts : List Stmt) (k : ℕ) (text : List ℕ) (p : Parts) (system : System) (t : Bool) → bytes_eq p.0 (codes "END") ≡ t → ((c : Call) → body image (stmts ++ stmt.Service c ∷ []) k p.1 ≡ Some system → Runs image (stmts ++ stmt.Service c ∷ []) k p.1 system) → text ≡ p.0 ++ 10 ∷ p.1 → cond t (finish image stmts p.1) (option_and_then (λ c. body image (stmts ++ stmt.Service c ∷ []) k p.1) (call p.0)) ≡ Some system → Runs image stmts (suc k) text system
 body_step image stmts k text p system true e ih whole h =
     body_end image stmts k text p system whole ((bytes_eq-Decides p.0 (codes "END")).0 e) (finish_ends image stmts p.1 system h)
 body_step image stmts k text p system false e ih whole h =
-    let b = bound (call p.0) (λ c. body image (stmts ++ Service c ∷ []) k p.1) system h in
+    let b = bound (call p.0) (λ c. body image (stmts ++ stmt.Service c ∷ []) k p.1) system h in
     body_more image stmts k text p b.value system whole (call_says p.0 b.value b.is) (ih b.value b.gives)
 
 body_runs : (image : List ℕ) (stmts : List Stmt) (k : ℕ) (text : List ℕ) (system : System) → body image stmts k text ≡ Some system → Runs image stmts k text system
 unfolding body
 body_runs image stmts zero text system h = cc
 body_runs image stmts (suc k) text system h =
-    let b = bound (cut 10 text) (λ p. cond (bytes_eq p.0 (codes "END")) (finish image stmts p.1) (option_and_then (λ c. body image (stmts ++ Service c ∷ []) k p.1) (call p.0))) system h in
+    let b = bound (cut 10 text) (λ p. cond (bytes_eq p.0 (codes "END")) (finish image stmts p.1) (option_and_then (λ c. body image (stmts ++ stmt.Service c ∷ []) k p.1) (call p.0))) system h in
     let p = b.value in
-    body_step image stmts k text p system (bytes_eq p.0 (codes "END")) refl (λ c. body_runs image (stmts ++ Service c ∷ []) k p.1 system) (cut_is 10 text p b.is) b.gives
+    body_step image stmts k text p system (bytes_eq p.0 (codes "END")) refl (λ c. body_runs image (stmts ++ stmt.Service c ∷ []) k p.1 system) (cut_is 10 text p b.is) b.gives
 
 -- the whole
 

@@ -4,8 +4,9 @@ use Rattle.std.specs.Prelude.{IfOk, IsTrue}
 use Rattle.std.specs.List.{list_all}
 use Rattle.std.proofs.lemmas.Bool.{le-leb}
 use Rattle.std.proofs.lemmas.List.{length-map}
-use Rattle.vx_base.specs.Built.{is_letter, is_built, is_built_stmt}
-use Rattle.vx_base.specs.declared.system.System.{System}
+use Rattle.vx_base.specs.Name.{is_capital}
+use Rattle.vx_image.specs.Built.{is_built, is_built_stmt}
+use Rattle.vx_image.specs.declared.system.System.{System}
 use Rattle.vx_script.specs.declared.fault.ScriptFault.{ScriptFault}
 use Rattle.vx_script.specs.declared.fault.ScriptFail.{ScriptFail}
 use Rattle.vx_script.specs.declared.fault.ScriptFail.TheVariants as fail
@@ -28,7 +29,7 @@ reads_of text system h =
 stmt_built : (s : Statement) → fits s ≡ true → is_built_stmt (stmt_of s) ≡ true
 stmt_built (setef n) h = refl
 stmt_built (clref n) h = refl
-stmt_built (readef n v) h = (both _ (is_letter v) h).1
+stmt_built (readef n v) h = (both _ (is_capital v) h).1
 stmt_built exit h = refl
 stmt_built (exit_with n) h = refl
 

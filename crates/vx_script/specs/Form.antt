@@ -2,18 +2,19 @@
 use Rattle.std.specs.Prelude.{◌≡◌, ◌≢◌, ℕ, ◌≤◌, ◌^◌, nat_lt, List, [], ◌∷◌, ◌++◌, length, map, flat_map, codes, decimal, Bool, true, false, ◌&&◌, IsTrue}
 use Rattle.std.specs.List.{list_all}
 use Rattle.vx_base.specs.Name.{is_name}
-use Rattle.vx_base.specs.Built.{is_letter}
-use Rattle.vx_base.specs.declared.call.TheConstants.{SETEF, CLREF, READEF, EXIT}
+use Rattle.vx_base.specs.Name.{is_capital}
+use Rattle.vx_base.specs.declared.service.Service.{Service}
+use Rattle.vx_base.specs.declared.service.Service.TheVariants.{SetEf, ClrEf, ReadEf, Exit}
 use Rattle.vx_base.specs.declared.call.Arg.{Arg}
 use Rattle.vx_base.specs.declared.call.Arg.TheVariants.{Value, Target, Unused}
 use Rattle.vx_base.specs.declared.call.Operand.TheVariants.{Num}
 use Rattle.vx_base.specs.declared.call.Target.TheVariants.{Var}
 use Rattle.vx_base.specs.declared.call.Call.{Call}
 use Rattle.vx_base.specs.declared.mode.Mode.TheVariants.{User}
-use Rattle.vx_base.specs.declared.system.Stmt.{Stmt}
-use Rattle.vx_base.specs.declared.system.Stmt.TheVariants.{Service}
-use Rattle.vx_base.specs.declared.system.ProcDecl.{ProcDecl}
-use Rattle.vx_base.specs.declared.system.System.{System}
+use Rattle.vx_image.specs.declared.stmt.Stmt.{Stmt}
+use Rattle.vx_image.specs.declared.stmt.Stmt.TheVariants as stmt
+use Rattle.vx_image.specs.declared.decl.ProcDecl.{ProcDecl}
+use Rattle.vx_image.specs.declared.system.System.{System}
 use Rattle.vx_script.specs.declared.fault.FaultKind.TheVariants.{Later}
 use Rattle.vx_script.specs.declared.fault.ScriptFault.{ScriptFault}
 
@@ -37,24 +38,24 @@ line_of (exit_with n) = codes "$EXIT " ++ decimal n
 abbrev pub fits : Statement → Bool
 fits (setef n) = nat_lt n (2 ^ 32)
 fits (clref n) = nat_lt n (2 ^ 32)
-fits (readef n v) = nat_lt n (2 ^ 32) && is_letter v
+fits (readef n v) = nat_lt n (2 ^ 32) && is_capital v
 fits exit = true
 fits (exit_with n) = nat_lt n (2 ^ 32)
 
 -- a call, by its service and its first two arguments
-abbrev pub calling : ℕ → Arg → Arg → Call
+abbrev pub calling : Service → Arg → Arg → Call
 calling service a b = record { service = service; args = record { a0 = a; a1 = b; a2 = Unused; a3 = Unused; a4 = Unused; a5 = Unused; a6 = Unused; a7 = Unused; a8 = Unused } }
 
 -- what it says: $EXIT alone has the code 1
 abbrev pub call_of : Statement → Call
-call_of (setef n) = calling SETEF (Value (Num n)) Unused
-call_of (clref n) = calling CLREF (Value (Num n)) Unused
-call_of (readef n v) = calling READEF (Value (Num n)) (Target (Var v))
-call_of exit = calling EXIT (Value (Num 1)) Unused
-call_of (exit_with n) = calling EXIT (Value (Num n)) Unused
+call_of (setef n) = calling SetEf (Value (Num n)) Unused
+call_of (clref n) = calling ClrEf (Value (Num n)) Unused
+call_of (readef n v) = calling ReadEf (Value (Num n)) (Target (Var v))
+call_of exit = calling Exit (Value (Num 1)) Unused
+call_of (exit_with n) = calling Exit (Value (Num n)) Unused
 
 abbrev pub stmt_of : Statement → Stmt
-stmt_of s = Service (call_of s)
+stmt_of s = stmt.Service (call_of s)
 
 -- a script of the form: the image's name, its statements, and the process's name
 pub record Form : Type 0 where
@@ -97,7 +98,8 @@ plain_decl name = record {
 -- what it says
 abbrev pub system_of : Form → System
 system_of f = record {
-  images = record { name = f.image; stmts = map stmt_of f.statements } ∷ [];
+  units = [];
+  images = record { name = f.image; labels = []; stmts = map stmt_of f.statements } ∷ [];
   decls = plain_decl f.process ∷ [];
 }
 

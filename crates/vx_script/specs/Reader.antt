@@ -2,15 +2,16 @@
 use Rattle.std.specs.Prelude.{◌≡◌, ℕ, zero, suc, ◌+◌, ◌-◌, ◌*◌, ◌^◌, ◌==◌, nat_lt, List, [], ◌∷◌, ◌++◌, length, take, drop, codes, bytes_eq, Bool, true, false, ◌&&◌, Option, Some, None, option_map, option_and_then, Result, Ok, Err, if◌then◌else◌}
 use Rattle.std.specs.List.{list_all, fold}
 use Rattle.vx_base.specs.Name.{is_name, is_digit}
-use Rattle.vx_base.specs.Built.{is_letter}
-use Rattle.vx_base.specs.declared.call.TheConstants.{SETEF, CLREF, READEF, EXIT}
+use Rattle.vx_base.specs.Name.{is_capital}
+use Rattle.vx_base.specs.declared.service.Service.{Service}
+use Rattle.vx_base.specs.declared.service.Service.TheVariants.{SetEf, ClrEf, ReadEf, Exit}
 use Rattle.vx_base.specs.declared.call.Arg.TheVariants.{Value, Target, Unused}
 use Rattle.vx_base.specs.declared.call.Operand.TheVariants.{Num}
 use Rattle.vx_base.specs.declared.call.Target.TheVariants.{Var}
 use Rattle.vx_base.specs.declared.call.Call.{Call}
-use Rattle.vx_base.specs.declared.system.Stmt.{Stmt}
-use Rattle.vx_base.specs.declared.system.Stmt.TheVariants.{Service}
-use Rattle.vx_base.specs.declared.system.System.{System}
+use Rattle.vx_image.specs.declared.stmt.Stmt.{Stmt}
+use Rattle.vx_image.specs.declared.stmt.Stmt.TheVariants as stmt
+use Rattle.vx_image.specs.declared.system.System.{System}
 use Rattle.vx_script.specs.Form.{calling, plain_decl}
 use Rattle.vx_script.specs.declared.fault.FaultKind.TheVariants.{Later}
 use Rattle.vx_script.specs.declared.fault.ScriptFault.{ScriptFault}
@@ -51,16 +52,16 @@ number ds = if is_misspelled ds then None else value_of ds
 -- the capital letter that a text is
 abbrev pub letter : List ℕ → Option ℕ
 letter [] = None
-letter (v ∷ []) = if is_letter v then Some v else None
+letter (v ∷ []) = if is_capital v then Some v else None
 letter (v ∷ w ∷ vs) = None
 
 -- a call of a number
-abbrev pub number_call : ℕ → List ℕ → Option Call
+abbrev pub number_call : Service → List ℕ → Option Call
 number_call service digits = option_map (λ n. calling service (Value (Num n)) Unused) (number digits)
 
 -- a call of a number and a variable
 abbrev pub variable_call : List ℕ → Option Call
-variable_call rest = option_and_then (λ p. option_and_then (λ n. option_map (λ v. calling READEF (Value (Num n)) (Target (Var v))) (letter p.1)) (number p.0)) (cut 44 rest)
+variable_call rest = option_and_then (λ p. option_and_then (λ n. option_map (λ v. calling ReadEf (Value (Num n)) (Target (Var v))) (letter p.1)) (number p.0)) (cut 44 rest)
 
 -- by what is there, or else a default
 abbrev pub when_some : {A B : Type 0} → Option A → (A → B) → B → B
@@ -69,15 +70,15 @@ when_some None f d = d
 
 -- the call of $EXIT alone
 abbrev pub exit_call : List ℕ → Option Call
-exit_call line = if bytes_eq line (codes "$EXIT") then Some (calling EXIT (Value (Num 1)) Unused) else None
+exit_call line = if bytes_eq line (codes "$EXIT") then Some (calling Exit (Value (Num 1)) Unused) else None
 
 -- the call of a line
 unfoldable pub call : List ℕ → Option Call
 call line =
-    when_some (after (codes "$SETEF ") line) (number_call SETEF)
-    (when_some (after (codes "$CLREF ") line) (number_call CLREF)
+    when_some (after (codes "$SETEF ") line) (number_call SetEf)
+    (when_some (after (codes "$CLREF ") line) (number_call ClrEf)
     (when_some (after (codes "$READEF ") line) variable_call
-    (when_some (after (codes "$EXIT ") line) (number_call EXIT) (exit_call line))))
+    (when_some (after (codes "$EXIT ") line) (number_call Exit) (exit_call line))))
 
 -- the name of a process line
 unfoldable pub process : List ℕ → List ℕ → Option (List ℕ)
@@ -86,7 +87,8 @@ process image line = option_and_then (λ rest. option_and_then (λ p. if is_name
 -- a system of one image and one process
 abbrev pub system_from : List ℕ → List Stmt → List ℕ → System
 system_from image stmts process = record {
-  images = record { name = image; stmts = stmts } ∷ [];
+  units = [];
+  images = record { name = image; labels = []; stmts = stmts } ∷ [];
   decls = plain_decl process ∷ [];
 }
 
@@ -102,7 +104,7 @@ finish image stmts text = option_and_then (λ p. option_and_then (λ name. if_em
 -- behind the line that begins the image, for at most so many lines
 unfoldable pub body : List ℕ → List Stmt → ℕ → List ℕ → Option System
 body image stmts zero text = None
-body image stmts (suc k) text = option_and_then (λ p. if bytes_eq p.0 (codes "END") then finish image stmts p.1 else option_and_then (λ c. body image (stmts ++ Service c ∷ []) k p.1) (call p.0)) (cut 10 text)
+body image stmts (suc k) text = option_and_then (λ p. if bytes_eq p.0 (codes "END") then finish image stmts p.1 else option_and_then (λ c. body image (stmts ++ stmt.Service c ∷ []) k p.1) (call p.0)) (cut 10 text)
 
 -- the system of a text
 unfoldable pub read : List ℕ → Option System

@@ -14,7 +14,7 @@ mod text;
 pub use fault::{FaultKind, ScriptFail, ScriptFault};
 pub use print::print_script;
 pub use read::read_script;
-pub use text::{print_call, print_num, print_target};
+pub use text::{mode_name, print_call, print_num, print_target};
 
 #[cfg(test)]
 mod tests;

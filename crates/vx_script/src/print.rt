@@ -2,18 +2,19 @@
 
 ghost use Rattle.std.specs.Prelude.{◌≡◌, ◌++◌, ◌∷◌, [], OnOk, IfOk, decimal, slice_index_or};
 ghost use Rattle.vx_script.specs.Form.{ended_lines};
-ghost use Rattle.vx_script.specs.Script.{stmt_line, image_lines, mode_name, held, and_names, names_text, privilege_names, no_image, decl_names, rights_keys, limits_keys, start_keys, decl_line, script};
+ghost use Rattle.vx_script.specs.Script.{stmt_line, image_lines, held, and_names, names_text, privilege_names, no_image, decl_names, rights_keys, limits_keys, start_keys, decl_line, script};
 
-use crate::text::{print_call, print_num};
+use crate::text::{mode_name, print_call, print_num};
 use std::alloc::Global;
-use vx_base::{Bytes, Image, Mode, Need, NoMemory, Privs, ProcDecl, Stmt, System};
+use vx_base::{Bytes, Need, NoMemory, Privs};
+use vx_image::{Image, ProcDecl, Stmt, System};
 
 fn print_stmt(alloc: Global, stmt: &Stmt, out: &mut Bytes) -> Result<(), NoMemory>
     ensures { OnOk result (out.new ≡ out.old ++ (stmt_line stmt.now ++ 10 ∷ [])) }
 {
-    out.push_all(b"  ")?;
-    match stmt {
-        Stmt::Service(call) => print_call(alloc, call, out)?,
+    if let Stmt::Service(call) = stmt {
+        out.push_all(b"  ")?;
+        print_call(alloc, call, out)?;
     }
     out.push_all(b"\n")
 }
@@ -37,17 +38,6 @@ fn image_name(images: &[Image], place: u32) -> &[u8]
     match images.get(place as usize) {
         Some(image) => image.name.text(),
         None => &[],
-    }
-}
-
-fn mode_name(mode: Mode) -> &'static [u8]
-    ensures { result.now ≡ mode_name mode }
-{
-    match mode {
-        Mode::Kernel => b"KERNEL",
-        Mode::Exec => b"EXEC",
-        Mode::Super => b"SUPER",
-        Mode::User => b"USER",
     }
 }
 

@@ -1,7 +1,7 @@
 //! The reader of the restricted form.
 
 ghost use Rattle.std.specs.Prelude.{◌≡◌, MatchOption, Some, None, position, ◌==◌, [], Err, IfOk, IsTrue};
-ghost use Rattle.vx_base.specs.Built.{is_built};
+ghost use Rattle.vx_image.specs.Built.{is_built};
 ghost use Rattle.vx_script.specs.Form.{calling, plain_decl, Reads, RefusesAll};
 ghost use Rattle.vx_script.specs.declared.fault.ScriptFail.{ScriptFail};
 ghost use Rattle.vx_script.specs.declared.fault.ScriptFault.{ScriptFault};
@@ -10,10 +10,8 @@ ghost use Rattle.vx_script.specs.Reader.{Gives};
 
 use crate::fault::{FaultKind, ScriptFail, ScriptFault};
 use std::alloc::Global;
-use vx_base::{
-    Arg, Args, CLREF, Call, EXIT, Image, Images, Mode, Name, Need, Operand, Privs, ProcDecl,
-    ProcDecls, READEF, SETEF, Stmt, Stmts, System, Target,
-};
+use vx_base::{Arg, Args, Call, Mode, Name, Need, Operand, Privs, Service, Target};
+use vx_image::{Image, Images, Labels, ProcDecl, ProcDecls, Stmt, Stmts, System, UnitDecls};
 
 // Whatever is not of the form is told of the first line.
 const LATER: ScriptFail = ScriptFail::Fault(ScriptFault {
@@ -91,7 +89,7 @@ fn letter(text: &[u8]) -> Option<u8>
 }
 
 /// A call of two arguments at most.
-fn calling(service: u8, a0: Arg, a1: Arg) -> Call
+fn calling(service: Service, a0: Arg, a1: Arg) -> Call
     ensures { result ≡ calling service a0 a1 }
 {
     Call {
@@ -111,7 +109,7 @@ fn calling(service: u8, a0: Arg, a1: Arg) -> Call
 }
 
 /// A call of a number.
-fn number_call(service: u8, digits: &[u8]) -> Option<Call>
+fn number_call(service: Service, digits: &[u8]) -> Option<Call>
     ensures { result ≡ reader.number_call service digits.now }
 {
     let n = number(digits)?;
@@ -126,7 +124,7 @@ fn variable_call(rest: &[u8]) -> Option<Call>
     let n = number(digits)?;
     let v = letter(variable)?;
     Some(calling(
-        READEF,
+        Service::ReadEf,
         Arg::Value(Operand::Num(n)),
         Arg::Target(Target::Var(v)),
     ))
@@ -139,7 +137,7 @@ fn exit_call(line: &[u8]) -> Option<Call>
     if line != b"$EXIT".as_slice() {
         return None;
     }
-    Some(calling(EXIT, Arg::Value(Operand::Num(1)), Arg::Unused))
+    Some(calling(Service::Exit, Arg::Value(Operand::Num(1)), Arg::Unused))
 }
 
 /// The call of a line.
@@ -148,16 +146,16 @@ fn call(line: &[u8]) -> Option<Call>
     ensures { result ≡ reader.call line.now }
 {
     if let Some(digits) = line.strip_prefix(b"$SETEF ") {
-        return number_call(SETEF, digits);
+        return number_call(Service::SetEf, digits);
     }
     if let Some(digits) = line.strip_prefix(b"$CLREF ") {
-        return number_call(CLREF, digits);
+        return number_call(Service::ClrEf, digits);
     }
     if let Some(rest) = line.strip_prefix(b"$READEF ") {
         return variable_call(rest);
     }
     if let Some(digits) = line.strip_prefix(b"$EXIT ") {
-        return number_call(EXIT, digits);
+        return number_call(Service::Exit, digits);
     }
     exit_call(line)
 }
@@ -215,10 +213,18 @@ fn system_from(
     ensures { Gives result (Some (reader.system_from image stmts process)) }
 {
     let mut images = Images::new(alloc);
-    images.push(Image { name: image, stmts })?;
+    images.push(Image {
+        name: image,
+        labels: Labels::new(alloc),
+        stmts,
+    })?;
     let mut decls = ProcDecls::new(alloc);
     decls.push(plain_decl(process))?;
-    Ok(System { images, decls })
+    Ok(System {
+        units: UnitDecls::new(alloc),
+        images,
+        decls,
+    })
 }
 
 /// What stands behind END.

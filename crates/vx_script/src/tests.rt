@@ -1,6 +1,6 @@
 use super::*;
 use std::test::*;
-use vx_base::{Bytes, Target};
+use vx_base::{Arg, Args, Bytes, Call, Cond, Func, Mode, Operand, Service, Target};
 
 const FLAG: &str = "IMAGE MAIN\n$SETEF 5\n$READEF 5,A\n$CLREF 5\n$EXIT\nEND\nPROCESS P MAIN\n";
 
@@ -28,6 +28,34 @@ fn prints_a_place(rt: HostRuntime) -> Result<(), Fail> {
         .ok()
         .ok_or("memory")?;
     assert_eq!(rt; text.as_slice(), b"R018446744073709551615".as_slice());
+    Ok(())
+}
+
+// An argument of each kind.
+#[test]
+fn prints_a_call(rt: HostRuntime) -> Result<(), Fail> {
+    let call = Call {
+        service: Service::Qio,
+        args: Args {
+            a0: Arg::Value(Operand::Num(1)),
+            a1: Arg::Value(Operand::Var(b'A')),
+            a2: Arg::Func(Func::WrtAttn),
+            a3: Arg::Value(Operand::Cond(Cond::IllEfc)),
+            a4: Arg::Label(None),
+            a5: Arg::Value(Operand::Prm),
+            a6: Arg::Value(Operand::Pid),
+            a7: Arg::Target(Target::R0),
+            a8: Arg::Mode(Mode::Kernel),
+        },
+    };
+    let mut text = Bytes::new(rt.alloc());
+    print_call(rt.alloc(), &call, &mut text)
+        .ok()
+        .ok_or("memory")?;
+    assert_eq!(rt;
+        text.as_slice(),
+        b"$QIO 1,A,WRTATTN,SS$_ILLEFC,-,PRM,PID,R0,KERNEL".as_slice()
+    );
     Ok(())
 }
 

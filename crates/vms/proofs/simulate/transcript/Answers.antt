@@ -8,4 +8,4 @@ returns c =
     c.in_ok-exec.ensures.one_run
     (rw c.in_ok-exec.ensures.opens at c.in_ok-recs.ensures.taken)
     c.in_ok-recs.ensures.end
-    (rw (c.in_ok-print_trailer.ensures, c.in_ok-print_records.ensures, c.as_slice.ensures, c.in_ok-push_all.ensures.ok, c.in_ok-text.ensures) refl)
+    (rw (c.in_ok-print_trailer.ensures, c.in_ok-print_records.ensures, c.as_slice.ensures, c.as_slice-units.ensures, c.system.ensures, c.in_ok-push_all.ensures.ok, c.in_ok-text.ensures) refl)

@@ -1,5 +1,5 @@
 use Rattle.std.proofs.Common.{refl}
-use Rattle.vx_base.specs.State.{Process}
+use Rattle.vx_exec.specs.State.{Process}
 use Rattle.vx_base.specs.declared.frame.Phase.TheVariants.{Deleted}
 use Rattle.vx_exec.proofs.Changed.{changed}
 use Rattle.vx_exec.proofs.setters.delete.Goals as goal

@@ -1,4 +1,4 @@
-use Rattle.vx_base.specs.State.{Process}
+use Rattle.vx_exec.specs.State.{Process}
 use Rattle.vx_exec.specs.Model.{moved_on}
 use Rattle.vx_exec.proofs.Changed.{changed}
 use Rattle.vx_exec.proofs.setters.move_on.Goals as goal

@@ -1,5 +1,5 @@
 use Rattle.std.proofs.Common.{slice_set}
-use Rattle.vx_base.specs.State.{Process}
+use Rattle.vx_exec.specs.State.{Process}
 use Rattle.vx_exec.proofs.Changed.{changed}
 use Rattle.vx_exec.proofs.setters.write_flag.Goals as goal
 

@@ -1,6 +1,6 @@
 use Rattle.std.proofs.Common.{◌≡◌, ◌<◌, ap, ◌∙◌, arith}
-use Rattle.vx_base.specs.State.{State}
-use Rattle.vx_base.specs.declared.system.System.{System}
+use Rattle.vx_exec.specs.State.{State}
+use Rattle.vx_image.specs.declared.system.System.{System}
 use Rattle.vx_exec.specs.Model.{are_deleted, enabled, step}
 use Rattle.vx_exec.specs.Procs.{state}
 use Rattle.vx_exec.specs.View.{Plan}

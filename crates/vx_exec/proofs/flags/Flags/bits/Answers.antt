@@ -1,6 +1,6 @@
 use Rattle.std.proofs.Common.{◌≤◌, length, ap, sym, arith}
 use Rattle.std.proofs.lemmas.List.{drop_all}
-use Rattle.vx_base.specs.State.{word}
+use Rattle.vx_exec.specs.State.{word}
 use Rattle.vx_exec.proofs.Words.{word-drop, small-more}
 use Rattle.vx_exec.proofs.flags.Flags.bits.Goals as goal
 

@@ -1,5 +1,5 @@
 use Rattle.std.proofs.Common.{◌≡◌, ◌<◌, ◌-◌, ◌^◌, drop}
-use Rattle.vx_base.specs.State.{word}
+use Rattle.vx_exec.specs.State.{word}
 use Rattle.vx_exec.proofs.flags.Flags.bits.Given as goal
 
 abbrev pub invariant-loop-n : goal.invariant-loop-n

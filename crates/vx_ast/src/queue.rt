@@ -1,0 +1,196 @@
+//! The queue: one list, in order of queuing.
+
+ghost use Rattle.std.specs.Prelude.{◌≡◌, ◌<◌, ◌≤◌, ◌+◌, ◌++◌, ◌∷◌, [], length, count_by, OnOk, OnErr, option_map};
+ghost use Rattle.std.specs.List.{find};
+ghost use Rattle.vx_base.specs.Lists.{less};
+ghost use Rattle.vx_base.specs.Pieces.{all_on, is_enabled_in, with_enable};
+ghost use Rattle.vx_base.specs.Queues.{may_start, deliverable};
+ghost use Rattle.vx_ast.specs.Queue.{queued_of, is_within, less_deliverable, first_in};
+
+use crate::by_mode::{first_of_mode, take_of_mode, take_within};
+use std::alloc::Global;
+use std::marker::Model;
+use vx_base::{Id, Mode, NoMemory, Routine};
+
+/// An AST as it is handed out: its id, its mode, whether it is charged to its process's AST limit, and its routine.
+#[derive(Drop)]
+pub struct Delivery<R> {
+    pub id: Id,
+    pub mode: Mode,
+    pub charged: bool,
+    pub routine: R,
+}
+
+/// The queued ASTs of one process, and the modes that have AST delivery enabled.
+#[derive(Drop)]
+pub struct AstQueue<R: Routine> {
+    items: Vec<Delivery<R>>,
+    room: usize,
+    kernel: bool,
+    exec: bool,
+    supervisor: bool,
+    user: bool,
+}
+
+impl<R: Routine> Model for AstQueue<R> {
+    ghost use Rattle.std.specs.Prelude.{◌≤◌, vec_len, vec_capacity, map};
+    ghost use Rattle.vx_ast.specs.Queue.{Queue, queued_of};
+
+    ghost Value = { Queue };
+
+    ghost view = { λ a. record { items = map (queued_of R.tagged) a.items.items; enables = record { kernel = a.kernel; exec = a.exec; supervisor = a.supervisor; user = a.user }; capacity = a.room } };
+
+    ghost invariant = { λ a. (vec_len a.items ≤ a.room) × (a.room ≤ vec_capacity a.items) };
+}
+
+impl<R: Routine> AstQueue<R> {
+    /// No ASTs, all four modes enabled, and room for none. Takes no memory.
+    pub fn new(alloc: Global) -> AstQueue<R>
+        ensures { result ≡ record { items = []; enables = all_on; capacity = 0 } }
+    {
+        AstQueue {
+            items: Vec::new(alloc),
+            room: 0,
+            kernel: true,
+            exec: true,
+            supervisor: true,
+            user: true,
+        }
+    }
+
+    /// Makes room for n ASTs more, or changes nothing.
+    pub fn reserve(&mut self, n: u32) -> Result<(), NoMemory>
+        ensures items { self.new.items ≡ self.old.items }
+        ensures enables { self.new.enables ≡ self.old.enables }
+        ensures kept { self.old.capacity ≤ self.new.capacity }
+        ensures ok { OnOk result (length self.new.items + n ≤ self.new.capacity) }
+        ensures err { OnErr result (self.new ≡ self.old) }
+    {
+        self.items.reserve(n as usize)?;
+        self.room = self.items.capacity();
+        Ok(())
+    }
+
+    /// Queues an AST ($DCLAST, or the AST of a request, timer or attention entry). Takes no memory.
+    pub fn put(&mut self, id: Id, mode: Mode, routine: R, charged: bool)
+        requires { length self.old.items < self.old.capacity }
+        ensures { self.new ≡ record self.old { items = self.old.items ++ record { id = id; mode = mode; tag = R.tagged routine; charged = charged } ∷ [] } }
+    {
+        let delivery = Delivery {
+            id,
+            mode,
+            charged,
+            routine,
+        };
+        match self.items.push(delivery) {
+            Ok(()) => (),
+            Err(_) => unreachable!(),
+        }
+    }
+
+    /// Enables or disables AST delivery in a mode ($SETAST), and tells how it was.
+    pub fn enable(&mut self, mode: Mode, on: bool) -> bool
+        ensures was { result ≡ is_enabled_in self.old.enables mode }
+        ensures after { self.new ≡ record self.old { enables = with_enable self.old.enables mode on } }
+    {
+        let was = self.enabled(mode);
+        match mode {
+            Mode::Kernel => self.kernel = on,
+            Mode::Exec => self.exec = on,
+            Mode::Super => self.supervisor = on,
+            Mode::User => self.user = on,
+        }
+        was
+    }
+
+    /// Whether AST delivery is enabled in a mode.
+    pub fn enabled(&self, mode: Mode) -> bool
+        ensures { result ≡ is_enabled_in self.now.enables mode }
+    {
+        match mode {
+            Mode::Kernel => self.kernel,
+            Mode::Exec => self.exec,
+            Mode::Super => self.supervisor,
+            Mode::User => self.user,
+        }
+    }
+
+    /// The AST that may start where the process runs in mode `current`, and `active` is the innermost mode with an active
+    /// AST: of the innermost mode that has one, the first. None exactly where there is none.
+    pub fn deliverable(&self, current: Mode, active: Option<Mode>) -> Option<Id>
+        ensures { result ≡ option_map (λ q. q.id) (deliverable self.now.enables current active self.now.items) }
+    {
+        let mode = self.mode_to_start(current, active)?;
+        let first = first_of_mode(&self.items, mode)?;
+        Some(first.id)
+    }
+
+    #[tactic(auto, using(crate::proofs::Started::less_started))]
+    /// Takes out the AST that may start, as `deliverable` has it.
+    pub fn take(&mut self, current: Mode, active: Option<Mode>) -> Option<Delivery<R>>
+        ensures found { option_map (queued_of R.tagged) result ≡ deliverable self.old.enables current active self.old.items }
+        ensures after { self.new ≡ record self.old { items = less_deliverable self.old.enables current active self.old.items } }
+    {
+        let mode = self.mode_to_start(current, active)?;
+        take_of_mode(&mut self.items, mode)
+    }
+
+    /// Takes out the first AST of a mode or an outer one, in order of queuing: rundown drops them so.
+    pub fn flush_first(&mut self, mode: Mode) -> Option<Delivery<R>>
+        ensures found { option_map (queued_of R.tagged) result ≡ find (is_within mode) self.old.items }
+        ensures after { self.new ≡ record self.old { items = less (is_within mode) self.old.items } }
+    {
+        take_within(&mut self.items, mode)
+    }
+
+    /// How many ASTs are queued.
+    pub fn len(&self) -> usize
+        ensures { result ≡ length self.now.items }
+    {
+        self.items.len()
+    }
+
+    /// How many of them are charged to the AST limit.
+    pub fn charged(&self) -> usize
+        ensures { result ≡ count_by (λ q. q.charged) self.now.items }
+    {
+        self.items.iter().filter(|d| d.charged).count()
+    }
+
+    // The mode of the AST that may start.
+    fn mode_to_start(&self, current: Mode, active: Option<Mode>) -> Option<Mode>
+        ensures { deliverable self.now.enables current active self.now.items ≡ first_in result self.now.items }
+    {
+        if self.may_start(Mode::Kernel, current, active)
+            && first_of_mode(&self.items, Mode::Kernel).is_some()
+        {
+            return Some(Mode::Kernel);
+        }
+        if self.may_start(Mode::Exec, current, active)
+            && first_of_mode(&self.items, Mode::Exec).is_some()
+        {
+            return Some(Mode::Exec);
+        }
+        if self.may_start(Mode::Super, current, active)
+            && first_of_mode(&self.items, Mode::Super).is_some()
+        {
+            return Some(Mode::Super);
+        }
+        if self.may_start(Mode::User, current, active) {
+            Some(Mode::User)
+        } else {
+            None
+        }
+    }
+
+    // Whether an AST of the mode may start.
+    fn may_start(&self, mode: Mode, current: Mode, active: Option<Mode>) -> bool
+        ensures { result ≡ may_start self.now.enables current active mode }
+    {
+        let free = match active {
+            None => true,
+            Some(innermost) => mode.rank() < innermost.rank(),
+        };
+        self.enabled(mode) && mode.rank() <= current.rank() && free
+    }
+}

@@ -1,0 +1,126 @@
+//! Channels by their numbers.
+
+ghost use Rattle.std.specs.Prelude.{◌≡◌, replicate, IsTrue, IsSome, IfOk, IfSome, None, length};
+ghost use Rattle.vx_base.specs.Channels.{is_channel_number, channel_at, least_free, is_reached, next_of_mode};
+ghost use Rattle.vx_chans.specs.Chans.{number_or_none, with_channel, without_channel, found};
+
+use crate::row::Row;
+use std::alloc::Global;
+use std::marker::Model;
+use vx_base::{Device, Mode, NoMemory};
+
+/// Why a channel is refused.
+#[derive(Clone, Copy, Debug, PartialEq, Eq)]
+pub enum ChanFail {
+    /// No number of a channel.
+    IvChan,
+    /// Not assigned, or in a mode that is further in.
+    NoPriv,
+    /// All channels are assigned.
+    NoIoChan,
+}
+
+/// The 64 channels of a process. Contracts see at place n - 1 what channel n is assigned to.
+#[derive(Debug, Drop)]
+pub struct Chans {
+    rows: Vec<Option<Row>>,
+}
+
+impl Model for Chans {
+    ghost use Rattle.std.specs.Prelude.{◌≡◌, List, Option, vec_len};
+    ghost use Rattle.vx_base.specs.Pieces.{Channel};
+
+    ghost Value = { List (Option Channel) };
+
+    ghost view = { λ c. c.rows.items };
+
+    ghost invariant = { λ c. vec_len c.rows ≡ 64 };
+}
+
+impl Chans {
+    /// No channel assigned.
+    pub fn new(alloc: Global) -> Result<Chans, NoMemory>
+        ensures { IfOk result (λ chans. chans ≡ replicate 64 None) }
+    {
+        Ok(Chans {
+            rows: Vec::from_array(alloc, [None; 64])?,
+        })
+    }
+
+    /// Assigns the least free channel to a device, in a mode, and answers its number, 1 to 64 ($ASSIGN). NoIoChan, and
+    /// nothing changed, where none is free. Takes no memory.
+    pub fn assign(&mut self, device: Device, mode: Mode) -> Result<u32, ChanFail>
+        ensures answer { result ≡ number_or_none (least_free self.old) }
+        ensures number { IfOk result (λ n. IsTrue (is_channel_number n)) }
+        ensures assigned { IfOk result (λ n. channel_at self.new n ≡ Some (record { device = device; mode = mode })) }
+        ensures after { self.new ≡ with_channel self.old (least_free self.old) (record { device = device; mode = mode }) }
+    {
+        let Some(number) = least_free(&self.rows) else {
+            return Err(ChanFail::NoIoChan);
+        };
+        self.rows[number as usize - 1] = Some(Row::new(device, mode));
+        Ok(number)
+    }
+
+    /// The device and the mode of a channel, for a process that runs in the current mode. IvChan where the number is not
+    /// 1 to 64; NoPriv where the channel is free, or its mode is further in than the current one.
+    pub fn find(&self, chan: u32, current: Mode) -> Result<(Device, Mode), ChanFail>
+        ensures { result ≡ found self.now chan current }
+    {
+        if chan < 1 || chan > 64 {
+            return Err(ChanFail::IvChan);
+        }
+        let row = self.rows[chan as usize - 1].ok_or(ChanFail::NoPriv)?;
+        if row.mode().rank() < current.rank() {
+            return Err(ChanFail::NoPriv);
+        }
+        Ok((row.device(), row.mode()))
+    }
+
+    /// Frees a channel that is assigned ($DASSGN). Takes no memory.
+    pub fn free(&mut self, chan: u32)
+        requires number { IsTrue (is_channel_number chan) }
+        requires assigned { IsSome (channel_at self.old chan) }
+        ensures { self.new ≡ without_channel self.old chan }
+    {
+        self.rows[chan as usize - 1] = None;
+    }
+
+    /// The least channel above a number that is assigned in this mode or one further out.
+    pub fn next_of_mode(&self, mode: Mode, after: u32) -> Option<u32>
+        ensures next { result ≡ next_of_mode mode after self.now }
+        ensures places { length self.now ≡ 64 }
+    {
+        for (place, row) in self.rows.iter().enumerate() {
+            let number = place as u32 + 1;
+            if after < number && is_reached(mode, row) {
+                return Some(number);
+            }
+        }
+        None
+    }
+}
+
+/// The least number of a free channel.
+fn least_free(rows: &[Option<Row>]) -> Option<u32>
+    requires { length rows.now ≡ 64 }
+    ensures number { result ≡ least_free rows.now }
+    ensures within { IfSome result (λ n. IsTrue (is_channel_number n)) }
+{
+    for (place, row) in rows.iter().enumerate() {
+        if row.is_none() {
+            return Some(place as u32 + 1);
+        }
+    }
+    None
+}
+
+/// Whether a channel is assigned in this mode or one further out.
+fn is_reached(mode: Mode, row: &Option<Row>) -> bool
+    ensures { result ≡ is_reached mode row.now }
+{
+    match row {
+        Some(row) => mode.rank() <= row.mode().rank(),
+        None => false,
+    }
+}

@@ -1,0 +1,10 @@
+//! The channels of a process to units and mailboxes: 64 numbered places.
+#![tactic(auto)]
+
+mod chans;
+mod row;
+
+pub use chans::{ChanFail, Chans};
+
+#[cfg(test)]
+mod tests;

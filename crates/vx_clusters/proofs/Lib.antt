@@ -1,0 +1,4 @@
+pub mod Few
+pub mod Lists
+pub mod Places
+pub mod Sound

@@ -1,0 +1,157 @@
+//! Handlers, the newest first.
+
+ghost use Rattle.std.specs.Prelude.{◌≡◌, ◌↔◌, ◌<◌, ◌≤◌, [], length, IsTrue, IsErr, IfErr, IfSome, OnOk, OnErr};
+ghost use Rattle.std.specs.Prelude.{option_map, position, vec_len, vec_capacity};
+ghost use Rattle.std.specs.List.{find};
+ghost use Rattle.vx_base.specs.Lists.{less};
+ghost use Rattle.vx_exits.specs.Exits.{is_kernel, declared, is_of_mode, is_tagged, is_any};
+ghost use Rattle.vx_exits.specs.Exits.{known, handed, handed_or, or_no_handler};
+ghost use Rattle.vx_exits.specs.Places.{item_at, without};
+
+use crate::declared::Declared;
+use std::alloc::Global;
+use std::marker::Model;
+use vx_base::{Entry, Id, Mode, NoMemory, Routine};
+
+/// Why a call on exit handlers is refused.
+#[derive(Clone, Copy, Debug, PartialEq, Eq)]
+pub enum ExitFail {
+    /// None is declared in kernel mode.
+    IvSsRq,
+    /// No handler of the mode has the tag.
+    NoHandler,
+}
+
+/// The exit handlers of a process. Contracts see them with the newest first, and how many there is room for in all.
+#[derive(Debug, Drop)]
+pub struct Exits<R: Routine> {
+    items: Vec<Declared<R>>,
+    room: usize,
+}
+
+impl<R: Routine> Model for Exits<R> {
+    ghost use Rattle.std.specs.Prelude.{◌≤◌, vec_len, vec_capacity};
+    ghost use Rattle.vx_exits.specs.Exits.{Stack};
+
+    ghost Value = { Stack };
+
+    ghost view = { λ a. record { items = a.items.items; capacity = a.room } };
+
+    ghost invariant = { λ a. (vec_len a.items ≤ a.room) × (a.room ≤ vec_capacity a.items) };
+}
+
+impl<R: Routine> Exits<R> {
+    /// No handlers, and room for none. Takes no memory.
+    pub fn new(alloc: Global) -> Exits<R>
+        ensures { result ≡ record { items = []; capacity = 0 } }
+    {
+        Exits {
+            items: Vec::new(alloc),
+            room: 0,
+        }
+    }
+
+    /// Makes room for one handler more, or changes nothing.
+    pub fn reserve(&mut self) -> Result<(), NoMemory>
+        ensures items { self.new.items ≡ self.old.items }
+        ensures kept { self.old.capacity ≤ self.new.capacity }
+        ensures ok { OnOk result (length self.new.items < self.new.capacity) }
+        ensures err { OnErr result (self.new ≡ self.old) }
+    {
+        self.items.reserve(1)?;
+        self.room = self.items.capacity();
+        Ok(())
+    }
+
+    /// Declares a handler, as the newest ($DCLEXH). IvSsRq in kernel mode: it hands the routine back, and changes
+    /// nothing. Takes no memory.
+    pub fn declare(&mut self, id: Id, mode: Mode, routine: R) -> Result<(), (ExitFail, R)>
+        requires { length self.old.items < self.old.capacity }
+        ensures refused { IsErr result ↔ IsTrue (is_kernel mode) }
+        ensures handed_back { IfErr result (λ e. e ≡ (ExitFail.IvSsRq, routine)) }
+        ensures after { self.new ≡ declared self.old (record { id = id; mode = mode; tag = R.tagged routine }) }
+    {
+        if mode == Mode::Kernel {
+            return Err((ExitFail::IvSsRq, routine));
+        }
+        match self.items.insert(0, Declared::new(id, mode, routine)) {
+            Ok(()) => Ok(()),
+            Err(_) => unreachable!(),
+        }
+    }
+
+    /// Takes out the newest handler of a mode that has a tag ($CANEXH). NoHandler, and nothing changed, where there is
+    /// none.
+    #[tactic(auto, using(crate::proofs::Places::found, crate::proofs::Places::rest))]
+    pub fn cancel(&mut self, mode: Mode, tag: Entry) -> Result<(Id, R), ExitFail>
+        ensures answer { handed_or R.tagged result ≡ or_no_handler (option_map known (find (is_tagged mode tag) self.old.items)) }
+        ensures after { self.new ≡ record self.old { items = less (is_tagged mode tag) self.old.items } }
+    {
+        let place = place_of_tag(&self.items, mode, tag);
+        match taken(&mut self.items, place) {
+            Some(handler) => Ok(handler.parts()),
+            None => Err(ExitFail::NoHandler),
+        }
+    }
+
+    /// Takes out the newest handler of a mode, if there is one.
+    #[tactic(auto, using(crate::proofs::Places::found, crate::proofs::Places::rest))]
+    pub fn pop(&mut self, mode: Mode) -> Option<(Id, R)>
+        ensures handler { option_map (handed R.tagged) result ≡ option_map known (find (is_of_mode mode) self.old.items) }
+        ensures after { self.new ≡ record self.old { items = less (is_of_mode mode) self.old.items } }
+    {
+        let place = place_of_mode(&self.items, mode);
+        let handler = taken(&mut self.items, place)?;
+        Some(handler.parts())
+    }
+
+    /// Takes out the newest handler, if there is one.
+    pub fn pop_any(&mut self) -> Option<(Id, R)>
+        ensures handler { option_map (handed R.tagged) result ≡ option_map known (find is_any self.old.items) }
+        ensures after { self.new ≡ record self.old { items = less is_any self.old.items } }
+    {
+        if self.items.is_empty() {
+            return None;
+        }
+        Some(self.items.remove(0).parts())
+    }
+
+    /// How many handlers there are.
+    pub fn len(&self) -> usize
+        ensures { result ≡ length self.now.items }
+    {
+        self.items.len()
+    }
+}
+
+/// Takes out the handler there.
+fn taken<R: Routine>(items: &mut Vec<Declared<R>>, place: Option<usize>) -> Option<Declared<R>>
+    requires { IfSome place (λ i. i < vec_len items.old) }
+    ensures found { result ≡ item_at items.old.items place }
+    ensures after { items.new.items ≡ without items.old.items place }
+    ensures fewer { vec_len items.new ≤ vec_len items.old }
+    ensures capacity { vec_capacity items.new ≡ vec_capacity items.old }
+{
+    match place {
+        None => None,
+        Some(i) => Some(items.remove(i)),
+    }
+}
+
+/// Where the first handler of a mode is.
+fn place_of_mode<R: Routine>(items: &[Declared<R>], mode: Mode) -> Option<usize>
+    ensures place { result ≡ position (is_of_mode mode) items.now }
+    ensures within { IfSome result (λ i. i < length items.now) }
+{
+    items.iter().position(|handler| handler.is_of_mode(mode))
+}
+
+/// Where the first handler of a mode is that has a tag.
+fn place_of_tag<R: Routine>(items: &[Declared<R>], mode: Mode, tag: Entry) -> Option<usize>
+    ensures place { result ≡ position (is_tagged mode tag) items.now }
+    ensures within { IfSome result (λ i. i < length items.now) }
+{
+    items
+        .iter()
+        .position(|handler| handler.is_tagged(mode, tag))
+}

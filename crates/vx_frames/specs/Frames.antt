@@ -1,0 +1,50 @@
+-- The frames of a process, the top first.
+use Rattle.std.specs.Prelude.{ℕ, List, [], ◌∷◌, Bool, true, false, ◌&&◌, ◌||◌, not, if◌then◌else◌, Option, Some, None}
+use Rattle.std.specs.List.{list_all}
+use Rattle.vx_base.specs.Modes.{reaches}
+use Rattle.vx_base.specs.declared.frame.Frame.{Frame}
+use Rattle.vx_base.specs.declared.frame.FrameKind.{FrameKind}
+use Rattle.vx_base.specs.declared.frame.FrameKind.TheVariants.{Ast}
+use Rattle.vx_base.specs.declared.frame.Wait.{Wait}
+use Rattle.vx_base.specs.declared.mode.Mode.{Mode}
+
+-- the frames, and how many there is room for in all
+pub record Stack : Type 0 where
+  pub items : List Frame
+  pub capacity : ℕ
+
+abbrev pub top_of : List Frame → Option Frame
+top_of [] = None
+top_of (f ∷ fs) = Some f
+
+abbrev pub below_top : List Frame → List Frame
+below_top [] = []
+below_top (f ∷ fs) = fs
+
+-- the top frame goes on at a statement, and waits for something or for nothing
+abbrev pub gone_on : ℕ → Option Wait → List Frame → List Frame
+gone_on pc wait [] = []
+gone_on pc wait (f ∷ fs) = record f { pc = pc; wait = wait } ∷ fs
+
+-- a frame may be put on others: it is not further out than their top
+abbrev pub may_stand_on : Frame → List Frame → Bool
+may_stand_on f [] = true
+may_stand_on f (g ∷ fs) = reaches g.mode f.mode
+
+-- from the bottom to the top, modes never go outward
+abbrev pub goes_inward : List Frame → Bool
+goes_inward [] = true
+goes_inward (f ∷ fs) = may_stand_on f fs && goes_inward fs
+
+abbrev pub is_ast : FrameKind → Bool
+is_ast (Ast id) = true
+is_ast _ = false
+
+-- the mode of the innermost active AST: of the first frame from the top that is one's
+abbrev pub active_mode : List Frame → Option Mode
+active_mode [] = None
+active_mode (f ∷ fs) = if is_ast f.kind then Some f.mode else active_mode fs
+
+-- each active AST is of this mode or further out
+abbrev pub is_inmost : Mode → List Frame → Bool
+is_inmost m fs = list_all (λ f. not (is_ast f.kind) || reaches f.mode m) fs

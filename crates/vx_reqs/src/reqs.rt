@@ -1,0 +1,188 @@
+//! The requests: one list, in order of acceptance.
+
+ghost use Rattle.std.specs.Prelude.{◌≡◌, ◌<◌, ◌≤◌, ◌+◌, ◌++◌, ◌∷◌, [], IsTrue, false, not, length, OnOk, OnErr, option_map, is_some};
+ghost use Rattle.std.specs.List.{find, list_any};
+ghost use Rattle.vx_base.specs.Lists.{less, amend};
+ghost use Rattle.vx_base.specs.Queues.{front, in_service};
+ghost use Rattle.vx_reqs.specs.Requests.{has_id, is_found, as_marked, begun, comes_after, least_id, keeps_open};
+ghost use Rattle.vx_reqs.specs.Seen.{promised_of};
+
+use crate::outstanding::{
+    Outstanding, any_with_id, is_outstanding, is_serving, mark_with_id, next_id, serve_waiting,
+    served_by, take_with_id, waiting_for, with_id,
+};
+use std::alloc::Global;
+use std::marker::Model;
+use vx_base::{Id, Mode, NoMemory, Pid, Req, Routine, UnitNo};
+
+/// The outstanding requests of all processes.
+#[derive(Drop)]
+pub struct Reqs<R: Routine> {
+    items: Vec<Outstanding<R>>,
+    room: usize,
+}
+
+impl<R: Routine> Model for Reqs<R> {
+    ghost use Rattle.std.specs.Prelude.{◌≤◌, vec_len, vec_capacity, map};
+    ghost use Rattle.vx_reqs.specs.Requests.{Requests};
+    ghost use Rattle.vx_reqs.specs.Seen.{request_of};
+
+    ghost Value = { Requests };
+
+    ghost view = { λ a. record { items = map (request_of R.tagged) a.items.items; capacity = a.room } };
+
+    ghost invariant = { λ a. (vec_len a.items ≤ a.room) × (a.room ≤ vec_capacity a.items) };
+}
+
+impl<R: Routine> Reqs<R> {
+    /// No requests, and room for none. Takes no memory.
+    pub fn new(alloc: Global) -> Reqs<R>
+        ensures { result ≡ record { items = []; capacity = 0 } }
+    {
+        Reqs {
+            items: Vec::new(alloc),
+            room: 0,
+        }
+    }
+
+    /// Makes room for a request more, or changes nothing.
+    pub fn reserve(&mut self) -> Result<(), NoMemory>
+        ensures items { self.new.items ≡ self.old.items }
+        ensures kept { self.old.capacity ≤ self.new.capacity }
+        ensures ok { OnOk result (length self.new.items < self.new.capacity) }
+        ensures err { OnErr result (self.new ≡ self.old) }
+    {
+        self.items.reserve(1)?;
+        self.room = self.items.capacity();
+        Ok(())
+    }
+
+    /// Accepts a request ($QIO), with the AST that it is to queue when it finishes, if it has one. Takes no memory.
+    pub fn accept(&mut self, req: Req, ast: Option<(Mode, R)>)
+        requires room { length self.old.items < self.old.capacity }
+        requires fresh { list_any (has_id req.id) self.old.items ≡ false }
+        ensures { self.new ≡ record self.old { items = self.old.items ++ record { req = req; ast = option_map (promised_of R.tagged) ast; served = false; marked = false } ∷ [] } }
+    {
+        let accepted = Outstanding {
+            req,
+            ast,
+            served: false,
+            marked: false,
+        };
+        match self.items.push(accepted) {
+            Ok(()) => (),
+            Err(_) => unreachable!(),
+        }
+    }
+
+    /// The request that a unit would take next: the first that waits for it. None exactly where the unit serves one, or
+    /// none waits for it.
+    pub fn front(&self, u: UnitNo) -> Option<Id>
+        ensures { result ≡ option_map (λ r. r.req.id) (front u self.now.items) }
+    {
+        if is_serving(&self.items, u) {
+            return None;
+        }
+        let front = waiting_for(&self.items, u)?;
+        Some(front.req.id)
+    }
+
+    /// Has a unit take the request that it takes next, as `front` has it: the unit serves it from now on.
+    pub fn begin(&mut self, u: UnitNo) -> Option<Id>
+        ensures found { result ≡ option_map (λ r. r.req.id) (front u self.old.items) }
+        ensures after { self.new ≡ record self.old { items = begun u self.old.items } }
+    {
+        let front = self.front(u);
+        if !is_serving(&self.items, u) {
+            serve_waiting(&mut self.items, u);
+        }
+        front
+    }
+
+    /// The request that a unit serves. None exactly where it serves none.
+    pub fn in_service(&self, u: UnitNo) -> Option<Id>
+        ensures { result ≡ option_map (λ r. r.req.id) (in_service u self.now.items) }
+    {
+        let served = served_by(&self.items, u)?;
+        Some(served.req.id)
+    }
+
+    /// The request with an id. None exactly where there is none.
+    pub fn get(&self, id: Id) -> Option<&Req>
+        ensures { option_map (λ r. r.now) result ≡ option_map (λ r. r.req) (find (has_id id) self.now.items) }
+    {
+        let found = with_id(&self.items, id)?;
+        Some(&found.req)
+    }
+
+    /// Whether there is a request with an id.
+    pub fn has(&self, id: Id) -> bool
+        ensures { result ≡ list_any (has_id id) self.now.items }
+    {
+        any_with_id(&self.items, id)
+    }
+
+    /// Takes out the request with an id, with its AST, and whether it was marked. None exactly where there is none.
+    pub fn finish(&mut self, id: Id) -> Option<(Req, Option<(Mode, R)>, bool)>
+        ensures req { option_map (λ done. done.0) result ≡ option_map (λ r. r.req) (find (has_id id) self.old.items) }
+        ensures ast { option_map (λ done. option_map (promised_of R.tagged) done.1) result ≡ option_map (λ r. r.ast) (find (has_id id) self.old.items) }
+        ensures marked { option_map (λ done. done.2) result ≡ option_map (λ r. r.marked) (find (has_id id) self.old.items) }
+        ensures after { self.new ≡ record self.old { items = less (has_id id) self.old.items } }
+    {
+        let Outstanding {
+            req,
+            ast,
+            served: _,
+            marked,
+        } = take_with_id(&mut self.items, id)?;
+        Some((req, ast, marked))
+    }
+
+    /// The least id above `after` among the requests of a process on a channel. None exactly where there is none.
+    pub fn next_on_channel(&self, p: Pid, chan: u32, after: Id) -> Option<Id>
+        ensures { result ≡ least_id (comes_after p (Some chan) after) self.now.items }
+    {
+        next_id(&self.items, p, Some(chan), after)
+    }
+
+    /// The least id above `after` among the requests of a process. None exactly where there is none.
+    pub fn next_of(&self, p: Pid, after: Id) -> Option<Id>
+        ensures { result ≡ least_id (comes_after p None after) self.now.items }
+    {
+        next_id(&self.items, p, None, after)
+    }
+
+    /// Marks the request with an id: it is to be aborted when its unit has served it ($CANCEL). Answers false, and changes
+    /// nothing, exactly where it was marked.
+    pub fn mark(&mut self, id: Id) -> bool
+        requires { IsTrue (list_any (has_id id) self.old.items) }
+        ensures was { result ≡ not (is_found (λ r. r.marked) (find (has_id id) self.old.items)) }
+        ensures kept { result ≡ false → self.new ≡ self.old }
+        ensures after { self.new ≡ record self.old { items = amend (has_id id) as_marked self.old.items } }
+    {
+        if let Some(found) = with_id(&self.items, id)
+            && found.marked
+        {
+            return false;
+        }
+        mark_with_id(&mut self.items, id);
+        true
+    }
+
+    /// Whether a request of a process is outstanding on a channel of a mode or an outer one: rundown waits for these.
+    pub fn outstanding(&self, p: Pid, mode: Mode) -> bool
+        ensures { result ≡ list_any (keeps_open p mode) self.now.items }
+    {
+        is_outstanding(&self.items, p, mode)
+    }
+
+    /// Whether there is a request with an id, and it has an AST.
+    pub fn has_ast(&self, id: Id) -> bool
+        ensures { result ≡ is_found (λ r. is_some r.ast) (find (has_id id) self.now.items) }
+    {
+        match with_id(&self.items, id) {
+            Some(found) => found.ast.is_some(),
+            None => false,
+        }
+    }
+}

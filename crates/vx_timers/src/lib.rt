@@ -1,0 +1,16 @@
+//! Timers and scheduled wakes.
+//!
+//! A timer ($SETIMR) sets an event flag and queues an AST when its time comes; a scheduled wake ($SCHDWK) wakes a process,
+//! once or again and again. Both stand here until they fall due or are cancelled ($CANTIM, $CANWAK). Contracts see one list
+//! in id order, and how many entries there is room for: `specs/Timing.antt`. Times are in ticks.
+#![tactic(auto)]
+
+mod due;
+mod place;
+mod timers;
+
+pub use due::{Due, What};
+pub use timers::Timers;
+
+#[cfg(test)]
+mod tests;

@@ -1,0 +1,19 @@
+//! What stands at a place of a list.
+
+ghost use Rattle.std.specs.Prelude.{◌≡◌, ◌<◌, ◌≤◌, Bool, IfSome, position, vec_len, vec_capacity};
+ghost use Rattle.std.specs.List.{find};
+ghost use Rattle.vx_base.specs.Lists.{less};
+
+/// Takes out the item at a place, if there is one.
+pub fn taken<T>(items: &mut Vec<T>, place: Option<usize>) -> Option<T>
+    requires { IfSome place (λ i. i < vec_len items.old) }
+    ensures found { (p : T → Bool) → place ≡ position p items.old.items → result ≡ find p items.old.items }
+    ensures after { (p : T → Bool) → place ≡ position p items.old.items → items.new.items ≡ less p items.old.items }
+    ensures fewer { vec_len items.new ≤ vec_len items.old }
+    ensures capacity { vec_capacity items.new ≡ vec_capacity items.old }
+{
+    match place {
+        Some(place) => Some(items.remove(place)),
+        None => None,
+    }
+}

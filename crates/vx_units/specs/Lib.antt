@@ -1,0 +1,4 @@
+pub mod Any
+pub mod Blocks
+pub mod Lined
+pub mod Units
