@@ -12,8 +12,8 @@ use Rattle.vx_base.specs.declared.service.Param.{Param}
 use Rattle.vx_image.specs.Local.{Reader, Moved, Advanced, computed_arg, computed, stop_at, go_on, local_at, run_local, advanced}
 use Rattle.vx_image.specs.Storage.{Storage}
 use Rattle.vx_image.specs.WellFormed.{is_among, are_distinct, falls_nowhere, label_names, label_places, has_its_label, has_its_decl, is_call_of, is_stmt, is_image}
-use Rattle.vx_image.specs.declared.advance.Stop.{Stop}
-use Rattle.vx_image.specs.declared.advance.Stop.TheVariants as stop
+use Rattle.vx_image.specs.declared.stop.Stop.{Stop}
+use Rattle.vx_image.specs.declared.stop.Stop.TheVariants as stop
 use Rattle.vx_image.specs.declared.image.Image.{Image}
 use Rattle.vx_image.specs.declared.image.Label.{Label}
 use Rattle.vx_image.specs.declared.stmt.Stmt.{Stmt}

@@ -19,8 +19,8 @@ use Rattle.vx_base.specs.declared.routine.Entry.{Entry}
 use Rattle.vx_base.specs.declared.routine.Entry.TheVariants as entry
 use Rattle.vx_image.specs.Local.{Advanced, advanced}
 use Rattle.vx_image.specs.WellFormed.{is_image, decl_names, IsWellFormed}
-use Rattle.vx_image.specs.declared.advance.Stop.{Stop}
-use Rattle.vx_image.specs.declared.advance.Stop.TheVariants as stop
+use Rattle.vx_image.specs.declared.stop.Stop.{Stop}
+use Rattle.vx_image.specs.declared.stop.Stop.TheVariants as stop
 use Rattle.vx_image.specs.declared.decl.ProcDecl.{ProcDecl}
 use Rattle.vx_image.specs.declared.image.Image.{Image}
 use Rattle.vx_image.specs.declared.system.System.{System}
