@@ -1,6 +1,6 @@
 -- Facts that hold of each of a list, and ids that rise.
-use Rattle.std.proofs.Common.{◌≡◌, ◌≢◌, ℕ, zero, suc, ◌+◌, ◌<◌, ◌≤◌, List, [], ◌∷◌, ◌++◌, Bool, true, false, cond, ◌==◌, length, Option, Some, get_or, set, refl, arith}
-use Rattle.std.specs.List.{AllByRecursion, filter, find}
+use Rattle.std.proofs.Common.{◌≡◌, ◌≢◌, ℕ, zero, suc, ◌+◌, ◌<◌, ◌≤◌, List, [], ◌∷◌, ◌++◌, Bool, true, false, cond, not, ◌==◌, ◌||◌, length, Option, Some, IfSome, get_or, set, refl, sym, ◌∙◌, arith}
+use Rattle.std.specs.List.{AllByRecursion, filter, find, list_any}
 use Rattle.std.proofs.lemmas.Bool.{eq-eqb, eqb-true}
 use Rattle.vx_base.specs.Lists.{less, amend}
 use Rattle.vx_record.specs.Sound.{AreOrdered}
@@ -59,6 +59,45 @@ pub find_passes : {A : Type 0} (p : A → Bool) (xs : List A) (x : A) → find p
 find_passes p [] x e = cc
 find_passes p (y ∷ ys) x e =
     either_by (λ (o : Option _). o ≡ Some x → p x ≡ true) (p y) (Some y) (find p ys) (λ t same. let is : y ≡ x = cc in rw (← is) t) (λ f same. find_passes p ys x same) e
+
+pub all_get : {A : Type 0} (P : A → Type 0) (xs : List A) (i : ℕ) (d : A) → P d → AllByRecursion P xs → P (get_or xs i d)
+all_get P [] i d e h = e
+all_get P (x ∷ xs) zero d e h = h.0
+all_get P (x ∷ xs) (suc i) d e h = all_get P xs i d e h.1
+
+-- the same of an option
+pub some_found : {A : Type 0} (P : A → Type 0) (p : A → Bool) (xs : List A) → AllByRecursion P xs → IfSome (find p xs) P
+some_found P p [] h = tt
+some_found P p (x ∷ xs) h = either (λ (o : Option _). IfSome o P) (p x) (Some x) (find p xs) h.0 (some_found P p xs h.1)
+
+-- Tests.
+
+pub or_none : (a b : Bool) → (a || b) ≡ false → (a ≡ false) × (b ≡ false)
+or_none true b h = cc
+or_none false b h = (refl, h)
+
+pub not_holds : (b : Bool) → not b ≡ true → b ≡ false
+not_holds true h = cc
+not_holds false h = refl
+
+pub not_fails : (b : Bool) → not b ≡ false → b ≡ true
+not_fails true h = refl
+not_fails false h = cc
+
+pub fails_not : (b : Bool) → b ≡ false → not b ≡ true
+fails_not true h = cc
+fails_not false h = refl
+
+pub false_from : (b : Bool) → (b ≡ true → ⊥) → b ≡ false
+false_from true h = absurd (h refl)
+false_from false h = refl
+
+pub apart_bools : (b : Bool) → b ≡ true → b ≡ false → ⊥
+apart_bools b e f = let no : true ≡ false = sym e ∙ f in cc
+
+pub none_passes : {A : Type 0} (p : A → Bool) (xs : List A) → list_any p xs ≡ false → AllByRecursion (λ x. p x ≡ false) xs
+none_passes p [] h = tt
+none_passes p (x ∷ xs) h = let both = or_none (p x) (list_any p xs) h in (both.0, none_passes p xs both.1)
 
 -- Ids.
 

@@ -20,7 +20,7 @@ use Rattle.vx_record.specs.Flags.{flag_part, flag_where_named, cell}
 use Rattle.vx_record.specs.Asts.{que_part, charged_ast, dclast, setast, is_inside, new_frame, cmexec, cmkrnl, with_delivery}
 use Rattle.vx_record.specs.Control.{with_wake}
 use Rattle.vx_record.specs.Timers.{this_timer, with_timer, drop_timer, drop_timers, new_timer, open_timer, timer_set, setimr_at, setimr, cantim, is_cancelled_timer, que_timer, fire_timer, due_again, after_wake, fired, fire, is_due, at_time, next_time, tick}
-use Rattle.vx_record.specs.Sound.{ground, IsMade, IsRoutineOf, IsIdle, TimerStands, timer_id, IsSound}
+use Rattle.vx_record.specs.Sound.{ground, IsMade, IsRoutineOf, IsIdle, TimerStands, timer_id, IsSound, AlarmStands}
 use Rattle.vx_record.proofs.Lists.{either, all_append, all_less, all_amend, all_filter, all_weaker, ordered_less, ordered_amend, ordered_more}
 use Rattle.vx_record.proofs.Ground.{made_keeps, routine_of_moves, some_weaker, timer_moves, Still, still, still_then, timers_still, later_still, past_id_still}
 use Rattle.vx_record.proofs.Changes.{idle_of, stands_at, quiet_still, with_queued_still, with_frame_sound, with_delivery_quiet, with_wake_quiet}
@@ -109,7 +109,7 @@ after_wake_still s t repeat h =
     (all_amend (TimerStands (ground s)) (this_timer t.id) (due_again repeat) (λ x k. record { made = k.made; alarm = k.alarm }) s.timers h.timers)
     (ordered_amend timer_id (this_timer t.id) (due_again repeat) (λ x. refl) 0 s.next s.timers h.timer_ids) h)
 
-fired_still : (s : State) (t : Timer) (a : Alarm) → IsMade (ground s) t.p → Rattle.vx_record.specs.Sound.AlarmStands (ground s) t.p a → IsSound s → Still s (fired s t a).after
+fired_still : (s : State) (t : Timer) (a : Alarm) → IsMade (ground s) t.p → AlarmStands (ground s) t.p a → IsSound s → Still s (fired s t a).after
 fired_still s t (OfTimer efn reqid mode tag) m r h =
     let a = (fire_timer s t).after in
     let one = less_timer_still s t.id h in

@@ -1,4 +1,5 @@
 -- References stand after a request finishes, and after what mailboxes do.
+use Rattle.vx_base.specs.declared.cond.Cond.TheVariants.{EndOfFile}
 use Rattle.std.proofs.Common.{ℕ, List, [], ◌∷◌, ◌++◌, Bool, true, not, ◌==◌, ◌&&◌, nat_lt, Option, Some, None, IfSome, IsTrue, is_some, refl, arith}
 use Rattle.std.specs.List.{AllByRecursion, filter, find}
 use Rattle.vx_base.specs.Lists.{less}
@@ -17,7 +18,7 @@ use Rattle.vx_record.specs.Asts.{charged_ast}
 use Rattle.vx_record.specs.Finish.{Ending, ending, is_read, this_request, fin_part, with_stored_bytes, buf_part, with_stored_status, iosb_part, status_of, done_flag_part, done_ast_part, finish, finish_found, finish_id}
 use Rattle.vx_record.specs.Mailboxes.{mailbox_at, with_messages, waits_at, is_waiting_func, mput_part, mget_part, this_message, read_ending, write_ending, received, write_done, is_attention_at, this_attention, fire_attention, call_attention, store_message, hand_over, write_box, wait_for_message, take_message, read_box, is_answered_now, attend}
 use Rattle.vx_record.specs.Sound.{ground, IsRoutineOf, RequestStands, AttentionStands, ProcessStands, request_id, attention_id, IsSound}
-use Rattle.vx_record.proofs.Lists.{either, all_weaker, all_less, all_filter, ordered_less}
+use Rattle.vx_record.proofs.Lists.{either, all_weaker, all_less, all_filter, ordered_less, some_found}
 use Rattle.vx_record.proofs.Ground.{Keeps, request_keeps, attention_keeps, process_moves, Still, still, still_then, moved, requests_still, attention_still, at_set}
 use Rattle.vx_record.proofs.Changes.{quiet_still, with_stored_bytes_quiet, with_stored_status_quiet}
 use Rattle.vx_record.proofs.SoundFlags.{flag_where_named_still}
@@ -25,11 +26,6 @@ use Rattle.vx_record.proofs.SoundAsts.{que_part_still}
 
 pub part_if_still : (s : State) (test : Bool) (part : Part) → Still s part.after → IsSound s → Still s (part_if test part s).after
 part_if_still s test part k h = either (λ (x : Part). Still s x.after) test part (nothing s) k (still s h)
-
--- what is found has what all have
-pub some_found : {A : Type 0} (P : A → Type 0) (p : A → Bool) (xs : List A) → AllByRecursion P xs → IfSome (find p xs) P
-some_found P p [] h = tt
-some_found P p (x ∷ xs) h = either (λ (o : Option _). IfSome o P) (p x) (Some x) (find p xs) h.0 (some_found P p xs h.1)
 
 -- Finish.
 
@@ -145,7 +141,7 @@ write_box_still s b m h =
 
 wait_for_message_still : (s : State) (b : BoxNo) (r : Request) → RequestStands (ground s) r → IsSound s → Still s (wait_for_message s b r).after
 wait_for_message_still s b r k h =
-    let e = ending Rattle.vx_base.specs.declared.cond.Cond.TheVariants.EndOfFile 0 0 [] in
+    let e = ending EndOfFile 0 0 [] in
     let part = part_if (not (is_waiting_func r.req.func)) (finish s r e) s in
     let one : Still s part.after = part_if_still s (not (is_waiting_func r.req.func)) (finish s r e) (finish_still s r e k h) h in
     still_then one (call_attention_still part.after b ReadAttn one.sound)

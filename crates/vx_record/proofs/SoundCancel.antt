@@ -1,6 +1,6 @@
 -- References stand after a channel is cancelled, and nothing hangs on it then.
-use Rattle.std.proofs.Common.{◌≡◌, ◌≢◌, ℕ, List, [], ◌∷◌, Bool, true, false, not, ◌==◌, ◌&&◌, ◌||◌, nat_lt, Option, Some, None, refl, sym, ap, ◌∙◌, inl, inr}
-use Rattle.std.proofs.lemmas.Bool.{and_parts, and_from, eqb-true, eq-eqb, or_cases}
+use Rattle.std.proofs.Common.{◌≡◌, ◌≢◌, ℕ, List, [], ◌∷◌, Bool, true, false, not, ◌==◌, ◌&&◌, nat_lt, Option, Some, None, refl, ap, ◌∙◌, inl, inr}
+use Rattle.std.proofs.lemmas.Bool.{and_parts, and_from, eqb-true, eq-eqb, or_cases, or_left, or_right}
 use Rattle.std.specs.List.{AllByRecursion, filter, list_any}
 use Rattle.vx_base.specs.Lists.{less, amend}
 use Rattle.vx_base.specs.Pieces.{Request, Promised, Attention}
@@ -18,33 +18,10 @@ use Rattle.vx_record.specs.Finish.{Ending, ending, is_read, this_request, fin_pa
 use Rattle.vx_record.specs.Mailboxes.{mailbox_at, this_message, mcut_part, this_attention}
 use Rattle.vx_record.specs.Cancel.{with_abort, mark_part, withdraw, cancelled_request, cancel_request, is_request_on, is_attention_on, drop_attention, cancel_channel, cancel_at, cancel, dassgn_at, dassgn}
 use Rattle.vx_record.specs.Sound.{ground, MayBeServed, RequestStands, AttentionStands, request_id, attention_id, IsSound}
-use Rattle.vx_record.proofs.Lists.{either, either_by, all_weaker, all_both, all_less, all_amend, all_filter, ordered_amend, ordered_less, removed}
+use Rattle.vx_record.proofs.Lists.{either, either_by, all_weaker, all_both, all_less, all_amend, all_filter, ordered_amend, ordered_less, removed, not_holds, fails_not, false_from, apart_bools}
 use Rattle.vx_record.proofs.Ground.{made_keeps, request_keeps, Still, still, still_then, requests_still, attention_still}
 use Rattle.vx_record.proofs.SoundBoxes.{part_if_still, finish_still, with_messages_still}
 use Rattle.vx_record.proofs.SoundChannels.{at_channel_sound, is_on_box, IsClear, free_channel_sound}
-
-or_right : (a b : Bool) → b ≡ true → (a || b) ≡ true
-or_right true b h = refl
-or_right false b h = h
-
-or_left : (a b : Bool) → a ≡ true → (a || b) ≡ true
-or_left true b h = refl
-or_left false b h = cc
-
-pub false_from : (b : Bool) → (b ≡ true → ⊥) → b ≡ false
-false_from true h = absurd (h refl)
-false_from false h = refl
-
-pub apart_bools : (b : Bool) → b ≡ true → b ≡ false → ⊥
-apart_bools b e f = let no : true ≡ false = sym e ∙ f in cc
-
-not_false : (b : Bool) → b ≡ false → not b ≡ true
-not_false true h = cc
-not_false false h = refl
-
-not_true : (b : Bool) → not b ≡ true → b ≡ false
-not_true true h = cc
-not_true false h = refl
 
 -- What a finish does to requests and attention entries.
 
@@ -145,7 +122,7 @@ past_served : (p : Pid) (n : ℕ) (t : Request) (ts : List Request) → t.served
 unfolding takes Covered
 past_served p n t ts served r k e =
     elim (or_cases (takes r t) (list_any (takes r) ts) (k e)) [
-      | inl here ↦ absurd (apart_bools t.served served (not_true t.served (and_parts (this_request t.req.id r) (not t.served) here).1))
+      | inl here ↦ absurd (apart_bools t.served served (not_holds t.served (and_parts (this_request t.req.id r) (not t.served) here).1))
       | inr there ↦ there
     ]
 
@@ -201,7 +178,7 @@ box_unserved served (device.Mailbox b) k e = k
 
 takes_itself : (r : Request) → r.served ≡ false → takes r r ≡ true
 unfolding takes
-takes_itself r e = and_from (this_request r.req.id r) (not r.served) (eq-eqb r.req.id.0 r.req.id.0 refl) (not_false r.served e)
+takes_itself r e = and_from (this_request r.req.id r) (not r.served) (eq-eqb r.req.id.0 r.req.id.0 refl) (fails_not r.served e)
 
 covered_more : (p : Pid) (n : ℕ) (t : Request) (ts : List Request) (r : Request) → Covered p n ts r → Covered p n (t ∷ ts) r
 unfolding Covered

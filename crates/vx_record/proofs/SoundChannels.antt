@@ -20,11 +20,10 @@ use Rattle.vx_record.specs.Mailboxes.{is_box, mailbox_at}
 use Rattle.vx_record.specs.Cancel.{is_request_on, is_attention_on}
 use Rattle.vx_record.specs.Channels.{channel_test, at_tested, at_channel, is_unit_of, is_box_of, box_number, unit_named, box_named, unit_or_box, device_named, with_channel, assigned, free_channel_of, assign_at, assign_to, assign, is_bad_box, new_box, make_box, make_box_in, create_box, find_or_create, crembx, marked_box, delete_box, delmbx_on, delmbx_at, delmbx, is_channel_to, has_channel_to, is_assigned, goes_unused, box_gone, swept_device, swept_box, free_channel}
 use Rattle.vx_record.specs.Sound.{ground, BoxStands, DeviceStands, ChannelStands, HasChannel, IsRooted, RequestStands, is_drained, TimerStands, AttentionStands, ProcessStands, AssociationStands, IsSound}
-use Rattle.vx_record.proofs.Lists.{either, either_by, all_weaker, all_both, all_set, all_at}
+use Rattle.vx_record.proofs.Lists.{either, either_by, all_weaker, all_both, all_set, all_at, all_get, none_passes, not_holds}
 use Rattle.vx_record.proofs.Ground.{Base, made_base, routine_of_moves, request_moves, timer_moves, process_moves, association_moves, Still, change_still, at_set}
-use Rattle.vx_record.proofs.SoundFlags.{none_passes}
 use Rattle.vx_record.proofs.SoundBoxes.{box_still}
-use Rattle.vx_record.proofs.SoundRequests.{all_get, tested_channel}
+use Rattle.vx_record.proofs.SoundRequests.{tested_channel}
 
 at_tested_sound : (s : State) (go : Channel → Outcome Cond) (r : Result Channel Cond) → ((ch : Channel) → r ≡ Ok ch → IsSound (go ch).after) → IsSound s → IsSound (at_tested (refused s) go r).after
 at_tested_sound s go (Err c) f h = h
@@ -282,11 +281,7 @@ swept_device_sound : (s : State) (d : Device) → IsSound s → IsSound (swept_d
 swept_device_sound s (device.Unit u) h = h
 swept_device_sound s (device.Mailbox b) h =
     either_by (λ (x : Part). IsSound x.after) (not (is_assigned s b) && goes_unused (mailbox_at s b)) (box_gone s b) (nothing s)
-    (λ e. gone_sound s b (not_true (is_assigned s b) (and_parts (not (is_assigned s b)) (goes_unused (mailbox_at s b)) e).0) h) (λ e. h)
-  where
-    not_true : (b : Bool) → not b ≡ true → b ≡ false
-    not_true true e = cc
-    not_true false e = refl
+    (λ e. gone_sound s b (not_holds (is_assigned s b) (and_parts (not (is_assigned s b)) (goes_unused (mailbox_at s b)) e).0) h) (λ e. h)
 
 pub swept_box_sound : (s : State) (o : Option Channel) → IsSound s → IsSound (swept_box s o).after
 swept_box_sound s None h = h

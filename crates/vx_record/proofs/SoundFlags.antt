@@ -1,7 +1,7 @@
 -- References stand after what is done to event flags and common clusters.
-use Rattle.std.proofs.Common.{◌≡◌, ℕ, ◌^◌, ◌%◌, List, [], ◌∷◌, ◌++◌, Bool, true, false, not, nat_lt, ◌==◌, ◌&&◌, ◌||◌, length, Option, Some, None, IfSome, bytes_eq, refl, sym, ◌∙◌, inl, inr}
+use Rattle.std.proofs.Common.{◌≡◌, ℕ, ◌^◌, ◌%◌, List, [], ◌∷◌, ◌++◌, Bool, true, false, not, nat_lt, ◌==◌, ◌&&◌, length, Option, Some, None, IfSome, bytes_eq, refl, sym, ◌∙◌, inl, inr}
 use Rattle.std.specs.List.{AllByRecursion, find, list_any}
-use Rattle.std.proofs.lemmas.Bool.{eq-eqb, eqb-true, or_cases, and_parts, and_from}
+use Rattle.std.proofs.lemmas.Bool.{eq-eqb, eqb-true, or_cases, and_parts, and_from, or_left, or_right}
 use Rattle.std.proofs.lemmas.Slice.Eq.{bytes_eq-Decides}
 use Rattle.vx_base.specs.Clusters.{Common, Change, cluster_number, is_cluster, is_association, is_user, stands, is_used, made, gone, joined, parted, swept_at, swept, dissociated_at, dissociated, has_already, made_where_new, associated, with_mark, marked_at, marked}
 use Rattle.vx_base.specs.Lists.{less, amend}
@@ -16,19 +16,11 @@ use Rattle.vx_record.specs.State.{State, IsWithin, IsProcess, process_at, change
 use Rattle.vx_record.specs.Parts.{Outcome, refused, commonly}
 use Rattle.vx_record.specs.Flags.{cell, with_local_flag, with_cluster_flag, with_cell, flag_part, flag_where_named, at_named, at_flag, put_flag_at, setef, clref, refused_value, readef_at, readef, with_wait, refused_wait, satisfied, awaited_at, awaited, waits_on, waitfr, wflor, wfland, is_common, wants_prmceb, ascefc, dacefc, dlcefc}
 use Rattle.vx_record.specs.Sound.{AssociationStands, IsSound}
-use Rattle.vx_record.proofs.Lists.{either, either_by, all_weaker, all_both, all_append, all_less, find_passes}
+use Rattle.vx_record.proofs.Lists.{either, either_by, all_weaker, all_both, all_append, all_less, find_passes, none_passes}
 use Rattle.vx_record.proofs.Ground.{Still, still, common_still}
 use Rattle.vx_record.proofs.Changes.{quiet_still, with_local_flag_quiet, with_wait_quiet}
 
 -- Lists.
-
-or_left : (a b : Bool) → a ≡ true → (a || b) ≡ true
-or_left true b h = refl
-or_left false b h = cc
-
-or_right : (a b : Bool) → b ≡ true → (a || b) ≡ true
-or_right true b h = refl
-or_right false b h = h
 
 any_append : {A : Type 0} (p : A → Bool) (xs ys : List A) → list_any p xs ≡ true → list_any p (xs ++ ys) ≡ true
 any_append p [] ys h = cc
@@ -51,14 +43,6 @@ any_amend p q f same [] h = h
 any_amend p q f same (x ∷ xs) h =
     either (λ ys. list_any q ys ≡ true) (p x) (f x ∷ xs) (x ∷ amend p f xs) (rw (same x) h)
     (elim (or_cases (q x) (list_any q xs) h) [ inl here ↦ or_left (q x) (list_any q (amend p f xs)) here | inr there ↦ or_right (q x) (list_any q (amend p f xs)) (any_amend p q f same xs there) ])
-
-or_none : (a b : Bool) → (a || b) ≡ false → (a ≡ false) × (b ≡ false)
-or_none true b h = cc
-or_none false b h = (refl, h)
-
-pub none_passes : {A : Type 0} (p : A → Bool) (xs : List A) → list_any p xs ≡ false → AllByRecursion (λ x. p x ≡ false) xs
-none_passes p [] h = tt
-none_passes p (x ∷ xs) h = let both = or_none (p x) (list_any p xs) h in (both.0, none_passes p xs both.1)
 
 -- Common clusters.
 

@@ -1,4 +1,5 @@
 -- References stand after the services on processes and exit handlers.
+use Rattle.vx_base.specs.declared.quota.Privs.{Privs}
 use Rattle.std.proofs.Common.{◌≡◌, ℕ, zero, suc, ◌-◌, ◌<◌, List, [], ◌∷◌, ◌++◌, Bool, true, false, not, nat_le, length, replicate, Option, Some, None, Result, Ok, Err, get_or, refl, ap, arith}
 use Rattle.std.proofs.lemmas.Bool.{and_parts, leb-true}
 use Rattle.std.proofs.lemmas.List.{length-append, get_or_append_left}
@@ -19,7 +20,7 @@ use Rattle.vx_record.specs.Timers.{new_wake, scheduled, schdwk, is_wake_for, uns
 use Rattle.vx_record.specs.Rundown.{without_frames, leave_kind, leave_frame, leave_all, exited, exit, is_handler_of, is_handler_with, new_handler, is_kernel, dclexh, drop_handler, drop_handlers, any_handler, cancel_found, cancel_handlers, canexh, named_for_deletion, deleted_by, delprc}
 use Rattle.vx_record.specs.Sound.{ground, IsRoutineOf, ProcessStands, ChannelStands, IsSound}
 use Rattle.vx_record.specs.declared.served.Served.{Served}
-use Rattle.vx_record.proofs.Lists.{either, either_by, all_append, all_weaker}
+use Rattle.vx_record.proofs.Lists.{either, either_by, all_append, all_weaker, not_fails}
 use Rattle.vx_record.proofs.Ground.{Keeps, Still, still, still_then, moved, past_id_still, process_moves}
 use Rattle.vx_record.proofs.Changes.{quiet_still, with_wake_quiet, with_suspension_quiet, with_handler_still, without_handler_still, without_frames_still, named_for_deletion_still}
 use Rattle.vx_record.proofs.SoundFlags.{with_wait_still}
@@ -42,11 +43,7 @@ tested_made s p q n =
     let r = named_process p n in
     let P = λ (o : Result Pid Cond). o ≡ Ok q → IsProcess s q in
     either_by P (not (exists_for_control s r.0)) _ _ (λ e same. cc)
-    (λ e. either P (may_control s p r) (Ok r) _ (λ same. let is : r ≡ q = cc in rw (← is) (exists_made s r (not_false (exists_for_control s r.0) e))) (λ same. cc))
-  where
-    not_false : (b : Bool) → not b ≡ false → b ≡ true
-    not_false true h = refl
-    not_false false h = cc
+    (λ e. either P (may_control s p r) (Ok r) _ (λ same. let is : r ≡ q = cc in rw (← is) (exists_made s r (not_fails (exists_for_control s r.0) e))) (λ same. cc))
 
 at_process_sound : (s : State) (p : Pid) (n : ℕ) (go : Pid → Outcome Cond) → ((q : Pid) → IsProcess s q → IsSound (go q).after) → IsSound s → IsSound (at_process s p n go).after
 at_process_sound s p n go f h = at_tested_sound s go (process_test s p n) (λ q e. f q (tested_made s p q n e)) h
@@ -80,7 +77,7 @@ canwak_sound s p n h = at_process_sound s p n (unscheduled s) (λ q m. (drop_tim
 
 -- Creation.
 
-all_free : (s : State) (n : ℕ) → AllByRecursion (ChannelStands (ground s)) (replicate n None)
+pub all_free : (s : State) (n : ℕ) → AllByRecursion (ChannelStands (ground s)) (replicate n None)
 all_free s zero = tt
 all_free s (suc n) = (tt, all_free s n)
 
@@ -99,7 +96,7 @@ more_keeps s pr =
       going = λ q mode m e. rw (same q m) e;
     }
 
-pub born_stands : (s : State) (place group member : ℕ) (privs : Rattle.vx_base.specs.declared.quota.Privs.Privs) (mode : Mode) → place < length s.system.decls → ProcessStands (ground s) (born place group member privs mode)
+pub born_stands : (s : State) (place group member : ℕ) (privs : Privs) (mode : Mode) → place < length s.system.decls → ProcessStands (ground s) (born place group member privs mode)
 born_stands s place group member privs mode k = record {
   decl = k;
   numbers = refl;

@@ -1,5 +1,5 @@
 -- References stand after the services on requests, and after what units do.
-use Rattle.std.proofs.Common.{◌≡◌, ℕ, zero, suc, ◌+◌, ◌-◌, ◌≤◌, List, [], ◌∷◌, ◌++◌, Bool, true, false, not, ◌||◌, nat_lt, Option, Some, None, Result, Ok, Err, IfSome, is_some, get_or, refl, ap, arith}
+use Rattle.std.proofs.Common.{◌≡◌, ℕ, ◌+◌, ◌-◌, ◌≤◌, List, [], ◌∷◌, ◌++◌, Bool, true, false, not, nat_lt, Option, Some, None, Result, Ok, Err, IfSome, is_some, refl, ap, arith}
 use Rattle.std.proofs.Math.ListN.{length-set}
 use Rattle.std.proofs.lemmas.Bool.{ltb-false, and_parts, eqb-true}
 use Rattle.std.specs.List.{AllByRecursion, find}
@@ -30,18 +30,13 @@ use Rattle.vx_record.specs.Channels.{usable_in, channel_test}
 use Rattle.vx_record.specs.Requests.{Asked, is_bad, has_function, is_too_long, is_full, device_test, on_channel, on_cell, request_test, promised, new_request, cleared_part, with_request, opened_request, begun_on, transfer, new_attention, done_at_once, attention_opened, attention_set, attention_on, asked_of, accepted, qio_tested, qio, qiow_tested, qiow, synch, taken_up, begun, with_unit, unit_ending, done}
 use Rattle.vx_record.specs.Sound.{Ground, ground, IsMade, process_of, IsRoutineOf, DeviceStands, ChannelStands, IsRooted, MayBeServed, RequestStands, is_drained, AttentionStands, ProcessStands, AreOrdered, request_id, attention_id, IsSound}
 use Rattle.vx_record.specs.declared.served.Served.{Served}
-use Rattle.vx_record.proofs.Lists.{either, either_by, all_weaker, all_append, all_find, ordered_more, ordered_amend, all_from}
+use Rattle.vx_record.proofs.Lists.{either, either_by, all_weaker, all_append, all_find, ordered_more, ordered_amend, all_from, all_get, or_none}
 use Rattle.vx_record.proofs.Ground.{Keeps, made_keeps, some_weaker, routine_of_moves, device_moves, request_keeps, attention_keeps, process_moves, Still, still, still_then, moved, requests_still, attention_still, past_id_still}
 use Rattle.vx_record.proofs.Changes.{going_of, stands_at}
 use Rattle.vx_record.proofs.SoundFlags.{flag_part_still, flag_where_named_still, awaited_sound, waits_sound}
 use Rattle.vx_record.proofs.SoundBoxes.{iosb_part_still, finish_still, read_box_still, write_box_still, attend_still}
 
 -- A channel that passed the test.
-
-pub all_get : {A : Type 0} (P : A → Type 0) (xs : List A) (i : ℕ) (d : A) → P d → AllByRecursion P xs → P (get_or xs i d)
-all_get P [] i d e h = e
-all_get P (x ∷ xs) zero d e h = h.0
-all_get P (x ∷ xs) (suc i) d e h = all_get P xs i d e h.1
 
 usable_row : (mode : Mode) (o : Option Channel) (ch : Channel) → usable_in mode o ≡ Ok ch → o ≡ Some ch
 usable_row mode None ch e = cc
@@ -182,10 +177,6 @@ accepted_still s p q c ch a h =
     still_then one (asked_of_still t p q ch (asked_keeps (ground s) (ground t) one.keeps p q ch a) one.sound)
 
 -- The tests.
-
-or_none : (a b : Bool) → (a || b) ≡ false → (a ≡ false) × (b ≡ false)
-or_none true b h = cc
-or_none false b h = (refl, h)
 
 on_channel_row : (go : Channel → Result (Cell × Channel) Cond) (r : Result Channel Cond) (to : Cell × Channel) → ((ch : Channel) → go ch ≡ Ok to → ch ≡ to.1) → on_channel go r ≡ Ok to → r ≡ Ok to.1
 on_channel_row go (Err c) to f e = cc

@@ -1,7 +1,7 @@
 -- References stand while a process is run down.
-use Rattle.std.proofs.Common.{◌≡◌, ◌≢◌, ℕ, zero, suc, ◌+◌, ◌-◌, ◌<◌, ◌≤◌, List, [], ◌∷◌, Bool, true, false, not, ◌==◌, ◌&&◌, ◌||◌, nat_le, length, Option, Some, None, get_or, set, refl, sym, ap, ◌∙◌, arith, subst, inl, inr, get_or-set_same, get_or-set_other}
+use Rattle.std.proofs.Common.{◌≡◌, ◌≢◌, ℕ, zero, suc, ◌+◌, ◌-◌, ◌<◌, ◌≤◌, List, [], ◌∷◌, Bool, true, false, not, ◌==◌, ◌&&◌, nat_le, length, Option, Some, None, get_or, set, refl, sym, ap, ◌∙◌, arith, subst, inl, inr, get_or-set_same, get_or-set_other}
 use Rattle.std.proofs.Math.ListN.{length-set}
-use Rattle.std.proofs.lemmas.Bool.{and_parts, and_from, eqb-true, eq-eqb, le-leb, or_cases, cases_eq}
+use Rattle.std.proofs.lemmas.Bool.{and_parts, and_from, eqb-true, eq-eqb, le-leb, or_cases, cases_eq, or_left, or_right, leb-true}
 use Rattle.std.specs.List.{AllByRecursion, filter, find, list_any}
 use Rattle.vx_base.specs.Channels.{is_channel_number, channel_at, is_reached, reached_from, channels_of}
 use Rattle.vx_base.specs.Modes.{reaches}
@@ -24,14 +24,14 @@ use Rattle.vx_record.specs.Channels.{with_channel, is_assigned, goes_unused, box
 use Rattle.vx_record.specs.Cancel.{cancel_channel, is_request_on, is_attention_on}
 use Rattle.vx_record.specs.Rundown.{in_phase, keeps_busy, is_busy, cancel_one, free_one, is_timer_in, is_wake_by, cancel_modes, drop_ast, is_ast_reached, drop_asts, part_with, release, is_handler_of, any_handler, handler_frame, entered, drop_all_handlers, gone, drain, draining, cancelled_in, run_handlers, handling, run_down, inner_modes, rundown_from, rundown}
 use Rattle.vx_record.specs.Sound.{ground, process_of, IsRooted, HasChannel, RequestStands, TimerStands, is_drained, IsIdle, AttentionStands, ProcessStands, AssociationStands, IsSound}
-use Rattle.vx_record.proofs.Lists.{either, either_by, all_weaker, all_both, all_set}
+use Rattle.vx_record.proofs.Lists.{either, either_by, all_weaker, all_both, all_set, none_passes, false_from, apart_bools}
 use Rattle.vx_record.proofs.Ground.{Base, made_base, made_keeps, routine_of_moves, request_moves, timer_moves, process_moves, association_moves, has_channel_keeps, Still, still, still_then, at_set}
 use Rattle.vx_record.proofs.Changes.{stands_at, without_ast_still, entering_sound, in_phase_still}
-use Rattle.vx_record.proofs.SoundFlags.{none_passes, part_with_still}
+use Rattle.vx_record.proofs.SoundFlags.{part_with_still}
 use Rattle.vx_record.proofs.SoundAsts.{drop_timers_still}
 use Rattle.vx_record.proofs.SoundProcs.{drop_handlers_still}
 use Rattle.vx_record.proofs.SoundChannels.{is_on_box, IsClear, free_channel_sound}
-use Rattle.vx_record.proofs.SoundCancel.{false_from, apart_bools, Cancelled, cancel_channel_clears, cancel_channel_all}
+use Rattle.vx_record.proofs.SoundCancel.{Cancelled, cancel_channel_clears, cancel_channel_all}
 
 -- The numbers of the channels of a mode and outer ones.
 
@@ -63,27 +63,11 @@ reached_there k n m (row ∷ rows) h e =
           let rest = reached_there (k + 1) n m rows above (rw place at e) in
           either (λ (ns : List ℕ). list_any (λ j. n == j) ns ≡ true) (is_reached m row) (k ∷ reached_from (k + 1) m rows) (reached_from (k + 1) m rows) (or_right (n == k) _ rest) rest
     ]
-  where
-    or_left : (a b : Bool) → a ≡ true → (a || b) ≡ true
-    or_left true b h = refl
-    or_left false b h = cc
-
-    or_right : (a b : Bool) → b ≡ true → (a || b) ≡ true
-    or_right true b h = refl
-    or_right false b h = h
 
 any_weaker : {A : Type 0} (f g : A → Bool) → ((x : A) → f x ≡ true → g x ≡ true) → (xs : List A) → list_any f xs ≡ true → list_any g xs ≡ true
 any_weaker f g k [] h = cc
 any_weaker f g k (x ∷ xs) h =
-    elim (or_cases (f x) (list_any f xs) h) [ inl here ↦ left (g x) (list_any g xs) (k x here) | inr there ↦ right (g x) (list_any g xs) (any_weaker f g k xs there) ]
-  where
-    left : (a b : Bool) → a ≡ true → (a || b) ≡ true
-    left true b h = refl
-    left false b h = cc
-
-    right : (a b : Bool) → b ≡ true → (a || b) ≡ true
-    right true b h = refl
-    right false b h = h
+    elim (or_cases (f x) (list_any f xs) h) [ inl here ↦ or_left (g x) (list_any g xs) (k x here) | inr there ↦ or_right (g x) (list_any g xs) (any_weaker f g k xs there) ]
 
 -- A process that has no frame.
 
@@ -162,7 +146,7 @@ still_going s p m a made left k same none =
     let row : channel_at rows a.chan ≡ Some ch = sym its ∙ k.channel.row in
     let P : Option Channel → Type 0 = λ o. is_reached m o ≡ true in
     let reached : P (channel_at rows a.chan) = subst P (sym row) e in
-    let above = Rattle.std.proofs.lemmas.Bool.leb-true 1 a.chan (and_parts (nat_le 1 a.chan) (nat_le a.chan 64) k.channel.number).0 in
+    let above = leb-true 1 a.chan (and_parts (nat_le 1 a.chan) (nat_le a.chan 64) k.channel.number).0 in
     let there = reached_there 1 a.chan m rows above reached in
     let on = any_weaker (λ j. a.chan == j) (λ n. is_attention_on p n a) (λ j f. and_from (is_same a.p p) (a.chan == j) (eq-eqb a.p.0 p.0 same) f) (channels_of m rows) there in
     apart_bools _ on none)

@@ -20,7 +20,7 @@ use Rattle.vx_record.specs.Flags.{readef}
 use Rattle.vx_record.specs.Timers.{gettim}
 use Rattle.vx_record.specs.Control.{creprc}
 use Rattle.vx_record.specs.Channels.{assign, crembx}
-use Rattle.vx_record.specs.Services.{number, place, access_mode, text, label, routine_at, or_start, routine, routine_or_none, decl_place, asked, with_variable, var_part, valued, valued_at, numbered_at, service_of, service}
+use Rattle.vx_record.specs.Services.{number, place, access_mode, text, label, routine_at, routine, routine_or_none, decl_place, asked, with_variable, valued_at, numbered_at, service_of, service, label_place}
 use Rattle.vx_record.specs.Sound.{ground, IsRoutineOf, IsSound, FitsImage}
 use Rattle.vx_record.proofs.Changes.{stands_at, quiet_still, with_variable_quiet}
 use Rattle.vx_record.proofs.SoundFlags.{setef_sound, clref_sound, readef_sound, waitfr_sound, wflor_sound, wfland_sound, ascefc_sound, dacefc_sound, dlcefc_sound}
@@ -46,7 +46,7 @@ numbered_at_sound p t part (Err c) h = h
 
 -- Routines.
 
-some_routine : (s : State) (p : Pid) (prm : ℕ) (o : Option (List ℕ)) → IfSome o (λ name. Rattle.vx_record.specs.Services.label_place (image_of s p) name < length (image_of s p).labels) → IfSome (option_map (routine_at (image_of s p) prm) o) (IsRoutineOf (ground s) p)
+some_routine : (s : State) (p : Pid) (prm : ℕ) (o : Option (List ℕ)) → IfSome o (λ name. label_place (image_of s p) name < length (image_of s p).labels) → IfSome (option_map (routine_at (image_of s p) prm) o) (IsRoutineOf (ground s) p)
 some_routine s p prm None h = tt
 some_routine s p prm (Some name) h = h
 

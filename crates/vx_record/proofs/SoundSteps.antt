@@ -1,5 +1,6 @@
 -- References stand at first, and after each step.
-use Rattle.std.proofs.Common.{◌≡◌, ℕ, zero, suc, ◌+◌, ◌-◌, ◌≤◌, List, [], ◌∷◌, ◌++◌, true, length, replicate, Option, Some, None, IfSome, Contains, refl, sym, ap, ◌∙◌, arith, subst}
+use Rattle.vx_image.specs.Storage.{Storage}
+use Rattle.std.proofs.Common.{◌≡◌, ℕ, ◌+◌, ◌-◌, ◌≤◌, List, [], ◌∷◌, ◌++◌, true, length, Option, Some, None, IfSome, Contains, refl, sym, ap, ◌∙◌, arith, subst}
 use Rattle.std.proofs.lemmas.List.{length-map}
 use Rattle.std.specs.List.{AllByRecursion, find, list_any}
 use Rattle.vx_base.specs.Pieces.{Queued, Request, DeviceUnit, Timer}
@@ -32,16 +33,15 @@ use Rattle.vx_record.specs.Rundown.{without_ast}
 use Rattle.vx_record.specs.Services.{service}
 use Rattle.vx_record.specs.Events.{can_run, can_run_down, run_events, ast_or_run, process_events, processes_from, beg_event, don_or_beg, unit_events, units_from, tick_events, enabled, or_normal, resumed_with, moved_to, served_call, below_top, put_back, r0_of, returned_from, returned, moved_behind, run_on, run_advanced, reader, run_frame, run, started, delivered, beg, don, step}
 use Rattle.vx_record.specs.Runs.{born_of, born_from, first_unit, first, AreSteps, IsRun, after_from, after}
-use Rattle.vx_record.specs.Sound.{ground, IsIdle, RequestStands, ProcessStands, IsSound, ChannelStands, FitsImage}
+use Rattle.vx_record.specs.Sound.{ground, RequestStands, ProcessStands, IsSound, FitsImage, image_for}
 use Rattle.vx_record.specs.declared.served.Served.{Served}
 use Rattle.vx_record.specs.declared.served.Served.TheVariants.{Answered, Waits}
-use Rattle.vx_record.proofs.Lists.{either, either_by, all_append, all_at}
+use Rattle.vx_record.proofs.Lists.{either, either_by, all_append, all_at, all_get, some_found}
 use Rattle.vx_record.proofs.Ground.{Still, made_keeps, at_set}
 use Rattle.vx_record.proofs.Changes.{idle_of, stands_at, quiet_still, moved_to_quiet, put_back_quiet, below_top_quiet, woken_quiet, without_ast_still, with_frame_sound}
 use Rattle.vx_record.proofs.SoundAsts.{tick_sound}
-use Rattle.vx_record.proofs.SoundProcs.{exited_still}
-use Rattle.vx_record.proofs.SoundBoxes.{some_found}
-use Rattle.vx_record.proofs.SoundRequests.{all_get, begun_sound, done_sound}
+use Rattle.vx_record.proofs.SoundProcs.{all_free, exited_still}
+use Rattle.vx_record.proofs.SoundRequests.{begun_sound, done_sound}
 use Rattle.vx_record.proofs.SoundRundown.{rundown_sound}
 use Rattle.vx_record.proofs.SoundCalls.{all_from_list, StopFits, advanced_fits}
 use Rattle.vx_record.proofs.SoundServices.{variable_sound, service_sound}
@@ -136,7 +136,7 @@ record Moving (s t : State) (p : Pid) : Type 0 where
   pub has : HasFrame t p
   pub image : image_of t p ≡ image_of s p
 
-moved_on : (s : State) (p : Pid) (store : Rattle.vx_image.specs.Storage.Storage) (place : ℕ) → IsProcess s p → HasFrame s p → IsSound s → Moving s (change s p (moved_to store place)) p
+moved_on : (s : State) (p : Pid) (store : Storage) (place : ℕ) → IsProcess s p → HasFrame s p → IsSound s → Moving s (change s p (moved_to store place)) p
 moved_on s p store place m has h =
     let f = moved_to store place in
     let t = change s p f in
@@ -145,7 +145,7 @@ moved_on s p store place m has h =
       sound = k.sound;
       made = made_keeps (ground s) (ground t) k.keeps p m;
       has = at_set (λ (x y : Process). 1 ≤ length x.frames → 1 ≤ length y.frames) (λ x e. e) s.procs (p.0 - 1) (p.0 - 1) (f (process_at s p)) nobody (top_has _ (process_at s p).frames) has;
-      image = ap (λ (n : ℕ). Rattle.vx_record.specs.Sound.image_for s.system n) (k.keeps.base.decl p m);
+      image = ap (λ (n : ℕ). image_for s.system n) (k.keeps.base.decl p m);
     }
 
 moved_behind_on : (s : State) (p : Pid) (place : ℕ) → IsProcess s p → HasFrame s p → IsSound s → Moving s (change s p (moved_behind place)) p
@@ -238,10 +238,6 @@ step_sound s e w h c = allowed_sound s e (enabled_allowed s e c) w h
 
 -- At first.
 
-free_channels : (s : State) (n : ℕ) → AllByRecursion (ChannelStands (ground s)) (replicate n None)
-free_channels s zero = tt
-free_channels s (suc n) = (tt, free_channels s n)
-
 born_stand : (s : State) (place : ℕ) (ds : List ProcDecl) → place + length ds ≡ length s.system.decls → AllByRecursion (ProcessStands (ground s)) (born_from place ds)
 born_stand s place [] e = tt
 born_stand s place (d ∷ ds) e =
@@ -249,7 +245,7 @@ born_stand s place (d ∷ ds) e =
     let here : ProcessStands (ground s) (born_of place d) = record {
       decl = omega arith;
       numbers = refl;
-      channels = free_channels s 64;
+      channels = all_free s 64;
       asts = tt;
       handlers = tt;
       idle = tt;

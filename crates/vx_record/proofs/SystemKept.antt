@@ -9,7 +9,7 @@ use Rattle.vx_base.specs.declared.call.Args.{Args}
 use Rattle.vx_base.specs.declared.call.Call.{Call}
 use Rattle.vx_base.specs.declared.call.Target.{Target}
 use Rattle.vx_base.specs.declared.cond.Cond.{Cond}
-use Rattle.vx_base.specs.declared.cond.Cond.TheVariants.{Cancel as Cancelled}
+use Rattle.vx_base.specs.declared.cond.Cond.TheVariants.{Cancel as Cancelled, EndOfFile}
 use Rattle.vx_base.specs.declared.effects.Cell.{Cell}
 use Rattle.vx_base.specs.declared.effects.Cell.TheVariants.{Local, Common}
 use Rattle.vx_base.specs.declared.frame.Frame.{Frame}
@@ -146,7 +146,7 @@ write_box_kept s b m = let a = (mput_part s b m).after in hand_over_kept a b m (
 
 take_message_kept : (s : State) (b : BoxNo) (r : Request) (ms : List Msg) → (take_message s b r ms).after.system ≡ s.system
 take_message_kept s b r [] =
-    let e = ending Rattle.vx_base.specs.declared.cond.Cond.TheVariants.EndOfFile 0 0 [] in
+    let e = ending EndOfFile 0 0 [] in
     call_attention_kept (part_if (not (is_waiting_func r.req.func)) (finish s r e) s).after b ReadAttn ∙ parts s (not (is_waiting_func r.req.func)) (finish s r e) (nothing s) (finish_kept s r e) refl
 take_message_kept s b r (m ∷ ms) =
     let a = (received s b m r).after in
