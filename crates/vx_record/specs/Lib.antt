@@ -12,5 +12,6 @@ pub mod Requests
 pub mod Rundown
 pub mod Runs
 pub mod Services
+pub mod Sound
 pub mod State
 pub mod Timers

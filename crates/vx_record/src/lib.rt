@@ -6,9 +6,14 @@
 //! examples, computed from the definitions, and the law that references stand (`specs/Sound.antt`).
 #![tactic(auto)]
 
+mod law;
 mod same;
 mod served;
 
+pub use law::{
+    events_keep_the_system, references_stand_after_each_service, references_stand_after_each_step,
+    references_stand_at_first, references_stand_in_every_run,
+};
 pub use same::same_rec;
 pub use served::Served;
 

@@ -1,0 +1,309 @@
+-- From one state to another: what was referred to is still there, so the facts on references still hold.
+use Rattle.std.proofs.Common.{◌≡◌, ℕ, zero, suc, ◌+◌, ◌-◌, ◌≤◌, List, [], ◌∷◌, false, length, Option, Some, None, IfSome, get_or, set, refl, ◌∙◌, arith}
+use Rattle.std.proofs.Math.ListN.{length-set}
+use Rattle.std.specs.List.{AllByRecursion}
+use Rattle.vx_base.specs.Channels.{channel_at}
+use Rattle.vx_base.specs.Clusters.{Common}
+use Rattle.vx_base.specs.Pieces.{Channel, Request, Promised, Timer, Alarm, OfTimer, OfWake, Attention, Association, Mailbox, DeviceUnit, Queued, Handler}
+use Rattle.vx_base.specs.declared.mode.Mode.{Mode}
+use Rattle.vx_base.specs.declared.number.BoxNo.{BoxNo}
+use Rattle.vx_base.specs.declared.number.Pid.{Pid}
+use Rattle.vx_base.specs.declared.request.Device.{Device}
+use Rattle.vx_base.specs.declared.request.Device.TheVariants as device
+use Rattle.vx_base.specs.declared.routine.Entry.{Entry}
+use Rattle.vx_base.specs.declared.routine.Entry.TheVariants as entry
+use Rattle.vx_image.specs.declared.system.System.{System}
+use Rattle.vx_record.specs.State.{Process, State, IsProcess, nobody, process_at, change, past_id}
+use Rattle.vx_record.specs.Sound.{Ground, ground, IsMade, process_of, IsRoutine, IsRoutineOf, BoxStands, DeviceStands, ChannelStands, HasChannel, IsRooted, RequestStands, AlarmStands, TimerStands, is_drained, AttentionStands, ProcessStands, AssociationStands, AreOrdered, request_id, timer_id, attention_id, IsSound}
+use Rattle.vx_record.proofs.Lists.{all_weaker, all_set, ordered_below}
+
+-- the processes are there, with their declarations, and the units
+pub record Base (g h : Ground) : Type 0 where
+  pub system : h.system ≡ g.system
+  pub more : length g.procs ≤ length h.procs
+  pub decl : (p : Pid) → IsMade g p → (process_of h p).decl ≡ (process_of g p).decl
+  pub units : h.units ≡ g.units
+
+-- and so are channels and mailboxes; and no other mode is drained
+pub record Keeps (g h : Ground) : Type 0 where
+  pub base : Base g h
+  pub channel : (p : Pid) (n : ℕ) (ch : Channel) → IsMade g p → channel_at (process_of g p).channels n ≡ Some ch → channel_at (process_of h p).channels n ≡ Some ch
+  pub box : (b : BoxNo) → BoxStands g b → BoxStands h b
+  pub going : (p : Pid) (m : Mode) → IsMade g p → is_drained (process_of g p).phase m ≡ false → is_drained (process_of h p).phase m ≡ false
+
+pub made_base : (g h : Ground) → Base g h → (p : Pid) → IsMade g p → IsMade h p
+made_base g h k p m = record { above = m.above; within = omega (arith, m.within, k.more) }
+
+pub made_keeps : (g h : Ground) → Keeps g h → (p : Pid) → IsMade g p → IsMade h p
+made_keeps g h k p m = made_base g h k.base p m
+
+pub keeps_all : (g : Ground) → Keeps g g
+keeps_all g = record {
+  base = record { system = refl; more = omega arith; decl = λ p m. refl; units = refl };
+  channel = λ p n ch m e. e;
+  box = λ b h. h;
+  going = λ p m made h. h;
+}
+
+pub keeps_more : (g h i : Ground) → Keeps g h → Keeps h i → Keeps g i
+keeps_more g h i a b = record {
+  base = record {
+    system = b.base.system ∙ a.base.system;
+    more = omega (arith, a.base.more, b.base.more);
+    decl = λ p m. b.base.decl p (made_keeps g h a p m) ∙ a.base.decl p m;
+    units = b.base.units ∙ a.base.units;
+  };
+  channel = λ p n ch m e. b.channel p n ch (made_keeps g h a p m) (a.channel p n ch m e);
+  box = λ box e. b.box box (a.box box e);
+  going = λ p m made e. b.going p m (made_keeps g h a p made) (a.going p m made e);
+}
+
+-- Facts.
+
+pub routine_moves : (sys to : System) (place there : ℕ) (tag : Entry) → to ≡ sys → there ≡ place → IsRoutine sys place tag → IsRoutine to there tag
+routine_moves sys to place there (entry.Label k prm) e f h = rw (e, f) h
+routine_moves sys to place there (entry.Exit code) e f h = tt
+routine_moves sys to place there (entry.Host prm) e f h = tt
+
+pub routine_of_moves : (g h : Ground) → Base g h → (p : Pid) (tag : Entry) → IsMade g p → IsRoutineOf g p tag → IsRoutineOf h p tag
+routine_of_moves g h k p tag m r = routine_moves g.system h.system (process_of g p).decl (process_of h p).decl tag k.system (k.decl p m) r
+
+pub some_weaker : {A : Type 0} (P Q : A → Type 0) → ((x : A) → P x → Q x) → (o : Option A) → IfSome o P → IfSome o Q
+some_weaker P Q f None h = tt
+some_weaker P Q f (Some x) h = f x h
+
+pub device_moves : (g h : Ground) → h.units ≡ g.units → ((b : BoxNo) → BoxStands g b → BoxStands h b) → (d : Device) → DeviceStands g d → DeviceStands h d
+device_moves g h e k (device.Unit u) d = rw e d
+device_moves g h e k (device.Mailbox b) d = k b d
+
+pub row_moves : (g h : Ground) → h.units ≡ g.units → ((b : BoxNo) → BoxStands g b → BoxStands h b) → (c : Option Channel) → ChannelStands g c → ChannelStands h c
+row_moves g h e k None c = tt
+row_moves g h e k (Some ch) c = device_moves g h e k ch.device c
+
+pub has_channel_keeps : (g h : Ground) → Keeps g h → (p : Pid) (n : ℕ) (b : BoxNo) (mode : Mode) → IsMade g p → HasChannel g p n b mode → HasChannel h p n b mode
+has_channel_keeps g h k p n b mode m c = record { number = c.number; row = k.channel p n _ m c.row }
+
+pub rooted_keeps : (g h : Ground) → Keeps g h → (p : Pid) (n : ℕ) (mode : Mode) (d : Device) → IsMade g p → IsRooted g p n mode d → IsRooted h p n mode d
+rooted_keeps g h k p n mode (device.Unit u) m r = tt
+rooted_keeps g h k p n mode (device.Mailbox b) m r = has_channel_keeps g h k p n b mode m r
+
+pub request_moves : (g h : Ground) → Base g h → (r : Request) → (DeviceStands g r.req.device → DeviceStands h r.req.device) → (IsRooted g r.req.p r.req.chan r.req.chan_mode r.req.device → IsRooted h r.req.p r.req.chan r.req.chan_mode r.req.device) → RequestStands g r → RequestStands h r
+request_moves g h k r d c f = record {
+  made = made_base g h k r.req.p f.made;
+  stands = d f.stands;
+  rooted = c f.rooted;
+  served = f.served;
+  iosb = f.iosb;
+  buf = f.buf;
+  len = f.len;
+  routine = some_weaker (λ (ast : Promised). IsRoutineOf g r.req.p ast.tag) (λ ast. IsRoutineOf h r.req.p ast.tag) (λ ast e. routine_of_moves g h k r.req.p ast.tag f.made e) r.ast f.routine;
+}
+
+pub request_keeps : (g h : Ground) → Keeps g h → (r : Request) → RequestStands g r → RequestStands h r
+request_keeps g h k r f =
+    request_moves g h k.base r (device_moves g h k.base.units k.box r.req.device) (rooted_keeps g h k r.req.p r.req.chan r.req.chan_mode r.req.device f.made) f
+
+alarm_moves : (g h : Ground) → Base g h → (p : Pid) (a : Alarm) → IsMade g p → AlarmStands g p a → AlarmStands h p a
+alarm_moves g h k p (OfTimer efn reqid mode tag) m f = some_weaker (IsRoutineOf g p) (IsRoutineOf h p) (λ t e. routine_of_moves g h k p t m e) tag f
+alarm_moves g h k p (OfWake target repeat) m f = made_base g h k target f
+
+pub timer_moves : (g h : Ground) → Base g h → (t : Timer) → TimerStands g t → TimerStands h t
+timer_moves g h k t f = record { made = made_base g h k t.p f.made; alarm = alarm_moves g h k t.p t.what f.made f.alarm }
+
+pub attention_keeps : (g h : Ground) → Keeps g h → (a : Attention) → AttentionStands g a → AttentionStands h a
+attention_keeps g h k a f = record {
+  made = made_keeps g h k a.p f.made;
+  stands = k.box a.box f.stands;
+  channel_mode = f.channel_mode;
+  channel = has_channel_keeps g h k a.p a.chan a.box f.channel_mode f.made f.channel;
+  going = k.going a.p f.channel_mode f.made f.going;
+  routine = routine_of_moves g h k.base a.p a.tag f.made f.routine;
+}
+
+pub process_moves : (g h : Ground) → h.system ≡ g.system → h.units ≡ g.units → ((b : BoxNo) → BoxStands g b → BoxStands h b) → (pr : Process) → ProcessStands g pr → ProcessStands h pr
+process_moves g h e u k pr f = record {
+  decl = rw e f.decl;
+  numbers = f.numbers;
+  channels = all_weaker (ChannelStands g) (ChannelStands h) (row_moves g h u k) pr.channels f.channels;
+  asts = all_weaker (λ (q : Queued). IsRoutine g.system pr.decl q.tag) (λ q. IsRoutine h.system pr.decl q.tag) (λ q r. routine_moves g.system h.system pr.decl pr.decl q.tag e refl r) pr.asts f.asts;
+  handlers = all_weaker (λ (q : Handler). IsRoutine g.system pr.decl q.tag) (λ q. IsRoutine h.system pr.decl q.tag) (λ q r. routine_moves g.system h.system pr.decl pr.decl q.tag e refl r) pr.handlers f.handlers;
+  idle = f.idle;
+}
+
+pub association_moves : (n m : ℕ) (c : Common) → n ≤ m → (a : Association) → AssociationStands n c a → AssociationStands m c a
+association_moves n m c k a f = record { made = record { above = f.made.above; within = omega (arith, f.made.within) }; stands = f.stands }
+
+-- States.
+
+-- a process without a frame gets none
+abbrev pub StaysDown : State → State → Type 0
+StaysDown s t = (p : Pid) → IsProcess s p → (process_at s p).frames ≡ [] → (process_at t p).frames ≡ []
+
+pub record Still (s t : State) : Type 0 where
+  pub sound : IsSound t
+  pub keeps : Keeps (ground s) (ground t)
+  pub down : StaysDown s t
+
+pub still : (s : State) → IsSound s → Still s s
+still s h = record { sound = h; keeps = keeps_all (ground s); down = λ p m e. e }
+
+pub still_then : {s t u : State} → Still s t → Still t u → Still s u
+still_then {s} {t} {u} a b = record {
+  sound = b.sound;
+  keeps = keeps_more (ground s) (ground t) (ground u) a.keeps b.keeps;
+  down = λ p m e. b.down p (made_keeps (ground s) (ground t) a.keeps p m) (a.down p m e);
+}
+
+-- other processes, mailboxes and units
+pub moved : (s : State) (procs : List Process) (boxes : List (Option Mailbox)) (units : List DeviceUnit) → length units ≡ length s.units → Keeps (ground s) (ground (record s { procs = procs; boxes = boxes; units = units })) → AllByRecursion (ProcessStands (ground (record s { procs = procs; boxes = boxes; units = units }))) procs → IsSound s → IsSound (record s { procs = procs; boxes = boxes; units = units })
+moved s procs boxes units e k f h =
+    let g = ground s in
+    let to = ground (record s { procs = procs; boxes = boxes; units = units }) in
+    record {
+      units = e ∙ h.units;
+      procs = f;
+      associations = all_weaker (AssociationStands (length s.procs) s.common) (AssociationStands (length procs) s.common) (association_moves (length s.procs) (length procs) s.common k.base.more) s.common.associations h.associations;
+      requests = all_weaker (RequestStands g) (RequestStands to) (request_keeps g to k) s.requests h.requests;
+      timers = all_weaker (TimerStands g) (TimerStands to) (timer_moves g to k.base) s.timers h.timers;
+      attention = all_weaker (AttentionStands g) (AttentionStands to) (attention_keeps g to k) s.attention h.attention;
+      request_ids = h.request_ids;
+      timer_ids = h.timer_ids;
+      attention_ids = h.attention_ids;
+    }
+
+-- other requests, timers, attention entries, associations, another time and next id
+
+pub requests_still : (s : State) (xs : List Request) → AllByRecursion (RequestStands (ground s)) xs → AreOrdered request_id 0 s.next xs → IsSound s → Still s (record s { requests = xs })
+requests_still s xs f o h = record {
+  keeps = keeps_all (ground s);
+  down = λ p m e. e;
+  sound = record {
+    units = h.units;
+    procs = h.procs;
+    associations = h.associations;
+    requests = f;
+    timers = h.timers;
+    attention = h.attention;
+    request_ids = o;
+    timer_ids = h.timer_ids;
+    attention_ids = h.attention_ids;
+  };
+}
+
+pub timers_still : (s : State) (xs : List Timer) → AllByRecursion (TimerStands (ground s)) xs → AreOrdered timer_id 0 s.next xs → IsSound s → Still s (record s { timers = xs })
+timers_still s xs f o h = record {
+  keeps = keeps_all (ground s);
+  down = λ p m e. e;
+  sound = record {
+    units = h.units;
+    procs = h.procs;
+    associations = h.associations;
+    requests = h.requests;
+    timers = f;
+    attention = h.attention;
+    request_ids = h.request_ids;
+    timer_ids = o;
+    attention_ids = h.attention_ids;
+  };
+}
+
+pub attention_still : (s : State) (xs : List Attention) → AllByRecursion (AttentionStands (ground s)) xs → AreOrdered attention_id 0 s.next xs → IsSound s → Still s (record s { attention = xs })
+attention_still s xs f o h = record {
+  keeps = keeps_all (ground s);
+  down = λ p m e. e;
+  sound = record {
+    units = h.units;
+    procs = h.procs;
+    associations = h.associations;
+    requests = h.requests;
+    timers = h.timers;
+    attention = f;
+    request_ids = h.request_ids;
+    timer_ids = h.timer_ids;
+    attention_ids = o;
+  };
+}
+
+pub common_still : (s : State) (c : Common) → AllByRecursion (AssociationStands (length s.procs) c) c.associations → IsSound s → Still s (record s { common = c })
+common_still s c f h = record {
+  keeps = keeps_all (ground s);
+  down = λ p m e. e;
+  sound = record {
+    units = h.units;
+    procs = h.procs;
+    associations = f;
+    requests = h.requests;
+    timers = h.timers;
+    attention = h.attention;
+    request_ids = h.request_ids;
+    timer_ids = h.timer_ids;
+    attention_ids = h.attention_ids;
+  };
+}
+
+pub later_still : (s : State) (time next : ℕ) → s.next ≤ next → IsSound s → Still s (record s { time = time; next = next })
+later_still s time next k h = record {
+  keeps = keeps_all (ground s);
+  down = λ p m e. e;
+  sound = record {
+    units = h.units;
+    procs = h.procs;
+    associations = h.associations;
+    requests = h.requests;
+    timers = h.timers;
+    attention = h.attention;
+    request_ids = ordered_below request_id 0 s.next next s.requests k h.request_ids;
+    timer_ids = ordered_below timer_id 0 s.next next s.timers k h.timer_ids;
+    attention_ids = ordered_below attention_id 0 s.next next s.attention k h.attention_ids;
+  };
+}
+
+pub past_id_still : (s : State) → IsSound s → Still s (past_id s)
+past_id_still s h = later_still s s.time (s.next + 1) (omega arith) h
+
+-- One process changed.
+
+-- what others refer to is kept from one process to another
+pub record Seat (x y : Process) : Type 0 where
+  pub decl : y.decl ≡ x.decl
+  pub channel : (n : ℕ) (ch : Channel) → channel_at x.channels n ≡ Some ch → channel_at y.channels n ≡ Some ch
+  pub going : (m : Mode) → is_drained x.phase m ≡ false → is_drained y.phase m ≡ false
+
+same_seat : (x : Process) → Seat x x
+same_seat x = record { decl = refl; channel = λ n ch e. e; going = λ m e. e }
+
+pub at_set : {A : Type 0} (R : A → A → Type 0) → ((x : A) → R x x) → (xs : List A) (i j : ℕ) (y d : A) → R (get_or xs i d) y → R (get_or xs j d) (get_or (set xs i y) j d)
+at_set R k [] i j y d h = k d
+at_set R k (x ∷ xs) zero zero y d h = h
+at_set R k (x ∷ xs) zero (suc j) y d h = k (get_or xs j d)
+at_set R k (x ∷ xs) (suc i) zero y d h = k x
+at_set R k (x ∷ xs) (suc i) (suc j) y d h = at_set R k xs i j y d h
+
+change_keeps : (s : State) (p : Pid) (f : Process → Process) → Seat (process_at s p) (f (process_at s p)) → Keeps (ground s) (ground (change s p f))
+change_keeps s p f k =
+    let seat : (q : Pid) → Seat (process_at s q) (process_at (change s p f) q) = λ q. at_set Seat same_seat s.procs (p.0 - 1) (q.0 - 1) (f (process_at s p)) nobody k in
+    record {
+      base = record {
+        system = refl;
+        more = omega (arith, length-set s.procs (p.0 - 1) (f (process_at s p)));
+        decl = λ q m. (seat q).decl;
+        units = refl;
+      };
+      channel = λ q n ch m e. (seat q).channel n ch e;
+      box = λ b e. e;
+      going = λ q m made e. (seat q).going m e;
+    }
+
+pub change_sound : (s : State) (p : Pid) (f : Process → Process) → Seat (process_at s p) (f (process_at s p)) → (ProcessStands (ground s) (process_at s p) → ProcessStands (ground s) (f (process_at s p))) → IsSound s → IsSound (change s p f)
+change_sound s p f k stands h =
+    let to = ground (change s p f) in
+    moved s (change s p f).procs s.boxes s.units refl (change_keeps s p f k)
+    (all_weaker (ProcessStands (ground s)) (ProcessStands to) (process_moves (ground s) to refl refl (λ b e. e)) (change s p f).procs
+    (all_set (ProcessStands (ground s)) s.procs (p.0 - 1) (f (process_at s p)) nobody stands h.procs)) h
+
+pub change_still : (s : State) (p : Pid) (f : Process → Process) → Seat (process_at s p) (f (process_at s p)) → ((process_at s p).frames ≡ [] → (f (process_at s p)).frames ≡ []) → (ProcessStands (ground s) (process_at s p) → ProcessStands (ground s) (f (process_at s p))) → IsSound s → Still s (change s p f)
+change_still s p f k none stands h = record {
+  sound = change_sound s p f k stands h;
+  keeps = change_keeps s p f k;
+  down = λ q m e. at_set (λ (x y : Process). x.frames ≡ [] → y.frames ≡ []) (λ x r. r) s.procs (p.0 - 1) (q.0 - 1) (f (process_at s p)) nobody none e;
+}

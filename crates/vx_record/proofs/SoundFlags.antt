@@ -1,0 +1,214 @@
+-- References stand after what is done to event flags and common clusters.
+use Rattle.std.proofs.Common.{◌≡◌, ℕ, ◌^◌, ◌%◌, List, [], ◌∷◌, ◌++◌, Bool, true, false, not, nat_lt, ◌==◌, ◌&&◌, length, Option, Some, None, IfSome, bytes_eq, refl, sym, ◌∙◌, inl, inr}
+use Rattle.std.specs.List.{AllByRecursion, find, list_any}
+use Rattle.std.proofs.lemmas.Bool.{eq-eqb, eqb-true, or_cases, and_parts, and_from, or_left, or_right}
+use Rattle.std.proofs.lemmas.Slice.Eq.{bytes_eq-Decides}
+use Rattle.vx_base.specs.Clusters.{Common, Change, cluster_number, is_cluster, is_association, is_user, stands, is_used, made, gone, joined, parted, swept_at, swept, dissociated_at, dissociated, has_already, made_where_new, associated, with_mark, marked_at, marked}
+use Rattle.vx_base.specs.Lists.{less, amend}
+use Rattle.vx_base.specs.Pieces.{Association, Cluster}
+use Rattle.vx_base.specs.declared.cond.Cond.{Cond}
+use Rattle.vx_base.specs.declared.effects.Cell.{Cell}
+use Rattle.vx_base.specs.declared.effects.Cell.TheVariants.{Local, Common as Shared}
+use Rattle.vx_base.specs.declared.frame.Wait.{Wait}
+use Rattle.vx_base.specs.declared.frame.Wait.TheVariants as wait
+use Rattle.vx_base.specs.declared.number.Pid.{Pid}
+use Rattle.vx_record.specs.State.{State, IsWithin, IsProcess, process_at, change}
+use Rattle.vx_record.specs.Parts.{Outcome, refused, commonly}
+use Rattle.vx_record.specs.Flags.{cell, with_local_flag, with_cluster_flag, with_cell, flag_part, flag_where_named, at_named, at_flag, put_flag_at, setef, clref, refused_value, readef_at, readef, with_wait, refused_wait, satisfied, awaited_at, awaited, waits_on, waitfr, wflor, wfland, is_common, wants_prmceb, ascefc, dacefc, dlcefc}
+use Rattle.vx_record.specs.Sound.{AssociationStands, IsSound}
+use Rattle.vx_record.proofs.Lists.{either, either_by, all_weaker, all_both, all_append, all_less, find_passes, none_passes}
+use Rattle.vx_record.proofs.Ground.{Still, still, common_still}
+use Rattle.vx_record.proofs.Changes.{quiet_still, with_local_flag_quiet, with_wait_quiet}
+
+-- Lists.
+
+any_append : {A : Type 0} (p : A → Bool) (xs ys : List A) → list_any p xs ≡ true → list_any p (xs ++ ys) ≡ true
+any_append p [] ys h = cc
+any_append p (x ∷ xs) ys h =
+    elim (or_cases (p x) (list_any p xs) h) [ inl here ↦ or_left (p x) (list_any p (xs ++ ys)) here | inr there ↦ or_right (p x) (list_any p (xs ++ ys)) (any_append p xs ys there) ]
+
+any_last : {A : Type 0} (p : A → Bool) (xs : List A) (y : A) → p y ≡ true → list_any p (xs ++ y ∷ []) ≡ true
+any_last p [] y h = or_left (p y) false h
+any_last p (x ∷ xs) y h = or_right (p x) (list_any p (xs ++ y ∷ [])) (any_last p xs y h)
+
+any_less : {A : Type 0} (p q : A → Bool) → ((x : A) → p x ≡ true → q x ≡ true → ⊥) → (xs : List A) → list_any q xs ≡ true → list_any q (less p xs) ≡ true
+any_less p q apart [] h = h
+any_less p q apart (x ∷ xs) h =
+    either_by (λ ys. list_any q ys ≡ true) (p x) xs (x ∷ less p xs)
+    (λ e. elim (or_cases (q x) (list_any q xs) h) [ inl here ↦ absurd (apart x e here) | inr there ↦ there ])
+    (λ n. elim (or_cases (q x) (list_any q xs) h) [ inl here ↦ or_left (q x) (list_any q (less p xs)) here | inr there ↦ or_right (q x) (list_any q (less p xs)) (any_less p q apart xs there) ])
+
+any_amend : {A : Type 0} (p q : A → Bool) (f : A → A) → ((x : A) → q (f x) ≡ q x) → (xs : List A) → list_any q xs ≡ true → list_any q (amend p f xs) ≡ true
+any_amend p q f same [] h = h
+any_amend p q f same (x ∷ xs) h =
+    either (λ ys. list_any q ys ≡ true) (p x) (f x ∷ xs) (x ∷ amend p f xs) (rw (same x) h)
+    (elim (or_cases (q x) (list_any q xs) h) [ inl here ↦ or_left (q x) (list_any q (amend p f xs)) here | inr there ↦ or_right (q x) (list_any q (amend p f xs)) (any_amend p q f same xs there) ])
+
+-- Common clusters.
+
+abbrev pub CommonStands : ℕ → Common → Type 0
+CommonStands n c = AllByRecursion (AssociationStands n c) c.associations
+
+clusters_move : (n : ℕ) (c : Common) (clusters : List Cluster) → ((a : Association) → list_any (is_cluster a.group a.name) c.clusters ≡ true → list_any (is_cluster a.group a.name) clusters ≡ true) → CommonStands n c → CommonStands n (record c { clusters = clusters })
+clusters_move n c clusters f h =
+    all_weaker (AssociationStands n c) (AssociationStands n (record c { clusters = clusters })) (λ a k. record { made = k.made; stands = f a k.stands }) c.associations h
+
+made_stands : (n : ℕ) (c : Common) (group : ℕ) (name : List ℕ) (permanent : Bool) → CommonStands n c → CommonStands n (made c group name permanent).after
+made_stands n c group name permanent h = clusters_move n c (made c group name permanent).after.clusters (λ a k. any_append (is_cluster a.group a.name) c.clusters _ k) h
+
+is_itself : (group : ℕ) (name : List ℕ) → (group == group && bytes_eq name name) ≡ true
+is_itself group name = and_from (group == group) (bytes_eq name name) (eq-eqb group group refl) ((bytes_eq-Decides name name).1 refl)
+
+both_names : (g h : ℕ) (x y : List ℕ) → (g == h && bytes_eq x y) ≡ true → (g ≡ h) × (x ≡ y)
+both_names g h x y e = let parts = and_parts (g == h) (bytes_eq x y) e in (eqb-true g h parts.0, (bytes_eq-Decides x y).0 parts.1)
+
+apart : (a : Association) (group : ℕ) (name : List ℕ) → is_user group name a ≡ false → (cl : Cluster) → is_cluster group name cl ≡ true → is_cluster a.group a.name cl ≡ true → ⊥
+apart a group name none cl here there =
+    let one = both_names cl.group group cl.name name here in
+    let two = both_names cl.group a.group cl.name a.name there in
+    let same : a.group ≡ group = sym two.0 ∙ one.0 in
+    let alike : a.name ≡ name = sym two.1 ∙ one.1 in
+    let yes : is_user group name a ≡ true = rw (same, alike) (is_itself group name) in
+    cc
+
+gone_stands : (n : ℕ) (c : Common) (group : ℕ) (name : List ℕ) → is_used c group name ≡ false → CommonStands n c → CommonStands n (gone c group name).after
+gone_stands n c group name none h =
+    all_weaker (λ a. AssociationStands n c a × (is_user group name a ≡ false)) (AssociationStands n (gone c group name).after)
+    (λ a k. record { made = k.0.made; stands = any_less (is_cluster group name) (is_cluster a.group a.name) (apart a group name k.1) c.clusters k.0.stands }) c.associations
+    (all_both (AssociationStands n c) (λ a. is_user group name a ≡ false) c.associations h (none_passes (is_user group name) c.associations none))
+
+gone_stands_by : (n : ℕ) (c : Common) (group also : ℕ) (name named : List ℕ) → also ≡ group → named ≡ name → is_used c group name ≡ false → CommonStands n c → CommonStands n (gone c also named).after
+gone_stands_by n c group also name named e f none h = gone_stands n c also named (rw (e, f) none) h
+
+swept_at_stands : (n : ℕ) (c : Common) (group : ℕ) (name : List ℕ) (o : Option Cluster) → IfSome o (λ cl. is_cluster group name cl ≡ true) → is_used c group name ≡ false → CommonStands n c → CommonStands n (swept_at c o).after
+swept_at_stands n c group name None is none h = h
+swept_at_stands n c group name (Some cl) is none h =
+    let same = both_names cl.group group cl.name name is in
+    either (λ (d : Change). CommonStands n d.after) (cl.permanent && not cl.marked) _ _ h (gone_stands_by n c group cl.group name cl.name same.0 same.1 none h)
+
+found_passes : {A : Type 0} (p : A → Bool) (o : Option A) → ((x : A) → o ≡ Some x → p x ≡ true) → IfSome o (λ x. p x ≡ true)
+found_passes p None f = tt
+found_passes p (Some x) f = f x refl
+
+swept_stands : (n : ℕ) (c : Common) (group : ℕ) (name : List ℕ) → CommonStands n c → CommonStands n (swept c group name).after
+swept_stands n c group name h =
+    either_by (λ (d : Change). CommonStands n d.after) (is_used c group name) _ _ (λ e. h)
+    (λ none. swept_at_stands n c group name (find (is_cluster group name) c.clusters) (found_passes (is_cluster group name) (find (is_cluster group name) c.clusters) (λ x e. find_passes (is_cluster group name) c.clusters x e)) none h)
+
+parted_stands : (n : ℕ) (c : Common) (p : Pid) (k : ℕ) → CommonStands n c → CommonStands n (parted c p k).after
+parted_stands n c p k h =
+    all_weaker (AssociationStands n c) (AssociationStands n (parted c p k).after) (λ a e. record { made = e.made; stands = e.stands }) (less (is_association p k) c.associations)
+    (all_less (AssociationStands n c) (is_association p k) c.associations h)
+
+dissociated_at_stands : (n : ℕ) (c : Common) (p : Pid) (k : ℕ) (o : Option Association) → CommonStands n c → CommonStands n (dissociated_at c p k o).after
+dissociated_at_stands n c p k None h = h
+dissociated_at_stands n c p k (Some a) h = swept_stands n (parted c p k).after a.group a.name (parted_stands n c p k h)
+
+pub dissociated_stands : (n : ℕ) (c : Common) (p : Pid) (k : ℕ) → CommonStands n c → CommonStands n (dissociated c p k).after
+dissociated_stands n c p k h = dissociated_at_stands n c p k (find (is_association p k) c.associations) h
+
+-- the cluster is there, and all that were
+made_where_new_stands : (n : ℕ) (c : Common) (group : ℕ) (name : List ℕ) (permanent : Bool) → CommonStands n c → CommonStands n (made_where_new c group name permanent).after × (stands (made_where_new c group name permanent).after group name ≡ true)
+made_where_new_stands n c group name permanent h =
+    either_by (λ (d : Change). CommonStands n d.after × (stands d.after group name ≡ true)) (stands c group name) _ _ (λ e. (h, e))
+    (λ e. (made_stands n c group name permanent h, any_last (is_cluster group name) c.clusters _ (is_itself group name)))
+
+joined_stands : (n : ℕ) (c : Common) (p : Pid) (k group : ℕ) (name : List ℕ) → IsWithin n p → stands c group name ≡ true → CommonStands n c → CommonStands n (joined c p k group name).after
+joined_stands n c p k group name m e h =
+    let P = AssociationStands n (joined c p k group name).after in
+    all_append P c.associations _ (all_weaker (AssociationStands n c) P (λ a i. record { made = i.made; stands = i.stands }) c.associations h) (record { made = m; stands = e }, tt)
+
+associated_stands : (n : ℕ) (c : Common) (p : Pid) (k group : ℕ) (name : List ℕ) (permanent : Bool) → IsWithin n p → CommonStands n c → CommonStands n (associated c p k group name permanent).after
+associated_stands n c p k group name permanent m h =
+    let d = (dissociated c p k).after in
+    let e = made_where_new_stands n d group name permanent (dissociated_stands n c p k h) in
+    either (λ (x : Change). CommonStands n x.after) (has_already group name (find (is_association p k) c.associations)) _ _ h
+    (joined_stands n (made_where_new d group name permanent).after p k group name m e.1 e.0)
+
+marked_at_stands : (n : ℕ) (c : Common) (o : Option Cluster) → CommonStands n c → CommonStands n (marked_at c o).after
+marked_at_stands n c None h = h
+marked_at_stands n c (Some cl) h =
+    either (λ (x : Change). CommonStands n x.after) (not cl.permanent) _ _ h
+    (either_by (λ (x : Change). CommonStands n x.after) (is_used c cl.group cl.name) _ _
+    (λ e. clusters_move n c (amend (is_cluster cl.group cl.name) with_mark c.clusters) (λ a k. any_amend (is_cluster cl.group cl.name) (is_cluster a.group a.name) with_mark (λ x. refl) c.clusters k) h)
+    (λ none. gone_stands n c cl.group cl.name none h))
+
+marked_stands : (n : ℕ) (c : Common) (group : ℕ) (name : List ℕ) → CommonStands n c → CommonStands n (marked c group name).after
+marked_stands n c group name h = marked_at_stands n c (find (is_cluster group name) c.clusters) h
+
+pub part_with_still : (s : State) (p : Pid) (k : ℕ) → IsSound s → Still s (commonly s (dissociated s.common p k)).after
+part_with_still s p k h = common_still s (dissociated s.common p k).after (dissociated_stands (length s.procs) s.common p k h.associations) h
+
+-- Flags.
+
+with_cell_still : (s : State) (c : Cell) (on : Bool) → IsSound s → Still s (with_cell s c on)
+with_cell_still s (Local p n) on h = quiet_still s p (with_local_flag n on) (with_local_flag_quiet n on (process_at s p)) h
+with_cell_still s (Shared group name n) on h =
+    let clusters = amend (is_cluster group name) (with_cluster_flag n on) s.common.clusters in
+    common_still s (record s.common { clusters = clusters })
+    (clusters_move (length s.procs) s.common clusters (λ a k. any_amend (is_cluster group name) (is_cluster a.group a.name) (with_cluster_flag n on) (λ x. refl) s.common.clusters k) h.associations) h
+
+pub flag_part_still : (s : State) (c : Cell) (on : Bool) → IsSound s → Still s (flag_part s c on).after
+flag_part_still s c on h = with_cell_still s c on h
+
+pub flag_where_named_still : (s : State) (o : Option Cell) (on : Bool) → IsSound s → Still s (flag_where_named s o on).after
+flag_where_named_still s None on h = still s h
+flag_where_named_still s (Some c) on h = flag_part_still s c on h
+
+at_named_sound : {A : Type 0} (refuse : Cond → Outcome A) (go : Cell → Outcome A) (o : Option Cell) → ((c : Cond) → IsSound (refuse c).after) → ((c : Cell) → IsSound (go c).after) → IsSound (at_named refuse go o).after
+at_named_sound refuse go None f g = f _
+at_named_sound refuse go (Some c) f g = g c
+
+pub at_flag_sound : {A : Type 0} (s : State) (p : Pid) (efn : ℕ) (refuse : Cond → Outcome A) (go : Cell → Outcome A) → ((c : Cond) → IsSound (refuse c).after) → ((c : Cell) → IsSound (go c).after) → IsSound (at_flag s p efn refuse go).after
+at_flag_sound {A} s p efn refuse go f g = either (λ (o : Outcome A). IsSound o.after) (nat_lt 127 efn) _ _ (f _) (at_named_sound refuse go (cell s p efn) f g)
+
+pub setef_sound : (s : State) (p : Pid) (efn : ℕ) → IsSound s → IsSound (setef s p efn).after
+setef_sound s p efn h = at_flag_sound s p efn (refused s) (put_flag_at s true) (λ c. h) (λ c. (flag_part_still s c true h).sound)
+
+pub clref_sound : (s : State) (p : Pid) (efn : ℕ) → IsSound s → IsSound (clref s p efn).after
+clref_sound s p efn h = at_flag_sound s p efn (refused s) (put_flag_at s false) (λ c. h) (λ c. (flag_part_still s c false h).sound)
+
+pub readef_sound : (s : State) (p : Pid) (efn : ℕ) → IsSound s → IsSound (readef s p efn).after
+readef_sound s p efn h = at_flag_sound s p efn (refused_value s) (readef_at s) (λ c. h) (λ c. h)
+
+-- Waits.
+
+pub with_wait_still : (s : State) (p : Pid) (w : Option Wait) → IsSound s → Still s (change s p (with_wait w))
+with_wait_still s p w h = quiet_still s p (with_wait w) (with_wait_quiet w (process_at s p)) h
+
+awaited_at_sound : (s : State) (p : Pid) (w : Wait) (o : Option Cond) → IsSound s → IsSound (awaited_at s p w o).after
+awaited_at_sound s p w None h = (with_wait_still s p (Some w) h).sound
+awaited_at_sound s p w (Some c) h = h
+
+pub awaited_sound : (s : State) (p : Pid) (w : Wait) → IsSound s → IsSound (awaited s p w).after
+awaited_sound s p w h = awaited_at_sound s p w (satisfied s p w) h
+
+pub waits_sound : (s : State) (p : Pid) (efn : ℕ) (w : Wait) → IsSound s → IsSound (at_flag s p efn (refused_wait s) (waits_on s p w)).after
+waits_sound s p efn w h = at_flag_sound s p efn (refused_wait s) (waits_on s p w) (λ c. h) (λ c. awaited_sound s p w h)
+
+pub waitfr_sound : (s : State) (p : Pid) (efn : ℕ) → IsSound s → IsSound (waitfr s p efn).after
+waitfr_sound s p efn h = waits_sound s p efn (wait.Flags efn (2 ^ (efn % 32)) false) h
+
+pub wflor_sound : (s : State) (p : Pid) (efn mask : ℕ) → IsSound s → IsSound (wflor s p efn mask).after
+wflor_sound s p efn mask h = waits_sound s p efn (wait.Flags efn mask false) h
+
+pub wfland_sound : (s : State) (p : Pid) (efn mask : ℕ) → IsSound s → IsSound (wfland s p efn mask).after
+wfland_sound s p efn mask h = waits_sound s p efn (wait.Flags efn mask true) h
+
+-- The services on common clusters.
+
+pub ascefc_sound : (s : State) (p : Pid) (efn : ℕ) (name : List ℕ) (perm : ℕ) → IsProcess s p → IsSound s → IsSound (ascefc s p efn name perm).after
+ascefc_sound s p efn name perm m h =
+    let P = λ (o : Outcome Cond). IsSound o.after in
+    let c = associated s.common p (cluster_number efn) (process_at s p).group name (not (perm == 0)) in
+    either P (not (is_common efn)) _ _ h
+    (either P (wants_prmceb s (process_at s p) name perm) _ _ h
+    (common_still s c.after (associated_stands (length s.procs) s.common p (cluster_number efn) (process_at s p).group name (not (perm == 0)) m h.associations) h).sound)
+
+pub dacefc_sound : (s : State) (p : Pid) (efn : ℕ) → IsSound s → IsSound (dacefc s p efn).after
+dacefc_sound s p efn h = either (λ (o : Outcome Cond). IsSound o.after) (not (is_common efn)) _ _ h (part_with_still s p (cluster_number efn) h).sound
+
+pub dlcefc_sound : (s : State) (p : Pid) (name : List ℕ) → IsSound s → IsSound (dlcefc s p name).after
+dlcefc_sound s p name h =
+    either (λ (o : Outcome Cond). IsSound o.after) (not (process_at s p).privs.prmceb) _ _ h
+    (common_still s (marked s.common (process_at s p).group name).after (marked_stands (length s.procs) s.common (process_at s p).group name h.associations) h).sound

@@ -1,0 +1,46 @@
+//! What holds of the definitions, said on functions that do nothing: the laws are proved where these are.
+
+ghost use Rattle.std.specs.Prelude.{◌≡◌, Contains, List};
+ghost use Rattle.vx_base.specs.declared.call.Call.{Call as CallOf};
+ghost use Rattle.vx_base.specs.declared.number.Pid.{Pid as PidOf};
+ghost use Rattle.vx_base.specs.declared.record.Event.{Event as EventOf};
+ghost use Rattle.vx_base.specs.declared.record.Rec.{Rec as RecOf};
+ghost use Rattle.vx_image.specs.WellFormed.{IsWellFormed};
+ghost use Rattle.vx_image.specs.declared.system.System.{System as SystemOf};
+ghost use Rattle.vx_record.specs.Events.{enabled, step};
+ghost use Rattle.vx_record.specs.Runs.{IsRun, after, first};
+ghost use Rattle.vx_record.specs.Services.{service};
+ghost use Rattle.vx_record.specs.Sound.{FitsImage, IsSound};
+ghost use Rattle.vx_record.specs.State.{HasFrame, IsProcess, State, image_of};
+
+/// In the first state of every system what the state names is there.
+#[tactic(auto, using(crate::proofs::SoundSteps::first_sound))]
+pub fn references_stand_at_first()
+    ensures { (system : SystemOf) → IsSound (first system) }
+{}
+
+/// What the state names is there after a service that a process with a frame calls, where it was there before it, and where
+/// the call's labels are labels of the process's image.
+pub fn references_stand_after_each_service()
+    ensures { (s : State) (p : PidOf) (c : CallOf) → FitsImage (image_of s p) c → IsProcess s p → HasFrame s p → IsSound s →
+        IsSound (service s p c).after }
+{}
+
+/// What the state names is there after each enabled event, where it was there before it.
+pub fn references_stand_after_each_step()
+    ensures { (s : State) (e : EventOf) → IsWellFormed s.system → IsSound s → Contains (enabled s) e →
+        IsSound (step s e).after }
+{}
+
+/// What the state names is there at each moment of every run of a well formed system.
+#[tactic(auto, using(crate::proofs::SoundSteps::every_run_sound))]
+pub fn references_stand_in_every_run()
+    ensures { (system : SystemOf) (recs : List RecOf) → IsWellFormed system → IsRun system recs →
+        IsSound (after system recs) }
+{}
+
+/// No event changes the system.
+#[tactic(auto, using(crate::proofs::SystemKept::step_keeps_system))]
+pub fn events_keep_the_system()
+    ensures { (s : State) (e : EventOf) → (step s e).after.system ≡ s.system }
+{}
