@@ -1,2 +1,4 @@
+pub mod Born
 pub mod Changed
+pub mod Counted
 pub mod Stack

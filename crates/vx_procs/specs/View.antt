@@ -1,21 +1,7 @@
 -- What the processes of the code stand for.
-use Rattle.std.specs.Prelude.{◌≡◌, ℕ, ◌+◌, ◌-◌, ◌<◌, ◌≤◌, List, [], ◌∷◌, ◌++◌, if◌then◌else◌, Option, None, length, map, replicate, slice_index_or}
-use Rattle.vx_base.specs.Pieces.{Queued}
-use Rattle.vx_base.specs.declared.effects.Effect.{Effect}
-use Rattle.vx_base.specs.declared.effects.Effect.TheVariants as effect
-use Rattle.vx_base.specs.declared.frame.Frame.{Frame}
-use Rattle.vx_base.specs.declared.frame.FrameKind.{FrameKind}
-use Rattle.vx_base.specs.declared.frame.FrameKind.TheVariants as kind
+use Rattle.std.specs.Prelude.{ℕ, ◌+◌, ◌-◌, ◌<◌, ◌≤◌, List, [], None, length, map, replicate, slice_index_or}
 use Rattle.vx_base.specs.declared.number.Pid.{Pid}
-use Rattle.vx_image.specs.Local.{Advanced, advanced, stopped}
-use Rattle.vx_image.specs.Storage.{Storage}
-use Rattle.vx_image.specs.declared.decl.ProcDecl.{ProcDecl}
-use Rattle.vx_image.specs.declared.image.Image.{Image}
-use Rattle.vx_image.specs.declared.stop.Stop.TheVariants as stop
-use Rattle.vx_image.specs.declared.system.System.{System}
-use Rattle.vx_record.specs.State.{Process, State, process_at, decl_of, image_of, no_decl, no_image}
-use Rattle.vx_record.specs.Asts.{deliverable_at}
-use Rattle.vx_record.specs.Events.{reader, moved_to}
+use Rattle.vx_record.specs.State.{Process, State, process_at}
 use Rattle.vx_record.specs.Runs.{first_unit}
 use Rattle.vx_procs.specs.declared.procs.Core.{Core}
 use Rattle.vx_procs.specs.declared.process.Proc.{Proc}
@@ -57,10 +43,6 @@ state c = record {
   units = map first_unit c.system.units;
 }
 
--- the AST of a process that may start: none where it is suspended or has no frame
-abbrev pub deliverable_of : Process → Option Queued
-deliverable_of pr = if pr.suspended then None else deliverable_at pr pr.frames
-
 -- how many frames and how many ASTs a process has room for in all
 pub record Room : Type 0 where
   pub frames : ℕ
@@ -91,45 +73,3 @@ HasFrameRoom c p = length (process_at (state c) p).frames < (room_at c p).frames
 -- there is room for n ASTs more of p
 abbrev pub HasAstRoom : {R : Type 0} → Core R → Pid → ℕ → Type 0
 HasAstRoom c p n = length (process_at (state c) p).asts + n ≤ (room_at c p).asts
-
--- the process declaration at a place, and its image
-
-abbrev pub decl_in : System → ℕ → ProcDecl
-decl_in system place = slice_index_or system.decls place no_decl
-
-abbrev pub image_in : System → ℕ → Image
-image_in system place = slice_index_or system.images (decl_in system place).image no_image
-
--- the declaration of p is the system's, and so is its image
-
-abbrev pub HasDecl : State → Pid → Type 0
-HasDecl s p = (process_at s p).decl < length s.system.decls
-
-abbrev pub HasImage : State → Pid → Type 0
-HasImage s p = (decl_of s p).image < length s.system.images
-
--- the local statements of process p, of its image, from where its top frame stands
-
-abbrev pub advanced_from : Image → Pid → Storage → List Frame → Advanced
-advanced_from image p store [] = stopped store 0 stop.Local
-advanced_from image p store (f ∷ fs) = advanced image (reader p f) store f.pc
-
-abbrev pub advanced_of : Image → Pid → Process → Advanced
-advanced_of image p pr = advanced_from image p pr.store pr.frames
-
-abbrev pub advanced_at : State → Pid → Advanced
-advanced_at s p = advanced_of (image_of s p) p (process_at s p)
-
--- the process after them
-abbrev pub moved_as : Advanced → Process → Process
-moved_as a pr = moved_to a.store a.place pr
-
--- the ASTs of these frames are no longer active, the top one first
-
-abbrev pub left_kind : FrameKind → List Effect
-left_kind (kind.Ast id) = effect.Leave id ∷ []
-left_kind _ = []
-
-abbrev pub left : List Frame → List Effect
-left [] = []
-left (f ∷ fs) = left_kind f.kind ++ left fs

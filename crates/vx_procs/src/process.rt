@@ -10,7 +10,8 @@ ghost use Rattle.vx_record.specs.Flags.{with_local_flag};
 ghost use Rattle.vx_record.specs.Runs.{born_of};
 ghost use Rattle.vx_record.specs.State.{top_mode};
 ghost use Rattle.vx_record.specs.Rundown.{leaving, without_frames};
-ghost use Rattle.vx_procs.specs.View.{process, room_of, deliverable_of, advanced_of, moved_as, left};
+ghost use Rattle.vx_procs.specs.View.{process, room_of};
+ghost use Rattle.vx_procs.specs.Words.{advanced_of, deliverable_of, left, moved_as};
 
 use crate::frames::{leave_all, place_top};
 use std::alloc::Global;

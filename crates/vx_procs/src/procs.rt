@@ -1,16 +1,17 @@
 //! What the executive keeps.
 
-ghost use Rattle.std.specs.Prelude.{◌≡◌, ◌≤◌, IfOk, OnOk, length, map};
+ghost use Rattle.std.specs.Prelude.{◌≡◌, ◌≤◌, ◌++◌, IfOk, OnOk, length, map};
 ghost use Rattle.vx_base.specs.declared.number.Pid.{Pid as PidOf};
 ghost use Rattle.vx_image.specs.WellFormed.{IsWellFormed};
 ghost use Rattle.vx_record.specs.Runs.{born_from, first};
 ghost use Rattle.vx_record.specs.State.{IsProcess};
+ghost use Rattle.vx_procs.specs.Words.{born_if_started};
 ghost use Rattle.vx_procs.specs.View.{process, state, room_at, IsWithinRoom, HasFrameRoom, HasAstRoom};
 
 use crate::process::Proc;
 use std::alloc::Global;
 use vx_base::{NoMemory, Pid, Routine};
-use vx_image::{ProcDecls, System};
+use vx_image::{ProcDecl, ProcDecls, System};
 
 /// What the script says, the time in ticks, the next id, and the processes in the order of their numbers from 1.
 #[derive(Drop)]
@@ -21,6 +22,21 @@ pub struct Core<R: Routine> {
     pub procs: Vec<Proc<R>>,
 }
 
+// Adds the process of a declaration at a place, where it is there from the start.
+fn add_started<R: Routine>(
+    alloc: Global,
+    procs: &mut Vec<Proc<R>>,
+    place: u32,
+    decl: &ProcDecl,
+) -> Result<(), NoMemory>
+    ensures { OnOk result (map process procs.new.items ≡ map process procs.old.items ++ born_if_started place decl.now) }
+{
+    if decl.start {
+        procs.push(Proc::born(alloc, place, decl)?)?;
+    }
+    Ok(())
+}
+
 // The processes that are there from the start.
 fn first_procs<R: Routine>(alloc: Global, decls: &ProcDecls) -> Result<Vec<Proc<R>>, NoMemory>
     requires { length decls.now ≤ 1000 }
@@ -28,9 +44,7 @@ fn first_procs<R: Routine>(alloc: Global, decls: &ProcDecls) -> Result<Vec<Proc<
 {
     let mut procs = Vec::new(alloc);
     for (place, decl) in decls.as_slice().iter().enumerate() {
-        if decl.start {
-            procs.push(Proc::born(alloc, place as u32, decl)?)?;
-        }
+        add_started(alloc, &mut procs, place as u32, decl)?;
     }
     Ok(procs)
 }

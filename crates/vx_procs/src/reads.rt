@@ -9,7 +9,8 @@ ghost use Rattle.vx_record.specs.Charges.{ast_charge, ast_need, exceeds};
 ghost use Rattle.vx_record.specs.Control.{is_deleted};
 ghost use Rattle.vx_record.specs.Events.{r0_of};
 ghost use Rattle.vx_record.specs.Flags.{cell, flags_of, is_set_in};
-ghost use Rattle.vx_procs.specs.View.{process, state, decl_in, image_in, HasDecl, HasImage};
+ghost use Rattle.vx_procs.specs.View.{process, state};
+ghost use Rattle.vx_procs.specs.Words.{decl_in, image_in, HasDecl, HasImage};
 
 use crate::process::Proc;
 use crate::procs::Core;
@@ -78,6 +79,7 @@ pub fn current_mode<R: Routine>(core: &Core<R>, p: Pid) -> Mode
 }
 
 /// The innermost mode in which a process has an active AST.
+#[tactic(auto, using(crate::proofs::Stack::same_active))]
 pub fn active_ast_mode<R: Routine>(core: &Core<R>, p: Pid) -> Option<Mode>
     requires { IsProcess (state core.now) p }
     ensures { result ≡ active_mode (process_at (state core.now) p).frames }
@@ -110,7 +112,7 @@ pub fn r0<R: Routine>(core: &Core<R>, p: Pid) -> u32
 }
 
 /// The event flag that a number names, if it names one.
-pub fn cell<R: Routine>(_core: &Core<R>, p: Pid, efn: u32) -> Option<Cell>
+pub fn cell<R: Routine>(core: &Core<R>, p: Pid, efn: u32) -> Option<Cell>
     ensures { result ≡ cell (state core.now) p efn }
 {
     if efn < 64 {
@@ -156,6 +158,7 @@ pub fn has_delivery<R: Routine>(core: &Core<R>, p: Pid, mode: Mode) -> bool
 }
 
 /// How many ASTs a process is charged (ASTLM).
+#[tactic(auto, using(crate::proofs::Counted::charged_tally))]
 pub fn ast_charge<R: Routine>(core: &Core<R>, p: Pid) -> usize
     requires { IsProcess (state core.now) p }
     ensures { result ≡ ast_charge (state core.now) p }

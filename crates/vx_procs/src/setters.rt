@@ -13,7 +13,8 @@ ghost use Rattle.vx_record.specs.Events.{below_top, moved_behind, put_back, with
 ghost use Rattle.vx_record.specs.Flags.{with_local_flag, with_wait};
 ghost use Rattle.vx_record.specs.Rundown.{exited, in_phase};
 ghost use Rattle.vx_record.specs.Services.{with_variable};
-ghost use Rattle.vx_procs.specs.View.{state, capacities, HasDecl, HasImage, HasFrameRoom, HasAstRoom, advanced_at, moved_as};
+ghost use Rattle.vx_procs.specs.View.{state, capacities, HasFrameRoom, HasAstRoom};
+ghost use Rattle.vx_procs.specs.Words.{advanced_at, moved_as, HasDecl, HasImage};
 
 use crate::frames::{leave_all, place_top, wait_at_top};
 use crate::procs::Core;
