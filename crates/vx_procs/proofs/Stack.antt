@@ -1,6 +1,6 @@
 -- The frames of a process, in the words of the machine and in those of the stack.
-use Rattle.std.proofs.Common.{◌≡◌, ◌×◌, ℕ, ◌+◌, ◌<◌, ◌≤◌, List, [], ◌∷◌, ◌++◌, if◌then◌else◌, true, false, Some, None, drop, length, refl, ap, sym, ◌∙◌, arith, rules}
-use Rattle.std.proofs.lemmas.List.{append_assoc, append-nil, drop_more, length-append}
+use Rattle.std.proofs.Common.{◌≡◌, ℕ, zero, suc, ◌+◌, ◌<◌, ◌≤◌, List, [], ◌∷◌, ◌++◌, if◌then◌else◌, true, false, Some, None, drop, length, refl, ap, sym, ◌∙◌, arith}
+use Rattle.std.proofs.lemmas.List.{append_assoc, append-nil, length-append}
 use Rattle.vx_base.specs.Log.{Log, HasRoom, logged}
 use Rattle.vx_base.specs.declared.frame.Frame.{Frame}
 use Rattle.vx_base.specs.declared.frame.FrameKind.{FrameKind}
@@ -41,7 +41,10 @@ advanced_top image p store (g ∷ fs) f a top e = let same : f ≡ g = cc in e �
 -- Frames that are left, the top first.
 
 pub below_drop : (fs : List Frame) (n : ℕ) → stack.below_top (drop n fs) ≡ drop (n + 1) fs
-below_drop fs n = search (rules, drop_more)
+below_drop [] zero = refl
+below_drop [] (suc n) = let e : suc n + 1 ≡ suc (suc n) = omega arith in rw e refl
+below_drop (f ∷ fs) zero = refl
+below_drop (f ∷ fs) (suc n) = let e : suc n + 1 ≡ suc (n + 1) = omega arith in rw e (below_drop fs n)
 
 pub left_split : (fs : List Frame) → left fs ≡ left_top fs ++ left (stack.below_top fs)
 left_split [] = refl
