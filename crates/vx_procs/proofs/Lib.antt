@@ -2,3 +2,4 @@ pub mod Born
 pub mod Changed
 pub mod Counted
 pub mod Stack
+pub mod Started

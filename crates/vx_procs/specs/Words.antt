@@ -1,5 +1,6 @@
 -- Words on one process: its declaration and image, its local statements, the ASTs that its frames leave.
-use Rattle.std.specs.Prelude.{ℕ, ◌<◌, List, [], ◌∷◌, ◌++◌, if◌then◌else◌, Option, None, length, slice_index_or}
+use Rattle.std.specs.Prelude.{ℕ, ◌<◌, List, [], ◌∷◌, ◌++◌, Bool, true, ◌&&◌, ◌==◌, not, if◌then◌else◌, Option, Some, None, length, slice_index_or}
+use Rattle.std.specs.List.{list_any}
 use Rattle.vx_base.specs.Pieces.{Queued}
 use Rattle.vx_base.specs.declared.effects.Effect.{Effect}
 use Rattle.vx_base.specs.declared.effects.Effect.TheVariants as effect
@@ -16,6 +17,7 @@ use Rattle.vx_image.specs.declared.system.System.{System}
 use Rattle.vx_record.specs.State.{Process, State, process_at, decl_of, image_of, no_decl, no_image}
 use Rattle.vx_record.specs.Asts.{deliverable_at}
 use Rattle.vx_record.specs.Events.{reader, moved_to}
+use Rattle.vx_record.specs.Rundown.{without_ast}
 use Rattle.vx_record.specs.Runs.{born_of}
 
 -- the process of a declaration at a place, where it is there from the start
@@ -25,6 +27,16 @@ born_if_started place d = if d.start then born_of place d ∷ [] else []
 -- the AST of a process that may start: none where it is suspended or has no frame
 abbrev pub deliverable_of : Process → Option Queued
 deliverable_of pr = if pr.suspended then None else deliverable_at pr pr.frames
+
+-- no two of these ASTs have one id
+abbrev pub have_own_ids : List Queued → Bool
+have_own_ids [] = true
+have_own_ids (q ∷ qs) = not (list_any (λ r. q.id.0 == r.id.0) qs) && have_own_ids qs
+
+-- the process without the AST that starts, if one does
+abbrev pub without_started : Option Queued → Process → Process
+without_started None pr = pr
+without_started (Some q) pr = without_ast q.id pr
 
 -- the process declaration at a place, and its image
 

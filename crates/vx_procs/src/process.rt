@@ -1,9 +1,10 @@
 //! One process, as it is kept.
 
-ghost use Rattle.std.specs.Prelude.{◌≡◌, ◌<◌, ◌∷◌, [], None, IfOk, length, option_map};
+ghost use Rattle.std.specs.Prelude.{◌≡◌, ◌<◌, ◌∷◌, [], None, IfOk, IsTrue, length, option_map};
 ghost use Rattle.vx_base.specs.Flags.{with_flag};
 ghost use Rattle.vx_base.specs.Log.{HasRoom, logged};
 ghost use Rattle.vx_base.specs.declared.frame.FrameKind.TheVariants.{Main};
+ghost use Rattle.vx_ast.specs.Queue.{queued_of};
 ghost use Rattle.vx_image.specs.WellFormed.{IsImage};
 ghost use Rattle.vx_record.specs.Events.{put_back};
 ghost use Rattle.vx_record.specs.Flags.{with_local_flag};
@@ -11,11 +12,11 @@ ghost use Rattle.vx_record.specs.Runs.{born_of};
 ghost use Rattle.vx_record.specs.State.{top_mode};
 ghost use Rattle.vx_record.specs.Rundown.{leaving, without_frames};
 ghost use Rattle.vx_procs.specs.View.{process, room_of};
-ghost use Rattle.vx_procs.specs.Words.{advanced_of, deliverable_of, left, moved_as};
+ghost use Rattle.vx_procs.specs.Words.{advanced_of, deliverable_of, have_own_ids, left, moved_as, without_started};
 
 use crate::frames::{leave_all, place_top};
 use std::alloc::Global;
-use vx_ast::AstQueue;
+use vx_ast::{AstQueue, Delivery};
 use vx_base::{Effects, Frame, FrameKind, Id, Mode, NoMemory, Phase, Pid, Privs, Routine, Target};
 use vx_flags::Flags;
 use vx_frames::Frames;
@@ -170,6 +171,21 @@ impl<R: Routine> Proc<R> {
         let (place, stop) = advance(image, &mut self.store, pc, prm, p);
         place_top(&mut self.frames, place);
         (place, stop)
+    }
+
+    /// Takes out its AST that may start, if there is one.
+    pub(crate) fn take(&mut self) -> Option<Delivery<R>>
+        requires { IsTrue (have_own_ids (process self.old).asts) }
+        ensures found { option_map (queued_of R.tagged) result ≡ deliverable_of (process self.old) }
+        ensures after { process self.new ≡ without_started (deliverable_of (process self.old)) (process self.old) }
+        ensures room { room_of self.new ≡ room_of self.old }
+    {
+        if self.suspended {
+            return None;
+        }
+        let frame = self.frames.top()?;
+        let (mode, active) = (frame.mode, self.frames.active());
+        self.asts.take(mode, active)
     }
 
     /// Its AST that may start: none where it is suspended or has no frame.

@@ -2,7 +2,6 @@
 
 ghost use Rattle.std.specs.Prelude.{◌≡◌, ◌≤◌, ◌++◌, IfOk, OnOk, length, map};
 ghost use Rattle.vx_base.specs.declared.number.Pid.{Pid as PidOf};
-ghost use Rattle.vx_image.specs.WellFormed.{IsWellFormed};
 ghost use Rattle.vx_record.specs.Runs.{born_from, first};
 ghost use Rattle.vx_record.specs.State.{IsProcess};
 ghost use Rattle.vx_procs.specs.Words.{born_if_started};
@@ -50,9 +49,10 @@ fn first_procs<R: Routine>(alloc: Global, decls: &ProcDecls) -> Result<Vec<Proc<
 }
 
 impl<R: Routine> Core<R> {
-    /// A system before its first event: the processes that are there from the start, in the order of the script.
+    /// A system before its first event: the processes that are there from the start, in the order of the script, which
+    /// declares at most 1,000.
     pub fn new(alloc: Global, system: System) -> Result<Core<R>, NoMemory>
-        requires { IsWellFormed system }
+        requires { length system.decls ≤ 1000 }
         ensures { IfOk result (λ core. state core ≡ first system) }
     {
         let procs = first_procs(alloc, &system.decls)?;

@@ -17,6 +17,13 @@ use crate::procs::Core;
 use vx_base::{Cell, Id, Mode, Need, Phase, Pid, Routine, Target};
 use vx_image::{Image, ProcDecl, System};
 
+/// How many processes have been made, which is the number of the last.
+pub fn made<R: Routine>(core: &Core<R>) -> usize
+    ensures { result ≡ length (state core.now).procs }
+{
+    core.procs.len()
+}
+
 /// A process.
 pub fn process_of<R: Routine>(core: &Core<R>, p: Pid) -> &Proc<R>
     requires { IsProcess (state core.now) p }

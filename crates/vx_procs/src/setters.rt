@@ -1,24 +1,26 @@
 //! Changes of one process.
 
-ghost use Rattle.std.specs.Prelude.{◌≡◌, ◌<◌, IsTrue, length};
+ghost use Rattle.std.specs.Prelude.{◌≡◌, ◌<◌, IsTrue, length, option_map};
+ghost use Rattle.vx_ast.specs.Queue.{queued_of};
 ghost use Rattle.vx_base.specs.Log.{HasRoom};
 ghost use Rattle.vx_base.specs.Pieces.{is_enabled_in};
 ghost use Rattle.vx_frames.specs.Frames.{may_stand_on, top_of};
 ghost use Rattle.vx_image.specs.WellFormed.{IsImage};
 ghost use Rattle.vx_record.specs.State.{IsProcess, process_at, image_of, change, next_id, past_id};
 ghost use Rattle.vx_record.specs.Parts.{Acts};
-ghost use Rattle.vx_record.specs.Asts.{with_delivery, with_frame, with_queued};
+ghost use Rattle.vx_record.specs.Asts.{deliverable_ast, with_delivery, with_frame, with_queued};
 ghost use Rattle.vx_record.specs.Control.{with_suspension, with_wake};
 ghost use Rattle.vx_record.specs.Events.{below_top, moved_behind, put_back, with_r0};
 ghost use Rattle.vx_record.specs.Flags.{with_local_flag, with_wait};
 ghost use Rattle.vx_record.specs.Rundown.{exited, in_phase};
 ghost use Rattle.vx_record.specs.Services.{with_variable};
 ghost use Rattle.vx_procs.specs.View.{state, capacities, HasFrameRoom, HasAstRoom};
-ghost use Rattle.vx_procs.specs.Words.{advanced_at, moved_as, HasDecl, HasImage};
+ghost use Rattle.vx_procs.specs.Words.{advanced_at, have_own_ids, moved_as, without_started, HasDecl, HasImage};
 
 use crate::frames::{leave_all, place_top, wait_at_top};
 use crate::procs::Core;
 use crate::reads::image_in;
+use vx_ast::Delivery;
 use vx_base::{Effects, Frame, Id, Mode, Phase, Pid, Routine, Target, Wait};
 use vx_image::Stop;
 
@@ -116,6 +118,17 @@ pub fn queue_ast<R: Routine>(
     core.procs[p.0 as usize - 1]
         .asts
         .put(id, mode, routine, charged)
+}
+
+/// Takes out the AST of a process that may start, as `deliverable` has it. No two of its queued ASTs have one id.
+pub fn take_ast<R: Routine>(core: &mut Core<R>, p: Pid) -> Option<Delivery<R>>
+    requires made { IsProcess (state core.old) p }
+    requires ids { IsTrue (have_own_ids (process_at (state core.old) p).asts) }
+    ensures found { option_map (queued_of R.tagged) result ≡ deliverable_ast (state core.old) p }
+    ensures after { state core.new ≡ change (state core.old) p (without_started (deliverable_ast (state core.old) p)) }
+    ensures room { capacities core.new ≡ capacities core.old }
+{
+    core.procs[p.0 as usize - 1].take()
 }
 
 /// Enters a frame, which is not further out than the top frame. Takes no memory.
