@@ -1,5 +1,5 @@
 -- One process changed in the code is that process changed in the state.
-use Rattle.std.proofs.Common.{◌≡◌, ℕ, ◌-◌, ◌<◌, ◌≤◌, length, List, map, slice_index_or, slice_set, Result, Ok, Err, OnOk, inl, inr, get_or-set_same, get_or-set_other, length-set, arith, sym, ap, subst, ◌∙◌}
+use Rattle.std.proofs.Common.{◌≡◌, ℕ, ◌-◌, ◌<◌, length, List, map, slice_index_or, slice_set, Result, Ok, Err, OnOk, inl, inr, get_or-set_same, get_or-set_other, length-set, arith, sym, ap, subst, ◌∙◌}
 use Rattle.std.proofs.lemmas.Bool.{cases_eq}
 use Rattle.std.proofs.lemmas.List.{map-set, get_or-map, length-map}
 use Rattle.std.proofs.Math.Seq.{map-set_same}

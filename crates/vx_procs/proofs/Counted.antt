@@ -1,5 +1,5 @@
 -- Charged ASTs, counted by the code and by the machine.
-use Rattle.std.proofs.Common.{◌≡◌, ℕ, ◌+◌, List, [], ◌∷◌, Bool, true, false, cond, count_by, refl, sym, arith}
+use Rattle.std.proofs.Common.{◌≡◌, ℕ, ◌+◌, List, Bool, true, false, cond, count_by, refl, sym, arith}
 use Rattle.std.proofs.lemmas.List.Recursion.{is_count_by}
 use Rattle.vx_base.specs.Flags.{one}
 use Rattle.vx_base.specs.Pieces.{Queued}

@@ -1,5 +1,5 @@
 -- The frames of a process, in the words of the machine and in those of the stack.
-use Rattle.std.proofs.Common.{◌≡◌, ℕ, zero, suc, ◌+◌, ◌<◌, ◌≤◌, List, [], ◌∷◌, ◌++◌, if◌then◌else◌, true, false, Some, None, drop, length, refl, ap, sym, ◌∙◌, arith}
+use Rattle.std.proofs.Common.{◌≡◌, ℕ, zero, suc, ◌+◌, List, [], ◌∷◌, ◌++◌, Some, None, drop, length, refl, ap, sym, ◌∙◌, arith}
 use Rattle.std.proofs.lemmas.List.{append_assoc, append-nil, length-append}
 use Rattle.vx_base.specs.Log.{Log, HasRoom, logged}
 use Rattle.vx_base.specs.declared.frame.Frame.{Frame}

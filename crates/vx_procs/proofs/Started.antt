@@ -60,12 +60,12 @@ first_like enables current active asts q own e =
     elim (one_of_two (first Kernel) (or_else (first Exec) (or_else (first Super) (first User))) q e) [
       | inl is ↦ own_by_mode Kernel asts q own (first_found enables current active asts Kernel q is)
       | inr more ↦ elim (one_of_two (first Exec) (or_else (first Super) (first User)) q more) [
-          | inl is ↦ own_by_mode Exec asts q own (first_found enables current active asts Exec q is)
-          | inr further ↦ elim (one_of_two (first Super) (first User) q further) [
-              | inl is ↦ own_by_mode Super asts q own (first_found enables current active asts Super q is)
-              | inr last ↦ own_by_mode User asts q own (first_found enables current active asts User q last)
-            ]
+        | inl is ↦ own_by_mode Exec asts q own (first_found enables current active asts Exec q is)
+        | inr further ↦ elim (one_of_two (first Super) (first User) q further) [
+          | inl is ↦ own_by_mode Super asts q own (first_found enables current active asts Super q is)
+          | inr last ↦ own_by_mode User asts q own (first_found enables current active asts User q last)
         ]
+      ]
     ]
 
 pub taken_started : (pr : Process) (current : Mode) (active : Option Mode) (r : Option Queued) → IsTrue (have_own_ids pr.asts) → deliverable pr.enables current active pr.asts ≡ r → record pr { asts = less_first_like r pr.asts } ≡ without_started r pr

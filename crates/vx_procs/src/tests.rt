@@ -69,7 +69,10 @@ fn core_of<R: Routine>(alloc: Global) -> Result<Core<R>, Fail> {
 fn two_processes_are_there_from_the_start(rt: HostRuntime) -> Result<(), Fail> {
     let core = core_of::<Scripted>(rt.alloc())?;
     assert!(rt; made(&core) == 2);
-    assert_eq!(rt; (process_of(&core, P).decl, process_of(&core, Q).decl), (0, 2));
+    assert_eq!(rt;
+        (process_of(&core, P).decl, process_of(&core, Q).decl),
+        (0, 2)
+    );
     assert_eq!(rt; current_mode(&core, Q), Mode::Super);
     assert_eq!(rt; active_ast_mode(&core, Q), None);
     assert!(rt; !is_deleted(&core, Q));
@@ -107,7 +110,14 @@ fn an_ast_is_queued_and_taken(rt: HostRuntime) -> Result<(), Fail> {
     assert!(rt; made(&core) == 2);
     core.reserve(Q)?;
     let id = Id(9);
-    queue_ast(&mut core, Q, id, Mode::Super, Scripted::scripted(Entry::Label(0, 3)), true);
+    queue_ast(
+        &mut core,
+        Q,
+        id,
+        Mode::Super,
+        Scripted::scripted(Entry::Label(0, 3)),
+        true,
+    );
     assert_eq!(rt; (ast_charge(&core, P), ast_charge(&core, Q)), (0, 1));
     assert_eq!(rt; deliverable(&core, P), None);
     assert_eq!(rt; deliverable(&core, Q), Some(id));

@@ -1,8 +1,8 @@
-use Rattle.std.proofs.Common.{◌≡◌, List, length, ap, sym, subst, ◌∙◌}
+use Rattle.std.proofs.Common.{List, length, ap, sym, subst, ◌∙◌}
 use Rattle.vx_base.specs.Log.{HasRoom, logged}
 use Rattle.vx_base.specs.declared.effects.Effect.{Effect}
 use Rattle.vx_record.specs.State.{Process, change, process_at}
-use Rattle.vx_record.specs.Rundown.{exited, without_frames}
+use Rattle.vx_record.specs.Rundown.{without_frames}
 use Rattle.vx_procs.specs.View.{state}
 use Rattle.vx_procs.specs.Words.{left}
 use Rattle.vx_procs.proofs.Changed.{changed, room_kept, seen}

@@ -1,4 +1,4 @@
-use Rattle.std.proofs.Common.{refl, rules}
+use Rattle.std.proofs.Common.{refl}
 use Rattle.vx_record.specs.Asts.{with_frame}
 use Rattle.vx_procs.proofs.Changed.{changed, room_kept}
 use Rattle.vx_procs.proofs.setters.push_frame.Goals as goal

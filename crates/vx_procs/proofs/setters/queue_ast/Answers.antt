@@ -1,4 +1,4 @@
-use Rattle.std.proofs.Common.{refl, rules}
+use Rattle.std.proofs.Common.{refl}
 use Rattle.vx_record.specs.Asts.{with_queued}
 use Rattle.vx_procs.proofs.Changed.{changed, room_kept}
 use Rattle.vx_procs.proofs.setters.queue_ast.Goals as goal

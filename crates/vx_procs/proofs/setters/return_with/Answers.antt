@@ -1,4 +1,3 @@
-use Rattle.std.proofs.Common.{refl, rules}
 use Rattle.vx_record.specs.Events.{put_back}
 use Rattle.vx_procs.proofs.Changed.{changed, room_kept}
 use Rattle.vx_procs.proofs.setters.return_with.Goals as goal

@@ -1,4 +1,4 @@
-use Rattle.std.proofs.Common.{refl, rules}
+use Rattle.std.proofs.Common.{refl}
 use Rattle.vx_record.specs.Asts.{with_delivery}
 use Rattle.vx_procs.proofs.Changed.{changed, room_kept}
 use Rattle.vx_procs.proofs.setters.set_delivery.Goals as goal

@@ -1,4 +1,3 @@
-use Rattle.std.proofs.Common.{refl, rules}
 use Rattle.vx_record.specs.Flags.{with_local_flag}
 use Rattle.vx_procs.proofs.Changed.{changed, room_kept}
 use Rattle.vx_procs.proofs.setters.set_flag.Goals as goal

@@ -1,5 +1,5 @@
 use Rattle.std.proofs.Common.{IsTrue, ap, sym, subst, ◌∙◌}
-use Rattle.vx_record.specs.State.{Process, process_at}
+use Rattle.vx_record.specs.State.{Process}
 use Rattle.vx_record.specs.Asts.{deliverable_ast}
 use Rattle.vx_procs.specs.View.{process, state}
 use Rattle.vx_procs.specs.Words.{deliverable_of, have_own_ids, without_started}

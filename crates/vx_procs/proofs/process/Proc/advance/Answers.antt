@@ -1,5 +1,4 @@
-use Rattle.std.proofs.Common.{ap, sym, ◌∙◌, refl}
-use Rattle.vx_record.specs.Events.{moved_to}
+use Rattle.std.proofs.Common.{ap}
 use Rattle.vx_procs.proofs.Stack.{advanced_top}
 use Rattle.vx_procs.specs.View.{process}
 use Rattle.vx_procs.specs.Words.{moved_as}

@@ -1,6 +1,5 @@
-use Rattle.std.proofs.Common.{◌≡◌, ◌+◌, ◌≤◌, ◌<◌, length, arith, refl, rules}
-use Rattle.vx_procs.specs.View.{room_of}
-use Rattle.vx_procs.proofs.Changed.{unchanged, put_there, room_there, room_grown, on_ok, on_ok_more}
+use Rattle.std.proofs.Common.{◌<◌, length, refl}
+use Rattle.vx_procs.proofs.Changed.{unchanged, put_there, room_there, room_grown, on_ok}
 use Rattle.vx_procs.proofs.procs.Core.reserve.Goals as goal
 
 pub returns-clause-same : goal.returns-clause-same
