@@ -1,0 +1,5 @@
+pub mod Born
+pub mod Changed
+pub mod Counted
+pub mod Stack
+pub mod Started

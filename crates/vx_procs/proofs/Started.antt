@@ -1,0 +1,90 @@
+-- The AST that may start is the first of its mode, and where ids are distinct the first with its id.
+use Rattle.std.proofs.Common.{◌≡◌, List, [], ◌∷◌, Bool, true, false, cond, not, ◌==◌, ◌≤◌, length, eq-eqb, arith, IsTrue, Option, Some, None, inl, inr, ◌⊎◌, refl, ap, sym, ◌∙◌}
+use Rattle.std.specs.List.{find, list_any}
+use Rattle.std.proofs.lemmas.Bool.{and_parts, eqb-true, not-true, or_parts}
+use Rattle.vx_base.specs.Lists.{less}
+use Rattle.vx_base.specs.Modes.{rank}
+use Rattle.vx_base.specs.Pieces.{Queued, Enables}
+use Rattle.vx_base.specs.Queues.{is_of_mode, may_start, first_of_mode, or_else, deliverable}
+use Rattle.vx_base.specs.declared.frame.Frame.{Frame}
+use Rattle.vx_base.specs.declared.mode.Mode.{Mode}
+use Rattle.vx_base.specs.declared.mode.Mode.TheVariants.{Kernel, Exec, Super, User}
+use Rattle.vx_ast.specs.Queue.{less_first_like}
+use Rattle.vx_ast.proofs.First.{found_passes}
+use Rattle.vx_frames.specs.Frames as stack
+use Rattle.vx_record.specs.Asts.{deliverable_at}
+use Rattle.vx_record.specs.State.{Process}
+use Rattle.vx_procs.specs.Words.{deliverable_of, have_own_ids, without_started}
+use Rattle.vx_procs.proofs.Stack.{same_active}
+
+-- what does not hold of any does not hold of the one that is found
+none_found : (p g : Queued → Bool) (xs : List Queued) (q : Queued) → list_any g xs ≡ false → find p xs ≡ Some q → g q ≡ false
+none_found p g [] q none found = absurd (cc)
+none_found p g (x ∷ xs) q none found =
+    let parts = or_parts (g x) (list_any g xs) none in
+    let P : Bool → Type 0 = λ b. cond b (Some x) (find p xs) ≡ Some q → g q ≡ false in
+    elim (p x) as P [
+      | true ↦ λ is. let same : x ≡ q = cc in ap g (sym same) ∙ parts.0
+      | false ↦ λ more. none_found p g xs q parts.1 more
+    ] found
+
+-- where no two have one id, the first of a mode is the first with its id
+less_own : (m : Mode) (xs : List Queued) (q : Queued) → IsTrue (have_own_ids xs) → find (is_of_mode m) xs ≡ Some q → less (is_of_mode m) xs ≡ less (λ r. r.id.0 == q.id.0) xs
+less_own m [] q own found = refl
+less_own m (x ∷ xs) q own found =
+    let parts = and_parts (not (list_any (λ r. x.id.0 == r.id.0) xs)) (have_own_ids xs) own in
+    let P : Bool → Type 0 = λ b. cond b (Some x) (find (is_of_mode m) xs) ≡ Some q → cond b xs (x ∷ less (is_of_mode m) xs) ≡ cond (x.id.0 == q.id.0) xs (x ∷ less (λ r. r.id.0 == q.id.0) xs) in
+    elim (is_of_mode m x) as P [
+      | true ↦ λ is.
+          let same : x ≡ q = cc in
+          let here : (x.id.0 == q.id.0) ≡ true = eq-eqb x.id.0 q.id.0 (ap (λ (y : Queued). y.id.0) same) in
+          rw here refl
+      | false ↦ λ more.
+          let other : (x.id.0 == q.id.0) ≡ false = none_found (is_of_mode m) (λ r. x.id.0 == r.id.0) xs q (not-true _ parts.0) more in
+          rw other (ap (λ ys. x ∷ ys) (less_own m xs q parts.1 more))
+    ] found
+
+own_by_mode : (m : Mode) (asts : List Queued) (q : Queued) → IsTrue (have_own_ids asts) → find (is_of_mode m) asts ≡ Some q → less_first_like (Some q) asts ≡ less (λ r. r.id.0 == q.id.0) asts
+own_by_mode m asts q own found = ap (λ r. less (λ (a : Queued). rank a.mode == r) asts) (eqb-true _ _ (found_passes (is_of_mode m) asts q found)) ∙ less_own m asts q own found
+
+first_found : (enables : Enables) (current : Mode) (active : Option Mode) (asts : List Queued) (m : Mode) (q : Queued) → first_of_mode enables current active asts m ≡ Some q → find (is_of_mode m) asts ≡ Some q
+first_found enables current active asts m q e = elim (may_start enables current active m) as (λ b. cond b (find (is_of_mode m) asts) None ≡ Some q → find (is_of_mode m) asts ≡ Some q) [ true ↦ λ is. is | false ↦ λ is. absurd (cc) ] e
+
+one_of_two : (a b : Option Queued) (q : Queued) → or_else a b ≡ Some q → (a ≡ Some q) ⊎ (b ≡ Some q)
+one_of_two None b q e = inr e
+one_of_two (Some x) b q e = inl e
+
+first_like : (enables : Enables) (current : Mode) (active : Option Mode) (asts : List Queued) (q : Queued) → IsTrue (have_own_ids asts) → deliverable enables current active asts ≡ Some q → less_first_like (Some q) asts ≡ less (λ r. r.id.0 == q.id.0) asts
+first_like enables current active asts q own e =
+    let first : Mode → Option Queued = first_of_mode enables current active asts in
+    elim (one_of_two (first Kernel) (or_else (first Exec) (or_else (first Super) (first User))) q e) [
+      | inl is ↦ own_by_mode Kernel asts q own (first_found enables current active asts Kernel q is)
+      | inr more ↦ elim (one_of_two (first Exec) (or_else (first Super) (first User)) q more) [
+        | inl is ↦ own_by_mode Exec asts q own (first_found enables current active asts Exec q is)
+        | inr further ↦ elim (one_of_two (first Super) (first User) q further) [
+          | inl is ↦ own_by_mode Super asts q own (first_found enables current active asts Super q is)
+          | inr last ↦ own_by_mode User asts q own (first_found enables current active asts User q last)
+        ]
+      ]
+    ]
+
+pub taken_started : (pr : Process) (current : Mode) (active : Option Mode) (r : Option Queued) → IsTrue (have_own_ids pr.asts) → deliverable pr.enables current active pr.asts ≡ r → record pr { asts = less_first_like r pr.asts } ≡ without_started r pr
+taken_started pr current active None own e = refl
+taken_started pr current active (Some q) own e = ap (λ (xs : List Queued). record pr { asts = xs }) (first_like pr.enables current active pr.asts q own e)
+
+-- one AST has an id of its own
+pub one_own : (asts : List Queued) → length asts ≤ 1 → IsTrue (have_own_ids asts)
+one_own [] few = refl
+one_own (q ∷ []) few = refl
+one_own (q ∷ r ∷ asts) few = absurd (omega arith)
+
+-- the AST that may start, from the top frame on
+
+deliverable_from : (pr : Process) (fs : List Frame) (f : Frame) (active : Option Mode) → Some f ≡ stack.top_of fs → active ≡ stack.active_mode fs → deliverable pr.enables f.mode active pr.asts ≡ deliverable_at pr fs
+deliverable_from pr [] f active top is = absurd (cc)
+deliverable_from pr (g ∷ fs) f active top is =
+    let same : f ≡ g = cc in
+    ap (λ (h : Frame). deliverable pr.enables h.mode active pr.asts) same ∙ ap (λ (a : Option Mode). deliverable pr.enables g.mode a pr.asts) (is ∙ same_active (g ∷ fs))
+
+pub deliverable_top : (pr : Process) (f : Frame) (active : Option Mode) → pr.suspended ≡ false → Some f ≡ stack.top_of pr.frames → active ≡ stack.active_mode pr.frames → deliverable pr.enables f.mode active pr.asts ≡ deliverable_of pr
+deliverable_top pr f active runs top is = rw runs (deliverable_from pr pr.frames f active top is)

@@ -1,0 +1,86 @@
+-- Words on one process: its declaration and image, its local statements, the ASTs that its frames leave.
+use Rattle.std.specs.Prelude.{ℕ, ◌<◌, List, [], ◌∷◌, ◌++◌, Bool, true, ◌&&◌, ◌==◌, not, if◌then◌else◌, Option, Some, None, length, slice_index_or}
+use Rattle.std.specs.List.{list_any}
+use Rattle.vx_base.specs.Pieces.{Queued}
+use Rattle.vx_base.specs.declared.effects.Effect.{Effect}
+use Rattle.vx_base.specs.declared.effects.Effect.TheVariants as effect
+use Rattle.vx_base.specs.declared.frame.Frame.{Frame}
+use Rattle.vx_base.specs.declared.frame.FrameKind.{FrameKind}
+use Rattle.vx_base.specs.declared.frame.FrameKind.TheVariants as kind
+use Rattle.vx_base.specs.declared.number.Pid.{Pid}
+use Rattle.vx_image.specs.Local.{Advanced, advanced, stopped}
+use Rattle.vx_image.specs.Storage.{Storage}
+use Rattle.vx_image.specs.declared.decl.ProcDecl.{ProcDecl}
+use Rattle.vx_image.specs.declared.image.Image.{Image}
+use Rattle.vx_image.specs.declared.stop.Stop.TheVariants as stop
+use Rattle.vx_image.specs.declared.system.System.{System}
+use Rattle.vx_record.specs.State.{Process, State, process_at, decl_of, image_of, no_decl, no_image}
+use Rattle.vx_record.specs.Asts.{deliverable_at}
+use Rattle.vx_record.specs.Events.{reader, moved_to}
+use Rattle.vx_record.specs.Rundown.{without_ast}
+use Rattle.vx_record.specs.Runs.{born_of}
+
+-- the process of a declaration at a place, where it is there from the start
+abbrev pub born_if_started : ℕ → ProcDecl → List Process
+born_if_started place d = if d.start then born_of place d ∷ [] else []
+
+-- the AST of a process that may start: none where it is suspended or has no frame
+abbrev pub deliverable_of : Process → Option Queued
+deliverable_of pr = if pr.suspended then None else deliverable_at pr pr.frames
+
+-- no two of these ASTs have one id
+abbrev pub have_own_ids : List Queued → Bool
+have_own_ids [] = true
+have_own_ids (q ∷ qs) = not (list_any (λ r. q.id.0 == r.id.0) qs) && have_own_ids qs
+
+-- the process without the AST that starts, if one does
+abbrev pub without_started : Option Queued → Process → Process
+without_started None pr = pr
+without_started (Some q) pr = without_ast q.id pr
+
+-- the process declaration at a place, and its image
+
+abbrev pub decl_in : System → ℕ → ProcDecl
+decl_in system place = slice_index_or system.decls place no_decl
+
+abbrev pub image_in : System → ℕ → Image
+image_in system place = slice_index_or system.images (decl_in system place).image no_image
+
+-- the declaration of p is the system's, and so is its image
+
+abbrev pub HasDecl : State → Pid → Type 0
+HasDecl s p = (process_at s p).decl < length s.system.decls
+
+abbrev pub HasImage : State → Pid → Type 0
+HasImage s p = (decl_of s p).image < length s.system.images
+
+-- the local statements of process p, of its image, from where its top frame stands
+
+abbrev pub advanced_from : Image → Pid → Storage → List Frame → Advanced
+advanced_from image p store [] = stopped store 0 stop.Local
+advanced_from image p store (f ∷ fs) = advanced image (reader p f) store f.pc
+
+abbrev pub advanced_of : Image → Pid → Process → Advanced
+advanced_of image p pr = advanced_from image p pr.store pr.frames
+
+abbrev pub advanced_at : State → Pid → Advanced
+advanced_at s p = advanced_of (image_of s p) p (process_at s p)
+
+-- the process after them
+abbrev pub moved_as : Advanced → Process → Process
+moved_as a pr = moved_to a.store a.place pr
+
+-- the ASTs of these frames are no longer active, the top one first
+
+abbrev pub left_kind : FrameKind → List Effect
+left_kind (kind.Ast id) = effect.Leave id ∷ []
+left_kind _ = []
+
+abbrev pub left : List Frame → List Effect
+left [] = []
+left (f ∷ fs) = left_kind f.kind ++ left fs
+
+-- those of the top frame alone
+abbrev pub left_top : List Frame → List Effect
+left_top [] = []
+left_top (f ∷ fs) = left_kind f.kind
