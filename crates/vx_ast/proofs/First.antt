@@ -1,8 +1,6 @@
 -- The first item that passes a test: found, taken out, and seen as something else.
-use Rattle.std.proofs.Common.{◌≡◌, ℕ, ◌+◌, ◌<◌, ◌≤◌, List, [], ◌∷◌, ◌++◌, Bool, true, false, cond, not, Option, Some, None, map, option_map, length, take, drop, remove, position, slice_index_or, get_or, refl, ap, sym, ◌∙◌, arith, ltb, subst, rules, suc, nat_lt}
-use Rattle.std.specs.List.{find, prefix_len, position_or_len, list_any, slice_get}
-use Rattle.std.proofs.lemmas.List.{map-append, take-map, drop-map, length-map}
-use Rattle.std.proofs.lemmas.List.Folds.{find_at}
+use Rattle.std.proofs.Common.{◌≡◌, ℕ, ◌+◌, ◌<◌, ◌≤◌, List, [], ◌∷◌, Bool, true, false, cond, not, Option, Some, None, map, option_map, length, remove, position, slice_index_or, refl, ap, sym, ◌∙◌, arith, suc, nat_lt}
+use Rattle.std.specs.List.{find, position_or_len}
 use Rattle.std.proofs.lemmas.Bool.{ltb-true, ltb-false}
 use Rattle.vx_base.specs.Lists.{less}
 

@@ -1,5 +1,4 @@
 -- Attention entries as the code keeps them, seen as plain data.
-use Rattle.std.specs.Prelude.{ℕ, List}
 use Rattle.vx_base.specs.declared.mode.Mode.{Mode}
 use Rattle.vx_base.specs.declared.number.Id.{Id}
 use Rattle.vx_base.specs.declared.number.Pid.{Pid}

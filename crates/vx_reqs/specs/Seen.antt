@@ -1,5 +1,5 @@
 -- The requests as the code keeps them, seen as plain data.
-use Rattle.std.specs.Prelude.{ℕ, Bool, Option, option_map}
+use Rattle.std.specs.Prelude.{option_map}
 use Rattle.vx_base.specs.Pieces.{Request, Promised}
 use Rattle.vx_base.specs.declared.mode.Mode.{Mode}
 use Rattle.vx_base.specs.declared.routine.Entry.{Entry}

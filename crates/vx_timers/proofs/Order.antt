@@ -1,5 +1,5 @@
 -- Lists in id order, and the entry that falls due first.
-use Rattle.std.proofs.Common.{◌≡◌, ℕ, ◌||◌, ◌+◌, ◌<◌, ◌≤◌, Bool, true, false, cond, nat_le, nat_eq, List, [], ◌∷◌, Option, Some, None, option_map, refl, ap, sym, ◌∙◌, arith, subst}
+use Rattle.std.proofs.Common.{◌≡◌, ℕ, ◌||◌, ◌<◌, ◌≤◌, Bool, true, false, cond, nat_le, nat_eq, List, [], ◌∷◌, Option, Some, None, option_map, refl, ap, sym, ◌∙◌, arith, subst}
 use Rattle.std.specs.List.{find, list_any, AllByRecursion}
 use Rattle.std.proofs.lemmas.Bool.Decides.{nat_tests}
 use Rattle.std.proofs.lemmas.Bool.{eq-eqb}
@@ -7,7 +7,6 @@ use Rattle.vx_base.specs.Lists.{less}
 use Rattle.vx_base.specs.Pieces.{Timer}
 use Rattle.vx_base.specs.Queues.{sooner, least_due}
 use Rattle.vx_timers.specs.Timing.{put_before, has_id, inserted, IsInIdOrder, is_due_at, if_due_by, first_due, less_entry}
-use Rattle.vx_timers.specs.Seen.{lesser_of}
 
 -- all ids are above n
 abbrev AllAbove : ℕ → List Timer → Type 0

@@ -1,5 +1,5 @@
 -- Device units while they serve.
-use Rattle.std.specs.Prelude.{ℕ, ◌+◌, ◌*◌, ◌≤◌, ◌≡◌, ◌<◌, List, [], Bool, true, false, ◌&&◌, ◌||◌, ◌==◌, not, nat_le, nat_lt, IsTrue, Option, Some, None, replicate, length, slice_range, if◌then◌else◌}
+use Rattle.std.specs.Prelude.{ℕ, ◌+◌, ◌*◌, List, [], Bool, true, false, ◌&&◌, ◌||◌, ◌==◌, not, nat_le, Option, Some, None, replicate, length, slice_range, if◌then◌else◌}
 use Rattle.vx_base.specs.Pieces.{DeviceUnit, Contents, Lines, Blocks}
 use Rattle.vx_base.specs.Serving.{is_write, settled}
 use Rattle.vx_base.specs.declared.request.Func.{Func}

@@ -1,4 +1,3 @@
-use Rattle.vx_base.specs.Queues.{is_of_mode}
 use Rattle.vx_ast.specs.declared.queue.Delivery.{Delivery}
 use Rattle.vx_ast.specs.Queue.{queued_of, is_within}
 use Rattle.vx_ast.proofs.First.{found_as, less_as, same_place}

@@ -1,5 +1,4 @@
 use Rattle.std.proofs.Common.{◌∙◌, sym}
-use Rattle.vx_base.specs.Queues.{is_served_by}
 use Rattle.vx_reqs.specs.Requests.{has_id}
 use Rattle.vx_reqs.specs.Seen.{request_of}
 use Rattle.vx_reqs.proofs.First.{list_any_map}

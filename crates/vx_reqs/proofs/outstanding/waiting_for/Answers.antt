@@ -1,5 +1,4 @@
-use Rattle.vx_base.specs.Queues.{is_served_by, waits_for}
-use Rattle.vx_reqs.specs.Requests.{has_id}
+use Rattle.vx_base.specs.Queues.{waits_for}
 use Rattle.vx_reqs.specs.Seen.{request_of}
 use Rattle.vx_reqs.proofs.First.{seen_as}
 use Rattle.vx_reqs.proofs.outstanding.waiting_for.Goals as goal

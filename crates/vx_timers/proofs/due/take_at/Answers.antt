@@ -1,6 +1,4 @@
 use Rattle.std.proofs.Common.{sym, subst}
-use Rattle.vx_base.specs.Lists.{less}
-use Rattle.vx_timers.specs.declared.due.Due.{Due}
 use Rattle.vx_timers.specs.Seen.{timer_of}
 use Rattle.vx_timers.specs.Timing.{IsInIdOrder}
 use Rattle.vx_timers.proofs.First.{found_as, less_as}

@@ -2,7 +2,7 @@ use Rattle.std.proofs.Common.{Bool}
 use Rattle.vx_base.specs.Pieces.{Timer}
 use Rattle.vx_timers.specs.declared.due.Due.{Due}
 use Rattle.vx_timers.specs.Seen.{timer_of}
-use Rattle.vx_timers.specs.Timing.{is_due_at, sets, is_timer_with, is_wake, wakes}
+use Rattle.vx_timers.specs.Timing.{sets, is_timer_with}
 use Rattle.vx_timers.proofs.First.{same_place}
 use Rattle.vx_timers.proofs.due.take_timer_with.Goals as goal
 
