@@ -1,6 +1,4 @@
-pub mod Body
-pub mod Complete
-pub mod Cut
-pub mod Digits
-pub mod Sound
-pub mod Whole
+pub mod Tokens
+pub mod Returns
+pub mod Taking
+pub mod Cutting

@@ -1,3 +1,8 @@
-pub mod Form
-pub mod Reader
-pub mod Script
+pub mod Results
+pub mod Lines
+pub mod Fields
+pub mod Statements
+pub mod Keys
+pub mod Declarations
+pub mod Resolving
+pub mod Reading

@@ -1,20 +1,25 @@
-//! Reads a script, and prints it.
+//! Reads scripts.
 //!
-//! `read_script` takes the restricted form, one image of calls of four services and one process of it, exactly:
-//! what it answers is what the text says (`Reads`), and it refuses only a text that is not of the form.
-//! `print_script` writes the canonical script of any system (`script`), and `print_num`, `print_target` and
-//! `print_call` write its parts behind what stands already, or leave that as it was.
+//! `read_script` reads the whole grammar: what it answers is the system that the text spells, or the first faulty line and its
+//! fault, exactly as `specs/Reading.antt` says, which goes over the lines and their tokens.
 #![tactic(auto)]
 
+mod declaration;
+mod draft;
+mod ending;
 mod fault;
-mod print;
+mod fields;
+mod image;
+mod items;
+mod keys;
+mod lines;
+mod named;
+mod parts;
+mod privileges;
 mod read;
-mod text;
+mod register;
+mod resolve;
+mod statement;
 
 pub use fault::{FaultKind, ScriptFail, ScriptFault};
-pub use print::print_script;
 pub use read::read_script;
-pub use text::{mode_name, print_call, print_num, print_target};
-
-#[cfg(test)]
-mod tests;

@@ -1,293 +1,258 @@
-//! The reader of the restricted form.
+//! A script, line by line.
 
-ghost use Rattle.std.specs.Prelude.{◌≡◌, MatchOption, Some, None, position, ◌==◌, [], Err, IfOk, IsTrue};
-ghost use Rattle.vx_image.specs.Built.{is_built};
-ghost use Rattle.vx_script.specs.Form.{calling, plain_decl, Reads, RefusesAll};
-ghost use Rattle.vx_script.specs.declared.fault.ScriptFail.{ScriptFail};
-ghost use Rattle.vx_script.specs.declared.fault.ScriptFault.{ScriptFault};
-ghost use Rattle.vx_script.specs.Reader as reader;
-ghost use Rattle.vx_script.specs.Reader.{Gives};
+ghost use Rattle.std.specs.Prelude.{◌≡◌, ◌+◌, ◌<◌, ◌^◌, length, drop};
+ghost use Rattle.vx_image.specs.WellFormed.{IsWellFormed};
+ghost use Rattle.vx_table.specs.Reading.{toks};
+ghost use Rattle.vx_script.specs.Lines.{line_len, first_line, without_return};
+ghost use Rattle.vx_script.specs.Reading as spec;
+ghost use Rattle.vx_script.specs.Results.{ReadsLine, ReadsScript, at_line};
 
-use crate::fault::{FaultKind, ScriptFail, ScriptFault};
+use crate::declaration::{fault_line, image_line, input_line, process_line, unit_line};
+use crate::fault::{FaultKind, LineFail, ScriptFail, ScriptFault};
+use crate::image::inside;
+use crate::items::Items;
+use crate::parts::{Parts, Reading};
+use crate::resolve::resolve;
 use std::alloc::Global;
-use vx_base::{Arg, Args, Call, Mode, Name, Need, Operand, Privs, Service, Target};
-use vx_image::{Image, Images, Labels, ProcDecl, ProcDecls, Stmt, Stmts, System, UnitDecls};
+use vx_base::Name;
+use vx_image::System;
+use crate::register::{NumberedRegister, Register};
+use vx_text::{LexFail, Tok, Token, tokens};
 
-// Whatever is not of the form is told of the first line.
-const LATER: ScriptFail = ScriptFail::Fault(ScriptFault {
-    line: 1,
-    kind: FaultKind::Later,
-});
-
-// The lines of an image behind its first: 1,000 statements, and END.
-const MOST_LINES: u32 = 1001;
-
-/// Where the first byte of a value stands.
-fn place(text: &[u8], at: u8) -> Option<usize>
-    ensures { result ≡ position (λ b. b == at) text.now }
+// Nothing stands open.
+fn between_images(parts: Parts) -> Reading
+    ensures { result ≡ spec.between_images parts }
 {
-    text.iter().position(|b| *b == at)
-}
-
-/// What stands before the first byte of a value, and what stands behind it.
-#[tactic(auto, using(crate::proofs::Cut::cut_is))]
-fn cut(text: &[u8], at: u8) -> Option<(&[u8], &[u8])>
-    ensures { MatchOption result (reader.cut at text.now ≡ None)
-        (λ p. reader.cut at text.now ≡ Some (p.0.now, p.1.now)) }
-{
-    let place = place(text, at)?;
-    Some((&text[..place], &text[place + 1..]))
-}
-
-/// The number that digits spell, below 2^32.
-fn value_of(digits: &[u8]) -> Option<u32>
-    ensures { result ≡ reader.value_of digits.now }
-{
-    let mut number: u64 = 0;
-    for digit in digits {
-        if *digit < b'0' || b'9' < *digit {
-            return None;
-        }
-        number = number * 10 + u64::from(*digit - b'0');
-        if number > 4_294_967_295 {
-            return None;
-        }
-    }
-    Some(number as u32)
-}
-
-/// Nothing, or a zero in front of more.
-fn is_misspelled(digits: &[u8]) -> bool
-    ensures { result ≡ reader.is_misspelled digits.now }
-{
-    match digits {
-        [] => true,
-        [_] => false,
-        [first, ..] => *first == b'0',
+    Reading {
+        parts,
+        current: None,
     }
 }
 
-/// The number that a text spells in decimal.
-#[tactic(auto, unfolding(crate::specs::Reader::number))]
-fn number(digits: &[u8]) -> Option<u32>
-    ensures { result ≡ reader.number digits.now }
+fn with_unit(alloc: Global, mut parts: Parts, tokens: &[Token]) -> Result<Reading, LineFail>
+    ensures { ReadsLine result (spec.with_unit parts (toks tokens.now)) }
 {
-    if is_misspelled(digits) {
-        return None;
-    }
-    value_of(digits)
+    let unit = unit_line(alloc, &parts.units, tokens)?;
+    parts.units.push(unit)?;
+    Ok(between_images(parts))
 }
 
-/// The capital letter that a text is.
-fn letter(text: &[u8]) -> Option<u8>
-    ensures { result ≡ reader.letter text.now }
+fn with_input(line: u32, mut parts: Parts, tokens: &[Token]) -> Result<Reading, LineFail>
+    ensures { ReadsLine result (spec.with_input line parts (toks tokens.now)) }
 {
-    match text {
-        [letter @ b'A'..=b'Z'] => Some(*letter),
-        _ => None,
-    }
+    let input = input_line(line, tokens)?;
+    parts.inputs.push(input)?;
+    Ok(between_images(parts))
 }
 
-/// A call of two arguments at most.
-fn calling(service: Service, a0: Arg, a1: Arg) -> Call
-    ensures { result ≡ calling service a0 a1 }
+fn with_fault(line: u32, mut parts: Parts, tokens: &[Token]) -> Result<Reading, LineFail>
+    ensures { ReadsLine result (spec.with_fault line parts (toks tokens.now)) }
 {
-    Call {
-        service,
-        args: Args {
-            a0,
-            a1,
-            a2: Arg::Unused,
-            a3: Arg::Unused,
-            a4: Arg::Unused,
-            a5: Arg::Unused,
-            a6: Arg::Unused,
-            a7: Arg::Unused,
-            a8: Arg::Unused,
-        },
-    }
+    let fault = fault_line(line, &parts.faults, tokens)?;
+    parts.faults.push(fault)?;
+    Ok(between_images(parts))
 }
 
-/// A call of a number.
-fn number_call(service: Service, digits: &[u8]) -> Option<Call>
-    ensures { result ≡ reader.number_call service digits.now }
+fn with_process(line: u32, mut parts: Parts, tokens: &[Token]) -> Result<Reading, LineFail>
+    ensures { ReadsLine result (spec.with_process line parts (toks tokens.now)) }
 {
-    let n = number(digits)?;
-    Some(calling(service, Arg::Value(Operand::Num(n)), Arg::Unused))
+    let decl = process_line(line, &parts.decls, tokens)?;
+    parts.decls.push(decl)?;
+    Ok(between_images(parts))
 }
 
-/// A call of a number and a variable.
-fn variable_call(rest: &[u8]) -> Option<Call>
-    ensures { result ≡ reader.variable_call rest.now }
+fn opened(alloc: Global, parts: Parts, tokens: &[Token]) -> Result<Reading, LineFail>
+    ensures { ReadsLine result (spec.opened parts (toks tokens.now)) }
 {
-    let (digits, variable) = cut(rest, b',')?;
-    let n = number(digits)?;
-    let v = letter(variable)?;
-    Some(calling(
-        Service::ReadEf,
-        Arg::Value(Operand::Num(n)),
-        Arg::Target(Target::Var(v)),
-    ))
-}
-
-/// The call of $EXIT alone.
-fn exit_call(line: &[u8]) -> Option<Call>
-    ensures { result ≡ reader.exit_call line.now }
-{
-    if line != b"$EXIT".as_slice() {
-        return None;
-    }
-    Some(calling(Service::Exit, Arg::Value(Operand::Num(1)), Arg::Unused))
-}
-
-/// The call of a line.
-#[tactic(auto, unfolding(crate::specs::Reader::call))]
-fn call(line: &[u8]) -> Option<Call>
-    ensures { result ≡ reader.call line.now }
-{
-    if let Some(digits) = line.strip_prefix(b"$SETEF ") {
-        return number_call(Service::SetEf, digits);
-    }
-    if let Some(digits) = line.strip_prefix(b"$CLREF ") {
-        return number_call(Service::ClrEf, digits);
-    }
-    if let Some(rest) = line.strip_prefix(b"$READEF ") {
-        return variable_call(rest);
-    }
-    if let Some(digits) = line.strip_prefix(b"$EXIT ") {
-        return number_call(Service::Exit, digits);
-    }
-    exit_call(line)
-}
-
-/// The name of a process line.
-#[tactic(auto, unfolding(crate::specs::Reader::process))]
-fn process(image: &Name, line: &[u8]) -> Option<Name>
-    ensures { result ≡ reader.process image.now line.now }
-{
-    let rest = line.strip_prefix(b"PROCESS ")?;
-    let (name, of) = cut(rest, b' ')?;
-    let name = Name::new(name)?;
-    if of != image.text() {
-        return None;
-    }
-    Some(name)
-}
-
-/// A declaration without keys.
-fn plain_decl(name: Name) -> ProcDecl
-    ensures { result ≡ plain_decl name }
-{
-    ProcDecl {
-        name,
-        image: 0,
-        group: 1,
-        member: 1,
-        mode: Mode::User,
-        limits: Need {
-            ast: 24,
-            bio: 18,
-            dio: 18,
-            byt: 8192,
-            tqe: 10,
-        },
-        privs: Privs {
-            cmexec: false,
-            cmkrnl: false,
-            group: false,
-            prmceb: false,
-            prmmbx: false,
-            world: false,
-        },
-        start: true,
-    }
-}
-
-/// A system of one image and one process.
-fn system_from(
-    alloc: Global,
-    image: Name,
-    stmts: Stmts,
-    process: Name,
-) -> Result<System, ScriptFail>
-    ensures { Gives result (Some (reader.system_from image stmts process)) }
-{
-    let mut images = Images::new(alloc);
-    images.push(Image {
-        name: image,
-        labels: Labels::new(alloc),
-        stmts,
-    })?;
-    let mut decls = ProcDecls::new(alloc);
-    decls.push(plain_decl(process))?;
-    Ok(System {
-        units: UnitDecls::new(alloc),
-        images,
-        decls,
+    let image = image_line(alloc, &parts.images, tokens)?;
+    Ok(Reading {
+        parts,
+        current: Some(image),
     })
 }
 
-/// What stands behind END.
-#[tactic(auto, unfolding(crate::specs::Reader::finish))]
-fn finish(alloc: Global, image: Name, stmts: Stmts, text: &[u8]) -> Result<System, ScriptFail>
-    ensures { Gives result (reader.finish image stmts text.now) }
+// A line that begins with a word; the tokens are those behind it.
+fn outer_line(
+    alloc: Global,
+    line: u32,
+    parts: Parts,
+    word: &Name,
+    tokens: &[Token],
+) -> Result<Reading, LineFail>
+    ensures { ReadsLine result (spec.outer_line line parts word.now (toks tokens.now)) }
 {
-    let Some((line, rest)) = cut(text, b'\n') else {
-        return Err(LATER);
-    };
-    let Some(name) = process(&image, line) else {
-        return Err(LATER);
-    };
-    if !rest.is_empty() {
-        return Err(LATER);
+    let word = word.text();
+    if word == b"UNIT".as_slice() {
+        with_unit(alloc, parts, tokens)
+    } else if word == b"INPUT".as_slice() {
+        with_input(line, parts, tokens)
+    } else if word == b"FAULT".as_slice() {
+        with_fault(line, parts, tokens)
+    } else if word == b"IMAGE".as_slice() {
+        opened(alloc, parts, tokens)
+    } else if word == b"PROCESS".as_slice() {
+        with_process(line, parts, tokens)
+    } else {
+        Err(LineFail::Fault(FaultKind::Word))
     }
-    system_from(alloc, image, stmts, name)
 }
 
-/// What stands behind the line that begins the image.
-fn body(alloc: Global, image: Name, text: &[u8]) -> Result<System, ScriptFail>
-    ensures { Gives result (reader.body image [] 1001 text.now) }
+// A line that stands in no image.
+#[tactic(auto, unfolding(crate::specs::Reading::outside))]
+fn outside(
+    alloc: Global,
+    line: u32,
+    parts: Parts,
+    tokens: &[Token],
+) -> Result<Reading, LineFail>
+    ensures { ReadsLine result (spec.outside line parts (toks tokens.now)) }
 {
-    let mut stmts = Stmts::new(alloc);
+    let [first, rest @ ..] = tokens else {
+        return Ok(between_images(parts));
+    };
+    match &first.tok {
+        Tok::Word(word) => outer_line(alloc, line, parts, word, rest),
+        _ => Err(LineFail::Fault(FaultKind::Word)),
+    }
+}
+
+fn accepted(
+    alloc: Global,
+    line: u32,
+    reading: Reading,
+    tokens: &[Token],
+) -> Result<Reading, LineFail>
+    ensures { ReadsLine result (spec.accepted line reading (toks tokens.now)) }
+{
+    let Reading { parts, current } = reading;
+    match current {
+        None => outside(alloc, line, parts, tokens),
+        Some(image) => inside(alloc, line, parts, image, tokens),
+    }
+}
+
+fn line_fail(fail: LexFail) -> LineFail
+    ensures { result ≡ spec.line_fail fail }
+{
+    match fail {
+        LexFail::Byte => LineFail::Fault(FaultKind::Byte),
+        LexFail::Quote => LineFail::Fault(FaultKind::Quote),
+        LexFail::Number => LineFail::Fault(FaultKind::Number),
+        LexFail::Name => LineFail::Fault(FaultKind::Name),
+        LexFail::NoMemory => LineFail::NoMemory,
+    }
+}
+
+#[tactic(auto, unfolding(crate::specs::Reading::take_line))]
+fn take_line(alloc: Global, line: u32, reading: Reading, text: &[u8]) -> Result<Reading, LineFail>
+    requires { length text.now < 4294967295 }
+    ensures { ReadsLine result (spec.take_line line reading text.now) }
+{
+    match tokens(alloc, text) {
+        Ok(tokens) => accepted(alloc, line, reading, &tokens),
+        Err(fail) => Err(line_fail(fail)),
+    }
+}
+
+fn next_line(alloc: Global, line: u32, reading: Reading, text: &[u8]) -> Result<Reading, ScriptFail>
+    requires { length text.now < 4294967295 }
+    ensures { ReadsScript result (at_line line (spec.take_line line reading text.now)) }
+{
+    match take_line(alloc, line, reading, text) {
+        Ok(next) => Ok(next),
+        Err(LineFail::Fault(kind)) => Err(ScriptFail::Fault(ScriptFault { line, kind })),
+        Err(LineFail::NoMemory) => Err(ScriptFail::NoMemory),
+    }
+}
+
+// How many bytes stand before the first line feed.
+fn line_len(text: &[u8]) -> usize
+    ensures { result ≡ line_len text.now }
+{
+    text.iter().take_while(|b| **b != b'\n').count()
+}
+
+// A line without a return at its end.
+#[tactic(auto, using(crate::proofs::Returns::without_last))]
+fn without_return(line: &[u8]) -> &[u8]
+    ensures { result.now ≡ without_return line.now }
+{
+    let Some((last, front)) = line.split_last() else {
+        return line;
+    };
+    if *last == b'\r' { front } else { line }
+}
+
+// The first line, of so many bytes before the first line feed.
+#[tactic(auto, using(crate::proofs::Cutting::first_taken, crate::proofs::Cutting::first_whole))]
+fn first_line(text: &[u8], len: usize) -> &[u8]
+    requires { len ≡ line_len text.now }
+    ensures { result.now ≡ first_line text.now }
+{
+    if len < text.len() {
+        without_return(&text[..len])
+    } else {
+        text
+    }
+}
+
+fn bytes_behind(text: &[u8], len: usize) -> &[u8]
+    ensures { result.now ≡ drop len text.now }
+{
+    if len < text.len() { &text[len..] } else { &[] }
+}
+
+fn closed(alloc: Global, line: u32, reading: Reading) -> Result<System, ScriptFail>
+    ensures { ReadsScript result (spec.closed line reading.parts reading.current) }
+{
+    let Reading { parts, current } = reading;
+    match current {
+        Some(_) => Err(ScriptFail::Fault(ScriptFault {
+            line,
+            kind: FaultKind::End,
+        })),
+        None => resolve(alloc, parts),
+    }
+}
+
+fn nothing_read(alloc: Global) -> Reading
+    ensures { result ≡ spec.nothing_read }
+{
+    let parts = Parts {
+        units: Register::new(alloc),
+        inputs: Items::new(alloc),
+        faults: NumberedRegister::new(alloc),
+        images: Register::new(alloc),
+        decls: Register::new(alloc),
+        creations: Items::new(alloc),
+        unlabelled: None,
+    };
+    Reading {
+        parts,
+        current: None,
+    }
+}
+
+fn read_lines(alloc: Global, text: &[u8]) -> Result<System, ScriptFail>
+    requires { length text.now < 4294967295 }
+    ensures { ReadsScript result (spec.read_script text.now) }
+{
+    let mut reading = nothing_read(alloc);
+    let mut line: u32 = 1;
     let mut rest = text;
-    for _ in 0..MOST_LINES {
-        let Some((line, behind)) = cut(rest, b'\n') else {
-            return Err(LATER);
-        };
-        if line == b"END".as_slice() {
-            return finish(alloc, image, stmts, behind);
-        }
-        let Some(call) = call(line) else {
-            return Err(LATER);
-        };
-        stmts.push(Stmt::Service(call))?;
-        rest = behind;
+    while !rest.is_empty() {
+        let len = line_len(rest);
+        reading = next_line(alloc, line, reading, first_line(rest, len))?;
+        line += 1;
+        rest = bytes_behind(rest, len + 1);
     }
-    Err(LATER)
+    closed(alloc, line, reading)
 }
 
-#[tactic(auto, unfolding(crate::specs::Reader::read))]
-fn read(alloc: Global, text: &[u8]) -> Result<System, ScriptFail>
-    ensures { Gives result (reader.read text.now) }
-{
-    let Some((line, rest)) = cut(text, b'\n') else {
-        return Err(LATER);
-    };
-    let Some(name) = line.strip_prefix(b"IMAGE ") else {
-        return Err(LATER);
-    };
-    let Some(image) = Name::new(name) else {
-        return Err(LATER);
-    };
-    body(alloc, image, rest)
-}
-
-/// The system that a text of the form says; of any other text, that its first line is not built yet.
+/// The system that a text spells, or the first line that is not of the grammar, and its fault. The text may be of any bytes.
 pub fn read_script(alloc: Global, text: &[u8]) -> Result<System, ScriptFail>
-    ensures reads { IfOk result (Reads text.now) }
-    ensures built { IfOk result (λ system. IsTrue (is_built system)) }
-    ensures refuses { (fault : ScriptFault) → result ≡ Err (ScriptFail.Fault fault) →
-        RefusesAll fault text.now }
+    requires { length text.now < 4294967295 }
+    ensures reads { ReadsScript result (spec.read_script text.now) }
 {
-    read(alloc, text)
+    read_lines(alloc, text)
 }

@@ -35,7 +35,8 @@ fn operand_word(word: &[u8]) -> Option<Operand>
     }
 }
 
-fn target_word(word: &[u8]) -> Option<Target>
+/// The target that a word is: a variable of one letter, or R0.
+pub fn target_word(word: &[u8]) -> Option<Target>
     ensures { result ≡ spec.target_word word.now }
 {
     match word {
@@ -45,7 +46,8 @@ fn target_word(word: &[u8]) -> Option<Target>
     }
 }
 
-fn mode_word(word: &[u8]) -> Option<Mode>
+/// The access mode that a word names.
+pub fn mode_word(word: &[u8]) -> Option<Mode>
     ensures { result ≡ spec.mode_word word.now }
 {
     if word == b"KERNEL".as_slice() {
@@ -82,6 +84,18 @@ fn func_word(word: &[u8]) -> Option<Func>
         Some(Func::WrtAttn)
     } else {
         None
+    }
+}
+
+/// The value that a token is: a number, a condition, a variable of one letter, R0, PID or PRM.
+pub fn operand_of(tok: &Tok) -> Option<Operand>
+    ensures { result ≡ spec.operand_of tok.now }
+{
+    match tok {
+        Tok::Num(n) => Some(Operand::Num(*n)),
+        Tok::Cond(cond) => Some(Operand::Cond(*cond)),
+        Tok::Word(word) => operand_word(word.text()),
+        _ => None,
     }
 }
 

@@ -12,6 +12,7 @@ mod print;
 mod read;
 mod table;
 
+pub use arg::{mode_word, operand_of, target_word};
 pub use fail::CallFail;
 pub use table::{ServiceTable, service_table};
 pub use vx_base::Kind;

@@ -1,0 +1,114 @@
+-- The lines that stand in no image. The tokens are those behind the line's word; SIZE is tested last.
+use Rattle.std.specs.Prelude.{ℕ, ◌==◌, ◌&&◌, Bool, nat_lt, List, [], ◌∷◌, length, drop, codes, Option, Some, None, is_some, position, Result, Ok, Err, bytes_eq, if◌then◌else◌}
+use Rattle.std.specs.List.{find, list_any}
+use Rattle.vx_image.specs.declared.image.Image.{Image}
+use Rattle.vx_image.specs.declared.unit.UnitDecl.{UnitDecl}
+use Rattle.vx_text.specs.declared.token.Tok.{Tok}
+use Rattle.vx_text.specs.declared.token.Tok.TheVariants as tok
+use Rattle.vx_script.specs.Results.{◌>>=◌, given}
+use Rattle.vx_script.specs.Fields.{first_of, end_at, when, name_at, number_at, text_at}
+use Rattle.vx_script.specs.Keys.{no_keys, keys_from}
+use Rattle.vx_script.specs.declared.draft.DraftImage.{DraftImage}
+use Rattle.vx_script.specs.declared.fault.FaultKind.{FaultKind}
+use Rattle.vx_script.specs.declared.fault.FaultKind.TheVariants as kind
+use Rattle.vx_script.specs.declared.lines.DeclLine.{DeclLine}
+use Rattle.vx_script.specs.declared.lines.FaultLine.{FaultLine}
+use Rattle.vx_script.specs.declared.lines.InputLine.{InputLine}
+use Rattle.vx_script.specs.declared.declaration.Device.{Device}
+use Rattle.vx_script.specs.declared.declaration.Device.TheVariants as device
+
+-- Where a name stands among those of its kind.
+
+abbrev pub unit_place : List ℕ → List UnitDecl → Option ℕ
+unit_place name units = position (λ u. bytes_eq name u.name) units
+
+abbrev pub image_place : List ℕ → List Image → Option ℕ
+image_place name images = position (λ i. bytes_eq name i.name) images
+
+abbrev pub decl_place : List ℕ → List DeclLine → Option ℕ
+decl_place name decls = position (λ d. bytes_eq name d.name) decls
+
+-- a name that stands nowhere yet
+abbrev pub fresh : Option ℕ → List ℕ → Result (List ℕ) FaultKind
+fresh None name = Ok name
+fresh (Some place) name = Err kind.Twice
+
+-- fewer than so many are there
+abbrev pub room_for : ℕ → ℕ → Result (Unit {0}) FaultKind
+room_for most count = when (nat_lt count most) kind.Size
+
+-- UNIT name LINE, and UNIT name BLOCK n
+
+abbrev pub device_name : Device → List ℕ
+device_name device.Line = codes "LINE"
+device_name device.Block = codes "BLOCK"
+
+abbrev pub device_word : List ℕ → Option Device
+device_word word = find (λ d. bytes_eq word (device_name d)) (device.Line ∷ device.Block ∷ [])
+
+abbrev pub device_in : Tok → Option Device
+device_in (tok.Word word) = device_word word
+device_in _ = None
+
+abbrev pub device_at : List Tok → Result Device FaultKind
+device_at tokens = first_of tokens >>= λ t. given kind.Word (device_in t)
+
+abbrev pub block_count : List Tok → Result ℕ FaultKind
+block_count tokens = number_at 1 4096 tokens >>= λ n. end_at (drop 1 tokens) >>= λ _. Ok n
+
+-- a line unit has no blocks
+abbrev pub blocks_of : Device → List Tok → Result ℕ FaultKind
+blocks_of device.Line tokens = end_at tokens >>= λ _. Ok 0
+blocks_of device.Block tokens = block_count tokens
+
+unfoldable pub unit_line : List UnitDecl → List Tok → Result UnitDecl FaultKind
+unit_line units tokens = do
+  word ← name_at tokens
+  name ← fresh (unit_place word units) word
+  device ← device_at (drop 1 tokens)
+  blocks ← blocks_of device (drop 2 tokens)
+  _ ← room_for 32 (length units)
+  Ok (record { name = name; blocks = blocks; inputs = []; faults = [] })
+
+-- INPUT unit "text"
+unfoldable pub input_line : ℕ → List Tok → Result InputLine FaultKind
+input_line line tokens = do
+  unit ← name_at tokens
+  text ← text_at (drop 1 tokens)
+  _ ← end_at (drop 2 tokens)
+  Ok (record { line = line; unit = unit; text = text })
+
+-- FAULT unit n
+
+abbrev pub is_fault_of : List ℕ → ℕ → FaultLine → Bool
+is_fault_of unit n f = bytes_eq unit f.unit && (n == f.number)
+
+abbrev pub fresh_fault : List ℕ → ℕ → List FaultLine → Result ℕ FaultKind
+fresh_fault unit n faults = if list_any (is_fault_of unit n) faults then Err kind.Twice else Ok n
+
+unfoldable pub fault_line : ℕ → List FaultLine → List Tok → Result FaultLine FaultKind
+fault_line line faults tokens = do
+  unit ← name_at tokens
+  n ← number_at 1 100000 (drop 1 tokens)
+  number ← fresh_fault unit n faults
+  _ ← end_at (drop 2 tokens)
+  Ok (record { line = line; unit = unit; number = number })
+
+-- IMAGE name
+unfoldable pub image_line : List Image → List Tok → Result DraftImage FaultKind
+image_line images tokens = do
+  word ← name_at tokens
+  name ← fresh (image_place word images) word
+  _ ← end_at (drop 1 tokens)
+  _ ← room_for 256 (length images)
+  Ok (record { name = name; labels = []; lines = [] })
+
+-- PROCESS name image key=value ..
+unfoldable pub process_line : ℕ → List DeclLine → List Tok → Result DeclLine FaultKind
+process_line line decls tokens = do
+  word ← name_at tokens
+  name ← fresh (decl_place word decls) word
+  image ← name_at (drop 1 tokens)
+  keys ← keys_from 0 no_keys (drop 2 tokens)
+  _ ← room_for 1000 (length decls)
+  Ok (record { line = line; name = name; image = image; keys = keys })

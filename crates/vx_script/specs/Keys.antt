@@ -1,0 +1,208 @@
+-- The keys of a PROCESS line.
+use Rattle.std.specs.Prelude.{ℕ, zero, suc, ◌+◌, ◌==◌, Bool, true, false, List, [], ◌∷◌, drop, codes, Option, Some, None, Result, Ok, Err, bytes_eq, if◌then◌else◌}
+use Rattle.std.specs.List.{find}
+use Rattle.vx_base.specs.declared.mode.Mode.{Mode}
+use Rattle.vx_base.specs.declared.mode.Mode.TheVariants.{User}
+use Rattle.vx_base.specs.declared.quota.Need.{Need}
+use Rattle.vx_base.specs.declared.quota.Privs.{Privs}
+use Rattle.vx_text.specs.declared.token.Tok.{Tok}
+use Rattle.vx_text.specs.declared.token.Tok.TheVariants as tok
+use Rattle.vx_table.specs.Reading.{mode_word}
+use Rattle.vx_script.specs.Results.{◌>>=◌, given}
+use Rattle.vx_script.specs.Fields.{first_of, is_word, is_sign, sign_at, number_at}
+use Rattle.vx_script.specs.declared.fault.FaultKind.{FaultKind}
+use Rattle.vx_script.specs.declared.fault.FaultKind.TheVariants as kind
+use Rattle.vx_script.specs.declared.keys.Key.{Key}
+use Rattle.vx_script.specs.declared.keys.Key.TheVariants as key
+use Rattle.vx_script.specs.declared.keys.Keys.{Keys}
+use Rattle.vx_script.specs.declared.keys.TakenKey.{TakenKey}
+use Rattle.vx_script.specs.declared.keys.Uic.{Uic}
+use Rattle.vx_script.specs.declared.privileges.Privilege.{Privilege}
+use Rattle.vx_script.specs.declared.privileges.Privilege.TheVariants as privilege
+use Rattle.vx_script.specs.declared.privileges.TakenPrivs.{TakenPrivs}
+
+-- Privileges: NONE, or names joined by +.
+
+abbrev pub privilege_name : Privilege → List ℕ
+privilege_name privilege.CmExec = codes "CMEXEC"
+privilege_name privilege.CmKrnl = codes "CMKRNL"
+privilege_name privilege.Group = codes "GROUP"
+privilege_name privilege.PrmCeb = codes "PRMCEB"
+privilege_name privilege.PrmMbx = codes "PRMMBX"
+privilege_name privilege.World = codes "WORLD"
+
+abbrev pub privileges : List Privilege
+privileges = privilege.CmExec ∷ privilege.CmKrnl ∷ privilege.Group ∷ privilege.PrmCeb ∷ privilege.PrmMbx ∷ privilege.World ∷ []
+
+abbrev pub privilege_word : List ℕ → Option Privilege
+privilege_word word = find (λ p. bytes_eq word (privilege_name p)) privileges
+
+abbrev pub privilege_in : Tok → Option Privilege
+privilege_in (tok.Word word) = privilege_word word
+privilege_in _ = None
+
+abbrev pub holds : Privs → Privilege → Bool
+holds privs privilege.CmExec = privs.cmexec
+holds privs privilege.CmKrnl = privs.cmkrnl
+holds privs privilege.Group = privs.group
+holds privs privilege.PrmCeb = privs.prmceb
+holds privs privilege.PrmMbx = privs.prmmbx
+holds privs privilege.World = privs.world
+
+abbrev pub granted : Privs → Privilege → Privs
+granted privs privilege.CmExec = record privs { cmexec = true }
+granted privs privilege.CmKrnl = record privs { cmkrnl = true }
+granted privs privilege.Group = record privs { group = true }
+granted privs privilege.PrmCeb = record privs { prmceb = true }
+granted privs privilege.PrmMbx = record privs { prmmbx = true }
+granted privs privilege.World = record privs { world = true }
+
+abbrev pub no_privs : Privs
+no_privs = record { cmexec = false; cmkrnl = false; group = false; prmceb = false; prmmbx = false; world = false }
+
+-- one more, each once
+abbrev pub with_privilege : Privs → Privilege → Result Privs FaultKind
+with_privilege privs p = if holds privs p then Err kind.Twice else Ok (granted privs p)
+
+abbrev pub with_token : Privs → Tok → Result Privs FaultKind
+with_token privs t = given kind.Word (privilege_in t) >>= with_privilege privs
+
+-- Names joined by +, and how many tokens they take: a name stands first, or behind a name a + or the end.
+
+abbrev pub no_more : Privs → TakenPrivs
+no_more privs = record { privs = privs; used = 0 }
+
+abbrev pub one_more : TakenPrivs → TakenPrivs
+one_more taken = record { privs = taken.privs; used = taken.used + 1 }
+
+abbrev pub privs_from : Bool → Privs → List Tok → Result TakenPrivs FaultKind
+privs_from false privs [] = Err kind.Missing
+privs_from true privs [] = Ok (no_more privs)
+privs_from false privs (t ∷ tokens) = with_token privs t >>= λ held. privs_from true held tokens >>= λ taken. Ok (one_more taken)
+privs_from true privs (s ∷ tokens) = if is_sign 43 s then (privs_from false privs tokens >>= λ taken. Ok (one_more taken)) else Ok (no_more privs)
+
+abbrev pub privs_of : List Tok → Result TakenPrivs FaultKind
+privs_of [] = Err kind.Missing
+privs_of (t ∷ tokens) = if is_word (codes "NONE") t then Ok (record { privs = no_privs; used = 1 }) else privs_from false no_privs (t ∷ tokens)
+
+unfoldable pub privs_at : List Tok → Result TakenPrivs FaultKind
+privs_at tokens = sign_at 61 tokens >>= λ _. privs_of (drop 1 tokens)
+
+-- The other values, each behind its =.
+
+unfoldable pub uic_at : List Tok → Result Uic FaultKind
+uic_at tokens = do
+  _ ← sign_at 61 tokens
+  group ← number_at 1 16382 (drop 1 tokens)
+  _ ← sign_at 58 (drop 2 tokens)
+  member ← number_at 0 65534 (drop 3 tokens)
+  Ok (record { group = group; member = member })
+
+abbrev pub mode_in : Tok → Option Mode
+mode_in (tok.Word word) = mode_word word
+mode_in _ = None
+
+abbrev pub mode_of : List Tok → Result Mode FaultKind
+mode_of tokens = first_of tokens >>= λ t. given kind.Word (mode_in t)
+
+unfoldable pub mode_at : List Tok → Result Mode FaultKind
+mode_at tokens = sign_at 61 tokens >>= λ _. mode_of (drop 1 tokens)
+
+unfoldable pub limit_at : List Tok → Result ℕ FaultKind
+limit_at tokens = sign_at 61 tokens >>= λ _. number_at 0 1000000 (drop 1 tokens)
+
+unfoldable pub start_at : List Tok → Result Bool FaultKind
+start_at tokens = sign_at 61 tokens >>= λ _. number_at 0 1 (drop 1 tokens) >>= λ n. Ok (n == 1)
+
+-- Keys: each once, in any order.
+
+abbrev pub key_name : Key → List ℕ
+key_name key.Uic = codes "UIC"
+key_name key.Mode = codes "MODE"
+key_name key.AstLm = codes "ASTLM"
+key_name key.BioLm = codes "BIOLM"
+key_name key.DioLm = codes "DIOLM"
+key_name key.BytLm = codes "BYTLM"
+key_name key.TqeLm = codes "TQELM"
+key_name key.Priv = codes "PRIV"
+key_name key.Start = codes "START"
+
+abbrev pub all_keys : List Key
+all_keys = key.Uic ∷ key.Mode ∷ key.AstLm ∷ key.BioLm ∷ key.DioLm ∷ key.BytLm ∷ key.TqeLm ∷ key.Priv ∷ key.Start ∷ []
+
+abbrev pub key_word : List ℕ → Option Key
+key_word word = find (λ k. bytes_eq word (key_name k)) all_keys
+
+abbrev pub key_in : Tok → Option Key
+key_in (tok.Word word) = key_word word
+key_in _ = None
+
+-- no key stands
+abbrev pub no_keys : Keys
+no_keys = record { uic = None; mode = None; ast = None; bio = None; dio = None; byt = None; tqe = None; privs = None; start = None }
+
+abbrev pub once : {A : Type 0} → Option A → Result (Unit {0}) FaultKind
+once None = Ok tt
+once (Some x) = Err kind.Twice
+
+-- the keys with one more, and how many tokens stand behind its name
+
+abbrev pub with_uic : Keys → List Tok → Result TakenKey FaultKind
+with_uic keys tokens = once keys.uic >>= λ _. uic_at tokens >>= λ uic. Ok (record { keys = record keys { uic = Some uic }; used = 4 })
+
+abbrev pub with_mode : Keys → List Tok → Result TakenKey FaultKind
+with_mode keys tokens = once keys.mode >>= λ _. mode_at tokens >>= λ mode. Ok (record { keys = record keys { mode = Some mode }; used = 2 })
+
+abbrev pub with_ast : Keys → List Tok → Result TakenKey FaultKind
+with_ast keys tokens = once keys.ast >>= λ _. limit_at tokens >>= λ n. Ok (record { keys = record keys { ast = Some n }; used = 2 })
+
+abbrev pub with_bio : Keys → List Tok → Result TakenKey FaultKind
+with_bio keys tokens = once keys.bio >>= λ _. limit_at tokens >>= λ n. Ok (record { keys = record keys { bio = Some n }; used = 2 })
+
+abbrev pub with_dio : Keys → List Tok → Result TakenKey FaultKind
+with_dio keys tokens = once keys.dio >>= λ _. limit_at tokens >>= λ n. Ok (record { keys = record keys { dio = Some n }; used = 2 })
+
+abbrev pub with_byt : Keys → List Tok → Result TakenKey FaultKind
+with_byt keys tokens = once keys.byt >>= λ _. limit_at tokens >>= λ n. Ok (record { keys = record keys { byt = Some n }; used = 2 })
+
+abbrev pub with_tqe : Keys → List Tok → Result TakenKey FaultKind
+with_tqe keys tokens = once keys.tqe >>= λ _. limit_at tokens >>= λ n. Ok (record { keys = record keys { tqe = Some n }; used = 2 })
+
+abbrev pub with_privs : Keys → List Tok → Result TakenKey FaultKind
+with_privs keys tokens = once keys.privs >>= λ _. privs_at tokens >>= λ taken. Ok (record { keys = record keys { privs = Some taken.privs }; used = taken.used + 1 })
+
+abbrev pub with_start : Keys → List Tok → Result TakenKey FaultKind
+with_start keys tokens = once keys.start >>= λ _. start_at tokens >>= λ start. Ok (record { keys = record keys { start = Some start }; used = 2 })
+
+unfoldable pub with_key : Keys → Key → List Tok → Result TakenKey FaultKind
+with_key keys key.Uic tokens = with_uic keys tokens
+with_key keys key.Mode tokens = with_mode keys tokens
+with_key keys key.AstLm tokens = with_ast keys tokens
+with_key keys key.BioLm tokens = with_bio keys tokens
+with_key keys key.DioLm tokens = with_dio keys tokens
+with_key keys key.BytLm tokens = with_byt keys tokens
+with_key keys key.TqeLm tokens = with_tqe keys tokens
+with_key keys key.Priv tokens = with_privs keys tokens
+with_key keys key.Start tokens = with_start keys tokens
+
+-- the key that begins with a token
+abbrev pub taken_key : Keys → Tok → List Tok → Result TakenKey FaultKind
+taken_key keys t tokens = given kind.Word (key_in t) >>= λ k. with_key keys k tokens
+
+-- the keys of the tokens behind so many that are taken already
+unfoldable pub keys_from : ℕ → Keys → List Tok → Result Keys FaultKind
+keys_from skip keys [] = Ok keys
+keys_from (suc skip) keys (t ∷ tokens) = keys_from skip keys tokens
+keys_from zero keys (t ∷ tokens) = taken_key keys t tokens >>= λ taken. keys_from taken.used taken.keys tokens
+
+-- The settings that keys give, each with its default.
+
+abbrev pub or : {A : Type 0} → A → Option A → A
+or x None = x
+or x (Some y) = y
+
+abbrev pub first_uic : Uic
+first_uic = record { group = 1; member = 1 }
+
+abbrev pub limits_of : Keys → Need
+limits_of keys = record { ast = or 24 keys.ast; bio = or 18 keys.bio; dio = or 18 keys.dio; byt = or 8192 keys.byt; tqe = or 10 keys.tqe }

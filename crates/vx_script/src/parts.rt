@@ -1,0 +1,27 @@
+//! What was read so far.
+
+use crate::draft::DraftImage;
+use crate::items::Items;
+use crate::lines::{Creation, DeclLine, FaultLine, InputLine};
+use crate::register::{NumberedRegister, Register};
+use vx_image::{Image, UnitDecl};
+
+/// What the lines say that were read, without an image that is not ended. The units have neither input lines nor faults yet.
+#[derive(Drop)]
+pub struct Parts {
+    pub units: Register<UnitDecl>,
+    pub inputs: Items<InputLine>,
+    pub faults: NumberedRegister<FaultLine>,
+    pub images: Register<Image>,
+    pub decls: Register<DeclLine>,
+    pub creations: Items<Creation>,
+    /// The first line that names a label not in its image, which has ended.
+    pub unlabelled: Option<u32>,
+}
+
+/// What was read, and the image that is not ended, if any.
+#[derive(Drop)]
+pub struct Reading {
+    pub parts: Parts,
+    pub current: Option<DraftImage>,
+}
