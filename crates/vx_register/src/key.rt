@@ -6,7 +6,7 @@ use vx_base::Name;
 
 /// A name that can be hashed.
 #[derive(Clone, Copy)]
-pub struct NameKey(pub(crate) Name);
+pub(crate) struct NameKey(pub(crate) Name);
 
 impl Model for NameKey {
     ghost use Rattle.std.specs.Prelude.{List, ℕ};
@@ -56,7 +56,7 @@ impl Hash for NameKey {
 
 /// A name and a number, which can be hashed.
 #[derive(Clone, Copy, PartialEq, Eq, Hash)]
-pub struct NumberedKey {
+pub(crate) struct NumberedKey {
     pub(crate) name: NameKey,
     pub(crate) number: u32,
 }

@@ -10,8 +10,6 @@ mod named;
 mod numbered;
 mod register;
 
-#[doc(hidden)]
-pub use key::{NameKey, NumberedKey};
 pub use named::{Named, Numbered};
 pub use numbered::NumberedRegister;
 pub use register::Register;

@@ -26,7 +26,9 @@ impl<T: Numbered> Model for NumberedRegister<T> {
 
     ghost view = { λ r. r.items.items };
 
-    ghost invariant = { λ r. (name : List ℕ) (number : ℕ) → list_any (λ key. bytes_eq name key.name && (number == key.number)) r.keys.keys ≡ list_any (λ item. bytes_eq name (T.name_of item) && (number == T.number_of item)) r.items.items };
+    ghost invariant = { λ r. (name : List ℕ) (number : ℕ) →
+        list_any (λ key. bytes_eq name key.name && (number == key.number)) r.keys.keys
+        ≡ list_any (λ item. bytes_eq name (T.name_of item) && (number == T.number_of item)) r.items.items };
 }
 
 impl<T: Numbered> NumberedRegister<T> {

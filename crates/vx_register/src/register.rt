@@ -1,6 +1,6 @@
 //! Things in order, found by their names.
 
-ghost use Rattle.std.specs.Prelude.{◌≡◌, ◌∷◌, ◌++◌, [], List, ℕ, Some, None, OnOk, OnErr, bytes_eq, length, position, if◌then◌else◌};
+ghost use Rattle.std.specs.Prelude.{◌≡◌, ◌∷◌, ◌++◌, [], Some, None, OnOk, OnErr, bytes_eq, length, position, if◌then◌else◌};
 ghost use Rattle.std.specs.Option.{option_or};
 ghost use Rattle.indexmap.specs.IndexMap.{get};
 
@@ -35,7 +35,7 @@ impl<T: Named> Model for Register<T> {
 // Notes where a name stands. A name that has a place keeps it.
 #[tactic(auto, using(crate::proofs::Pushed::noted))]
 fn note(places: &mut Places, key: NameKey, place: usize) -> Result<(), NoMemory>
-    ensures ok { OnOk result ((k : List ℕ) → get bytes_eq places.new k ≡ option_or (get bytes_eq places.old k) (if bytes_eq k key then Some place else None)) }
+    ensures ok { OnOk result ((k : _) → get bytes_eq places.new k ≡ option_or (get bytes_eq places.old k) (if bytes_eq k key then Some place else None)) }
     ensures err { OnErr result (places.new.entries ≡ places.old.entries) }
 {
     if places.contains_key(&key) {

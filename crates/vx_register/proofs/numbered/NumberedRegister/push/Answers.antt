@@ -4,7 +4,9 @@ use Rattle.vx_register.proofs.numbered.NumberedRegister.push.Goals as goal
 
 pub invariant_of-self-2 : goal.invariant_of-self-2
 invariant_of-self-2 g c = λ name number.
-    let same = same_key (g.T.Named.name_of c.args.item) name (g.T.Numbered.number_of c.args.item) number in
-    let kept = rw (c.name.ensures, c.number.ensures, same, c.self.invariant name number) at (c.in_ok-insert.ensures.updates.0 (record { name = name; number = number })) in
-    let pushed = list_any-push (λ item. bytes_eq name (g.T.Named.name_of item) && (number == g.T.Numbered.number_of item)) c.self.inside.items.items c.args.item in
-    rw (c.in-Ok.ensures.items, c.reserve.ensures.items) (kept ∙ sym pushed)
+    let item = c.args.item in
+    let updated = c.in_ok-insert.ensures.updates.0 (record { name = name; number = number }) in
+    let same = same_key (g.T.Named.name_of item) name (g.T.Numbered.number_of item) number in
+    let kept = rw (c.name.ensures, c.number.ensures, same, c.self.invariant name number) at updated in
+    let test = λ (x : _). bytes_eq name (g.T.Named.name_of x) && (number == g.T.Numbered.number_of x) in
+    rw (c.in-Ok.ensures.items, c.reserve.ensures.items) (kept ∙ sym (list_any-push test c.self.inside.items.items item))
