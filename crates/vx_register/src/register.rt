@@ -12,7 +12,10 @@ use std::hash::{BuildHasherDefault, DefaultHasher};
 use std::marker::Model;
 use vx_base::{Name, NoMemory};
 
-type Places = IndexMap<NameKey, usize, BuildHasherDefault<DefaultHasher>>;
+/// The last place that a name can have.
+const LAST_PLACE: usize = 4_294_967_295;
+
+type Places = IndexMap<NameKey, u32, BuildHasherDefault<DefaultHasher>>;
 
 /// Things in order, found by their names. Contracts see their list.
 #[derive(Drop)]
@@ -34,7 +37,7 @@ impl<T: Named> Model for Register<T> {
 
 // Notes where a name stands. A name that has a place keeps it.
 #[tactic(auto, using(crate::proofs::Pushed::noted))]
-fn note(places: &mut Places, key: NameKey, place: usize) -> Result<(), NoMemory>
+fn note(places: &mut Places, key: NameKey, place: u32) -> Result<(), NoMemory>
     ensures ok { OnOk result ((k : _) → get bytes_eq places.new k ≡ option_or (get bytes_eq places.old k) (if bytes_eq k key then Some place else None)) }
     ensures err { OnErr result (places.new.entries ≡ places.old.entries) }
 {
@@ -57,19 +60,23 @@ impl<T: Named> Register<T> {
     }
 
     /// The place, from 0, of the first thing of a name.
-    pub fn place(&self, name: Name) -> Option<usize>
+    pub fn place(&self, name: Name) -> Option<u32>
         ensures { result ≡ position (λ item. bytes_eq name (T.name_of item)) self.now }
     {
         self.places.get(&NameKey(name)).copied()
     }
 
-    /// Adds a thing at the end, or changes nothing.
+    /// Adds a thing at the end, or changes nothing. There is no memory for more than 2^32.
     pub fn push(&mut self, item: T) -> Result<(), NoMemory>
         ensures ok { OnOk result (self.new ≡ self.old ++ item ∷ []) }
         ensures err { OnErr result (self.new ≡ self.old) }
     {
+        let place = self.items.len();
+        if place > LAST_PLACE {
+            return Err(NoMemory);
+        }
         self.items.reserve(1)?;
-        note(&mut self.places, NameKey(item.name()), self.items.len())?;
+        note(&mut self.places, NameKey(item.name()), place as u32)?;
         match self.items.push(item) {
             Ok(()) => Ok(()),
             Err(_) => unreachable!(),

@@ -51,12 +51,19 @@ ended parts image tokens = end_at tokens >>= λ _. Ok (record { parts = with_ima
 -- a line that begins with a word: it is a label where a colon follows, whatever the word
 abbrev pub word_line : ℕ → Parts → DraftImage → List ℕ → List Tok → Result Reading FaultKind
 word_line line parts image word tokens =
-    if begins_with_sign 58 tokens then going_on parts (labelled line image word (drop 1 tokens)) else (
-    if bytes_eq word (codes "END") then ended parts image tokens else going_on parts (with_stmt line image (tok.Word word ∷ tokens)))
+    if begins_with_sign 58 (drop 1 tokens) then going_on parts (labelled line image word (drop 2 tokens)) else (
+    if bytes_eq word (codes "END") then ended parts image (drop 1 tokens) else going_on parts (with_stmt line image tokens))
 
-unfoldable pub inside : ℕ → Parts → DraftImage → List Tok → Result Reading FaultKind
-inside line parts image (tok.Word word ∷ tokens) = word_line line parts image word tokens
-inside line parts image tokens = going_on parts (with_stmt line image tokens)
+abbrev pub first_word : List Tok → Option (List ℕ)
+first_word (tok.Word word ∷ tokens) = Some word
+first_word _ = None
+
+abbrev pub by_word : ℕ → Parts → DraftImage → List Tok → Option (List ℕ) → Result Reading FaultKind
+by_word line parts image tokens None = going_on parts (with_stmt line image tokens)
+by_word line parts image tokens (Some word) = word_line line parts image word tokens
+
+abbrev pub inside : ℕ → Parts → DraftImage → List Tok → Result Reading FaultKind
+inside line parts image tokens = by_word line parts image tokens (first_word tokens)
 
 -- A line that stands in no image.
 

@@ -11,7 +11,7 @@ use crate::fields::{behind, end_at, name_at, number_at, text_at};
 
 use crate::keys::{NO_KEYS, keys_at};
 use crate::lines::{DeclLine, FaultLine, InputLine};
-use crate::register::{NumberedRegister, Register};
+use vx_register::{NumberedRegister, Register};
 use std::alloc::Global;
 use vx_base::{Name, Sequence};
 use vx_image::{Image, UnitDecl};

@@ -12,7 +12,7 @@ use crate::parts::Parts;
 use std::alloc::Global;
 use vx_base::{Arg, Args, Call, Name, NoMemory, Sequence, Service};
 use vx_image::{Image, Label, Labels, Stmt, Stmts};
-use crate::register::Register;
+use vx_register::Register;
 
 /// The earlier of two lines.
 pub fn earlier(a: Option<u32>, b: Option<u32>) -> Option<u32>

@@ -1,10 +1,9 @@
 //! The lines of an image.
 
-ghost use Rattle.std.specs.Prelude.{◌≡◌, ◌∷◌, Ok};
+ghost use Rattle.std.specs.Prelude.{◌≡◌, Ok};
 ghost use Rattle.vx_table.specs.Reading.{toks};
 ghost use Rattle.vx_script.specs.Reading as spec;
 ghost use Rattle.vx_script.specs.Results.{ReadsLine};
-ghost use Rattle.vx_text.specs.declared.token.Tok.TheVariants as tok;
 
 use crate::declaration::{fresh, room_for};
 use crate::draft::{DraftImage, DraftLine, MOST_STMTS};
@@ -79,31 +78,28 @@ fn ended(
     })
 }
 
-// A line that begins with a word. The tokens are all of the line's, and `rest` those behind the word.
+// A line that begins with a word; the tokens are all of the line's.
 fn word_line(
     alloc: Global,
     line: u32,
     parts: Parts,
     image: DraftImage,
     word: Name,
-    rest: &[Token],
     tokens: &[Token],
 ) -> Result<Reading, LineFail>
-    requires { toks tokens.now ≡ tok.Word word ∷ toks rest.now }
-    ensures { ReadsLine result (spec.word_line line parts image word (toks rest.now)) }
+    ensures { ReadsLine result (spec.word_line line parts image word (toks tokens.now)) }
 {
-    if begins_with_sign(b':', rest) {
-        let image = labelled(line, image, word, behind(rest, 1))?;
+    if begins_with_sign(b':', behind(tokens, 1)) {
+        let image = labelled(line, image, word, behind(tokens, 2))?;
         Ok(going_on(parts, image))
     } else if word.text() == b"END".as_slice() {
-        ended(alloc, parts, image, rest)
+        ended(alloc, parts, image, behind(tokens, 1))
     } else {
-        let image = with_stmt(line, image, tokens)?;
-        Ok(going_on(parts, image))
+        other_line(line, parts, image, tokens)
     }
 }
 
-// A line that begins with no word.
+// A line that is a statement alone, or has no tokens.
 fn other_line(
     line: u32,
     parts: Parts,
@@ -116,8 +112,19 @@ fn other_line(
     Ok(going_on(parts, image))
 }
 
+fn first_word(tokens: &[Token]) -> Option<Name>
+    ensures { result ≡ spec.first_word (toks tokens.now) }
+{
+    let [first, ..] = tokens else {
+        return None;
+    };
+    match &first.tok {
+        Tok::Word(word) => Some(*word),
+        _ => None,
+    }
+}
+
 /// A line of an image.
-#[tactic(auto, unfolding(crate::specs::Reading::inside))]
 pub fn inside(
     alloc: Global,
     line: u32,
@@ -127,11 +134,8 @@ pub fn inside(
 ) -> Result<Reading, LineFail>
     ensures { ReadsLine result (spec.inside line parts image (toks tokens.now)) }
 {
-    let [first, rest @ ..] = tokens else {
-        return other_line(line, parts, image, tokens);
-    };
-    match &first.tok {
-        Tok::Word(word) => word_line(alloc, line, parts, image, *word, rest, tokens),
-        _ => other_line(line, parts, image, tokens),
+    match first_word(tokens) {
+        Some(word) => word_line(alloc, line, parts, image, word, tokens),
+        None => other_line(line, parts, image, tokens),
     }
 }

@@ -17,7 +17,6 @@ mod named;
 mod parts;
 mod privileges;
 mod read;
-mod register;
 mod resolve;
 mod statement;
 

@@ -1,33 +1,8 @@
-//! The names of what has one.
+//! The names of the lines that have one.
 
 use crate::lines::{DeclLine, FaultLine};
 use vx_base::Name;
-use vx_image::{Image, Label, UnitDecl};
-use crate::register::{Named, Numbered};
-
-impl Named for UnitDecl {
-    ghost name_of = { λ u. u.name };
-
-    fn name(&self) -> Name {
-        self.name
-    }
-}
-
-impl Named for Image {
-    ghost name_of = { λ i. i.name };
-
-    fn name(&self) -> Name {
-        self.name
-    }
-}
-
-impl Named for Label {
-    ghost name_of = { λ l. l.name };
-
-    fn name(&self) -> Name {
-        self.name
-    }
-}
+use vx_register::{Named, Numbered};
 
 impl Named for DeclLine {
     ghost name_of = { λ d. d.name };

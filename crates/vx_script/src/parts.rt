@@ -3,7 +3,7 @@
 use crate::draft::DraftImage;
 use crate::items::Items;
 use crate::lines::{Creation, DeclLine, FaultLine, InputLine};
-use crate::register::{NumberedRegister, Register};
+use vx_register::{NumberedRegister, Register};
 use vx_image::{Image, UnitDecl};
 
 /// What the lines say that were read, without an image that is not ended. The units have neither input lines nor faults yet.

@@ -1,6 +1,6 @@
 //! A script, line by line.
 
-ghost use Rattle.std.specs.Prelude.{◌≡◌, ◌+◌, ◌<◌, ◌^◌, length, drop};
+ghost use Rattle.std.specs.Prelude.{◌≡◌, ◌+◌, ◌<◌, ◌≤◌, length, drop};
 ghost use Rattle.vx_image.specs.WellFormed.{IsWellFormed};
 ghost use Rattle.vx_table.specs.Reading.{toks};
 ghost use Rattle.vx_script.specs.Lines.{line_len, first_line, without_return};
@@ -16,7 +16,7 @@ use crate::resolve::resolve;
 use std::alloc::Global;
 use vx_base::Name;
 use vx_image::System;
-use crate::register::{NumberedRegister, Register};
+use vx_register::{NumberedRegister, Register};
 use vx_text::{LexFail, Tok, Token, tokens};
 
 // Nothing stands open.
@@ -167,7 +167,8 @@ fn next_line(alloc: Global, line: u32, reading: Reading, text: &[u8]) -> Result<
 
 // How many bytes stand before the first line feed.
 fn line_len(text: &[u8]) -> usize
-    ensures { result ≡ line_len text.now }
+    ensures len { result ≡ line_len text.now }
+    ensures within { result ≤ length text.now }
 {
     text.iter().take_while(|b| **b != b'\n').count()
 }
@@ -175,7 +176,8 @@ fn line_len(text: &[u8]) -> usize
 // A line without a return at its end.
 #[tactic(auto, using(crate::proofs::Returns::without_last))]
 fn without_return(line: &[u8]) -> &[u8]
-    ensures { result.now ≡ without_return line.now }
+    ensures line { result.now ≡ without_return line.now }
+    ensures within { length result.now ≤ length line.now }
 {
     let Some((last, front)) = line.split_last() else {
         return line;
@@ -187,7 +189,8 @@ fn without_return(line: &[u8]) -> &[u8]
 #[tactic(auto, using(crate::proofs::Cutting::first_taken, crate::proofs::Cutting::first_whole))]
 fn first_line(text: &[u8], len: usize) -> &[u8]
     requires { len ≡ line_len text.now }
-    ensures { result.now ≡ first_line text.now }
+    ensures line { result.now ≡ first_line text.now }
+    ensures within { length result.now ≤ length text.now }
 {
     if len < text.len() {
         without_return(&text[..len])

@@ -16,7 +16,7 @@ use crate::privileges::NO_PRIVS;
 use std::alloc::Global;
 use vx_base::{Mode, Name, Need, NoMemory};
 use vx_image::{Image, Images, Lines, Numbers, ProcDecl, ProcDecls, System, UnitDecl, UnitDecls};
-use crate::register::Register;
+use vx_register::Register;
 
 // The first $CREPRC of a process declaration that is not there.
 fn unknown_creation(parts: &Parts) -> Option<u32>

@@ -1,16 +1,15 @@
-use Rattle.std.proofs.Common.{rules, ◌≡◌, length, ℕ, ◌+◌, ◌-◌, ◌*◌, ◌<◌, ◌≤◌, ◌/◌, ◌%◌, Bool, true, false, nat_eq, nat_lt, List, [], ◌∷◌, ◌++◌, slice_index_or, slice_set, bit_and, bit_or, Fits, w8, w32, w64, Bor, MutBor}
-use Rattle.vx_table.specs.Reading.{toks}
-use Rattle.vx_script.specs.Keys as spec
+use Rattle.std.proofs.Common.{sym, ◌∙◌, ap}
+use Rattle.vx_script.specs.Keys.{keys_from}
+use Rattle.vx_script.proofs.Taking.{no_key, key_taken, key_refused}
 use Rattle.vx_script.proofs.keys.+keys_at.Goals as goal
 
--- src/keys.rt:316:9
 pub returns-in_default : goal.returns-in_default
-returns-in_default t c = ?
+returns-in_default t c = no_key c.args.keys c.args.tokens.now c.in_default.ensures.cases
 
--- src/keys.rt:312:1
 pub returns-in-Ok : goal.returns-in-Ok
-returns-in-Ok t c = ?
+returns-in-Ok t c =
+    let taken = c.in-Ok.taken in
+    c.keys_at.ensures ∙ ap (keys_from 0 taken.keys) c.behind.ensures ∙ key_taken c.args.keys c.in-Some.first.now c.in-Some.rest.now c.args.tokens.now taken c.in-Some.ensures.cases.0 c.in-Ok.ensures
 
--- src/keys.rt:312:1
 pub returns-in-Err : goal.returns-in-Err
-returns-in-Err t c = ?
+returns-in-Err t c = key_refused c.args.keys c.in-Some.first.now c.in-Some.rest.now c.args.tokens.now c.in-Err.kind c.in-Some.ensures.cases.0 c.in-Err.ensures

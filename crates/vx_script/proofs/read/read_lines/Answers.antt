@@ -1,31 +1,34 @@
-use Rattle.std.proofs.Common.{rules, ◌≡◌, ◌+◌, ◌<◌, ◌^◌, length, drop, ℕ, ◌-◌, ◌*◌, ◌≤◌, ◌/◌, ◌%◌, Bool, true, false, nat_eq, nat_lt, List, [], ◌∷◌, ◌++◌, slice_index_or, slice_set, bit_and, bit_or, Fits, w8, w32, w64, Bor, MutBor}
-use Rattle.vx_image.specs.WellFormed.{IsWellFormed}
-use Rattle.vx_table.specs.Reading.{toks}
-use Rattle.vx_script.specs.Lines.{line_len, first_line, without_return}
-use Rattle.vx_script.specs.Reading as spec
-use Rattle.vx_script.specs.Results.{ReadsLine, ReadsScript, at_line}
+use Rattle.std.proofs.Common.{◌<◌, ◌∙◌, ap, arith, length-drop, length}
+use Rattle.std.proofs.lemmas.Grind.{common_steps}
+use Rattle.std.proofs.lemmas.Result.{err_from_is_err_and}
+use Rattle.vx_script.proofs.Cutting.{after_line, stopped_line, no_line, begins}
 use Rattle.vx_script.proofs.read.read_lines.Goals as goal
 
--- src/read.rt:243:5
 pub loop-rest-init : goal.loop-rest-init
-loop-rest-init c = ?
+loop-rest-init c = record { one = omega arith; few = omega arith; same = rw c.nothing_read-reading.ensures (begins c.args.text.now) }
 
--- src/read.rt:245:19
 pub next_line-requires : goal.next_line-requires
-next_line-requires c = ?
+next_line-requires c = omega (arith, c.first_line.ensures.within, c.loop-rest.invariant.one, c.loop-rest.invariant.few, c.requires)
 
--- src/read.rt:245:19
-pub returns-in_err-reading : goal.returns-in_err-reading
-returns-in_err-reading c = ?
-
--- src/read.rt:247:35
 pub overflow_add-len : goal.overflow_add-len
-overflow_add-len c = ?
+overflow_add-len c = omega (arith, c.line_len-len.ensures.within, c.loop-rest.invariant.one, c.loop-rest.invariant.few, c.requires)
 
--- src/read.rt:243:5
 pub loop-rest-preserved : goal.loop-rest-preserved
-loop-rest-preserved c = ?
+loop-rest-preserved c =
+    let rest = c.loop-rest.rest.now in
+    let pos : 0 < length rest = grind (arith, common_steps, c.is_empty.ensures, c.loop-rest-test.true) in
+    record {
+      one = omega (arith, c.loop-rest.invariant.one);
+      few = omega (arith, c.loop-rest.invariant.few, pos, simp length-drop at (ap length c.bytes_behind-rest.ensures));
+      same = after_line c.loop-rest.line c.line_len-len.result c.loop-rest.reading c.in_ok-reading.reading rest c.bytes_behind-rest.result.now c.first_line.result.now pos c.line_len-len.ensures.len c.first_line.ensures.line c.bytes_behind-rest.ensures c.in_ok-reading.ensures ∙ c.loop-rest.invariant.same;
+    }
 
--- src/read.rt:236:1
+pub returns-in_err-reading : goal.returns-in_err-reading
+returns-in_err-reading c =
+    let rest = c.loop-rest.rest.now in
+    let pos : 0 < length rest = grind (arith, common_steps, c.is_empty.ensures, c.loop-rest-test.true) in
+    let p = err_from_is_err_and c.from_residual.result c.from_residual.ensures.1 in
+    rw (p.1, ← c.loop-rest.invariant.same) (rw p.2 (stopped_line _ c.loop-rest.line c.loop-rest.reading rest c.first_line.result.now pos c.first_line.ensures.line c.in_err-reading.ensures))
+
 pub returns : goal.returns
-returns c = ?
+returns c = rw (← c.loop-rest.invariant.same, no_line c.loop-rest.line c.loop-rest.reading c.loop-rest.rest.now (grind (arith, common_steps, c.is_empty.ensures, c.loop-rest-test.false))) c.closed.ensures

@@ -5,6 +5,7 @@ use Rattle.vx_script.proofs.read.read_lines.Given as goal
 
 abbrev pub invariant-loop-rest : goal.invariant-loop-rest
 invariant-loop-rest l = record {
+  one : 1 ≤ l.line;
   few : l.line + length l.rest ≤ length l.text + 1;
   same : spec.read_lines l.line l.reading (lines_of l.rest) ≡ spec.read_script l.text;
 }
