@@ -3,18 +3,18 @@ use Rattle.std.proofs.Common.{◌≡◌, ℕ, List, Option, Some, sym, ◌∙◌
 use Rattle.vms.specs.declared.command.Command.{Command}
 use Rattle.vms.specs.declared.command.Command.TheVariants.{Sim}
 use Rattle.vms.specs.Simulated.{BreaksInput, in_run, in_refusal, in_no_memory}
-use Rattle.vms.specs.Top.{command_of, fault_line, no_memory, ReadsInput, Breaks, of_form, of_run, of_no_memory}
+use Rattle.vms.specs.Top.{command_of, no_memory, ReadsInput, Breaks, of_form, of_run, of_no_memory}
 
 -- a front of what an input comes to is a front of the text of the call that read it
 pub breaks_input : (words : List (List ℕ)) (left left_after : Option (List ℕ)) (faults faults_after : ℕ) (held held_after : Option (List ℕ)) (input : List ℕ) → ReadsInput words left left_after input → BreaksInput input held held_after → Breaks words left left_after faults faults_after held held_after
-breaks_input words left left_after faults faults_after held held_after input read (in_run system text says simulated front) = record {
+breaks_input words left left_after faults faults_after held held_after input read (in_run system text says built simulated front) = record {
   text = text;
-  own = of_run text (record { input = input; read = read; system = system; says = says; simulated = simulated });
+  own = of_run text (record { input = input; read = read; system = system; says = says; built = built; simulated = simulated });
   front = front;
 }
-breaks_input words left left_after faults faults_after held held_after input read (in_refusal fault refused front) = record {
-  text = fault_line fault;
-  own = of_form fault (record { input = input; read = read; refused = refused });
+breaks_input words left left_after faults faults_after held held_after input read (in_refusal text refused front) = record {
+  text = text;
+  own = of_form text (record { input = input; read = read; refused = refused });
   front = front;
 }
 breaks_input words left left_after faults faults_after held held_after input read (in_no_memory front) = record {

@@ -5,8 +5,7 @@ use Rattle.vx_base.specs.declared.record.End.{End}
 use Rattle.vx_base.specs.declared.record.End.TheVariants.{Done}
 use Rattle.vx_base.specs.declared.record.Rec.{Rec}
 use Rattle.vx_image.specs.declared.system.System.{System}
-use Rattle.vx_script.specs.Form.{ended_lines}
-use Rattle.vx_script.specs.Script.{script}
+use Rattle.vx_script.specs.Script.{ended_lines, script}
 use Rattle.vx_exec.specs.Model.{first, after, enabled, are_deleted, end_of, HasOneRun}
 use Rattle.vx_exec.specs.View.{Executive, Plan}
 use Rattle.vms.specs.Taken.{TakesRun}

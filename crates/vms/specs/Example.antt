@@ -1,6 +1,9 @@
 -- Two worked examples: a script that sets, reads and clears a flag and exits, and one whose flags are refused.
-use Rattle.std.specs.Prelude.{◌≡◌, ℕ, List, [], ◌∷◌, codes, true, false}
+use Rattle.std.specs.Prelude.{◌≡◌, ℕ, List, [], ◌∷◌, map, codes, true, false, Ok}
+use Rattle.vx_base.specs.declared.mode.Mode.TheVariants.{User}
+use Rattle.vx_base.specs.declared.service.Service.{Service}
 use Rattle.vx_base.specs.declared.service.Service.TheVariants.{SetEf, ClrEf, ReadEf, Exit}
+use Rattle.vx_base.specs.declared.call.Arg.{Arg}
 use Rattle.vx_base.specs.declared.call.Arg.TheVariants.{Value, Target, Unused}
 use Rattle.vx_base.specs.declared.call.Call.{Call}
 use Rattle.vx_base.specs.declared.call.Operand.TheVariants.{Num}
@@ -12,16 +15,45 @@ use Rattle.vx_base.specs.declared.effects.Effect.{Effect}
 use Rattle.vx_base.specs.declared.effects.Effect.TheVariants as effect
 use Rattle.vx_base.specs.declared.number.Pid.{Pid}
 use Rattle.vx_base.specs.declared.record.Answer.TheVariants as answered_by
-use Rattle.vx_base.specs.declared.record.Answer.TheVariants.{Service, Gone}
+use Rattle.vx_base.specs.declared.record.Answer.TheVariants.{Gone}
 use Rattle.vx_base.specs.declared.record.End.TheVariants.{Done}
 use Rattle.vx_base.specs.declared.record.Event.TheVariants.{Run, Rdn}
 use Rattle.vx_base.specs.declared.record.Rec.{Rec}
-use Rattle.vx_script.specs.Form.{Form, setef, readef, clref, exit, spelled, system_of, calling}
+use Rattle.vx_image.specs.declared.decl.ProcDecl.{ProcDecl}
+use Rattle.vx_image.specs.declared.stmt.Stmt.TheVariants as stmt
+use Rattle.vx_image.specs.declared.system.System.{System}
+use Rattle.vx_script.specs.Reading.{read_script}
 use Rattle.vx_exec.specs.Model.{first, IsWhole}
 use Rattle.vms.specs.Transcript.{transcript}
 
-abbrev pub flag_form : Form
-flag_form = record { image = codes "MAIN"; statements = setef 5 ∷ readef 5 65 ∷ clref 5 ∷ exit ∷ []; process = codes "P" }
+-- a call, by its service and its first two arguments
+abbrev pub calling : Service → Arg → Arg → Call
+calling service a b = record { service = service; args = record { a0 = a; a1 = b; a2 = Unused; a3 = Unused; a4 = Unused; a5 = Unused; a6 = Unused; a7 = Unused; a8 = Unused } }
+
+-- the process P of image MAIN, with each key as it is where its line names none
+abbrev pub usual_process : ProcDecl
+usual_process = record {
+  name = codes "P";
+  image = 0;
+  group = 1;
+  member = 1;
+  mode = User;
+  limits = record { ast = 24; bio = 18; dio = 18; byt = 8192; tqe = 10 };
+  privs = record { cmexec = false; cmkrnl = false; group = false; prmceb = false; prmmbx = false; world = false };
+  start = true;
+}
+
+-- that process alone, whose image makes these calls
+abbrev pub system_of : List Call → System
+system_of calls = record { units = []; images = record { name = codes "MAIN"; labels = []; stmts = map stmt.Service calls } ∷ []; decls = usual_process ∷ [] }
+
+-- $SETEF n
+abbrev pub setef : ℕ → Call
+setef n = calling SetEf (Value (Num n)) Unused
+
+-- the system of the first example
+abbrev pub flag_system : System
+flag_system = system_of (setef 5 ∷ calling ReadEf (Value (Num 5)) (Target (Var 65)) ∷ calling ClrEf (Value (Num 5)) Unused ∷ calling Exit (Value (Num 1)) Unused ∷ [])
 
 -- its text
 abbrev pub flag_script : List ℕ
@@ -32,7 +64,7 @@ first_pid = record { 0 = 1 }
 
 -- process 1 calls a service
 abbrev pub called : Call → Cond → List Effect → Rec
-called call cond effects = record { event = Run first_pid; answer = Service call cond; effects = effects }
+called call cond effects = record { event = Run first_pid; answer = answered_by.Service call cond; effects = effects }
 
 abbrev pub flag_records : List Rec
 flag_records =
@@ -46,16 +78,17 @@ flag_records =
 abbrev pub flag_transcript : List ℕ
 flag_transcript = codes "IMAGE MAIN\n  $SETEF 5\n  $READEF 5,A\n  $CLREF 5\n  $EXIT 1\nEND\nPROCESS P MAIN UIC=1:1 MODE=USER ASTLM=24 BIOLM=18 DIOLM=18 BYTLM=8192 TQELM=10 PRIV=NONE START=1\n$JOURNAL 1\n1 RUN 1 $SETEF 5 WASCLR\n FLAG 1:5 1\n2 RUN 1 $READEF 5,A WASSET\n VAR 1 A 32\n3 RUN 1 $CLREF 5 WASSET\n FLAG 1:5 0\n4 RUN 1 $EXIT 1 NORMAL\n5 RDN 1 GONE\n GONE 1\nPROCESS 1 P GONE 1\n$END DONE 5\n"
 
--- The script spells the form, the records are its whole run, and the transcript is theirs.
+-- The script says the system, the records are its whole run, and the transcript is theirs.
 pub record IsFlagExample : Type 0 where
-  pub script : spelled flag_form ≡ flag_script
-  pub run : IsWhole (first (system_of flag_form)) flag_records
-  pub output : transcript (system_of flag_form) flag_records Done ≡ flag_transcript
+  pub script : read_script flag_script ≡ Ok flag_system
+  pub run : IsWhole (first flag_system) flag_records
+  pub output : transcript flag_system flag_records Done ≡ flag_transcript
 
 -- Flags at the ends of their ranges, and an image that ends.
 
-abbrev pub refused_form : Form
-refused_form = record { image = codes "MAIN"; statements = setef 31 ∷ setef 63 ∷ setef 64 ∷ setef 127 ∷ setef 128 ∷ []; process = codes "P" }
+-- the system of the second example
+abbrev pub refused_system : System
+refused_system = system_of (setef 31 ∷ setef 63 ∷ setef 64 ∷ setef 127 ∷ setef 128 ∷ [])
 
 -- its text
 abbrev pub refused_script : List ℕ
@@ -79,8 +112,8 @@ refused_records =
 abbrev pub refused_transcript : List ℕ
 refused_transcript = codes "IMAGE MAIN\n  $SETEF 31\n  $SETEF 63\n  $SETEF 64\n  $SETEF 127\n  $SETEF 128\nEND\nPROCESS P MAIN UIC=1:1 MODE=USER ASTLM=24 BIOLM=18 DIOLM=18 BYTLM=8192 TQELM=10 PRIV=NONE START=1\n$JOURNAL 1\n1 RUN 1 $SETEF 31 WASCLR\n FLAG 1:31 1\n2 RUN 1 $SETEF 63 WASCLR\n FLAG 1:63 1\n3 RUN 1 $SETEF 64 UNASEFC\n4 RUN 1 $SETEF 127 UNASEFC\n5 RUN 1 $SETEF 128 ILLEFC\n6 RUN 1 END\n7 RDN 1 GONE\n GONE 1\nPROCESS 1 P GONE 8052\n$END DONE 7\n"
 
--- The script spells the form, the records are its whole run, and the transcript is theirs.
+-- The script says the system, the records are its whole run, and the transcript is theirs.
 pub record IsRefusedExample : Type 0 where
-  pub script : spelled refused_form ≡ refused_script
-  pub run : IsWhole (first (system_of refused_form)) refused_records
-  pub output : transcript (system_of refused_form) refused_records Done ≡ refused_transcript
+  pub script : read_script refused_script ≡ Ok refused_system
+  pub run : IsWhole (first refused_system) refused_records
+  pub output : transcript refused_system refused_records Done ≡ refused_transcript

@@ -1,28 +1,29 @@
 -- What the simulation of an input that was read writes.
-use Rattle.std.specs.Prelude.{ℕ, List, Option}
+use Rattle.std.specs.Prelude.{◌≡◌, ℕ, List, Option, Ok, IsTrue}
 use Rattle.std.specs.Io.KnownBytes.{Appends}
 use Rattle.vx_image.specs.declared.system.System.{System}
 use Rattle.vx_host.specs.Streams.{AppendsFront}
-use Rattle.vx_script.specs.Form.{Reads, RefusesAll}
-use Rattle.vx_script.specs.declared.fault.ScriptFault.{ScriptFault}
-use Rattle.vms.specs.Top.{fault_line, no_memory, IsSimulated}
+use Rattle.vx_script.specs.Reading.{read_script}
+use Rattle.vx_exec.specs.Built.{is_built}
+use Rattle.vms.specs.Top.{no_memory, IsRefused, IsSimulated}
 
--- The input is of the form, and the sink holds the transcript of its run more.
+-- The input is the script of a system that is built, and the sink holds the transcript of its run more.
 pub record WritesRun (input : List ℕ) (held held_after : Option (List ℕ)) : Type 0 where
   pub system : System
-  pub says : Reads input system
+  pub says : read_script input ≡ Ok system
+  pub built : IsTrue (is_built system)
   pub text : List ℕ
   pub simulated : IsSimulated system text
   pub written : Appends held held_after text
 
--- The input is not of the form, and the sink holds the line of its fault more.
+-- The input is refused, and the sink holds the line of the cause more.
 pub record WritesRefusal (input : List ℕ) (held held_after : Option (List ℕ)) : Type 0 where
-  pub fault : ScriptFault
-  pub refused : RefusesAll fault input
-  pub written : Appends held held_after (fault_line fault)
+  pub text : List ℕ
+  pub refused : IsRefused input text
+  pub written : Appends held held_after text
 
--- The sink holds a front of the transcript, of the line of the fault or of the line on memory more.
+-- The sink holds a front of the transcript, of the line of a refusal or of the line on memory more.
 pub data BreaksInput (input : List ℕ) (held held_after : Option (List ℕ)) : Type 0 where
-  in_run : (system : System) (text : List ℕ) → Reads input system → IsSimulated system text → AppendsFront held held_after text → BreaksInput input held held_after
-  in_refusal : (fault : ScriptFault) → RefusesAll fault input → AppendsFront held held_after (fault_line fault) → BreaksInput input held held_after
+  in_run : (system : System) (text : List ℕ) → read_script input ≡ Ok system → IsTrue (is_built system) → IsSimulated system text → AppendsFront held held_after text → BreaksInput input held held_after
+  in_refusal : (text : List ℕ) → IsRefused input text → AppendsFront held held_after text → BreaksInput input held held_after
   in_no_memory : AppendsFront held held_after no_memory → BreaksInput input held held_after

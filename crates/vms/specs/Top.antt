@@ -1,15 +1,16 @@
 -- What the top call answers and writes, and what it read for it.
-use Rattle.std.specs.Prelude.{◌≡◌, ℕ, List, [], ◌∷◌, ◌++◌, length, codes, decimal, bytes_eq, Option, None, Some, if◌then◌else◌}
+use Rattle.std.specs.Prelude.{◌≡◌, ℕ, List, [], ◌∷◌, ◌++◌, length, codes, decimal, bytes_eq, false, IsTrue, Option, None, Some, Result, Ok, Err, if◌then◌else◌}
 use Rattle.std.specs.Io.KnownBytes.{Appends, Keeps}
 use Rattle.vx_base.specs.declared.record.End.TheVariants.{Done}
 use Rattle.vx_base.specs.declared.record.Rec.{Rec}
 use Rattle.vx_image.specs.declared.system.System.{System}
 use Rattle.vx_host.specs.Causes.{Rose}
 use Rattle.vx_host.specs.Streams.{TakesAll, Takes, TakesAtMost, AppendsFront}
-use Rattle.vx_script.specs.Form.{Reads, RefusesAll}
+use Rattle.vx_script.specs.Reading.{read_script}
 use Rattle.vx_script.specs.declared.fault.FaultKind.{FaultKind}
-use Rattle.vx_script.specs.declared.fault.FaultKind.TheVariants.{Later}
+use Rattle.vx_script.specs.declared.fault.FaultKind.TheVariants as kind
 use Rattle.vx_script.specs.declared.fault.ScriptFault.{ScriptFault}
+use Rattle.vx_exec.specs.Built.{is_built}
 use Rattle.vx_exec.specs.Model.{first, after, end_of, IsRun, HasOneRun}
 use Rattle.vms.specs.Transcript.{transcript}
 use Rattle.vms.specs.declared.command.Command.{Command}
@@ -34,12 +35,30 @@ too_long = codes "vms: input too long\n"
 abbrev pub read_fault : List ℕ
 read_fault = codes "vms: read fault\n"
 
+-- the word of a fault, in capitals
 abbrev pub kind_word : FaultKind → List ℕ
-kind_word Later = codes "LATER"
+kind_word kind.Byte = codes "BYTE"
+kind_word kind.Quote = codes "QUOTE"
+kind_word kind.Number = codes "NUMBER"
+kind_word kind.Name = codes "NAME"
+kind_word kind.Word = codes "WORD"
+kind_word kind.Service = codes "SERVICE"
+kind_word kind.Argument = codes "ARGUMENT"
+kind_word kind.Range = codes "RANGE"
+kind_word kind.Twice = codes "TWICE"
+kind_word kind.Unknown = codes "UNKNOWN"
+kind_word kind.Extra = codes "EXTRA"
+kind_word kind.Missing = codes "MISSING"
+kind_word kind.End = codes "END"
+kind_word kind.Size = codes "SIZE"
 
 -- the line of a fault
 abbrev pub fault_line : ScriptFault → List ℕ
 fault_line f = codes "vms: line " ++ (decimal f.line ++ 32 ∷ (kind_word f.kind ++ 10 ∷ []))
+
+-- the line of a script whose system the executive does not run yet
+abbrev pub later : List ℕ
+later = codes "vms: line 1 LATER\n"
 
 abbrev pub no_memory : List ℕ
 no_memory = codes "vms: no memory\n"
@@ -68,11 +87,17 @@ pub record ReadsInput (words : List (List ℕ)) (left left_after : Option (List 
   pub asked : command_of words ≡ Some Sim
   pub taken : TakesAll 67108864 left left_after input
 
--- The input is not of the form, and this is its fault.
-pub record RefusesText (words : List (List ℕ)) (left left_after : Option (List ℕ)) (fault : ScriptFault) : Type 0 where
+-- why an input is not run, and the line that tells it: it is no script, and this is its first fault; or it is the script of
+-- a system that the executive does not run yet
+pub data IsRefused (input : List ℕ) : List ℕ → Type 0 where
+  no_script : (fault : ScriptFault) → read_script input ≡ Err fault → IsRefused input (fault_line fault)
+  not_built : (system : System) → read_script input ≡ Ok system → is_built system ≡ false → IsRefused input later
+
+-- The input is refused, and the text is the line of the cause.
+pub record RefusesText (words : List (List ℕ)) (left left_after : Option (List ℕ)) (text : List ℕ) : Type 0 where
   pub input : List ℕ
   pub read : ReadsInput words left left_after input
-  pub refused : RefusesAll fault input
+  pub refused : IsRefused input text
 
 -- The records are a run of the machine from the system's opening state that ends with every process deleted, within
 -- 10,000 records; no other run is whole; and the text is its transcript.
@@ -83,12 +108,13 @@ pub record IsSimulated (system : System) (text : List ℕ) : Type 0 where
   pub one_run : HasOneRun (first system)
   pub spells : text ≡ transcript system recs Done
 
--- The input is of the form, and the text is the transcript of the run of the system that it says.
+-- The input is the script of a system that is built, and the text is the transcript of the system's one run.
 pub record Simulates (words : List (List ℕ)) (left left_after : Option (List ℕ)) (text : List ℕ) : Type 0 where
   pub input : List ℕ
   pub read : ReadsInput words left left_after input
   pub system : System
-  pub says : Reads input system
+  pub says : read_script input ≡ Ok system
+  pub built : IsTrue (is_built system)
   pub simulated : IsSimulated system text
 
 -- The command is `sim`, and no memory was found for it.
@@ -100,7 +126,7 @@ pub data IsTextOf (words : List (List ℕ)) (left left_after : Option (List ℕ)
   of_words : RefusesWords words left left_after → IsTextOf words left left_after faults faults_after usage
   of_overflow : Overflows words left left_after → IsTextOf words left left_after faults faults_after too_long
   of_read_fault : FailsToRead words left left_after faults faults_after → IsTextOf words left left_after faults faults_after read_fault
-  of_form : (fault : ScriptFault) → RefusesText words left left_after fault → IsTextOf words left left_after faults faults_after (fault_line fault)
+  of_form : (text : List ℕ) → RefusesText words left left_after text → IsTextOf words left left_after faults faults_after text
   of_run : (text : List ℕ) → Simulates words left left_after text → IsTextOf words left left_after faults faults_after text
   of_no_memory : RunsOut words → IsTextOf words left left_after faults faults_after no_memory
 
@@ -112,11 +138,11 @@ pub record WritesTranscript (words : List (List ℕ)) (left left_after held held
   pub simulates : Simulates words left left_after text
   pub written : Appends held held_after text
 
--- The sink holds the line of the input's fault more.
+-- The sink holds the line more that tells why the input is refused.
 pub record WritesFault (words : List (List ℕ)) (left left_after held held_after : Option (List ℕ)) : Type 0 where
-  pub fault : ScriptFault
-  pub refuses : RefusesText words left left_after fault
-  pub written : Appends held held_after (fault_line fault)
+  pub text : List ℕ
+  pub refuses : RefusesText words left left_after text
+  pub written : Appends held held_after text
 
 -- The sink holds a front of the text of the call more.
 pub record Breaks (words : List (List ℕ)) (left left_after : Option (List ℕ)) (faults faults_after : ℕ) (held held_after : Option (List ℕ)) : Type 0 where

@@ -1,5 +1,5 @@
 -- The transcript of a run: the canonical script, the records and the trailer, line by line.
-use Rattle.std.specs.Prelude.{ℕ, ◌+◌, List, [], ◌∷◌, ◌++◌, length, map, flat_map, codes, decimal, Bool, Option, Some, None, slice_index_or}
+use Rattle.std.specs.Prelude.{ℕ, ◌+◌, List, [], ◌∷◌, ◌++◌, length, map, codes, decimal, Bool, Option, Some, None, slice_index_or}
 use Rattle.vx_base.specs.Cond.{name_of}
 use Rattle.vx_base.specs.Flags.{one}
 use Rattle.vx_base.specs.declared.cond.Cond.{Cond}
@@ -24,8 +24,8 @@ use Rattle.vx_base.specs.declared.request.Body.{Body}
 use Rattle.vx_base.specs.declared.request.Body.TheVariants as body
 use Rattle.vx_image.specs.declared.system.System.{System}
 use Rattle.vx_image.specs.declared.unit.UnitDecl.{UnitDecl}
-use Rattle.vx_script.specs.Form.{ended_lines}
-use Rattle.vx_script.specs.Script.{target_text, mode_name, call_text, script}
+use Rattle.vx_script.specs.Script.{ended_lines, spaced, script}
+use Rattle.vx_table.specs.Spelling.{target_text, mode_name, call_text}
 use Rattle.vx_exec.specs.State.{Process, State}
 use Rattle.vx_exec.specs.Model.{decl_of, first, after}
 use Rattle.vx_exec.specs.Standing.{standing_of, code_of}
@@ -79,10 +79,6 @@ joined_text (Some (group, name)) = cluster_text group name
 abbrev pub body_text : Body → List ℕ
 body_text (body.Text bytes) = quote_text bytes
 body_text body.Eof = codes "EOF"
-
--- words, each behind a space
-abbrev pub spaced : List (List ℕ) → List ℕ
-spaced words = flat_map (λ word. 32 ∷ word) words
 
 abbrev pub effect_words : Effect → List (List ℕ)
 effect_words (effect.Open id kind p mode n) = codes "OPEN" ∷ id_text id ∷ opened_name kind ∷ pid_text p ∷ mode_text mode ∷ decimal n ∷ []

@@ -1,6 +1,6 @@
 //! The top call.
 
-ghost use Rattle.std.specs.Prelude.{◌≡◌, ◌≢◌, ◌⊎◌, ◌≤◌, IfOk};
+ghost use Rattle.std.specs.Prelude.{◌≡◌, ◌≢◌, ◌⊎◌, ◌<◌, ◌≤◌, IfOk, length};
 ghost use Rattle.std.specs.Io.KnownBytes.{Appends};
 ghost use Rattle.vx_host.specs.Causes.{Rose};
 ghost use Rattle.vx_host.specs.Streams.{AppendsFront};
@@ -12,8 +12,10 @@ use crate::simulate::transcript;
 use crate::status::Status;
 use std::alloc::Global;
 use vx_base::{Bytes, NoMemory};
+use vx_exec::built;
 use vx_host::{ReadFail, Sink, Source, read_all, write_all};
-use vx_script::{FaultKind, ScriptFail, ScriptFault, print_num, read_script};
+use vx_script::{FaultKind, ScriptFail, ScriptFault, read_script};
+use vx_text::print_num;
 
 /// The most bytes of an input.
 const MOST: u32 = 67_108_864;
@@ -52,7 +54,20 @@ fn kind_word(kind: FaultKind) -> &'static [u8]
     ensures { result.now ≡ kind_word kind }
 {
     match kind {
-        FaultKind::Later => b"LATER",
+        FaultKind::Byte => b"BYTE",
+        FaultKind::Quote => b"QUOTE",
+        FaultKind::Number => b"NUMBER",
+        FaultKind::Name => b"NAME",
+        FaultKind::Word => b"WORD",
+        FaultKind::Service => b"SERVICE",
+        FaultKind::Argument => b"ARGUMENT",
+        FaultKind::Range => b"RANGE",
+        FaultKind::Twice => b"TWICE",
+        FaultKind::Unknown => b"UNKNOWN",
+        FaultKind::Extra => b"EXTRA",
+        FaultKind::Missing => b"MISSING",
+        FaultKind::End => b"END",
+        FaultKind::Size => b"SIZE",
     }
 }
 
@@ -62,7 +77,7 @@ fn fault_line(alloc: Global, fault: ScriptFault) -> Result<Bytes, NoMemory>
 {
     let mut text = Bytes::new(alloc);
     text.push_all(b"vms: line ")?;
-    print_num(alloc, u64::from(fault.line), &mut text)?;
+    print_num(alloc, &mut text, u64::from(fault.line))?;
     text.push_all(b" ")?;
     text.push_all(kind_word(fault.kind))?;
     text.push_all(b"\n")?;
@@ -71,6 +86,7 @@ fn fault_line(alloc: Global, fault: ScriptFault) -> Result<Bytes, NoMemory>
 
 /// Simulates an input that was read whole, and writes what it comes to.
 fn simulate<K: Sink>(alloc: Global, input: &Bytes, sink: &mut K) -> Status
+    requires { length input.now < 4294967295 }
     ensures status { (result ≡ Status.Done) ⊎ (result ≡ Status.Form)
         ⊎ (result ≡ Status.NoMemory) ⊎ (result ≡ Status.WriteFault) }
     ensures done { result ≡ Status.Done → WritesRun input.now (K.held sink.old) (K.held sink.new) }
@@ -84,10 +100,15 @@ fn simulate<K: Sink>(alloc: Global, input: &Bytes, sink: &mut K) -> Status
     ensures later { K.faults sink.old ≤ K.faults sink.new }
 {
     match read_script(alloc, input.as_slice()) {
-        Ok(system) => match transcript(alloc, system) {
-            Ok(text) => tell(sink, text.as_slice(), Status::Done),
-            Err(NoMemory) => tell_no_memory(sink),
-        },
+        Ok(system) => {
+            if !built(&system) {
+                return tell(sink, b"vms: line 1 LATER\n", Status::Form);
+            }
+            match transcript(alloc, system) {
+                Ok(text) => tell(sink, text.as_slice(), Status::Done),
+                Err(NoMemory) => tell_no_memory(sink),
+            }
+        }
         Err(ScriptFail::Fault(fault)) => match fault_line(alloc, fault) {
             Ok(text) => tell(sink, text.as_slice(), Status::Form),
             Err(NoMemory) => tell_no_memory(sink),

@@ -3,13 +3,13 @@
 //! Each function appends its text; where memory is wanting it may have appended a front of it.
 
 ghost use Rattle.std.specs.Prelude.{◌≡◌, ◌++◌, ◌∷◌, [], decimal, map, OnOk};
-ghost use Rattle.vx_script.specs.Form.{ended_lines};
-ghost use Rattle.vms.specs.Transcript.{id_text, bit_text, cluster_text, cell_text, opened_name, mode_text, cond_text, joined_text, body_text, spaced, effect_words, effect_line};
+ghost use Rattle.vx_script.specs.Script.{ended_lines, spaced};
+ghost use Rattle.vms.specs.Transcript.{id_text, bit_text, cluster_text, cell_text, opened_name, mode_text, cond_text, joined_text, body_text, effect_words, effect_line};
 
 use std::alloc::Global;
 use vx_base::{Body, Bytes, Cell, Cond, Effect, Id, Mode, Name, NoMemory, Opened, Pid};
-use vx_script::{mode_name, print_num, print_target};
-use vx_text::print_quote;
+use vx_table::{mode_name, print_target};
+use vx_text::{print_num, print_quote};
 
 /// Appends a text behind a space.
 pub fn print_spaced(text: &[u8], out: &mut Bytes) -> Result<(), NoMemory>
@@ -24,7 +24,7 @@ pub fn print_spaced_num(alloc: Global, n: u32, out: &mut Bytes) -> Result<(), No
     ensures { OnOk result (out.new ≡ out.old ++ 32 ∷ decimal n) }
 {
     out.push_all(b" ")?;
-    print_num(alloc, u64::from(n), out)
+    print_num(alloc, out, u64::from(n))
 }
 
 /// Appends an id.
@@ -32,7 +32,7 @@ pub fn print_id(alloc: Global, id: Id, out: &mut Bytes) -> Result<(), NoMemory>
     ensures { OnOk result (out.new ≡ out.old ++ id_text id) }
 {
     out.push_all(b"#")?;
-    print_num(alloc, u64::from(id.0), out)
+    print_num(alloc, out, u64::from(id.0))
 }
 
 fn print_spaced_id(alloc: Global, id: Id, out: &mut Bytes) -> Result<(), NoMemory>
@@ -51,7 +51,7 @@ fn print_spaced_bit(alloc: Global, bit: bool, out: &mut Bytes) -> Result<(), NoM
 fn print_cluster(alloc: Global, group: u32, name: &Name, out: &mut Bytes) -> Result<(), NoMemory>
     ensures { OnOk result (out.new ≡ out.old ++ cluster_text group name.now) }
 {
-    print_num(alloc, u64::from(group), out)?;
+    print_num(alloc, out, u64::from(group))?;
     out.push_all(b":")?;
     out.push_all(name.text())
 }
@@ -61,14 +61,14 @@ fn print_cell(alloc: Global, cell: &Cell, out: &mut Bytes) -> Result<(), NoMemor
 {
     match cell {
         Cell::Local(p, efn) => {
-            print_num(alloc, u64::from(p.0), out)?;
+            print_num(alloc, out, u64::from(p.0))?;
             out.push_all(b":")?;
-            print_num(alloc, u64::from(*efn), out)
+            print_num(alloc, out, u64::from(*efn))
         }
         Cell::Common(group, name, n) => {
             print_cluster(alloc, *group, name, out)?;
             out.push_all(b":")?;
-            print_num(alloc, u64::from(*n), out)
+            print_num(alloc, out, u64::from(*n))
         }
     }
 }

@@ -25,6 +25,8 @@ use vx_base::{Bytes, NoMemory};
 use vx_host::{Sink, StdSink, StdSource, write_all};
 
 #[cfg(test)]
+mod faults;
+#[cfg(test)]
 mod tests;
 
 /// The bytes of each text.

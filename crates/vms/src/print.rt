@@ -3,7 +3,7 @@
 //! Each function appends its text; where memory is wanting it may have appended a front of it.
 
 ghost use Rattle.std.specs.Prelude.{◌≡◌, ◌++◌, ◌∷◌, [], decimal, OnOk};
-ghost use Rattle.vx_script.specs.Form.{ended_lines};
+ghost use Rattle.vx_script.specs.Script.{ended_lines};
 ghost use Rattle.vx_exec.specs.Model.{IsProcess, process_at};
 ghost use Rattle.vms.specs.Transcript.{unit_name, event_text, answer_text, record_lines, records_lines, standing_word, standing_line, process_line, process_lines, end_word, end_line, trailer_lines};
 
@@ -12,7 +12,8 @@ use std::alloc::Global;
 use vx_base::{Answer, Bytes, End, Event, Name, NoMemory, Pid, Rec, UnitNo};
 use vx_exec::{Exec, Standing};
 use vx_image::UnitDecl;
-use vx_script::{print_call, print_num};
+use vx_table::call_text;
+use vx_text::print_num;
 
 /// The name of a unit, empty where there is none.
 fn unit_name(units: &[UnitDecl], u: UnitNo) -> &[u8]
@@ -63,11 +64,11 @@ fn print_answer(alloc: Global, answer: &Answer, out: &mut Bytes) -> Result<(), N
 {
     match answer {
         Answer::Service(call, cond) => {
-            print_call(alloc, call, out)?;
+            out.push_all(call_text(alloc, call)?.as_slice())?;
             print_spaced(cond.name().as_bytes(), out)
         }
         Answer::Wait(call) => {
-            print_call(alloc, call, out)?;
+            out.push_all(call_text(alloc, call)?.as_slice())?;
             out.push_all(b" WAIT")
         }
         Answer::Resume(cond) => {
@@ -81,7 +82,7 @@ fn print_answer(alloc: Global, answer: &Answer, out: &mut Bytes) -> Result<(), N
         Answer::Busy => out.push_all(b"BUSY"),
         Answer::Gone => out.push_all(b"GONE"),
         Answer::Ast(id) | Answer::Unit(id) => print_id(alloc, *id, out),
-        Answer::Time(ticks) => print_num(alloc, *ticks, out),
+        Answer::Time(ticks) => print_num(alloc, out, *ticks),
     }
 }
 
@@ -95,7 +96,7 @@ fn print_record(
 ) -> Result<(), NoMemory>
     ensures { OnOk result (out.new ≡ out.old ++ ended_lines (record_lines units.now n rec.now)) }
 {
-    print_num(alloc, n, out)?;
+    print_num(alloc, out, n)?;
     out.push_all(b" ")?;
     print_event(alloc, units, rec.event, out)?;
     out.push_all(b" ")?;

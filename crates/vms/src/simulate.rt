@@ -1,7 +1,7 @@
 //! Simulates a system: from what a script says to the transcript of its run.
 
 ghost use Rattle.std.specs.Prelude.{IfOk, IsTrue};
-ghost use Rattle.vx_image.specs.Built.{is_built};
+ghost use Rattle.vx_exec.specs.Built.{is_built};
 ghost use Rattle.vms.specs.Top.{IsSimulated};
 
 use crate::print::{print_records, print_trailer};

@@ -1,6 +1,7 @@
 use super::*;
 use crate::effect::print_effects;
 use crate::example::{flag_example, refused_example};
+use crate::faults::{CALLS, ENDS, LINES, ROWS, STATEMENTS};
 use crate::print::print_records;
 use std::test::*;
 use vx_base::{
@@ -88,6 +89,28 @@ PROCESS 1 Q GONE 0
 $END DONE 2
 ";
 
+// Of no lines at all.
+const NOTHING: &[u8] = b"$JOURNAL 1
+$END DONE 0
+";
+
+// An image that no process runs, and a last line without a line feed.
+const IDLE_SCRIPT: &[u8] = b"! idle
+image a
+  $setef %x1f\r
+$exit
+end";
+
+const IDLE_TRANSCRIPT: &[u8] = b"IMAGE A
+  $SETEF 31
+  $EXIT 1
+END
+$JOURNAL 1
+$END DONE 0
+";
+
+const LATER: &[u8] = b"vms: line 1 LATER\n";
+
 /// How a call is tried: its word, the most bytes of a read and of a write, and the numbers of those that fail.
 #[derive(Clone, Copy)]
 struct Trial {
@@ -127,6 +150,9 @@ fn transcripts(rt: HostRuntime) -> Result<(), Fail> {
         (FLAG_SCRIPT, FLAG_TRANSCRIPT),
         (REFUSED_SCRIPT, REFUSED_TRANSCRIPT),
         (EMPTY_SCRIPT, EMPTY_TRANSCRIPT),
+        (IDLE_SCRIPT, IDLE_TRANSCRIPT),
+        (b"".as_slice(), NOTHING),
+        (b"! of comments alone\n\n".as_slice(), NOTHING),
     ] {
         for piece in [1_000, 1] {
             let trial = Trial { piece, ..PLAIN };
@@ -150,13 +176,73 @@ fn other_words(rt: HostRuntime) -> Result<(), Fail> {
     Ok(())
 }
 
+/// Whether `sim` tells this line of a text and nothing more; where the line is empty, whether it tells no fault.
+fn tells(rt: &HostRuntime, text: &[u8], line: &[u8]) -> Result<bool, Fail> {
+    let (status, held) = tried(rt, PLAIN, text.to_vec(rt.alloc())?)?;
+    let told = held.as_slice();
+    if line.is_empty() {
+        return Ok(told == LATER || status == Status::Done && !told.starts_with(b"vms: "));
+    }
+    let mut expected = line.to_vec(rt.alloc())?;
+    expected.push(b'\n')?;
+    Ok(status == Status::Form && told == expected.as_slice())
+}
+
+// The first row of a table whose text is not told so, if there is one.
+fn first_wrong(rt: &HostRuntime, table: &[(&[u8], &[u8])]) -> Result<Option<usize>, Fail> {
+    for (row, (text, line)) in table.iter().enumerate() {
+        if !tells(rt, text, line)? {
+            return Ok(Some(row));
+        }
+    }
+    Ok(None)
+}
+
 #[test]
-fn a_carriage_return(rt: HostRuntime) -> Result<(), Fail> {
-    let mut script = b"IMAGE MAIN\r".to_vec(rt.alloc())?;
-    script.extend_from_slice(&FLAG_SCRIPT[10..])?;
-    let (status, held) = tried(&rt, PLAIN, script)?;
-    assert_eq!(rt; status, Status::Form);
-    assert!(rt; held.as_slice() == b"vms: line 1 LATER\n".as_slice());
+fn faults_of_statements(rt: HostRuntime) -> Result<(), Fail> {
+    assert_eq!(rt; first_wrong(&rt, &STATEMENTS)?, None);
+    Ok(())
+}
+
+#[test]
+fn faults_of_calls(rt: HostRuntime) -> Result<(), Fail> {
+    assert_eq!(rt; first_wrong(&rt, &CALLS)?, None);
+    Ok(())
+}
+
+#[test]
+fn faults_of_lines(rt: HostRuntime) -> Result<(), Fail> {
+    assert_eq!(rt; first_wrong(&rt, &LINES)?, None);
+    Ok(())
+}
+
+#[test]
+fn faults_of_all_kinds(rt: HostRuntime) -> Result<(), Fail> {
+    assert_eq!(rt; first_wrong(&rt, &ROWS)?, None);
+    Ok(())
+}
+
+#[test]
+fn ends_and_several_faults(rt: HostRuntime) -> Result<(), Fail> {
+    assert_eq!(rt; first_wrong(&rt, &ENDS)?, None);
+    Ok(())
+}
+
+// Scripts of systems that are not built: a unit, two images, a label, an operand that is no number, a key.
+#[test]
+fn scripts_not_built(rt: HostRuntime) -> Result<(), Fail> {
+    let table: [&[u8]; 5] = [
+        b"UNIT D LINE\n",
+        b"IMAGE A\nEND\nIMAGE B\nEND\n",
+        b"IMAGE A\nL:\nEND\n",
+        b"IMAGE A\n$SETEF A\nEND\n",
+        b"IMAGE A\nEND\nPROCESS P A UIC=1:2\n",
+    ];
+    for text in table {
+        let (status, held) = tried(&rt, PLAIN, text.to_vec(rt.alloc())?)?;
+        assert_eq!(rt; status, Status::Form);
+        assert!(rt; held.as_slice() == LATER);
+    }
     Ok(())
 }
 

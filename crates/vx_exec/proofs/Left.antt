@@ -2,7 +2,7 @@
 use Rattle.std.proofs.Common.{◌≡◌, ℕ, zero, suc, ◌+◌, ◌-◌, ◌<◌, ◌≤◌, List, [], ◌∷◌, length, slice_index_or, slice_set, Contains, Bool, true, false, Option, Some, None, IsTrue, nat_lt, ◌==◌, refl, arith}
 use Rattle.std.proofs.lemmas.Bool.{and_parts}
 use Rattle.std.proofs.lemmas.Option.{slice_get_within}
-use Rattle.vx_image.specs.Built.{is_built, are_built_decls}
+use Rattle.vx_exec.specs.Built.{is_built}
 use Rattle.vx_base.specs.Cond.{number_of}
 use Rattle.vx_exec.specs.State.{Process, State}
 use Rattle.vx_base.specs.declared.call.Args.{Args}
@@ -29,7 +29,7 @@ use Rattle.vx_image.specs.declared.stop.Stop.TheVariants as stop
 use Rattle.vx_image.specs.declared.system.System.{System}
 use Rattle.vx_exec.specs.Model.{Outcome, IsProcess, process_at, image_of, nobody, with_flag, stored, exited, spot, put_flag_at, put_flag, read_flags_at, read_flags, current, leaving, value, target, serve, service, stmt_at, next_stmt, next_stop, moved_on, past_stmt, run_at, step, event_of, enabled, born, born_from, first, IsRun}
 use Rattle.vx_exec.specs.Sound.{process_of}
-use Rattle.vx_exec.proofs.Built.{called, decls_built, image_small, passed}
+use Rattle.vx_exec.proofs.Systems.{called, few_decls, image_small, passed}
 use Rattle.vx_exec.proofs.Enabled.{contains_one, contains_none, enabled_made, enabled_due}
 use Rattle.vx_exec.proofs.Keeps.{either}
 
@@ -180,11 +180,12 @@ pub run_few : (s : State) (rs : List Rec) → IsRun s rs → length rs ≤ left 
 run_few s [] run = omega arith
 run_few s (r ∷ rs) run = omega (arith, step_left s r.event run.0.enabled, run_few (step s r.event).after rs run.1)
 
-first_left_in : (system : System) (decls : List ProcDecl) → IsTrue (is_built system) → are_built_decls decls ≡ true → left_in system (born_from 0 decls) ≤ 1002
-first_left_in system [] built one = omega arith
-first_left_in system (d ∷ []) built one = rw (and_parts (d.image == 0) d.start one).1 (omega (arith, image_small system (born 0 d) built))
-first_left_in system (d ∷ e ∷ decls) built one = cc
+first_left_in : (system : System) (decls : List ProcDecl) → IsTrue (is_built system) → length decls ≤ 1 → left_in system (born_from 0 decls) ≤ 1002
+first_left_in system [] built few = omega arith
+first_left_in system (d ∷ []) built few =
+    either (λ (prs : List Process). left_in system prs ≤ 1002) d.start (born 0 d ∷ []) [] (omega (arith, image_small system (born 0 d) built)) (omega arith)
+first_left_in system (d ∷ e ∷ decls) built few = absurd (omega arith)
 
 -- the opening state has at most the image's 1,000 statements, its end and the rundown left
 pub first_left : (system : System) → IsTrue (is_built system) → left (first system) ≤ 1002
-first_left system built = first_left_in system system.decls built (decls_built system built)
+first_left system built = first_left_in system system.decls built (few_decls system built)

@@ -2,7 +2,7 @@
 use Rattle.std.proofs.Common.{◌≡◌, ℕ, ◌+◌, ◌≤◌, List, [], ◌∷◌, ◌==◌, length, Contains, true, IsTrue, refl, sym, ap, ◌∙◌, subst, arith, length-append}
 use Rattle.std.specs.List.{list_all}
 use Rattle.std.proofs.lemmas.Bool.{and_parts}
-use Rattle.vx_image.specs.Built.{is_built, are_built_decls}
+use Rattle.vx_exec.specs.Built.{is_built}
 use Rattle.vx_exec.specs.State.{Process, State}
 use Rattle.vx_base.specs.declared.effects.Effect.{Effect}
 use Rattle.vx_base.specs.declared.frame.Frame.{Frame}
@@ -15,10 +15,11 @@ use Rattle.vx_image.specs.declared.decl.ProcDecl.{ProcDecl}
 use Rattle.vx_image.specs.declared.system.System.{System}
 use Rattle.vx_exec.specs.Model.{event_of, events_from, enabled, is_last, is_deleted, are_deleted, born_from, first, step, IsStep, IsWhole, after, HasOneRun}
 use Rattle.vx_exec.specs.Sound.{Keeps}
-use Rattle.vx_exec.proofs.Built.{decls_built}
 use Rattle.vx_exec.proofs.Enabled.{contains_one, contains_none}
 use Rattle.vx_exec.proofs.Keeps.{keeps_all, keeps_more, same_length, step_keeps}
 use Rattle.vx_exec.proofs.Left.{first_left, run_few}
+use Rattle.vx_exec.proofs.Opening.{few_born}
+use Rattle.vx_exec.proofs.Systems.{few_decls}
 
 -- A process has one event at most.
 
@@ -93,15 +94,9 @@ alone s (r ∷ rs) (q ∷ qs) one whole other =
     cc
 
 -- The opening state of such a system has one process at most.
-
-one_process : (decls : List ProcDecl) → are_built_decls decls ≡ true → length (born_from 0 decls) ≤ 1
-one_process [] built = omega arith
-one_process (d ∷ []) built = rw (and_parts (d.image == 0) d.start built).1 (omega arith)
-one_process (d ∷ e ∷ decls) built = cc
-
 pub one_run : (system : System) → IsTrue (is_built system) → HasOneRun (first system)
 one_run system built =
-    let one = one_process system.decls (decls_built system built) in
+    let one : length (first system).procs ≤ 1 = omega (arith, few_born 0 system.decls, few_decls system built) in
     record {
       single = λ rs run. single (first system) rs one;
       few = λ rs run. omega (arith, run_few (first system) rs run, first_left system built);

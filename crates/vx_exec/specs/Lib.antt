@@ -1,3 +1,4 @@
+pub mod Built
 pub mod Model
 pub mod Procs
 pub mod Sound

@@ -1,7 +1,7 @@
 -- What the executive keeps of its state.
 use Rattle.std.specs.Prelude.{◌≡◌, ℕ, ◌+◌, ◌^◌, ◌<◌, ◌≤◌, List, [], ◌∷◌, length, map, IsTrue, ⊤}
 use Rattle.std.specs.List.{AllByRecursion}
-use Rattle.vx_image.specs.Built.{is_built}
+use Rattle.vx_exec.specs.Built.{is_built}
 use Rattle.vx_exec.specs.State.{State}
 use Rattle.vx_base.specs.declared.frame.Frame.{Frame}
 use Rattle.vx_base.specs.declared.number.Pid.{Pid}

@@ -1,7 +1,7 @@
 //! The executive.
 
 ghost use Rattle.std.specs.Prelude.{◌≡◌, ◌<◌, ◌≤◌, ◌+◌, ◌-◌, Contains, IfOk, IsTrue, None, OnErr, OnOk, length, slice_get};
-ghost use Rattle.vx_image.specs.Built.{is_built};
+ghost use Rattle.vx_exec.specs.Built.{is_built};
 ghost use Rattle.vx_exec.specs.Model.{HasOneRun, IsProcess, IsStep, decl_of, enabled, end_of, first, process_at, step};
 ghost use Rattle.vx_exec.specs.Standing.{code_of, standing_of};
 ghost use Rattle.vx_exec.specs.View.{plan};
@@ -40,7 +40,7 @@ impl Model for Exec {
 
 impl Exec {
     /// The executive of a system before its first event, whose runs may have so many records.
-    #[tactic(auto, using(crate::proofs::OneRun::one_run))]
+    #[tactic(auto, using(crate::proofs::OneRun::one_run, crate::proofs::Systems::few_decls, crate::proofs::Opening::opening_sound))]
     pub fn new(alloc: Global, system: System, limit: u32) -> Result<Exec, NoMemory>
         requires built { IsTrue (is_built system) }
         requires above { 0 < limit }

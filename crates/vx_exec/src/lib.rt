@@ -4,6 +4,7 @@
 //! made (`specs/View.antt`). What is enabled, what a step does and when a run ends is the machine of `specs/Model.antt`:
 //! `count` and `enabled` are the list of its enabled events, `step` takes any one of them and leaves the state after
 //! it, `ended` is its end. A step whose memory is short changes nothing, and no other call takes memory but `new`.
+//! `built` tells which systems it runs so far (`specs/Built.antt`).
 #![tactic(auto)]
 
 mod events;
@@ -12,6 +13,7 @@ mod flags;
 mod machine;
 mod process;
 mod procs;
+mod reach;
 mod services;
 mod setters;
 mod spot;
@@ -19,6 +21,7 @@ mod standing;
 mod store;
 
 pub use exec::Exec;
+pub use reach::built;
 pub use standing::Standing;
 pub use vx_base::End;
 

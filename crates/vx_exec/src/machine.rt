@@ -1,7 +1,7 @@
 //! What each event does.
 
 ghost use Rattle.std.specs.Prelude.{◌≡◌, IsTrue, MatchOption, None, Some};
-ghost use Rattle.vx_image.specs.Built.{is_built};
+ghost use Rattle.vx_exec.specs.Built.{is_built};
 ghost use Rattle.vx_base.specs.Log.{HasRoom};
 ghost use Rattle.vx_exec.specs.Model.{IsProcess, next_stmt, next_stop, run_at, service, step, target, value};
 ghost use Rattle.vx_exec.specs.Procs.{state};

@@ -1,6 +1,4 @@
-ghost use Rattle.std.specs.Prelude.{◌≡◌, ◌<◌, ◌≤◌, IfOk, IsTrue, length};
-ghost use Rattle.std.specs.List.{list_all};
-ghost use Rattle.vx_image.specs.Built.{is_built, is_built_stmt};
+ghost use Rattle.std.specs.Prelude.{◌<◌, ◌≤◌};
 
 use super::*;
 use std::alloc::{AllocError, Global};
@@ -9,14 +7,14 @@ use std::test::*;
 use vx_base::{
     Answer, Arg, Args, Call, Mode, Name, Need, Operand, Pid, Privs, Rec, Service, Target,
 };
-use vx_image::{Image, Images, Labels, ProcDecl, ProcDecls, Stmt, Stmts, System, UnitDecls};
+use vx_image::{
+    Image, Images, Label, Labels, Lines, Numbers, ProcDecl, ProcDecls, Stmt, Stmts, System,
+    UnitDecl, UnitDecls,
+};
 
 const P: Pid = Pid(1);
 
-fn args(a0: Arg, a1: Arg) -> Args
-    ensures first { result.a0 ≡ a0 }
-    ensures second { result.a1 ≡ a1 }
-{
+fn args(a0: Arg, a1: Arg) -> Args {
     Args {
         a0,
         a1,
@@ -30,48 +28,67 @@ fn args(a0: Arg, a1: Arg) -> Args
     }
 }
 
-fn setef(n: u32) -> Stmt
-    ensures { IsTrue (is_built_stmt result) }
-{
+fn setef(n: u32) -> Stmt {
     Stmt::Service(Call {
         service: Service::SetEf,
         args: args(Arg::Value(Operand::Num(n)), Arg::Unused),
     })
 }
 
-fn clref(n: u32) -> Stmt
-    ensures { IsTrue (is_built_stmt result) }
-{
+fn clref(n: u32) -> Stmt {
     Stmt::Service(Call {
         service: Service::ClrEf,
         args: args(Arg::Value(Operand::Num(n)), Arg::Unused),
     })
 }
 
-fn readef_to_a(n: u32) -> Stmt
-    ensures { IsTrue (is_built_stmt result) }
-{
+fn readef_to_a(n: u32) -> Stmt {
     Stmt::Service(Call {
         service: Service::ReadEf,
         args: args(Arg::Value(Operand::Num(n)), Arg::Target(Target::Var(b'A'))),
     })
 }
 
-fn exit(code: u32) -> Stmt
-    ensures { IsTrue (is_built_stmt result) }
-{
+fn exit(code: u32) -> Stmt {
     Stmt::Service(Call {
         service: Service::Exit,
         args: args(Arg::Value(Operand::Num(code)), Arg::Unused),
     })
 }
 
-// The system of one process P, whose image has these statements.
-fn system_of(alloc: Global, stmts: Vec<Stmt>) -> Result<System, Fail>
-    requires small { length stmts.items ≤ 1000 }
-    requires built { IsTrue (list_all is_built_stmt stmts.items) }
-    ensures { IfOk result (λ system. IsTrue (is_built system)) }
-{
+const NO_PRIVS: Privs = Privs {
+    cmexec: false,
+    cmkrnl: false,
+    group: false,
+    prmceb: false,
+    prmmbx: false,
+    world: false,
+};
+
+const USUAL: Need = Need {
+    ast: 24,
+    bio: 18,
+    dio: 18,
+    byt: 8192,
+    tqe: 10,
+};
+
+// The declaration of a process with each key as it is where its line names none.
+fn usual(name: Name) -> ProcDecl {
+    ProcDecl {
+        name,
+        image: 0,
+        group: 1,
+        member: 1,
+        mode: Mode::User,
+        limits: USUAL,
+        privs: NO_PRIVS,
+        start: true,
+    }
+}
+
+// The system of one process of an image with these statements.
+fn declared(alloc: Global, decl: ProcDecl, stmts: Vec<Stmt>) -> Result<System, Fail> {
     let mut images = Images::new(alloc);
     images.push(Image {
         name: Name::new(b"MAIN").ok_or("a name")?,
@@ -79,29 +96,7 @@ fn system_of(alloc: Global, stmts: Vec<Stmt>) -> Result<System, Fail>
         stmts: Stmts::from_vec(stmts),
     })?;
     let mut decls = ProcDecls::new(alloc);
-    decls.push(ProcDecl {
-        name: Name::new(b"P").ok_or("a name")?,
-        image: 0,
-        group: 1,
-        member: 1,
-        mode: Mode::User,
-        limits: Need {
-            ast: 0,
-            bio: 0,
-            dio: 0,
-            byt: 0,
-            tqe: 0,
-        },
-        privs: Privs {
-            cmexec: false,
-            cmkrnl: false,
-            group: false,
-            prmceb: false,
-            prmmbx: false,
-            world: false,
-        },
-        start: true,
-    })?;
+    decls.push(decl)?;
     Ok(System {
         units: UnitDecls::new(alloc),
         images,
@@ -109,14 +104,22 @@ fn system_of(alloc: Global, stmts: Vec<Stmt>) -> Result<System, Fail>
     })
 }
 
+// The system of one process P, whose image has these statements.
+fn system_of(alloc: Global, stmts: Vec<Stmt>) -> Result<System, Fail> {
+    let name = Name::new(b"P").ok_or("a name")?;
+    declared(alloc, usual(name), stmts)
+}
+
 // The executive of one process P, whose image has these statements.
 fn exec_of(alloc: Global, stmts: Vec<Stmt>, limit: u32) -> Result<Exec, Fail>
-    requires small { length stmts.items ≤ 1000 }
-    requires built { IsTrue (list_all is_built_stmt stmts.items) }
     requires above { 0 < limit }
     requires within { limit ≤ 100000 }
 {
-    Ok(Exec::new(alloc, system_of(alloc, stmts)?, limit)?)
+    let system = system_of(alloc, stmts)?;
+    if !built(&system) {
+        return Err("not built")?;
+    }
+    Ok(Exec::new(alloc, system, limit)?)
 }
 
 // The record of the first enabled event, unless the run has ended.
@@ -233,5 +236,256 @@ fn stops_at_its_limit(rt: HostRuntime) -> Result<(), Fail> {
     runs(&rt, rt.alloc(), &mut exec, &["Run(Pid(1)) None []"])?;
     assert_eq!(rt; exec.ended(), Some(End::Limit));
     assert_eq!(rt; standing(&rt, &exec), (Standing::Rundown, 0));
+    Ok(())
+}
+
+// How many units, images, labels and statements of each image, and processes a system has.
+#[derive(Clone, Copy)]
+struct Counts {
+    units: u32,
+    images: u32,
+    labels: u32,
+    stmts: u32,
+    decls: u32,
+}
+
+// An image of so many labels and of calls of $SETEF.
+fn counted_image(alloc: Global, name: Name, counts: Counts) -> Result<Image, Fail> {
+    let mut labels = Labels::new(alloc);
+    for _ in 0..counts.labels {
+        labels.push(Label { name, place: 0 })?;
+    }
+    let mut stmts = Stmts::new(alloc);
+    for _ in 0..counts.stmts {
+        stmts.push(setef(5))?;
+    }
+    Ok(Image {
+        name,
+        labels,
+        stmts,
+    })
+}
+
+fn counted_units(alloc: Global, name: Name, count: u32) -> Result<UnitDecls, Fail> {
+    let mut units = UnitDecls::new(alloc);
+    for _ in 0..count {
+        units.push(UnitDecl {
+            name,
+            blocks: 0,
+            inputs: Lines::new(alloc),
+            faults: Numbers::new(alloc),
+        })?;
+    }
+    Ok(units)
+}
+
+// A system of these counts, with every name the same.
+fn counted(alloc: Global, counts: Counts) -> Result<System, Fail> {
+    let name = Name::new(b"N").ok_or("a name")?;
+    let mut images = Images::new(alloc);
+    for _ in 0..counts.images {
+        images.push(counted_image(alloc, name, counts)?)?;
+    }
+    let mut decls = ProcDecls::new(alloc);
+    for _ in 0..counts.decls {
+        decls.push(usual(name))?;
+    }
+    Ok(System {
+        units: counted_units(alloc, name, counts.units)?,
+        images,
+        decls,
+    })
+}
+
+const MOST: Counts = Counts {
+    units: 0,
+    images: 1,
+    labels: 0,
+    stmts: 1000,
+    decls: 1,
+};
+
+#[test]
+fn built_by_its_counts(rt: HostRuntime) -> Result<(), Fail> {
+    let table = [
+        (MOST, true),
+        (Counts { units: 1, ..MOST }, false),
+        (
+            Counts {
+                images: 0,
+                decls: 0,
+                ..MOST
+            },
+            true,
+        ),
+        (Counts { images: 2, ..MOST }, false),
+        (Counts { labels: 1, ..MOST }, false),
+        (Counts { stmts: 0, ..MOST }, true),
+        (
+            Counts {
+                stmts: 1001,
+                ..MOST
+            },
+            false,
+        ),
+        (Counts { decls: 0, ..MOST }, true),
+        (Counts { decls: 2, ..MOST }, false),
+    ];
+    for (row, (counts, is_built)) in table.iter().enumerate() {
+        let system = counted(rt.alloc(), *counts)?;
+        assert_eq!(rt; built(&system), *is_built, "at row {row}");
+    }
+    Ok(())
+}
+
+#[test]
+fn built_by_its_keys(rt: HostRuntime) -> Result<(), Fail> {
+    let plain = usual(Name::new(b"P").ok_or("a name")?);
+    let table = [
+        (plain, true),
+        (ProcDecl { group: 2, ..plain }, false),
+        (ProcDecl { member: 0, ..plain }, false),
+        (
+            ProcDecl {
+                mode: Mode::Super,
+                ..plain
+            },
+            false,
+        ),
+        (
+            ProcDecl {
+                start: false,
+                ..plain
+            },
+            false,
+        ),
+    ];
+    for (row, (decl, is_built)) in table.iter().enumerate() {
+        let system = declared(rt.alloc(), *decl, Vec::new(rt.alloc()))?;
+        assert_eq!(rt; built(&system), *is_built, "at row {row}");
+    }
+    Ok(())
+}
+
+#[test]
+fn built_by_its_limits(rt: HostRuntime) -> Result<(), Fail> {
+    let plain = usual(Name::new(b"P").ok_or("a name")?);
+    let table = [
+        Need { ast: 25, ..USUAL },
+        Need { bio: 17, ..USUAL },
+        Need { dio: 19, ..USUAL },
+        Need { byt: 8191, ..USUAL },
+        Need { tqe: 11, ..USUAL },
+    ];
+    for (row, limits) in table.iter().enumerate() {
+        let decl = ProcDecl {
+            limits: *limits,
+            ..plain
+        };
+        let system = declared(rt.alloc(), decl, Vec::new(rt.alloc()))?;
+        assert!(rt; !built(&system), "at row {row}");
+    }
+    Ok(())
+}
+
+#[test]
+fn built_by_its_privileges(rt: HostRuntime) -> Result<(), Fail> {
+    let plain = usual(Name::new(b"P").ok_or("a name")?);
+    let table = [
+        Privs {
+            cmexec: true,
+            ..NO_PRIVS
+        },
+        Privs {
+            cmkrnl: true,
+            ..NO_PRIVS
+        },
+        Privs {
+            group: true,
+            ..NO_PRIVS
+        },
+        Privs {
+            prmceb: true,
+            ..NO_PRIVS
+        },
+        Privs {
+            prmmbx: true,
+            ..NO_PRIVS
+        },
+        Privs {
+            world: true,
+            ..NO_PRIVS
+        },
+    ];
+    for (row, privs) in table.iter().enumerate() {
+        let decl = ProcDecl {
+            privs: *privs,
+            ..plain
+        };
+        let system = declared(rt.alloc(), decl, Vec::new(rt.alloc()))?;
+        assert!(rt; !built(&system), "at row {row}");
+    }
+    Ok(())
+}
+
+const NUMBER: Arg = Arg::Value(Operand::Num(5));
+
+const LETTER: Arg = Arg::Value(Operand::Var(b'A'));
+
+const INTO_A: Arg = Arg::Target(Target::Var(b'A'));
+
+const INTO_R0: Arg = Arg::Target(Target::R0);
+
+#[test]
+fn built_by_its_calls(rt: HostRuntime) -> Result<(), Fail> {
+    let table = [
+        (Service::SetEf, NUMBER, Arg::Unused, true),
+        (Service::SetEf, LETTER, Arg::Unused, false),
+        (Service::ClrEf, NUMBER, Arg::Unused, true),
+        (Service::ClrEf, Arg::Value(Operand::R0), Arg::Unused, false),
+        (Service::ReadEf, NUMBER, INTO_A, true),
+        (Service::ReadEf, NUMBER, INTO_R0, true),
+        (Service::ReadEf, LETTER, INTO_A, false),
+        (Service::Exit, NUMBER, Arg::Unused, true),
+        (Service::Exit, LETTER, Arg::Unused, false),
+        (Service::WaitFr, NUMBER, Arg::Unused, false),
+    ];
+    let plain = usual(Name::new(b"P").ok_or("a name")?);
+    for (row, (service, first, second, is_built)) in table.iter().enumerate() {
+        let call = Call {
+            service: *service,
+            args: args(*first, *second),
+        };
+        let mut stmts = Vec::new(rt.alloc());
+        stmts.push(Stmt::Service(call))?;
+        let system = declared(rt.alloc(), plain, stmts)?;
+        assert_eq!(rt; built(&system), *is_built, "at row {row}");
+    }
+    Ok(())
+}
+
+// A call, and a local statement behind it.
+#[test]
+fn not_built_by_a_local_statement(rt: HostRuntime) -> Result<(), Fail> {
+    let stmts = Vec::from_array(rt.alloc(), [setef(5), Stmt::Return])?;
+    let system = system_of(rt.alloc(), stmts)?;
+    assert!(rt; !built(&system));
+    Ok(())
+}
+
+// Nothing is enabled, and every process, of which there is none, is deleted.
+#[test]
+fn nothing_to_run(rt: HostRuntime) -> Result<(), Fail> {
+    let nothing = Counts {
+        images: 0,
+        decls: 0,
+        ..MOST
+    };
+    let system = counted(rt.alloc(), nothing)?;
+    if !built(&system) {
+        return Err("not built")?;
+    }
+    let exec = Exec::new(rt.alloc(), system, 1)?;
+    assert_eq!(rt; (exec.made(), exec.ended()), (0, Some(End::Done)));
     Ok(())
 }

@@ -1,4 +1,3 @@
-pub mod Built
 pub mod Example
 pub mod Local
 pub mod Storage

@@ -10,7 +10,8 @@ use std::alloc::Global;
 use vx_base::{Arg, Args, Bytes, Call, Func, Mode, Name, NoMemory, Operand, Target};
 use vx_text::print_num;
 
-fn mode_name(mode: Mode) -> &'static [u8]
+/// The name of an access mode.
+pub fn mode_name(mode: Mode) -> &'static [u8]
     ensures { result.now ≡ spec.mode_name mode }
 {
     match mode {
@@ -43,7 +44,8 @@ fn print_cond(cond: vx_base::Cond, out: &mut Bytes) -> Result<(), NoMemory>
     out.push_all(cond.name().as_bytes())
 }
 
-fn print_operand(alloc: Global, operand: Operand, out: &mut Bytes) -> Result<(), NoMemory>
+/// Appends a value, canonically.
+pub fn print_operand(alloc: Global, operand: Operand, out: &mut Bytes) -> Result<(), NoMemory>
     ensures text { OnOk result (out.new ≡ out.old ++ spec.operand_text operand) }
     ensures held { IsHeldOperand operand }
 {
@@ -57,7 +59,8 @@ fn print_operand(alloc: Global, operand: Operand, out: &mut Bytes) -> Result<(),
     }
 }
 
-fn print_target(target: Target, out: &mut Bytes) -> Result<(), NoMemory>
+/// Appends a target, canonically.
+pub fn print_target(target: Target, out: &mut Bytes) -> Result<(), NoMemory>
     ensures { OnOk result (out.new ≡ out.old ++ spec.target_text target) }
 {
     match target {
@@ -121,7 +124,7 @@ fn args_list(args: &Args) -> [Arg; 9]
     ]
 }
 
-// The text of a call.
+/// The canonical text of a call, whether or not its service takes the arguments that it has.
 pub fn call_text(alloc: Global, call: &Call) -> Result<Bytes, NoMemory>
     ensures text { IfOk result (λ text. text ≡ spec.call_text call.now) }
     ensures held { OnOk result (AreHeld (args_list call.now.args)) }

@@ -1,5 +1,5 @@
 use Rattle.std.proofs.Common.{◌≡◌, ◌++◌, map, take}
-use Rattle.vx_script.specs.Form.{ended_lines}
+use Rattle.vx_script.specs.Script.{ended_lines}
 use Rattle.vms.specs.Transcript.{effect_line}
 use Rattle.vms.proofs.effect.print_effects.Given as goal
 

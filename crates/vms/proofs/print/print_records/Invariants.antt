@@ -1,5 +1,5 @@
 use Rattle.std.proofs.Common.{◌≡◌, ◌+◌, ◌++◌, drop}
-use Rattle.vx_script.specs.Form.{ended_lines}
+use Rattle.vx_script.specs.Script.{ended_lines}
 use Rattle.vms.specs.Transcript.{records_lines}
 use Rattle.vms.proofs.print.print_records.Given as goal
 

@@ -1,6 +1,6 @@
 use Rattle.std.proofs.Common.{sym}
 use Rattle.vx_exec.specs.Procs.{state}
-use Rattle.vx_exec.proofs.Built.{place_behind_call, place_behind_local}
+use Rattle.vx_exec.proofs.Systems.{place_behind_call, place_behind_local}
 use Rattle.vx_exec.proofs.Keeps.{served_made}
 use Rattle.vx_exec.proofs.machine.run.Goals as goal
 

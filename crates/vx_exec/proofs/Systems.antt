@@ -3,7 +3,7 @@ use Rattle.std.proofs.Common.{◌≡◌, ℕ, zero, suc, ◌≤◌, List, [], �
 use Rattle.std.specs.List.{list_all}
 use Rattle.std.proofs.lemmas.Bool.{and_parts, leb-true}
 use Rattle.std.proofs.lemmas.Option.{slice_get_within}
-use Rattle.vx_image.specs.Built.{is_built, is_built_stmt, are_built_images, are_built_decls}
+use Rattle.vx_exec.specs.Built.{is_built, is_built_decl, is_built_image, is_small}
 use Rattle.vx_exec.specs.State.{Process, State}
 use Rattle.vx_base.specs.declared.call.Call.{Call}
 use Rattle.vx_base.specs.declared.frame.Frame.{Frame}
@@ -15,17 +15,24 @@ use Rattle.vx_image.specs.declared.system.System.{System}
 use Rattle.vx_exec.specs.Model.{image_of, next_stmt, next_stop, stop_of, no_image, process_at, stmt_at}
 use Rattle.vx_exec.specs.Sound.{HasNextPlace}
 
-pub images_built : (s : System) → IsTrue (is_built s) → are_built_images s.images ≡ true
-images_built s built = (and_parts (are_built_images s.images) (are_built_decls s.decls) built).0
+-- each of its images is one that runs so far
+pub images_built : (s : System) → IsTrue (is_built s) → list_all is_built_image s.images ≡ true
+images_built s built = (and_parts (list_all is_built_image s.images) (list_all is_built_decl s.decls) (and_parts (is_small s) _ built).1).0
 
-pub decls_built : (s : System) → IsTrue (is_built s) → are_built_decls s.decls ≡ true
-decls_built s built = (and_parts (are_built_images s.images) (are_built_decls s.decls) built).1
+-- it has one process declaration at most
+pub few_decls : (s : System) → IsTrue (is_built s) → length s.decls ≤ 1
+few_decls s built =
+    let small = (and_parts (is_small s) _ built).0 in
+    let few = (and_parts (nat_le (length s.units) 0) _ small).1 in
+    leb-true (length s.decls) 1 (and_parts (nat_le (length s.images) 1) _ few).1
 
-small_image : (images : List Image) (i : ℕ) → are_built_images images ≡ true → length (slice_index_or images i no_image).stmts ≤ 1000
-small_image [] i built = cc
-small_image (image ∷ []) zero built = leb-true (length image.stmts) 1000 (and_parts (nat_le (length image.stmts) 1000) (list_all is_built_stmt image.stmts) built).0
-small_image (image ∷ []) (suc i) built = omega arith
-small_image (image ∷ other ∷ images) i built = cc
+small_image : (images : List Image) (i : ℕ) → list_all is_built_image images ≡ true → length (slice_index_or images i no_image).stmts ≤ 1000
+small_image [] i built = omega arith
+small_image (image ∷ images) zero built =
+    let own = (and_parts (is_built_image image) (list_all is_built_image images) built).0 in
+    let few = (and_parts (nat_le (length image.labels) 0) _ own).1 in
+    leb-true (length image.stmts) 1000 (and_parts (nat_le (length image.stmts) 1000) _ few).0
+small_image (image ∷ images) (suc i) built = small_image images i (and_parts (is_built_image image) (list_all is_built_image images) built).1
 
 -- an image has at most 1,000 statements
 pub image_small : (s : System) (pr : Process) → IsTrue (is_built s) → length (image_of s pr).stmts ≤ 1000
