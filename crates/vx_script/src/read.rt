@@ -99,12 +99,7 @@ fn outer_line(
 
 // A line that stands in no image.
 #[tactic(auto, unfolding(crate::specs::Reading::outside))]
-fn outside(
-    alloc: Global,
-    line: u32,
-    parts: Parts,
-    tokens: &[Token],
-) -> Result<Reading, LineFail>
+fn outside(alloc: Global, line: u32, parts: Parts, tokens: &[Token]) -> Result<Reading, LineFail>
     ensures { ReadsLine result (spec.outside line parts (toks tokens.now)) }
 {
     let [first, rest @ ..] = tokens else {
