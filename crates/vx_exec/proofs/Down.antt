@@ -1,5 +1,5 @@
 -- What a step of rundown does to the state: it is steady, and drops at most the queued ASTs of a process in each mode.
-use Rattle.std.proofs.Common.{◌≡◌, ℕ, ◌+◌, ◌*◌, ◌≤◌, List, [], ◌∷◌, ◌++◌, Bool, length, length-append, refl, sym, ap, subst, ◌∙◌, arith}
+use Rattle.std.proofs.Common.{◌≡◌, ℕ, ◌+◌, ◌*◌, ◌≤◌, List, [], ◌∷◌, Bool, length, length-append, refl, sym, subst, arith}
 use Rattle.std.specs.List.{filter}
 use Rattle.std.proofs.Math.Nat.{mul-le-mul_left, mul-le-mul_right}
 use Rattle.vx_base.specs.Pieces.{Queued}
@@ -9,13 +9,13 @@ use Rattle.vx_base.specs.declared.mode.Mode.{Mode}
 use Rattle.vx_base.specs.declared.mode.Mode.TheVariants.{Kernel, Exec, Super, User}
 use Rattle.vx_base.specs.declared.number.Pid.{Pid}
 use Rattle.vx_base.specs.declared.record.Answer.{Answer}
-use Rattle.vx_record.specs.State.{Process, State, IsProcess, process_at, change}
+use Rattle.vx_record.specs.State.{State, IsProcess, process_at, change}
 use Rattle.vx_record.specs.Parts.{Outcome, each, followed_by}
 use Rattle.vx_record.specs.Rundown.{drop_ast, drop_asts, handling, in_phase, inner_modes, is_ast_reached, rundown, rundown_from, run_down}
 use Rattle.vx_record.proofs.Lists.{either}
 use Rattle.vx_rundown.proofs.Bare.{IsBare, drained, drop_asts_bare, gone_alone, mode_done, reached, reached_bare}
 use Rattle.vx_exec.specs.Ready.{most}
-use Rattle.vx_exec.proofs.Goes.{Goes, GoesBy, Steady, steady_still, steady_then, steady_changed, made_steady, goes_still, goes_steady, without_steady}
+use Rattle.vx_exec.proofs.Goes.{GoesBy, Steady, steady_still, steady_then, steady_changed, made_steady, goes_still, goes_steady, without_steady}
 use Rattle.vx_exec.proofs.Kept.{kept_phase}
 
 phase_steady : (p : Pid) (s : State) (ph : Phase) → IsProcess s p → Steady p s (change s p (in_phase ph))

@@ -1,5 +1,5 @@
 -- What is enabled where only processes have events.
-use Rattle.std.proofs.Common.{◌≡◌, ℕ, zero, suc, ◌+◌, ◌-◌, ◌<◌, ◌≤◌, List, [], ◌∷◌, ◌++◌, Bool, true, length, length-append, map, drop, IsTrue, Option, Some, None, Contains, option_to_list, slice_get, slice_index_or, refl, sym, ap, subst, ◌∙◌, arith}
+use Rattle.std.proofs.Common.{◌≡◌, ℕ, zero, suc, ◌+◌, ◌-◌, ◌<◌, ◌≤◌, List, [], ◌∷◌, ◌++◌, length, length-append, map, drop, IsTrue, Option, Some, None, Contains, option_to_list, slice_get, slice_index_or, refl, sym, ap, subst, ◌∙◌, arith}
 use Rattle.std.proofs.lemmas.List.{append-nil, drop_more}
 use Rattle.std.specs.List.{AllByRecursion}
 use Rattle.vx_base.specs.Pieces.{Queued}
@@ -7,13 +7,12 @@ use Rattle.vx_base.specs.declared.frame.Frame.{Frame}
 use Rattle.vx_base.specs.declared.frame.Wait.{Wait}
 use Rattle.vx_base.specs.declared.number.Pid.{Pid}
 use Rattle.vx_base.specs.declared.record.Event.{Event}
-use Rattle.vx_base.specs.declared.record.Event.TheVariants as event
 use Rattle.vx_frames.specs.Frames.{top_of}
 use Rattle.vx_image.specs.declared.unit.UnitDecl.{UnitDecl}
 use Rattle.vx_record.specs.State.{Process, State, IsProcess, process_at, nobody, pid}
 use Rattle.vx_record.specs.Asts.{deliverable_ast}
-use Rattle.vx_record.specs.Events.{ast_or_run, can_run, can_run_down, enabled, process_events, processes_from, run_events, tick_events, units_from}
-use Rattle.vx_record.specs.Runs.{first_unit, next_seed, picked, pick}
+use Rattle.vx_record.specs.Events.{ast_or_run, can_run, can_run_down, enabled, process_events, processes_from, run_events, units_from}
+use Rattle.vx_record.specs.Runs.{first_unit, next_seed, picked}
 use Rattle.vx_record.proofs.Lists.{either, all_append, all_at}
 use Rattle.vx_procs.specs.View.{state}
 use Rattle.vx_procs.specs.declared.procs.Core.{Core}

@@ -1,5 +1,5 @@
 -- What events of a process do to the state: how many ids they open, what stays kept, and how much they log.
-use Rattle.std.proofs.Common.{◌≡◌, ℕ, zero, suc, slice_index_or, slice_set, ◌+◌, ◌-◌, ◌*◌, ◌<◌, ◌≤◌, List, [], ◌∷◌, ◌++◌, Bool, true, false, not, ◌==◌, length, length-set, length-append, IsTrue, Option, Some, None, IfSome, Result, Ok, Err, refl, sym, ap, subst, ◌∙◌, arith, nat_lt}
+use Rattle.std.proofs.Common.{◌≡◌, ℕ, zero, suc, slice_index_or, slice_set, ◌+◌, ◌-◌, ◌≤◌, List, [], ◌∷◌, Bool, true, false, not, ◌==◌, length, length-set, length-append, IsTrue, Option, Some, None, Result, Ok, Err, refl, ap, ◌∙◌, arith, nat_lt}
 use Rattle.std.specs.List.{AllByRecursion}
 use Rattle.vx_base.specs.Lists.{less}
 use Rattle.vx_base.specs.Pieces.{Queued}
@@ -8,7 +8,7 @@ use Rattle.vx_base.specs.declared.call.Call.{Call}
 use Rattle.vx_base.specs.declared.call.Target.{Target}
 use Rattle.vx_base.specs.declared.call.Target.TheVariants as target
 use Rattle.vx_base.specs.declared.cond.Cond.{Cond}
-use Rattle.vx_base.specs.declared.cond.Cond.TheVariants.{Normal, ExQuota, NoPriv}
+use Rattle.vx_base.specs.declared.cond.Cond.TheVariants.{Normal, ExQuota}
 use Rattle.vx_base.specs.declared.effects.Cell.{Cell}
 use Rattle.vx_base.specs.declared.effects.Cell.TheVariants.{Local, Common}
 use Rattle.vx_base.specs.declared.effects.Effect.{Effect}
@@ -21,7 +21,6 @@ use Rattle.vx_base.specs.declared.mode.Mode.{Mode}
 use Rattle.vx_base.specs.declared.mode.Mode.TheVariants.{Kernel, Exec}
 use Rattle.vx_base.specs.declared.number.Id.{Id}
 use Rattle.vx_base.specs.declared.number.Pid.{Pid}
-use Rattle.vx_base.specs.declared.record.Answer.{Answer}
 use Rattle.vx_base.specs.declared.routine.Entry.{Entry}
 use Rattle.vx_base.specs.declared.routine.Entry.TheVariants as entry
 use Rattle.vx_base.specs.declared.service.Service.{Service}
@@ -30,20 +29,20 @@ use Rattle.vx_base.specs.Modes.{inner, outer}
 use Rattle.vx_image.specs.Local.{Advanced, advanced}
 use Rattle.vx_image.specs.declared.stop.Stop.{Stop}
 use Rattle.vx_image.specs.declared.stop.Stop.TheVariants as stop
-use Rattle.vx_record.specs.State.{Process, State, IsProcess, process_at, change, image_of, current, nobody, past_id, next_id, with_top}
-use Rattle.vx_record.specs.Parts.{Part, Outcome, nothing, tells, answered, refused, part_of}
-use Rattle.vx_record.specs.Asts.{charged_ast, dclast, declared_ast, setast, with_delivery, changed_mode, cmexec, cmkrnl, is_inside, with_frame, with_queued, new_frame, deliverable_ast}
+use Rattle.vx_record.specs.State.{Process, State, IsProcess, process_at, change, image_of, current, nobody, next_id, with_top}
+use Rattle.vx_record.specs.Parts.{Outcome, answered, refused, part_of}
+use Rattle.vx_record.specs.Asts.{charged_ast, declared_ast, with_delivery, with_frame, with_queued, new_frame}
 use Rattle.vx_record.specs.Charges.{exceeds, ast_need}
-use Rattle.vx_record.specs.Events.{below_top, called, delivered, moved_behind, moved_to, or_normal, put_back, r0_of, reader, resumed_with, returned, returned_from, run, run_advanced, run_frame, run_on, served_call, started}
-use Rattle.vx_record.specs.Flags.{at_flag, at_named, cell, clref, put_flag_at, readef, readef_at, refused_value, satisfied, setef, with_local_flag}
-use Rattle.vx_record.specs.Rundown.{exit, exited, leave_all, without_ast, without_frames}
-use Rattle.vx_record.specs.Services.{at_once, number, place, routine, access_mode, service, service_of, valued_at, with_value, with_variable}
+use Rattle.vx_record.specs.Events.{below_top, delivered, moved_behind, moved_to, or_normal, put_back, r0_of, reader, resumed_with, returned, returned_from, run, run_frame, run_on, served_call, started}
+use Rattle.vx_record.specs.Flags.{at_flag, at_named, cell, put_flag_at, readef, readef_at, refused_value, satisfied, with_local_flag}
+use Rattle.vx_record.specs.Rundown.{exited, without_ast, without_frames}
+use Rattle.vx_record.specs.Services.{number, place, routine, access_mode, service, service_of, valued_at, with_variable}
 use Rattle.vx_record.specs.declared.served.Served.{Served}
 use Rattle.vx_record.specs.declared.served.Served.TheVariants.{Answered, Waits}
 use Rattle.vx_record.proofs.Lists.{either, all_set, all_weaker}
 use Rattle.vx_procs.specs.Words.{left, left_kind}
 use Rattle.vx_procs.proofs.Stack.{left_after, left_effects}
-use Rattle.vx_rundown.proofs.Changed.{process_there, made_still}
+use Rattle.vx_rundown.proofs.Changed.{process_there}
 use Rattle.vx_exec.specs.Built.{is_built_service, is_built}
 use Rattle.vx_exec.specs.Ready.{most}
 use Rattle.vx_exec.specs.Sound.{IsKept}

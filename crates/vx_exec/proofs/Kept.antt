@@ -1,5 +1,5 @@
 -- What changes of a process keep of it.
-use Rattle.std.proofs.Common.{◌≡◌, ℕ, ◌+◌, ◌-◌, ◌<◌, List, [], ◌∷◌, ◌++◌, Bool, true, false, not, nat_lt, ◌==◌, length, IsTrue, None, IfSome, refl, sym, ap, ◌∙◌, arith}
+use Rattle.std.proofs.Common.{◌≡◌, ℕ, ◌+◌, ◌-◌, ◌<◌, List, [], ◌∷◌, ◌++◌, Bool, false, not, nat_lt, ◌==◌, IsTrue, None, IfSome, refl, arith}
 use Rattle.std.specs.List.{AllByRecursion, list_any}
 use Rattle.std.proofs.lemmas.Bool.{and_parts, and_from, not-true, eqb-true, or_parts}
 use Rattle.vx_base.specs.Flags.{with_flag}

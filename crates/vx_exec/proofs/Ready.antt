@@ -1,12 +1,10 @@
 -- What an event of a process relies on, at first and as the process changes; and what the executive keeps.
-use Rattle.std.proofs.Common.{◌≡◌, ℕ, ◌+◌, ◌-◌, ◌<◌, ◌≤◌, List, [], ◌∷◌, Bool, true, false, ◌&&◌, nat_lt, nat_le, length, IsTrue, Option, Some, None, Contains, slice_index_or, refl, sym, ap, subst, ◌∙◌, arith}
+use Rattle.std.proofs.Common.{◌≡◌, ℕ, ◌+◌, ◌-◌, ◌<◌, ◌≤◌, List, [], ◌∷◌, Bool, true, ◌&&◌, nat_lt, nat_le, length, IsTrue, None, Contains, slice_index_or, refl, sym, ap, subst, ◌∙◌, arith}
 use Rattle.std.proofs.lemmas.Bool.{and_parts, leb-true, ltb-true}
 use Rattle.std.proofs.lemmas.Bool.Decides.{nat_tests}
 use Rattle.std.specs.List.{AllByRecursion}
 use Rattle.vx_base.specs.Log.{Log, HasRoom}
-use Rattle.vx_base.specs.Pieces.{Queued}
 use Rattle.vx_base.specs.declared.number.Pid.{Pid}
-use Rattle.vx_base.specs.declared.record.End.{End}
 use Rattle.vx_base.specs.declared.record.Event.{Event}
 use Rattle.vx_base.specs.declared.record.Event.TheVariants as event
 use Rattle.vx_image.specs.WellFormed.{IsImage, IsWellFormed, are_limits, decl_names, is_decl, is_image}
@@ -15,10 +13,7 @@ use Rattle.vx_image.specs.declared.image.Image.{Image}
 use Rattle.vx_image.specs.declared.system.System.{System}
 use Rattle.vx_record.specs.Asts.{deliverable_ast}
 use Rattle.vx_record.specs.Events.{enabled, step}
-use Rattle.vx_record.specs.Parts.{Outcome}
-use Rattle.vx_record.specs.Rundown.{without_ast}
 use Rattle.vx_record.specs.Runs.{are_deleted, born_from, born_of, end_of, end_with, first}
-use Rattle.vx_record.specs.Sound.{IsSound}
 use Rattle.vx_record.specs.State.{Process, State, IsProcess, change, decl_of, image_of, process_at, no_decl, no_image}
 use Rattle.vx_record.proofs.Changes.{stands_at}
 use Rattle.vx_record.proofs.Lists.{all_at, all_get, either}
@@ -26,7 +21,6 @@ use Rattle.vx_record.proofs.SoundCalls.{all_from_list}
 use Rattle.vx_record.proofs.SoundSteps.{first_sound, step_sound}
 use Rattle.vx_record.proofs.SystemKept.{step_keeps_system}
 use Rattle.vx_procs.specs.View.{Room, capacities, no_room, room_at, state, HasAstRoom, HasFrameRoom}
-use Rattle.vx_procs.specs.Words.{without_started}
 use Rattle.vx_procs.specs.declared.procs.Core.{Core}
 use Rattle.vx_rundown.proofs.Bare.{bare}
 use Rattle.vx_rundown.proofs.Changed.{made_still, process_there}
@@ -35,8 +29,8 @@ use Rattle.vx_exec.specs.Ready.{IsReady, most, owner}
 use Rattle.vx_exec.specs.Sound.{IsGoing, IsKept}
 use Rattle.vx_exec.proofs.Down.{rundown_goes}
 use Rattle.vx_exec.proofs.Enabled.{enabled_owned, kept_at}
-use Rattle.vx_exec.proofs.Goes.{Goes, GoesBy, delivered_goes, run_goes}
-use Rattle.vx_exec.proofs.Kept.{Keeps, kept_without}
+use Rattle.vx_exec.proofs.Goes.{GoesBy, delivered_goes, run_goes}
+use Rattle.vx_exec.proofs.Kept.{Keeps}
 
 -- the image of the declaration at a place
 abbrev image_at : System → ℕ → Image

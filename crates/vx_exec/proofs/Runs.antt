@@ -1,16 +1,14 @@
 -- A run goes on by a step, as the seed chooses, and ends.
-use Rattle.std.proofs.Common.{◌≡◌, ℕ, zero, suc, ◌+◌, ◌-◌, ◌<◌, ◌≤◌, List, [], ◌∷◌, ◌++◌, Bool, true, false, nat_le, length, length-append, Option, Some, None, Contains, slice_get, slice_index_or, refl, sym, ap, subst, ◌∙◌, arith}
-use Rattle.std.proofs.lemmas.Bool.{leb-true}
+use Rattle.std.proofs.Common.{◌≡◌, ℕ, zero, suc, ◌+◌, ◌-◌, ◌<◌, ◌≤◌, List, [], ◌∷◌, ◌++◌, Bool, length, length-append, Some, None, Contains, slice_index_or, refl, sym, ap, subst, ◌∙◌, arith}
 use Rattle.std.proofs.lemmas.Bool.Decides.{nat_tests}
 use Rattle.std.proofs.lemmas.List.{append_assoc, append-nil}
 use Rattle.vx_base.specs.declared.record.End.{End}
-use Rattle.vx_base.specs.declared.record.End.TheVariants.{Limit}
 use Rattle.vx_base.specs.declared.record.Event.{Event}
 use Rattle.vx_base.specs.declared.record.Rec.{Rec}
 use Rattle.vx_image.specs.declared.system.System.{System}
 use Rattle.vx_record.specs.State.{State}
 use Rattle.vx_record.specs.Events.{enabled, step}
-use Rattle.vx_record.specs.Runs.{AreSteps, IsRun, IsStep, after, after_from, are_deleted, choose, chosen, chosen_from, end_after, end_of, end_with, first, next_seed, pick, picked, record_of}
+use Rattle.vx_record.specs.Runs.{AreSteps, IsStep, after, after_from, are_deleted, choose, chosen, chosen_from, end_of, end_with, first, next_seed, pick, picked, record_of}
 use Rattle.vx_exec.specs.Picks.{moved_seed, picked_event}
 use Rattle.vx_exec.specs.Taken.{EndsRun, IsChosenRun, TakesRun}
 use Rattle.vx_exec.specs.View.{Executive, Plan, plan}

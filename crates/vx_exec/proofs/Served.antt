@@ -1,10 +1,7 @@
 -- Services that log nothing, and services that are not built.
-use Rattle.std.proofs.Common.{◌≡◌, ◌≢◌, ◌<◌, [], length, IsTrue, refl, sym, ap, ◌∙◌}
-use Rattle.std.proofs.lemmas.Bool.Decides.{nat_tests}
+use Rattle.std.proofs.Common.{◌≢◌, ◌<◌, length, IsTrue, refl, sym, ap, ◌∙◌}
 use Rattle.std.proofs.lemmas.Bool.{ltb-true}
-use Rattle.std.proofs.lemmas.List.{append-nil}
 use Rattle.vx_base.specs.Log.{Log, logged}
-use Rattle.vx_base.specs.declared.effects.Effect.{Effect}
 use Rattle.vx_base.specs.declared.number.Pid.{Pid}
 use Rattle.vx_base.specs.declared.service.Service.{Service}
 use Rattle.vx_base.specs.declared.service.Service.TheVariants.{SetEf, ClrEf, ReadEf, DclAst, SetAst, CmExec, CmKrnl, Exit}

@@ -1,9 +1,9 @@
 -- What the parts of an event come to, in the machine's words.
-use Rattle.std.proofs.Common.{◌≡◌, ℕ, ◌+◌, ◌<◌, ◌≤◌, List, [], ◌∷◌, Bool, true, false, cond, ◌&&◌, nat_le, length, IsTrue, Option, Some, None, refl, sym, ap, subst, ◌∙◌, ◌⊎◌, inl, inr, arith}
+use Rattle.std.proofs.Common.{◌≡◌, ℕ, ◌≤◌, List, [], ◌∷◌, cond, ◌&&◌, nat_le, length, IsTrue, Option, Some, None, refl, sym, ap, subst, ◌∙◌, ◌⊎◌, inl, inr, arith}
 use Rattle.std.proofs.lemmas.Bool.{and_parts, eqb-true, leb-true}
 use Rattle.std.specs.List.{find, list_all}
 use Rattle.vx_base.specs.Cond.{number_of}
-use Rattle.vx_base.specs.Log.{Log, HasRoom, logged}
+use Rattle.vx_base.specs.Log.{Log, HasRoom}
 use Rattle.vx_base.specs.Modes.{rank, reaches}
 use Rattle.vx_base.specs.Pieces.{Enables, Queued, is_enabled_in}
 use Rattle.vx_base.specs.Queues.{deliverable, first_of_mode, is_free, is_of_mode, may_start, or_else}
@@ -43,7 +43,7 @@ use Rattle.vx_exec.specs.Built.{IsBuiltCall, is_built, is_built_service}
 use Rattle.vx_exec.specs.Ready.{IsReady, started_as}
 use Rattle.vx_exec.proofs.Calls.{IsBuiltStop, advanced_built}
 use Rattle.vx_exec.proofs.Goes.{call_goes, less_few, top_few}
-use Rattle.vx_exec.proofs.Kept.{Keeps, kept_behind, kept_moved, kept_without}
+use Rattle.vx_exec.proofs.Kept.{Keeps, kept_moved, kept_without}
 use Rattle.vx_exec.proofs.Ready.{ready_changed}
 
 -- Services.

@@ -1,9 +1,8 @@
 -- Rundown where nothing is open but ASTs: no channel, handler, request, timer or cluster stands in the way.
-use Rattle.std.proofs.Common.{◌≡◌, ℕ, ◌-◌, Bool, if◌then◌else◌, List, [], ◌∷◌, ◌++◌, IsTrue, Option, Some, None, length, map, refl, ap, sym, subst, ◌∙◌, slice_index_or}
-use Rattle.std.proofs.lemmas.List.{append-nil}
+use Rattle.std.proofs.Common.{◌≡◌, ℕ, ◌-◌, Bool, if◌then◌else◌, List, [], ◌∷◌, ◌++◌, IsTrue, Option, length, map, refl, ap, sym, subst, ◌∙◌}
 use Rattle.std.specs.List.{AllByRecursion, filter, find, list_any}
 use Rattle.vx_base.specs.Channels.{channels_of}
-use Rattle.vx_base.specs.Clusters.{Common, is_association, dissociated_at}
+use Rattle.vx_base.specs.Clusters.{is_association, dissociated_at}
 use Rattle.vx_base.specs.Log.{Log, HasRoom, logged}
 use Rattle.vx_base.specs.Pieces.{Association, Handler, Queued, Request, Timer}
 use Rattle.vx_base.specs.declared.frame.Phase.{Phase}

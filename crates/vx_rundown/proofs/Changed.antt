@@ -1,5 +1,5 @@
 -- A process that is changed, seen in the state after it.
-use Rattle.std.proofs.Common.{◌≡◌, ℕ, ◌+◌, ◌-◌, ◌<◌, List, [], ◌∷◌, ◌++◌, length, get_or, set, get_or-set_same, length-set, refl, sym, ap, ◌∙◌, arith}
+use Rattle.std.proofs.Common.{◌≡◌, ◌-◌, List, [], ◌++◌, length, set, get_or-set_same, length-set, ap, ◌∙◌, arith}
 use Rattle.std.proofs.lemmas.List.{set-get_or, append_assoc, append-nil, length-append}
 use Rattle.vx_base.specs.Log.{Log, HasRoom, logged}
 use Rattle.vx_base.specs.declared.effects.Effect.{Effect}

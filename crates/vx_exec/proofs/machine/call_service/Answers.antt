@@ -4,12 +4,12 @@ use Rattle.vx_record.specs.Events.{moved_behind}
 use Rattle.vx_record.specs.Parts.{Does}
 use Rattle.vx_record.specs.Services.{service}
 use Rattle.vx_record.specs.State.{State, change, process_at}
-use Rattle.vx_record.specs.declared.served.Served.TheVariants.{Answered, Waits}
+use Rattle.vx_record.specs.declared.served.Served.TheVariants.{Answered}
 use Rattle.vx_procs.specs.View.{state}
 use Rattle.vx_exec.proofs.Goes.{top_few}
 use Rattle.vx_exec.proofs.Kept.{kept_behind}
 use Rattle.vx_exec.proofs.Ready.{ready_changed}
-use Rattle.vx_exec.proofs.Steps.{answered_call, call_made, called_room, waiting_call}
+use Rattle.vx_exec.proofs.Steps.{answered_call, call_made, called_room}
 use Rattle.vx_exec.proofs.machine.call_service.Goals as goal
 
 pub serve-requires-clause-ready : goal.serve-requires-clause-ready

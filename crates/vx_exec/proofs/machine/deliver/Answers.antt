@@ -1,6 +1,5 @@
-use Rattle.std.proofs.Common.{length, refl, sym, subst, ap}
+use Rattle.std.proofs.Common.{length, refl, sym, subst}
 use Rattle.vx_base.specs.Log.{HasRoom}
-use Rattle.vx_base.specs.Pieces.{Queued}
 use Rattle.vx_base.specs.declared.record.Answer.{Answer}
 use Rattle.vx_base.specs.declared.record.Answer.TheVariants as answer
 use Rattle.vx_ast.specs.Queue.{queued_of}
