@@ -24,3 +24,6 @@ pub use seed::Seed;
 pub use standing::Standing;
 pub use subset::built;
 pub use vx_base::End;
+
+#[cfg(test)]
+mod tests;
