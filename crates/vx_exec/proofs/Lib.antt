@@ -1,8 +1,9 @@
-pub mod Changed
+pub mod Calls
+pub mod Down
 pub mod Enabled
-pub mod Keeps
-pub mod Left
-pub mod OneRun
-pub mod Opening
-pub mod Systems
-pub mod Words
+pub mod Goes
+pub mod Kept
+pub mod Ready
+pub mod Runs
+pub mod Served
+pub mod Steps

@@ -1,72 +1,46 @@
--- What of a system the executive runs so far: calls of four services, by one process of the usual kind.
-use Rattle.std.specs.Prelude.{nat_le, Bool, true, false, ◌&&◌, ◌==◌, not, length}
+-- What of a system the executive runs so far.
+use Rattle.std.specs.Prelude.{ℕ, ◌<◌, List, [], ◌∷◌, Bool, true, false, ◌&&◌, IsTrue, length, nat_lt, ⊤}
 use Rattle.std.specs.List.{list_all}
-use Rattle.vx_base.specs.declared.call.Arg.{Arg}
-use Rattle.vx_base.specs.declared.call.Arg.TheVariants as arg
-use Rattle.vx_base.specs.declared.call.Operand.TheVariants.{Num}
-use Rattle.vx_base.specs.declared.call.Call.{Call}
-use Rattle.vx_base.specs.declared.mode.Mode.{Mode}
-use Rattle.vx_base.specs.declared.mode.Mode.TheVariants.{Kernel, Exec, Super, User}
-use Rattle.vx_base.specs.declared.quota.Need.{Need}
-use Rattle.vx_base.specs.declared.quota.Privs.{Privs}
 use Rattle.vx_base.specs.declared.service.Service.{Service}
-use Rattle.vx_base.specs.declared.service.Service.TheVariants as service
+use Rattle.vx_base.specs.declared.service.Service.TheVariants.{SetEf, ClrEf, ReadEf, DclAst, SetAst, CmExec, CmKrnl, Exit}
+use Rattle.vx_image.specs.declared.image.Image.{Image}
 use Rattle.vx_image.specs.declared.stmt.Stmt.{Stmt}
 use Rattle.vx_image.specs.declared.stmt.Stmt.TheVariants as stmt
-use Rattle.vx_image.specs.declared.image.Image.{Image}
-use Rattle.vx_image.specs.declared.decl.ProcDecl.{ProcDecl}
+use Rattle.vx_image.specs.declared.stop.Stop.{Stop}
+use Rattle.vx_image.specs.declared.stop.Stop.TheVariants as stop
 use Rattle.vx_image.specs.declared.system.System.{System}
+use Rattle.vx_image.specs.declared.unit.UnitDecl.{UnitDecl}
 
--- an argument that is a number
-abbrev pub is_number : Arg → Bool
-is_number (arg.Value (Num n)) = true
-is_number _ = false
+-- the services on event flags, ASTs and modes that wait for nothing, and $EXIT
+abbrev pub is_built_service : Service → Bool
+is_built_service SetEf = true
+is_built_service ClrEf = true
+is_built_service ReadEf = true
+is_built_service DclAst = true
+is_built_service SetAst = true
+is_built_service CmExec = true
+is_built_service CmKrnl = true
+is_built_service Exit = true
+is_built_service _ = false
 
--- an argument that is a variable or R0
-abbrev pub is_variable : Arg → Bool
-is_variable (arg.Target t) = true
-is_variable _ = false
-
--- one of the four services, by its first two arguments
-abbrev pub is_built_service : Service → Arg → Arg → Bool
-is_built_service service.SetEf a b = is_number a
-is_built_service service.ClrEf a b = is_number a
-is_built_service service.ReadEf a b = is_number a && is_variable b
-is_built_service service.Exit a b = is_number a
-is_built_service _ a b = false
-
--- a call of one of the four services
+-- each statement but the other services
 abbrev pub is_built_stmt : Stmt → Bool
-is_built_stmt (stmt.Service c) = is_built_service c.service c.args.a0 c.args.a1
-is_built_stmt _ = false
+is_built_stmt (stmt.Service c) = is_built_service c.service
+is_built_stmt _ = true
 
--- no labels, and at most 1,000 calls
+-- (labels are counted in 32 bits)
 abbrev pub is_built_image : Image → Bool
-is_built_image i = nat_le (length i.labels) 0 && (nat_le (length i.stmts) 1000 && list_all is_built_stmt i.stmts)
+is_built_image image = nat_lt (length image.labels) 4294967296 && list_all is_built_stmt image.stmts
 
--- the mode USER
-abbrev pub is_user : Mode → Bool
-is_user User = true
-is_user Super = false
-is_user Exec = false
-is_user Kernel = false
+abbrev pub are_no_units : List UnitDecl → Bool
+are_no_units [] = true
+are_no_units (u ∷ us) = false
 
--- the limits that a process has where its line names none
-abbrev pub are_usual : Need → Bool
-are_usual l = l.ast == 24 && (l.bio == 18 && (l.dio == 18 && (l.byt == 8192 && l.tqe == 10)))
-
--- no privileges
-abbrev pub are_none : Privs → Bool
-are_none p = not p.cmexec && (not p.cmkrnl && (not p.group && (not p.prmceb && (not p.prmmbx && not p.world))))
-
--- all keys as they are where the line names none
-abbrev pub is_built_decl : ProcDecl → Bool
-is_built_decl d = d.group == 1 && (d.member == 1 && (is_user d.mode && (are_usual d.limits && (are_none d.privs && d.start))))
-
--- no units, and at most one image and one process
-abbrev pub is_small : System → Bool
-is_small s = nat_le (length s.units) 0 && (nat_le (length s.images) 1 && nat_le (length s.decls) 1)
-
--- a small system of such images and processes
+-- no units; any images and process declarations
 abbrev pub is_built : System → Bool
-is_built s = is_small s && (list_all is_built_image s.images && list_all is_built_decl s.decls)
+is_built system = are_no_units system.units && list_all is_built_image system.images
+
+-- a service at which local statements stop is built, and its statement is one of at most 10,000
+abbrev pub IsBuiltCall : ℕ → Stop → Type 0
+IsBuiltCall place (stop.Call c) = IsTrue (is_built_service c.service) × (place < 10000)
+IsBuiltCall place _ = ⊤

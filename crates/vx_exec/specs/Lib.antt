@@ -1,7 +1,7 @@
 pub mod Built
-pub mod Model
-pub mod Procs
+pub mod Picks
+pub mod Ready
 pub mod Sound
 pub mod Standing
-pub mod State
+pub mod Taken
 pub mod View

@@ -1,24 +1,27 @@
 -- How a process stands when a run is over.
-use Rattle.std.specs.Prelude.{ℕ, List, [], ◌∷◌, Bool, true, false}
-use Rattle.vx_exec.specs.State.{Process}
+use Rattle.std.specs.Prelude.{ℕ, List, [], ◌∷◌, Option, Some, None, if◌then◌else◌}
 use Rattle.vx_base.specs.declared.frame.Frame.{Frame}
-use Rattle.vx_exec.specs.Model.{is_deleted}
+use Rattle.vx_base.specs.declared.frame.Wait.{Wait}
+use Rattle.vx_base.specs.declared.frame.Wait.TheVariants as wait
+use Rattle.vx_record.specs.State.{Process}
+use Rattle.vx_record.specs.Control.{is_deleted}
 use Rattle.vx_exec.specs.declared.standing.Standing.{Standing}
-use Rattle.vx_exec.specs.declared.standing.Standing.TheVariants.{Gone, Rundown, Active}
+use Rattle.vx_exec.specs.declared.standing.Standing.TheVariants.{Gone, Susp, Rundown, Hiber, Flag, Active}
 
-abbrev pub standing_by : Bool → List Frame → Standing
-standing_by true frames = Gone
-standing_by false [] = Rundown
-standing_by false (f ∷ fs) = Active
+-- by what the top frame waits for
+abbrev pub waiting : Option Wait → Standing
+waiting None = Active
+waiting (Some wait.Hiber) = Hiber
+waiting (Some other) = Flag
 
--- gone where it is deleted, in rundown where it has no frame, else active
+abbrev pub framed : List Frame → Standing
+framed [] = Rundown
+framed (f ∷ fs) = waiting f.wait
+
+-- the first that fits: gone, suspended, without a frame, hibernating, waiting for a flag, active
 abbrev pub standing_of : Process → Standing
-standing_of pr = standing_by (is_deleted pr) pr.frames
+standing_of pr = if is_deleted pr then Gone else (if pr.suspended then Susp else framed pr.frames)
 
 -- the exit code of a process that is gone, else 0
-abbrev pub code_by : Bool → ℕ → ℕ
-code_by true code = code
-code_by false code = 0
-
 abbrev pub code_of : Process → ℕ
-code_of pr = code_by (is_deleted pr) pr.code
+code_of pr = if is_deleted pr then pr.code else 0

@@ -1,9 +1,7 @@
 -- What an executive stands for.
-use Rattle.std.specs.Prelude.{◌≡◌, ℕ}
-use Rattle.vx_base.specs.Log.{Log, logged}
-use Rattle.vx_exec.specs.State.{State}
+use Rattle.std.specs.Prelude.{ℕ}
 use Rattle.vx_image.specs.declared.system.System.{System}
-use Rattle.vx_exec.specs.Model.{Outcome}
+use Rattle.vx_record.specs.State.{State}
 
 -- its state, how many records its runs may have, and how many its steps have made
 pub record Executive : Type 0 where
@@ -18,9 +16,3 @@ pub record Plan : Type 0 where
 
 abbrev pub plan : Executive → Plan
 plan e = record { system = e.state.system; limit = e.limit }
-
--- a call answered, logged and left what an outcome says
-pub record Does {A : Type 0} (o : Outcome A) (answer : A) (log_before log_after : Log) (state_after : State) : Type 0 where
-  pub answers : answer ≡ o.answer
-  pub logs : log_after ≡ logged log_before o.effects
-  pub leaves : state_after ≡ o.after

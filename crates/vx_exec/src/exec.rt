@@ -1,57 +1,60 @@
 //! The executive.
 
-ghost use Rattle.std.specs.Prelude.{◌≡◌, ◌<◌, ◌≤◌, ◌+◌, ◌-◌, Contains, IfOk, IsTrue, None, OnErr, OnOk, length, slice_get};
+ghost use Rattle.std.specs.Prelude.{◌≡◌, ◌<◌, ◌≤◌, ◌+◌, Contains, IfOk, IsTrue, None, OnErr, OnOk, length, slice_get};
+ghost use Rattle.vx_image.specs.WellFormed.{IsWellFormed};
+ghost use Rattle.vx_record.specs.State.{IsProcess, decl_of, process_at};
+ghost use Rattle.vx_record.specs.Events.{enabled, step};
+ghost use Rattle.vx_record.specs.Runs.{end_of, first, record_of};
 ghost use Rattle.vx_exec.specs.Built.{is_built};
-ghost use Rattle.vx_exec.specs.Model.{HasOneRun, IsProcess, IsStep, decl_of, enabled, end_of, first, process_at, step};
+ghost use Rattle.vx_exec.specs.Picks.{moved_seed, picked_event};
 ghost use Rattle.vx_exec.specs.Standing.{code_of, standing_of};
 ghost use Rattle.vx_exec.specs.View.{plan};
 
 use crate::events::{are_deleted, count, enabled_at};
 use crate::machine::step;
-use crate::procs::{Core, first_procs};
-use crate::setters::{declaration, process_of};
-use crate::standing::Standing;
+use crate::room::{log_for, owner};
+use crate::seed::Seed;
+use crate::standing::{Standing, standing_of};
 use std::alloc::Global;
 use std::marker::Model;
-use vx_base::{Effects, End, Event, Name, NoMemory, Pid, Rec};
+use vx_base::{End, Event, Name, NoMemory, Pid, Rec, Routine};
 use vx_image::System;
+use vx_procs::{Core, declaration, made};
 
-/// The executive of one system: its processes, how many records its runs may have, and how many its steps have made.
-#[derive(Debug, Drop)]
-pub struct Exec {
-    core: Core,
+/// The executive of one system: what it keeps, how many records its runs may have, and how many its steps have made.
+#[derive(Drop)]
+pub struct Exec<R: Routine> {
+    core: Core<R>,
     limit: u32,
     taken: u32,
     alloc: Global,
 }
 
-impl Model for Exec {
+impl<R: Routine> Model for Exec<R> {
     ghost use Rattle.vx_exec.specs.View.{Executive};
 
     ghost Value = { Executive };
 
-    ghost use Rattle.vx_exec.specs.Procs.{state};
-    ghost use Rattle.vx_exec.specs.Sound.{IsSound};
+    ghost use Rattle.vx_procs.specs.View.{state};
+    ghost use Rattle.vx_exec.specs.Sound.{IsGoing};
 
     ghost view = { λ e. record { state = state e.core; limit = e.limit; taken = e.taken } };
 
-    ghost invariant = { λ e. IsSound (state e.core) };
+    ghost invariant = { λ e. IsGoing (state e.core) e.limit e.taken };
 }
 
-impl Exec {
-    /// The executive of a system before its first event, whose runs may have so many records.
-    #[tactic(auto, using(crate::proofs::OneRun::one_run, crate::proofs::Systems::few_decls, crate::proofs::Opening::opening_sound))]
-    pub fn new(alloc: Global, system: System, limit: u32) -> Result<Exec, NoMemory>
+impl<R: Routine> Exec<R> {
+    /// The executive of a system before its first event, whose runs may have so many records, 1 to 100,000.
+    pub fn new(alloc: Global, system: System, limit: u32) -> Result<Exec<R>, NoMemory>
+        requires formed { IsWellFormed system }
         requires built { IsTrue (is_built system) }
-        requires above { 0 < limit }
+        requires above { 1 ≤ limit }
         requires within { limit ≤ 100000 }
-        ensures opens { IfOk result (λ exec.
-            exec ≡ record { state = first system; limit = limit; taken = 0 }) }
-        ensures one_run { HasOneRun (first system) }
+        ensures { IfOk result (λ exec. exec ≡ record { state = first system; limit = limit; taken = 0 }) }
     {
-        let procs = first_procs(alloc, &system.decls)?;
+        let core = Core::new(alloc, system)?;
         Ok(Exec {
-            core: Core { system, procs },
+            core,
             limit,
             taken: 0,
             alloc,
@@ -65,19 +68,34 @@ impl Exec {
         count(&self.core)
     }
 
-    /// The enabled event at a place from 0, the processes in number order.
+    /// The enabled event at a place from 0: the processes in number order.
     pub fn enabled(&self, i: u32) -> Option<Event>
         ensures { result ≡ slice_get (enabled self.now.state) i }
     {
         enabled_at(&self.core, i)
     }
 
+    /// The enabled event that the seed picks, and the seed moves: where nothing is enabled there is none, and the seed
+    /// stays.
+    #[tactic(auto, using(crate::proofs::Enabled::pick_there))]
+    pub fn pick(&self, seed: &mut Seed) -> Option<Event>
+        ensures event { result ≡ picked_event seed.old.x (enabled self.now.state) }
+        ensures seed { seed.new.x ≡ moved_seed seed.old.x (enabled self.now.state) }
+    {
+        let n = count(&self.core);
+        if n == 0 {
+            return None;
+        }
+        let next = seed.next();
+        *seed = next;
+        enabled_at(&self.core, next.index(n))
+    }
+
     /// Takes an enabled event, and gives its record. Where memory is short, nothing has changed.
     pub fn step(&mut self, event: Event) -> Result<Rec, NoMemory>
         requires enabled { Contains (enabled self.old.state) event }
         requires going { end_of self.old.limit self.old.taken self.old.state ≡ None }
-        ensures event { IfOk result (λ rec. rec.event ≡ event) }
-        ensures step { IfOk result (IsStep self.old.state) }
+        ensures rec { IfOk result (λ rec. rec ≡ record_of self.old.state event) }
         ensures after { OnOk result (self.new ≡ record self.old {
           state = (step self.old.state event).after;
           taken = self.old.taken + 1;
@@ -85,8 +103,9 @@ impl Exec {
         ensures err { OnErr result (self.new ≡ self.old) }
         ensures plan { plan self.new ≡ plan self.old }
     {
-        let mut log = Effects::new(self.alloc);
-        log.reserve(1)?;
+        let p = owner(event);
+        self.core.reserve(p)?;
+        let mut log = log_for(self.alloc, &self.core, p)?;
         let answer = step(&mut self.core, event, &mut log);
         self.taken += 1;
         Ok(Rec {
@@ -135,22 +154,22 @@ impl Exec {
         self.taken
     }
 
-    /// How many processes there have been, which is the number of the last.
+    /// How many processes have been made, which is the number of the last.
     pub fn made(&self) -> u32
         ensures { result ≡ length self.now.state.procs }
     {
-        self.core.procs.len() as u32
+        made(&self.core) as u32
     }
 
     /// The name of a process, how it stands, and its exit code, 0 unless it is gone.
     pub fn standing(&self, p: Pid) -> (Name, Standing, u32)
         requires { IsProcess self.now.state p }
-        ensures name { result.0 ≡ (decl_of self.now.state.system (process_at self.now.state p)).name }
+        ensures name { result.0 ≡ (decl_of self.now.state p).name }
         ensures standing { result.1 ≡ standing_of (process_at self.now.state p) }
         ensures code { result.2 ≡ code_of (process_at self.now.state p) }
     {
-        let proc = process_of(&self.core, p);
         let name = declaration(&self.core, p).name;
-        (name, proc.standing(), proc.final_code())
+        let (standing, code) = standing_of(&self.core, p);
+        (name, standing, code)
     }
 }

@@ -1,28 +1,28 @@
 //! The executive: it takes one event of a system at a time, and gives its record.
 //!
-//! `Exec` stands for the plain state of `specs/State.antt`, the limit of its runs and how many records its steps have
-//! made (`specs/View.antt`). What is enabled, what a step does and when a run ends is the machine of `specs/Model.antt`:
-//! `count` and `enabled` are the list of its enabled events, `step` takes any one of them and leaves the state after
-//! it, `ended` is its end. A step whose memory is short changes nothing, and no other call takes memory but `new`.
-//! `built` tells which systems it runs so far (`specs/Built.antt`).
+//! `Exec` stands for the plain state of the machine's definitions, the limit of its runs and how many records its steps have
+//! made (`specs/View.antt`). What is enabled, what a step does, what a seed picks and when a run ends is the machine of
+//! `vx_record`: `count` and `enabled` are the list of its enabled events, `step` takes any one of them and leaves the state
+//! after it, `ended` is its end, and `run_system` takes the run that a seed chooses. Not all systems are run yet: which are
+//! is `specs/Built.antt`, and `built` tells. A step whose memory is short changes nothing, and no other call of `Exec` takes
+//! memory but `new`.
 #![tactic(auto)]
 
 mod events;
 mod exec;
-mod flags;
 mod machine;
-mod process;
-mod procs;
-mod reach;
+mod room;
+mod run;
+mod seed;
 mod services;
-mod setters;
-mod spot;
 mod standing;
-mod store;
+mod subset;
 
 pub use exec::Exec;
-pub use reach::built;
+pub use run::{run_system, take_run};
+pub use seed::Seed;
 pub use standing::Standing;
+pub use subset::built;
 pub use vx_base::End;
 
 #[cfg(test)]

@@ -1,127 +1,206 @@
 //! What each event does.
 
-ghost use Rattle.std.specs.Prelude.{◌≡◌, IsTrue, MatchOption, None, Some};
-ghost use Rattle.vx_exec.specs.Built.{is_built};
+ghost use Rattle.std.specs.Prelude.{◌≡◌, ◌<◌, IsTrue, length};
 ghost use Rattle.vx_base.specs.Log.{HasRoom};
-ghost use Rattle.vx_exec.specs.Model.{IsProcess, next_stmt, next_stop, run_at, service, step, target, value};
-ghost use Rattle.vx_exec.specs.Procs.{state};
-ghost use Rattle.vx_exec.specs.Sound.{IsDeclared, process_of};
-ghost use Rattle.vx_exec.specs.View.{Does};
+ghost use Rattle.vx_base.specs.Modes.{reaches};
+ghost use Rattle.vx_record.specs.State.{IsProcess, current, process_at};
+ghost use Rattle.vx_record.specs.Parts.{Acts, Does};
+ghost use Rattle.vx_record.specs.Asts.{deliverable_ast};
+ghost use Rattle.vx_record.specs.Events.{delivered, or_normal, resumed, returned, run, run_advanced, run_on, step};
+ghost use Rattle.vx_record.specs.Flags.{satisfied};
+ghost use Rattle.vx_procs.specs.View.{state};
+ghost use Rattle.vx_procs.specs.Words.{advanced_at};
+ghost use Rattle.vx_ctl.specs.Waits.{FitsBlock};
+ghost use Rattle.vx_exec.specs.Built.{IsBuiltCall, is_built_service};
+ghost use Rattle.vx_exec.specs.Ready.{IsReady, owner, started_as};
 
-use crate::procs::Core;
-use crate::services::{clref, exit, readef, setef};
-use crate::setters::{declaration, delete, leave, move_on, process_of, r0, store};
-use vx_base::{Answer, Arg, Call, Cond, Effect, Effects, Event, Operand, Pid, Service, Target};
-use vx_image::{Stmt, Stop};
+use crate::events::top;
+use crate::services::serve;
+use vx_ast::Delivery;
+use vx_base::{
+    Answer, Call, Cond, Effect, Effects, Entry, Event, FrameKind, Id, Mode, Pid, Routine, Wait,
+};
+use vx_ctl::satisfied;
+use vx_image::Stop;
+use vx_procs::{
+    Core, exit, move_behind, new_frame, pop_frame, push_frame, r0, resume, return_with, run_local,
+    set_r0, take_ast,
+};
+use vx_record::Served;
+use vx_rundown::rundown_step;
 
-/// The number that an argument is.
-fn value(arg: &Arg) -> u32
-    ensures { result ≡ value arg.now }
+fn or_normal(cond: Option<Cond>) -> Cond
+    ensures { result ≡ or_normal cond }
 {
-    match arg {
-        Arg::Value(Operand::Num(n)) => *n,
-        _ => 0,
+    match cond {
+        Some(cond) => cond,
+        None => Cond::Normal,
     }
 }
 
-/// The target that an argument is.
-fn target(arg: &Arg) -> Target
-    ensures { result ≡ target arg.now }
-{
-    match arg {
-        Arg::Target(target) => *target,
-        _ => Target::R0,
-    }
-}
-
-/// Does the service of a call.
-fn serve(core: &mut Core, p: Pid, call: &Call, log: &mut Effects) -> Cond
+// The wait of the top frame ends.
+fn end_wait<R: Routine>(core: &mut Core<R>, p: Pid, wait: Wait) -> Answer
     requires made { IsProcess (state core.old) p }
-    requires room { HasRoom log.old 1 }
-    ensures { Does (service (state core.old) p call.now) result log.old log.new (state core.new) }
+    requires block { FitsBlock wait }
+    ensures answer { result ≡ (resumed (state core.old) p wait (or_normal (satisfied (state core.old) p wait))).answer }
+    ensures after { state core.new ≡ (resumed (state core.old) p wait (or_normal (satisfied (state core.old) p wait))).after }
 {
-    let args = &call.args;
-    match call.service {
-        Service::SetEf => setef(core, p, value(&args.a0), log),
-        Service::ClrEf => clref(core, p, value(&args.a0), log),
-        Service::ReadEf => readef(core, p, value(&args.a0), target(&args.a1), log),
-        Service::Exit => exit(core, p, value(&args.a0), log),
-        _ => Cond::Normal,
-    }
+    let cond = or_normal(satisfied(core, p, wait));
+    resume(core, p, wait, cond);
+    Answer::Resume(cond)
 }
 
-/// The statement at the place of the top frame.
-fn next_stmt(core: &Core, p: Pid) -> Option<&Stmt>
-    requires made { IsProcess (state core.now) p }
-    requires declared { IsDeclared (state core.now) p }
-    ensures { MatchOption result (next_stmt (state core.now) p ≡ None)
-        (λ stmt. next_stmt (state core.now) p ≡ Some stmt.now) }
+// A service is called by the statement at a place. R0 takes its condition last.
+fn call_service<R: Routine>(
+    core: &mut Core<R>,
+    p: Pid,
+    place: u32,
+    call: Call,
+    log: &mut Effects,
+) -> Answer
+    requires ready { IsReady core.old p }
+    requires built { IsTrue (is_built_service call.service) }
+    requires place { place < 10000 }
+    requires room { HasRoom log.old (length (run_on (state core.old) p place (Stop.Call call)).effects) }
+    ensures { Does (run_on (state core.old) p place (Stop.Call call)) result log.old log.new (state core.new) }
 {
-    let frame = process_of(core, p).frame?;
-    let image = core
-        .system
-        .images
-        .as_slice()
-        .get(declaration(core, p).image as usize)?;
-    image.stmts.as_slice().get(frame.pc as usize)
-}
-
-/// Where the top frame stops next.
-fn next_stop(core: &Core, p: Pid) -> Stop
-    requires made { IsProcess (state core.now) p }
-    requires declared { IsDeclared (state core.now) p }
-    ensures { result ≡ next_stop (state core.now) p }
-{
-    match next_stmt(core, p) {
-        None => Stop::End,
-        Some(Stmt::Service(call)) => Stop::Call(*call),
-        Some(_) => Stop::Local,
-    }
-}
-
-/// Runs up to and with the next service, or to the image's end.
-fn run(core: &mut Core, p: Pid, log: &mut Effects) -> Answer
-    requires built { IsTrue (is_built (state core.old).system) }
-    requires made { IsProcess (state core.old) p }
-    requires declared { IsDeclared (state core.old) p }
-    requires room { HasRoom log.old 1 }
-    ensures { Does (run_at (state core.old) p (next_stop (state core.old) p)) result
-        log.old log.new (state core.new) }
-{
-    match next_stop(core, p) {
-        Stop::Call(call) => {
-            move_on(core, p);
-            let cond = serve(core, p, &call, log);
-            store(core, p, Target::R0, cond.number());
+    move_behind(core, p, place);
+    match serve(core, p, &call, log) {
+        Served::Answered(cond) => {
+            set_r0(core, p, cond.number());
             Answer::Service(call, cond)
         }
-        Stop::Local => {
-            move_on(core, p);
-            Answer::Local
-        }
-        Stop::Return | Stop::End => {
+        Served::Waits => Answer::Wait(call),
+    }
+}
+
+// The top frame ends: the main frame exits with R0 as code; any other is left, and an AST's R0 is put back.
+fn leave<R: Routine>(core: &mut Core<R>, p: Pid, log: &mut Effects) -> Answer
+    requires made { IsProcess (state core.old) p }
+    requires room { HasRoom log.old (length (returned (state core.old) p (process_at (state core.old) p).frames).effects) }
+    ensures { Does (returned (state core.old) p (process_at (state core.old) p).frames) result log.old log.new (state core.new) }
+{
+    let Some(frame) = top(core, p) else {
+        return Answer::Return;
+    };
+    match frame.kind {
+        FrameKind::Main => {
             let code = r0(core, p);
-            leave(core, p, code);
+            exit(core, p, code, log);
             Answer::End
+        }
+        FrameKind::Ast(id) => {
+            log.add(Effect::Leave(id));
+            return_with(core, p, frame.saved_r0);
+            Answer::Return
+        }
+        FrameKind::Change | FrameKind::Handler => {
+            pop_frame(core, p);
+            Answer::Return
         }
     }
 }
 
-/// Does an event.
-pub fn step(core: &mut Core, event: Event, log: &mut Effects) -> Answer
-    requires built { IsTrue (is_built (state core.old).system) }
-    requires made { IsProcess (state core.old) (process_of event) }
-    requires declared { IsDeclared (state core.old) (process_of event) }
-    requires room { HasRoom log.old 1 }
+// What local statements stopped at, at a place.
+fn stop_at<R: Routine>(
+    core: &mut Core<R>,
+    p: Pid,
+    place: u32,
+    stop: Stop,
+    log: &mut Effects,
+) -> Answer
+    requires ready { IsReady core.old p }
+    requires built { IsBuiltCall place stop }
+    requires room { HasRoom log.old (length (run_on (state core.old) p place stop).effects) }
+    ensures { Does (run_on (state core.old) p place stop) result log.old log.new (state core.new) }
+{
+    match stop {
+        Stop::Call(call) => call_service(core, p, place, call, log),
+        Stop::Return | Stop::End => leave(core, p, log),
+        Stop::Local => Answer::Local,
+    }
+}
+
+// The top frame, which waits for nothing, goes on.
+fn go_on<R: Routine>(core: &mut Core<R>, p: Pid, log: &mut Effects) -> Answer
+    requires ready { IsReady core.old p }
+    requires room { HasRoom log.old (length (run_advanced (state core.old) p (advanced_at (state core.old) p)).effects) }
+    ensures { Does (run_advanced (state core.old) p (advanced_at (state core.old) p)) result log.old log.new (state core.new) }
+{
+    let (place, stop) = run_local(core, p);
+    stop_at(core, p, place, stop, log)
+}
+
+// RUN.
+fn run<R: Routine>(core: &mut Core<R>, p: Pid, log: &mut Effects) -> Answer
+    requires ready { IsReady core.old p }
+    requires room { HasRoom log.old (length (run (state core.old) p (process_at (state core.old) p).frames).effects) }
+    ensures { Does (run (state core.old) p (process_at (state core.old) p).frames) result log.old log.new (state core.new) }
+{
+    let Some(frame) = top(core, p) else {
+        return Answer::Local;
+    };
+    match frame.wait {
+        Some(wait) => end_wait(core, p, wait),
+        None => go_on(core, p, log),
+    }
+}
+
+// The routine of an AST is entered in a frame that saves R0; a forced exit exits.
+fn start<R: Routine>(
+    core: &mut Core<R>,
+    p: Pid,
+    id: Id,
+    mode: Mode,
+    entry: Entry,
+    log: &mut Effects,
+)
+    requires ready { IsReady core.old p }
+    requires inward { IsTrue (reaches (current (state core.old) p) mode) }
+    requires room { HasRoom log.old (length (started_as (state core.old) p id mode entry).effects) }
+    ensures { Acts (started_as (state core.old) p id mode entry) log.old log.new (state core.new) }
+{
+    match entry {
+        Entry::Exit(code) => {
+            log.add(Effect::Leave(id));
+            exit(core, p, code, log);
+        }
+        Entry::Label(..) | Entry::Host(_) => {
+            let frame = new_frame(core, p, FrameKind::Ast(id), mode, entry, r0(core, p));
+            push_frame(core, p, frame);
+        }
+    }
+}
+
+// AST.
+fn deliver<R: Routine>(core: &mut Core<R>, p: Pid, log: &mut Effects) -> Answer
+    requires ready { IsReady core.old p }
+    requires room { HasRoom log.old (length (delivered (state core.old) p (deliverable_ast (state core.old) p)).effects) }
+    ensures { Does (delivered (state core.old) p (deliverable_ast (state core.old) p)) result log.old log.new (state core.new) }
+{
+    let Some(ast) = take_ast(core, p) else {
+        return Answer::Local;
+    };
+    let Delivery {
+        id,
+        mode,
+        charged: _,
+        routine,
+    } = ast;
+    start(core, p, id, mode, routine.enter(), log);
+    Answer::Ast(id)
+}
+
+/// Does an event of a process.
+pub(crate) fn step<R: Routine>(core: &mut Core<R>, event: Event, log: &mut Effects) -> Answer
+    requires ready { IsReady core.old (owner event) }
+    requires room { HasRoom log.old (length (step (state core.old) event).effects) }
     ensures { Does (step (state core.old) event) result log.old log.new (state core.new) }
 {
     match event {
         Event::Run(p) => run(core, p, log),
-        Event::Rdn(p) => {
-            log.add(Effect::Gone(p));
-            delete(core, p);
-            Answer::Gone
-        }
-        _ => Answer::Gone,
+        Event::Ast(p) => deliver(core, p, log),
+        Event::Rdn(p) => rundown_step(core, p, log),
+        Event::Beg(_) | Event::Don(_) | Event::Tick => unreachable!(),
     }
 }

@@ -1,12 +1,64 @@
 //! How a process stands.
 
-/// How a process stands when a run is over.
+ghost use Rattle.std.specs.Prelude.{◌≡◌};
+ghost use Rattle.vx_record.specs.State.{IsProcess, process_at};
+ghost use Rattle.vx_procs.specs.View.{state};
+ghost use Rattle.vx_exec.specs.Standing.{code_of, framed, standing_of, waiting};
+
+use crate::events::top;
+use vx_base::{Pid, Routine, Wait};
+use vx_procs::{Core, is_deleted, process_of};
+
+/// How a process stands when a run is over: the first that fits.
 #[derive(Clone, Copy, Debug, PartialEq, Eq)]
 pub enum Standing {
     /// It is deleted.
     Gone,
-    /// It has no frame left, and is not deleted.
+    /// It is suspended.
+    Susp,
+    /// It has no frame.
     Rundown,
-    /// It has a frame.
+    /// Its top frame waits for a wake.
+    Hiber,
+    /// Its top frame waits for event flags.
+    Flag,
+    /// It can run.
     Active,
+}
+
+// How a process with a frame stands, by what the frame waits for.
+fn waiting(wait: Option<Wait>) -> Standing
+    ensures { result ≡ waiting wait }
+{
+    match wait {
+        None => Standing::Active,
+        Some(Wait::Hiber) => Standing::Hiber,
+        Some(Wait::Flags(..) | Wait::Synch(..)) => Standing::Flag,
+    }
+}
+
+// How a process stands that is neither deleted nor suspended.
+fn framed<R: Routine>(core: &Core<R>, p: Pid) -> Standing
+    requires { IsProcess (state core.now) p }
+    ensures { result ≡ framed (process_at (state core.now) p).frames }
+{
+    match top(core, p) {
+        None => Standing::Rundown,
+        Some(frame) => waiting(frame.wait),
+    }
+}
+
+/// How a process stands, and its exit code, 0 unless it is gone.
+pub(crate) fn standing_of<R: Routine>(core: &Core<R>, p: Pid) -> (Standing, u32)
+    requires { IsProcess (state core.now) p }
+    ensures standing { result.0 ≡ standing_of (process_at (state core.now) p) }
+    ensures code { result.1 ≡ code_of (process_at (state core.now) p) }
+{
+    if is_deleted(core, p) {
+        return (Standing::Gone, process_of(core, p).code);
+    }
+    if process_of(core, p).suspended {
+        return (Standing::Susp, 0);
+    }
+    (framed(core, p), 0)
 }

@@ -1,12 +1,14 @@
 -- Words on one process: its declaration and image, its local statements, the ASTs that its frames leave.
 use Rattle.std.specs.Prelude.{ℕ, ◌<◌, List, [], ◌∷◌, ◌++◌, Bool, true, ◌&&◌, ◌==◌, not, if◌then◌else◌, Option, Some, None, length, slice_index_or}
 use Rattle.std.specs.List.{list_any}
+use Rattle.vx_base.specs.Lists.{less}
 use Rattle.vx_base.specs.Pieces.{Queued}
 use Rattle.vx_base.specs.declared.effects.Effect.{Effect}
 use Rattle.vx_base.specs.declared.effects.Effect.TheVariants as effect
 use Rattle.vx_base.specs.declared.frame.Frame.{Frame}
 use Rattle.vx_base.specs.declared.frame.FrameKind.{FrameKind}
 use Rattle.vx_base.specs.declared.frame.FrameKind.TheVariants as kind
+use Rattle.vx_base.specs.declared.mode.Mode.{Mode}
 use Rattle.vx_base.specs.declared.number.Pid.{Pid}
 use Rattle.vx_image.specs.Local.{Advanced, advanced, stopped}
 use Rattle.vx_image.specs.Storage.{Storage}
@@ -17,7 +19,7 @@ use Rattle.vx_image.specs.declared.system.System.{System}
 use Rattle.vx_record.specs.State.{Process, State, process_at, decl_of, image_of, no_decl, no_image}
 use Rattle.vx_record.specs.Asts.{deliverable_at}
 use Rattle.vx_record.specs.Events.{reader, moved_to}
-use Rattle.vx_record.specs.Rundown.{without_ast}
+use Rattle.vx_record.specs.Rundown.{without_ast, is_ast_reached}
 use Rattle.vx_record.specs.Runs.{born_of}
 
 -- the process of a declaration at a place, where it is there from the start
@@ -37,6 +39,10 @@ have_own_ids (q ∷ qs) = not (list_any (λ r. q.id.0 == r.id.0) qs) && have_own
 abbrev pub without_started : Option Queued → Process → Process
 without_started None pr = pr
 without_started (Some q) pr = without_ast q.id pr
+
+-- the process without the first of its queued ASTs that is of a mode or an outer one
+abbrev pub without_reached : Mode → Process → Process
+without_reached mode pr = record pr { asts = less (is_ast_reached mode) pr.asts }
 
 -- the process declaration at a place, and its image
 

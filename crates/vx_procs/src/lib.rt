@@ -19,12 +19,13 @@ pub use process::Proc;
 pub use procs::Core;
 pub use reads::{
     active_ast_mode, ast_charge, cell, current_mode, declaration, deliverable, exceeds_asts,
-    flags_of, has_delivery, image, is_deleted, is_set, limits, made, phase, process_of, r0,
+    flags_of, has_delivery, image, is_deleted, is_set, limits, made, new_frame, phase, process_of,
+    r0,
 };
 pub use setters::{
-    exit, move_behind, new_id, pop_frame, push_frame, queue_ast, return_with, run_local,
-    set_delivery, set_flag, set_phase, set_r0, set_suspended, set_variable, set_wait, set_wake,
-    take_ast,
+    drop_ast, exit, move_behind, new_id, pop_frame, push_frame, queue_ast, resume, return_with,
+    run_local, set_delivery, set_flag, set_phase, set_r0, set_suspended, set_variable, set_wait,
+    set_wake, take_ast,
 };
 
 #[cfg(test)]

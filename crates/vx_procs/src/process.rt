@@ -1,23 +1,26 @@
 //! One process, as it is kept.
 
 ghost use Rattle.std.specs.Prelude.{◌≡◌, ◌<◌, ◌∷◌, [], None, IfOk, IsTrue, length, option_map};
+ghost use Rattle.std.specs.List.{find};
 ghost use Rattle.vx_base.specs.Flags.{with_flag};
 ghost use Rattle.vx_base.specs.Log.{HasRoom, logged};
 ghost use Rattle.vx_base.specs.declared.frame.FrameKind.TheVariants.{Main};
 ghost use Rattle.vx_ast.specs.Queue.{queued_of};
 ghost use Rattle.vx_image.specs.WellFormed.{IsImage};
-ghost use Rattle.vx_record.specs.Events.{put_back};
+ghost use Rattle.vx_record.specs.Events.{put_back, resumed_with, uses_wake};
 ghost use Rattle.vx_record.specs.Flags.{with_local_flag};
 ghost use Rattle.vx_record.specs.Runs.{born_of};
 ghost use Rattle.vx_record.specs.State.{top_mode};
-ghost use Rattle.vx_record.specs.Rundown.{leaving, without_frames};
+ghost use Rattle.vx_record.specs.Rundown.{is_ast_reached, leaving, without_frames};
 ghost use Rattle.vx_procs.specs.View.{process, room_of};
-ghost use Rattle.vx_procs.specs.Words.{advanced_of, deliverable_of, have_own_ids, left, moved_as, without_started};
+ghost use Rattle.vx_procs.specs.Words.{advanced_of, deliverable_of, have_own_ids, left, moved_as, without_reached, without_started};
 
-use crate::frames::{leave_all, place_top};
+use crate::frames::{leave_all, place_top, wait_at_top};
 use std::alloc::Global;
 use vx_ast::{AstQueue, Delivery};
-use vx_base::{Effects, Frame, FrameKind, Id, Mode, NoMemory, Phase, Pid, Privs, Routine, Target};
+use vx_base::{
+    Cond, Effects, Frame, FrameKind, Id, Mode, NoMemory, Phase, Pid, Privs, Routine, Target, Wait,
+};
 use vx_flags::Flags;
 use vx_frames::Frames;
 use vx_image::{Image, ProcDecl, Stop, Store, advance};
@@ -141,6 +144,37 @@ impl<R: Routine> Proc<R> {
     {
         let _left = self.frames.ret();
         self.store.set(Target::R0, r0);
+    }
+
+    // A wake is used up where it was waited for.
+    fn use_wake(&mut self, wait: Wait)
+        ensures after { process self.new ≡ uses_wake wait (process self.old) }
+        ensures room { room_of self.new ≡ room_of self.old }
+    {
+        match wait {
+            Wait::Hiber => self.wake = false,
+            Wait::Flags(..) | Wait::Synch(..) => (),
+        }
+    }
+
+    /// Its wait ends with a condition, which R0 takes; a wake is used up.
+    pub(crate) fn resume(&mut self, wait: Wait, cond: Cond)
+        ensures after { process self.new ≡ resumed_with wait cond (process self.old) }
+        ensures room { room_of self.new ≡ room_of self.old }
+    {
+        wait_at_top(&mut self.frames, None);
+        self.use_wake(wait);
+        self.store.set(Target::R0, cond.number());
+    }
+
+    /// Takes out the first of its queued ASTs that is of a mode or an outer one, if there is one, and gives its id.
+    pub(crate) fn drop_ast(&mut self, mode: Mode) -> Option<Id>
+        ensures id { result ≡ option_map (λ q. q.id) (find (is_ast_reached mode) (process self.old).asts) }
+        ensures after { process self.new ≡ without_reached mode (process self.old) }
+        ensures room { room_of self.new ≡ room_of self.old }
+    {
+        let delivery = self.asts.flush_first(mode)?;
+        Some(delivery.id)
     }
 
     /// All its frames go, with an exit code.

@@ -1,10 +1,11 @@
 //! Reads of one process.
 
 ghost use Rattle.std.specs.Prelude.{◌≡◌, ◌<◌, true, length, option_map};
+ghost use Rattle.vx_image.specs.Local.{place_of};
 ghost use Rattle.vx_base.specs.Pieces.{is_enabled_in};
 ghost use Rattle.vx_base.specs.declared.effects.Cell.TheVariants.{Local};
 ghost use Rattle.vx_record.specs.State.{IsProcess, process_at, decl_of, image_of, limits_of, current};
-ghost use Rattle.vx_record.specs.Asts.{active_mode, deliverable_ast};
+ghost use Rattle.vx_record.specs.Asts.{active_mode, deliverable_ast, entry_place, entry_prm, new_frame};
 ghost use Rattle.vx_record.specs.Charges.{ast_charge, ast_need, exceeds};
 ghost use Rattle.vx_record.specs.Control.{is_deleted};
 ghost use Rattle.vx_record.specs.Events.{r0_of};
@@ -14,7 +15,7 @@ ghost use Rattle.vx_procs.specs.Words.{decl_in, image_in, HasDecl, HasImage};
 
 use crate::process::Proc;
 use crate::procs::Core;
-use vx_base::{Cell, Id, Mode, Need, Phase, Pid, Routine, Target};
+use vx_base::{Cell, Entry, Frame, FrameKind, Id, Mode, Need, Phase, Pid, Routine, Target};
 use vx_image::{Image, ProcDecl, System};
 
 /// How many processes have been made, which is the number of the last.
@@ -188,4 +189,61 @@ pub fn deliverable<R: Routine>(core: &Core<R>, p: Pid) -> Option<Id>
     ensures { result ≡ option_map (λ q. q.id) (deliverable_ast (state core.now) p) }
 {
     process_of(core, p).deliverable()
+}
+
+// The place that a label of an image names, by its place among the labels, from 0; 0 where there is no such label.
+fn place_of(image: &Image, label: u32) -> u32
+    ensures { result ≡ place_of image.now label }
+{
+    match image.labels.as_slice().get(label as usize) {
+        Some(label) => label.place,
+        None => 0,
+    }
+}
+
+// The place where a routine of a process is entered.
+fn entry_place<R: Routine>(core: &Core<R>, p: Pid, entry: Entry) -> u32
+    requires made { IsProcess (state core.now) p }
+    requires declared { HasDecl (state core.now) p }
+    requires image { HasImage (state core.now) p }
+    ensures { result ≡ entry_place (state core.now) p entry }
+{
+    match entry {
+        Entry::Label(label, _) => place_of(image(core, p), label),
+        Entry::Exit(_) | Entry::Host(_) => 0,
+    }
+}
+
+// The parameter with which a routine is entered.
+fn entry_prm(entry: Entry) -> u32
+    ensures { result ≡ entry_prm entry }
+{
+    match entry {
+        Entry::Label(_, prm) | Entry::Host(prm) => prm,
+        Entry::Exit(code) => code,
+    }
+}
+
+/// The frame in which a routine of a process is entered, with the R0 to be put back after it.
+pub fn new_frame<R: Routine>(
+    core: &Core<R>,
+    p: Pid,
+    kind: FrameKind,
+    mode: Mode,
+    entry: Entry,
+    saved_r0: u32,
+) -> Frame
+    requires made { IsProcess (state core.now) p }
+    requires declared { HasDecl (state core.now) p }
+    requires image { HasImage (state core.now) p }
+    ensures { result ≡ new_frame (state core.now) p kind mode entry saved_r0 }
+{
+    Frame {
+        kind,
+        mode,
+        pc: entry_place(core, p, entry),
+        prm: entry_prm(entry),
+        saved_r0,
+        wait: None,
+    }
 }

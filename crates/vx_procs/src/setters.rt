@@ -1,6 +1,7 @@
 //! Changes of one process.
 
 ghost use Rattle.std.specs.Prelude.{◌≡◌, ◌<◌, IsTrue, length, option_map};
+ghost use Rattle.std.specs.List.{find};
 ghost use Rattle.vx_ast.specs.Queue.{queued_of};
 ghost use Rattle.vx_base.specs.Log.{HasRoom};
 ghost use Rattle.vx_base.specs.Pieces.{is_enabled_in};
@@ -10,18 +11,18 @@ ghost use Rattle.vx_record.specs.State.{IsProcess, process_at, image_of, change,
 ghost use Rattle.vx_record.specs.Parts.{Acts};
 ghost use Rattle.vx_record.specs.Asts.{deliverable_ast, with_delivery, with_frame, with_queued};
 ghost use Rattle.vx_record.specs.Control.{with_suspension, with_wake};
-ghost use Rattle.vx_record.specs.Events.{below_top, moved_behind, put_back, with_r0};
+ghost use Rattle.vx_record.specs.Events.{below_top, moved_behind, put_back, resumed_with, with_r0};
 ghost use Rattle.vx_record.specs.Flags.{with_local_flag, with_wait};
-ghost use Rattle.vx_record.specs.Rundown.{exited, in_phase};
+ghost use Rattle.vx_record.specs.Rundown.{exited, in_phase, is_ast_reached};
 ghost use Rattle.vx_record.specs.Services.{with_variable};
 ghost use Rattle.vx_procs.specs.View.{state, capacities, HasFrameRoom, HasAstRoom};
-ghost use Rattle.vx_procs.specs.Words.{advanced_at, have_own_ids, moved_as, without_started, HasDecl, HasImage};
+ghost use Rattle.vx_procs.specs.Words.{advanced_at, have_own_ids, moved_as, without_reached, without_started, HasDecl, HasImage};
 
 use crate::frames::{leave_all, place_top, wait_at_top};
 use crate::procs::Core;
 use crate::reads::image_in;
 use vx_ast::Delivery;
-use vx_base::{Effects, Frame, Id, Mode, Phase, Pid, Routine, Target, Wait};
+use vx_base::{Cond, Effects, Frame, Id, Mode, Phase, Pid, Routine, Target, Wait};
 use vx_image::Stop;
 
 /// The next id, which is used up.
@@ -131,6 +132,17 @@ pub fn take_ast<R: Routine>(core: &mut Core<R>, p: Pid) -> Option<Delivery<R>>
     core.procs[p.0 as usize - 1].take()
 }
 
+/// Takes out the first of the ASTs queued for a process that is of a mode or an outer one, if there is one, and gives its id.
+/// Its routine is never entered.
+pub fn drop_ast<R: Routine>(core: &mut Core<R>, p: Pid, mode: Mode) -> Option<Id>
+    requires { IsProcess (state core.old) p }
+    ensures id { result ≡ option_map (λ q. q.id) (find (is_ast_reached mode) (process_at (state core.old) p).asts) }
+    ensures after { state core.new ≡ change (state core.old) p (without_reached mode) }
+    ensures room { capacities core.new ≡ capacities core.old }
+{
+    core.procs[p.0 as usize - 1].drop_ast(mode)
+}
+
 /// Enters a frame, which is not further out than the top frame. Takes no memory.
 pub fn push_frame<R: Routine>(core: &mut Core<R>, p: Pid, frame: Frame)
     requires made { IsProcess (state core.old) p }
@@ -168,6 +180,15 @@ pub fn set_wait<R: Routine>(core: &mut Core<R>, p: Pid, wait: Option<Wait>)
     ensures room { capacities core.new ≡ capacities core.old }
 {
     wait_at_top(&mut core.procs[p.0 as usize - 1].frames, wait)
+}
+
+/// The wait of a process ends with a condition, which R0 takes; a wake is used up.
+pub fn resume<R: Routine>(core: &mut Core<R>, p: Pid, wait: Wait, cond: Cond)
+    requires { IsProcess (state core.old) p }
+    ensures after { state core.new ≡ change (state core.old) p (resumed_with wait cond) }
+    ensures room { capacities core.new ≡ capacities core.old }
+{
+    core.procs[p.0 as usize - 1].resume(wait, cond)
 }
 
 /// The top frame of a process, if it has one, goes on behind the statement at a place.

@@ -1,10 +1,10 @@
-use Rattle.std.proofs.Common.{◌≡◌, ◌≤◌, ◌+◌, drop, length, map}
-use Rattle.vx_exec.specs.Model.{events_from, enabled}
-use Rattle.vx_exec.specs.Procs.{process, state}
+use Rattle.std.proofs.Common.{◌≡◌, ◌+◌, ◌≤◌, drop, length}
+use Rattle.vx_record.specs.Events.{processes_from}
+use Rattle.vx_procs.specs.View.{state}
 use Rattle.vx_exec.proofs.events.count.Given as goal
 
 abbrev pub invariant-loop-place : goal.invariant-loop-place
-invariant-loop-place l = record {
+invariant-loop-place g l = record {
   few : l.count ≤ l.place;
-  counted : l.count + length (events_from (l.place + 1) (map process (drop l.place l.core.procs.items))) ≡ length (enabled (state l.core));
+  counted : l.count + length (processes_from (state l.core) (l.place + 1) (drop l.place (state l.core).procs)) ≡ length (processes_from (state l.core) 1 (state l.core).procs);
 }

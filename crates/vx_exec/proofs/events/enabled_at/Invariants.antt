@@ -1,7 +1,7 @@
-use Rattle.std.proofs.Common.{◌≡◌, ◌+◌, drop, map, slice_get}
-use Rattle.vx_exec.specs.Model.{events_from, enabled}
-use Rattle.vx_exec.specs.Procs.{process, state}
+use Rattle.std.proofs.Common.{◌≡◌, ◌+◌, drop, slice_get}
+use Rattle.vx_record.specs.Events.{processes_from}
+use Rattle.vx_procs.specs.View.{state}
 use Rattle.vx_exec.proofs.events.enabled_at.Given as goal
 
 abbrev pub invariant-loop-place : goal.invariant-loop-place
-invariant-loop-place l = slice_get (events_from (l.place + 1) (map process (drop l.place l.core.procs.items))) l.left ≡ slice_get (enabled (state l.core)) l.i
+invariant-loop-place g l = slice_get (processes_from (state l.core) (l.place + 1) (drop l.place (state l.core).procs)) l.left ≡ slice_get (processes_from (state l.core) 1 (state l.core).procs) l.i

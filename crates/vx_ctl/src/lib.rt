@@ -1,0 +1,16 @@
+//! The services on event flags, ASTs and access modes, each by its entry in the "OpenVMS System Services Reference Manual".
+//!
+//! Each call does the row of its service in the machine's definitions: it tests in the row's order, logs the row's effects,
+//! and leaves the row's state. The caller puts the place behind the statement before it, and R0 and an answer's variable
+//! after it. No call takes memory: `Core::reserve` makes the room before.
+#![tactic(auto)]
+
+mod asts;
+mod flags;
+mod modes;
+mod refused;
+
+pub use asts::{dclast, setast};
+pub use flags::{clref, readef, satisfied, setef};
+pub use modes::{cmexec, cmkrnl};
+pub use refused::Refused;

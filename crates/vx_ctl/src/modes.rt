@@ -1,0 +1,93 @@
+//! Services that change the access mode.
+
+ghost use Rattle.std.specs.Prelude.{◌≡◌, IfErr, IsTrue, Err, Some};
+ghost use Rattle.vx_base.specs.Modes.{inner, reaches};
+ghost use Rattle.vx_record.specs.State.{IsProcess, current};
+ghost use Rattle.vx_record.specs.Asts.{changed_mode, cmexec, cmkrnl, is_inside};
+ghost use Rattle.vx_base.specs.declared.cond.Cond.TheVariants.{NoPriv};
+ghost use Rattle.vx_procs.specs.View.{state, capacities, HasFrameRoom};
+ghost use Rattle.vx_procs.specs.Words.{HasDecl, HasImage};
+ghost use Rattle.vx_ctl.specs.Answers.{DoesQuietly, cond_of};
+
+use crate::refused::Refused;
+use vx_base::{Cond, FrameKind, Mode, Pid, Routine};
+use vx_procs::{Core, current_mode, new_frame, process_of, push_frame};
+
+// The inner one of two modes.
+fn inner_of(a: Mode, b: Mode) -> Mode
+    ensures { result ≡ inner a b }
+{
+    if a.rank() < b.rank() { a } else { b }
+}
+
+// Whether a mode is executive or kernel mode.
+fn is_inside(mode: Mode) -> bool
+    ensures { result ≡ is_inside mode }
+{
+    mode.rank() <= 1
+}
+
+// Enters a routine in a mode that is not further out than the caller's.
+#[tactic(auto, using(crate::proofs::Inward::may_stand))]
+fn enter<R: Routine>(core: &mut Core<R>, p: Pid, mode: Mode, routine: R)
+    requires made { IsProcess (state core.old) p }
+    requires declared { HasDecl (state core.old) p }
+    requires image { HasImage (state core.old) p }
+    requires free { HasFrameRoom core.old p }
+    requires inward { IsTrue (reaches (current (state core.old) p) mode) }
+    ensures after { state core.new ≡ changed_mode (state core.old) p mode (R.tagged routine) }
+    ensures room { capacities core.new ≡ capacities core.old }
+{
+    let frame = new_frame(core, p, FrameKind::Change, mode, routine.enter(), 0);
+    push_frame(core, p, frame);
+}
+
+fn refuse<R>(routine: R) -> Result<Cond, Refused<R>>
+    ensures { result ≡ Err (record { cond = NoPriv; ast = Some routine }) }
+{
+    Err(Refused {
+        cond: Cond::NoPriv,
+        ast: Some(routine),
+    })
+}
+
+/// $CMEXEC: enters a routine in executive mode, or in kernel mode where the caller is there: NOPRIV where the caller is
+/// further out and has neither CMEXEC nor CMKRNL. A refusal hands the routine back.
+#[tactic(auto, using(crate::proofs::Inward::inner_reached))]
+pub fn cmexec<R: Routine>(core: &mut Core<R>, p: Pid, routine: R) -> Result<Cond, Refused<R>>
+    requires made { IsProcess (state core.old) p }
+    requires declared { HasDecl (state core.old) p }
+    requires image { HasImage (state core.old) p }
+    requires free { HasFrameRoom core.old p }
+    ensures does { DoesQuietly (cmexec (state core.old) p (R.tagged routine)) (cond_of result) (state core.new) }
+    ensures handed { IfErr result (λ refused. refused.ast ≡ Some routine) }
+    ensures room { capacities core.new ≡ capacities core.old }
+{
+    let mode = current_mode(core, p);
+    let privs = process_of(core, p).privs;
+    if !(is_inside(mode) || privs.cmexec || privs.cmkrnl) {
+        return refuse(routine);
+    }
+    enter(core, p, inner_of(mode, Mode::Exec), routine);
+    Ok(Cond::Normal)
+}
+
+/// $CMKRNL: enters a routine in kernel mode: NOPRIV where the caller is in user or supervisor mode and has no CMKRNL. A
+/// refusal hands the routine back.
+#[tactic(auto, using(crate::proofs::Inward::kernel_reached))]
+pub fn cmkrnl<R: Routine>(core: &mut Core<R>, p: Pid, routine: R) -> Result<Cond, Refused<R>>
+    requires made { IsProcess (state core.old) p }
+    requires declared { HasDecl (state core.old) p }
+    requires image { HasImage (state core.old) p }
+    requires free { HasFrameRoom core.old p }
+    ensures does { DoesQuietly (cmkrnl (state core.old) p (R.tagged routine)) (cond_of result) (state core.new) }
+    ensures handed { IfErr result (λ refused. refused.ast ≡ Some routine) }
+    ensures room { capacities core.new ≡ capacities core.old }
+{
+    let mode = current_mode(core, p);
+    if !(is_inside(mode) || process_of(core, p).privs.cmkrnl) {
+        return refuse(routine);
+    }
+    enter(core, p, Mode::Kernel, routine);
+    Ok(Cond::Normal)
+}

@@ -1,0 +1,12 @@
+use Rattle.std.proofs.Common.{◌<◌, length, arith}
+use Rattle.vx_procs.specs.View.{state}
+use Rattle.vx_exec.proofs.Enabled.{count_step}
+use Rattle.vx_exec.proofs.events.count.Goals as goal
+
+pub loop-place-preserved : goal.loop-place-preserved
+loop-place-preserved g c =
+    let within : c.loop-place.place < length (state c.args.core.now).procs = omega (arith, c.made-place-end.ensures, c.loop-place-test.true) in
+    record {
+      few = omega (arith, c.events_of-count.ensures.few, c.loop-place.invariant.few);
+      counted = count_step (state c.args.core.now) c.loop-place.place c.loop-place.count c.events_of-count.result _ within c.events_of-count.ensures.count c.loop-place.invariant.counted;
+    }

@@ -1,0 +1,65 @@
+//! What of a system the executive runs so far.
+
+ghost use Rattle.std.specs.Prelude.{◌≡◌};
+ghost use Rattle.std.specs.List.{list_all};
+ghost use Rattle.vx_exec.specs.Built.{are_no_units, is_built, is_built_image, is_built_service, is_built_stmt};
+
+use vx_base::Service;
+use vx_image::{Image, Stmt, System, UnitDecl};
+
+fn is_built_service(service: Service) -> bool
+    ensures { result ≡ is_built_service service }
+{
+    matches!(
+        service,
+        Service::SetEf
+            | Service::ClrEf
+            | Service::ReadEf
+            | Service::DclAst
+            | Service::SetAst
+            | Service::CmExec
+            | Service::CmKrnl
+            | Service::Exit
+    )
+}
+
+fn is_built_stmt(stmt: &Stmt) -> bool
+    ensures { result ≡ is_built_stmt stmt.now }
+{
+    match stmt {
+        Stmt::Service(call) => is_built_service(call.service),
+        _ => true,
+    }
+}
+
+fn are_built_stmts(stmts: &[Stmt]) -> bool
+    ensures { result ≡ list_all is_built_stmt stmts.now }
+{
+    stmts.iter().all(|stmt| is_built_stmt(stmt))
+}
+
+fn is_built_image(image: &Image) -> bool
+    ensures { result ≡ is_built_image image.now }
+{
+    image.labels.as_slice().len() < 4_294_967_296 && are_built_stmts(image.stmts.as_slice())
+}
+
+fn are_no_units(units: &[UnitDecl]) -> bool
+    ensures { result ≡ are_no_units units.now }
+{
+    units.is_empty()
+}
+
+fn are_built_images(images: &[Image]) -> bool
+    ensures { result ≡ list_all is_built_image images.now }
+{
+    images.iter().all(|image| is_built_image(image))
+}
+
+/// Whether the executive runs a system so far: it has no units, and its images call of the services those on event flags,
+/// ASTs and modes that wait for nothing, and $EXIT.
+pub fn built(system: &System) -> bool
+    ensures { result ≡ is_built system.now }
+{
+    are_no_units(system.units.as_slice()) && are_built_images(system.images.as_slice())
+}
