@@ -1,3 +1,3 @@
 pub mod Breaking
-pub mod Runs
+pub mod Numbers
 pub mod Simulated

@@ -1,5 +1,5 @@
 -- Two worked examples: a script that sets, reads and clears a flag and exits, and one whose flags are refused.
-use Rattle.std.specs.Prelude.{◌≡◌, ℕ, List, [], ◌∷◌, map, codes, true, false, Ok}
+use Rattle.std.specs.Prelude.{◌≡◌, ℕ, List, [], ◌∷◌, map, codes, true, false, Some, Ok}
 use Rattle.vx_base.specs.declared.mode.Mode.TheVariants.{User}
 use Rattle.vx_base.specs.declared.service.Service.{Service}
 use Rattle.vx_base.specs.declared.service.Service.TheVariants.{SetEf, ClrEf, ReadEf, Exit}
@@ -23,7 +23,7 @@ use Rattle.vx_image.specs.declared.decl.ProcDecl.{ProcDecl}
 use Rattle.vx_image.specs.declared.stmt.Stmt.TheVariants as stmt
 use Rattle.vx_image.specs.declared.system.System.{System}
 use Rattle.vx_script.specs.Reading.{read_script}
-use Rattle.vx_exec.specs.Model.{first, IsWhole}
+use Rattle.vx_record.specs.Runs.{chosen, end_after}
 use Rattle.vms.specs.Transcript.{transcript}
 
 -- a call, by its service and its first two arguments
@@ -78,10 +78,11 @@ flag_records =
 abbrev pub flag_transcript : List ℕ
 flag_transcript = codes "IMAGE MAIN\n  $SETEF 5\n  $READEF 5,A\n  $CLREF 5\n  $EXIT 1\nEND\nPROCESS P MAIN UIC=1:1 MODE=USER ASTLM=24 BIOLM=18 DIOLM=18 BYTLM=8192 TQELM=10 PRIV=NONE START=1\n$JOURNAL 1\n1 RUN 1 $SETEF 5 WASCLR\n FLAG 1:5 1\n2 RUN 1 $READEF 5,A WASSET\n VAR 1 A 32\n3 RUN 1 $CLREF 5 WASSET\n FLAG 1:5 0\n4 RUN 1 $EXIT 1 NORMAL\n5 RDN 1 GONE\n GONE 1\nPROCESS 1 P GONE 1\n$END DONE 5\n"
 
--- The script says the system, the records are its whole run, and the transcript is theirs.
+-- The script says the system, the records are the run that seed 0 chooses, and the transcript is theirs.
 pub record IsFlagExample : Type 0 where
   pub script : read_script flag_script ≡ Ok flag_system
-  pub run : IsWhole (first flag_system) flag_records
+  pub run : chosen flag_system 0 10000 ≡ flag_records
+  pub ended : end_after flag_system flag_records 10000 ≡ Some Done
   pub output : transcript flag_system flag_records Done ≡ flag_transcript
 
 -- Flags at the ends of their ranges, and an image that ends.
@@ -112,8 +113,9 @@ refused_records =
 abbrev pub refused_transcript : List ℕ
 refused_transcript = codes "IMAGE MAIN\n  $SETEF 31\n  $SETEF 63\n  $SETEF 64\n  $SETEF 127\n  $SETEF 128\nEND\nPROCESS P MAIN UIC=1:1 MODE=USER ASTLM=24 BIOLM=18 DIOLM=18 BYTLM=8192 TQELM=10 PRIV=NONE START=1\n$JOURNAL 1\n1 RUN 1 $SETEF 31 WASCLR\n FLAG 1:31 1\n2 RUN 1 $SETEF 63 WASCLR\n FLAG 1:63 1\n3 RUN 1 $SETEF 64 UNASEFC\n4 RUN 1 $SETEF 127 UNASEFC\n5 RUN 1 $SETEF 128 ILLEFC\n6 RUN 1 END\n7 RDN 1 GONE\n GONE 1\nPROCESS 1 P GONE 8052\n$END DONE 7\n"
 
--- The script says the system, the records are its whole run, and the transcript is theirs.
+-- The script says the system, the records are the run that seed 0 chooses, and the transcript is theirs.
 pub record IsRefusedExample : Type 0 where
   pub script : read_script refused_script ≡ Ok refused_system
-  pub run : IsWhole (first refused_system) refused_records
+  pub run : chosen refused_system 0 10000 ≡ refused_records
+  pub ended : end_after refused_system refused_records 10000 ≡ Some Done
   pub output : transcript refused_system refused_records Done ≡ refused_transcript

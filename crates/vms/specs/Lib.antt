@@ -1,6 +1,6 @@
 pub mod Code
 pub mod Example
 pub mod Simulated
-pub mod Taken
 pub mod Top
 pub mod Transcript
+pub mod Words

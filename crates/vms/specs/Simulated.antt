@@ -1,19 +1,21 @@
 -- What the simulation of an input that was read writes.
 use Rattle.std.specs.Prelude.{◌≡◌, ℕ, List, Option, Ok, IsTrue}
 use Rattle.std.specs.Io.KnownBytes.{Appends}
+use Rattle.vx_base.specs.declared.record.End.{End}
 use Rattle.vx_image.specs.declared.system.System.{System}
 use Rattle.vx_host.specs.Streams.{AppendsFront}
 use Rattle.vx_script.specs.Reading.{read_script}
 use Rattle.vx_exec.specs.Built.{is_built}
 use Rattle.vms.specs.Top.{no_memory, IsRefused, IsSimulated}
+use Rattle.vms.specs.declared.command.Options.{Options}
 
--- The input is the script of a system that is built, and the sink holds the transcript of its run more.
-pub record WritesRun (input : List ℕ) (held held_after : Option (List ℕ)) : Type 0 where
+-- The input is the script of a system that is built, and the sink holds the transcript of its run more, which has ended so.
+pub record WritesRun (input : List ℕ) (options : Options) (held held_after : Option (List ℕ)) (end : End) : Type 0 where
   pub system : System
   pub says : read_script input ≡ Ok system
   pub built : IsTrue (is_built system)
   pub text : List ℕ
-  pub simulated : IsSimulated system text
+  pub simulated : IsSimulated system options end text
   pub written : Appends held held_after text
 
 -- The input is refused, and the sink holds the line of the cause more.
@@ -23,7 +25,7 @@ pub record WritesRefusal (input : List ℕ) (held held_after : Option (List ℕ)
   pub written : Appends held held_after text
 
 -- The sink holds a front of the transcript, of the line of a refusal or of the line on memory more.
-pub data BreaksInput (input : List ℕ) (held held_after : Option (List ℕ)) : Type 0 where
-  in_run : (system : System) (text : List ℕ) → read_script input ≡ Ok system → IsTrue (is_built system) → IsSimulated system text → AppendsFront held held_after text → BreaksInput input held held_after
-  in_refusal : (text : List ℕ) → IsRefused input text → AppendsFront held held_after text → BreaksInput input held held_after
-  in_no_memory : AppendsFront held held_after no_memory → BreaksInput input held held_after
+pub data BreaksInput (input : List ℕ) (options : Options) (held held_after : Option (List ℕ)) : Type 0 where
+  in_run : (system : System) (end : End) (text : List ℕ) → read_script input ≡ Ok system → IsTrue (is_built system) → IsSimulated system options end text → AppendsFront held held_after text → BreaksInput input options held held_after
+  in_refusal : (text : List ℕ) → IsRefused input text → AppendsFront held held_after text → BreaksInput input options held held_after
+  in_no_memory : AppendsFront held held_after no_memory → BreaksInput input options held held_after

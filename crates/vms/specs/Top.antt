@@ -1,8 +1,7 @@
 -- What the top call answers and writes, and what it read for it.
 use Rattle.std.specs.Prelude.{◌≡◌, ℕ, List, [], ◌∷◌, ◌++◌, length, codes, decimal, bytes_eq, false, IsTrue, Option, None, Some, Result, Ok, Err, if◌then◌else◌}
 use Rattle.std.specs.Io.KnownBytes.{Appends, Keeps}
-use Rattle.vx_base.specs.declared.record.End.TheVariants.{Done}
-use Rattle.vx_base.specs.declared.record.Rec.{Rec}
+use Rattle.vx_base.specs.declared.record.End.{End}
 use Rattle.vx_image.specs.declared.system.System.{System}
 use Rattle.vx_host.specs.Causes.{Rose}
 use Rattle.vx_host.specs.Streams.{TakesAll, Takes, TakesAtMost, AppendsFront}
@@ -11,18 +10,11 @@ use Rattle.vx_script.specs.declared.fault.FaultKind.{FaultKind}
 use Rattle.vx_script.specs.declared.fault.FaultKind.TheVariants as kind
 use Rattle.vx_script.specs.declared.fault.ScriptFault.{ScriptFault}
 use Rattle.vx_exec.specs.Built.{is_built}
-use Rattle.vx_exec.specs.Model.{first, after, end_of, IsRun, HasOneRun}
+use Rattle.vx_record.specs.Runs.{IsRun, chosen, end_after}
 use Rattle.vms.specs.Transcript.{transcript}
-use Rattle.vms.specs.declared.command.Command.{Command}
+use Rattle.vms.specs.Words.{command_of}
 use Rattle.vms.specs.declared.command.Command.TheVariants.{Sim}
-
--- The words.
-
--- `sim` alone
-abbrev pub command_of : List (List ℕ) → Option Command
-command_of [] = None
-command_of (w ∷ []) = if bytes_eq w (codes "sim") then Some Sim else None
-command_of (w ∷ v ∷ ws) = None
+use Rattle.vms.specs.declared.command.Options.{Options}
 
 -- The lines that are no transcript's.
 
@@ -73,18 +65,20 @@ pub record RefusesWords (words : List (List ℕ)) (left left_after : Option (Lis
 
 -- The command is `sim`, and 67,108,865 bytes were read, one more than it takes.
 pub record Overflows (words : List (List ℕ)) (left left_after : Option (List ℕ)) : Type 0 where
-  pub asked : command_of words ≡ Some Sim
+  pub options : Options
+  pub asked : command_of words ≡ Some (Sim options)
   pub taken : Takes 67108865 left left_after
 
 -- The command is `sim`, and a read failed before that: the source's count of faults rose.
 pub record FailsToRead (words : List (List ℕ)) (left left_after : Option (List ℕ)) (faults faults_after : ℕ) : Type 0 where
-  pub asked : command_of words ≡ Some Sim
+  pub options : Options
+  pub asked : command_of words ≡ Some (Sim options)
   pub taken : TakesAtMost 67108864 left left_after
   pub rose : Rose faults faults_after
 
--- The command is `sim`, and its input was read whole: to the source's end, and within the limit.
-pub record ReadsInput (words : List (List ℕ)) (left left_after : Option (List ℕ)) (input : List ℕ) : Type 0 where
-  pub asked : command_of words ≡ Some Sim
+-- The command is `sim` with these options, and its input was read whole: to the source's end, and within the limit.
+pub record ReadsInput (words : List (List ℕ)) (options : Options) (left left_after : Option (List ℕ)) (input : List ℕ) : Type 0 where
+  pub asked : command_of words ≡ Some (Sim options)
   pub taken : TakesAll 67108864 left left_after input
 
 -- why an input is not run, and the line that tells it: it is no script, and this is its first fault; or it is the script of
@@ -95,31 +89,32 @@ pub data IsRefused (input : List ℕ) : List ℕ → Type 0 where
 
 -- The input is refused, and the text is the line of the cause.
 pub record RefusesText (words : List (List ℕ)) (left left_after : Option (List ℕ)) (text : List ℕ) : Type 0 where
+  pub options : Options
   pub input : List ℕ
-  pub read : ReadsInput words left left_after input
+  pub read : ReadsInput words options left left_after input
   pub refused : IsRefused input text
 
--- The records are a run of the machine from the system's opening state that ends with every process deleted, within
--- 10,000 records; no other run is whole; and the text is its transcript.
-pub record IsSimulated (system : System) (text : List ℕ) : Type 0 where
-  pub recs : List Rec
-  pub run : IsRun (first system) recs
-  pub done : end_of 10000 (length recs) (after (first system) recs) ≡ Some Done
-  pub one_run : HasOneRun (first system)
-  pub spells : text ≡ transcript system recs Done
+-- What the seed chooses is a run of the machine from the system's first state, with at most as many records as the limit; it
+-- has ended so; and the text is its transcript.
+pub record IsSimulated (system : System) (options : Options) (end : End) (text : List ℕ) : Type 0 where
+  pub run : IsRun system (chosen system options.seed options.limit)
+  pub ended : end_after system (chosen system options.seed options.limit) options.limit ≡ Some end
+  pub spells : text ≡ transcript system (chosen system options.seed options.limit) end
 
--- The input is the script of a system that is built, and the text is the transcript of the system's one run.
-pub record Simulates (words : List (List ℕ)) (left left_after : Option (List ℕ)) (text : List ℕ) : Type 0 where
+-- The input is the script of a system that is built, and the text is the transcript of the run that the seed chooses.
+pub record Simulates (words : List (List ℕ)) (left left_after : Option (List ℕ)) (end : End) (text : List ℕ) : Type 0 where
+  pub options : Options
   pub input : List ℕ
-  pub read : ReadsInput words left left_after input
+  pub read : ReadsInput words options left left_after input
   pub system : System
   pub says : read_script input ≡ Ok system
   pub built : IsTrue (is_built system)
-  pub simulated : IsSimulated system text
+  pub simulated : IsSimulated system options end text
 
 -- The command is `sim`, and no memory was found for it.
 pub record RunsOut (words : List (List ℕ)) : Type 0 where
-  pub asked : command_of words ≡ Some Sim
+  pub options : Options
+  pub asked : command_of words ≡ Some (Sim options)
 
 -- the texts of a call: each stands for one cause
 pub data IsTextOf (words : List (List ℕ)) (left left_after : Option (List ℕ)) (faults faults_after : ℕ) : List ℕ → Type 0 where
@@ -127,15 +122,15 @@ pub data IsTextOf (words : List (List ℕ)) (left left_after : Option (List ℕ)
   of_overflow : Overflows words left left_after → IsTextOf words left left_after faults faults_after too_long
   of_read_fault : FailsToRead words left left_after faults faults_after → IsTextOf words left left_after faults faults_after read_fault
   of_form : (text : List ℕ) → RefusesText words left left_after text → IsTextOf words left left_after faults faults_after text
-  of_run : (text : List ℕ) → Simulates words left left_after text → IsTextOf words left left_after faults faults_after text
+  of_run : (end : End) (text : List ℕ) → Simulates words left left_after end text → IsTextOf words left left_after faults faults_after text
   of_no_memory : RunsOut words → IsTextOf words left left_after faults faults_after no_memory
 
 -- What became of the text: the sink holds `held` before the call and `held_after` after it.
 
--- The sink holds the transcript more.
-pub record WritesTranscript (words : List (List ℕ)) (left left_after held held_after : Option (List ℕ)) : Type 0 where
+-- The sink holds the transcript of a run that has ended so more.
+pub record WritesTranscript (words : List (List ℕ)) (left left_after held held_after : Option (List ℕ)) (end : End) : Type 0 where
   pub text : List ℕ
-  pub simulates : Simulates words left left_after text
+  pub simulates : Simulates words left left_after end text
   pub written : Appends held held_after text
 
 -- The sink holds the line more that tells why the input is refused.

@@ -26,8 +26,8 @@ use Rattle.vx_image.specs.declared.system.System.{System}
 use Rattle.vx_image.specs.declared.unit.UnitDecl.{UnitDecl}
 use Rattle.vx_script.specs.Script.{ended_lines, spaced, script}
 use Rattle.vx_table.specs.Spelling.{target_text, mode_name, call_text}
-use Rattle.vx_exec.specs.State.{Process, State}
-use Rattle.vx_exec.specs.Model.{decl_of, first, after}
+use Rattle.vx_record.specs.State.{Process, State, no_decl}
+use Rattle.vx_record.specs.Runs.{after}
 use Rattle.vx_exec.specs.Standing.{standing_of, code_of}
 use Rattle.vx_exec.specs.declared.standing.Standing.{Standing}
 use Rattle.vx_exec.specs.declared.standing.Standing.TheVariants as standing
@@ -153,15 +153,22 @@ records_lines units n (r ∷ rs) = record_lines units n r ++ records_lines units
 
 abbrev pub standing_word : Standing → List ℕ
 standing_word standing.Gone = codes "GONE"
+standing_word standing.Susp = codes "SUSP"
 standing_word standing.Rundown = codes "RUNDOWN"
+standing_word standing.Hiber = codes "HIBER"
+standing_word standing.Flag = codes "FLAG"
 standing_word standing.Active = codes "ACTIVE"
 
 -- process n, of this name, as it stands
 abbrev pub standing_line : ℕ → List ℕ → Standing → ℕ → List ℕ
 standing_line n name standing code = codes "PROCESS " ++ (decimal n ++ 32 ∷ (name ++ 32 ∷ (standing_word standing ++ 32 ∷ decimal code)))
 
+-- the name of a process is its declaration's
+abbrev pub process_name : System → Process → List ℕ
+process_name system pr = (slice_index_or system.decls pr.decl no_decl).name
+
 abbrev pub process_line : System → ℕ → Process → List ℕ
-process_line system n pr = standing_line n (decl_of system pr).name (standing_of pr) (code_of pr)
+process_line system n pr = standing_line n (process_name system pr) (standing_of pr) (code_of pr)
 
 -- processes, the first of them with the number n
 abbrev pub process_lines : System → ℕ → List Process → List (List ℕ)
@@ -182,8 +189,8 @@ abbrev pub trailer_lines : State → End → ℕ → List (List ℕ)
 trailer_lines s end n = process_lines s.system 1 s.procs ++ end_line end n ∷ []
 
 -- the lines behind the script
-abbrev pub journal_lines : State → List Rec → End → List (List ℕ)
-journal_lines opening recs end = codes "$JOURNAL 1" ∷ (records_lines opening.system.units 1 recs ++ trailer_lines (after opening recs) end (length recs))
+abbrev pub journal_lines : System → List Rec → End → List (List ℕ)
+journal_lines system recs end = codes "$JOURNAL 1" ∷ (records_lines system.units 1 recs ++ trailer_lines (after system recs) end (length recs))
 
 abbrev pub transcript : System → List Rec → End → List ℕ
-transcript system recs end = script system ++ ended_lines (journal_lines (first system) recs end)
+transcript system recs end = script system ++ ended_lines (journal_lines system recs end)

@@ -7,11 +7,11 @@ ghost use Rattle.vx_host.specs.Streams.{AppendsFront};
 ghost use Rattle.vms.specs.Simulated.{WritesRun, WritesRefusal, BreaksInput};
 ghost use Rattle.vms.specs.Top.{usage, too_long, read_fault, fault_line, kind_word, no_memory, RefusesWords, Overflows, FailsToRead, RunsOut, WritesTranscript, WritesFault, Breaks};
 
-use crate::command::{Command, command_of};
+use crate::command::{Command, Options, command_of};
 use crate::simulate::transcript;
 use crate::status::Status;
 use std::alloc::Global;
-use vx_base::{Bytes, NoMemory};
+use vx_base::{Bytes, End, NoMemory};
 use vx_exec::built;
 use vx_host::{ReadFail, Sink, Source, read_all, write_all};
 use vx_script::{FaultKind, ScriptFail, ScriptFault, read_script};
@@ -85,17 +85,24 @@ fn fault_line(alloc: Global, fault: ScriptFault) -> Result<Bytes, NoMemory>
 }
 
 /// Simulates an input that was read whole, and writes what it comes to.
-fn simulate<K: Sink>(alloc: Global, input: &Bytes, sink: &mut K) -> Status
-    requires { length input.now < 4294967295 }
-    ensures status { (result ≡ Status.Done) ⊎ (result ≡ Status.Form)
-        ⊎ (result ≡ Status.NoMemory) ⊎ (result ≡ Status.WriteFault) }
-    ensures done { result ≡ Status.Done → WritesRun input.now (K.held sink.old) (K.held sink.new) }
+fn simulate<K: Sink>(alloc: Global, options: Options, input: &Bytes, sink: &mut K) -> Status
+    requires size { length input.now < 4294967295 }
+    requires above { 1 ≤ options.limit }
+    requires within { options.limit ≤ 100000 }
+    ensures status { (result ≡ Status.Done) ⊎ (result ≡ Status.Hung) ⊎ (result ≡ Status.Limit)
+        ⊎ (result ≡ Status.Form) ⊎ (result ≡ Status.NoMemory) ⊎ (result ≡ Status.WriteFault) }
+    ensures done { result ≡ Status.Done →
+        WritesRun input.now options (K.held sink.old) (K.held sink.new) End.Done }
+    ensures hung { result ≡ Status.Hung →
+        WritesRun input.now options (K.held sink.old) (K.held sink.new) End.Hung }
+    ensures limit { result ≡ Status.Limit →
+        WritesRun input.now options (K.held sink.old) (K.held sink.new) End.Limit }
     ensures form { result ≡ Status.Form →
         WritesRefusal input.now (K.held sink.old) (K.held sink.new) }
     ensures no_memory { result ≡ Status.NoMemory →
         Appends (K.held sink.old) (K.held sink.new) no_memory }
     ensures front { result ≡ Status.WriteFault →
-        BreaksInput input.now (K.held sink.old) (K.held sink.new) }
+        BreaksInput input.now options (K.held sink.old) (K.held sink.new) }
     ensures cause { result ≡ Status.WriteFault → Rose (K.faults sink.old) (K.faults sink.new) }
     ensures later { K.faults sink.old ≤ K.faults sink.new }
 {
@@ -104,8 +111,10 @@ fn simulate<K: Sink>(alloc: Global, input: &Bytes, sink: &mut K) -> Status
             if !built(&system) {
                 return tell(sink, b"vms: line 1 LATER\n", Status::Form);
             }
-            match transcript(alloc, system) {
-                Ok(text) => tell(sink, text.as_slice(), Status::Done),
+            match transcript(alloc, system, options) {
+                Ok((text, End::Done)) => tell(sink, text.as_slice(), Status::Done),
+                Ok((text, End::Hung)) => tell(sink, text.as_slice(), Status::Hung),
+                Ok((text, End::Limit)) => tell(sink, text.as_slice(), Status::Limit),
                 Err(NoMemory) => tell_no_memory(sink),
             }
         }
@@ -125,10 +134,16 @@ pub fn quiet_call<S: Source, K: Sink>(
     source: &mut S,
     sink: &mut K,
 ) -> Status
-    // The transcript of the script's one run was written.
+    // The transcript of the run that the seed chooses was written, with each of its endings.
     ensures done { result ≡ Status.Done →
         WritesTranscript words.now (S.left source.old) (S.left source.new)
-        (K.held sink.old) (K.held sink.new) }
+        (K.held sink.old) (K.held sink.new) End.Done }
+    ensures hung { result ≡ Status.Hung →
+        WritesTranscript words.now (S.left source.old) (S.left source.new)
+        (K.held sink.old) (K.held sink.new) End.Hung }
+    ensures limit { result ≡ Status.Limit →
+        WritesTranscript words.now (S.left source.old) (S.left source.new)
+        (K.held sink.old) (K.held sink.new) End.Limit }
 
     // Another line was written, each for its cause.
     ensures words { result ≡ Status.Words →
@@ -158,11 +173,11 @@ pub fn quiet_call<S: Source, K: Sink>(
     ensures source_later { S.faults source.old ≤ S.faults source.new }
     ensures sink_later { K.faults sink.old ≤ K.faults sink.new }
 {
-    let Some(Command::Sim) = command_of(words) else {
+    let Some(Command::Sim(options)) = command_of(words) else {
         return tell(sink, b"vms: usage\n", Status::Words);
     };
     match read_all(alloc, source, MOST) {
-        Ok(input) => simulate(alloc, &input, sink),
+        Ok(input) => simulate(alloc, options, &input, sink),
         Err(ReadFail::Fault) => tell(sink, b"vms: read fault\n", Status::ReadFault),
         Err(ReadFail::TooLong) => tell(sink, b"vms: input too long\n", Status::TooLong),
         Err(ReadFail::NoMemory) => tell_no_memory(sink),

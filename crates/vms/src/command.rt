@@ -1,26 +1,130 @@
 //! What the words ask for.
 
-ghost use Rattle.std.specs.Prelude.{◌≡◌};
-ghost use Rattle.vms.specs.Top.{command_of as the_command_of};
+ghost use Rattle.std.specs.Prelude.{◌≡◌, ◌≤◌, IfSome};
+ghost use Rattle.vms.specs.Words as spec;
 
+use crate::number::number_up_to;
 use vx_base::Bytes;
+
+/// What `sim` is to go by: the seed of the schedule, and how many records a run may have, 1 to 100,000.
+#[derive(Clone, Copy, Debug, PartialEq, Eq)]
+pub struct Options {
+    pub seed: u64,
+    pub limit: u32,
+}
 
 /// A command of the program.
 #[derive(Clone, Copy, Debug, PartialEq, Eq)]
 pub enum Command {
     /// `sim`: read a script, run its images, and write the transcript.
-    Sim,
+    Sim(Options),
+}
+
+/// The options that the words name.
+#[derive(Clone, Copy, Debug, PartialEq, Eq)]
+pub struct Given {
+    pub seed: Option<u64>,
+    pub limit: Option<u32>,
+}
+
+const NOTHING_GIVEN: Given = Given {
+    seed: None,
+    limit: None,
+};
+
+/// The most records that a run may have.
+const MOST_RECORDS: u64 = 100_000;
+
+fn with_seed(given: Given, word: &[u8]) -> Option<Given>
+    requires { spec.IsLimit given.limit }
+    ensures given { result ≡ spec.with_seed given word.now }
+    ensures limited { IfSome result (λ g. spec.IsLimit g.limit) }
+{
+    if given.seed.is_some() {
+        return None;
+    }
+    let seed = number_up_to(18_446_744_073_709_551_615, word)?;
+    Some(Given {
+        seed: Some(seed),
+        limit: given.limit,
+    })
+}
+
+fn limit_in(word: &[u8]) -> Option<u32>
+    ensures value { result ≡ spec.above_zero (spec.number_up_to 100000 word.now) }
+    ensures above { IfSome result (λ n. 1 ≤ n) }
+    ensures within { IfSome result (λ n. n ≤ 100000) }
+{
+    let n = number_up_to(MOST_RECORDS, word)?;
+    if n == 0 { None } else { Some(n as u32) }
+}
+
+fn with_limit(given: Given, word: &[u8]) -> Option<Given>
+    ensures given { result ≡ spec.with_limit given word.now }
+    ensures limited { IfSome result (λ g. spec.IsLimit g.limit) }
+{
+    if given.limit.is_some() {
+        return None;
+    }
+    let limit = limit_in(word)?;
+    Some(Given {
+        seed: given.seed,
+        limit: Some(limit),
+    })
+}
+
+fn with_option(given: Given, name: &[u8], word: &[u8]) -> Option<Given>
+    requires { spec.IsLimit given.limit }
+    ensures given { result ≡ spec.with_option given name.now word.now }
+    ensures limited { IfSome result (λ g. spec.IsLimit g.limit) }
+{
+    if name == b"--seed".as_slice() {
+        with_seed(given, word)
+    } else if name == b"--limit".as_slice() {
+        with_limit(given, word)
+    } else {
+        None
+    }
+}
+
+fn options_in(words: &[Bytes]) -> Option<Given>
+    ensures given { result ≡ spec.options_in words.now }
+    ensures limited { IfSome result (λ g. spec.IsLimit g.limit) }
+{
+    match words {
+        [] => Some(NOTHING_GIVEN),
+        [name, word] => with_option(NOTHING_GIVEN, name.as_slice(), word.as_slice()),
+        [first, word, second, other] => {
+            let given = with_option(NOTHING_GIVEN, first.as_slice(), word.as_slice())?;
+            with_option(given, second.as_slice(), other.as_slice())
+        }
+        _ => None,
+    }
+}
+
+fn options_of(given: Given) -> Options
+    requires { spec.IsLimit given.limit }
+    ensures options { result ≡ spec.options_of given }
+    ensures above { 1 ≤ result.limit }
+    ensures within { result.limit ≤ 100000 }
+{
+    Options {
+        seed: given.seed.unwrap_or(0),
+        limit: given.limit.unwrap_or(10_000),
+    }
 }
 
 /// The command that the words ask for, if they are in the form of one.
 pub fn command_of(words: &[Bytes]) -> Option<Command>
-    ensures { result ≡ the_command_of words.now }
+    ensures command { result ≡ spec.command_of words.now }
+    ensures limited { IfSome result spec.HasLimit }
 {
-    let [word] = words else {
+    let [word, rest @ ..] = words else {
         return None;
     };
-    if word.as_slice() == b"sim".as_slice() {
-        return Some(Command::Sim);
+    if word.as_slice() != b"sim".as_slice() {
+        return None;
     }
-    None
+    let given = options_in(rest)?;
+    Some(Command::Sim(options_of(given)))
 }

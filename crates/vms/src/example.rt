@@ -2,8 +2,8 @@
 
 ghost use Rattle.vms.specs.Example.{IsFlagExample, IsRefusedExample};
 
-/// The example's script spells its form, its records are the whole run of the machine, and its transcript is theirs:
-/// each by computation, from the definitions alone.
+/// The example's script says its system, its records are the run that seed 0 chooses, and its transcript is theirs: each by
+/// computation, from the definitions alone.
 pub fn flag_example()
     ensures { IsFlagExample }
 {}

@@ -10,8 +10,8 @@ mod call;
 mod command;
 mod effect;
 mod example;
+mod number;
 mod print;
-mod run;
 mod simulate;
 mod status;
 

@@ -4,12 +4,12 @@
 
 ghost use Rattle.std.specs.Prelude.{◌≡◌, ◌++◌, ◌∷◌, [], decimal, OnOk};
 ghost use Rattle.vx_script.specs.Script.{ended_lines};
-ghost use Rattle.vx_exec.specs.Model.{IsProcess, process_at};
+ghost use Rattle.vx_record.specs.State.{IsProcess, process_at};
 ghost use Rattle.vms.specs.Transcript.{unit_name, event_text, answer_text, record_lines, records_lines, standing_word, standing_line, process_line, process_lines, end_word, end_line, trailer_lines};
 
 use crate::effect::{print_effects, print_id, print_spaced, print_spaced_num};
 use std::alloc::Global;
-use vx_base::{Answer, Bytes, End, Event, Name, NoMemory, Pid, Rec, UnitNo};
+use vx_base::{Answer, Bytes, End, Event, Name, NoMemory, Pid, Rec, Scripted, UnitNo};
 use vx_exec::{Exec, Standing};
 use vx_image::UnitDecl;
 use vx_table::call_text;
@@ -125,7 +125,10 @@ fn standing_word(standing: Standing) -> &'static [u8]
 {
     match standing {
         Standing::Gone => b"GONE",
+        Standing::Susp => b"SUSP",
         Standing::Rundown => b"RUNDOWN",
+        Standing::Hiber => b"HIBER",
+        Standing::Flag => b"FLAG",
         Standing::Active => b"ACTIVE",
     }
 }
@@ -149,7 +152,7 @@ fn print_standing(
 }
 
 /// Appends how process p stands.
-fn print_process(alloc: Global, exec: &Exec, p: Pid, out: &mut Bytes) -> Result<(), NoMemory>
+fn print_process(alloc: Global, exec: &Exec<Scripted>, p: Pid, out: &mut Bytes) -> Result<(), NoMemory>
     requires { IsProcess exec.now.state p }
     ensures { OnOk result (out.new ≡ out.old
         ++ (process_line exec.now.state.system p.0 (process_at exec.now.state p) ++ 10 ∷ [])) }
@@ -169,7 +172,7 @@ fn end_word(end: End) -> &'static [u8]
 }
 
 /// Appends how each process stands.
-fn print_processes(alloc: Global, exec: &Exec, out: &mut Bytes) -> Result<(), NoMemory>
+fn print_processes(alloc: Global, exec: &Exec<Scripted>, out: &mut Bytes) -> Result<(), NoMemory>
     ensures { OnOk result (out.new ≡ out.old
         ++ ended_lines (process_lines exec.now.state.system 1 exec.now.state.procs)) }
 {
@@ -190,7 +193,7 @@ fn print_end(alloc: Global, end: End, taken: u32, out: &mut Bytes) -> Result<(),
 }
 
 /// Appends the trailer: how the processes stand, and the end after the records that were taken.
-pub fn print_trailer(alloc: Global, exec: &Exec, end: End, out: &mut Bytes) -> Result<(), NoMemory>
+pub fn print_trailer(alloc: Global, exec: &Exec<Scripted>, end: End, out: &mut Bytes) -> Result<(), NoMemory>
     ensures { OnOk result (out.new ≡ out.old
         ++ ended_lines (trailer_lines exec.now.state end exec.now.taken)) }
 {

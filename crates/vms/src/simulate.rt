@@ -1,31 +1,35 @@
 //! Simulates a system: from what a script says to the transcript of its run.
 
-ghost use Rattle.std.specs.Prelude.{IfOk, IsTrue};
+ghost use Rattle.std.specs.Prelude.{◌≤◌, IfOk, IsTrue};
 ghost use Rattle.vx_exec.specs.Built.{is_built};
+ghost use Rattle.vx_image.specs.WellFormed.{IsWellFormed};
 ghost use Rattle.vms.specs.Top.{IsSimulated};
 
+use crate::command::Options;
 use crate::print::{print_records, print_trailer};
-use crate::run::take_run;
 use std::alloc::Global;
-use vx_base::{Bytes, NoMemory};
-use vx_exec::Exec;
+use vx_base::{Bytes, End, NoMemory, Scripted};
+use vx_exec::{Exec, run_system};
 use vx_image::System;
 use vx_script::print_script;
 
-/// How many records a run may have where the words name no limit.
-pub const LIMIT: u32 = 10_000;
-
-/// The transcript of the run of a system.
-pub fn transcript(alloc: Global, system: System) -> Result<Bytes, NoMemory>
-    requires { IsTrue (is_built system) }
-    ensures { IfOk result (IsSimulated system) }
+/// The transcript of the run of a system that the seed chooses, and how the run has ended.
+pub fn transcript(
+    alloc: Global,
+    system: System,
+    options: Options,
+) -> Result<(Bytes, End), NoMemory>
+    requires formed { IsWellFormed system }
+    requires built { IsTrue (is_built system) }
+    requires above { 1 ≤ options.limit }
+    requires within { options.limit ≤ 100000 }
+    ensures { IfOk result (λ run. IsSimulated system options run.1 run.0) }
 {
     let mut text = print_script(alloc, &system)?;
-    let mut exec = Exec::new(alloc, system, LIMIT)?;
-    let (recs, end) = take_run(alloc, &mut exec)?;
+    let (exec, recs, end) = run_system::<Scripted>(alloc, system, options.seed, options.limit)?;
     text.push_all(b"$JOURNAL 1\n")?;
     let units = exec.system().units.as_slice();
     print_records(alloc, units, recs.as_slice(), &mut text)?;
     print_trailer(alloc, &exec, end, &mut text)?;
-    Ok(text)
+    Ok((text, end))
 }

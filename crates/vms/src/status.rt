@@ -7,10 +7,14 @@ ghost use Rattle.std.specs.Prelude.{◌≡◌};
 pub enum Status {
     /// The run ended with every process deleted, and its transcript was written.
     Done,
+    /// The run ended with nothing enabled and a process that is not deleted, and its transcript was written.
+    Hung,
     /// The words are in no form of a command.
     Words,
-    /// The input is no script.
+    /// The input is no script, or one of a system that the executive does not run yet.
     Form,
+    /// The run reached its limit with an event enabled, and its transcript was written.
+    Limit,
     /// The source failed.
     ReadFault,
     /// The sink failed; what was written is a front of the text.
@@ -30,8 +34,10 @@ impl Status {
     {
         match self {
             Status::Done => 0,
+            Status::Hung => 1,
             Status::Words => 2,
             Status::Form => 3,
+            Status::Limit => 4,
             Status::ReadFault => 6,
             Status::WriteFault => 7,
             Status::NoMemory => 8,

@@ -1,0 +1,88 @@
+-- What the words behind the program's name ask for.
+use Rattle.std.specs.Prelude.{ℕ, ◌+◌, ◌-◌, ◌*◌, ◌≤◌, ◌==◌, ◌&&◌, nat_le, Bool, true, false, List, [], ◌∷◌, codes, bytes_eq, Option, None, Some, option_map, if◌then◌else◌}
+use Rattle.std.specs.List.{list_all, fold}
+use Rattle.std.specs.Option.{option_and_then}
+use Rattle.vx_base.specs.Name.{is_digit}
+use Rattle.vms.specs.declared.command.Command.{Command}
+use Rattle.vms.specs.declared.command.Command.TheVariants.{Sim}
+use Rattle.vms.specs.declared.command.Given.{Given}
+use Rattle.vms.specs.declared.command.Options.{Options}
+
+-- Numbers: decimal digits without a sign or a leading zero.
+
+-- a digit behind a number
+abbrev pub with_digit : ℕ → ℕ → ℕ
+with_digit n d = n * 10 + (d - 48)
+
+abbrev pub digits_value : List ℕ → ℕ
+digits_value digits = fold with_digit 0 digits
+
+-- nothing, or a zero in front of more
+abbrev pub is_misspelled : List ℕ → Bool
+is_misspelled [] = true
+is_misspelled (d ∷ []) = false
+is_misspelled (d ∷ e ∷ digits) = d == 48
+
+-- the number of digits, where it is at most so much
+abbrev pub value_up_to : ℕ → List ℕ → Option ℕ
+value_up_to most digits = if list_all is_digit digits && nat_le (digits_value digits) most then Some (digits_value digits) else None
+
+-- the number that a word is, where it is at most so much
+abbrev pub number_up_to : ℕ → List ℕ → Option ℕ
+number_up_to most word = if is_misspelled word then None else value_up_to most word
+
+-- The options of `sim`: `--seed K` and `--limit N`, each at most once, in any order.
+
+abbrev pub nothing_given : Given
+nothing_given = record { seed = None; limit = None }
+
+-- an option that is not given yet, with its value
+abbrev pub once : Option ℕ → Option ℕ → (ℕ → Given) → Option Given
+once None (Some n) with = Some (with n)
+once None None with = None
+once (Some m) value with = None
+
+-- K is 0 to 18446744073709551615
+abbrev pub with_seed : Given → List ℕ → Option Given
+with_seed given word = once given.seed (number_up_to 18446744073709551615 word) (λ k. record given { seed = Some k })
+
+abbrev pub above_zero : Option ℕ → Option ℕ
+above_zero None = None
+above_zero (Some n) = if n == 0 then None else Some n
+
+-- N is 1 to 100,000
+abbrev pub with_limit : Given → List ℕ → Option Given
+with_limit given word = once given.limit (above_zero (number_up_to 100000 word)) (λ n. record given { limit = Some n })
+
+abbrev pub with_option : Given → List ℕ → List ℕ → Option Given
+with_option given name word = if bytes_eq name (codes "--seed") then with_seed given word else (if bytes_eq name (codes "--limit") then with_limit given word else None)
+
+abbrev pub options_in : List (List ℕ) → Option Given
+options_in [] = Some nothing_given
+options_in (a ∷ []) = None
+options_in (a ∷ b ∷ []) = with_option nothing_given a b
+options_in (a ∷ b ∷ c ∷ []) = None
+options_in (a ∷ b ∷ c ∷ d ∷ []) = option_and_then (λ given. with_option given c d) (with_option nothing_given a b)
+options_in (a ∷ b ∷ c ∷ d ∷ e ∷ words) = None
+
+abbrev pub or : ℕ → Option ℕ → ℕ
+or n None = n
+or n (Some m) = m
+
+-- seed 0 and 10,000 records, where nothing else is given
+abbrev pub options_of : Given → Options
+options_of given = record { seed = or 0 given.seed; limit = or 10000 given.limit }
+
+-- a limit is one that a run may have
+
+abbrev pub IsLimit : Option ℕ → Type 0
+IsLimit None = Unit {0}
+IsLimit (Some n) = (1 ≤ n) × (n ≤ 100000)
+
+abbrev pub HasLimit : Command → Type 0
+HasLimit (Sim options) = (1 ≤ options.limit) × (options.limit ≤ 100000)
+
+-- `sim` and its options
+abbrev pub command_of : List (List ℕ) → Option Command
+command_of [] = None
+command_of (word ∷ words) = if bytes_eq word (codes "sim") then option_map (λ given. Sim (options_of given)) (options_in words) else None
