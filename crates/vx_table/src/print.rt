@@ -10,7 +10,7 @@ use std::alloc::Global;
 use vx_base::{Arg, Args, Bytes, Call, Func, Mode, Name, NoMemory, Operand, Target};
 use vx_text::print_num;
 
-/// The name of an access mode.
+/// The name of an access mode, in capitals.
 pub fn mode_name(mode: Mode) -> &'static [u8]
     ensures { result.now ≡ spec.mode_name mode }
 {
@@ -22,6 +22,7 @@ pub fn mode_name(mode: Mode) -> &'static [u8]
     }
 }
 
+/// The name of $QIO's function, in capitals.
 fn func_name(func: Func) -> &'static [u8]
     ensures { result.now ≡ spec.func_name func }
 {
@@ -37,6 +38,7 @@ fn func_name(func: Func) -> &'static [u8]
     }
 }
 
+/// Appends `SS$_` and the condition's name.
 fn print_cond(cond: vx_base::Cond, out: &mut Bytes) -> Result<(), NoMemory>
     ensures { OnOk result (out.new ≡ out.old ++ spec.cond_text cond) }
 {
@@ -44,7 +46,7 @@ fn print_cond(cond: vx_base::Cond, out: &mut Bytes) -> Result<(), NoMemory>
     out.push_all(cond.name().as_bytes())
 }
 
-/// Appends a value, canonically.
+/// Appends a value: a number in decimal, a condition, a variable's letter, or `R0`, `PID`, `PRM`.
 pub fn print_operand(alloc: Global, operand: Operand, out: &mut Bytes) -> Result<(), NoMemory>
     ensures text { OnOk result (out.new ≡ out.old ++ spec.operand_text operand) }
     ensures held { IsHeldOperand operand }
@@ -59,7 +61,7 @@ pub fn print_operand(alloc: Global, operand: Operand, out: &mut Bytes) -> Result
     }
 }
 
-/// Appends a target, canonically.
+/// Appends a variable that a service writes: its letter, or `R0`.
 pub fn print_target(target: Target, out: &mut Bytes) -> Result<(), NoMemory>
     ensures { OnOk result (out.new ≡ out.old ++ spec.target_text target) }
 {
@@ -69,6 +71,7 @@ pub fn print_target(target: Target, out: &mut Bytes) -> Result<(), NoMemory>
     }
 }
 
+/// Appends a label's name, or `-` for none.
 fn print_label(label: Option<Name>, out: &mut Bytes) -> Result<(), NoMemory>
     ensures text { OnOk result (out.new ≡ out.old ++ spec.label_text label) }
     ensures held { IsHeldLabel label }
@@ -79,6 +82,7 @@ fn print_label(label: Option<Name>, out: &mut Bytes) -> Result<(), NoMemory>
     }
 }
 
+/// Appends an argument in the spelling of its kind, and nothing for one that is unused.
 fn print_arg(alloc: Global, arg: &Arg, out: &mut Bytes) -> Result<(), NoMemory>
     ensures text { OnOk result (out.new ≡ out.old ++ spec.arg_text arg.now) }
     ensures held { IsHeld arg.now }
@@ -94,12 +98,14 @@ fn print_arg(alloc: Global, arg: &Arg, out: &mut Bytes) -> Result<(), NoMemory>
     }
 }
 
+/// Whether the argument stands behind the last one of its service.
 fn is_unused(arg: &Arg) -> bool
     ensures { result ≡ is_unused arg.now }
 {
     matches!(arg, Arg::Unused)
 }
 
+/// Appends the arguments up to the first unused one, with a space before the first and a comma before each other.
 fn print_args(alloc: Global, args: &[Arg], out: &mut Bytes) -> Result<(), NoMemory>
     ensures text { OnOk result (out.new ≡ out.old ++ spec.args_text 32 args.now) }
     ensures held { OnOk result (AreHeld args.now) }
@@ -116,6 +122,7 @@ fn print_args(alloc: Global, args: &[Arg], out: &mut Bytes) -> Result<(), NoMemo
     Ok(())
 }
 
+/// The arguments in order.
 fn args_list(args: &Args) -> [Arg; 9]
     ensures { result ≡ args_list args.now }
 {
@@ -124,7 +131,8 @@ fn args_list(args: &Args) -> [Arg; 9]
     ]
 }
 
-/// The canonical text of a call, whether or not its service takes the arguments that it has.
+/// The canonical text of a call: `$` and its service's name, and all its arguments behind a space, between commas.
+/// Takes memory, and refuses nothing else.
 pub fn call_text(alloc: Global, call: &Call) -> Result<Bytes, NoMemory>
     ensures text { IfOk result (λ text. text ≡ spec.call_text call.now) }
     ensures held { OnOk result (AreHeld (args_list call.now.args)) }

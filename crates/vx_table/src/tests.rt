@@ -66,6 +66,7 @@ fn are_shown(alloc: Global, rows: &[(&str, &str)]) -> Result<bool, NoMemory> {
     Ok(true)
 }
 
+// Each service with all of its arguments.
 const WHOLE: [(&str, &str); 36] = [
     ("$setef 5", "$SETEF 5"),
     ("$clref a", "$CLREF A"),
@@ -84,7 +85,7 @@ const WHOLE: [(&str, &str); 36] = [
     ("$cantim 4,super", "$CANTIM 4,SUPER"),
     ("$schdwk pid,1,2", "$SCHDWK PID,1,2"),
     ("$canwak 1", "$CANWAK 1"),
-    ("$hiber", "$HIBER"),
+    ("$hiber ! 1", "$HIBER"),
     ("$wake 1", "$WAKE 1"),
     ("$suspnd 1", "$SUSPND 1"),
     ("$resume 1", "$RESUME 1"),
@@ -108,33 +109,106 @@ const WHOLE: [(&str, &str); 36] = [
     ("$gettim a", "$GETTIM A"),
 ];
 
-const DEFAULTS: [(&str, &str); 23] = [
-    ("$qio ,1,eof", "$QIO 0,1,EOF,0,-,0,0,0,0"),
-    ("$qiow ,1,readattn,,,,,,", "$QIOW 0,1,READATTN,0,-,0,0,0,0"),
-    ("$ascefc 64,c", "$ASCEFC 64,C,0"),
-    ("$dclast l", "$DCLAST L,0,KERNEL"),
-    ("$dclast l,,user", "$DCLAST L,0,USER"),
-    ("$cmexec l", "$CMEXEC L,0"),
-    ("$cmkrnl l,", "$CMKRNL L,0"),
-    ("$setimr ,9", "$SETIMR 0,9,-,0"),
+// Each service without arguments.
+const NONE: [(&str, &str); 36] = [
+    ("$setef", "missing 1"),
+    ("$clref", "missing 1"),
+    ("$readef", "missing 1"),
+    ("$waitfr", "missing 1"),
+    ("$wflor", "missing 1"),
+    ("$wfland", "missing 1"),
+    ("$ascefc", "missing 1"),
+    ("$dacefc", "missing 1"),
+    ("$dlcefc", "missing 1"),
+    ("$dclast", "missing 1"),
+    ("$setast", "missing 1"),
+    ("$cmexec", "missing 1"),
+    ("$cmkrnl", "missing 1"),
+    ("$setimr", "missing 2"),
     ("$cantim", "$CANTIM 0,KERNEL"),
-    ("$schdwk ,9", "$SCHDWK 0,9,0"),
+    ("$schdwk", "missing 2"),
     ("$canwak", "$CANWAK 0"),
+    ("$hiber", "$HIBER"),
     ("$wake", "$WAKE 0"),
     ("$suspnd", "$SUSPND 0"),
     ("$resume", "$RESUME 0"),
     ("$forcex", "$FORCEX 0,1"),
-    ("$forcex ,", "$FORCEX 0,1"),
+    ("$creprc", "missing 1"),
     ("$delprc", "$DELPRC 0"),
     ("$exit", "$EXIT 1"),
+    ("$dclexh", "missing 1"),
     ("$canexh", "$CANEXH -"),
-    ("$assign a,b", "$ASSIGN A,B,KERNEL"),
-    ("$crembx a,b", "$CREMBX A,B,0,256,1024,KERNEL"),
+    ("$assign", "missing 1"),
+    ("$dassgn", "missing 1"),
+    ("$crembx", "missing 1"),
+    ("$delmbx", "missing 1"),
+    ("$qio", "missing 2"),
+    ("$qiow", "missing 2"),
     ("$synch", "$SYNCH 0,0"),
-    ("$hiber ! 1", "$HIBER"),
+    ("$cancel", "missing 1"),
+    ("$gettim", "missing 1"),
 ];
 
-const FAULTS: [(&str, &str); 27] = [
+// Each service of two arguments and more with some of them.
+const SOME: [(&str, &str); 54] = [
+    ("$readef 1", "missing 2"),
+    ("$readef ,a", "missing 1"),
+    ("$wflor 1", "missing 2"),
+    ("$wflor ,1", "missing 1"),
+    ("$wfland 1", "missing 2"),
+    ("$wfland ,1", "missing 1"),
+    ("$ascefc 64", "missing 2"),
+    ("$ascefc 64,c", "$ASCEFC 64,C,0"),
+    ("$ascefc 64,,1", "missing 2"),
+    ("$dclast l", "$DCLAST L,0,KERNEL"),
+    ("$dclast l,1", "$DCLAST L,1,KERNEL"),
+    ("$dclast l,,user", "$DCLAST L,0,USER"),
+    ("$dclast ,1,user", "missing 1"),
+    ("$cmexec l", "$CMEXEC L,0"),
+    ("$cmexec ,1", "missing 1"),
+    ("$cmkrnl l,", "$CMKRNL L,0"),
+    ("$cmkrnl ,1", "missing 1"),
+    ("$setimr 1", "missing 2"),
+    ("$setimr 1,9", "$SETIMR 1,9,-,0"),
+    ("$setimr ,9,l", "$SETIMR 0,9,L,0"),
+    ("$setimr 1,9,,4", "$SETIMR 1,9,-,4"),
+    ("$setimr 1,,l,4", "missing 2"),
+    ("$setimr ,9,5", "argument 3"),
+    ("$cantim 4", "$CANTIM 4,KERNEL"),
+    ("$cantim ,user", "$CANTIM 0,USER"),
+    ("$schdwk 1", "missing 2"),
+    ("$schdwk 1,9", "$SCHDWK 1,9,0"),
+    ("$schdwk ,9,2", "$SCHDWK 0,9,2"),
+    ("$schdwk 1,,2", "missing 2"),
+    ("$forcex 2", "$FORCEX 2,1"),
+    ("$forcex ,9", "$FORCEX 0,9"),
+    ("$forcex ,", "$FORCEX 0,1"),
+    ("$creprc a", "missing 2"),
+    ("$creprc ,p", "missing 1"),
+    ("$assign a", "missing 2"),
+    ("$assign a,b", "$ASSIGN A,B,KERNEL"),
+    ("$assign a,,user", "missing 2"),
+    ("$crembx a", "missing 2"),
+    ("$crembx a,b", "$CREMBX A,B,0,256,1024,KERNEL"),
+    ("$crembx a,b,,80,65535", "$CREMBX A,B,0,80,65535,KERNEL"),
+    ("$crembx a,b,1,,,user", "$CREMBX A,B,1,256,1024,USER"),
+    ("$crembx a,,1", "missing 2"),
+    ("$qio 1,a", "missing 3"),
+    ("$qio ,1,eof", "$QIO 0,1,EOF,0,-,0,0,0,0"),
+    ("$qio 1,,read", "missing 2"),
+    ("$qio 1,a,,2", "missing 3"),
+    ("$qio 1,a,read,,l,,7,80", "$QIO 1,A,READ,0,L,0,7,80,0"),
+    ("$qiow 1", "missing 2"),
+    ("$qiow ,1,readattn,,,,,,", "$QIOW 0,1,READATTN,0,-,0,0,0,0"),
+    ("$qiow 1,m,read,1,,,0,80", "$QIOW 1,M,READ,1,-,0,0,80,0"),
+    ("$qiow 1,a,,2", "missing 3"),
+    ("$qiow 1,a,write,,5", "argument 5"),
+    ("$synch 1", "$SYNCH 1,0"),
+    ("$synch ,2", "$SYNCH 0,2"),
+];
+
+// Calls with a fault.
+const FAULTS: [(&str, &str); 25] = [
     ("$foo 1,,,", "unknown"),
     ("$setefs 1", "unknown"),
     ("$exit ,", "extra"),
@@ -146,10 +220,8 @@ const FAULTS: [(&str, &str); 27] = [
     ("$exit $exit", "argument 1"),
     ("$hiber 1", "extra"),
     ("$hiber ,", "extra"),
-    ("$setef", "missing 1"),
     ("$setef ,", "missing 1"),
     ("$setef foo,", "argument 1"),
-    ("$readef 1", "missing 2"),
     ("$readef ,pid", "missing 1"),
     ("$readef 1,pid", "argument 2"),
     ("$readef 1,5", "argument 2"),
@@ -173,7 +245,14 @@ fn calls_with_all_arguments(rt: HostRuntime) -> Result<(), Fail> {
 
 #[test]
 fn calls_with_some_arguments(rt: HostRuntime) -> Result<(), Fail> {
-    let same = are_shown(rt.alloc(), &DEFAULTS).ok().ok_or("memory")?;
+    let same = are_shown(rt.alloc(), &SOME).ok().ok_or("memory")?;
+    assert!(rt; same);
+    Ok(())
+}
+
+#[test]
+fn calls_without_arguments(rt: HostRuntime) -> Result<(), Fail> {
+    let same = are_shown(rt.alloc(), &NONE).ok().ok_or("memory")?;
     assert!(rt; same);
     Ok(())
 }

@@ -1,6 +1,6 @@
 //! What a device unit does.
 
-ghost use Rattle.std.specs.Prelude.{◌≡◌, ◌<◌, OnOk, IsTrue, IsSome, None, true};
+ghost use Rattle.std.specs.Prelude.{◌≡◌, ◌<◌, OnOk, OnErr, IsTrue, IsSome, None, true};
 ghost use Rattle.vx_base.specs.Serving.{serve};
 ghost use Rattle.vx_units.specs.Units.{Serving, is_for_unit, served, done};
 
@@ -10,12 +10,14 @@ use vx_base::{NoMemory, Reply, Req};
 pub trait DeviceUnit {
     ghost serving: { Self → Serving };
 
-    /// Makes ready to serve a request: finds the memory. Refused or not, the unit and its pending service stay as they were.
+    /// Makes ready to serve a request: finds the memory, or changes nothing. The unit and its pending service stay as they
+    /// were.
     fn ready(&mut self, req: &Req) -> Result<(), NoMemory>
         requires { IsTrue (is_for_unit req.now) }
         ensures unit { (serving self.new).unit ≡ (serving self.old).unit }
         ensures pending { (serving self.new).pending ≡ (serving self.old).pending }
-        ensures ok { OnOk result (IsTrue (serving self.new).ready) };
+        ensures ok { OnOk result (IsTrue (serving self.new).ready) }
+        ensures err { OnErr result (serving self.new ≡ serving self.old) };
 
     /// Serves a request that the unit is ready for, and leaves the service pending: the unit stays as it was until `settle`.
     /// Takes no memory.
