@@ -14,3 +14,6 @@ pub use asts::{dclast, setast};
 pub use flags::{clref, readef, satisfied, setef};
 pub use modes::{cmexec, cmkrnl};
 pub use refused::Refused;
+
+#[cfg(test)]
+mod tests;

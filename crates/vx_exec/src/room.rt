@@ -29,7 +29,8 @@ fn most<R: Routine>(core: &Core<R>, p: Pid) -> u128
     proc.frames.len() as u128 + (4 * proc.asts.len() as u128 + 2)
 }
 
-/// An empty log with room for all that an event of a process has. More than 32 bits count find no memory.
+/// An empty log with room for all that an event of a process has. Where that is more than 32 bits count there is no memory
+/// for it.
 pub(crate) fn log_for<R: Routine>(
     alloc: Global,
     core: &Core<R>,

@@ -66,14 +66,25 @@ fn readef(n: u32, v: Target) -> Stmt
     )
 }
 
-fn dclast(label: Name) -> Stmt
-    ensures { result ≡ Stmt.Service (record { service = Service.DclAst; args = args_of (Arg.Label (Some label) ∷ Arg.Value (Operand.Num 0) ∷ Arg.Mode Mode.Kernel ∷ []) }) }
+fn dclast(label: Name, mode: Mode) -> Stmt
+    ensures { result ≡ Stmt.Service (record { service = Service.DclAst; args = args_of (Arg.Label (Some label) ∷ Arg.Value (Operand.Num 0) ∷ Arg.Mode mode ∷ []) }) }
 {
     call(
         Service::DclAst,
         Arg::Label(Some(label)),
         Arg::Value(Operand::Num(0)),
-        Arg::Mode(Mode::Kernel),
+        Arg::Mode(mode),
+    )
+}
+
+fn cmexec(label: Name) -> Stmt
+    ensures { result ≡ Stmt.Service (record { service = Service.CmExec; args = args_of (Arg.Label (Some label) ∷ Arg.Value (Operand.Num 0) ∷ Arg.Unused ∷ []) }) }
+{
+    call(
+        Service::CmExec,
+        Arg::Label(Some(label)),
+        Arg::Value(Operand::Num(0)),
+        Arg::Unused,
     )
 }
 
@@ -87,9 +98,9 @@ fn image(text: &[u8], labels: Vec<Label>, stmts: Vec<Stmt>) -> Result<Image, Fai
     })
 }
 
-// A process of group 1 and member 1, in user mode, with so many ASTs and no other limit.
+// A process of group 1 and member 1, in user mode, with CMEXEC, so many ASTs and no other limit.
 fn process(text: &[u8], image: u32, ast: u32) -> Result<ProcDecl, Fail>
-    ensures { IfOk result (λ decl. decl ≡ record { name = text.now; image = image; group = 1; member = 1; mode = Mode.User; limits = record { ast = ast; bio = 0; dio = 0; byt = 0; tqe = 0 }; privs = record { cmexec = false; cmkrnl = false; group = false; prmceb = false; prmmbx = false; world = false }; start = true }) }
+    ensures { IfOk result (λ decl. decl ≡ record { name = text.now; image = image; group = 1; member = 1; mode = Mode.User; limits = record { ast = ast; bio = 0; dio = 0; byt = 0; tqe = 0 }; privs = record { cmexec = true; cmkrnl = false; group = false; prmceb = false; prmmbx = false; world = false }; start = true }) }
 {
     Ok(ProcDecl {
         name: name(text)?,
@@ -105,7 +116,7 @@ fn process(text: &[u8], image: u32, ast: u32) -> Result<ProcDecl, Fail>
             tqe: 0,
         },
         privs: Privs {
-            cmexec: false,
+            cmexec: true,
             cmkrnl: false,
             group: false,
             prmceb: false,
@@ -194,11 +205,11 @@ fn one_ast(alloc: Global) -> Result<System, Fail>
         vec![in alloc; Label { name: t, place: 5 }, Label { name: v, place: 7 }]?,
         vec![in alloc;
             with_value(Service::SetAst, Operand::Num(0)),
-            dclast(t),
-            dclast(t),
+            dclast(t, Mode::Kernel),
+            dclast(t, Mode::Kernel),
             with_value(Service::SetAst, Operand::Num(1)),
             with_value(Service::Exit, Operand::Num(1)),
-            dclast(v),
+            dclast(v, Mode::Kernel),
             Stmt::Return,
             Stmt::Return,
         ]?,
@@ -207,6 +218,51 @@ fn one_ast(alloc: Global) -> Result<System, Fail>
         alloc,
         vec![in alloc; main]?,
         vec![in alloc; process(b"P", 0, 1)?]?,
+    ))
+}
+
+// One process, whose AST enters a routine in executive mode, which declares one AST in user and one in executive mode.
+fn two_modes(alloc: Global) -> Result<System, Fail>
+    ensures formed { IfOk result IsWellFormed }
+    ensures built { IfOk result (λ system. IsTrue (is_built system)) }
+{
+    let (first, inside, second, inner) = (name(b"U1")?, name(b"X")?, name(b"U2")?, name(b"E")?);
+    let main = image(
+        b"MAIN",
+        vec![in alloc;
+            Label {
+                name: first,
+                place: 2
+            },
+            Label {
+                name: inside,
+                place: 4
+            },
+            Label {
+                name: second,
+                place: 7
+            },
+            Label {
+                name: inner,
+                place: 8
+            },
+        ]?,
+        vec![in alloc;
+            dclast(first, Mode::Kernel),
+            with_value(Service::Exit, Operand::Num(1)),
+            cmexec(inside),
+            Stmt::Return,
+            dclast(second, Mode::User),
+            dclast(inner, Mode::Kernel),
+            Stmt::Return,
+            Stmt::Return,
+            Stmt::Return,
+        ]?,
+    )?;
+    Ok(system(
+        alloc,
+        vec![in alloc; main]?,
+        vec![in alloc; process(b"P", 0, 24)?]?,
     ))
 }
 
@@ -302,6 +358,35 @@ fn asts_come_one_after_another(rt: HostRuntime) -> Result<(), Fail> {
             "Run(Pid(1)) SetAst WasClr [Enb { p: Pid(1), mode: User, bit: true }]",
             "Ast(Pid(1)) Ast(Id(1)) []",
             "Run(Pid(1)) DclAst Normal [Open { id: Id(2), kind: Ast, p: Pid(1), mode: Some(User), n: 0 }, Que(Id(2))]",
+            "Run(Pid(1)) Return [Leave(Id(1))]",
+            "Ast(Pid(1)) Ast(Id(2)) []",
+            "Run(Pid(1)) Return [Leave(Id(2))]",
+            "Run(Pid(1)) Exit Normal []",
+            "Rdn(Pid(1)) Gone [Gone(Pid(1))]",
+        ],
+    )?;
+    assert_eq!(rt; end, End::Done);
+    stands(&rt, &exec, 1, (b"P", Standing::Gone, 1));
+    Ok(())
+}
+
+#[test]
+fn asts_of_an_inner_mode_come_first(rt: HostRuntime) -> Result<(), Fail> {
+    let alloc = rt.alloc();
+    let (exec, recs, end) = run_system::<Scripted>(alloc, two_modes(alloc)?, 0, 10000)?;
+    says(
+        &rt,
+        alloc,
+        recs.as_slice(),
+        &[
+            "Run(Pid(1)) DclAst Normal [Open { id: Id(1), kind: Ast, p: Pid(1), mode: Some(User), n: 0 }, Que(Id(1))]",
+            "Ast(Pid(1)) Ast(Id(1)) []",
+            "Run(Pid(1)) CmExec Normal []",
+            "Run(Pid(1)) DclAst Normal [Open { id: Id(2), kind: Ast, p: Pid(1), mode: Some(User), n: 0 }, Que(Id(2))]",
+            "Run(Pid(1)) DclAst Normal [Open { id: Id(3), kind: Ast, p: Pid(1), mode: Some(Exec), n: 0 }, Que(Id(3))]",
+            "Ast(Pid(1)) Ast(Id(3)) []",
+            "Run(Pid(1)) Return [Leave(Id(3))]",
+            "Run(Pid(1)) Return []",
             "Run(Pid(1)) Return [Leave(Id(1))]",
             "Ast(Pid(1)) Ast(Id(2)) []",
             "Run(Pid(1)) Return [Leave(Id(2))]",
