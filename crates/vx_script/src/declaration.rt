@@ -8,13 +8,12 @@ ghost use Rattle.vx_script.specs.Results.{ReadsLine};
 use crate::draft::{DraftImage, DraftLines};
 use crate::fault::{FaultKind, LineFail};
 use crate::fields::{behind, end_at, name_at, number_at, text_at};
-
 use crate::keys::{NO_KEYS, keys_at};
 use crate::lines::{DeclLine, FaultLine, InputLine};
-use vx_register::{NumberedRegister, Register};
 use std::alloc::Global;
 use vx_base::{Name, Sequence};
 use vx_image::{Image, UnitDecl};
+use vx_register::{NumberedRegister, Register};
 use vx_text::{Tok, Token};
 
 /// What a unit is.
@@ -25,7 +24,9 @@ pub enum Device {
 }
 
 const MOST_UNITS: usize = 32;
+
 const MOST_IMAGES: usize = 256;
+
 const MOST_DECLS: usize = 1000;
 
 /// A name that stands nowhere yet.
@@ -134,7 +135,11 @@ pub fn input_line(line: u32, tokens: &[Token]) -> Result<InputLine, LineFail>
 }
 
 // A fault number that its unit does not have yet.
-pub fn fresh_fault(unit: Name, n: u32, faults: &NumberedRegister<FaultLine>) -> Result<u32, FaultKind>
+pub fn fresh_fault(
+    unit: Name,
+    n: u32,
+    faults: &NumberedRegister<FaultLine>,
+) -> Result<u32, FaultKind>
     ensures { result ≡ spec.fresh_fault unit n faults.now }
 {
     if faults.has(unit, n) {

@@ -7,10 +7,10 @@ ghost use Rattle.vx_script.specs.Results.{ReadsLine};
 
 use crate::declaration::{fresh, room_for};
 use crate::draft::{DraftImage, DraftLine, MOST_STMTS};
+use crate::ending::with_image;
 use crate::fault::LineFail;
 use crate::fields::{begins_with_sign, behind, end_at};
 use crate::parts::{Parts, Reading};
-use crate::ending::with_image;
 use crate::statement::stmt_of;
 use std::alloc::Global;
 use vx_base::Name;
