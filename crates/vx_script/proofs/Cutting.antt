@@ -1,5 +1,5 @@
 -- A text is its first line, and the lines behind it.
-use Rattle.std.proofs.Common.{◌≡◌, ℕ, zero, suc, ◌+◌, ◌<◌, ◌≤◌, ◌&&◌, ◌==◌, not, Bool, true, false, cond, List, [], ◌∷◌, length, take, drop, refl, sym, ap, ◌∙◌, arith, Result, Ok, Err}
+use Rattle.std.proofs.Common.{◌≡◌, ℕ, suc, ◌+◌, ◌<◌, ◌≤◌, ◌&&◌, ◌==◌, not, Bool, true, false, cond, List, [], ◌∷◌, length, take, drop, refl, sym, ap, ◌∙◌, arith, Result, Ok}
 use Rattle.vx_image.specs.declared.system.System.{System}
 use Rattle.vx_script.specs.Lines.{lines_of, first_line, line_len, onto_first, begins_with, without_return}
 use Rattle.vx_text.specs.Lex.{lex, Fails}

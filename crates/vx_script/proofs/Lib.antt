@@ -14,3 +14,4 @@ pub mod KeptParts
 pub mod InputLines
 pub mod ResolvedSystem
 pub mod Accepted
+pub mod Rises

@@ -1,5 +1,5 @@
 -- Tokens without their places.
-use Rattle.std.proofs.Common.{◌≡◌, ℕ, List, drop, sym, map}
+use Rattle.std.proofs.Common.{◌≡◌, ℕ, List, drop, sym}
 use Rattle.std.proofs.lemmas.List.{drop-map}
 use Rattle.vx_text.specs.declared.token.Token.{Token}
 use Rattle.vx_table.specs.Reading.{toks}

@@ -1,5 +1,5 @@
 -- The fields of a line, from the left. Each is the first of the tokens that are left; where none is left it is missing.
-use Rattle.std.specs.Prelude.{ℕ, ◌==◌, ◌&&◌, Bool, true, false, nat_le, List, [], ◌∷◌, length, codes, Result, Ok, Err, bytes_eq, if◌then◌else◌}
+use Rattle.std.specs.Prelude.{ℕ, ◌==◌, ◌&&◌, Bool, true, false, nat_le, List, [], ◌∷◌, length, Result, Ok, Err, bytes_eq, if◌then◌else◌}
 use Rattle.vx_base.specs.declared.call.Operand.{Operand}
 use Rattle.vx_base.specs.declared.call.Target.{Target}
 use Rattle.vx_text.specs.declared.token.Tok.{Tok}

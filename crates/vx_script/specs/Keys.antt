@@ -2,7 +2,6 @@
 use Rattle.std.specs.Prelude.{ℕ, zero, suc, ◌+◌, ◌==◌, Bool, true, false, List, [], ◌∷◌, drop, codes, Option, Some, None, Result, Ok, Err, bytes_eq, if◌then◌else◌}
 use Rattle.std.specs.List.{find}
 use Rattle.vx_base.specs.declared.mode.Mode.{Mode}
-use Rattle.vx_base.specs.declared.mode.Mode.TheVariants.{User}
 use Rattle.vx_base.specs.declared.quota.Need.{Need}
 use Rattle.vx_base.specs.declared.quota.Privs.{Privs}
 use Rattle.vx_text.specs.declared.token.Tok.{Tok}

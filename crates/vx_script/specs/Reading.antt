@@ -1,5 +1,5 @@
 -- A script, line by line.
-use Rattle.std.specs.Prelude.{ℕ, ◌+◌, nat_lt, Bool, List, [], ◌∷◌, ◌++◌, length, map, drop, codes, Option, Some, None, Result, Ok, Err, bytes_eq, if◌then◌else◌}
+use Rattle.std.specs.Prelude.{ℕ, ◌+◌, List, [], ◌∷◌, ◌++◌, length, drop, codes, Option, Some, None, Result, Ok, Err, bytes_eq, if◌then◌else◌}
 use Rattle.vx_image.specs.declared.system.System.{System}
 use Rattle.vx_text.specs.declared.token.Token.{Token}
 use Rattle.vx_text.specs.declared.token.Tok.{Tok}
@@ -10,7 +10,7 @@ use Rattle.vx_text.specs.Lex.{lex}
 use Rattle.vx_table.specs.Reading.{toks}
 use Rattle.vx_script.specs.Results.{◌>>=◌, at_line}
 use Rattle.vx_script.specs.Lines.{lines_of}
-use Rattle.vx_script.specs.Fields.{begins_with_sign, end_at, name_at}
+use Rattle.vx_script.specs.Fields.{begins_with_sign, end_at}
 use Rattle.vx_script.specs.Statements.{stmt_of}
 use Rattle.vx_script.specs.Declarations.{fresh, room_for, unit_line, input_line, fault_line, image_line, process_line}
 use Rattle.vx_script.specs.Resolving.{label_place, with_image, resolve}

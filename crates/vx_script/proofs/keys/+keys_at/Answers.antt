@@ -1,4 +1,4 @@
-use Rattle.std.proofs.Common.{sym, ◌∙◌, ap}
+use Rattle.std.proofs.Common.{◌∙◌, ap}
 use Rattle.vx_script.specs.Keys.{keys_from}
 use Rattle.vx_script.proofs.Taking.{no_key, key_taken, key_refused}
 use Rattle.vx_script.proofs.keys.+keys_at.Goals as goal
