@@ -2,4 +2,16 @@ pub mod Tokens
 pub mod Returns
 pub mod Taking
 pub mod Cutting
+pub mod Chains
+pub mod Appended
+pub mod Places
+pub mod InRange
+pub mod KeysInRange
+pub mod OpenImages
+pub mod EndedImages
+pub mod FaultLines
+pub mod KeptParts
+pub mod InputLines
+pub mod ResolvedSystem
+pub mod Accepted
 pub mod Rises

@@ -1,6 +1,6 @@
 //! A script, line by line.
 
-ghost use Rattle.std.specs.Prelude.{◌≡◌, ◌+◌, ◌<◌, ◌≤◌, length, drop};
+ghost use Rattle.std.specs.Prelude.{◌≡◌, ◌+◌, ◌<◌, ◌≤◌, IfOk, length, drop};
 ghost use Rattle.vx_image.specs.WellFormed.{IsWellFormed};
 ghost use Rattle.vx_table.specs.Reading.{toks};
 ghost use Rattle.vx_script.specs.Lines.{line_len, first_line, without_return};
@@ -247,10 +247,13 @@ fn read_lines(alloc: Global, text: &[u8]) -> Result<System, ScriptFail>
     closed(alloc, line, reading)
 }
 
-/// The system that a text spells, or the first line that is not of the grammar, and its fault. The text may be of any bytes.
+/// The system that a text spells, which is well formed, or the first line that is not of the grammar, and its fault. The text may
+/// be of any bytes.
+#[tactic(auto, using(crate::proofs::Accepted::if_read))]
 pub fn read_script(alloc: Global, text: &[u8]) -> Result<System, ScriptFail>
     requires { length text.now < 4294967295 }
     ensures reads { ReadsScript result (spec.read_script text.now) }
+    ensures well_formed { IfOk result (λ s. IsWellFormed s) }
 {
     read_lines(alloc, text)
 }

@@ -27,11 +27,11 @@ use Rattle.vx_table.specs.declared.fail.CallFail.{CallFail}
 use Rattle.vx_table.specs.Reading.{letter, long_operand, operand_word, target_word, word_arg, token_arg, arg_or, read_arg, and_args, read_args, first_piece, more_pieces, pieces, as_args, call_with, read_named, read_call}
 use Rattle.vx_table.proofs.Back.{firsts}
 
-abbrev IsOperandOr : Option Operand → Type 0
+abbrev pub IsOperandOr : Option Operand → Type 0
 IsOperandOr None = Unit {0}
 IsOperandOr (Some x) = is_operand x ≡ true
 
-abbrev IsTargetOr : Option Target → Type 0
+abbrev pub IsTargetOr : Option Target → Type 0
 IsTargetOr None = Unit {0}
 IsTargetOr (Some t) = is_target t ≡ true
 
@@ -48,13 +48,13 @@ long word =
     by_test IsOperandOr (bytes_eq word (codes "PID")) _ _ (λ _. refl) (λ _.
     by_test IsOperandOr (bytes_eq word (codes "PRM")) _ _ (λ _. refl) (λ _. tt)))
 
-operand_is : (word : List ℕ) → IsOperandOr (operand_word word)
+pub operand_is : (word : List ℕ) → IsOperandOr (operand_word word)
 operand_is word = by_test IsOperandOr (length word == 1) _ _ (λ _. variable (slice_index word 0)) (λ _. long word)
 
 target_variable : (b : ℕ) → IsTargetOr (option_map target.Var (letter b))
 target_variable b = by_test (λ (o : Option ℕ). IsTargetOr (option_map target.Var o)) (is_capital b) (Some b) None (λ h. h) (λ _. tt)
 
-target_is : (word : List ℕ) → IsTargetOr (target_word word)
+pub target_is : (word : List ℕ) → IsTargetOr (target_word word)
 target_is word = by_test IsTargetOr (length word == 1) _ _ (λ _. target_variable (slice_index word 0)) (λ _. by_test IsTargetOr (bytes_eq word (codes "R0")) _ _ (λ _. refl) (λ _. tt))
 
 value_arg : (o : Option Operand) → IsOperandOr o → IsArgOr kind.Value (option_map arg.Value o)

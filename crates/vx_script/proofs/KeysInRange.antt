@@ -1,0 +1,143 @@
+-- The keys of a PROCESS line are in range.
+use Rattle.std.proofs.Common.{◌≡◌, ℕ, zero, suc, Bool, true, ◌&&◌, nat_le, List, [], ◌∷◌, drop, Option, Some, None, Result, Ok, Err, IfOk, refl}
+use Rattle.std.proofs.lemmas.Bool.{and_from, le-leb}
+use Rattle.std.proofs.lemmas.Result.{IfOk-weaker}
+use Rattle.vx_image.specs.WellFormed.{are_limits}
+use Rattle.vx_text.specs.declared.token.Tok.{Tok}
+use Rattle.vx_script.specs.Results.{◌>>=◌, given}
+use Rattle.vx_script.specs.Fields.{sign_at, number_at}
+use Rattle.vx_script.specs.Keys.{uic_at, mode_at, limit_at, privs_at, start_at, key_in, no_keys, once, with_uic, with_mode, with_ast, with_bio, with_dio, with_byt, with_tqe, with_privs, with_start, with_key, taken_key, keys_from, or, first_uic, limits_of}
+use Rattle.vx_script.specs.declared.fault.FaultKind.TheVariants as kind
+use Rattle.vx_script.specs.declared.keys.Key.{Key}
+use Rattle.vx_script.specs.declared.keys.Key.TheVariants as key
+use Rattle.vx_script.specs.declared.keys.Keys.{Keys}
+use Rattle.vx_script.specs.declared.keys.TakenKey.{TakenKey}
+use Rattle.vx_script.specs.declared.keys.Uic.{Uic}
+use Rattle.vx_script.proofs.Chains.{after, after_by}
+use Rattle.vx_script.proofs.InRange.{IsBetween, number}
+
+-- what a process declaration with these keys has in range
+abbrev pub are_keys : Keys → Bool
+are_keys k = nat_le 1 (or first_uic k.uic).group && (nat_le (or first_uic k.uic).group 16382 && (nat_le (or first_uic k.uic).member 65534 && are_limits (limits_of k)))
+
+abbrev IsLimit : ℕ → Type 0
+IsLimit n = nat_le n 1000000 ≡ true
+
+pub record IsUic (u : Uic) : Type 0 where
+  pub first : nat_le 1 u.group ≡ true
+  pub group : nat_le u.group 16382 ≡ true
+  pub member : nat_le u.member 65534 ≡ true
+
+-- the same, number by number
+pub record AreKeys (k : Keys) : Type 0 where
+  pub uic : IsUic (or first_uic k.uic)
+  pub ast : IsLimit (or 24 k.ast)
+  pub bio : IsLimit (or 18 k.bio)
+  pub dio : IsLimit (or 18 k.dio)
+  pub byt : IsLimit (or 8192 k.byt)
+  pub tqe : IsLimit (or 10 k.tqe)
+
+pub all_in_range : (k : Keys) → AreKeys k → are_keys k ≡ true
+all_in_range k h =
+    let l = limits_of k in
+    and_from (nat_le 1 (or first_uic k.uic).group) _ h.uic.first (
+    and_from (nat_le (or first_uic k.uic).group 16382) _ h.uic.group (
+    and_from (nat_le (or first_uic k.uic).member 65534) _ h.uic.member (
+    and_from (nat_le l.ast 1000000) _ h.ast (
+    and_from (nat_le l.bio 1000000) _ h.bio (
+    and_from (nat_le l.dio 1000000) _ h.dio (
+    and_from (nat_le l.byt 1000000) (nat_le l.tqe 1000000) h.byt h.tqe))))))
+
+pub none_taken : AreKeys no_keys
+none_taken = record { uic = record { first = refl; group = refl; member = refl }; ast = refl; bio = refl; dio = refl; byt = refl; tqe = refl }
+
+uic_is : (tokens : List Tok) → IfOk (uic_at tokens) IsUic
+unfolding uic_at
+uic_is tokens =
+    after (sign_at 61 tokens) _ IsUic λ _ _.
+    after_by (number_at 1 16382 (drop 1 tokens)) _ (IsBetween 1 16382) IsUic (number 1 16382 (drop 1 tokens)) λ group h.
+    after (sign_at 58 (drop 2 tokens)) _ IsUic λ _ _.
+    after_by (number_at 0 65534 (drop 3 tokens)) _ (IsBetween 0 65534) IsUic (number 0 65534 (drop 3 tokens)) λ member k.
+    record { first = le-leb 1 group h.0; group = le-leb group 16382 h.1; member = le-leb member 65534 k.1 }
+
+limit_is : (tokens : List Tok) → IfOk (limit_at tokens) IsLimit
+unfolding limit_at
+limit_is tokens =
+    after (sign_at 61 tokens) _ IsLimit λ _ _.
+    IfOk-weaker (number_at 0 1000000 (drop 1 tokens)) (IsBetween 0 1000000) IsLimit (λ n h. le-leb n 1000000 h.1) (number 0 1000000 (drop 1 tokens))
+
+abbrev IsTaken : TakenKey → Type 0
+IsTaken taken = AreKeys taken.keys
+
+with_uic_is : (keys : Keys) (tokens : List Tok) → AreKeys keys → IfOk (with_uic keys tokens) IsTaken
+with_uic_is keys tokens h =
+    after (once keys.uic) _ IsTaken λ _ _.
+    after_by (uic_at tokens) _ IsUic IsTaken (uic_is tokens) λ uic k.
+    record { uic = k; ast = h.ast; bio = h.bio; dio = h.dio; byt = h.byt; tqe = h.tqe }
+
+with_mode_is : (keys : Keys) (tokens : List Tok) → AreKeys keys → IfOk (with_mode keys tokens) IsTaken
+with_mode_is keys tokens h =
+    after (once keys.mode) _ IsTaken λ _ _.
+    after (mode_at tokens) _ IsTaken λ mode _.
+    record { uic = h.uic; ast = h.ast; bio = h.bio; dio = h.dio; byt = h.byt; tqe = h.tqe }
+
+with_ast_is : (keys : Keys) (tokens : List Tok) → AreKeys keys → IfOk (with_ast keys tokens) IsTaken
+with_ast_is keys tokens h =
+    after (once keys.ast) _ IsTaken λ _ _.
+    after_by (limit_at tokens) _ IsLimit IsTaken (limit_is tokens) λ n k.
+    record { uic = h.uic; ast = k; bio = h.bio; dio = h.dio; byt = h.byt; tqe = h.tqe }
+
+with_bio_is : (keys : Keys) (tokens : List Tok) → AreKeys keys → IfOk (with_bio keys tokens) IsTaken
+with_bio_is keys tokens h =
+    after (once keys.bio) _ IsTaken λ _ _.
+    after_by (limit_at tokens) _ IsLimit IsTaken (limit_is tokens) λ n k.
+    record { uic = h.uic; ast = h.ast; bio = k; dio = h.dio; byt = h.byt; tqe = h.tqe }
+
+with_dio_is : (keys : Keys) (tokens : List Tok) → AreKeys keys → IfOk (with_dio keys tokens) IsTaken
+with_dio_is keys tokens h =
+    after (once keys.dio) _ IsTaken λ _ _.
+    after_by (limit_at tokens) _ IsLimit IsTaken (limit_is tokens) λ n k.
+    record { uic = h.uic; ast = h.ast; bio = h.bio; dio = k; byt = h.byt; tqe = h.tqe }
+
+with_byt_is : (keys : Keys) (tokens : List Tok) → AreKeys keys → IfOk (with_byt keys tokens) IsTaken
+with_byt_is keys tokens h =
+    after (once keys.byt) _ IsTaken λ _ _.
+    after_by (limit_at tokens) _ IsLimit IsTaken (limit_is tokens) λ n k.
+    record { uic = h.uic; ast = h.ast; bio = h.bio; dio = h.dio; byt = k; tqe = h.tqe }
+
+with_tqe_is : (keys : Keys) (tokens : List Tok) → AreKeys keys → IfOk (with_tqe keys tokens) IsTaken
+with_tqe_is keys tokens h =
+    after (once keys.tqe) _ IsTaken λ _ _.
+    after_by (limit_at tokens) _ IsLimit IsTaken (limit_is tokens) λ n k.
+    record { uic = h.uic; ast = h.ast; bio = h.bio; dio = h.dio; byt = h.byt; tqe = k }
+
+with_privs_is : (keys : Keys) (tokens : List Tok) → AreKeys keys → IfOk (with_privs keys tokens) IsTaken
+with_privs_is keys tokens h =
+    after (once keys.privs) _ IsTaken λ _ _.
+    after (privs_at tokens) _ IsTaken λ taken _.
+    record { uic = h.uic; ast = h.ast; bio = h.bio; dio = h.dio; byt = h.byt; tqe = h.tqe }
+
+with_start_is : (keys : Keys) (tokens : List Tok) → AreKeys keys → IfOk (with_start keys tokens) IsTaken
+with_start_is keys tokens h =
+    after (once keys.start) _ IsTaken λ _ _.
+    after (start_at tokens) _ IsTaken λ start _.
+    record { uic = h.uic; ast = h.ast; bio = h.bio; dio = h.dio; byt = h.byt; tqe = h.tqe }
+
+with_key_is : (keys : Keys) (k : Key) (tokens : List Tok) → AreKeys keys → IfOk (with_key keys k tokens) IsTaken
+unfolding with_key
+with_key_is keys key.Uic tokens h = with_uic_is keys tokens h
+with_key_is keys key.Mode tokens h = with_mode_is keys tokens h
+with_key_is keys key.AstLm tokens h = with_ast_is keys tokens h
+with_key_is keys key.BioLm tokens h = with_bio_is keys tokens h
+with_key_is keys key.DioLm tokens h = with_dio_is keys tokens h
+with_key_is keys key.BytLm tokens h = with_byt_is keys tokens h
+with_key_is keys key.TqeLm tokens h = with_tqe_is keys tokens h
+with_key_is keys key.Priv tokens h = with_privs_is keys tokens h
+with_key_is keys key.Start tokens h = with_start_is keys tokens h
+
+pub keys : (skip : ℕ) (taken : Keys) (tokens : List Tok) → AreKeys taken → IfOk (keys_from skip taken tokens) AreKeys
+unfolding keys_from
+keys skip taken [] h = h
+keys (suc skip) taken (t ∷ tokens) h = keys skip taken tokens h
+keys zero taken (t ∷ tokens) h =
+    after_by (taken_key taken t tokens) _ IsTaken AreKeys (after (given kind.Word (key_in t)) _ IsTaken λ k _. with_key_is taken k tokens h) λ more k. keys more.used more.keys tokens k
