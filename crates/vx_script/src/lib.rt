@@ -11,7 +11,6 @@ mod ending;
 mod fault;
 mod fields;
 mod image;
-mod items;
 mod keys;
 mod lines;
 mod named;
@@ -30,3 +29,6 @@ mod statement;
 pub use fault::{FaultKind, ScriptFail, ScriptFault};
 pub use print::print_script;
 pub use read::read_script;
+
+#[cfg(test)]
+mod tests;
