@@ -2,10 +2,12 @@
 use Rattle.std.specs.Prelude.{◌≡◌, ℕ, List, [], ◌∷◌, ◌++◌, length, codes, decimal, bytes_eq, false, IsTrue, Option, None, Some, Result, Ok, Err, if◌then◌else◌}
 use Rattle.std.specs.Io.KnownBytes.{Appends, Keeps}
 use Rattle.vx_base.specs.declared.record.End.{End}
+use Rattle.vx_base.specs.declared.record.End.TheVariants.{Done}
 use Rattle.vx_image.specs.declared.system.System.{System}
 use Rattle.vx_host.specs.Causes.{Rose}
 use Rattle.vx_host.specs.Streams.{TakesAll, Takes, TakesAtMost, AppendsFront}
 use Rattle.vx_script.specs.Reading.{read_script}
+use Rattle.vx_script.specs.Script.{script}
 use Rattle.vx_script.specs.declared.fault.FaultKind.{FaultKind}
 use Rattle.vx_script.specs.declared.fault.FaultKind.TheVariants as kind
 use Rattle.vx_script.specs.declared.fault.ScriptFault.{ScriptFault}
@@ -13,7 +15,8 @@ use Rattle.vx_exec.specs.Built.{is_built}
 use Rattle.vx_record.specs.Runs.{IsRun, chosen, end_after}
 use Rattle.vms.specs.Transcript.{transcript}
 use Rattle.vms.specs.Words.{command_of}
-use Rattle.vms.specs.declared.command.Command.TheVariants.{Sim}
+use Rattle.vms.specs.declared.command.Command.{Command}
+use Rattle.vms.specs.declared.command.Command.TheVariants.{Sim, Show}
 use Rattle.vms.specs.declared.command.Options.{Options}
 
 -- The lines that are no transcript's.
@@ -63,36 +66,36 @@ pub record RefusesWords (words : List (List ℕ)) (left left_after : Option (Lis
   pub form : command_of words ≡ None
   pub kept : Keeps left left_after
 
--- The command is `sim`, and 67,108,865 bytes were read, one more than it takes.
+-- The words are a command's, and 67,108,865 bytes were read, one more than it takes.
 pub record Overflows (words : List (List ℕ)) (left left_after : Option (List ℕ)) : Type 0 where
-  pub options : Options
-  pub asked : command_of words ≡ Some (Sim options)
+  pub command : Command
+  pub asked : command_of words ≡ Some command
   pub taken : Takes 67108865 left left_after
 
--- The command is `sim`, and a read failed before that: the source's count of faults rose.
+-- The words are a command's, and a read failed before that: the source's count of faults rose.
 pub record FailsToRead (words : List (List ℕ)) (left left_after : Option (List ℕ)) (faults faults_after : ℕ) : Type 0 where
-  pub options : Options
-  pub asked : command_of words ≡ Some (Sim options)
+  pub command : Command
+  pub asked : command_of words ≡ Some command
   pub taken : TakesAtMost 67108864 left left_after
   pub rose : Rose faults faults_after
 
--- The command is `sim` with these options, and its input was read whole: to the source's end, and within the limit.
-pub record ReadsInput (words : List (List ℕ)) (options : Options) (left left_after : Option (List ℕ)) (input : List ℕ) : Type 0 where
-  pub asked : command_of words ≡ Some (Sim options)
+-- The words are this command's, and its input was read whole: to the source's end, and within the limit.
+pub record ReadsInput (words : List (List ℕ)) (command : Command) (left left_after : Option (List ℕ)) (input : List ℕ) : Type 0 where
+  pub asked : command_of words ≡ Some command
   pub taken : TakesAll 67108864 left left_after input
 
--- why an input is not run, and the line that tells it: it is no script, and this is its first fault; or it is the script of
--- a system that the executive does not run yet
-pub data IsRefused (input : List ℕ) : List ℕ → Type 0 where
-  no_script : (fault : ScriptFault) → read_script input ≡ Err fault → IsRefused input (fault_line fault)
-  not_built : (system : System) → read_script input ≡ Ok system → is_built system ≡ false → IsRefused input later
+-- why an input is refused, and the line that tells it: it is no script, and this is its first fault; or it is the script of
+-- a system that is to be simulated and that the executive does not run yet
+pub data IsRefused (command : Command) (input : List ℕ) : List ℕ → Type 0 where
+  no_script : (fault : ScriptFault) → read_script input ≡ Err fault → IsRefused command input (fault_line fault)
+  not_built : (options : Options) (system : System) → command ≡ Sim options → read_script input ≡ Ok system → is_built system ≡ false → IsRefused command input later
 
 -- The input is refused, and the text is the line of the cause.
 pub record RefusesText (words : List (List ℕ)) (left left_after : Option (List ℕ)) (text : List ℕ) : Type 0 where
-  pub options : Options
+  pub command : Command
   pub input : List ℕ
-  pub read : ReadsInput words options left left_after input
-  pub refused : IsRefused input text
+  pub read : ReadsInput words command left left_after input
+  pub refused : IsRefused command input text
 
 -- What the seed chooses is a run of the machine from the system's first state, with at most as many records as the limit; it
 -- has ended so; and the text is its transcript.
@@ -101,20 +104,29 @@ pub record IsSimulated (system : System) (options : Options) (end : End) (text :
   pub ended : end_after system (chosen system options.seed options.limit) options.limit ≡ Some end
   pub spells : text ≡ transcript system (chosen system options.seed options.limit) end
 
--- The input is the script of a system that is built, and the text is the transcript of the run that the seed chooses.
+-- The command is `sim`, the input is the script of a system that is built, and the text is the transcript of the run that the
+-- seed chooses.
 pub record Simulates (words : List (List ℕ)) (left left_after : Option (List ℕ)) (end : End) (text : List ℕ) : Type 0 where
   pub options : Options
   pub input : List ℕ
-  pub read : ReadsInput words options left left_after input
+  pub read : ReadsInput words (Sim options) left left_after input
   pub system : System
   pub says : read_script input ≡ Ok system
   pub built : IsTrue (is_built system)
   pub simulated : IsSimulated system options end text
 
--- The command is `sim`, and no memory was found for it.
+-- The command is `show`, the input is a script, and the text is its canonical script.
+pub record Shows (words : List (List ℕ)) (left left_after : Option (List ℕ)) (text : List ℕ) : Type 0 where
+  pub input : List ℕ
+  pub read : ReadsInput words Show left left_after input
+  pub system : System
+  pub says : read_script input ≡ Ok system
+  pub spells : text ≡ script system
+
+-- The words are a command's, and no memory was found for it.
 pub record RunsOut (words : List (List ℕ)) : Type 0 where
-  pub options : Options
-  pub asked : command_of words ≡ Some (Sim options)
+  pub command : Command
+  pub asked : command_of words ≡ Some command
 
 -- the texts of a call: each stands for one cause
 pub data IsTextOf (words : List (List ℕ)) (left left_after : Option (List ℕ)) (faults faults_after : ℕ) : List ℕ → Type 0 where
@@ -123,6 +135,7 @@ pub data IsTextOf (words : List (List ℕ)) (left left_after : Option (List ℕ)
   of_read_fault : FailsToRead words left left_after faults faults_after → IsTextOf words left left_after faults faults_after read_fault
   of_form : (text : List ℕ) → RefusesText words left left_after text → IsTextOf words left left_after faults faults_after text
   of_run : (end : End) (text : List ℕ) → Simulates words left left_after end text → IsTextOf words left left_after faults faults_after text
+  of_show : (text : List ℕ) → Shows words left left_after text → IsTextOf words left left_after faults faults_after text
   of_no_memory : RunsOut words → IsTextOf words left left_after faults faults_after no_memory
 
 -- What became of the text: the sink holds `held` before the call and `held_after` after it.
@@ -132,6 +145,17 @@ pub record WritesTranscript (words : List (List ℕ)) (left left_after held held
   pub text : List ℕ
   pub simulates : Simulates words left left_after end text
   pub written : Appends held held_after text
+
+-- The sink holds the canonical script more.
+pub record WritesScript (words : List (List ℕ)) (left left_after held held_after : Option (List ℕ)) : Type 0 where
+  pub text : List ℕ
+  pub shows : Shows words left left_after text
+  pub written : Appends held held_after text
+
+-- `sim` has run to the end, or `show` has shown
+pub data Completes (words : List (List ℕ)) (left left_after held held_after : Option (List ℕ)) : Type 0 where
+  ran : WritesTranscript words left left_after held held_after Done → Completes words left left_after held held_after
+  showed : WritesScript words left left_after held held_after → Completes words left left_after held held_after
 
 -- The sink holds the line more that tells why the input is refused.
 pub record WritesFault (words : List (List ℕ)) (left left_after held held_after : Option (List ℕ)) : Type 0 where

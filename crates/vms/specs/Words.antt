@@ -4,7 +4,7 @@ use Rattle.std.specs.List.{list_all, fold}
 use Rattle.std.specs.Option.{option_and_then}
 use Rattle.vx_base.specs.Name.{is_digit}
 use Rattle.vms.specs.declared.command.Command.{Command}
-use Rattle.vms.specs.declared.command.Command.TheVariants.{Sim}
+use Rattle.vms.specs.declared.command.Command.TheVariants.{Sim, Show}
 use Rattle.vms.specs.declared.command.Given.{Given}
 use Rattle.vms.specs.declared.command.Options.{Options}
 
@@ -81,8 +81,17 @@ IsLimit (Some n) = (1 ≤ n) × (n ≤ 100000)
 
 abbrev pub HasLimit : Command → Type 0
 HasLimit (Sim options) = (1 ≤ options.limit) × (options.limit ≤ 100000)
+HasLimit Show = Unit {0}
 
--- `sim` and its options
+abbrev pub sim_of : Given → Command
+sim_of given = Sim (options_of given)
+
+-- `show` alone
+abbrev pub show_in : List (List ℕ) → Option Command
+show_in [] = Some Show
+show_in (word ∷ words) = None
+
+-- `sim` and its options, or `show`
 abbrev pub command_of : List (List ℕ) → Option Command
 command_of [] = None
-command_of (word ∷ words) = if bytes_eq word (codes "sim") then option_map (λ given. Sim (options_of given)) (options_in words) else None
+command_of (word ∷ words) = if bytes_eq word (codes "sim") then option_map sim_of (options_in words) else (if bytes_eq word (codes "show") then show_in words else None)

@@ -4,8 +4,8 @@ ghost use Rattle.std.specs.Prelude.{◌≡◌, ◌≢◌, ◌⊎◌, ◌<◌, �
 ghost use Rattle.std.specs.Io.KnownBytes.{Appends};
 ghost use Rattle.vx_host.specs.Causes.{Rose};
 ghost use Rattle.vx_host.specs.Streams.{AppendsFront};
-ghost use Rattle.vms.specs.Simulated.{WritesRun, WritesRefusal, BreaksInput};
-ghost use Rattle.vms.specs.Top.{usage, too_long, read_fault, fault_line, kind_word, no_memory, RefusesWords, Overflows, FailsToRead, RunsOut, WritesTranscript, WritesFault, Breaks};
+ghost use Rattle.vms.specs.Simulated.{WritesRun, WritesRefusal, WritesShown, BreaksInput, BreaksShown};
+ghost use Rattle.vms.specs.Top.{usage, too_long, read_fault, fault_line, kind_word, no_memory, RefusesWords, Overflows, FailsToRead, RunsOut, Completes, WritesTranscript, WritesFault, Breaks};
 
 use crate::command::{Command, Options, command_of};
 use crate::simulate::transcript;
@@ -14,7 +14,7 @@ use std::alloc::Global;
 use vx_base::{Bytes, End, NoMemory};
 use vx_exec::built;
 use vx_host::{ReadFail, Sink, Source, read_all, write_all};
-use vx_script::{FaultKind, ScriptFail, ScriptFault, read_script};
+use vx_script::{FaultKind, ScriptFail, ScriptFault, print_script, read_script};
 use vx_text::print_num;
 
 /// The most bytes of an input.
@@ -98,7 +98,7 @@ fn simulate<K: Sink>(alloc: Global, options: Options, input: &Bytes, sink: &mut 
     ensures limit { result ≡ Status.Limit →
         WritesRun input.now options (K.held sink.old) (K.held sink.new) End.Limit }
     ensures form { result ≡ Status.Form →
-        WritesRefusal input.now (K.held sink.old) (K.held sink.new) }
+        WritesRefusal (Command.Sim options) input.now (K.held sink.old) (K.held sink.new) }
     ensures no_memory { result ≡ Status.NoMemory →
         Appends (K.held sink.old) (K.held sink.new) no_memory }
     ensures front { result ≡ Status.WriteFault →
@@ -126,6 +126,34 @@ fn simulate<K: Sink>(alloc: Global, options: Options, input: &Bytes, sink: &mut 
     }
 }
 
+/// Shows an input that was read whole, and writes what it comes to.
+fn show<K: Sink>(alloc: Global, input: &Bytes, sink: &mut K) -> Status
+    requires { length input.now < 4294967295 }
+    ensures status { (result ≡ Status.Done) ⊎ (result ≡ Status.Form)
+        ⊎ (result ≡ Status.NoMemory) ⊎ (result ≡ Status.WriteFault) }
+    ensures done { result ≡ Status.Done → WritesShown input.now (K.held sink.old) (K.held sink.new) }
+    ensures form { result ≡ Status.Form →
+        WritesRefusal Command.Show input.now (K.held sink.old) (K.held sink.new) }
+    ensures no_memory { result ≡ Status.NoMemory →
+        Appends (K.held sink.old) (K.held sink.new) no_memory }
+    ensures front { result ≡ Status.WriteFault →
+        BreaksShown input.now (K.held sink.old) (K.held sink.new) }
+    ensures cause { result ≡ Status.WriteFault → Rose (K.faults sink.old) (K.faults sink.new) }
+    ensures later { K.faults sink.old ≤ K.faults sink.new }
+{
+    match read_script(alloc, input.as_slice()) {
+        Ok(system) => match print_script(alloc, &system) {
+            Ok(text) => tell(sink, text.as_slice(), Status::Done),
+            Err(NoMemory) => tell_no_memory(sink),
+        },
+        Err(ScriptFail::Fault(fault)) => match fault_line(alloc, fault) {
+            Ok(text) => tell(sink, text.as_slice(), Status::Form),
+            Err(NoMemory) => tell_no_memory(sink),
+        },
+        Err(ScriptFail::NoMemory) => tell_no_memory(sink),
+    }
+}
+
 /// The call that the program makes: what the words ask for, from the source to the sink. It waits for nobody, and
 /// returns where the source and the sink do. The words are those behind the program's name.
 pub fn quiet_call<S: Source, K: Sink>(
@@ -134,10 +162,10 @@ pub fn quiet_call<S: Source, K: Sink>(
     source: &mut S,
     sink: &mut K,
 ) -> Status
-    // The transcript of the run that the seed chooses was written, with each of its endings.
+    // The transcript of the run that the seed chooses was written, with each of its endings; or the canonical script.
     ensures done { result ≡ Status.Done →
-        WritesTranscript words.now (S.left source.old) (S.left source.new)
-        (K.held sink.old) (K.held sink.new) End.Done }
+        Completes words.now (S.left source.old) (S.left source.new)
+        (K.held sink.old) (K.held sink.new) }
     ensures hung { result ≡ Status.Hung →
         WritesTranscript words.now (S.left source.old) (S.left source.new)
         (K.held sink.old) (K.held sink.new) End.Hung }
@@ -173,11 +201,14 @@ pub fn quiet_call<S: Source, K: Sink>(
     ensures source_later { S.faults source.old ≤ S.faults source.new }
     ensures sink_later { K.faults sink.old ≤ K.faults sink.new }
 {
-    let Some(Command::Sim(options)) = command_of(words) else {
+    let Some(command) = command_of(words) else {
         return tell(sink, b"vms: usage\n", Status::Words);
     };
     match read_all(alloc, source, MOST) {
-        Ok(input) => simulate(alloc, options, &input, sink),
+        Ok(input) => match command {
+            Command::Sim(options) => simulate(alloc, options, &input, sink),
+            Command::Show => show(alloc, &input, sink),
+        },
         Err(ReadFail::Fault) => tell(sink, b"vms: read fault\n", Status::ReadFault),
         Err(ReadFail::TooLong) => tell(sink, b"vms: input too long\n", Status::TooLong),
         Err(ReadFail::NoMemory) => tell_no_memory(sink),

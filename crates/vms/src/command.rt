@@ -18,6 +18,8 @@ pub struct Options {
 pub enum Command {
     /// `sim`: read a script, run its images, and write the transcript.
     Sim(Options),
+    /// `show`: read a script, and write it canonically.
+    Show,
 }
 
 /// The options that the words name.
@@ -122,9 +124,12 @@ pub fn command_of(words: &[Bytes]) -> Option<Command>
     let [word, rest @ ..] = words else {
         return None;
     };
-    if word.as_slice() != b"sim".as_slice() {
-        return None;
+    if word.as_slice() == b"sim".as_slice() {
+        let given = options_in(rest)?;
+        return Some(Command::Sim(options_of(given)));
     }
-    let given = options_in(rest)?;
-    Some(Command::Sim(options_of(given)))
+    if word.as_slice() == b"show".as_slice() && rest.is_empty() {
+        return Some(Command::Show);
+    }
+    None
 }

@@ -5,7 +5,7 @@ ghost use Rattle.std.specs.Prelude.{◌≡◌};
 /// What a call answers.
 #[derive(Clone, Copy, Debug, PartialEq, Eq)]
 pub enum Status {
-    /// The run ended with every process deleted, and its transcript was written.
+    /// The run ended with every process deleted, and its transcript was written; or the canonical script was written.
     Done,
     /// The run ended with nothing enabled and a process that is not deleted, and its transcript was written.
     Hung,

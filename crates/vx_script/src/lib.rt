@@ -31,4 +31,6 @@ pub use print::print_script;
 pub use read::read_script;
 
 #[cfg(test)]
+mod print_tests;
+#[cfg(test)]
 mod tests;
