@@ -32,8 +32,8 @@ lines_are : (line : ℕ) (r : Reading) (ls : List (List ℕ)) → IsRead r → I
 unfolding read_lines
 lines_are line r [] h = closed_is line r.parts r.current h.parts
 lines_are line r (l ∷ ls) h =
-    after_by (at_line line (take_line line r l)) _ IsRead IsWellFormed (with_line line (take_line line r l) (line_kept line r l h)) λ s k. lines_are
-    (line + 1) s ls k
+    let next : IfOk (at_line line (take_line line r l)) IsRead = with_line line (take_line line r l) (line_kept line r l h) in
+    after_by (at_line line (take_line line r l)) _ IsRead IsWellFormed next λ s k. lines_are (line + 1) s ls k
 
 script_is : (text : List ℕ) → IfOk (read_script text) IsWellFormed
 unfolding read_script

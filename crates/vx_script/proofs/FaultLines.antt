@@ -1,4 +1,4 @@
--- The numbers of a unit's FAULT lines, put in order, rise.
+-- The FAULT lines, and the numbers of one unit in order.
 use Rattle.std.proofs.Common.{◌≡◌, ◌∙◌, ℕ, Bool, true, false, cond, not, ◌&&◌, ◌||◌, ◌==◌, nat_lt, nat_le, List, [], ◌∷◌, ◌++◌, bytes_eq, refl, ap, arith, drop, IfOk, Result, Ok, Err}
 use Rattle.std.specs.List.{list_all, list_any}
 use Rattle.std.proofs.lemmas.Bool.{and_parts, and_from, or_parts, or_from, not_from_false, ltb-false, lt-ltb, le-leb, leb-true, eq-eqb}
@@ -56,9 +56,7 @@ IsFreshFault unit n faults number = (number ≡ n) × (list_any (is_fault_of uni
 
 fresh_fault_is : (unit : List ℕ) (n : ℕ) (faults : List FaultLine) → IfOk (fresh_fault unit n faults) (IsFreshFault unit n faults)
 fresh_fault_is unit n faults =
-    by_test {A =
-    Result ℕ FaultKind} (λ r. IfOk r (IsFreshFault unit n faults)) (list_any (is_fault_of unit n) faults) (Err kind.Twice) (Ok n) (λ _. tt) (λ e.
-    (refl, e))
+    by_test {A = Result ℕ FaultKind} (λ r. IfOk r (IsFreshFault unit n faults)) (list_any (is_fault_of unit n) faults) _ _ (λ _. tt) (λ e. (refl, e))
 
 pub fault_read : (line : ℕ) (faults : List FaultLine) (tokens : List Tok) → AreFaults faults → IfOk (fault_line line faults tokens) (WithFault faults)
 unfolding fault_line
