@@ -6,7 +6,6 @@ ghost use Rattle.vx_base.specs.Services.{args_list};
 ghost use Rattle.vx_script.specs.Resolving as spec;
 
 use crate::draft::{Draft, DraftImage, DraftLine};
-use crate::items::Items;
 use crate::lines::Creation;
 use crate::parts::Parts;
 use std::alloc::Global;
@@ -80,7 +79,7 @@ fn first_unlabelled(image: &DraftImage) -> Option<u32>
 }
 
 // Appends the process declaration that a call names, if it does.
-fn push_creation(line: u32, call: &Call, creations: &mut Items<Creation>) -> Result<(), NoMemory>
+fn push_creation(line: u32, call: &Call, creations: &mut Sequence<Creation>) -> Result<(), NoMemory>
     ensures { OnOk result (creations.new ≡ creations.old ++ spec.created_by line call.now.service call.now.args.a1) }
 {
     match (call.service, call.args.a1) {
@@ -90,7 +89,7 @@ fn push_creation(line: u32, call: &Call, creations: &mut Items<Creation>) -> Res
 }
 
 // Appends the process declaration that a statement names, if it does.
-fn push_creation_of(line: &DraftLine, creations: &mut Items<Creation>) -> Result<(), NoMemory>
+fn push_creation_of(line: &DraftLine, creations: &mut Sequence<Creation>) -> Result<(), NoMemory>
     ensures { OnOk result (creations.new ≡ creations.old ++ spec.creation_of line.now) }
 {
     match &line.draft {
@@ -100,7 +99,7 @@ fn push_creation_of(line: &DraftLine, creations: &mut Items<Creation>) -> Result
 }
 
 // Appends the process declarations that statements name.
-fn push_creations(lines: &[DraftLine], creations: &mut Items<Creation>) -> Result<(), NoMemory>
+fn push_creations(lines: &[DraftLine], creations: &mut Sequence<Creation>) -> Result<(), NoMemory>
     ensures { OnOk result (creations.new ≡ creations.old ++ spec.creations_of lines.now) }
 {
     for line in lines {

@@ -10,7 +10,6 @@ mod ending;
 mod fault;
 mod fields;
 mod image;
-mod items;
 mod keys;
 mod lines;
 mod named;
@@ -22,3 +21,6 @@ mod statement;
 
 pub use fault::{FaultKind, ScriptFail, ScriptFault};
 pub use read::read_script;
+
+#[cfg(test)]
+mod tests;

@@ -1,8 +1,8 @@
 //! What was read so far.
 
 use crate::draft::DraftImage;
-use crate::items::Items;
 use crate::lines::{Creation, DeclLine, FaultLine, InputLine};
+use vx_base::Sequence;
 use vx_image::{Image, UnitDecl};
 use vx_register::{NumberedRegister, Register};
 
@@ -10,11 +10,11 @@ use vx_register::{NumberedRegister, Register};
 #[derive(Drop)]
 pub struct Parts {
     pub units: Register<UnitDecl>,
-    pub inputs: Items<InputLine>,
+    pub inputs: Sequence<InputLine>,
     pub faults: NumberedRegister<FaultLine>,
     pub images: Register<Image>,
     pub decls: Register<DeclLine>,
-    pub creations: Items<Creation>,
+    pub creations: Sequence<Creation>,
     /// The first line that names a label not in its image, which has ended.
     pub unlabelled: Option<u32>,
 }

@@ -10,11 +10,10 @@ ghost use Rattle.vx_script.specs.Results.{ReadsLine, ReadsScript, at_line};
 use crate::declaration::{fault_line, image_line, input_line, process_line, unit_line};
 use crate::fault::{FaultKind, LineFail, ScriptFail, ScriptFault};
 use crate::image::inside;
-use crate::items::Items;
 use crate::parts::{Parts, Reading};
 use crate::resolve::resolve;
 use std::alloc::Global;
-use vx_base::Name;
+use vx_base::{Name, Sequence};
 use vx_image::System;
 use vx_register::{NumberedRegister, Register};
 use vx_text::{LexFail, Tok, Token, tokens};
@@ -218,11 +217,11 @@ fn nothing_read(alloc: Global) -> Reading
 {
     let parts = Parts {
         units: Register::new(alloc),
-        inputs: Items::new(alloc),
+        inputs: Sequence::new(alloc),
         faults: NumberedRegister::new(alloc),
         images: Register::new(alloc),
         decls: Register::new(alloc),
-        creations: Items::new(alloc),
+        creations: Sequence::new(alloc),
         unlabelled: None,
     };
     Reading {
