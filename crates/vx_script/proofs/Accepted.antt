@@ -6,11 +6,10 @@ use Rattle.vx_image.specs.WellFormed.{IsWellFormed}
 use Rattle.vx_script.specs.Lines.{lines_of}
 use Rattle.vx_script.specs.Reading.{take_line, closed, read_lines, nothing_read, read_script}
 use Rattle.vx_script.specs.Resolving.{first_unknown, resolved}
-use Rattle.vx_script.specs.Results.{◌>>=◌, at_line, ReadsScript}
+use Rattle.vx_script.specs.Results.{at_line, ReadsScript}
 use Rattle.vx_script.specs.declared.draft.DraftImage.{DraftImage}
 use Rattle.vx_script.specs.declared.fault.FaultKind.{FaultKind}
 use Rattle.vx_script.specs.declared.fault.ScriptFail.{ScriptFail}
-use Rattle.vx_script.specs.declared.fault.ScriptFault.{ScriptFault}
 use Rattle.vx_script.specs.declared.parts.Parts.{Parts}
 use Rattle.vx_script.specs.declared.parts.Reading.{Reading}
 use Rattle.vx_script.proofs.Chains.{after_by}
@@ -32,7 +31,9 @@ with_line line (Err kind) h = tt
 lines_are : (line : ℕ) (r : Reading) (ls : List (List ℕ)) → IsRead r → IfOk (read_lines line r ls) IsWellFormed
 unfolding read_lines
 lines_are line r [] h = closed_is line r.parts r.current h.parts
-lines_are line r (l ∷ ls) h = after_by (at_line line (take_line line r l)) _ IsRead IsWellFormed (with_line line (take_line line r l) (line_kept line r l h)) λ s k. lines_are (line + 1) s ls k
+lines_are line r (l ∷ ls) h =
+    let next : IfOk (at_line line (take_line line r l)) IsRead = with_line line (take_line line r l) (line_kept line r l h) in
+    after_by (at_line line (take_line line r l)) _ IsRead IsWellFormed next λ s k. lines_are (line + 1) s ls k
 
 script_is : (text : List ℕ) → IfOk (read_script text) IsWellFormed
 unfolding read_script

@@ -13,8 +13,8 @@ use Rattle.vx_text.proofs.Runs.{by_test}
 use Rattle.vx_table.specs.Reading.{operand_of, operand_word, target_word, read_call}
 use Rattle.vx_table.specs.declared.fail.CallFail.{CallFail}
 use Rattle.vx_table.proofs.Calls.{IsOperandOr, IsTargetOr, operand_is, target_is, read_is}
-use Rattle.vx_script.specs.Results.{◌>>=◌, given}
-use Rattle.vx_script.specs.Fields.{first_of, end_at, is_sign, sign_at, word_at, name_at, number_in, within, number_between, number_at, at_most, text_in, text_at, operand_at, target_in, target_at}
+use Rattle.vx_script.specs.Results.{given}
+use Rattle.vx_script.specs.Fields.{first_of, end_at, is_sign, sign_at, word_at, name_at, number_in, within, number_between, number_at, text_in, text_at, operand_at, target_in, target_at}
 use Rattle.vx_script.specs.Statements.{added, subtracted, let_rest, let_stmt, goto_stmt, rel_at, if_stmt, put_stmt, byte_stmt, field_at, iosb_stmt, return_stmt, local_stmt, called, stmt_of}
 use Rattle.vx_script.specs.declared.draft.Draft.{Draft}
 use Rattle.vx_script.specs.declared.draft.Draft.TheVariants as draft
@@ -94,7 +94,9 @@ between low high n =
     (λ _. tt)
 
 pub number : (low high : ℕ) (tokens : List Tok) → IfOk (number_at low high tokens) (IsBetween low high)
-number low high tokens = after (first_of tokens) (number_between low high) (IsBetween low high) λ t _. after (number_in t) (within low high) (IsBetween low high) λ n _. between low high n
+number low high tokens =
+    after (first_of tokens) (number_between low high) (IsBetween low high) λ t _. after (number_in t) (within low high) (IsBetween low high) λ n _.
+    between low high n
 
 text_of : (t : Tok) → IfOk (text_in t) IsText
 text_of (tok.Quote bytes) = by_test (λ r. IfOk r IsText) (nat_le (length bytes) 2048) (Ok bytes) (Err kind.Range) (λ e. e) (λ _. tt)
@@ -196,6 +198,8 @@ called_is (Err e) h = tt
 
 pub statement : (t : Tok) (tokens : List Tok) → IfOk (stmt_of t tokens) IsDraft
 statement (tok.Word word) tokens = local_is word tokens
-statement (tok.Service name) tokens = called_is (read_call service_rows (tok.Service name ∷ tokens)) (read_is service_rows (tok.Service name ∷ tokens) (read_call service_rows (tok.Service name ∷ tokens)) refl refl)
+statement (tok.Service name) tokens =
+    called_is (read_call service_rows (tok.Service name ∷ tokens))
+    (read_is service_rows (tok.Service name ∷ tokens) (read_call service_rows (tok.Service name ∷ tokens)) refl refl)
 statement (tok.Num n) tokens = tt
 statement _ tokens = tt

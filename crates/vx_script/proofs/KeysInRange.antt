@@ -1,10 +1,10 @@
 -- The keys of a PROCESS line are in range.
-use Rattle.std.proofs.Common.{◌≡◌, ℕ, zero, suc, Bool, true, ◌&&◌, nat_le, List, [], ◌∷◌, drop, Option, Some, None, Result, Ok, Err, IfOk, refl}
+use Rattle.std.proofs.Common.{◌≡◌, ℕ, zero, suc, Bool, true, ◌&&◌, nat_le, List, [], ◌∷◌, drop, IfOk, refl}
 use Rattle.std.proofs.lemmas.Bool.{and_from, le-leb}
 use Rattle.std.proofs.lemmas.Result.{IfOk-weaker}
 use Rattle.vx_image.specs.WellFormed.{are_limits}
 use Rattle.vx_text.specs.declared.token.Tok.{Tok}
-use Rattle.vx_script.specs.Results.{◌>>=◌, given}
+use Rattle.vx_script.specs.Results.{given}
 use Rattle.vx_script.specs.Fields.{sign_at, number_at}
 use Rattle.vx_script.specs.Keys.{uic_at, mode_at, limit_at, privs_at, start_at, key_in, no_keys, once, with_uic, with_mode, with_ast, with_bio, with_dio, with_byt, with_tqe, with_privs, with_start, with_key, taken_key, keys_from, or, first_uic, limits_of}
 use Rattle.vx_script.specs.declared.fault.FaultKind.TheVariants as kind
@@ -18,7 +18,9 @@ use Rattle.vx_script.proofs.InRange.{IsBetween, number}
 
 -- what a process declaration with these keys has in range
 abbrev pub are_keys : Keys → Bool
-are_keys k = nat_le 1 (or first_uic k.uic).group && (nat_le (or first_uic k.uic).group 16382 && (nat_le (or first_uic k.uic).member 65534 && are_limits (limits_of k)))
+are_keys k =
+    nat_le 1 (or first_uic k.uic).group &&
+    (nat_le (or first_uic k.uic).group 16382 && (nat_le (or first_uic k.uic).member 65534 && are_limits (limits_of k)))
 
 abbrev IsLimit : ℕ → Type 0
 IsLimit n = nat_le n 1000000 ≡ true
@@ -140,4 +142,5 @@ unfolding keys_from
 keys skip taken [] h = h
 keys (suc skip) taken (t ∷ tokens) h = keys skip taken tokens h
 keys zero taken (t ∷ tokens) h =
-    after_by (taken_key taken t tokens) _ IsTaken AreKeys (after (given kind.Word (key_in t)) _ IsTaken λ k _. with_key_is taken k tokens h) λ more k. keys more.used more.keys tokens k
+    after_by (taken_key taken t tokens) _ IsTaken AreKeys (after (given kind.Word (key_in t)) _ IsTaken λ k _. with_key_is taken k tokens h) λ more k.
+    keys more.used more.keys tokens k

@@ -10,6 +10,8 @@ pub mod KeysInRange
 pub mod OpenImages
 pub mod EndedImages
 pub mod FaultLines
+pub mod UnitLines
+pub mod DeclLines
 pub mod KeptParts
 pub mod InputLines
 pub mod ResolvedSystem

@@ -1,23 +1,20 @@
 -- An image that is being read, line by line.
-use Rattle.std.proofs.Common.{◌≡◌, ◌∙◌, ℕ, ◌+◌, ◌≤◌, Bool, true, false, nat_le, nat_lt, List, [], ◌∷◌, ◌++◌, length, map, drop, Option, Some, None, Result, Ok, Err, IfOk, position, bytes_eq, refl, sym, ap, arith, length-append, le_refl}
-use Rattle.std.specs.List.{list_all, list_any}
+use Rattle.std.proofs.Common.{◌≡◌, ◌∙◌, ℕ, ◌≤◌, Bool, true, false, nat_le, nat_lt, List, [], ◌∷◌, ◌++◌, length, map, drop, Option, Some, None, IfOk, bytes_eq, refl, ap, arith, length-append, le_refl}
+use Rattle.std.specs.List.{list_all}
 use Rattle.std.proofs.lemmas.Bool.{leb-true, le-leb}
 use Rattle.vx_image.specs.declared.image.Image.{Image}
 use Rattle.vx_image.specs.declared.image.Label.{Label}
 use Rattle.vx_image.specs.WellFormed.{is_among, are_distinct, falls_nowhere}
 use Rattle.vx_text.specs.declared.token.Tok.{Tok}
-use Rattle.vx_script.specs.Results.{◌>>=◌}
 use Rattle.vx_script.specs.Fields.{name_at, end_at, when}
 use Rattle.vx_script.specs.Declarations.{image_place, fresh, room_for, image_line}
 use Rattle.vx_script.specs.Statements.{stmt_of}
 use Rattle.vx_script.specs.Resolving.{label_place}
 use Rattle.vx_script.specs.Reading.{with_stmt, with_label, labelled}
-use Rattle.vx_script.specs.declared.draft.Draft.{Draft}
 use Rattle.vx_script.specs.declared.draft.DraftImage.{DraftImage}
 use Rattle.vx_script.specs.declared.draft.DraftLine.{DraftLine}
-use Rattle.vx_script.specs.declared.fault.FaultKind.{FaultKind}
 use Rattle.vx_script.specs.declared.fault.FaultKind.TheVariants as kind
-use Rattle.vx_script.proofs.Appended.{all_push, all_weaker, all_of, map_push, few_push, distinct_push, falls_push}
+use Rattle.vx_script.proofs.Appended.{all_push, all_weaker, map_push, few_push, distinct_push, falls_push}
 use Rattle.vx_script.proofs.Chains.{after, after_by}
 use Rattle.vx_script.proofs.InRange.{is_draft, IsDraft, statement}
 use Rattle.vx_script.proofs.Places.{any_map, no_place}
@@ -52,30 +49,37 @@ has_room most count = has_room_by (nat_lt count most)
 
 -- places up to a number are up to a larger one
 no_farther : (m n : ℕ) (places : List ℕ) → m ≤ n → list_all (λ place. nat_le place m) places ≡ true → list_all (λ place. nat_le place n) places ≡ true
-no_farther m n places h = all_weaker (λ place. nat_le place m) (λ place. nat_le place n) (λ place k. le-leb place n (omega (arith, h, leb-true place m k))) places
+no_farther m n places h =
+    all_weaker (λ place. nat_le place m) (λ place. nat_le place n) (λ place k. le-leb place n (omega (arith, h, leb-true place m k))) places
 
 abbrev with_line : DraftImage → DraftLine → DraftImage
 with_line image d = record image { lines = image.lines ++ d ∷ [] }
 
-one_line_more : (images : List Image) (image : DraftImage) (d : DraftLine) → IsOpen images image → is_draft d.draft ≡ true → nat_lt (length image.lines) 10000 ≡ true → IsOpen images (with_line image d)
+one_line_more : (images : List Image) (image : DraftImage) (d : DraftLine) → IsOpen images image → is_draft d.draft ≡ true
+    → nat_lt (length image.lines) 10000 ≡ true → IsOpen images (with_line image d)
 one_line_more images image d h k room = record {
   room = h.room;
   new = h.new;
   few = few_push 10000 image.lines d room;
   names = h.names;
   places = h.places;
-  within = no_farther (length image.lines) (length (image.lines ++ d ∷ [])) (map (λ l. l.place) image.labels) (omega (arith, length-append image.lines (d ∷ []))) h.within;
+  within =
+      no_farther (length image.lines) (length (image.lines ++ d ∷ [])) (map (λ l. l.place) image.labels)
+      (omega (arith, length-append image.lines (d ∷ []))) h.within;
   drafts = all_push (λ d. is_draft d.draft) image.lines d h.drafts k;
 }
 
-pub stmt_read : (images : List Image) (line : ℕ) (image : DraftImage) (tokens : List Tok) → IsOpen images image → IfOk (with_stmt line image tokens) (IsOpen images)
+pub stmt_read : (images : List Image) (line : ℕ) (image : DraftImage) (tokens : List Tok) → IsOpen images image
+    → IfOk (with_stmt line image tokens) (IsOpen images)
 stmt_read images line image [] h = h
 stmt_read images line image (t ∷ tokens) h =
     after_by (stmt_of t tokens) _ IsDraft (IsOpen images) (statement t tokens) λ d k.
-    after_by (room_for 10000 (length image.lines)) _ (λ _. nat_lt (length image.lines) 10000 ≡ true) (IsOpen images) (has_room 10000 (length image.lines)) λ _ room.
+    after_by (room_for 10000 (length image.lines)) _ (λ _. nat_lt (length image.lines) 10000 ≡ true) (IsOpen images)
+    (has_room 10000 (length image.lines)) λ _ room.
     one_line_more images image (record { line = line; draft = d }) h k room
 
-one_label_more : (images : List Image) (image : DraftImage) (name : List ℕ) → IsOpen images image → label_place name image.labels ≡ None → IsOpen images (with_label image name)
+one_label_more : (images : List Image) (image : DraftImage) (name : List ℕ) → IsOpen images image → label_place name image.labels ≡ None
+    → IsOpen images (with_label image name)
 one_label_more images image name h new =
     let n = length image.lines in
     let l : Label = record { name = name; place = n } in
@@ -83,7 +87,8 @@ one_label_more images image name h new =
     let names = map (λ (l : Label). l.name) image.labels in
     let more_names : map (λ (l : Label). l.name) (image.labels ++ l ∷ []) ≡ names ++ name ∷ [] = map_push (λ (l : Label). l.name) image.labels l in
     let more_places : map (λ (l : Label). l.place) (image.labels ++ l ∷ []) ≡ places ++ n ∷ [] = map_push (λ (l : Label). l.place) image.labels l in
-    let absent : is_among name names ≡ false = any_map (bytes_eq name) (λ (l : Label). l.name) image.labels ∙ no_place (λ (l : Label). bytes_eq name l.name) image.labels new in
+    let absent : is_among name names ≡ false =
+    any_map (bytes_eq name) (λ (l : Label). l.name) image.labels ∙ no_place (λ (l : Label). bytes_eq name l.name) image.labels new in
     record {
       room = h.room;
       new = h.new;
@@ -94,14 +99,17 @@ one_label_more images image name h new =
       drafts = h.drafts;
     }
 
-pub label_read : (images : List Image) (line : ℕ) (image : DraftImage) (name : List ℕ) (tokens : List Tok) → IsOpen images image → IfOk (labelled line image name tokens) (IsOpen images)
+pub label_read : (images : List Image) (line : ℕ) (image : DraftImage) (name : List ℕ) (tokens : List Tok) → IsOpen images image
+    → IfOk (labelled line image name tokens) (IsOpen images)
 label_read images line image name tokens h =
-    after_by (fresh (label_place name image.labels) name) _ (IsFresh (label_place name image.labels) name) (IsOpen images) (is_fresh (label_place name image.labels) name) λ _ k.
+    after_by (fresh (label_place name image.labels) name) _ (IsFresh (label_place name image.labels) name) (IsOpen images)
+    (is_fresh (label_place name image.labels) name) λ _ k.
     stmt_read images line (with_label image name) tokens (one_label_more images image name h k.1)
 
 -- the line that opens an image
 
-nothing_in : (images : List Image) (name : List ℕ) → nat_lt (length images) 256 ≡ true → image_place name images ≡ None → IsOpen images (record { name = name; labels = []; lines = [] })
+nothing_in : (images : List Image) (name : List ℕ) → nat_lt (length images) 256 ≡ true → image_place name images ≡ None
+    → IsOpen images (record { name = name; labels = []; lines = [] })
 nothing_in images name room new = record {
   room = room;
   new = any_map (bytes_eq name) (λ (i : Image). i.name) images ∙ no_place (λ (i : Image). bytes_eq name i.name) images new;
@@ -116,7 +124,8 @@ pub image_read : (images : List Image) (tokens : List Tok) → IfOk (image_line 
 unfolding image_line
 image_read images tokens =
     after (name_at tokens) _ (IsOpen images) λ word _.
-    after_by (fresh (image_place word images) word) _ (IsFresh (image_place word images) word) (IsOpen images) (is_fresh (image_place word images) word) λ name k.
+    after_by (fresh (image_place word images) word) _ (IsFresh (image_place word images) word) (IsOpen images)
+    (is_fresh (image_place word images) word) λ name k.
     after (end_at (drop 1 tokens)) _ (IsOpen images) λ _ _.
     after_by (room_for 256 (length images)) _ (λ _. nat_lt (length images) 256 ≡ true) (IsOpen images) (has_room 256 (length images)) λ _ room.
     nothing_in images name room (rw k.0 k.1)

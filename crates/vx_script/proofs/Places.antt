@@ -1,5 +1,5 @@
 -- Where a name stands in a list.
-use Rattle.std.proofs.Common.{◌≡◌, ℕ, ◌+◌, Bool, true, false, cond, ◌||◌, nat_lt, List, [], ◌∷◌, length, map, Option, Some, None, is_some, is_none, position, refl, sym, ap, ◌∙◌}
+use Rattle.std.proofs.Common.{◌≡◌, ℕ, ◌+◌, Bool, true, false, cond, ◌||◌, nat_lt, List, [], ◌∷◌, length, map, Option, Some, None, is_some, position, refl, sym, ap, ◌∙◌}
 use Rattle.std.specs.List.{list_any, position_from, position_or_len}
 use Rattle.std.proofs.lemmas.Iterator.Adapters.{position_from-zero}
 use Rattle.vx_text.proofs.Runs.{by_test}
@@ -27,4 +27,5 @@ no_place p xs h = sym (has_place p xs) ∙ ap (λ (o : Option ℕ). is_some o) h
 -- a place that is there is below the length
 pub placed : {A : Type 0} (p : A → Bool) (xs : List A) → is_some (position p xs) ≡ true → nat_lt (place_or_zero (position p xs)) (length xs) ≡ true
 placed p xs =
-    by_test (λ (o : Option ℕ). is_some o ≡ true → nat_lt (place_or_zero o) (length xs) ≡ true) (nat_lt (position_or_len p xs) (length xs)) (Some (position_or_len p xs)) None (λ e h. e) (λ e h. cc)
+    by_test (λ (o : Option ℕ). is_some o ≡ true → nat_lt (place_or_zero o) (length xs) ≡ true) (nat_lt (position_or_len p xs) (length xs))
+    (Some (position_or_len p xs)) None (λ e h. e) (λ e h. cc)

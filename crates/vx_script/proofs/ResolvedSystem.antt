@@ -1,23 +1,22 @@
 -- The system of parts that name nothing unknown is well formed.
-use Rattle.std.proofs.Common.{◌≡◌, ◌∙◌, ℕ, Bool, true, false, not, ◌&&◌, ◌||◌, ◌==◌, nat_lt, nat_le, List, [], ◌∷◌, length, map, find, Option, Some, None, is_some, is_none, position, bytes_eq, refl, sym, ap}
-use Rattle.std.specs.List.{list_all, list_any}
+use Rattle.std.proofs.Common.{◌≡◌, ◌∙◌, ℕ, Bool, true, not, ◌||◌, ◌==◌, nat_lt, nat_le, List, [], ◌∷◌, length, map, find, Option, Some, None, is_some, is_none, bytes_eq, refl, sym, ap}
+use Rattle.std.specs.List.{list_all}
 use Rattle.std.proofs.lemmas.Bool.{and_parts, and_from}
 use Rattle.vx_image.specs.declared.decl.ProcDecl.{ProcDecl}
 use Rattle.vx_image.specs.declared.image.Image.{Image}
 use Rattle.vx_image.specs.declared.unit.UnitDecl.{UnitDecl}
-use Rattle.vx_image.specs.WellFormed.{IsWellFormed, is_among, are_distinct, rises_above, is_unit, is_image, is_decl, decl_names}
+use Rattle.vx_image.specs.WellFormed.{IsWellFormed, are_distinct, rises_above, is_unit, is_image, is_decl, decl_names}
 use Rattle.vx_script.specs.Declarations.{image_place, decl_place}
-use Rattle.vx_script.specs.Resolving.{first_unlabelled, names_no_decl, unknown_creation, names_no_image, unknown_image, names_no_line_unit, unknown_input, unknown_fault, first_unknown, earlier, place_or_zero, rising, inputs_of, numbers_of, unit_of, decl_of, system_of}
+use Rattle.vx_script.specs.Resolving.{names_no_decl, unknown_creation, names_no_image, unknown_image, names_no_line_unit, unknown_input, unknown_fault, first_unknown, earlier, place_or_zero, rising, inputs_of, numbers_of, unit_of, decl_of, system_of}
 use Rattle.vx_script.specs.declared.lines.Creation.{Creation}
 use Rattle.vx_script.specs.declared.lines.DeclLine.{DeclLine}
-use Rattle.vx_script.specs.declared.lines.FaultLine.{FaultLine}
 use Rattle.vx_script.specs.declared.lines.InputLine.{InputLine}
 use Rattle.vx_script.specs.declared.parts.Parts.{Parts}
 use Rattle.vx_script.proofs.Appended.{all_weaker, unfound, none_from, as_many}
-use Rattle.vx_script.proofs.EndedImages.{is_known}
-use Rattle.vx_script.proofs.FaultLines.{is_number, all_rising, numbers_are, faults_rise}
+use Rattle.vx_script.proofs.EndedImages.{is_known, neither}
+use Rattle.vx_script.proofs.FaultLines.{faults_rise, faults_within}
 use Rattle.vx_script.proofs.InputLines.{no_block_lines, lines_are}
-use Rattle.vx_script.proofs.KeptParts.{AreParts, neither}
+use Rattle.vx_script.proofs.KeptParts.{AreParts}
 use Rattle.vx_script.proofs.KeysInRange.{are_keys}
 use Rattle.vx_script.proofs.Places.{any_map, has_place, placed}
 
@@ -31,36 +30,47 @@ map_twice f g (x ∷ xs) = ap (λ ys. g (f x) ∷ ys) (map_twice f g xs)
 
 -- Process declarations.
 
-decl_is : (images : List Image) (d : DeclLine) → are_keys d.keys ≡ true → not (names_no_image images d) ≡ true → is_decl (length images) (decl_of images d) ≡ true
-decl_is images d h k = and_from (nat_lt (place_or_zero (image_place d.image images)) (length images)) (are_keys d.keys) (placed (λ (i : Image). bytes_eq d.image i.name) images (there (image_place d.image images) k)) h
+decl_is : (images : List Image) (d : DeclLine) → are_keys d.keys ≡ true → not (names_no_image images d) ≡ true
+    → is_decl (length images) (decl_of images d) ≡ true
+decl_is images d h k =
+    and_from (nat_lt (place_or_zero (image_place d.image images)) (length images)) (are_keys d.keys)
+    (placed (λ (i : Image). bytes_eq d.image i.name) images (there (image_place d.image images) k)) h
 
-decls_are : (images : List Image) (ds : List DeclLine) → list_all (λ d. are_keys d.keys) ds ≡ true → list_all (λ d. not (names_no_image images d)) ds ≡ true → list_all (is_decl (length images)) (map (decl_of images) ds) ≡ true
+decls_are : (images : List Image) (ds : List DeclLine) → list_all (λ d. are_keys d.keys) ds ≡ true
+    → list_all (λ d. not (names_no_image images d)) ds ≡ true → list_all (is_decl (length images)) (map (decl_of images) ds) ≡ true
 decls_are images [] h k = refl
 decls_are images (d ∷ ds) h k =
     let range = and_parts (are_keys d.keys) (list_all (λ d. are_keys d.keys) ds) h in
     let known = and_parts (not (names_no_image images d)) (list_all (λ d. not (names_no_image images d)) ds) k in
-    and_from (is_decl (length images) (decl_of images d)) (list_all (is_decl (length images)) (map (decl_of images) ds)) (decl_is images d range.0 known.0) (decls_are images ds range.1 known.1)
+    and_from (is_decl (length images) (decl_of images d)) (list_all (is_decl (length images)) (map (decl_of images) ds))
+    (decl_is images d range.0 known.0) (decls_are images ds range.1 known.1)
 
 creation_known : (ds : List DeclLine) (c : Creation) → not (names_no_decl ds c) ≡ true → is_known (map (λ d. d.name) ds) c ≡ true
-creation_known ds c h = any_map (bytes_eq c.name) (λ (d : DeclLine). d.name) ds ∙ sym (has_place (λ (d : DeclLine). bytes_eq c.name d.name) ds) ∙ there (decl_place c.name ds) h
+creation_known ds c h =
+    any_map (bytes_eq c.name) (λ (d : DeclLine). d.name) ds ∙ sym (has_place (λ (d : DeclLine). bytes_eq c.name d.name) ds) ∙ there
+    (decl_place c.name ds) h
 
 -- Units.
 
-unit_is : (p : Parts) (u : UnitDecl) → AreParts p → nat_le u.blocks 4096 ≡ true → (u.blocks == 0) || (length (inputs_of u.name p.inputs) == 0) ≡ true → is_unit (unit_of p u) ≡ true
+-- no block unit has lines
+abbrev has_no_block_lines : Parts → UnitDecl → Bool
+has_no_block_lines p u = (u.blocks == 0) || (length (inputs_of u.name p.inputs) == 0)
+
+unit_is : (p : Parts) (u : UnitDecl) → AreParts p → nat_le u.blocks 4096 ≡ true → has_no_block_lines p u ≡ true → is_unit (unit_of p u) ≡ true
 unit_is p u h few lines =
     let ns = rising (numbers_of u.name p.faults) in
     let inputs = inputs_of u.name p.inputs in
-    let up_to : list_all (λ n. nat_le n 100000) ns ≡ true = all_weaker is_number (λ n. nat_le n 100000) (λ n k. (and_parts (nat_le 1 n) (nat_le n 100000) k).1) ns (all_rising is_number (numbers_of u.name p.faults) (numbers_are u.name p.faults h.numbers)) in
     and_from (nat_le u.blocks 4096) _ few (
-    and_from (list_all (λ line. nat_le (length line) 2048) inputs) _ (lines_are u.name p.inputs h.texts) (
+    and_from (list_all (λ line. nat_le (length line) 2048) inputs) _ (lines_are u.name p.inputs h.inputs) (
     and_from ((u.blocks == 0) || (length inputs == 0)) _ lines (
-    and_from (rises_above 0 ns) (list_all (λ n. nat_le n 100000) ns) (faults_rise u.name p.faults h.apart h.numbers) up_to)))
+    and_from (rises_above 0 ns) (list_all (λ n. nat_le n 100000) ns) (faults_rise u.name p.faults h.faults) (faults_within u.name p.faults h.faults))))
 
-units_are : (p : Parts) (us : List UnitDecl) → AreParts p → list_all (λ u. nat_le u.blocks 4096) us ≡ true → list_all (λ u. (u.blocks == 0) || (length (inputs_of u.name p.inputs) == 0)) us ≡ true → list_all is_unit (map (unit_of p) us) ≡ true
+units_are : (p : Parts) (us : List UnitDecl) → AreParts p → list_all (λ u. nat_le u.blocks 4096) us ≡ true
+    → list_all (has_no_block_lines p) us ≡ true → list_all is_unit (map (unit_of p) us) ≡ true
 units_are p [] h few lines = refl
 units_are p (u ∷ us) h few lines =
     let range = and_parts (nat_le u.blocks 4096) (list_all (λ u. nat_le u.blocks 4096) us) few in
-    let none = and_parts ((u.blocks == 0) || (length (inputs_of u.name p.inputs) == 0)) (list_all (λ u. (u.blocks == 0) || (length (inputs_of u.name p.inputs) == 0)) us) lines in
+    let none = and_parts (has_no_block_lines p u) (list_all (has_no_block_lines p) us) lines in
     and_from (is_unit (unit_of p u)) (list_all is_unit (map (unit_of p) us)) (unit_is p u h range.0 none.0) (units_are p us h range.1 none.1)
 
 -- The system.
@@ -75,15 +85,17 @@ well_formed p h e =
     let creations = unfound (names_no_decl p.decls) p.creations (none_from (λ (c : Creation). c.line) (find (names_no_decl p.decls) p.creations) made.0) in
     let images = unfound (names_no_image p.images) p.decls (none_from (λ (d : DeclLine). d.line) (find (names_no_image p.images) p.decls) run.0) in
     let inputs = unfound (names_no_line_unit p.units) p.inputs (none_from (λ (i : InputLine). i.line) (find (names_no_line_unit p.units) p.inputs) fed.0) in
-    let known = all_weaker (λ c. not (names_no_decl p.decls c)) (is_known (map (λ (d : DeclLine). d.name) p.decls)) (creation_known p.decls) p.creations creations in
+    let known =
+    all_weaker (λ c. not (names_no_decl p.decls c)) (is_known (map (λ (d : DeclLine). d.name) p.decls)) (creation_known p.decls) p.creations
+    creations in
     record {
-      few_units = ap (λ n. nat_le n 32) (as_many (unit_of p) p.units) ∙ h.few_units;
-      few_images = h.few_images;
-      few_decls = ap (λ n. nat_le n 1000) (as_many (decl_of p.images) p.decls) ∙ h.few_decls;
-      unit_names = ap are_distinct (map_twice (unit_of p) (λ (u : UnitDecl). u.name) p.units) ∙ h.unit_names;
-      image_names = h.image_names;
-      process_names = ap are_distinct names ∙ h.decl_names;
-      units = units_are p p.units h h.blocks (no_block_lines p.units p.inputs h.unit_names inputs);
-      images = ap (λ (ds : List (List ℕ)). list_all (is_image ds) p.images) names ∙ h.images (map (λ (d : DeclLine). d.name) p.decls) labels.0 known;
-      decls = decls_are p.images p.decls h.in_range images;
+      few_units = ap (λ n. nat_le n 32) (as_many (unit_of p) p.units) ∙ h.units.few;
+      few_images = h.images.few;
+      few_decls = ap (λ n. nat_le n 1000) (as_many (decl_of p.images) p.decls) ∙ h.decls.few;
+      unit_names = ap are_distinct (map_twice (unit_of p) (λ (u : UnitDecl). u.name) p.units) ∙ h.units.names;
+      image_names = h.images.names;
+      process_names = ap are_distinct names ∙ h.decls.names;
+      units = units_are p p.units h h.units.blocks (no_block_lines p.units p.inputs h.units.names inputs);
+      images = ap (λ (ds : List (List ℕ)). list_all (is_image ds) p.images) names ∙ h.images.formed (map (λ (d : DeclLine). d.name) p.decls) labels.0 known;
+      decls = decls_are p.images p.decls h.decls.in_range images;
     }
