@@ -111,17 +111,18 @@ $END DONE 0
 
 const LATER: &[u8] = b"vms: line 1 LATER\n";
 
-/// How a call is tried: its word, the most bytes of a read and of a write, and the numbers of those that fail.
+/// How a call is tried: its words, with a space between them, the most bytes of a read and of a write, and the numbers of those
+/// that fail.
 #[derive(Clone, Copy)]
 struct Trial {
-    word: &'static [u8],
+    words: &'static [u8],
     piece: u32,
     read_fails: u32,
     write_fails: u32,
 }
 
 const PLAIN: Trial = Trial {
-    word: b"sim",
+    words: b"sim",
     piece: 1_000,
     read_fails: 0,
     write_fails: 0,
@@ -129,10 +130,12 @@ const PLAIN: Trial = Trial {
 
 /// The top call on an input in memory: its status, and what the sink holds then.
 fn tried(rt: &HostRuntime, trial: Trial, input: Vec<u8>) -> Result<(Status, Vec<u8>), Fail> {
-    let mut word = Bytes::new(rt.alloc());
-    word.push_all(trial.word).ok().ok_or("memory")?;
     let mut words = Vec::new(rt.alloc());
-    words.push(word)?;
+    for part in trial.words.split(|b| *b == b' ') {
+        let mut word = Bytes::new(rt.alloc());
+        word.push_all(part).ok().ok_or("memory")?;
+        words.push(word)?;
+    }
     let piece = trial.piece.max(1);
     let read_fails = vec![in rt.alloc(); trial.read_fails]?;
     let write_fails = vec![in rt.alloc(); trial.write_fails]?;
@@ -166,13 +169,135 @@ fn transcripts(rt: HostRuntime) -> Result<(), Fail> {
 
 #[test]
 fn other_words(rt: HostRuntime) -> Result<(), Fail> {
+    let table: [&[u8]; 16] = [
+        b"simulate",
+        b"sim --seed",
+        b"sim 5",
+        b"sim --seed 1 --seed 1",
+        b"sim --limit 1 --limit 1",
+        b"sim --limit 0",
+        b"sim --limit 100001",
+        b"sim --seed 18446744073709551616",
+        b"sim --seed 99999999999999999999999999999999999999999",
+        b"sim --seed 01",
+        b"sim --seed +1",
+        b"sim --seed ",
+        b"sim --cpus 2",
+        b"sim --seed 1 --limit 1 --seed 1",
+        b"show sim",
+        b"",
+    ];
+    for words in table {
+        let trial = Trial { words, ..PLAIN };
+        let (status, held) = tried(&rt, trial, FLAG_SCRIPT.to_vec(rt.alloc())?)?;
+        assert_eq!(rt; status, Status::Words);
+        assert!(rt; held.as_slice() == b"vms: usage\n".as_slice());
+    }
+    Ok(())
+}
+
+#[test]
+fn options(rt: HostRuntime) -> Result<(), Fail> {
+    let table: [&[u8]; 5] = [
+        b"sim --seed 0",
+        b"sim --limit 100000",
+        b"sim --seed 18446744073709551615 --limit 5",
+        b"sim --limit 6 --seed 7",
+        b"sim --limit 10000",
+    ];
+    for words in table {
+        let trial = Trial { words, ..PLAIN };
+        let (status, held) = tried(&rt, trial, FLAG_SCRIPT.to_vec(rt.alloc())?)?;
+        assert_eq!(rt; status, Status::Done);
+        assert!(rt; held.as_slice() == FLAG_TRANSCRIPT);
+    }
+    Ok(())
+}
+
+const ROUND_SCRIPT: &[u8] = b"image a
+x: goto x
+end
+process p a
+";
+
+const ROUND_TRANSCRIPT: &[u8] = b"IMAGE A
+X:
+  GOTO X
+END
+PROCESS P A UIC=1:1 MODE=USER ASTLM=24 BIOLM=18 DIOLM=18 BYTLM=8192 TQELM=10 PRIV=NONE START=1
+$JOURNAL 1
+1 RUN 1 LOCAL
+2 RUN 1 LOCAL
+3 RUN 1 LOCAL
+PROCESS 1 P ACTIVE 0
+$END LIMIT 3
+";
+
+#[test]
+fn a_limit_that_is_reached(rt: HostRuntime) -> Result<(), Fail> {
     let trial = Trial {
-        word: b"simulate",
+        words: b"sim --limit 3",
         ..PLAIN
     };
-    let (status, held) = tried(&rt, trial, FLAG_SCRIPT.to_vec(rt.alloc())?)?;
-    assert_eq!(rt; status, Status::Words);
-    assert!(rt; held.as_slice() == b"vms: usage\n".as_slice());
+    let (status, held) = tried(&rt, trial, ROUND_SCRIPT.to_vec(rt.alloc())?)?;
+    assert_eq!(rt; status, Status::Limit);
+    assert!(rt; held.as_slice() == ROUND_TRANSCRIPT);
+    Ok(())
+}
+
+// Each key, label, unit and local statement of the language; the canonical text is its own.
+const ALL_SCRIPT: &[u8] = b"process p a start=0 priv=world+cmexec ! late
+image a
+x: y: let a = %xff
+if a ne ss$_wasset goto z
+put 1 \"a\\0ab\"
+byte r0 1 a
+iosb b 2 info
+let c=prm-pid
+$qio ,1,eof
+z:
+end
+unit d block 7
+fault d 2
+unit t line
+fault d 1
+input t \"x\"
+";
+
+const ALL_SHOWN: &[u8] = b"UNIT D BLOCK 7
+FAULT D 1
+FAULT D 2
+UNIT T LINE
+INPUT T \"x\"
+IMAGE A
+X:
+Y:
+  LET A = 255
+  IF A NE SS$_WASSET GOTO Z
+  PUT 1 \"a\\0Ab\"
+  BYTE R0 1 A
+  IOSB B 2 INFO
+  LET C = PRM - PID
+  $QIO 0,1,EOF,0,-,0,0,0,0
+Z:
+END
+PROCESS P A UIC=1:1 MODE=USER ASTLM=24 BIOLM=18 DIOLM=18 BYTLM=8192 TQELM=10 PRIV=CMEXEC+WORLD START=0
+";
+
+#[test]
+fn scripts_shown(rt: HostRuntime) -> Result<(), Fail> {
+    let trial = Trial {
+        words: b"show",
+        ..PLAIN
+    };
+    for script in [ALL_SCRIPT, ALL_SHOWN] {
+        let (status, held) = tried(&rt, trial, script.to_vec(rt.alloc())?)?;
+        assert_eq!(rt; status, Status::Done);
+        assert!(rt; held.as_slice() == ALL_SHOWN);
+    }
+    let (status, held) = tried(&rt, trial, b"GOTO\n".to_vec(rt.alloc())?)?;
+    assert_eq!(rt; status, Status::Form);
+    assert!(rt; held.as_slice() == b"vms: line 1 WORD\n".as_slice());
     Ok(())
 }
 
@@ -181,7 +306,7 @@ fn tells(rt: &HostRuntime, text: &[u8], line: &[u8]) -> Result<bool, Fail> {
     let (status, held) = tried(rt, PLAIN, text.to_vec(rt.alloc())?)?;
     let told = held.as_slice();
     if line.is_empty() {
-        return Ok(told == LATER || status == Status::Done && !told.starts_with(b"vms: "));
+        return Ok(told == LATER || status == Status::Done || status == Status::Limit);
     }
     let mut expected = line.to_vec(rt.alloc())?;
     expected.push(b'\n')?;
@@ -228,15 +353,14 @@ fn ends_and_several_faults(rt: HostRuntime) -> Result<(), Fail> {
     Ok(())
 }
 
-// Scripts of systems that are not built: a unit, two images, a label, an operand that is no number, a key.
+// Scripts of systems that are not built: a unit, and services that the executive does not serve yet.
 #[test]
 fn scripts_not_built(rt: HostRuntime) -> Result<(), Fail> {
-    let table: [&[u8]; 5] = [
+    let table: [&[u8]; 4] = [
         b"UNIT D LINE\n",
-        b"IMAGE A\nEND\nIMAGE B\nEND\n",
-        b"IMAGE A\nL:\nEND\n",
-        b"IMAGE A\n$SETEF A\nEND\n",
-        b"IMAGE A\nEND\nPROCESS P A UIC=1:2\n",
+        b"IMAGE A\n$HIBER\nEND\n",
+        b"IMAGE A\nEND\nIMAGE B\nRETURN\n$WAITFR 1\nEND\n",
+        b"IMAGE A\n$QIO ,1,EOF\nEND\n",
     ];
     for text in table {
         let (status, held) = tried(&rt, PLAIN, text.to_vec(rt.alloc())?)?;
@@ -308,8 +432,10 @@ fn codes(rt: HostRuntime) {
     refused_example();
     for (status, code) in [
         (Status::Done, 0),
+        (Status::Hung, 1),
         (Status::Words, 2),
         (Status::Form, 3),
+        (Status::Limit, 4),
         (Status::ReadFault, 6),
         (Status::WriteFault, 7),
         (Status::NoMemory, 8),
