@@ -1,5 +1,5 @@
 -- The FAULT lines, and the numbers of one unit in order.
-use Rattle.std.proofs.Common.{◌≡◌, ◌∙◌, ℕ, Bool, true, false, cond, not, ◌&&◌, ◌||◌, ◌==◌, nat_lt, nat_le, List, [], ◌∷◌, ◌++◌, bytes_eq, refl, ap, arith, drop, IfOk, Result, Ok, Err}
+use Rattle.std.proofs.Common.{◌≡◌, ◌∙◌, ℕ, Bool, true, false, cond, not, ◌&&◌, ◌||◌, ◌==◌, nat_lt, nat_le, List, [], ◌∷◌, ◌++◌, bytes_eq, refl, ap, arith, drop, IfOk, Result}
 use Rattle.std.specs.List.{list_all, list_any}
 use Rattle.std.proofs.lemmas.Bool.{and_parts, and_from, or_parts, or_from, not_from_false, ltb-false, lt-ltb, le-leb, leb-true, eq-eqb}
 use Rattle.std.proofs.lemmas.List.Folds.{list_any-append}
@@ -11,7 +11,6 @@ use Rattle.vx_script.specs.Declarations.{is_fault_of, fresh_fault, fault_line}
 use Rattle.vx_script.specs.Fields.{end_at, name_at, number_at}
 use Rattle.vx_script.specs.Resolving.{in_place, rising, fault_if, numbers_of}
 use Rattle.vx_script.specs.declared.fault.FaultKind.{FaultKind}
-use Rattle.vx_script.specs.declared.fault.FaultKind.TheVariants as kind
 use Rattle.vx_script.specs.declared.lines.FaultLine.{FaultLine}
 use Rattle.vx_script.proofs.Appended.{not_out, all_flat, all_push, all_weaker, same_back, equal_back}
 use Rattle.vx_script.proofs.Chains.{after, after_by}

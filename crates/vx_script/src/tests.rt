@@ -10,6 +10,9 @@ PROCESS P MAIN\nPROCESS Q MAIN START=0 PRIV=WORLD+GROUP MODE=EXEC UIC=%X10:3 AST
 
 // The number of a fault's line, and its kind; 0 and None for a script.
 fn fault_of(rt: &HostRuntime, text: &[u8]) -> Result<(u32, Option<FaultKind>), Fail> {
+    if text.len() >= 4_294_967_295 {
+        return Err("too long".into());
+    }
     match read_script(rt.alloc(), text) {
         Ok(_) => Ok((0, None)),
         Err(ScriptFail::Fault(fault)) => Ok((fault.line, Some(fault.kind))),
