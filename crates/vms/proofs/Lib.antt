@@ -1,3 +1,4 @@
 pub mod Breaking
 pub mod Numbers
 pub mod Simulated
+pub mod Simulating

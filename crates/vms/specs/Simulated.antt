@@ -24,7 +24,7 @@ pub record WritesRun (input : List ℕ) (options : Options) (held held_after : O
 -- The input is refused, and the sink holds the line of the cause more.
 pub record WritesRefusal (command : Command) (input : List ℕ) (held held_after : Option (List ℕ)) : Type 0 where
   pub text : List ℕ
-  pub refused : IsRefused command input text
+  pub refused : IsRefused input command text
   pub written : Appends held held_after text
 
 -- The input is a script, and the sink holds its canonical script more.
@@ -38,11 +38,11 @@ pub record WritesShown (input : List ℕ) (held held_after : Option (List ℕ)) 
 -- The sink holds a front of the transcript, of the line of a refusal or of the line on memory more.
 pub data BreaksInput (input : List ℕ) (options : Options) (held held_after : Option (List ℕ)) : Type 0 where
   in_run : (system : System) (end : End) (text : List ℕ) → read_script input ≡ Ok system → IsTrue (is_built system) → IsSimulated system options end text → AppendsFront held held_after text → BreaksInput input options held held_after
-  in_refusal : (text : List ℕ) → IsRefused (Sim options) input text → AppendsFront held held_after text → BreaksInput input options held held_after
+  in_refusal : (text : List ℕ) → IsRefused input (Sim options) text → AppendsFront held held_after text → BreaksInput input options held held_after
   in_no_memory : AppendsFront held held_after no_memory → BreaksInput input options held held_after
 
 -- The sink holds a front of the canonical script, of the line of a fault or of the line on memory more.
 pub data BreaksShown (input : List ℕ) (held held_after : Option (List ℕ)) : Type 0 where
   in_script : (system : System) (text : List ℕ) → read_script input ≡ Ok system → text ≡ script system → AppendsFront held held_after text → BreaksShown input held held_after
-  in_fault : (text : List ℕ) → IsRefused Show input text → AppendsFront held held_after text → BreaksShown input held held_after
+  in_fault : (text : List ℕ) → IsRefused input Show text → AppendsFront held held_after text → BreaksShown input held held_after
   in_want : AppendsFront held held_after no_memory → BreaksShown input held held_after

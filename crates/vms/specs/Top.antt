@@ -1,5 +1,5 @@
 -- What the top call answers and writes, and what it read for it.
-use Rattle.std.specs.Prelude.{◌≡◌, ℕ, List, [], ◌∷◌, ◌++◌, length, codes, decimal, bytes_eq, false, IsTrue, Option, None, Some, Result, Ok, Err, if◌then◌else◌}
+use Rattle.std.specs.Prelude.{◌≡◌, ℕ, List, [], ◌∷◌, ◌++◌, codes, decimal, false, IsTrue, Option, None, Some, Ok, Err}
 use Rattle.std.specs.Io.KnownBytes.{Appends, Keeps}
 use Rattle.vx_base.specs.declared.record.End.{End}
 use Rattle.vx_base.specs.declared.record.End.TheVariants.{Done}
@@ -86,16 +86,16 @@ pub record ReadsInput (words : List (List ℕ)) (command : Command) (left left_a
 
 -- why an input is refused, and the line that tells it: it is no script, and this is its first fault; or it is the script of
 -- a system that is to be simulated and that the executive does not run yet
-pub data IsRefused (command : Command) (input : List ℕ) : List ℕ → Type 0 where
-  no_script : (fault : ScriptFault) → read_script input ≡ Err fault → IsRefused command input (fault_line fault)
-  not_built : (options : Options) (system : System) → command ≡ Sim options → read_script input ≡ Ok system → is_built system ≡ false → IsRefused command input later
+pub data IsRefused (input : List ℕ) : Command → List ℕ → Type 0 where
+  no_script : (command : Command) (fault : ScriptFault) → read_script input ≡ Err fault → IsRefused input command (fault_line fault)
+  not_built : (options : Options) (system : System) → read_script input ≡ Ok system → is_built system ≡ false → IsRefused input (Sim options) later
 
 -- The input is refused, and the text is the line of the cause.
 pub record RefusesText (words : List (List ℕ)) (left left_after : Option (List ℕ)) (text : List ℕ) : Type 0 where
   pub command : Command
   pub input : List ℕ
   pub read : ReadsInput words command left left_after input
-  pub refused : IsRefused command input text
+  pub refused : IsRefused input command text
 
 -- What the seed chooses is a run of the machine from the system's first state, with at most as many records as the limit; it
 -- has ended so; and the text is its transcript.

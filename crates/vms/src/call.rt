@@ -50,6 +50,28 @@ pub fn tell_no_memory<K: Sink>(sink: &mut K) -> Status
     tell(sink, b"vms: no memory\n", Status::NoMemory)
 }
 
+/// Writes the transcript of a run, and answers how the run has ended, or `WriteFault`.
+fn tell_transcript<K: Sink>(sink: &mut K, text: &[u8], end: End) -> Status
+    ensures status { (result ≡ Status.Done) ⊎ (result ≡ Status.Hung) ⊎ (result ≡ Status.Limit)
+        ⊎ (result ≡ Status.WriteFault) }
+    ensures done { result ≡ Status.Done →
+        (end ≡ End.Done) × Appends (K.held sink.old) (K.held sink.new) text.now }
+    ensures hung { result ≡ Status.Hung →
+        (end ≡ End.Hung) × Appends (K.held sink.old) (K.held sink.new) text.now }
+    ensures limit { result ≡ Status.Limit →
+        (end ≡ End.Limit) × Appends (K.held sink.old) (K.held sink.new) text.now }
+    ensures front { result ≡ Status.WriteFault →
+        AppendsFront (K.held sink.old) (K.held sink.new) text.now }
+    ensures cause { result ≡ Status.WriteFault → Rose (K.faults sink.old) (K.faults sink.new) }
+    ensures later { K.faults sink.old ≤ K.faults sink.new }
+{
+    match end {
+        End::Done => tell(sink, text, Status::Done),
+        End::Hung => tell(sink, text, Status::Hung),
+        End::Limit => tell(sink, text, Status::Limit),
+    }
+}
+
 fn kind_word(kind: FaultKind) -> &'static [u8]
     ensures { result.now ≡ kind_word kind }
 {
@@ -112,9 +134,7 @@ fn simulate<K: Sink>(alloc: Global, options: Options, input: &Bytes, sink: &mut 
                 return tell(sink, b"vms: line 1 LATER\n", Status::Form);
             }
             match transcript(alloc, system, options) {
-                Ok((text, End::Done)) => tell(sink, text.as_slice(), Status::Done),
-                Ok((text, End::Hung)) => tell(sink, text.as_slice(), Status::Hung),
-                Ok((text, End::Limit)) => tell(sink, text.as_slice(), Status::Limit),
+                Ok((text, end)) => tell_transcript(sink, text.as_slice(), end),
                 Err(NoMemory) => tell_no_memory(sink),
             }
         }

@@ -152,7 +152,12 @@ fn print_standing(
 }
 
 /// Appends how process p stands.
-fn print_process(alloc: Global, exec: &Exec<Scripted>, p: Pid, out: &mut Bytes) -> Result<(), NoMemory>
+fn print_process(
+    alloc: Global,
+    exec: &Exec<Scripted>,
+    p: Pid,
+    out: &mut Bytes,
+) -> Result<(), NoMemory>
     requires { IsProcess exec.now.state p }
     ensures { OnOk result (out.new ≡ out.old
         ++ (process_line exec.now.state.system p.0 (process_at exec.now.state p) ++ 10 ∷ [])) }
@@ -193,7 +198,12 @@ fn print_end(alloc: Global, end: End, taken: u32, out: &mut Bytes) -> Result<(),
 }
 
 /// Appends the trailer: how the processes stand, and the end after the records that were taken.
-pub fn print_trailer(alloc: Global, exec: &Exec<Scripted>, end: End, out: &mut Bytes) -> Result<(), NoMemory>
+pub fn print_trailer(
+    alloc: Global,
+    exec: &Exec<Scripted>,
+    end: End,
+    out: &mut Bytes,
+) -> Result<(), NoMemory>
     ensures { OnOk result (out.new ≡ out.old
         ++ ended_lines (trailer_lines exec.now.state end exec.now.taken)) }
 {

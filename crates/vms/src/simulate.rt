@@ -14,11 +14,7 @@ use vx_image::System;
 use vx_script::print_script;
 
 /// The transcript of the run of a system that the seed chooses, and how the run has ended.
-pub fn transcript(
-    alloc: Global,
-    system: System,
-    options: Options,
-) -> Result<(Bytes, End), NoMemory>
+pub fn transcript(alloc: Global, system: System, options: Options) -> Result<(Bytes, End), NoMemory>
     requires formed { IsWellFormed system }
     requires built { IsTrue (is_built system) }
     requires above { 1 ≤ options.limit }

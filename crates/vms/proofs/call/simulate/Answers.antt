@@ -1,43 +1,28 @@
-use Rattle.std.proofs.Common.{rules, ◌≡◌, ◌≢◌, ◌⊎◌, ◌<◌, ◌≤◌, IfOk, length, ℕ, ◌+◌, ◌-◌, ◌*◌, ◌/◌, ◌%◌, Bool, true, false, nat_eq, nat_lt, List, [], ◌∷◌, ◌++◌, slice_index_or, slice_set, bit_and, bit_or, Fits, w8, w32, w64, Bor, MutBor}
-use Rattle.std.specs.Io.KnownBytes.{Appends}
-use Rattle.vx_host.specs.Causes.{Rose}
-use Rattle.vx_host.specs.Streams.{AppendsFront}
-use Rattle.vms.specs.Simulated.{WritesRun, WritesRefusal, WritesShown, BreaksInput, BreaksShown}
-use Rattle.vms.specs.Top.{usage, too_long, read_fault, fault_line, kind_word, no_memory, RefusesWords, Overflows, FailsToRead, RunsOut, Completes, WritesTranscript, WritesFault, Breaks}
+use Rattle.std.proofs.Common.{rules}
+use Rattle.vx_base.specs.declared.record.End.TheVariants.{Done, Hung}
+use Rattle.vms.specs.declared.command.Command.TheVariants.{Sim}
+use Rattle.vms.specs.Simulated.{in_run, in_refusal}
+use Rattle.vms.specs.Top.{later, fault_line, no_script, not_built}
+use Rattle.vms.proofs.Simulating.{writes_run, writes_fault, writes_later}
 use Rattle.vms.proofs.call.simulate.Goals as goal
 
--- src/call.rt:112:17
 pub returns-then-not-built-clause-form : goal.returns-then-not-built-clause-form
-returns-then-not-built-clause-form g c = ?
+returns-then-not-built-clause-form g c = λ e. writes_later c.args.input.now c.args.options _ _ c.in-Ok.system (rw c.as_slice.ensures at c.in-Ok.ensures.reads) (search rules) (c.tell.ensures.whole (λ k. cc))
 
--- src/call.rt:112:17
 pub returns-then-not-built-clause-front : goal.returns-then-not-built-clause-front
-returns-then-not-built-clause-front g c = ?
+returns-then-not-built-clause-front g c = λ e. in_refusal later (not_built c.args.options c.in-Ok.system (rw c.as_slice.ensures at c.in-Ok.ensures.reads) (search rules)) (c.tell.ensures.front e)
 
--- src/call.rt:88:1
-pub returns-in-Ok-default-Done-clause-done : goal.returns-in-Ok-default-Done-clause-done
-returns-in-Ok-default-Done-clause-done g c = ?
+pub returns-in-Ok-transcript-clause-done : goal.returns-in-Ok-transcript-clause-done
+returns-in-Ok-transcript-clause-done g c = λ e. writes_run c.args.input.now c.args.options _ _ c.in-Ok.system c.in-Ok-transcript.text c.in-Ok-transcript.end Done (rw c.as_slice.ensures at c.in-Ok.ensures.reads) (search rules) c.in-Ok-transcript.ensures (rw c.as_slice-in-Ok-transcript.ensures at (c.tell_transcript.ensures.done e))
 
--- src/call.rt:88:1
-pub returns-in-Ok-default-Done-clause-front : goal.returns-in-Ok-default-Done-clause-front
-returns-in-Ok-default-Done-clause-front g c = ?
+pub returns-in-Ok-transcript-clause-hung : goal.returns-in-Ok-transcript-clause-hung
+returns-in-Ok-transcript-clause-hung g c = λ e. writes_run c.args.input.now c.args.options _ _ c.in-Ok.system c.in-Ok-transcript.text c.in-Ok-transcript.end Hung (rw c.as_slice.ensures at c.in-Ok.ensures.reads) (search rules) c.in-Ok-transcript.ensures (rw c.as_slice-in-Ok-transcript.ensures at (c.tell_transcript.ensures.hung e))
 
--- src/call.rt:88:1
-pub returns-in-Ok-default-Hung-clause-hung : goal.returns-in-Ok-default-Hung-clause-hung
-returns-in-Ok-default-Hung-clause-hung g c = ?
+pub returns-in-Ok-transcript-clause-front : goal.returns-in-Ok-transcript-clause-front
+returns-in-Ok-transcript-clause-front g c = λ e. in_run c.in-Ok.system c.in-Ok-transcript.end c.in-Ok-transcript.text (rw c.as_slice.ensures at c.in-Ok.ensures.reads) (search rules) c.in-Ok-transcript.ensures (rw c.as_slice-in-Ok-transcript.ensures at (c.tell_transcript.ensures.front e))
 
--- src/call.rt:88:1
-pub returns-in-Ok-default-Hung-clause-front : goal.returns-in-Ok-default-Hung-clause-front
-returns-in-Ok-default-Hung-clause-front g c = ?
-
--- src/call.rt:88:1
-pub returns-in-Ok-default-Limit-clause-front : goal.returns-in-Ok-default-Limit-clause-front
-returns-in-Ok-default-Limit-clause-front g c = ?
-
--- src/call.rt:88:1
 pub returns-in-Ok-fault_line-clause-form : goal.returns-in-Ok-fault_line-clause-form
-returns-in-Ok-fault_line-clause-form g c = ?
+returns-in-Ok-fault_line-clause-form g c = λ e. writes_fault c.args.input.now (Sim c.args.options) _ _ c.in-Err-Fault.fault (rw (c.as_slice.ensures, c.in-Err-Fault.field-0-is) at c.in-Err-Fault.ensures.reads) (rw (c.as_slice-in-Ok-fault_line.ensures, c.in-Ok-fault_line.ensures, c.in-Err-Fault.field-0-is) at (c.tell-in-Ok-fault_line.ensures.whole (λ k. cc)))
 
--- src/call.rt:88:1
 pub returns-in-Ok-fault_line-clause-front : goal.returns-in-Ok-fault_line-clause-front
-returns-in-Ok-fault_line-clause-front g c = ?
+returns-in-Ok-fault_line-clause-front g c = λ e. in_refusal (fault_line c.in-Err-Fault.fault) (no_script (Sim c.args.options) c.in-Err-Fault.fault (rw (c.as_slice.ensures, c.in-Err-Fault.field-0-is) at c.in-Err-Fault.ensures.reads)) (rw (c.as_slice-in-Ok-fault_line.ensures, c.in-Ok-fault_line.ensures, c.in-Err-Fault.field-0-is) at (c.tell-in-Ok-fault_line.ensures.front e))

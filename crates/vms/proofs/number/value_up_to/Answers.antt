@@ -1,7 +1,11 @@
-use Rattle.std.proofs.Common.{rules, ◌≡◌, ◌<◌, ◌^◌, ℕ, ◌+◌, ◌-◌, ◌*◌, ◌≤◌, length, ◌/◌, ◌%◌, Bool, true, false, nat_eq, nat_lt, List, [], ◌∷◌, ◌++◌, slice_index_or, slice_set, bit_and, bit_or, Fits, w8, w32, w64, Bor, MutBor}
-use Rattle.vms.specs.Words as spec
+use Rattle.std.proofs.Common.{◌<◌, length, suc, drop}
+use Rattle.std.proofs.Math.Seq.{drop-cons}
+use Rattle.vms.proofs.Numbers.{value_up_to-large}
 use Rattle.vms.proofs.number.value_up_to.Goals as goal
 
--- src/number.rt:28:13
 pub returns-then-number-from : goal.returns-then-number-from
-returns-then-number-from c = ?
+returns-then-number-from c =
+    let run = c.args.digits.now in
+    let i = c.loop-digit.digit-index in
+    let h : i < length run = c.loop-digit-test.true in
+    value_up_to-large c.args.most run (drop (suc i) run) _ (rw (drop-cons run i 0 h) at c.loop-digit.invariant.value) (rw (c.from.ensures, c.from-in-loop-digit.ensures) at c.if-number-from.true)
