@@ -6,3 +6,4 @@ pub mod Keys
 pub mod Declarations
 pub mod Resolving
 pub mod Reading
+pub mod Script
