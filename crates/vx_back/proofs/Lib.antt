@@ -2,3 +2,4 @@ pub mod Words
 pub mod Names
 pub mod Outer
 pub mod Stmts
+pub mod Process
