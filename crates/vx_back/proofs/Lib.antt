@@ -3,3 +3,5 @@ pub mod Names
 pub mod Outer
 pub mod Stmts
 pub mod Process
+pub mod Told
+pub mod Units
