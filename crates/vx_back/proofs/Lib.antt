@@ -5,3 +5,5 @@ pub mod Stmts
 pub mod Process
 pub mod Told
 pub mod Units
+pub mod Bodies
+pub mod Settled
