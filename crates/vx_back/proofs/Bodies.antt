@@ -16,7 +16,7 @@ use Rattle.vx_script.specs.declared.draft.DraftLine.{DraftLine}
 use Rattle.vx_script.specs.declared.parts.Parts.{Parts}
 use Rattle.vx_back.specs.Held.{IsHeldStmt, IsHeldLabelOf}
 use Rattle.vx_back.proofs.Names.{both, Fresh, placed_nowhere}
-use Rattle.vx_back.proofs.Outer.{step}
+use Rattle.vx_back.proofs.Outer.{Taken, Steps, stays, step, and_then, shaped}
 use Rattle.vx_back.proofs.Stmts.{draft_of, with_draft, take_stmt, take_label}
 
 abbrev pub names_of : List Label → List (List ℕ)
@@ -45,7 +45,7 @@ pub record Ready (decls : List (List ℕ)) (image : Image) (place : ℕ) (curren
 pub record Bodied (line : ℕ) (parts : Parts) (current : DraftImage) (ls rest : List (List ℕ)) (all : List Label) (stmts : List Stmt) : Type 0 where
   pub line2 : ℕ
   pub lines : List DraftLine
-  pub read : read_lines line (goes_on parts current) ls ≡ read_lines line2 (goes_on parts (record { name = current.name; labels = all; lines = lines })) rest
+  pub read : Steps line (goes_on parts current) ls line2 (goes_on parts (record { name = current.name; labels = all; lines = lines })) rest
   pub drafts : drafts_of lines ≡ drafts_of current.lines ++ map (draft_of all) stmts
 
 -- no label that is left stands here
@@ -107,10 +107,11 @@ label_by decls image parts rest stmts place l left true e next more line current
     let here : DraftImage = record current { labels = current.labels ++ l ∷ [] } in
     let ih = more (line + 1) here (ready_label decls image place current l left stmts is r) in
     let new = placed_nowhere (λ (x : Label). x.name) l.name current.labels r.fresh.0 in
+    let taken = subst (λ (i : DraftImage). Taken line (goes_on parts current) (label_line l) (goes_on parts i)) (labelled_as current l place r.stands is) (take_label line parts current l r.named.0 new) in
     record {
       line2 = ih.line2;
       lines = ih.lines;
-      read = ap (read_lines line (goes_on parts current)) (here_shape image.labels left stmts l place rest e) ∙ step line (goes_on parts current) (goes_on parts (with_label current l.name)) (label_line l) _ (take_label line parts current l r.named.0 new) ∙ ap (λ (i : DraftImage). read_lines (line + 1) (goes_on parts i) (body_lines image.labels place left stmts ++ rest)) (labelled_as current l place r.stands is) ∙ ih.read;
+      read = shaped (here_shape image.labels left stmts l place rest e) (and_then (step line (goes_on parts current) (goes_on parts here) (label_line l) _ taken) ih.read);
       drafts = ih.drafts;
     }
 label_by decls image parts rest stmts place l left false e next more line current r =
@@ -153,7 +154,7 @@ next_stmt decls image parts rest s stmts place more line current left r later =
     record {
       line2 = ih.line2;
       lines = ih.lines;
-      read = ap (read_lines line (goes_on parts current)) (later_shape image.labels place left s stmts rest later) ∙ step line (goes_on parts current) (goes_on parts (with_draft line current d)) (stmt_line image.labels s) _ (take_stmt line parts current decls image s p.0 r.held.0 r.all_named room) ∙ ih.read;
+      read = shaped (later_shape image.labels place left s stmts rest later) (and_then (step line (goes_on parts current) (goes_on parts (with_draft line current d)) (stmt_line image.labels s) _ (take_stmt line parts current decls image s p.0 r.held.0 r.all_named room)) ih.read);
       drafts = ih.drafts ∙ drafts_more current.lines line d (map (draft_of image.labels) stmts);
     }
 
@@ -164,7 +165,7 @@ next_end decls image parts rest place line current [] r later =
     record {
       line2 = line;
       lines = current.lines;
-      read = ap (λ (ls : List Label). read_lines line (goes_on parts (record { name = current.name; labels = ls; lines = current.lines })) rest) (sym (append-nil current.labels) ∙ r.labels_are);
+      read = subst (λ (ls : List Label). Steps line (goes_on parts current) rest line (goes_on parts (record { name = current.name; labels = ls; lines = current.lines })) rest) (sym (append-nil current.labels) ∙ r.labels_are) (stays line (goes_on parts current) rest);
       drafts = sym (append-nil (drafts_of current.lines));
     }
 next_end decls image parts rest place line current (l ∷ left) r later =

@@ -28,11 +28,8 @@ use Rattle.vx_script.specs.declared.lines.DeclLine.{DeclLine}
 use Rattle.vx_script.specs.declared.parts.Parts.{Parts}
 use Rattle.vx_script.specs.declared.privileges.TakenPrivs.{TakenPrivs}
 use Rattle.vx_back.proofs.Names.{both}
-use Rattle.vx_back.proofs.Outer.{take_of}
-use Rattle.vx_back.proofs.Words.{Has, has_piece, has_sign, has_gap, has_nothing, Ends, ends_nothing, ends_gap, Spells, spells_word, spells_number}
-
-has_same : (text other : List ℕ) (toks : List Tok) → text ≡ other → Has other toks → Has text toks
-has_same text other toks e h = subst (λ (t : List ℕ). Has t toks) (sym e) h
+use Rattle.vx_back.proofs.Outer.{Taken, taken_by}
+use Rattle.vx_back.proofs.Words.{Has, has_same, has_piece, has_sign, has_gap, has_nothing, Ends, ends_nothing, ends_gap, Spells, spells_word, spells_number}
 
 ends_equals : (rest : List ℕ) → Ends (61 ∷ rest)
 ends_equals rest = record { word = refl; number = refl }
@@ -47,7 +44,7 @@ ends_plus rest = record { word = refl; number = refl }
 has_key : (key value : List ℕ) (v : Tok) (rest : List ℕ) (toks : List Tok) → is_name key ≡ true → Spells value v → Ends rest → Has rest toks → Has (32 ∷ (key ++ 61 ∷ (value ++ rest))) (tok.Word key ∷ tok.Sign 61 ∷ v ∷ toks)
 has_key key value v rest toks h s e more =
     let behind = 61 ∷ (value ++ rest) in
-    has_gap (key ++ behind) _ (has_piece key (tok.Word key) behind _ (spells_word key h) (ends_equals _) (has_sign 61 (value ++ rest) (v ∷ toks) (first-cons 61 _) (has_piece value v rest toks s e more)))
+    has_gap (key ++ behind) _ (has_piece key (tok.Word key) behind _ (spells_word key h) (ends_equals _) (has_sign 61 (value ++ rest) (v ∷ toks) refl (first-cons 61 _) (has_piece value v rest toks s e more)))
 
 mode_named : (m : Mode) → is_name (mode_name m) ≡ true
 mode_named Kernel = refl
@@ -80,7 +77,7 @@ has_and [] rest toks h e more = more
 has_and (n ∷ ns) rest toks h e more =
     let p = both (is_name n) (list_all is_name ns) h in
     let behind = script.and_names ns ++ rest in
-    has_same (43 ∷ ((n ++ script.and_names ns) ++ rest)) (43 ∷ (n ++ behind)) _ (ap (λ (bytes : List ℕ). 43 ∷ bytes) (append_assoc n (script.and_names ns) rest)) (has_sign 43 (n ++ behind) _ (first-cons 43 _) (has_piece n (tok.Word n) behind _ (spells_word n p.0) (ends_and ns rest e) (has_and ns rest toks p.1 e more)))
+    has_same (43 ∷ ((n ++ script.and_names ns) ++ rest)) (43 ∷ (n ++ behind)) _ (ap (λ (bytes : List ℕ). 43 ∷ bytes) (append_assoc n (script.and_names ns) rest)) (has_sign 43 (n ++ behind) _ refl (first-cons 43 _) (has_piece n (tok.Word n) behind _ (spells_word n p.0) (ends_and ns rest e) (has_and ns rest toks p.1 e more)))
 
 has_names : (ns : List (List ℕ)) (rest : List ℕ) (toks : List Tok) → list_all is_name ns ≡ true → Ends rest → Has rest toks → Has (script.names_text ns ++ rest) (names_toks ns ++ toks)
 has_names [] rest toks h e more = has_piece (codes "NONE") (tok.Word (codes "NONE")) rest toks (spells_word (codes "NONE") refl) e more
@@ -280,7 +277,7 @@ has_start d =
     let behind = codes " START=" ++ (n ++ []) in
     let named : Has (script.names_text names ++ behind) (names_toks names ++ start_toks d) = has_names names behind (start_toks d) (held_named d.privs) (ends_gap _) start in
     let shape : script.start_keys d ≡ codes " PRIV=" ++ (script.names_text names ++ (codes " START=" ++ n)) = start_shape (script.names_text names) n in
-    has_same (script.start_keys d) (codes " PRIV=" ++ (script.names_text names ++ behind)) _ (shape ∙ ap (λ (z : List ℕ). codes " PRIV=" ++ (script.names_text names ++ (codes " START=" ++ z))) (sym (append-nil n))) (has_gap (codes "PRIV=" ++ (script.names_text names ++ behind)) _ (has_piece (codes "PRIV") (tok.Word (codes "PRIV")) (61 ∷ (script.names_text names ++ behind)) _ (spells_word (codes "PRIV") refl) (ends_equals _) (has_sign 61 (script.names_text names ++ behind) _ (first-cons 61 _) named)))
+    has_same (script.start_keys d) (codes " PRIV=" ++ (script.names_text names ++ behind)) _ (shape ∙ ap (λ (z : List ℕ). codes " PRIV=" ++ (script.names_text names ++ (codes " START=" ++ z))) (sym (append-nil n))) (has_gap (codes "PRIV=" ++ (script.names_text names ++ behind)) _ (has_piece (codes "PRIV") (tok.Word (codes "PRIV")) (61 ∷ (script.names_text names ++ behind)) _ (spells_word (codes "PRIV") refl) (ends_equals _) (has_sign 61 (script.names_text names ++ behind) _ refl (first-cons 61 _) named)))
 
 abbrev limit_text : List ℕ → ℕ → List ℕ → List ℕ
 limit_text key n rest = 32 ∷ (key ++ 61 ∷ (decimal n ++ rest))
@@ -310,7 +307,7 @@ has_rights : (d : ProcDecl) (rest : List ℕ) (toks : List Tok) → InRange d �
 has_rights d rest toks r e more =
     let mode = has_key (codes "MODE") (mode_name d.mode) (tok.Word (mode_name d.mode)) rest toks refl (spells_word (mode_name d.mode) (mode_named d.mode)) e more in
     let member = has_piece (decimal d.member) (tok.Num d.member) _ _ (spells_number d.member (few d.member 65534 r.member (lit< tt))) (ends_gap _) mode in
-    has_key (codes "UIC") (decimal d.group) (tok.Num d.group) _ _ refl (spells_number d.group (few d.group 16382 r.high (lit< tt))) (ends_colon _) (has_sign 58 _ _ (first-cons 58 _) member)
+    has_key (codes "UIC") (decimal d.group) (tok.Num d.group) _ _ refl (spells_number d.group (few d.group 16382 r.high (lit< tt))) (ends_colon _) (has_sign 58 _ _ refl (first-cons 58 _) member)
 
 -- the name of a declaration's image
 abbrev pub image_name : List Image → ProcDecl → List ℕ
@@ -346,8 +343,8 @@ has_decl images d r h k =
 abbrev pub line_of : ℕ → List Image → ProcDecl → DeclLine
 line_of line images d = record { line = line; name = d.name; image = image_name images d; keys = keys_of d }
 
-pub take_process : (line : ℕ) (parts : Parts) (images : List Image) (count : ℕ) (d : ProcDecl) → is_decl count d ≡ true → is_name d.name ≡ true → is_name (image_name images d) ≡ true → read.decl_place d.name parts.decls ≡ None → nat_lt (length parts.decls) 1000 ≡ true → take_line line (between_images parts) (script.decl_line images d) ≡ Ok (between_images (record parts { decls = parts.decls ++ line_of line images d ∷ [] }))
+pub take_process : (line : ℕ) (parts : Parts) (images : List Image) (count : ℕ) (d : ProcDecl) → is_decl count d ≡ true → is_name d.name ≡ true → is_name (image_name images d) ≡ true → read.decl_place d.name parts.decls ≡ None → nat_lt (length parts.decls) 1000 ≡ true → Taken line (between_images parts) (script.decl_line images d) (between_images (record parts { decls = parts.decls ++ line_of line images d ∷ [] }))
 unfolding outside read.process_line
 take_process line parts images count d is h k new room =
     let r = in_range count d is in
-    take_of line (between_images parts) (script.decl_line images d) (tok.Word (codes "PROCESS") ∷ tok.Word d.name ∷ tok.Word (image_name images d) ∷ key_toks d) (has_decl images d r h k) ∙ rw (new, keys_back d r, room) refl
+    taken_by line (between_images parts) _ (script.decl_line images d) (tok.Word (codes "PROCESS") ∷ tok.Word d.name ∷ tok.Word (image_name images d) ∷ key_toks d) (has_decl images d r h k) (rw (new, keys_back d r, room) refl)

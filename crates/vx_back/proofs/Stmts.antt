@@ -42,8 +42,8 @@ use Rattle.vx_script.specs.declared.fault.FaultKind.{FaultKind}
 use Rattle.vx_script.specs.declared.parts.Parts.{Parts}
 use Rattle.vx_back.specs.Held.{IsHeldStmt, IsHeldLabelOf}
 use Rattle.vx_back.proofs.Names.{both}
-use Rattle.vx_back.proofs.Outer.{take_of}
-use Rattle.vx_back.proofs.Words.{Has, has_call, has_piece, has_sign, has_gap, has_nothing, has_spaced, Ends, ends_nothing, spells_word, spells_number, spells_text, spells_equals, spells_plus, spells_minus, spells_operand, spells_target}
+use Rattle.vx_back.proofs.Outer.{Taken, taken_by}
+use Rattle.vx_back.proofs.Words.{Has, has_same, has_call, has_piece, has_sign, has_gap, has_nothing, has_spaced, Ends, ends_nothing, spells_word, spells_number, spells_text, spells_equals, spells_plus, spells_minus, spells_operand, spells_target}
 
 -- a statement as it is drafted: a label stands by its name
 abbrev pub draft_of : List Label → Stmt → Draft
@@ -170,10 +170,10 @@ drafted line parts image word toks d colon last is room = rw (colon, last, is, r
 
 -- a line of a statement by its word
 abbrev Takes : ℕ → Parts → DraftImage → List Label → Stmt → Type 0
-Takes line parts image labels s = take_line line (goes_on parts image) (stmt_line labels s) ≡ Ok (goes_on parts (with_draft line image (draft_of labels s)))
+Takes line parts image labels s = Taken line (goes_on parts image) (stmt_line labels s) (goes_on parts (with_draft line image (draft_of labels s)))
 
-take_word : (line : ℕ) (parts : Parts) (image : DraftImage) (text word : List ℕ) (toks : List Tok) (d : Draft) → Has text (tok.Word word ∷ toks) → begins_with_sign 58 toks ≡ false → bytes_eq word (codes "END") ≡ false → local_stmt word toks ≡ Ok d → nat_lt (length image.lines) 10000 ≡ true → take_line line (goes_on parts image) text ≡ Ok (goes_on parts (with_draft line image d))
-take_word line parts image text word toks d has colon last is room = take_of line (goes_on parts image) text (tok.Word word ∷ toks) has ∙ drafted line parts image word toks d colon last is room
+take_word : (line : ℕ) (parts : Parts) (image : DraftImage) (text word : List ℕ) (toks : List Tok) (d : Draft) → Has text (tok.Word word ∷ toks) → begins_with_sign 58 toks ≡ false → bytes_eq word (codes "END") ≡ false → local_stmt word toks ≡ Ok d → nat_lt (length image.lines) 10000 ≡ true → Taken line (goes_on parts image) text (goes_on parts (with_draft line image d))
+take_word line parts image text word toks d has colon last is room = taken_by line (goes_on parts image) _ text (tok.Word word ∷ toks) has (drafted line parts image word toks d colon last is room)
 
 pub label_named : (labels : List Label) (k : ℕ) → AllByRecursion IsHeldLabelOf labels → k < length labels → is_name (label_name labels k) ≡ true
 label_named [] k held h = absurd (omega arith)
@@ -184,7 +184,7 @@ take_service : (line : ℕ) (parts : Parts) (image : DraftImage) (labels : List 
 take_service line parts image labels c h held room =
     let text = 32 ∷ call_text c in
     let has : Has (32 ∷ text) (call_tokens c) = has_gap text (call_tokens c) (has_gap (call_text c) (call_tokens c) (has_call c h held)) in
-    ap (take_line line (goes_on parts image)) (ap (λ (bytes : List ℕ). 32 ∷ bytes) (append-nil text)) ∙ take_of line (goes_on parts image) (32 ∷ text) (call_tokens c) has ∙ rw (call_back c h, room) refl
+    taken_by line (goes_on parts image) _ (stmt_line labels (stmt.Service c)) (call_tokens c) (has_same _ _ _ (ap (λ (bytes : List ℕ). 32 ∷ bytes) (append-nil text)) has) (rw (call_back c h, room) refl)
 
 -- a statement's line is taken as the statement
 pub take_stmt : (line : ℕ) (parts : Parts) (current : DraftImage) (decls : List (List ℕ)) (image : Image) (s : Stmt) → is_stmt decls image s ≡ true → IsHeldStmt s → AllByRecursion IsHeldLabelOf image.labels → nat_lt (length current.lines) 10000 ≡ true → Takes line parts current image.labels s
@@ -241,14 +241,14 @@ colon_ends : Ends (58 ∷ [])
 colon_ends = record { word = refl; number = refl }
 
 -- a label's line names the next statement
-pub take_label : (line : ℕ) (parts : Parts) (image : DraftImage) (l : Label) → is_name l.name ≡ true → label_place l.name image.labels ≡ None → take_line line (goes_on parts image) (label_line l) ≡ Ok (goes_on parts (with_label image l.name))
+pub take_label : (line : ℕ) (parts : Parts) (image : DraftImage) (l : Label) → is_name l.name ≡ true → label_place l.name image.labels ≡ None → Taken line (goes_on parts image) (label_line l) (goes_on parts (with_label image l.name))
 take_label line parts image l named new =
     let toks = tok.Word l.name ∷ tok.Sign 58 ∷ [] in
-    let has : Has (label_line l) toks = has_piece l.name (tok.Word l.name) (58 ∷ []) (tok.Sign 58 ∷ []) (spells_word l.name named) colon_ends (has_sign 58 [] [] (first-cons 58 []) has_nothing) in
-    take_of line (goes_on parts image) (label_line l) toks has ∙ rw new refl
+    let has : Has (label_line l) toks = has_piece l.name (tok.Word l.name) (58 ∷ []) (tok.Sign 58 ∷ []) (spells_word l.name named) colon_ends (has_sign 58 [] [] refl (first-cons 58 []) has_nothing) in
+    taken_by line (goes_on parts image) _ (label_line l) toks has (rw new refl)
 
 -- END ends the image
-pub take_end : (line : ℕ) (parts : Parts) (image : DraftImage) → take_line line (goes_on parts image) (codes "END") ≡ Ok (between_images (with_image parts image))
+pub take_end : (line : ℕ) (parts : Parts) (image : DraftImage) → Taken line (goes_on parts image) (codes "END") (between_images (with_image parts image))
 take_end line parts image =
     let has : Has (codes "END") (tok.Word (codes "END") ∷ []) = has_piece (codes "END") (tok.Word (codes "END")) [] [] (spells_word (codes "END") refl) ends_nothing has_nothing in
-    take_of line (goes_on parts image) (codes "END") (tok.Word (codes "END") ∷ []) has
+    taken_by line (goes_on parts image) _ (codes "END") (tok.Word (codes "END") ∷ []) has refl

@@ -13,6 +13,7 @@ use Rattle.vx_script.specs.declared.lines.FaultLine.{FaultLine}
 use Rattle.vx_script.specs.declared.lines.InputLine.{InputLine}
 use Rattle.vx_script.specs.declared.parts.Parts.{Parts}
 use Rattle.vx_script.specs.declared.parts.Reading.{Reading}
+use Rattle.vx_back.proofs.Outer.{Steps}
 
 -- lines without their numbers
 
@@ -43,5 +44,5 @@ pub record Told (names : List (List ℕ)) (parts : Parts) (units : List UnitDecl
 pub record Comes (names : List (List ℕ)) (line : ℕ) (r : Reading) (ls rest : List (List ℕ)) (units : List UnitDecl) (inputs : List InputLine) (faults : List FaultLine) (images : List Image) (decls : List DeclLine) : Type 0 where
   pub line2 : ℕ
   pub parts : Parts
-  pub read : read_lines line r ls ≡ read_lines line2 (between_images parts) rest
+  pub read : Steps line r ls line2 (between_images parts) rest
   pub told : Told names parts units inputs faults images decls

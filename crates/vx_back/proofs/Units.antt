@@ -19,7 +19,7 @@ use Rattle.vx_script.specs.declared.lines.InputLine.{InputLine}
 use Rattle.vx_script.specs.declared.parts.Parts.{Parts}
 use Rattle.vx_back.specs.Held.{IsHeldUnit}
 use Rattle.vx_back.proofs.Names.{both, neither, Fresh, same_name, placed_nowhere}
-use Rattle.vx_back.proofs.Outer.{step, bare, take_unit, take_input, take_fault}
+use Rattle.vx_back.proofs.Outer.{stays, step, and_then, shaped, bare, take_unit, take_input, take_fault}
 use Rattle.vx_back.proofs.Told.{plain_input, plain_fault, Told, Comes}
 
 -- a unit's lines and faults, without the numbers of lines
@@ -41,7 +41,7 @@ faults_told u = map (fault_told u.name) u.faults
 
 inputs_back : (names : List (List ℕ)) (line : ℕ) (parts : Parts) (name : List ℕ) (texts rest : List (List ℕ)) (units : List UnitDecl) (inputs : List InputLine) (faults : List FaultLine) (images : List Image) (decls : List DeclLine) → is_name name ≡ true → AllByRecursion AreBytes texts → list_all (λ bytes. nat_le (length bytes) 2048) texts ≡ true → Told names parts units inputs faults images decls → Comes names line (between_images parts) (map (input_line name) texts ++ rest) rest units (inputs ++ map (input_told name) texts) faults images decls
 inputs_back names line parts name [] rest units inputs faults images decls named are short told =
-    record { line2 = line; parts = parts; read = refl; told = record { units_are = told.units_are; inputs_are = told.inputs_are ∙ sym (append-nil inputs); faults_are = told.faults_are; images_are = told.images_are; decls_are = told.decls_are; creations_are = told.creations_are; unlabelled_is = told.unlabelled_is } }
+    record { line2 = line; parts = parts; read = stays line (between_images parts) rest; told = record { units_are = told.units_are; inputs_are = told.inputs_are ∙ sym (append-nil inputs); faults_are = told.faults_are; images_are = told.images_are; decls_are = told.decls_are; creations_are = told.creations_are; unlabelled_is = told.unlabelled_is } }
 inputs_back names line parts name (text ∷ texts) rest units inputs faults images decls named are short told =
     let p = both (nat_le (length text) 2048) _ short in
     let more : InputLine = record { line = line; unit = name; text = text } in
@@ -51,7 +51,7 @@ inputs_back names line parts name (text ∷ texts) rest units inputs faults imag
     record {
       line2 = ih.line2;
       parts = ih.parts;
-      read = step line (between_images parts) (between_images next) (input_line name text) _ (take_input line parts name text named are.0 p.0) ∙ ih.read;
+      read = and_then (step line (between_images parts) (between_images next) (input_line name text) _ (take_input line parts name text named are.0 p.0)) ih.read;
       told = subst (λ (is : List InputLine). Told names ih.parts units is faults images decls) (append_assoc inputs (input_told name text ∷ []) (map (input_told name) texts)) ih.told;
     }
 
@@ -72,7 +72,7 @@ plain_any name n (f ∷ faults) = ap (λ (b : Bool). is_fault_of name n f || b) 
 
 faults_back : (names : List (List ℕ)) (line : ℕ) (parts : Parts) (name : List ℕ) (low : ℕ) (ns : List ℕ) (rest : List (List ℕ)) (units : List UnitDecl) (inputs : List InputLine) (faults : List FaultLine) (images : List Image) (decls : List DeclLine) → is_name name ≡ true → rises_above low ns ≡ true → list_all (λ n. nat_le n 100000) ns ≡ true → Unused name low faults → Told names parts units inputs faults images decls → Comes names line (between_images parts) (map (fault_line name) ns ++ rest) rest units inputs (faults ++ map (fault_told name) ns) images decls
 faults_back names line parts name low [] rest units inputs faults images decls named rises most unused told =
-    record { line2 = line; parts = parts; read = refl; told = record { units_are = told.units_are; inputs_are = told.inputs_are; faults_are = told.faults_are ∙ sym (append-nil faults); images_are = told.images_are; decls_are = told.decls_are; creations_are = told.creations_are; unlabelled_is = told.unlabelled_is } }
+    record { line2 = line; parts = parts; read = stays line (between_images parts) rest; told = record { units_are = told.units_are; inputs_are = told.inputs_are; faults_are = told.faults_are ∙ sym (append-nil faults); images_are = told.images_are; decls_are = told.decls_are; creations_are = told.creations_are; unlabelled_is = told.unlabelled_is } }
 faults_back names line parts name low (n ∷ ns) rest units inputs faults images decls named rises most unused told =
     let p = both (nat_lt low n) (rises_above n ns) rises in
     let q = both (nat_le n 100000) _ most in
@@ -85,7 +85,7 @@ faults_back names line parts name low (n ∷ ns) rest units inputs faults images
     record {
       line2 = ih.line2;
       parts = ih.parts;
-      read = step line (between_images parts) (between_images next) (fault_line name n) _ (take_fault line parts name n named (le-leb _ _ (omega (arith, above))) q.0 new) ∙ ih.read;
+      read = and_then (step line (between_images parts) (between_images next) (fault_line name n) _ (take_fault line parts name n named (le-leb _ _ (omega (arith, above))) q.0 new)) ih.read;
       told = subst (λ (fs : List FaultLine). Told names ih.parts units inputs fs images decls) (append_assoc faults (fault_told name n ∷ []) (map (fault_told name) ns)) ih.told;
     }
 
@@ -133,7 +133,7 @@ units_shape u units rest =
 
 pub units_back : (names : List (List ℕ)) (line : ℕ) (parts : Parts) (more : List UnitDecl) (rest : List (List ℕ)) (units : List UnitDecl) (inputs : List InputLine) (faults : List FaultLine) (images : List Image) (decls : List DeclLine) → AllByRecursion IsHeldUnit more → list_all is_unit more ≡ true → length units + length more ≤ 32 → Fresh (unit_names units) (unit_names more) → Faulted units faults → Told names parts units inputs faults images decls → Comes names line (between_images parts) (flat_map unit_lines more ++ rest) rest (units ++ map bare more) (inputs ++ flat_map inputs_told more) (faults ++ flat_map faults_told more) images decls
 units_back names line parts [] rest units inputs faults images decls held are few fresh faulted told =
-    record { line2 = line; parts = parts; read = refl; told = record { units_are = told.units_are ∙ sym (append-nil units); inputs_are = told.inputs_are ∙ sym (append-nil inputs); faults_are = told.faults_are ∙ sym (append-nil faults); images_are = told.images_are; decls_are = told.decls_are; creations_are = told.creations_are; unlabelled_is = told.unlabelled_is } }
+    record { line2 = line; parts = parts; read = stays line (between_images parts) rest; told = record { units_are = told.units_are ∙ sym (append-nil units); inputs_are = told.inputs_are ∙ sym (append-nil inputs); faults_are = told.faults_are ∙ sym (append-nil faults); images_are = told.images_are; decls_are = told.decls_are; creations_are = told.creations_are; unlabelled_is = told.unlabelled_is } }
 units_back names line parts (u ∷ more) rest units inputs faults images decls held are few fresh faulted told =
     let p = both (is_unit u) (list_all is_unit more) are in
     let test = unit_test u p.0 in
@@ -154,6 +154,6 @@ units_back names line parts (u ∷ more) rest units inputs faults images decls h
     record {
       line2 = ih.line2;
       parts = ih.parts;
-      read = ap (read_lines line (between_images parts)) (units_shape u more rest) ∙ step line (between_images parts) (between_images next) (unit_line u) _ (take_unit line parts u named test.blocks new room) ∙ one.read ∙ two.read ∙ ih.read;
+      read = shaped (units_shape u more rest) (and_then (step line (between_images parts) (between_images next) (unit_line u) _ (take_unit line parts u named test.blocks new room)) (and_then one.read (and_then two.read ih.read)));
       told = subst (λ (fs : List FaultLine). Told names ih.parts (units ++ map bare (u ∷ more)) (inputs ++ flat_map inputs_told (u ∷ more)) fs images decls) (append_assoc faults (faults_told u) (flat_map faults_told more)) told_inputs;
     }
