@@ -7,3 +7,6 @@ pub mod Told
 pub mod Units
 pub mod Bodies
 pub mod Settled
+pub mod Images
+pub mod Decls
+pub mod Feeds

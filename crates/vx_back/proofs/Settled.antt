@@ -1,6 +1,6 @@
 -- The drafts of an image's statements settle to the statements.
-use Rattle.std.proofs.Common.{◌≡◌, ℕ, ◌<◌, Bool, true, false, not, cond, List, [], ◌∷◌, ◌++◌, length, map, flat_map, get_or, nat_lt, bytes_eq, position, Option, Some, None, option_map, is_some, refl, sym, ap, ◌∙◌, arith}
-use Rattle.std.specs.List.{list_all, list_any, find}
+use Rattle.std.proofs.Common.{◌≡◌, ℕ, ◌<◌, Bool, true, false, not, cond, List, [], ◌∷◌, ◌++◌, length, map, flat_map, get_or, nat_lt, bytes_eq, position, Option, Some, None, option_map, is_some, refl, sym, subst, ap, ◌∙◌, arith}
+use Rattle.std.specs.List.{AllByRecursion, list_all, list_any, find}
 use Rattle.std.proofs.lemmas.Bool.{ltb-true}
 use Rattle.std.proofs.lemmas.List.Folds.{list_all-append}
 use Rattle.vx_base.specs.Services.{is_call, is_operand, args_list}
@@ -142,3 +142,16 @@ stmt_makes names image (stmt.Put b bytes) h = λ line. refl
 stmt_makes names image (stmt.Byte t b x) h = λ line. refl
 stmt_makes names image (stmt.Iosb t i f) h = λ line. refl
 stmt_makes names image stmt.Return h = λ line. refl
+
+all_make : (names : List (List ℕ)) (image : Image) (stmts : List Stmt) → list_all (is_stmt names image) stmts ≡ true → AllByRecursion (makes names) (map (draft_of image.labels) stmts)
+all_make names image [] h = tt
+all_make names image (s ∷ stmts) h =
+    let p = both (is_stmt names image s) _ h in
+    (stmt_makes names image s p.0, all_make names image stmts p.1)
+
+lines_make : (names : List (List ℕ)) (lines : List DraftLine) → AllByRecursion (makes names) (drafts_of lines) → is_made names (creations_of lines) ≡ true
+lines_make names [] h = refl
+lines_make names (d ∷ lines) h = list_all-append (λ c. is_among c.name names) (creation_of d) (creations_of lines) ∙ rw (h.0 d.line, lines_make names lines h.1) refl
+
+pub made_back : (names : List (List ℕ)) (image : Image) (lines : List DraftLine) → list_all (is_stmt names image) image.stmts ≡ true → drafts_of lines ≡ map (draft_of image.labels) image.stmts → are_created names (creations_of lines)
+made_back names image lines h e = lines_make names lines (subst (λ (ds : List Draft). AllByRecursion (makes names) ds) (sym e) (all_make names image image.stmts h))
