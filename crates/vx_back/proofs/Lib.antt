@@ -10,3 +10,5 @@ pub mod Settled
 pub mod Images
 pub mod Decls
 pub mod Feeds
+pub mod Resolved
+pub mod Back
