@@ -1,5 +1,14 @@
-//! The law that a canonical script is read back as its system.
+//! The law that what is printed is read back: the canonical script of a well formed system is read as the system.
+//!
+//! `vx_script/specs/Script.antt` says what the canonical script of a system is, and `vx_script/specs/Reading.antt` what a text
+//! is read as; neither mentions the other. The law holds for every system that a script may say (`IsWellFormed`) and that the
+//! program's types hold (`IsHeldSystem`).
 #![tactic(auto)]
 
-/// Nothing yet.
-pub fn nothing() {}
+ghost use Rattle.vx_back.specs.Law.{ReadsBack};
+
+/// A canonical script is read back as its system, for every well formed system.
+#[tactic(auto, using(crate::proofs::Back::reads_back))]
+pub fn canonical_script_is_read_back()
+    ensures { ReadsBack }
+{}
