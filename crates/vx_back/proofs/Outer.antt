@@ -1,12 +1,11 @@
 -- Each line that stands in no image is read as its piece.
-use Rattle.std.proofs.Common.{◌≡◌, ℕ, ◌+◌, ◌<◌, ◌^◌, ◌==◌, Bool, true, false, cond, List, [], ◌∷◌, ◌++◌, length, codes, nat_lt, nat_le, Option, Some, None, Result, Ok, Err, refl, sym, subst, ap, ◌∙◌, arith, append-nil, lit<}
+use Rattle.std.proofs.Common.{◌≡◌, ℕ, ◌+◌, ◌<◌, ◌^◌, ◌==◌, Bool, true, false, cond, List, [], ◌∷◌, ◌++◌, length, codes, nat_lt, nat_le, None, Result, Ok, Err, refl, sym, subst, ap, ◌∙◌, arith, append-nil}
 use Rattle.std.specs.Prelude.{decimal}
 use Rattle.std.specs.List.{list_all, list_any}
-use Rattle.std.proofs.lemmas.Bool.{le-leb, leb-true}
+use Rattle.std.proofs.lemmas.Bool.{leb-true}
 use Rattle.std.proofs.lemmas.Bool.Decides.{nat_tests}
 use Rattle.vx_base.specs.Name.{is_name}
 use Rattle.vx_image.specs.declared.unit.UnitDecl.{UnitDecl}
-use Rattle.vx_image.specs.declared.image.Image.{Image}
 use Rattle.vx_text.specs.declared.token.LexFail.{LexFail}
 use Rattle.vx_text.specs.declared.token.Tok.{Tok}
 use Rattle.vx_text.specs.declared.token.Tok.TheVariants as tok
@@ -17,14 +16,13 @@ use Rattle.vx_table.specs.Back.{toks_of}
 use Rattle.vx_script.specs.Declarations as read
 use Rattle.vx_script.specs.Fields.{within}
 use Rattle.vx_script.specs.Reading.{take_line, with_kind, accepted, outside, between_images, goes_on, read_lines}
-use Rattle.vx_script.specs.Results.{at_line}
 use Rattle.vx_script.specs.Script as script
 use Rattle.vx_script.specs.declared.draft.DraftImage.{DraftImage}
 use Rattle.vx_script.specs.declared.fault.FaultKind.{FaultKind}
 use Rattle.vx_script.specs.declared.fault.FaultKind.TheVariants as kind
 use Rattle.vx_script.specs.declared.parts.Parts.{Parts}
 use Rattle.vx_script.specs.declared.parts.Reading.{Reading}
-use Rattle.vx_back.proofs.Words.{Has, has_same, is_clean, has_piece, has_gap, has_nothing, has_spaced, AreSpelled, Spells, spells_word, spells_number, spells_text, ends_spaced, ends_gap}
+use Rattle.vx_back.proofs.Words.{Has, has_same, is_clean, has_piece, has_spaced, AreSpelled, spells_word, spells_number, spells_text, ends_spaced}
 
 abbrev as_kinds : Result (List Tok) LexFail → Result (List Tok) FaultKind
 as_kinds (Ok toks) = Ok toks

@@ -1,5 +1,5 @@
 -- A PROCESS line is read as its declaration.
-use Rattle.std.proofs.Common.{◌≡◌, ℕ, zero, suc, ◌+◌, ◌<◌, ◌^◌, ◌&&◌, Bool, true, false, cond, List, [], ◌∷◌, ◌++◌, length, codes, nat_lt, nat_le, drop, Option, Some, None, Result, Ok, Err, refl, sym, subst, ap, ◌∙◌, arith, append-nil, append_assoc, lit<}
+use Rattle.std.proofs.Common.{◌≡◌, ℕ, zero, suc, ◌+◌, ◌<◌, ◌^◌, Bool, true, false, List, [], ◌∷◌, ◌++◌, length, codes, nat_lt, nat_le, Some, None, Ok, refl, sym, ap, ◌∙◌, arith, append-nil, append_assoc, lit<}
 use Rattle.std.specs.Prelude.{decimal, slice_index_or}
 use Rattle.std.specs.List.{list_all}
 use Rattle.std.proofs.lemmas.Bool.{leb-true, le-leb}
@@ -19,14 +19,11 @@ use Rattle.vx_table.specs.Reading.{mode_word}
 use Rattle.vx_table.specs.Spelling.{mode_name}
 use Rattle.vx_script.specs.Declarations as read
 use Rattle.vx_script.specs.Keys.{keys_from, with_key, uic_at, mode_at, limit_at, privs_at, start_at, once, no_keys}
-use Rattle.vx_script.specs.Reading.{take_line, outside, between_images}
+use Rattle.vx_script.specs.Reading.{outside, between_images}
 use Rattle.vx_script.specs.Script as script
-use Rattle.vx_script.specs.declared.fault.FaultKind.{FaultKind}
 use Rattle.vx_script.specs.declared.keys.Keys.{Keys}
-use Rattle.vx_script.specs.declared.keys.Uic.{Uic}
 use Rattle.vx_script.specs.declared.lines.DeclLine.{DeclLine}
 use Rattle.vx_script.specs.declared.parts.Parts.{Parts}
-use Rattle.vx_script.specs.declared.privileges.TakenPrivs.{TakenPrivs}
 use Rattle.vx_back.proofs.Names.{both}
 use Rattle.vx_back.proofs.Outer.{Taken, taken_by}
 use Rattle.vx_back.proofs.Words.{Has, has_same, has_piece, has_sign, has_gap, has_nothing, Ends, ends_nothing, ends_gap, Spells, spells_word, spells_number}

@@ -1,16 +1,16 @@
 -- What the lines of a canonical script say resolves to the system.
-use Rattle.std.proofs.Common.{◌≡◌, ℕ, ◌+◌, ◌<◌, ◌==◌, ◌&&◌, ◌||◌, Bool, true, false, not, cond, List, [], ◌∷◌, ◌++◌, length, map, flat_map, nat_lt, nat_le, bytes_eq, position, Option, None, Some, is_some, is_none, option_map, Ok, refl, sym, subst, ap, ◌∙◌, arith, append-nil}
+use Rattle.std.proofs.Common.{◌≡◌, ℕ, ◌==◌, ◌||◌, Bool, true, false, not, cond, List, [], ◌∷◌, ◌++◌, length, map, flat_map, nat_lt, nat_le, bytes_eq, None, Some, option_map, Ok, refl, sym, subst, ap, ◌∙◌, arith, append-nil}
 use Rattle.std.specs.List.{list_all, list_any, find}
 use Rattle.std.proofs.lemmas.Bool.{ltb-true}
 use Rattle.std.proofs.lemmas.Bool.Decides.{nat_tests}
 use Rattle.std.proofs.lemmas.List.Folds.{list_all-append}
-use Rattle.vx_image.specs.WellFormed.{is_among, are_distinct, is_unit, is_decl, is_image, rises_above, decl_names}
+use Rattle.vx_image.specs.WellFormed.{is_among, are_distinct, is_unit, is_decl, rises_above, decl_names}
 use Rattle.vx_image.specs.declared.decl.ProcDecl.{ProcDecl}
 use Rattle.vx_image.specs.declared.image.Image.{Image}
 use Rattle.vx_image.specs.declared.system.System.{System}
 use Rattle.vx_image.specs.declared.unit.UnitDecl.{UnitDecl}
-use Rattle.vx_script.specs.Declarations.{unit_place, image_place, decl_place}
-use Rattle.vx_script.specs.Resolving.{names_no_decl, names_no_image, is_line_unit, names_no_line_unit, names_no_unit, unknown_creation, unknown_image, unknown_input, unknown_fault, first_unknown, in_place, rising, input_if, inputs_of, fault_if, numbers_of, unit_of, decl_of, system_of, resolve}
+use Rattle.vx_script.specs.Declarations.{image_place}
+use Rattle.vx_script.specs.Resolving.{names_no_decl, names_no_image, is_line_unit, names_no_line_unit, names_no_unit, unknown_creation, unknown_image, unknown_input, unknown_fault, first_unknown, in_place, rising, input_if, inputs_of, fault_if, numbers_of, unit_of, decl_of, resolve}
 use Rattle.vx_script.specs.Script.{no_image}
 use Rattle.vx_script.specs.declared.lines.Creation.{Creation}
 use Rattle.vx_script.specs.declared.lines.DeclLine.{DeclLine}
@@ -22,7 +22,7 @@ use Rattle.vx_back.proofs.Images.{image_names}
 use Rattle.vx_back.proofs.Names.{both, neither, is_not, same_name, name_is, placed_at, placed_somewhere}
 use Rattle.vx_back.proofs.Outer.{bare}
 use Rattle.vx_back.proofs.Process.{image_name, line_of}
-use Rattle.vx_back.proofs.Told.{plain_input, plain_fault, plain_decl, Told, are_created}
+use Rattle.vx_back.proofs.Told.{plain_input, plain_fault, plain_decl, Said, Told}
 use Rattle.vx_back.proofs.Units.{input_told, fault_told, inputs_told, faults_told, unit_names}
 
 -- None is found where none passes.
@@ -197,11 +197,11 @@ record Gives (inputs : List ℕ → List (List ℕ)) (faults : List ℕ → List
 gives_tail : (inputs : List ℕ → List (List ℕ)) (faults : List ℕ → List ℕ) (u : UnitDecl) (units : List UnitDecl) → is_among u.name (unit_names units) ≡ false → Gives inputs faults (u ∷ units) → Gives inputs faults units
 gives_tail inputs faults u units new g = record {
   texts = λ name h.
-    let other = apart_by name u.name units (bytes_eq name u.name) refl h new in
-    g.texts name (or_right (bytes_eq name u.name) _ h) ∙ rw other refl;
+      let other = apart_by name u.name units (bytes_eq name u.name) refl h new in
+      g.texts name (or_right (bytes_eq name u.name) _ h) ∙ rw other refl;
   numbers = λ name h.
-    let other = apart_by name u.name units (bytes_eq name u.name) refl h new in
-    g.numbers name (or_right (bytes_eq name u.name) _ h) ∙ rw other refl;
+      let other = apart_by name u.name units (bytes_eq name u.name) refl h new in
+      g.numbers name (or_right (bytes_eq name u.name) _ h) ∙ rw other refl;
 }
 
 units_rebuilt : (inputs : List ℕ → List (List ℕ)) (faults : List ℕ → List ℕ) (units : List UnitDecl) → are_distinct (unit_names units) ≡ true → list_all is_unit units ≡ true → Gives inputs faults units → map (rebuilt inputs faults) (map bare units) ≡ units
@@ -226,8 +226,17 @@ pub record Sound (s : System) : Type 0 where
   pub decls_are : list_all (is_decl (length s.images)) s.decls ≡ true
 
 -- what the lines of a system say
+abbrev pub said_by : System → Said
+said_by s = record {
+  units = map bare s.units;
+  inputs = flat_map inputs_told s.units;
+  faults = flat_map faults_told s.units;
+  images = s.images;
+  decls = map (line_of 0 s.images) s.decls;
+}
+
 abbrev pub ToldAll : System → Parts → Type 0
-ToldAll s parts = Told (decl_names s) parts (map bare s.units) (flat_map inputs_told s.units) (flat_map faults_told s.units) s.images (map (line_of 0 s.images) s.decls)
+ToldAll s parts = Told (decl_names s) parts (said_by s)
 
 lines_named : (images : List Image) (decls : List ProcDecl) → line_names (map (line_of 0 images) decls) ≡ process_names decls
 lines_named images [] = refl
@@ -235,47 +244,47 @@ lines_named images (d ∷ decls) = ap (λ (ns : List (List ℕ)). d.name ∷ ns)
 
 no_creation : (s : System) (parts : Parts) → ToldAll s parts → unknown_creation parts ≡ None
 no_creation s parts told =
-    let names : line_names parts.decls ≡ decl_names s = told_names parts.decls _ told.decls_are ∙ lines_named s.images s.decls in
-    let made = subst (λ (ns : List (List ℕ)). list_all (λ (c : Creation). is_among c.name ns) parts.creations ≡ true) (sym names) told.creations_are in
+    let names : line_names parts.decls ≡ decl_names s = told_names parts.decls _ told.decls ∙ lines_named s.images s.decls in
+    let made = subst (λ (ns : List (List ℕ)). list_all (λ (c : Creation). is_among c.name ns) parts.creations ≡ true) (sym names) told.creations in
     rw (none_found (names_no_decl parts.decls) parts.creations (creations_known parts.decls parts.creations made)) refl
 
 no_image_unknown : (s : System) (parts : Parts) → Sound s → ToldAll s parts → unknown_image parts ≡ None
 no_image_unknown s parts sound told =
-    let known : list_all (λ d. not (names_no_image s.images d)) parts.decls ≡ true = sym (all_changed (λ d. not (names_no_image s.images d)) plain_decl (λ d. refl) parts.decls) ∙ ap (list_all (λ d. not (names_no_image s.images d))) told.decls_are ∙ images_known s.images s.decls sound.decls_are sound.image_apart in
-    ap (λ (images : List Image). option_map (λ (d : DeclLine). d.line) (find (names_no_image images) parts.decls)) told.images_are ∙ rw (none_found (names_no_image s.images) parts.decls known) refl
+    let known : list_all (λ d. not (names_no_image s.images d)) parts.decls ≡ true = sym (all_changed (λ d. not (names_no_image s.images d)) plain_decl (λ d. refl) parts.decls) ∙ ap (list_all (λ d. not (names_no_image s.images d))) told.decls ∙ images_known s.images s.decls sound.decls_are sound.image_apart in
+    ap (λ (images : List Image). option_map (λ (d : DeclLine). d.line) (find (names_no_image images) parts.decls)) told.images ∙ rw (none_found (names_no_image s.images) parts.decls known) refl
 
 no_input : (s : System) (parts : Parts) → Sound s → ToldAll s parts → unknown_input parts ≡ None
 no_input s parts sound told =
     let all = map bare s.units in
-    let known : list_all (λ i. not (names_no_line_unit all i)) parts.inputs ≡ true = sym (all_changed (λ i. not (names_no_line_unit all i)) plain_input (λ i. refl) parts.inputs) ∙ ap (list_all (λ i. not (names_no_line_unit all i))) told.inputs_are ∙ inputs_known s.units s.units (λ name e. e) sound.units_are in
-    ap (λ (units : List UnitDecl). option_map (λ (i : InputLine). i.line) (find (names_no_line_unit units) parts.inputs)) told.units_are ∙ rw (none_found (names_no_line_unit all) parts.inputs known) refl
+    let known : list_all (λ i. not (names_no_line_unit all i)) parts.inputs ≡ true = sym (all_changed (λ i. not (names_no_line_unit all i)) plain_input (λ i. refl) parts.inputs) ∙ ap (list_all (λ i. not (names_no_line_unit all i))) told.inputs ∙ inputs_known s.units s.units (λ name e. e) sound.units_are in
+    ap (λ (units : List UnitDecl). option_map (λ (i : InputLine). i.line) (find (names_no_line_unit units) parts.inputs)) told.units ∙ rw (none_found (names_no_line_unit all) parts.inputs known) refl
 
 no_fault : (s : System) (parts : Parts) → ToldAll s parts → unknown_fault parts ≡ None
 no_fault s parts told =
     let all = map bare s.units in
     let named : (name : List ℕ) → is_among name (unit_names s.units) ≡ true → is_among name (unit_names all) ≡ true = λ name e. ap (is_among name) (bare_names s.units) ∙ e in
-    let known : list_all (λ f. not (names_no_unit all f)) parts.faults ≡ true = sym (all_changed (λ f. not (names_no_unit all f)) plain_fault (λ f. refl) parts.faults) ∙ ap (list_all (λ f. not (names_no_unit all f))) told.faults_are ∙ faults_known all s.units named in
-    ap (λ (units : List UnitDecl). option_map (λ (f : FaultLine). f.line) (find (names_no_unit units) parts.faults)) told.units_are ∙ rw (none_found (names_no_unit all) parts.faults known) refl
+    let known : list_all (λ f. not (names_no_unit all f)) parts.faults ≡ true = sym (all_changed (λ f. not (names_no_unit all f)) plain_fault (λ f. refl) parts.faults) ∙ ap (list_all (λ f. not (names_no_unit all f))) told.faults ∙ faults_known all s.units named in
+    ap (λ (units : List UnitDecl). option_map (λ (f : FaultLine). f.line) (find (names_no_unit units) parts.faults)) told.units ∙ rw (none_found (names_no_unit all) parts.faults known) refl
 
 none_unknown : (s : System) (parts : Parts) → Sound s → ToldAll s parts → first_unknown parts ≡ None
-none_unknown s parts sound told = rw (told.unlabelled_is, no_creation s parts told, no_image_unknown s parts sound told, no_input s parts sound told, no_fault s parts told) refl
+none_unknown s parts sound told = rw (told.unlabelled, no_creation s parts told, no_image_unknown s parts sound told, no_input s parts sound told, no_fault s parts told) refl
 
 units_settled : (s : System) (parts : Parts) → Sound s → ToldAll s parts → map (unit_of parts) parts.units ≡ s.units
 units_settled s parts sound told =
     let inputs : List ℕ → List (List ℕ) = λ name. inputs_of name parts.inputs in
     let faults : List ℕ → List ℕ = λ name. numbers_of name parts.faults in
     let gives : Gives inputs faults s.units = record {
-      texts = λ name h. sym (inputs_plain name parts.inputs) ∙ ap (inputs_of name) told.inputs_are ∙ inputs_own name s.units;
-      numbers = λ name h. sym (numbers_plain name parts.faults) ∙ ap (numbers_of name) told.faults_are ∙ numbers_own name s.units;
+      texts = λ name h. sym (inputs_plain name parts.inputs) ∙ ap (inputs_of name) told.inputs ∙ inputs_own name s.units;
+      numbers = λ name h. sym (numbers_plain name parts.faults) ∙ ap (numbers_of name) told.faults ∙ numbers_own name s.units;
     } in
-    ap (map (rebuilt inputs faults)) told.units_are ∙ units_rebuilt inputs faults s.units sound.unit_apart sound.units_are gives
+    ap (map (rebuilt inputs faults)) told.units ∙ units_rebuilt inputs faults s.units sound.unit_apart sound.units_are gives
 
 decls_resolved : (s : System) (parts : Parts) → Sound s → ToldAll s parts → map (decl_of parts.images) parts.decls ≡ s.decls
-decls_resolved s parts sound told = ap (λ (images : List Image). map (decl_of images) parts.decls) told.images_are ∙ sym (decls_plain s.images parts.decls) ∙ ap (map (decl_of s.images)) told.decls_are ∙ decls_settled s.images s.decls sound.decls_are sound.image_apart
+decls_resolved s parts sound told = ap (λ (images : List Image). map (decl_of images) parts.decls) told.images ∙ sym (decls_plain s.images parts.decls) ∙ ap (map (decl_of s.images)) told.decls ∙ decls_settled s.images s.decls sound.decls_are sound.image_apart
 
 -- what the lines say is the system
 pub resolved_back : (s : System) (parts : Parts) → Sound s → ToldAll s parts → resolve parts ≡ Ok s
 resolved_back s parts sound told =
     let units = units_settled s parts sound told in
     let decls = decls_resolved s parts sound told in
-    rw (none_unknown s parts sound told) (ap (λ (us : List UnitDecl). Ok (record { units = us; images = parts.images; decls = map (decl_of parts.images) parts.decls })) units ∙ ap (λ (is : List Image). Ok (record { units = s.units; images = is; decls = map (decl_of parts.images) parts.decls })) told.images_are ∙ ap (λ (ds : List ProcDecl). Ok (record { units = s.units; images = s.images; decls = ds })) decls)
+    rw (none_unknown s parts sound told) (ap (λ (us : List UnitDecl). Ok (record { units = us; images = parts.images; decls = map (decl_of parts.images) parts.decls })) units ∙ ap (λ (is : List Image). Ok (record { units = s.units; images = is; decls = map (decl_of parts.images) parts.decls })) told.images ∙ ap (λ (ds : List ProcDecl). Ok (record { units = s.units; images = s.images; decls = ds })) decls)

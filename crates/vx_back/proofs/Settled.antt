@@ -1,25 +1,22 @@
 -- The drafts of an image's statements settle to the statements.
-use Rattle.std.proofs.Common.{◌≡◌, ℕ, ◌<◌, Bool, true, false, not, cond, List, [], ◌∷◌, ◌++◌, length, map, flat_map, get_or, nat_lt, bytes_eq, position, Option, Some, None, option_map, is_some, refl, sym, subst, ap, ◌∙◌, arith}
+use Rattle.std.proofs.Common.{◌≡◌, ℕ, Bool, true, false, not, cond, List, [], ◌∷◌, length, map, nat_lt, Some, None, refl, sym, subst, ap, ◌∙◌}
 use Rattle.std.specs.List.{AllByRecursion, list_all, list_any, find}
 use Rattle.std.proofs.lemmas.Bool.{ltb-true}
 use Rattle.std.proofs.lemmas.List.Folds.{list_all-append}
 use Rattle.vx_base.specs.Services.{is_call, is_operand, args_list}
 use Rattle.vx_base.specs.declared.call.Arg.{Arg}
 use Rattle.vx_base.specs.declared.call.Arg.TheVariants as arg
-use Rattle.vx_base.specs.declared.call.Call.{Call}
 use Rattle.vx_base.specs.declared.service.Service.{Service}
 use Rattle.vx_base.specs.declared.service.Service.TheVariants.{CrePrc}
 use Rattle.vx_image.specs.Local.{no_label}
-use Rattle.vx_image.specs.WellFormed.{is_among, are_distinct, is_stmt, label_names, has_its_label, has_its_decl, is_name_among}
+use Rattle.vx_image.specs.WellFormed.{is_among, are_distinct, is_stmt, label_names, has_its_label, has_its_decl}
 use Rattle.vx_image.specs.declared.image.Image.{Image}
 use Rattle.vx_image.specs.declared.image.Label.{Label}
 use Rattle.vx_image.specs.declared.stmt.Stmt.{Stmt}
 use Rattle.vx_image.specs.declared.stmt.Stmt.TheVariants as stmt
-use Rattle.vx_script.specs.Resolving.{label_place, is_label, arg_names_none, call_names_none, draft_names_none, names_no_label, first_unlabelled, settled, created_by, created_in, creation_of, creations_of}
+use Rattle.vx_script.specs.Resolving.{label_place, is_label, arg_names_none, draft_names_none, names_no_label, first_unlabelled, settled, created_by, created_in, creation_of, creations_of}
 use Rattle.vx_script.specs.Script.{label_name}
 use Rattle.vx_script.specs.declared.draft.Draft.{Draft}
-use Rattle.vx_script.specs.declared.draft.Draft.TheVariants as draft
-use Rattle.vx_script.specs.declared.draft.DraftImage.{DraftImage}
 use Rattle.vx_script.specs.declared.draft.DraftLine.{DraftLine}
 use Rattle.vx_script.specs.declared.lines.Creation.{Creation}
 use Rattle.vx_back.proofs.Bodies.{drafts_of}

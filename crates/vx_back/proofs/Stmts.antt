@@ -1,5 +1,5 @@
 -- Each line of an image is read as its piece.
-use Rattle.std.proofs.Common.{◌≡◌, ℕ, zero, suc, ◌+◌, ◌<◌, ◌^◌, ◌&&◌, Bool, true, false, List, [], ◌∷◌, ◌++◌, length, get_or, codes, nat_lt, nat_le, bytes_eq, drop, Option, Some, None, Result, Ok, Err, refl, sym, ap, ◌∙◌, arith, append-nil, lit<}
+use Rattle.std.proofs.Common.{◌≡◌, ℕ, zero, suc, ◌<◌, ◌^◌, true, false, List, [], ◌∷◌, ◌++◌, length, codes, nat_lt, nat_le, bytes_eq, Some, None, Ok, refl, ap, ◌∙◌, arith, append-nil}
 use Rattle.std.specs.Prelude.{decimal}
 use Rattle.std.specs.List.{AllByRecursion}
 use Rattle.std.proofs.lemmas.Bool.{ltb-true, leb-true, le-leb}
@@ -10,9 +10,7 @@ use Rattle.vx_base.specs.declared.call.Target.{Target}
 use Rattle.vx_base.specs.declared.call.Target.TheVariants as target
 use Rattle.vx_base.specs.Name.{is_name}
 use Rattle.vx_base.specs.Services.{is_operand, is_target, is_call, args_list}
-use Rattle.vx_image.specs.Local.{no_label}
-use Rattle.vx_image.specs.WellFormed.{is_stmt, has_its_label, has_its_decl}
-use Rattle.std.specs.List.{list_all}
+use Rattle.vx_image.specs.WellFormed.{is_stmt}
 use Rattle.vx_image.specs.declared.image.Image.{Image}
 use Rattle.vx_image.specs.declared.image.Label.{Label}
 use Rattle.vx_image.specs.declared.stmt.Field.{Field}
@@ -23,22 +21,20 @@ use Rattle.vx_image.specs.declared.stmt.Stmt.{Stmt}
 use Rattle.vx_image.specs.declared.stmt.Stmt.TheVariants as stmt
 use Rattle.vx_text.specs.declared.token.Tok.{Tok}
 use Rattle.vx_text.specs.declared.token.Tok.TheVariants as tok
-use Rattle.vx_text.specs.Quote.{quote_text, AreBytes}
+use Rattle.vx_text.specs.Quote.{quote_text}
 use Rattle.vx_text.proofs.Leading.{first-cons}
-use Rattle.vx_table.specs.Back.{IsHeldOperand, AreHeld}
-use Rattle.vx_table.specs.Reading.{operand_of, target_word}
+use Rattle.vx_table.specs.Back.{AreHeld}
+use Rattle.vx_table.specs.Reading.{operand_of}
 use Rattle.vx_table.specs.Spelling.{call_text, call_tokens, operand_text, operand_token, target_text, target_token}
 use Rattle.vx_table.proofs.Back.{call_back}
-use Rattle.vx_script.specs.Declarations as read
 use Rattle.vx_script.specs.Fields.{begins_with_sign, is_sign, target_in}
-use Rattle.vx_script.specs.Reading.{take_line, inside, goes_on, between_images, with_label}
+use Rattle.vx_script.specs.Reading.{inside, goes_on, between_images, with_label}
 use Rattle.vx_script.specs.Resolving.{label_place, with_image}
-use Rattle.vx_script.specs.Script.{spaced, stmt_line, stmt_words, let_words, goto_words, label_name, label_line}
+use Rattle.vx_script.specs.Script.{stmt_line, let_words, goto_words, label_name, label_line}
 use Rattle.vx_script.specs.Statements.{local_stmt, let_stmt, let_rest, goto_stmt, if_stmt, put_stmt, byte_stmt, iosb_stmt, return_stmt, rel_name, rel_word, field_name, field_word}
 use Rattle.vx_script.specs.declared.draft.Draft.{Draft}
 use Rattle.vx_script.specs.declared.draft.Draft.TheVariants as draft
 use Rattle.vx_script.specs.declared.draft.DraftImage.{DraftImage}
-use Rattle.vx_script.specs.declared.fault.FaultKind.{FaultKind}
 use Rattle.vx_script.specs.declared.parts.Parts.{Parts}
 use Rattle.vx_back.specs.Held.{IsHeldStmt, IsHeldLabelOf}
 use Rattle.vx_back.proofs.Names.{both}
@@ -166,7 +162,6 @@ with_draft line image d = record image { lines = image.lines ++ record { line = 
 
 drafted : (line : ℕ) (parts : Parts) (image : DraftImage) (word : List ℕ) (toks : List Tok) (d : Draft) → begins_with_sign 58 toks ≡ false → bytes_eq word (codes "END") ≡ false → local_stmt word toks ≡ Ok d → nat_lt (length image.lines) 10000 ≡ true → inside line parts image (tok.Word word ∷ toks) ≡ Ok (goes_on parts (with_draft line image d))
 drafted line parts image word toks d colon last is room = rw (colon, last, is, room) refl
-
 
 -- a line of a statement by its word
 abbrev Takes : ℕ → Parts → DraftImage → List Label → Stmt → Type 0
