@@ -12,3 +12,4 @@ pub mod Decls
 pub mod Feeds
 pub mod Resolved
 pub mod Back
+pub mod Worked

@@ -5,10 +5,17 @@
 //! program's types hold (`IsHeldSystem`).
 #![tactic(auto)]
 
+ghost use Rattle.vx_back.specs.Example.{IsExample};
 ghost use Rattle.vx_back.specs.Law.{ReadsBack};
 
 /// A canonical script is read back as its system, for every well formed system.
 #[tactic(auto, using(crate::proofs::Back::reads_back))]
 pub fn canonical_script_is_read_back()
     ensures { ReadsBack }
+{}
+
+/// A worked example of the law, computed: a system with every kind of line and of local statement.
+#[tactic(auto, using(crate::proofs::Worked::worked_example))]
+pub fn worked_example()
+    ensures { IsExample }
 {}
