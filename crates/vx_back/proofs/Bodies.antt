@@ -15,7 +15,8 @@ use Rattle.vx_script.specs.declared.draft.DraftImage.{DraftImage}
 use Rattle.vx_script.specs.declared.draft.DraftLine.{DraftLine}
 use Rattle.vx_script.specs.declared.parts.Parts.{Parts}
 use Rattle.vx_back.specs.Held.{IsHeldStmt, IsHeldLabelOf}
-use Rattle.vx_back.proofs.Names.{both, Fresh, placed_nowhere}
+use Rattle.vx_text.proofs.Runs.{and_parts}
+use Rattle.vx_back.proofs.Names.{Fresh, placed_nowhere}
 use Rattle.vx_back.proofs.Outer.{Taken, Steps, stays, step, and_then, shaped}
 use Rattle.vx_back.proofs.Stmts.{draft_of, with_draft, take_stmt, take_label}
 
@@ -66,7 +67,7 @@ here_shape all left (s ∷ stmts) l place rest e =
 later_shape : (all : List Label) (place : ℕ) (left : List Label) (s : Stmt) (stmts : List Stmt) (rest : List (List ℕ)) → IsLater place left → body_lines all place left (s ∷ stmts) ++ rest ≡ stmt_line all s ∷ (body_lines all (place + 1) left stmts ++ rest)
 later_shape all place [] s stmts rest h = refl
 later_shape all place (l ∷ left) s stmts rest h =
-    let p = both (nat_le (place + 1) l.place) _ h in
+    let p = and_parts (nat_le (place + 1) l.place) _ h in
     let e : nat_le l.place place ≡ false = not_below l.place place (leb-true _ _ p.0) in
     rw e refl
 
@@ -77,8 +78,8 @@ labelled_as current l place stands is = ap (λ (p : ℕ). record current { label
 
 ready_label : (decls : List (List ℕ)) (image : Image) (place : ℕ) (current : DraftImage) (l : Label) (left : List Label) (stmts : List Stmt) → l.place ≡ place → Ready decls image place current (l ∷ left) stmts → Ready decls image place (record current { labels = current.labels ++ l ∷ [] }) left stmts
 ready_label decls image place current l left stmts is r =
-    let p = both (nat_le place l.place) _ r.order in
-    let q = both (nat_le l.place (place + length stmts)) _ r.bound in
+    let p = and_parts (nat_le place l.place) _ r.order in
+    let q = and_parts (nat_le l.place (place + length stmts)) _ r.bound in
     record {
       stands = r.stands;
       labels_are = append_assoc current.labels (l ∷ []) left ∙ r.labels_are;
@@ -102,7 +103,7 @@ Goes decls image parts rest stmts place left = (line : ℕ) (current : DraftImag
 
 label_by : (decls : List (List ℕ)) (image : Image) (parts : Parts) (rest : List (List ℕ)) (stmts : List Stmt) (place : ℕ) (l : Label) (left : List Label) (t : Bool) → nat_le l.place place ≡ t → Next decls image parts rest stmts place → Goes decls image parts rest stmts place left → Goes decls image parts rest stmts place (l ∷ left)
 label_by decls image parts rest stmts place l left true e next more line current r =
-    let p = both (nat_le place l.place) _ r.order in
+    let p = and_parts (nat_le place l.place) _ r.order in
     let is : l.place ≡ place = omega (arith, leb-true _ _ e, leb-true _ _ p.0) in
     let here : DraftImage = record current { labels = current.labels ++ l ∷ [] } in
     let ih = more (line + 1) here (ready_label decls image place current l left stmts is r) in
@@ -115,7 +116,7 @@ label_by decls image parts rest stmts place l left true e next more line current
       drafts = ih.drafts;
     }
 label_by decls image parts rest stmts place l left false e next more line current r =
-    let p = both (nat_le place l.place) _ r.order in
+    let p = and_parts (nat_le place l.place) _ r.order in
     let above : nat_le (place + 1) l.place ≡ true = le-leb _ _ (omega (arith, leb-false _ _ e)) in
     next line current (l ∷ left) r (rw above p.1)
 
@@ -127,7 +128,7 @@ body_labels decls image parts rest stmts place next (l ∷ left) line current r 
 
 ready_stmt : (decls : List (List ℕ)) (image : Image) (place line : ℕ) (current : DraftImage) (left : List Label) (s : Stmt) (stmts : List Stmt) (d : Draft) → IsLater place left → Ready decls image place current left (s ∷ stmts) → Ready decls image (place + 1) (with_draft line current d) left stmts
 ready_stmt decls image place line current left s stmts d later r =
-    let p = both (is_stmt decls image s) _ r.stmts_are in
+    let p = and_parts (is_stmt decls image s) _ r.stmts_are in
     let more : place + length (s ∷ stmts) ≡ place + 1 + length stmts = omega arith in
     record {
       stands = length-append current.lines (record { line = line; draft = d } ∷ []) ∙ ap (λ (n : ℕ). n + 1) r.stands;
@@ -148,7 +149,7 @@ drafts_more lines line d more = ap (λ (ds : List Draft). ds ++ more) (map-appen
 next_stmt : (decls : List (List ℕ)) (image : Image) (parts : Parts) (rest : List (List ℕ)) (s : Stmt) (stmts : List Stmt) (place : ℕ) → ((left : List Label) → Goes decls image parts rest stmts (place + 1) left) → Next decls image parts rest (s ∷ stmts) place
 next_stmt decls image parts rest s stmts place more line current left r later =
     let d = draft_of image.labels s in
-    let p = both (is_stmt decls image s) _ r.stmts_are in
+    let p = and_parts (is_stmt decls image s) _ r.stmts_are in
     let room : nat_lt (length current.lines) 10000 ≡ true = lt-ltb _ _ (omega (arith, r.room, r.stands)) in
     let ih = more left (line + 1) (with_draft line current d) (ready_stmt decls image place line current left s stmts d later r) in
     record {
@@ -170,8 +171,8 @@ next_end decls image parts rest place line current [] r later =
     }
 next_end decls image parts rest place line current (l ∷ left) r later =
     let none : List Stmt = [] in
-    let p = both (nat_le l.place (place + length none)) _ r.bound in
-    let q = both (nat_le (place + 1) l.place) _ later in
+    let p = and_parts (nat_le l.place (place + length none)) _ r.bound in
+    let q = and_parts (nat_le (place + 1) l.place) _ later in
     absurd (omega (arith, leb-true _ _ p.0, leb-true _ _ q.0))
 
 -- the lines of an image's body are read as its labels and statements

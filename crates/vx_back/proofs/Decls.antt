@@ -13,7 +13,8 @@ use Rattle.vx_script.specs.Script.{no_image, decl_line}
 use Rattle.vx_script.specs.declared.lines.DeclLine.{DeclLine}
 use Rattle.vx_script.specs.declared.parts.Parts.{Parts}
 use Rattle.vx_back.specs.Held.{IsHeldImage, IsHeldDecl}
-use Rattle.vx_back.proofs.Names.{both, Fresh, placed_nowhere}
+use Rattle.vx_text.proofs.Runs.{and_parts}
+use Rattle.vx_back.proofs.Names.{Fresh, placed_nowhere}
 use Rattle.vx_back.proofs.Outer.{stays, step, and_then}
 use Rattle.vx_back.proofs.Process.{line_of, take_process}
 use Rattle.vx_back.proofs.Told.{plain_decl, Said, Told, Comes, told_as}
@@ -53,8 +54,8 @@ decls_back names line parts said images [] rest shown held are few fresh told =
     let none : said ≡ with_decls said [] = ap (λ (ds : List DeclLine). record said { decls = ds }) (sym (append-nil said.decls)) in
     record { line2 = line; parts = parts; read = stays line (between_images parts) rest; told = told_as names parts said _ none told }
 decls_back names line parts said images (d ∷ more) rest shown held are few fresh told =
-    let p = both (is_decl (length images) d) _ are in
-    let place = both (nat_lt d.image (length images)) _ p.0 in
+    let p = and_parts (is_decl (length images) d) _ are in
+    let place = and_parts (nat_lt d.image (length images)) _ p.0 in
     let image = image_named images d.image shown (ltb-true _ _ place.0) in
     let new = placed_nowhere (λ (x : DeclLine). x.name) d.name parts.decls (ap (is_among d.name) (told_names parts.decls said.decls told.decls) ∙ fresh.0) in
     let room : nat_lt (length parts.decls) 1000 ≡ true = lt-ltb _ _ (omega (arith, few, told_length parts.decls said.decls told.decls)) in

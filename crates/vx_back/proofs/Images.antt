@@ -14,7 +14,8 @@ use Rattle.vx_script.specs.declared.draft.DraftImage.{DraftImage}
 use Rattle.vx_script.specs.declared.parts.Parts.{Parts}
 use Rattle.vx_back.specs.Held.{IsHeldImage}
 use Rattle.vx_back.proofs.Bodies.{Ready, body_back}
-use Rattle.vx_back.proofs.Names.{both, Fresh, fresh_of, placed_nowhere}
+use Rattle.vx_text.proofs.Runs.{and_parts}
+use Rattle.vx_back.proofs.Names.{Fresh, fresh_of, placed_nowhere}
 use Rattle.vx_back.proofs.Outer.{empty_image, stays, step, and_then, shaped, take_image}
 use Rattle.vx_back.proofs.Settled.{settled_back, none_unlabelled, made_back}
 use Rattle.vx_back.proofs.Stmts.{take_end}
@@ -30,10 +31,10 @@ record ImageTest (names : List (List ℕ)) (i : Image) : Type 0 where
 
 image_test : (names : List (List ℕ)) (i : Image) → is_image names i ≡ true → ImageTest names i
 image_test names i h =
-    let one = both (nat_le (length i.stmts) 10000) _ h in
-    let two = both (are_distinct (label_names i)) _ one.1 in
-    let three = both (falls_nowhere 0 (label_places i)) _ two.1 in
-    let four = both (list_all (λ place. nat_le place (length i.stmts)) (label_places i)) _ three.1 in
+    let one = and_parts (nat_le (length i.stmts) 10000) _ h in
+    let two = and_parts (are_distinct (label_names i)) _ one.1 in
+    let three = and_parts (falls_nowhere 0 (label_places i)) _ two.1 in
+    let four = and_parts (list_all (λ place. nat_le place (length i.stmts)) (label_places i)) _ three.1 in
     record { few = one.0; distinct = two.0; order = three.0; bound = four.0; stmts = four.1 }
 
 -- an image at its first line
@@ -100,7 +101,7 @@ images_back names line parts said [] rest held are few fresh told =
     let none : said ≡ with_images said [] = ap (λ (is : List Image). record said { images = is }) (sym (append-nil said.images)) in
     record { line2 = line; parts = parts; read = stays line (between_images parts) rest; told = told_as names parts said _ none told }
 images_back names line parts said (i ∷ more) rest held are few fresh told =
-    let p = both (is_image names i) (list_all (is_image names) more) are in
+    let p = and_parts (is_image names i) (list_all (is_image names) more) are in
     let one = image_back names line parts said i (flat_map image_lines more ++ rest) held.0 p.0 (omega (arith, few)) fresh.0 told in
     let fresh_more : Fresh (image_names (said.images ++ i ∷ [])) (image_names more) = subst (λ (ns : List (List ℕ)). Fresh ns (image_names more)) (sym (map-append (λ (x : Image). x.name) said.images (i ∷ []))) fresh.1 in
     let few_more : length (said.images ++ i ∷ []) + length more ≤ 256 = omega (arith, few, length-append said.images (i ∷ [])) in

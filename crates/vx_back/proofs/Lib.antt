@@ -1,4 +1,5 @@
 pub mod Words
+pub mod Tests
 pub mod Names
 pub mod Outer
 pub mod Stmts

@@ -1,22 +1,12 @@
 -- Names that differ, and where they stand.
-use Rattle.std.proofs.Common.{◌≡◌, ℕ, zero, suc, ◌+◌, ◌<◌, ◌&&◌, ◌||◌, not, Bool, true, false, cond, List, [], ◌∷◌, ◌++◌, length, map, get_or, Some, None, position, nat_lt, bytes_eq, refl, sym, ◌∙◌, arith}
+use Rattle.std.proofs.Common.{◌≡◌, ℕ, zero, suc, ◌+◌, ◌<◌, ◌||◌, not, Bool, true, false, cond, List, [], ◌∷◌, ◌++◌, length, map, get_or, Some, None, position, nat_lt, bytes_eq, refl, sym, ◌∙◌, arith}
 use Rattle.std.specs.List.{AllByRecursion, position_or_len}
 use Rattle.std.proofs.lemmas.Slice.Eq.{bytes_eq-Decides}
 use Rattle.std.proofs.lemmas.Bool.{lt-ltb, le-ltb}
 use Rattle.std.proofs.lemmas.List.Folds.{list_any-append}
 use Rattle.vx_image.specs.WellFormed.{is_among, are_distinct}
-
-pub both : (a b : Bool) → a && b ≡ true → (a ≡ true) × (b ≡ true)
-both true b h = (refl, h)
-both false b h = cc
-
-pub neither : (a b : Bool) → a || b ≡ false → (a ≡ false) × (b ≡ false)
-neither true b h = cc
-neither false b h = (refl, h)
-
-pub is_not : (a : Bool) → not a ≡ true → a ≡ false
-is_not true h = cc
-is_not false h = refl
+use Rattle.vx_text.proofs.Runs.{and_parts}
+use Rattle.vx_back.proofs.Tests.{neither, is_not}
 
 pub same_name : (a : List ℕ) → bytes_eq a a ≡ true
 same_name a = (bytes_eq-Decides a a).1 refl
@@ -51,7 +41,7 @@ apart_more done n (m ∷ ms) a h =
 fresh_by : (done ns : List (List ℕ)) → Apart done ns → are_distinct ns ≡ true → Fresh done ns
 fresh_by done [] a h = tt
 fresh_by done (n ∷ ns) a h =
-    let parts = both (not (is_among n ns)) (are_distinct ns) h in
+    let parts = and_parts (not (is_among n ns)) (are_distinct ns) h in
     (a.0, fresh_by (done ++ n ∷ []) ns (apart_more done n ns a.1 (is_not (is_among n ns) parts.0)) parts.1)
 
 apart_none : (ns : List (List ℕ)) → Apart [] ns
@@ -84,7 +74,7 @@ place_len : {A : Type 0} (n : A → List ℕ) (xs : List A) (k : ℕ) (d : A) �
 place_len n [] k d lt h = absurd (omega arith)
 place_len n (x ∷ xs) zero d lt h = rw (same_name (n x)) refl
 place_len n (x ∷ xs) (suc k) d lt h =
-    let parts = both (not (is_among (n x) (map n xs))) (are_distinct (map n xs)) h in
+    let parts = and_parts (not (is_among (n x) (map n xs))) (are_distinct (map n xs)) h in
     let within : k < length xs = omega arith in
     let other = other_way (n x) (n (get_or xs k d)) (among_at n (n x) xs k d (is_not (is_among (n x) (map n xs)) parts.0) within) in
     rw (other, place_len n xs k d within parts.1) (omega arith)

@@ -24,7 +24,7 @@ use Rattle.vx_script.specs.Script as script
 use Rattle.vx_script.specs.declared.keys.Keys.{Keys}
 use Rattle.vx_script.specs.declared.lines.DeclLine.{DeclLine}
 use Rattle.vx_script.specs.declared.parts.Parts.{Parts}
-use Rattle.vx_back.proofs.Names.{both}
+use Rattle.vx_text.proofs.Runs.{and_parts}
 use Rattle.vx_back.proofs.Outer.{Taken, taken_by}
 use Rattle.vx_back.proofs.Words.{Has, has_same, has_piece, has_sign, has_gap, has_nothing, Ends, ends_nothing, ends_gap, Spells, spells_word, spells_number}
 
@@ -72,14 +72,14 @@ ends_and (n ∷ ns) rest e = ends_plus _
 has_and : (ns : List (List ℕ)) (rest : List ℕ) (toks : List Tok) → list_all is_name ns ≡ true → Ends rest → Has rest toks → Has (script.and_names ns ++ rest) (and_toks ns ++ toks)
 has_and [] rest toks h e more = more
 has_and (n ∷ ns) rest toks h e more =
-    let p = both (is_name n) (list_all is_name ns) h in
+    let p = and_parts (is_name n) (list_all is_name ns) h in
     let behind = script.and_names ns ++ rest in
     has_same (43 ∷ ((n ++ script.and_names ns) ++ rest)) (43 ∷ (n ++ behind)) _ (ap (λ (bytes : List ℕ). 43 ∷ bytes) (append_assoc n (script.and_names ns) rest)) (has_sign 43 (n ++ behind) _ refl (first-cons 43 _) (has_piece n (tok.Word n) behind _ (spells_word n p.0) (ends_and ns rest e) (has_and ns rest toks p.1 e more)))
 
 has_names : (ns : List (List ℕ)) (rest : List ℕ) (toks : List Tok) → list_all is_name ns ≡ true → Ends rest → Has rest toks → Has (script.names_text ns ++ rest) (names_toks ns ++ toks)
 has_names [] rest toks h e more = has_piece (codes "NONE") (tok.Word (codes "NONE")) rest toks (spells_word (codes "NONE") refl) e more
 has_names (n ∷ ns) rest toks h e more =
-    let p = both (is_name n) (list_all is_name ns) h in
+    let p = and_parts (is_name n) (list_all is_name ns) h in
     let behind = script.and_names ns ++ rest in
     has_same ((n ++ script.and_names ns) ++ rest) (n ++ behind) _ (append_assoc n (script.and_names ns) rest) (has_piece n (tok.Word n) behind _ (spells_word n p.0) (ends_and ns rest e) (has_and ns rest toks p.1 e more))
 
@@ -228,14 +228,14 @@ record InRange (d : ProcDecl) : Type 0 where
 
 in_range : (images : ℕ) (d : ProcDecl) → is_decl images d ≡ true → InRange d
 in_range images d h =
-    let one = both (nat_lt d.image images) _ h in
-    let two = both (nat_le 1 d.group) _ one.1 in
-    let three = both (nat_le d.group 16382) _ two.1 in
-    let four = both (nat_le d.member 65534) (are_limits d.limits) three.1 in
-    let five = both (nat_le d.limits.ast 1000000) _ four.1 in
-    let six = both (nat_le d.limits.bio 1000000) _ five.1 in
-    let seven = both (nat_le d.limits.dio 1000000) _ six.1 in
-    let eight = both (nat_le d.limits.byt 1000000) (nat_le d.limits.tqe 1000000) seven.1 in
+    let one = and_parts (nat_lt d.image images) _ h in
+    let two = and_parts (nat_le 1 d.group) _ one.1 in
+    let three = and_parts (nat_le d.group 16382) _ two.1 in
+    let four = and_parts (nat_le d.member 65534) (are_limits d.limits) three.1 in
+    let five = and_parts (nat_le d.limits.ast 1000000) _ four.1 in
+    let six = and_parts (nat_le d.limits.bio 1000000) _ five.1 in
+    let seven = and_parts (nat_le d.limits.dio 1000000) _ six.1 in
+    let eight = and_parts (nat_le d.limits.byt 1000000) (nat_le d.limits.tqe 1000000) seven.1 in
     record { low = two.0; high = three.0; member = four.0; ast = five.0; bio = six.0; dio = seven.0; byt = eight.0; tqe = eight.1 }
 
 keys_back : (d : ProcDecl) → InRange d → keys_from 0 no_keys (key_toks d) ≡ Ok (keys_of d)

@@ -1,9 +1,9 @@
 -- What the lines of a canonical script say resolves to the system.
-use Rattle.std.proofs.Common.{◌≡◌, ℕ, ◌==◌, ◌||◌, Bool, true, false, not, cond, List, [], ◌∷◌, ◌++◌, length, map, flat_map, nat_lt, nat_le, bytes_eq, None, Some, option_map, Ok, refl, sym, subst, ap, ◌∙◌, arith, append-nil}
+use Rattle.std.proofs.Common.{◌≡◌, ℕ, ◌==◌, ◌||◌, Bool, true, false, not, cond, List, [], ◌∷◌, ◌++◌, length, map, flat_map, nat_lt, bytes_eq, None, Some, option_map, Ok, refl, sym, subst, ap, ◌∙◌, arith, append-nil}
 use Rattle.std.specs.List.{list_all, list_any, find}
 use Rattle.std.proofs.lemmas.Bool.{ltb-true}
 use Rattle.std.proofs.lemmas.Bool.Decides.{nat_tests}
-use Rattle.std.proofs.lemmas.List.Folds.{list_all-append}
+use Rattle.std.proofs.lemmas.List.Folds.{list_all-append, list_all-map}
 use Rattle.vx_image.specs.WellFormed.{is_among, are_distinct, is_unit, is_decl, rises_above, decl_names}
 use Rattle.vx_image.specs.declared.decl.ProcDecl.{ProcDecl}
 use Rattle.vx_image.specs.declared.image.Image.{Image}
@@ -19,50 +19,31 @@ use Rattle.vx_script.specs.declared.lines.InputLine.{InputLine}
 use Rattle.vx_script.specs.declared.parts.Parts.{Parts}
 use Rattle.vx_back.proofs.Decls.{line_names, process_names, told_names}
 use Rattle.vx_back.proofs.Images.{image_names}
-use Rattle.vx_back.proofs.Names.{both, neither, is_not, same_name, name_is, placed_at, placed_somewhere}
+use Rattle.vx_text.proofs.Runs.{and_parts, or_true}
+use Rattle.vx_back.proofs.Names.{same_name, name_is, placed_at, placed_somewhere}
+use Rattle.vx_back.proofs.Tests.{neither, is_not, none_found}
 use Rattle.vx_back.proofs.Outer.{bare}
 use Rattle.vx_back.proofs.Process.{image_name, line_of}
 use Rattle.vx_back.proofs.Told.{plain_input, plain_fault, plain_decl, Said, Told}
-use Rattle.vx_back.proofs.Units.{input_told, fault_told, inputs_told, faults_told, unit_names}
-
--- None is found where none passes.
-
-none_by : {A : Type 0} (p : A → Bool) (x : A) (xs : List A) (t : Bool) → not t ≡ true → find p xs ≡ None → cond t (Some x) (find p xs) ≡ None
-none_by p x xs true h more = absurd (cc)
-none_by p x xs false h more = more
-
-none_found : {A : Type 0} (p : A → Bool) (xs : List A) → list_all (λ x. not (p x)) xs ≡ true → find p xs ≡ None
-none_found p [] h = refl
-none_found p (x ∷ xs) h =
-    let q = both (not (p x)) (list_all (λ x. not (p x)) xs) h in
-    none_by p x xs (p x) q.0 (none_found p xs q.1)
-
--- a test that does not see what a change changes
-all_changed : {A : Type 0} (p : A → Bool) (f : A → A) → ((x : A) → p (f x) ≡ p x) → (xs : List A) → list_all p (map f xs) ≡ list_all p xs
-all_changed p f same [] = refl
-all_changed p f same (x ∷ xs) = rw (same x, all_changed p f same xs) refl
-
-or_right : (a b : Bool) → b ≡ true → a || b ≡ true
-or_right true b h = refl
-or_right false b h = h
+use Rattle.vx_back.proofs.Units.{input_told, fault_told, inputs_told, faults_told, unit_names, unit_test}
 
 -- What statements create is there.
 
 creations_known : (decls : List DeclLine) (creations : List Creation) → list_all (λ c. is_among c.name (line_names decls)) creations ≡ true → list_all (λ c. not (names_no_decl decls c)) creations ≡ true
 creations_known decls [] h = refl
 creations_known decls (c ∷ creations) h =
-    let p = both (is_among c.name (line_names decls)) _ h in
+    let p = and_parts (is_among c.name (line_names decls)) _ h in
     rw (placed_somewhere (λ (d : DeclLine). d.name) c.name decls p.0, creations_known decls creations p.1) refl
 
 -- The images of declarations are there.
 
 image_found : (images : List Image) (d : ProcDecl) → is_decl (length images) d ≡ true → are_distinct (image_names images) ≡ true → image_place (image_name images d) images ≡ Some d.image
-image_found images d h apart = placed_at (λ (i : Image). i.name) images d.image no_image (ltb-true _ _ (both (nat_lt d.image (length images)) _ h).0) apart
+image_found images d h apart = placed_at (λ (i : Image). i.name) images d.image no_image (ltb-true _ _ (and_parts (nat_lt d.image (length images)) _ h).0) apart
 
 images_known : (images : List Image) (decls : List ProcDecl) → list_all (is_decl (length images)) decls ≡ true → are_distinct (image_names images) ≡ true → list_all (λ d. not (names_no_image images d)) (map (line_of 0 images) decls) ≡ true
 images_known images [] h apart = refl
 images_known images (d ∷ decls) h apart =
-    let p = both (is_decl (length images) d) _ h in
+    let p = and_parts (is_decl (length images) d) _ h in
     rw (image_found images d p.0 apart, images_known images decls p.1 apart) refl
 
 decl_settled : (images : List Image) (d : ProcDecl) → is_decl (length images) d ≡ true → are_distinct (image_names images) ≡ true → decl_of images (line_of 0 images d) ≡ d
@@ -71,7 +52,7 @@ decl_settled images d h apart = rw (image_found images d h apart) refl
 decls_settled : (images : List Image) (decls : List ProcDecl) → list_all (is_decl (length images)) decls ≡ true → are_distinct (image_names images) ≡ true → map (decl_of images) (map (line_of 0 images) decls) ≡ decls
 decls_settled images [] h apart = refl
 decls_settled images (d ∷ decls) h apart =
-    let p = both (is_decl (length images) d) _ h in
+    let p = and_parts (is_decl (length images) d) _ h in
     rw (decl_settled images d p.0 apart, decls_settled images decls p.1 apart) refl
 
 decls_plain : (images : List Image) (decls : List DeclLine) → map (decl_of images) (map plain_decl decls) ≡ map (decl_of images) decls
@@ -97,11 +78,10 @@ line_unit_by all name (text ∷ texts) false h known = absurd (no_length text te
 inputs_known : (all units : List UnitDecl) → ((name : List ℕ) → list_any (is_line_unit name) (map bare units) ≡ true → list_any (is_line_unit name) (map bare all) ≡ true) → list_all is_unit units ≡ true → list_all (λ i. not (names_no_line_unit (map bare all) i)) (flat_map inputs_told units) ≡ true
 inputs_known all [] within h = refl
 inputs_known all (u ∷ units) within h =
-    let p = both (is_unit u) (list_all is_unit units) h in
-    let kinds = both ((u.blocks == 0) || (length u.inputs == 0)) _ (both (list_all (λ line. nat_le (length line) 2048) u.inputs) _ (both (nat_le u.blocks 4096) _ p.0).1).1 in
+    let p = and_parts (is_unit u) (list_all is_unit units) h in
     let known : (u.blocks == 0) ≡ true → list_any (is_line_unit u.name) (map bare all) ≡ true = λ e. within u.name (rw (same_name u.name, e) refl) in
-    let first = line_unit_by all u.name u.inputs (u.blocks == 0) kinds.0 known in
-    list_all-append (λ i. not (names_no_line_unit (map bare all) i)) (inputs_told u) (flat_map inputs_told units) ∙ rw (first, inputs_known all units (λ name e. within name (or_right (is_line_unit name (bare u)) _ e)) p.1) refl
+    let first = line_unit_by all u.name u.inputs (u.blocks == 0) (unit_test u p.0).kinds known in
+    list_all-append (λ i. not (names_no_line_unit (map bare all) i)) (inputs_told u) (flat_map inputs_told units) ∙ rw (first, inputs_known all units (λ name e. within name (or_true (is_line_unit name (bare u)) _ e)) p.1) refl
 
 faults_known_by : (all : List UnitDecl) (name : List ℕ) (ns : List ℕ) → is_among name (unit_names all) ≡ true → list_all (λ f. not (names_no_unit all f)) (map (fault_told name) ns) ≡ true
 faults_known_by all name [] h = refl
@@ -111,7 +91,7 @@ faults_known : (all units : List UnitDecl) → ((name : List ℕ) → is_among n
 faults_known all [] within = refl
 faults_known all (u ∷ units) within =
     let first = faults_known_by all u.name u.faults (within u.name (rw (same_name u.name) refl)) in
-    list_all-append (λ f. not (names_no_unit all f)) (faults_told u) (flat_map faults_told units) ∙ rw (first, faults_known all units (λ name e. within name (or_right (bytes_eq name u.name) _ e))) refl
+    list_all-append (λ f. not (names_no_unit all f)) (faults_told u) (flat_map faults_told units) ∙ rw (first, faults_known all units (λ name e. within name (or_true (bytes_eq name u.name) _ e))) refl
 
 bare_names : (units : List UnitDecl) → unit_names (map bare units) ≡ unit_names units
 bare_names [] = refl
@@ -177,12 +157,12 @@ apart_by name other units false e h k = refl
 -- rising numbers stay as they are
 rising_by : (n : ℕ) (ns : List ℕ) → rises_above n ns ≡ true → in_place n ns ≡ n ∷ ns
 rising_by n [] h = refl
-rising_by n (m ∷ ms) h = rw ((both (nat_lt n m) _ h).0) refl
+rising_by n (m ∷ ms) h = rw ((and_parts (nat_lt n m) _ h).0) refl
 
 rising_same : (low : ℕ) (ns : List ℕ) → rises_above low ns ≡ true → rising ns ≡ ns
 rising_same low [] h = refl
 rising_same low (n ∷ ns) h =
-    let p = both (nat_lt low n) (rises_above n ns) h in
+    let p = and_parts (nat_lt low n) (rises_above n ns) h in
     ap (in_place n) (rising_same n ns p.1) ∙ rising_by n ns p.1
 
 -- units whose lines and faults are these functions of the name
@@ -198,23 +178,22 @@ gives_tail : (inputs : List ℕ → List (List ℕ)) (faults : List ℕ → List
 gives_tail inputs faults u units new g = record {
   texts = λ name h.
       let other = apart_by name u.name units (bytes_eq name u.name) refl h new in
-      g.texts name (or_right (bytes_eq name u.name) _ h) ∙ rw other refl;
+      g.texts name (or_true (bytes_eq name u.name) _ h) ∙ rw other refl;
   numbers = λ name h.
       let other = apart_by name u.name units (bytes_eq name u.name) refl h new in
-      g.numbers name (or_right (bytes_eq name u.name) _ h) ∙ rw other refl;
+      g.numbers name (or_true (bytes_eq name u.name) _ h) ∙ rw other refl;
 }
 
 units_rebuilt : (inputs : List ℕ → List (List ℕ)) (faults : List ℕ → List ℕ) (units : List UnitDecl) → are_distinct (unit_names units) ≡ true → list_all is_unit units ≡ true → Gives inputs faults units → map (rebuilt inputs faults) (map bare units) ≡ units
 units_rebuilt inputs faults [] apart are g = refl
 units_rebuilt inputs faults (u ∷ units) apart are g =
-    let p = both (not (is_among u.name (unit_names units))) (are_distinct (unit_names units)) apart in
-    let q = both (is_unit u) (list_all is_unit units) are in
+    let p = and_parts (not (is_among u.name (unit_names units))) (are_distinct (unit_names units)) apart in
+    let q = and_parts (is_unit u) (list_all is_unit units) are in
     let new = is_not (is_among u.name (unit_names units)) p.0 in
     let here : is_among u.name (unit_names (u ∷ units)) ≡ true = rw (same_name u.name) refl in
     let texts : inputs u.name ≡ u.inputs = g.texts u.name here ∙ rw (same_name u.name, none_inputs u.name units new) (append-nil u.inputs) in
     let numbers : faults u.name ≡ u.faults = g.numbers u.name here ∙ rw (same_name u.name, none_faults u.name units new) (append-nil u.faults) in
-    let rises = (both (rises_above 0 u.faults) _ (both ((u.blocks == 0) || (length u.inputs == 0)) _ (both (list_all (λ line. nat_le (length line) 2048) u.inputs) _ (both (nat_le u.blocks 4096) _ q.0).1).1).1).0 in
-    let rise : rising (faults u.name) ≡ u.faults = ap rising numbers ∙ rising_same 0 u.faults rises in
+    let rise : rising (faults u.name) ≡ u.faults = ap rising numbers ∙ rising_same 0 u.faults (unit_test u q.0).rises in
     rw (texts, rise, units_rebuilt inputs faults units p.1 q.1 (gives_tail inputs faults u units new g)) refl
 
 -- The whole.
@@ -250,20 +229,20 @@ no_creation s parts told =
 
 no_image_unknown : (s : System) (parts : Parts) → Sound s → ToldAll s parts → unknown_image parts ≡ None
 no_image_unknown s parts sound told =
-    let known : list_all (λ d. not (names_no_image s.images d)) parts.decls ≡ true = sym (all_changed (λ d. not (names_no_image s.images d)) plain_decl (λ d. refl) parts.decls) ∙ ap (list_all (λ d. not (names_no_image s.images d))) told.decls ∙ images_known s.images s.decls sound.decls_are sound.image_apart in
+    let known : list_all (λ d. not (names_no_image s.images d)) parts.decls ≡ true = sym (list_all-map (λ d. not (names_no_image s.images d)) plain_decl parts.decls) ∙ ap (list_all (λ d. not (names_no_image s.images d))) told.decls ∙ images_known s.images s.decls sound.decls_are sound.image_apart in
     ap (λ (images : List Image). option_map (λ (d : DeclLine). d.line) (find (names_no_image images) parts.decls)) told.images ∙ rw (none_found (names_no_image s.images) parts.decls known) refl
 
 no_input : (s : System) (parts : Parts) → Sound s → ToldAll s parts → unknown_input parts ≡ None
 no_input s parts sound told =
     let all = map bare s.units in
-    let known : list_all (λ i. not (names_no_line_unit all i)) parts.inputs ≡ true = sym (all_changed (λ i. not (names_no_line_unit all i)) plain_input (λ i. refl) parts.inputs) ∙ ap (list_all (λ i. not (names_no_line_unit all i))) told.inputs ∙ inputs_known s.units s.units (λ name e. e) sound.units_are in
+    let known : list_all (λ i. not (names_no_line_unit all i)) parts.inputs ≡ true = sym (list_all-map (λ i. not (names_no_line_unit all i)) plain_input parts.inputs) ∙ ap (list_all (λ i. not (names_no_line_unit all i))) told.inputs ∙ inputs_known s.units s.units (λ name e. e) sound.units_are in
     ap (λ (units : List UnitDecl). option_map (λ (i : InputLine). i.line) (find (names_no_line_unit units) parts.inputs)) told.units ∙ rw (none_found (names_no_line_unit all) parts.inputs known) refl
 
 no_fault : (s : System) (parts : Parts) → ToldAll s parts → unknown_fault parts ≡ None
 no_fault s parts told =
     let all = map bare s.units in
     let named : (name : List ℕ) → is_among name (unit_names s.units) ≡ true → is_among name (unit_names all) ≡ true = λ name e. ap (is_among name) (bare_names s.units) ∙ e in
-    let known : list_all (λ f. not (names_no_unit all f)) parts.faults ≡ true = sym (all_changed (λ f. not (names_no_unit all f)) plain_fault (λ f. refl) parts.faults) ∙ ap (list_all (λ f. not (names_no_unit all f))) told.faults ∙ faults_known all s.units named in
+    let known : list_all (λ f. not (names_no_unit all f)) parts.faults ≡ true = sym (list_all-map (λ f. not (names_no_unit all f)) plain_fault parts.faults) ∙ ap (list_all (λ f. not (names_no_unit all f))) told.faults ∙ faults_known all s.units named in
     ap (λ (units : List UnitDecl). option_map (λ (f : FaultLine). f.line) (find (names_no_unit units) parts.faults)) told.units ∙ rw (none_found (names_no_unit all) parts.faults known) refl
 
 none_unknown : (s : System) (parts : Parts) → Sound s → ToldAll s parts → first_unknown parts ≡ None

@@ -1,8 +1,8 @@
 -- The drafts of an image's statements settle to the statements.
-use Rattle.std.proofs.Common.{◌≡◌, ℕ, Bool, true, false, not, cond, List, [], ◌∷◌, length, map, nat_lt, Some, None, refl, sym, subst, ap, ◌∙◌}
-use Rattle.std.specs.List.{AllByRecursion, list_all, list_any, find}
+use Rattle.std.proofs.Common.{◌≡◌, ℕ, Bool, true, false, not, List, [], ◌∷◌, length, map, nat_lt, Some, None, refl, sym, subst, ap, ◌∙◌}
+use Rattle.std.specs.List.{AllByRecursion, list_all, list_any}
 use Rattle.std.proofs.lemmas.Bool.{ltb-true}
-use Rattle.std.proofs.lemmas.List.Folds.{list_all-append}
+use Rattle.std.proofs.lemmas.List.Folds.{list_all-append, list_all-map}
 use Rattle.vx_base.specs.Services.{is_call, is_operand, args_list}
 use Rattle.vx_base.specs.declared.call.Arg.{Arg}
 use Rattle.vx_base.specs.declared.call.Arg.TheVariants as arg
@@ -20,7 +20,9 @@ use Rattle.vx_script.specs.declared.draft.Draft.{Draft}
 use Rattle.vx_script.specs.declared.draft.DraftLine.{DraftLine}
 use Rattle.vx_script.specs.declared.lines.Creation.{Creation}
 use Rattle.vx_back.proofs.Bodies.{drafts_of}
-use Rattle.vx_back.proofs.Names.{both, placed_at, placed_somewhere}
+use Rattle.vx_text.proofs.Runs.{and_parts}
+use Rattle.vx_back.proofs.Names.{placed_at, placed_somewhere}
+use Rattle.vx_back.proofs.Tests.{none_found}
 use Rattle.vx_back.proofs.Stmts.{draft_of}
 use Rattle.vx_back.proofs.Told.{are_created}
 
@@ -30,7 +32,7 @@ label_found labels k h apart = placed_at (λ (l : Label). l.name) labels k no_la
 
 settled_one : (decls : List (List ℕ)) (image : Image) (s : Stmt) → are_distinct (label_names image) ≡ true → is_stmt decls image s ≡ true → settled image.labels (draft_of image.labels s) ≡ s
 settled_one decls image (stmt.Goto k) apart h = rw (label_found image.labels k h apart) refl
-settled_one decls image (stmt.If x r y k) apart h = rw (label_found image.labels k (both (is_operand y) _ (both (is_operand x) _ h).1).1 apart) refl
+settled_one decls image (stmt.If x r y k) apart h = rw (label_found image.labels k (and_parts (is_operand y) _ (and_parts (is_operand x) _ h).1).1 apart) refl
 settled_one decls image (stmt.Let t x) apart h = refl
 settled_one decls image (stmt.Add t x y) apart h = refl
 settled_one decls image (stmt.Sub t x y) apart h = refl
@@ -43,7 +45,7 @@ settled_one decls image (stmt.Service c) apart h = refl
 settled_all : (decls : List (List ℕ)) (image : Image) (stmts : List Stmt) → are_distinct (label_names image) ≡ true → list_all (is_stmt decls image) stmts ≡ true → map (settled image.labels) (map (draft_of image.labels) stmts) ≡ stmts
 settled_all decls image [] apart h = refl
 settled_all decls image (s ∷ stmts) apart h =
-    let p = both (is_stmt decls image s) _ h in
+    let p = and_parts (is_stmt decls image s) _ h in
     rw (settled_one decls image s apart p.0, settled_all decls image stmts apart p.1) refl
 
 settled_through : (labels : List Label) (lines : List DraftLine) → map (λ d. settled labels d.draft) lines ≡ map (settled labels) (drafts_of lines)
@@ -71,12 +73,12 @@ arg_named image arg.Unused h = refl
 args_named : (image : Image) (args : List Arg) → list_all (has_its_label image) args ≡ true → list_any (arg_names_none image.labels) args ≡ false
 args_named image [] h = refl
 args_named image (a ∷ args) h =
-    let p = both (has_its_label image a) _ h in
+    let p = and_parts (has_its_label image a) _ h in
     rw (arg_named image a p.0, args_named image args p.1) refl
 
 stmt_named : (decls : List (List ℕ)) (image : Image) (s : Stmt) → are_distinct (label_names image) ≡ true → is_stmt decls image s ≡ true → draft_names_none image.labels (draft_of image.labels s) ≡ false
 stmt_named decls image (stmt.Goto k) apart h = rw (label_found image.labels k h apart) refl
-stmt_named decls image (stmt.If x r y k) apart h = rw (label_found image.labels k (both (is_operand y) _ (both (is_operand x) _ h).1).1 apart) refl
+stmt_named decls image (stmt.If x r y k) apart h = rw (label_found image.labels k (and_parts (is_operand y) _ (and_parts (is_operand x) _ h).1).1 apart) refl
 stmt_named decls image (stmt.Let t x) apart h = refl
 stmt_named decls image (stmt.Add t x y) apart h = refl
 stmt_named decls image (stmt.Sub t x y) apart h = refl
@@ -84,7 +86,7 @@ stmt_named decls image (stmt.Put b bytes) apart h = refl
 stmt_named decls image (stmt.Byte t b x) apart h = refl
 stmt_named decls image (stmt.Iosb t i f) apart h = refl
 stmt_named decls image stmt.Return apart h = refl
-stmt_named decls image (stmt.Service c) apart h = args_named image (args_list c.args) (both (list_all (has_its_label image) (args_list c.args)) _ (both (is_call c) _ h).1).0
+stmt_named decls image (stmt.Service c) apart h = args_named image (args_list c.args) (and_parts (list_all (has_its_label image) (args_list c.args)) _ (and_parts (is_call c) _ h).1).0
 
 abbrev names_one : List Label → Draft → Bool
 names_one labels d = not (draft_names_none labels d)
@@ -92,23 +94,13 @@ names_one labels d = not (draft_names_none labels d)
 all_named : (decls : List (List ℕ)) (image : Image) (stmts : List Stmt) → are_distinct (label_names image) ≡ true → list_all (is_stmt decls image) stmts ≡ true → list_all (names_one image.labels) (map (draft_of image.labels) stmts) ≡ true
 all_named decls image [] apart h = refl
 all_named decls image (s ∷ stmts) apart h =
-    let p = both (is_stmt decls image s) _ h in
+    let p = and_parts (is_stmt decls image s) _ h in
     rw (stmt_named decls image s apart p.0, all_named decls image stmts apart p.1) refl
-
-none_by : (labels : List Label) (d : DraftLine) (lines : List DraftLine) (t : Bool) → not t ≡ true → find (names_no_label labels) lines ≡ None → cond t (Some d) (find (names_no_label labels) lines) ≡ None
-none_by labels d lines true h more = absurd (cc)
-none_by labels d lines false h more = more
-
-none_found : (labels : List Label) (lines : List DraftLine) → list_all (names_one labels) (drafts_of lines) ≡ true → find (names_no_label labels) lines ≡ None
-none_found labels [] h = refl
-none_found labels (d ∷ lines) h =
-    let p = both (names_one labels d.draft) _ h in
-    none_by labels d lines (draft_names_none labels d.draft) p.0 (none_found labels lines p.1)
 
 pub none_unlabelled : (decls : List (List ℕ)) (image : Image) (lines : List DraftLine) → are_distinct (label_names image) ≡ true → list_all (is_stmt decls image) image.stmts ≡ true → drafts_of lines ≡ map (draft_of image.labels) image.stmts → first_unlabelled (record { name = image.name; labels = image.labels; lines = lines }) ≡ None
 none_unlabelled decls image lines apart h e =
-    let all = ap (list_all (names_one image.labels)) e ∙ all_named decls image image.stmts apart h in
-    rw (none_found image.labels lines all) refl
+    let all = sym (list_all-map (names_one image.labels) (λ (d : DraftLine). d.draft) lines) ∙ ap (list_all (names_one image.labels)) e ∙ all_named decls image image.stmts apart h in
+    rw (none_found (names_no_label image.labels) lines all) refl
 
 -- What statements create is declared.
 
@@ -129,7 +121,7 @@ abbrev makes : List (List ℕ) → Draft → Type 0
 makes names d = (line : ℕ) → is_made names (created_in line d) ≡ true
 
 stmt_makes : (names : List (List ℕ)) (image : Image) (s : Stmt) → is_stmt names image s ≡ true → makes names (draft_of image.labels s)
-stmt_makes names image (stmt.Service c) h = made_by names c.service c.args.a1 (both (list_all (has_its_label image) (args_list c.args)) _ (both (is_call c) _ h).1).1
+stmt_makes names image (stmt.Service c) h = made_by names c.service c.args.a1 (and_parts (list_all (has_its_label image) (args_list c.args)) _ (and_parts (is_call c) _ h).1).1
 stmt_makes names image (stmt.Goto k) h = λ line. refl
 stmt_makes names image (stmt.If x r y k) h = λ line. refl
 stmt_makes names image (stmt.Let t x) h = λ line. refl
@@ -143,7 +135,7 @@ stmt_makes names image stmt.Return h = λ line. refl
 all_make : (names : List (List ℕ)) (image : Image) (stmts : List Stmt) → list_all (is_stmt names image) stmts ≡ true → AllByRecursion (makes names) (map (draft_of image.labels) stmts)
 all_make names image [] h = tt
 all_make names image (s ∷ stmts) h =
-    let p = both (is_stmt names image s) _ h in
+    let p = and_parts (is_stmt names image s) _ h in
     (stmt_makes names image s p.0, all_make names image stmts p.1)
 
 lines_make : (names : List (List ℕ)) (lines : List DraftLine) → AllByRecursion (makes names) (drafts_of lines) → is_made names (creations_of lines) ≡ true

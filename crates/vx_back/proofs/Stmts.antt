@@ -37,7 +37,7 @@ use Rattle.vx_script.specs.declared.draft.Draft.TheVariants as draft
 use Rattle.vx_script.specs.declared.draft.DraftImage.{DraftImage}
 use Rattle.vx_script.specs.declared.parts.Parts.{Parts}
 use Rattle.vx_back.specs.Held.{IsHeldStmt, IsHeldLabelOf}
-use Rattle.vx_back.proofs.Names.{both}
+use Rattle.vx_text.proofs.Runs.{and_parts}
 use Rattle.vx_back.proofs.Outer.{Taken, taken_by}
 use Rattle.vx_back.proofs.Words.{Has, has_same, has_call, has_piece, has_sign, has_gap, has_nothing, has_spaced, Ends, ends_nothing, spells_word, spells_number, spells_text, spells_equals, spells_plus, spells_minus, spells_operand, spells_target}
 
@@ -184,18 +184,18 @@ take_service line parts image labels c h held room =
 -- a statement's line is taken as the statement
 pub take_stmt : (line : ℕ) (parts : Parts) (current : DraftImage) (decls : List (List ℕ)) (image : Image) (s : Stmt) → is_stmt decls image s ≡ true → IsHeldStmt s → AllByRecursion IsHeldLabelOf image.labels → nat_lt (length current.lines) 10000 ≡ true → Takes line parts current image.labels s
 take_stmt line parts current decls image (stmt.Let t x) h held named room =
-    let p = both (is_target t) (is_operand x) h in
+    let p = and_parts (is_target t) (is_operand x) h in
     let has = has_gap _ _ (has_spaced (let_words t x) (tok.Word (codes "LET") ∷ let_toks t x []) (spells_word (codes "LET") refl, (spells_target t p.0, (spells_equals, (spells_operand x p.1 held, tt))))) in
     take_word line parts current _ (codes "LET") (let_toks t x []) _ has (target_no_colon t) refl (let_back t x [] p.0 p.1) room
 take_stmt line parts current decls image (stmt.Add t x y) h held named room =
-    let p = both (is_target t) _ h in
-    let q = both (is_operand x) (is_operand y) p.1 in
+    let p = and_parts (is_target t) _ h in
+    let q = and_parts (is_operand x) (is_operand y) p.1 in
     let toks = let_toks t x (tok.Sign 43 ∷ operand_token y ∷ []) in
     let has = has_gap _ _ (has_spaced (let_words t x ++ codes "+" ∷ operand_text y ∷ []) (tok.Word (codes "LET") ∷ toks) (spells_word (codes "LET") refl, (spells_target t p.0, (spells_equals, (spells_operand x q.0 held.0, (spells_plus, (spells_operand y q.1 held.1, tt))))))) in
     take_word line parts current _ (codes "LET") toks _ has (target_no_colon t) refl (let_back t x _ p.0 q.0 ∙ add_back t x y q.1) room
 take_stmt line parts current decls image (stmt.Sub t x y) h held named room =
-    let p = both (is_target t) _ h in
-    let q = both (is_operand x) (is_operand y) p.1 in
+    let p = and_parts (is_target t) _ h in
+    let q = and_parts (is_operand x) (is_operand y) p.1 in
     let toks = let_toks t x (tok.Sign 45 ∷ operand_token y ∷ []) in
     let has = has_gap _ _ (has_spaced (let_words t x ++ codes "-" ∷ operand_text y ∷ []) (tok.Word (codes "LET") ∷ toks) (spells_word (codes "LET") refl, (spells_target t p.0, (spells_equals, (spells_operand x q.0 held.0, (spells_minus, (spells_operand y q.1 held.1, tt))))))) in
     take_word line parts current _ (codes "LET") toks _ has (target_no_colon t) refl (let_back t x _ p.0 q.0 ∙ sub_back t x y q.1) room
@@ -204,33 +204,33 @@ take_stmt line parts current decls image (stmt.Goto k) h held named room =
     let has = has_gap _ _ (has_spaced (goto_words image.labels k) (tok.Word (codes "GOTO") ∷ goto_toks label) (spells_word (codes "GOTO") refl, (spells_word label (label_named image.labels k named (ltb-true _ _ h)), tt))) in
     take_word line parts current _ (codes "GOTO") (goto_toks label) _ has refl refl (goto_back label) room
 take_stmt line parts current decls image (stmt.If x r y k) h held named room =
-    let p = both (is_operand x) _ h in
-    let q = both (is_operand y) (nat_lt k (length image.labels)) p.1 in
+    let p = and_parts (is_operand x) _ h in
+    let q = and_parts (is_operand y) (nat_lt k (length image.labels)) p.1 in
     let label = label_name image.labels k in
     let toks = if_toks x r y label in
     let has = has_gap _ _ (has_spaced (codes "IF" ∷ operand_text x ∷ rel_name r ∷ operand_text y ∷ goto_words image.labels k) (tok.Word (codes "IF") ∷ toks) (spells_word (codes "IF") refl, (spells_operand x p.0 held.0, (spells_word (rel_name r) (rel_named r), (spells_operand y q.0 held.1, (spells_word (codes "GOTO") refl, (spells_word label (label_named image.labels k named (ltb-true _ _ q.1)), tt))))))) in
     take_word line parts current _ (codes "IF") toks _ has (operand_no_colon x) refl (if_back x r y label p.0 q.0) room
 take_stmt line parts current decls image (stmt.Put b bytes) h held named room =
-    let p = both (nat_lt b 32) (nat_le (length bytes) 2048) h in
+    let p = and_parts (nat_lt b 32) (nat_le (length bytes) 2048) h in
     let few : b < 2 ^ 32 = omega (arith, ltb-true _ _ p.0) in
     let has = has_gap _ _ (has_spaced (codes "PUT" ∷ decimal b ∷ quote_text bytes ∷ []) (tok.Word (codes "PUT") ∷ put_toks b bytes) (spells_word (codes "PUT") refl, (spells_number b few, (spells_text bytes held, tt)))) in
     take_word line parts current _ (codes "PUT") (put_toks b bytes) _ has refl refl (put_back b bytes p.0 p.1) room
 take_stmt line parts current decls image (stmt.Byte t b x) h held named room =
-    let p = both (is_target t) _ h in
-    let q = both (nat_lt b 32) (is_operand x) p.1 in
+    let p = and_parts (is_target t) _ h in
+    let q = and_parts (nat_lt b 32) (is_operand x) p.1 in
     let few : b < 2 ^ 32 = omega (arith, ltb-true _ _ q.0) in
     let has = has_gap _ _ (has_spaced (codes "BYTE" ∷ target_text t ∷ decimal b ∷ operand_text x ∷ []) (tok.Word (codes "BYTE") ∷ byte_toks t b x) (spells_word (codes "BYTE") refl, (spells_target t p.0, (spells_number b few, (spells_operand x q.1 held, tt))))) in
     take_word line parts current _ (codes "BYTE") (byte_toks t b x) _ has (target_no_colon t) refl (byte_back t b x p.0 q.0 q.1) room
 take_stmt line parts current decls image (stmt.Iosb t i f) h held named room =
-    let p = both (is_target t) _ h in
-    let q = both (nat_le 1 i) (nat_le i 32) p.1 in
+    let p = and_parts (is_target t) _ h in
+    let q = and_parts (nat_le 1 i) (nat_le i 32) p.1 in
     let few : i < 2 ^ 32 = omega (arith, leb-true _ _ q.1) in
     let has = has_gap _ _ (has_spaced (codes "IOSB" ∷ target_text t ∷ decimal i ∷ field_name f ∷ []) (tok.Word (codes "IOSB") ∷ iosb_toks t i f) (spells_word (codes "IOSB") refl, (spells_target t p.0, (spells_number i few, (spells_word (field_name f) (field_named f), tt))))) in
     take_word line parts current _ (codes "IOSB") (iosb_toks t i f) _ has (target_no_colon t) refl (iosb_back t i f p.0 q.0 q.1) room
 take_stmt line parts current decls image stmt.Return h held named room =
     let has = has_gap _ _ (has_spaced (codes "RETURN" ∷ []) (tok.Word (codes "RETURN") ∷ []) (spells_word (codes "RETURN") refl, tt)) in
     take_word line parts current _ (codes "RETURN") [] _ has refl refl return_back room
-take_stmt line parts current decls image (stmt.Service c) h held named room = take_service line parts current image.labels c (both (is_call c) _ h).0 held room
+take_stmt line parts current decls image (stmt.Service c) h held named room = take_service line parts current image.labels c (and_parts (is_call c) _ h).0 held room
 
 colon_ends : Ends (58 ∷ [])
 colon_ends = record { word = refl; number = refl }

@@ -16,7 +16,9 @@ use Rattle.vx_script.specs.declared.lines.FaultLine.{FaultLine}
 use Rattle.vx_script.specs.declared.lines.InputLine.{InputLine}
 use Rattle.vx_script.specs.declared.parts.Parts.{Parts}
 use Rattle.vx_back.specs.Held.{IsHeldUnit}
-use Rattle.vx_back.proofs.Names.{both, neither, Fresh, same_name, placed_nowhere}
+use Rattle.vx_text.proofs.Runs.{and_parts}
+use Rattle.vx_back.proofs.Names.{Fresh, same_name, placed_nowhere}
+use Rattle.vx_back.proofs.Tests.{neither}
 use Rattle.vx_back.proofs.Outer.{stays, step, and_then, shaped, bare, take_unit, take_input, take_fault}
 use Rattle.vx_back.proofs.Told.{plain_input, plain_fault, Said, Told, Comes, told_as}
 
@@ -44,7 +46,7 @@ inputs_back names line parts said name [] rest named are short told =
     let none : said ≡ with_inputs said [] = ap (λ (is : List InputLine). record said { inputs = is }) (sym (append-nil said.inputs)) in
     record { line2 = line; parts = parts; read = stays line (between_images parts) rest; told = told_as names parts said _ none told }
 inputs_back names line parts said name (text ∷ texts) rest named are short told =
-    let p = both (nat_le (length text) 2048) _ short in
+    let p = and_parts (nat_le (length text) 2048) _ short in
     let more : InputLine = record { line = line; unit = name; text = text } in
     let next : Parts = record parts { inputs = parts.inputs ++ more ∷ [] } in
     let first = input_told name text ∷ [] in
@@ -82,8 +84,8 @@ faults_back names line parts said name low [] rest named rises most unused told 
     let none : said ≡ with_faults said [] = ap (λ (fs : List FaultLine). record said { faults = fs }) (sym (append-nil said.faults)) in
     record { line2 = line; parts = parts; read = stays line (between_images parts) rest; told = told_as names parts said _ none told }
 faults_back names line parts said name low (n ∷ ns) rest named rises most unused told =
-    let p = both (nat_lt low n) (rises_above n ns) rises in
-    let q = both (nat_le n 100000) _ most in
+    let p = and_parts (nat_lt low n) (rises_above n ns) rises in
+    let q = and_parts (nat_le n 100000) _ most in
     let above : low < n = ltb-true _ _ p.0 in
     let more : FaultLine = record { line = line; unit = name; number = n } in
     let next : Parts = record parts { faults = parts.faults ++ more ∷ [] } in
@@ -121,19 +123,20 @@ faulted_more units faults u h name new m =
     list_any-append (is_fault_of name m) faults (faults_told u) ∙ rw (h name p.0 m, others_faults name u.name m u.faults q.0) refl
 
 -- the parts of the test of a unit
-record UnitTest (u : UnitDecl) : Type 0 where
-  blocks : nat_le u.blocks 4096 ≡ true
-  inputs : list_all (λ line. nat_le (length line) 2048) u.inputs ≡ true
-  rises : rises_above 0 u.faults ≡ true
-  most : list_all (λ n. nat_le n 100000) u.faults ≡ true
+pub record UnitTest (u : UnitDecl) : Type 0 where
+  pub blocks : nat_le u.blocks 4096 ≡ true
+  pub inputs : list_all (λ line. nat_le (length line) 2048) u.inputs ≡ true
+  pub kinds : (u.blocks == 0) || (length u.inputs == 0) ≡ true
+  pub rises : rises_above 0 u.faults ≡ true
+  pub most : list_all (λ n. nat_le n 100000) u.faults ≡ true
 
-unit_test : (u : UnitDecl) → is_unit u ≡ true → UnitTest u
+pub unit_test : (u : UnitDecl) → is_unit u ≡ true → UnitTest u
 unit_test u h =
-    let one = both (nat_le u.blocks 4096) _ h in
-    let two = both (list_all (λ line. nat_le (length line) 2048) u.inputs) _ one.1 in
-    let three = both ((u.blocks == 0) || (length u.inputs == 0)) _ two.1 in
-    let four = both (rises_above 0 u.faults) _ three.1 in
-    record { blocks = one.0; inputs = two.0; rises = four.0; most = four.1 }
+    let one = and_parts (nat_le u.blocks 4096) _ h in
+    let two = and_parts (list_all (λ line. nat_le (length line) 2048) u.inputs) _ one.1 in
+    let three = and_parts ((u.blocks == 0) || (length u.inputs == 0)) _ two.1 in
+    let four = and_parts (rises_above 0 u.faults) _ three.1 in
+    record { blocks = one.0; inputs = two.0; kinds = three.0; rises = four.0; most = four.1 }
 
 -- what units add
 
@@ -182,7 +185,7 @@ pub units_back : (names : List (List ℕ)) (line : ℕ) (parts : Parts) (said : 
 units_back names line parts said [] rest held are few fresh faulted told =
     record { line2 = line; parts = parts; read = stays line (between_images parts) rest; told = told_as names parts said _ (no_units said) told }
 units_back names line parts said (u ∷ more) rest held are few fresh faulted told =
-    let p = both (is_unit u) (list_all is_unit more) are in
+    let p = and_parts (is_unit u) (list_all is_unit more) are in
     let one = unit_back names line parts said u (flat_map unit_lines more ++ rest) held.0 p.0 (omega (arith, few)) fresh.0 faulted told in
     let fresh_more : Fresh (unit_names (said.units ++ bare u ∷ [])) (unit_names more) = subst (λ (ns : List (List ℕ)). Fresh ns (unit_names more)) (sym (map-append (λ (v : UnitDecl). v.name) said.units (bare u ∷ []))) fresh.1 in
     let few_more : length (said.units ++ bare u ∷ []) + length more ≤ 32 = omega (arith, few, length-append said.units (bare u ∷ [])) in

@@ -5,7 +5,7 @@ use Rattle.vx_base.specs.declared.call.Args.{Args}
 use Rattle.vx_base.specs.declared.call.Operand.TheVariants.{Num, Cond, Var, Pid, Prm}
 use Rattle.vx_base.specs.declared.call.Target.TheVariants as target
 use Rattle.vx_base.specs.declared.cond.Cond.TheVariants.{WasSet}
-use Rattle.vx_base.specs.declared.mode.Mode.TheVariants.{Exec}
+use Rattle.vx_base.specs.declared.mode.Mode.TheVariants.{Exec, User}
 use Rattle.vx_base.specs.declared.service.Service.TheVariants.{CrePrc}
 use Rattle.vx_image.specs.WellFormed.{IsWellFormed}
 use Rattle.vx_image.specs.declared.decl.ProcDecl.{ProcDecl}
@@ -49,25 +49,37 @@ example_stmts =
 abbrev pub example_image : Image
 example_image = record { name = codes "MAIN"; labels = record { name = codes "TOP"; place = 0 } ∷ record { name = codes "LAST"; place = 10 } ∷ []; stmts = example_stmts }
 
--- a process that is made later
-abbrev pub example_decl : ProcDecl
-example_decl = record {
-  name = codes "P";
-  image = 0;
-  group = 1;
-  member = 65534;
-  mode = Exec;
-  limits = record { ast = 24; bio = 18; dio = 18; byt = 8192; tqe = 1000000 };
-  privs = record { cmexec = false; cmkrnl = false; group = true; prmceb = false; prmmbx = false; world = true };
-  start = false;
-}
+-- a process that is there from the start, with no privilege, and one that is made later, with all
+abbrev pub example_decls : List ProcDecl
+example_decls =
+    record {
+      name = codes "FIRST";
+      image = 0;
+      group = 16382;
+      member = 0;
+      mode = User;
+      limits = record { ast = 24; bio = 18; dio = 19; byt = 8192; tqe = 10 };
+      privs = record { cmexec = false; cmkrnl = false; group = false; prmceb = false; prmmbx = false; world = false };
+      start = true;
+    }
+    ∷ record {
+      name = codes "P";
+      image = 0;
+      group = 1;
+      member = 65534;
+      mode = Exec;
+      limits = record { ast = 0; bio = 1; dio = 2; byt = 3; tqe = 1000000 };
+      privs = record { cmexec = true; cmkrnl = true; group = true; prmceb = true; prmmbx = true; world = true };
+      start = false;
+    }
+    ∷ []
 
 abbrev pub example : System
-example = record { units = example_units; images = example_image ∷ []; decls = example_decl ∷ [] }
+example = record { units = example_units; images = example_image ∷ []; decls = example_decls }
 
 -- its text
 abbrev pub example_text : List ℕ
-example_text = codes "UNIT TT LINE\nINPUT TT \"HI\"\nINPUT TT \"\\22\\0A\"\nUNIT DK BLOCK 8\nFAULT DK 2\nFAULT DK 5\nIMAGE MAIN\nTOP:\n  LET A = 1\n  IF A NE SS$_WASSET GOTO LAST\n  LET B = A + PRM\n  LET R0 = B - PID\n  PUT 31 \"HI\"\n  BYTE C 31 A\n  IOSB D 32 COUNT\n  $CREPRC A,P\n  GOTO TOP\n  RETURN\nLAST:\nEND\nPROCESS P MAIN UIC=1:65534 MODE=EXEC ASTLM=24 BIOLM=18 DIOLM=18 BYTLM=8192 TQELM=1000000 PRIV=GROUP+WORLD START=0\n"
+example_text = codes "UNIT TT LINE\nINPUT TT \"HI\"\nINPUT TT \"\\22\\0A\"\nUNIT DK BLOCK 8\nFAULT DK 2\nFAULT DK 5\nIMAGE MAIN\nTOP:\n  LET A = 1\n  IF A NE SS$_WASSET GOTO LAST\n  LET B = A + PRM\n  LET R0 = B - PID\n  PUT 31 \"HI\"\n  BYTE C 31 A\n  IOSB D 32 COUNT\n  $CREPRC A,P\n  GOTO TOP\n  RETURN\nLAST:\nEND\nPROCESS FIRST MAIN UIC=16382:0 MODE=USER ASTLM=24 BIOLM=18 DIOLM=19 BYTLM=8192 TQELM=10 PRIV=NONE START=1\nPROCESS P MAIN UIC=1:65534 MODE=EXEC ASTLM=0 BIOLM=1 DIOLM=2 BYTLM=3 TQELM=1000000 PRIV=CMEXEC+CMKRNL+GROUP+PRMCEB+PRMMBX+WORLD START=0\n"
 
 -- The law speaks of the example: its canonical script is the text, which is read back as the example.
 pub record IsExample : Type 0 where
