@@ -1,8 +1,8 @@
 //! The law that what is printed is read back: the canonical script of a well formed system is read as the system.
 //!
 //! `vx_script/specs/Script.antt` says what the canonical script of a system is, and `vx_script/specs/Reading.antt` what a text
-//! is read as; neither mentions the other. The law holds for every system that a script may say (`IsWellFormed`) and that the
-//! program's types hold (`IsHeldSystem`).
+//! is read as; they share only the spelling of calls and of fixed words. The law holds for every system that a script may say
+//! (`IsWellFormed`) and that the program's types hold (`IsHeldSystem`).
 #![tactic(auto)]
 
 ghost use Rattle.vx_back.specs.Example.{IsExample};
