@@ -1,0 +1,16 @@
+pub mod Words
+pub mod Tests
+pub mod Names
+pub mod Outer
+pub mod Stmts
+pub mod Process
+pub mod Told
+pub mod Units
+pub mod Bodies
+pub mod Settled
+pub mod Images
+pub mod Decls
+pub mod Feeds
+pub mod Resolved
+pub mod Back
+pub mod Worked

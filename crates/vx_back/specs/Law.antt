@@ -1,0 +1,11 @@
+-- What is printed canonically is read back.
+use Rattle.std.specs.Prelude.{◌≡◌, Ok}
+use Rattle.vx_image.specs.declared.system.System.{System}
+use Rattle.vx_image.specs.WellFormed.{IsWellFormed}
+use Rattle.vx_script.specs.Reading.{read_script}
+use Rattle.vx_script.specs.Script.{script}
+use Rattle.vx_back.specs.Held.{IsHeldSystem}
+
+-- the canonical script of a well formed system is read as the system
+abbrev pub ReadsBack : Type 0
+ReadsBack = (s : System) → IsWellFormed s → IsHeldSystem s → read_script (script s) ≡ Ok s
