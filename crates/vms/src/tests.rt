@@ -248,7 +248,8 @@ fn a_limit_that_is_reached(rt: HostRuntime) -> Result<(), Fail> {
 // Each key, label, unit and local statement of the language; the canonical text is its own.
 const ALL_SCRIPT: &[u8] = b"process p a start=0 priv=world+cmexec ! late
 image a
-x: y: let a = %xff
+x:
+y: let a = %xff
 if a ne ss$_wasset goto z
 put 1 \"a\\0ab\"
 byte r0 1 a
@@ -353,20 +354,80 @@ fn ends_and_several_faults(rt: HostRuntime) -> Result<(), Fail> {
     Ok(())
 }
 
-// Scripts of systems that are not built: a unit, and services that the executive does not serve yet.
+// What an image may do for its system to be built: each local statement, and eight services.
+const BUILT: [&[u8]; 9] = [
+    b"LET A = 1\nLET A = A + 1\nLET B = A - 1\nGOTO L\nIF A EQ 1 GOTO L\nPUT 0 \"x\"\nBYTE A 0 1\nIOSB A 1 COUNT\nRETURN",
+    b"$SETEF A",
+    b"$CLREF SS$_NORMAL",
+    b"$READEF 1,R0",
+    b"$DCLAST L",
+    b"$SETAST 1",
+    b"$CMEXEC L",
+    b"$CMKRNL L",
+    b"$EXIT",
+];
+
+// The other services.
+const UNBUILT: [&[u8]; 28] = [
+    b"$WAITFR 1",
+    b"$WFLOR 1,1",
+    b"$WFLAND 1,1",
+    b"$ASCEFC 64,N",
+    b"$DACEFC 64",
+    b"$DLCEFC N",
+    b"$SETIMR ,1",
+    b"$CANTIM",
+    b"$SCHDWK ,1",
+    b"$CANWAK",
+    b"$HIBER",
+    b"$WAKE",
+    b"$SUSPND",
+    b"$RESUME",
+    b"$FORCEX",
+    b"$CREPRC A,P",
+    b"$DELPRC",
+    b"$DCLEXH L",
+    b"$CANEXH",
+    b"$ASSIGN A,N",
+    b"$DASSGN 1",
+    b"$CREMBX A,N",
+    b"$DELMBX 1",
+    b"$QIO ,1,READ",
+    b"$QIOW ,1,READ",
+    b"$SYNCH",
+    b"$CANCEL 1",
+    b"$GETTIM A",
+];
+
+// Two images with the label L, the second of which does this, and two processes that are not there at the start.
+fn doing(rt: &HostRuntime, statements: &[u8]) -> Result<Vec<u8>, Fail> {
+    let mut text = b"IMAGE A\nL:\nEND\nIMAGE B\nL:\n".to_vec(rt.alloc())?;
+    text.extend_from_slice(statements)?;
+    text.extend_from_slice(
+        b"\nEND\nPROCESS P A START=0\nPROCESS Q B START=0 UIC=2:3 MODE=EXEC PRIV=WORLD ASTLM=0\n",
+    )?;
+    Ok(text)
+}
+
 #[test]
-fn scripts_not_built(rt: HostRuntime) -> Result<(), Fail> {
-    let table: [&[u8]; 4] = [
-        b"UNIT D LINE\n",
-        b"IMAGE A\n$HIBER\nEND\n",
-        b"IMAGE A\nEND\nIMAGE B\nRETURN\n$WAITFR 1\nEND\n",
-        b"IMAGE A\n$QIO ,1,EOF\nEND\n",
-    ];
-    for text in table {
-        let (status, held) = tried(&rt, PLAIN, text.to_vec(rt.alloc())?)?;
+fn systems_that_are_built(rt: HostRuntime) -> Result<(), Fail> {
+    for statements in BUILT {
+        let (status, _) = tried(&rt, PLAIN, doing(&rt, statements)?)?;
+        assert_eq!(rt; status, Status::Done);
+    }
+    Ok(())
+}
+
+#[test]
+fn systems_that_are_not_built(rt: HostRuntime) -> Result<(), Fail> {
+    for statements in UNBUILT {
+        let (status, held) = tried(&rt, PLAIN, doing(&rt, statements)?)?;
         assert_eq!(rt; status, Status::Form);
         assert!(rt; held.as_slice() == LATER);
     }
+    let (status, held) = tried(&rt, PLAIN, b"UNIT D LINE\n".to_vec(rt.alloc())?)?;
+    assert_eq!(rt; status, Status::Form);
+    assert!(rt; held.as_slice() == LATER);
     Ok(())
 }
 
