@@ -245,6 +245,80 @@ fn a_limit_that_is_reached(rt: HostRuntime) -> Result<(), Fail> {
     Ok(())
 }
 
+// Two processes with images of their own: $READEF into R0, and an exit code from a variable.
+const TWO_SCRIPT: &[u8] = b"IMAGE A
+$SETEF 1
+LET A = A + 1
+$READEF 1,B
+$CLREF 1
+END
+IMAGE B
+$SETEF 2
+$SETEF 31
+$READEF 2,R0
+LET C = R0 - 1
+$EXIT C
+END
+PROCESS P A
+PROCESS Q B
+";
+
+const TWO_TRANSCRIPT: &[u8] = b"IMAGE A
+  $SETEF 1
+  LET A = A + 1
+  $READEF 1,B
+  $CLREF 1
+END
+IMAGE B
+  $SETEF 2
+  $SETEF 31
+  $READEF 2,R0
+  LET C = R0 - 1
+  $EXIT C
+END
+PROCESS P A UIC=1:1 MODE=USER ASTLM=24 BIOLM=18 DIOLM=18 BYTLM=8192 TQELM=10 PRIV=NONE START=1
+PROCESS Q B UIC=1:1 MODE=USER ASTLM=24 BIOLM=18 DIOLM=18 BYTLM=8192 TQELM=10 PRIV=NONE START=1
+$JOURNAL 1
+1 RUN 1 $SETEF 1 WASCLR
+ FLAG 1:1 1
+2 RUN 1 $READEF 1,B WASSET
+ VAR 1 B 2
+3 RUN 1 $CLREF 1 WASSET
+ FLAG 1:1 0
+4 RUN 1 END
+5 RDN 1 GONE
+ GONE 1
+6 RUN 2 $SETEF 2 WASCLR
+ FLAG 2:2 1
+7 RUN 2 $SETEF 31 WASCLR
+ FLAG 2:31 1
+8 RUN 2 $READEF 2,R0 WASSET
+ VAR 2 R0 2147483652
+9 RUN 2 $EXIT 8 NORMAL
+10 RDN 2 GONE
+ GONE 2
+PROCESS 1 P GONE 9
+PROCESS 2 Q GONE 8
+$END DONE 10
+";
+
+/// With an allocation that fails, as `rt try --test --fail-alloc N` has it, this ends in want of memory and in nothing else.
+#[test]
+fn two_processes(rt: HostRuntime) -> Result<(), Fail> {
+    let trial = Trial {
+        words: b"sim --seed 0",
+        ..PLAIN
+    };
+    let (status, held) = tried(&rt, trial, TWO_SCRIPT.to_vec(rt.alloc())?)?;
+    if status == Status::NoMemory {
+        assert!(rt; held.as_slice() == b"vms: no memory\n".as_slice());
+        return Err("memory".into());
+    }
+    assert_eq!(rt; status, Status::Done);
+    assert!(rt; held.as_slice() == TWO_TRANSCRIPT);
+    Ok(())
+}
+
 // Each key, label, unit and local statement of the language; the canonical text is its own.
 const ALL_SCRIPT: &[u8] = b"process p a start=0 priv=world+cmexec ! late
 image a

@@ -8,7 +8,7 @@ use Rattle.vx_base.specs.Pieces.{Queued, Enables}
 use Rattle.vx_base.specs.Queues.{is_of_mode, deliverable}
 use Rattle.vx_base.specs.declared.mode.Mode.{Mode}
 use Rattle.vx_ast.specs.Queue.{less_first_like, less_deliverable, first_in}
-use Rattle.vx_ast.proofs.First.{found_passes, less_none}
+use Rattle.vx_base.proofs.First.{found_passes, less_none}
 
 less_found : (m : Mode) (r : Option Queued) (asts : List Queued) → find (is_of_mode m) asts ≡ r → less_first_like r asts ≡ less (is_of_mode m) asts
 less_found m None asts e = sym (less_none (is_of_mode m) asts e)

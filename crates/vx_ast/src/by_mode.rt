@@ -6,9 +6,8 @@ ghost use Rattle.vx_base.specs.Lists.{less};
 ghost use Rattle.vx_base.specs.Queues.{is_of_mode};
 ghost use Rattle.vx_ast.specs.Queue.{queued_of, is_within};
 
-use crate::place::{at_place, taken};
 use crate::queue::Delivery;
-use vx_base::{Mode, Routine};
+use vx_base::{Mode, Routine, at_place, taken};
 
 // Where the first AST of a mode stands.
 fn place_of_mode<R: Routine>(items: &[Delivery<R>], mode: Mode) -> Option<usize>

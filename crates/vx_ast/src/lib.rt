@@ -7,7 +7,6 @@
 #![tactic(auto)]
 
 mod by_mode;
-mod place;
 mod queue;
 
 pub use queue::{AstQueue, Delivery};

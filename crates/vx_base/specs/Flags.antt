@@ -1,5 +1,5 @@
 -- Thirty-two event flags are a number: flag n is its bit n.
-use Rattle.std.specs.Prelude.{ℕ, ◌+◌, ◌-◌, ◌^◌, List, [], ◌∷◌, Bool, true, false, ◌==◌, not, if◌then◌else◌, bit_and, bit_or}
+use Rattle.std.specs.Prelude.{ℕ, ◌-◌, ◌^◌, List, Bool, true, false, ◌==◌, not, if◌then◌else◌, bit_and, bit_or}
 use Rattle.std.specs.List.{filter, range_with_len}
 
 -- whether flag n is set

@@ -1,5 +1,5 @@
 -- Quotas: amounts of five accounts.
-use Rattle.std.specs.Prelude.{ℕ, ◌+◌, ◌-◌, Bool, ◌&&◌, nat_le}
+use Rattle.std.specs.Prelude.{◌+◌, ◌-◌, Bool, ◌&&◌, nat_le}
 use Rattle.vx_base.specs.declared.quota.Need.{Need}
 
 abbrev pub no_need : Need

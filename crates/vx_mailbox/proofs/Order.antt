@@ -2,8 +2,8 @@
 use Rattle.std.proofs.Common.{◌≡◌, ℕ, ◌≤◌, Bool, true, false, cond, nat_le, List, [], ◌∷◌, refl, arith}
 use Rattle.std.specs.List.{AllByRecursion}
 use Rattle.std.proofs.lemmas.Bool.Decides.{nat_tests}
-use Rattle.vx_base.specs.Lists.{less}
-use Rattle.vx_mailbox.specs.Boxes.{Asked, put_before, inserted, IsInIdOrder}
+use Rattle.vx_base.specs.Lists.{less, put_before}
+use Rattle.vx_mailbox.specs.Boxes.{Asked, inserted, IsInIdOrder}
 
 -- no id is below n
 abbrev NoneBelow : ℕ → List Asked → Type 0

@@ -1,6 +1,7 @@
 -- Mailboxes with what waits at them.
 use Rattle.std.specs.Prelude.{ℕ, ◌+◌, ◌<◌, ◌≤◌, ◌≡◌, List, [], ◌∷◌, ◌++◌, length, Bool, true, false, ◌&&◌, ◌||◌, ◌==◌, nat_le, Option, Some, None, if◌then◌else◌}
 use Rattle.std.specs.List.{AllByRecursion}
+use Rattle.vx_base.specs.Lists.{put_before}
 use Rattle.vx_base.specs.Pieces.{Mailbox}
 use Rattle.vx_base.specs.Queues.{stored_bytes}
 use Rattle.vx_base.specs.declared.mode.Mode.{Mode}
@@ -52,11 +53,6 @@ AreApart messages reads = 0 < length reads → length messages ≡ 0
 abbrev pub IsInIdOrder : List Asked → Type 0
 IsInIdOrder [] = Unit {0}
 IsInIdOrder (a ∷ rest) = AllByRecursion (λ b. a.id.0 ≤ b.id.0) rest × IsInIdOrder rest
-
--- an item put before the first that passes, or at the end
-abbrev pub put_before : {A : Type 0} → (A → Bool) → A → List A → List A
-put_before p a [] = a ∷ []
-put_before p a (x ∷ xs) = if p x then a ∷ x ∷ xs else x ∷ put_before p a xs
 
 -- an attention entry put into the place of its id
 abbrev pub inserted : Asked → List Asked → List Asked

@@ -7,7 +7,7 @@ ghost use Rattle.vx_mailbox.specs.Boxes.{first, rest, is_some_list};
 
 use std::alloc::Global;
 use std::marker::Model;
-use vx_base::NoMemory;
+use vx_base::{NoMemory, taken};
 
 /// Items in order. Contracts see the items, and how many there is room for in all.
 #[derive(Drop)]
@@ -79,10 +79,7 @@ impl<T: Drop> Store<T> {
         ensures after { (p : T → Bool) → place ≡ position p self.old.0 → self.new.0 ≡ less p self.old.0 }
         ensures room { self.new.1 ≡ self.old.1 }
     {
-        match place {
-            Some(place) => Some(self.items.remove(place)),
-            None => None,
-        }
+        taken(&mut self.items, place)
     }
 
     /// Takes out the first item, if there is one.

@@ -10,7 +10,7 @@ use Rattle.vx_base.specs.declared.frame.Frame.{Frame}
 use Rattle.vx_base.specs.declared.mode.Mode.{Mode}
 use Rattle.vx_base.specs.declared.mode.Mode.TheVariants.{Kernel, Exec, Super, User}
 use Rattle.vx_ast.specs.Queue.{less_first_like}
-use Rattle.vx_ast.proofs.First.{found_passes}
+use Rattle.vx_base.proofs.First.{found_passes}
 use Rattle.vx_frames.specs.Frames as stack
 use Rattle.vx_record.specs.Asts.{deliverable_at}
 use Rattle.vx_record.specs.State.{Process}

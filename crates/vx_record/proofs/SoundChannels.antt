@@ -1,5 +1,5 @@
 -- References stand after channels are assigned and freed, and mailboxes come and go.
-use Rattle.std.proofs.Common.{◌≡◌, ◌≢◌, ℕ, zero, suc, ◌+◌, ◌-◌, ◌<◌, ◌≤◌, List, [], ◌∷◌, Bool, true, false, not, ◌==◌, ◌&&◌, nat_le, length, Option, Some, None, Result, Ok, Err, IfSome, is_some, is_none, get_or, position, refl, sym, ap, ◌∙◌, arith, inl, inr, get_or-set_same, get_or-set_other}
+use Rattle.std.proofs.Common.{◌≡◌, ◌≢◌, ℕ, zero, suc, ◌+◌, ◌-◌, ◌<◌, ◌≤◌, List, [], ◌∷◌, Bool, true, false, not, ◌==◌, ◌&&◌, nat_le, length, Option, Some, None, Result, IfSome, is_some, is_none, get_or, position, refl, sym, ap, ◌∙◌, arith, inl, inr, get_or-set_same, get_or-set_other}
 use Rattle.std.proofs.Math.ListN.{length-set}
 use Rattle.std.proofs.lemmas.Bool.{leb-true, and_parts, and_from, eq-eqb, eqb-false, cases_eq}
 use Rattle.std.proofs.lemmas.List.Quantifiers.{position-Some}
@@ -14,20 +14,16 @@ use Rattle.vx_base.specs.declared.number.Pid.{Pid}
 use Rattle.vx_base.specs.declared.request.Device.{Device}
 use Rattle.vx_base.specs.declared.request.Device.TheVariants as device
 use Rattle.vx_record.specs.State.{Process, State, IsProcess, process_at, change, current, with_box, nobody, no_unit_decl}
-use Rattle.vx_record.specs.Parts.{Part, Outcome, nothing, refused}
+use Rattle.vx_record.specs.Parts.{Part, Outcome, nothing}
 use Rattle.vx_record.specs.Charges.{is_same}
 use Rattle.vx_record.specs.Mailboxes.{is_box, mailbox_at}
 use Rattle.vx_record.specs.Cancel.{is_request_on, is_attention_on}
-use Rattle.vx_record.specs.Channels.{channel_test, at_tested, at_channel, is_unit_of, is_box_of, box_number, unit_named, box_named, unit_or_box, device_named, with_channel, assigned, free_channel_of, assign_at, assign_to, assign, is_bad_box, new_box, make_box, make_box_in, create_box, find_or_create, crembx, marked_box, delete_box, delmbx_on, delmbx_at, delmbx, is_channel_to, has_channel_to, is_assigned, goes_unused, box_gone, swept_device, swept_box, free_channel}
+use Rattle.vx_record.specs.Channels.{channel_test, at_channel, is_unit_of, is_box_of, box_number, unit_named, box_named, unit_or_box, device_named, with_channel, assigned, free_channel_of, assign_at, assign_to, assign, is_bad_box, new_box, make_box, make_box_in, create_box, find_or_create, crembx, marked_box, delete_box, delmbx_on, delmbx_at, delmbx, is_channel_to, has_channel_to, is_assigned, goes_unused, box_gone, swept_device, swept_box, free_channel}
 use Rattle.vx_record.specs.Sound.{ground, BoxStands, DeviceStands, ChannelStands, HasChannel, IsRooted, RequestStands, is_drained, TimerStands, AttentionStands, ProcessStands, AssociationStands, IsSound}
 use Rattle.vx_record.proofs.Lists.{either, either_by, all_weaker, all_both, all_set, all_at, all_get, none_passes, not_holds}
-use Rattle.vx_record.proofs.Ground.{Base, made_base, routine_of_moves, request_moves, timer_moves, process_moves, association_moves, Still, change_still, at_set}
+use Rattle.vx_record.proofs.Ground.{at_tested_sound, Base, made_base, routine_of_moves, request_moves, timer_moves, process_moves, association_moves, Still, change_still, at_set}
 use Rattle.vx_record.proofs.SoundBoxes.{box_still}
 use Rattle.vx_record.proofs.SoundRequests.{tested_channel}
-
-at_tested_sound : (s : State) (go : Channel → Outcome Cond) (r : Result Channel Cond) → ((ch : Channel) → r ≡ Ok ch → IsSound (go ch).after) → IsSound s → IsSound (at_tested (refused s) go r).after
-at_tested_sound s go (Err c) f h = h
-at_tested_sound s go (Ok ch) f h = f ch refl
 
 -- what is done at a channel that passed the test
 pub at_channel_sound : (s : State) (p : Pid) (n : ℕ) (go : Channel → Outcome Cond) → ((ch : Channel) → is_channel_number n ≡ true → channel_at (process_at s p).channels n ≡ Some ch → IsSound (go ch).after) → IsSound s → IsSound (at_channel s p n go).after

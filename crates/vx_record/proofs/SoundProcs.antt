@@ -1,6 +1,6 @@
 -- References stand after the services on processes and exit handlers.
 use Rattle.vx_base.specs.declared.quota.Privs.{Privs}
-use Rattle.std.proofs.Common.{◌≡◌, ℕ, zero, suc, ◌-◌, ◌<◌, List, [], ◌∷◌, ◌++◌, Bool, true, false, not, nat_le, length, replicate, Option, Some, None, Result, Ok, Err, get_or, refl, ap, arith}
+use Rattle.std.proofs.Common.{◌≡◌, ℕ, zero, suc, ◌-◌, ◌<◌, List, [], ◌∷◌, ◌++◌, Bool, true, false, not, nat_le, length, replicate, Option, Some, None, Result, Ok, get_or, refl, ap, arith}
 use Rattle.std.proofs.lemmas.Bool.{and_parts, leb-true}
 use Rattle.std.proofs.lemmas.List.{length-append, get_or_append_left}
 use Rattle.std.specs.List.{AllByRecursion, filter, find}
@@ -13,15 +13,15 @@ use Rattle.vx_base.specs.declared.mode.Mode.{Mode}
 use Rattle.vx_base.specs.declared.number.Pid.{Pid}
 use Rattle.vx_base.specs.declared.routine.Entry.{Entry}
 use Rattle.vx_record.specs.State.{Process, State, IsProcess, process_at, change, current, next_id, past_id, nobody}
-use Rattle.vx_record.specs.Parts.{Outcome, each, refused}
+use Rattle.vx_record.specs.Parts.{Outcome, each}
 use Rattle.vx_record.specs.Charges.{exceeds, ast_need}
-use Rattle.vx_record.specs.Control.{exists_for_control, may_control, named_process, process_test, at_tested, at_process, changed_process, with_wake, with_suspension, hiber, wake, suspnd, resume, exit_ast, forced, forcex, born, created, creprc}
+use Rattle.vx_record.specs.Control.{exists_for_control, may_control, named_process, process_test, at_process, changed_process, with_wake, with_suspension, hiber, wake, suspnd, resume, exit_ast, forced, forcex, born, created, creprc}
 use Rattle.vx_record.specs.Timers.{new_wake, scheduled, schdwk, is_wake_for, unscheduled, canwak}
 use Rattle.vx_record.specs.Rundown.{without_frames, leave_kind, leave_frame, leave_all, exited, exit, is_handler_of, is_handler_with, new_handler, is_kernel, dclexh, drop_handler, drop_handlers, any_handler, cancel_found, cancel_handlers, canexh, named_for_deletion, deleted_by, delprc}
 use Rattle.vx_record.specs.Sound.{ground, IsRoutineOf, ProcessStands, ChannelStands, IsSound}
 use Rattle.vx_record.specs.declared.served.Served.{Served}
 use Rattle.vx_record.proofs.Lists.{either, either_by, all_append, all_weaker, not_fails}
-use Rattle.vx_record.proofs.Ground.{Keeps, Still, still, still_then, moved, past_id_still, process_moves}
+use Rattle.vx_record.proofs.Ground.{at_tested_sound, Keeps, Still, still, still_then, moved, past_id_still, process_moves}
 use Rattle.vx_record.proofs.Changes.{quiet_still, with_wake_quiet, with_suspension_quiet, with_handler_still, without_handler_still, without_frames_still, named_for_deletion_still}
 use Rattle.vx_record.proofs.SoundFlags.{with_wait_still}
 use Rattle.vx_record.proofs.SoundAsts.{opened_ast_still, with_timer_still, drop_timers_still}
@@ -33,10 +33,6 @@ exists_made s q e =
     let first = and_parts (nat_le 1 q.0) _ e in
     let second = and_parts (nat_le q.0 (length s.procs)) _ first.1 in
     record { above = leb-true 1 q.0 first.0; within = leb-true q.0 (length s.procs) second.0 }
-
-at_tested_sound : (s : State) (go : Pid → Outcome Cond) (r : Result Pid Cond) → ((q : Pid) → r ≡ Ok q → IsSound (go q).after) → IsSound s → IsSound (at_tested (refused s) go r).after
-at_tested_sound s go (Err c) f h = h
-at_tested_sound s go (Ok q) f h = f q refl
 
 tested_made : (s : State) (p q : Pid) (n : ℕ) → process_test s p n ≡ Ok q → IsProcess s q
 tested_made s p q n =

@@ -40,18 +40,16 @@ use Rattle.vx_image.specs.Local.{Advanced, advanced}
 use Rattle.vx_image.specs.declared.stop.Stop.{Stop}
 use Rattle.vx_image.specs.declared.stop.Stop.TheVariants as stop
 use Rattle.vx_record.specs.State.{State, process_at, change, current, image_of, unit_at}
-use Rattle.vx_record.specs.Parts.{Part, Outcome, nothing, each, part_if, refused, part_of}
+use Rattle.vx_record.specs.Parts.{Part, Outcome, nothing, each, part_if, refused, at_tested, part_of}
 use Rattle.vx_record.specs.Charges.{exceeds, ast_need, timer_need, is_direct, is_attention}
 use Rattle.vx_record.specs.Flags.{cell, with_cell, flag_part, flag_where_named, at_named, at_flag, put_flag_at, refused_value, readef_at, readef, refused_wait, satisfied, awaited_at, awaited, waits_on, is_common, wants_prmceb}
 use Rattle.vx_record.specs.Asts.{is_inside, deliverable_ast}
 use Rattle.vx_record.specs.Finish.{Ending, ending, is_read, fin_part, buf_part, status_of, iosb_part, done_flag_part, done_ast_part, finish, finish_found, this_request}
 use Rattle.vx_record.specs.Mailboxes.{mailbox_at, is_waiting_func, waits_at, this_message, mput_part, mget_part, mcut_part, message_of, read_ending, write_ending, received, write_done, is_attention_at, fire_attention, call_attention, store_message, hand_over, write_box, take_message, read_box, is_answered_now, attend}
-use Rattle.vx_record.specs.Channels.{channel_test, at_channel, unit_named, box_named, device_named, with_channel, free_channel_of, assign_at, assign_to, assign, is_bad_box, new_box, make_box, make_box_in, create_box, find_or_create, crembx, marked_box, delete_box, delmbx_on, delmbx_at, delmbx, is_assigned, goes_unused, box_gone, swept_device, swept_box, free_channel}
-use Rattle.vx_record.specs.Channels as channels
+use Rattle.vx_record.specs.Channels.{channel_test, box_named, device_named, with_channel, free_channel_of, assign_at, assign_to, assign, is_bad_box, new_box, make_box, make_box_in, find_or_create, crembx, marked_box, delmbx_on, delmbx_at, is_assigned, goes_unused, box_gone, swept_device, swept_box, free_channel}
 use Rattle.vx_record.specs.Cancel.{mark_part, withdraw, cancelled_request, cancel_request, is_request_on, is_attention_on, drop_attention, cancel_channel, cancel_at, dassgn_at}
 use Rattle.vx_record.specs.Requests.{Asked, request_test, new_request, opened_request, begun_on, transfer, new_attention, attention_opened, done_at_once, attention_on, asked_of, accepted, qio_tested, qiow_tested, unit_ending, with_unit}
-use Rattle.vx_record.specs.Control.{process_test, at_process, changed_process, with_wake, with_suspension, hiber, wake, suspnd, resume, forced, forcex, creprc}
-use Rattle.vx_record.specs.Control as control
+use Rattle.vx_record.specs.Control.{process_test, changed_process, with_wake, with_suspension, forced, creprc}
 use Rattle.vx_record.specs.Timers.{drop_timer, drop_timers, setimr_at, setimr, is_cancelled_timer, scheduled, is_wake_for, unscheduled, que_timer, fire_timer, fired, fire, is_due, at_time, next_time, tick}
 use Rattle.vx_record.specs.Rundown.{leave_kind, leave_frame, leave_all, exited, without_frames, is_kernel, is_handler_of, is_handler_with, drop_handler, drop_handlers, any_handler, cancel_found, cancel_handlers, named_for_deletion, deleted_by, cancel_one, free_one, is_timer_in, is_wake_by, cancel_modes, drop_ast, is_ast_reached, release, drop_all_handlers, is_busy, drain, cancelled_in, run_handlers, handling, run_down, inner_modes, rundown_from, without_ast}
 use Rattle.vx_record.specs.Services.{number, place, access_mode, text, routine_or_none, decl_place, asked, valued_at, numbered_at, service_of, service}
@@ -195,9 +193,9 @@ qiow_kept s p q (Ok to) = awaited_kept (accepted s p q to.0 to.1).after p (wait.
 
 -- Channels.
 
-at_channel_kept : (s : State) (go : Channel → Outcome Cond) (r : Result Channel Cond) → ((ch : Channel) → (go ch).after.system ≡ s.system) → (channels.at_tested (refused s) go r).after.system ≡ s.system
-at_channel_kept s go (Err c) f = refl
-at_channel_kept s go (Ok ch) f = f ch
+at_tested_kept : {A : Type 0} (s : State) (go : A → Outcome Cond) (r : Result A Cond) → ((x : A) → (go x).after.system ≡ s.system) → (at_tested s go r).after.system ≡ s.system
+at_tested_kept s go (Err c) f = refl
+at_tested_kept s go (Ok x) f = f x
 
 assign_at_kept : (s : State) (p : Pid) (d : Device) (mode : Mode) (o : Option ℕ) → (assign_at s p d mode o).after.system ≡ s.system
 assign_at_kept s p d mode None = refl
@@ -255,10 +253,6 @@ cancel_channel_kept s p n =
     each_kept drop_attention (λ t x. refl) (filter (is_attention_on p n) a.attention) a ∙ each_kept cancel_request cancel_request_kept todo s
 
 -- Processes, timers, exit handlers.
-
-at_process_kept : (s : State) (go : Pid → Outcome Cond) (r : Result Pid Cond) → ((q : Pid) → (go q).after.system ≡ s.system) → (control.at_tested (refused s) go r).after.system ≡ s.system
-at_process_kept s go (Err c) f = refl
-at_process_kept s go (Ok q) f = f q
 
 drop_timers_kept : (s : State) (passes : Timer → Bool) → (drop_timers passes s).after.system ≡ s.system
 drop_timers_kept s passes = each_kept drop_timer (λ t x. refl) (filter passes s.timers) s
@@ -337,17 +331,17 @@ service_of_kept s p a CmKrnl = both s (is_inside (current s p) || (process_at s 
 service_of_kept s p a SetImr = setimr_kept s p (number a.a0) (number a.a1) (routine_or_none s p a.a2 (number a.a3)) (number a.a3)
 service_of_kept s p a CanTim = drop_timers_kept s (is_cancelled_timer p (number a.a0) (outer (access_mode a.a1) (current s p)))
 service_of_kept s p a SchdWk =
-    at_process_kept s (scheduled s p (number a.a1) (number a.a2)) (process_test s p (number a.a0)) (λ q. both s (exceeds s p (ast_need true)) _ _ refl refl)
-service_of_kept s p a CanWak = at_process_kept s (unscheduled s) (process_test s p (number a.a0)) (λ q. drop_timers_kept s (is_wake_for q))
+    at_tested_kept s (scheduled s p (number a.a1) (number a.a2)) (process_test s p (number a.a0)) (λ q. both s (exceeds s p (ast_need true)) _ _ refl refl)
+service_of_kept s p a CanWak = at_tested_kept s (unscheduled s) (process_test s p (number a.a0)) (λ q. drop_timers_kept s (is_wake_for q))
 service_of_kept s p a Hiber = both s (process_at s p).wake _ _ refl refl
-service_of_kept s p a Wake = at_process_kept s (changed_process s (with_wake true)) (process_test s p (number a.a0)) (λ q. refl)
-service_of_kept s p a Suspnd = at_process_kept s (changed_process s (with_suspension true)) (process_test s p (number a.a0)) (λ q. refl)
-service_of_kept s p a Resume = at_process_kept s (changed_process s (with_suspension false)) (process_test s p (number a.a0)) (λ q. refl)
-service_of_kept s p a ForceX = at_process_kept s (forced s (number a.a1)) (process_test s p (number a.a0)) (λ q. refl)
+service_of_kept s p a Wake = at_tested_kept s (changed_process s (with_wake true)) (process_test s p (number a.a0)) (λ q. refl)
+service_of_kept s p a Suspnd = at_tested_kept s (changed_process s (with_suspension true)) (process_test s p (number a.a0)) (λ q. refl)
+service_of_kept s p a Resume = at_tested_kept s (changed_process s (with_suspension false)) (process_test s p (number a.a0)) (λ q. refl)
+service_of_kept s p a ForceX = at_tested_kept s (forced s (number a.a1)) (process_test s p (number a.a0)) (λ q. refl)
 service_of_kept s p a CrePrc =
     let o = creprc s p (decl_place s (text a.a1)) in
     numbered_at_kept p (place a.a0) (part_of o) o.answer ∙ both s (nat_le 1000 (length s.procs)) _ _ refl refl
-service_of_kept s p a DelPrc = at_process_kept s (deleted_by s) (process_test s p (number a.a0)) (λ q. deleted_by_kept s q)
+service_of_kept s p a DelPrc = at_tested_kept s (deleted_by s) (process_test s p (number a.a0)) (λ q. deleted_by_kept s q)
 service_of_kept s p a Exit = exited_kept s p (number a.a0)
 service_of_kept s p a DclExh = both s (is_kernel (current s p)) _ _ refl refl
 service_of_kept s p a CanExh = both s (is_kernel (current s p)) _ _ refl (cancel_handlers_kept s p (routine_or_none s p a.a0 0))
@@ -355,15 +349,15 @@ service_of_kept s p a Assign =
     let o = assign s p (text a.a1) (access_mode a.a2) in
     numbered_at_kept p (place a.a0) (part_of o) o.answer ∙ assign_to_kept s p (outer (access_mode a.a2) (current s p)) (device_named s (text a.a1))
 service_of_kept s p a Dassgn =
-    at_channel_kept s (dassgn_at s p (number a.a0)) (channel_test s p (number a.a0)) (λ ch. free_channel_kept (cancel_channel s p (number a.a0)).after p (number a.a0) ∙ cancel_channel_kept s p (number a.a0))
+    at_tested_kept s (dassgn_at s p (number a.a0)) (channel_test s p (number a.a0)) (λ ch. free_channel_kept (cancel_channel s p (number a.a0)).after p (number a.a0) ∙ cancel_channel_kept s p (number a.a0))
 service_of_kept s p a CreMbx =
     let o = crembx s p (text a.a1) (number a.a2) (number a.a3) (number a.a4) (access_mode a.a5) in
     numbered_at_kept p (place a.a0) (part_of o) o.answer ∙ crembx_kept s p (text a.a1) (number a.a2) (number a.a3) (number a.a4) (access_mode a.a5)
-service_of_kept s p a DelMbx = at_channel_kept s (delmbx_at s p) (channel_test s p (number a.a0)) (λ ch. delmbx_kept s p ch.device)
+service_of_kept s p a DelMbx = at_tested_kept s (delmbx_at s p) (channel_test s p (number a.a0)) (λ ch. delmbx_kept s p ch.device)
 service_of_kept s p a Qio = qio_kept s p (asked s p a) (request_test s p (asked s p a))
 service_of_kept s p a QioW = qiow_kept s p (asked s p a) (request_test s p (asked s p a))
 service_of_kept s p a Synch = both s (nat_lt 32 (number a.a1)) _ _ refl (waits_kept s p (number a.a0) (wait.Synch (number a.a0) (number a.a1)))
-service_of_kept s p a Cancel = at_channel_kept s (cancel_at s p (number a.a0)) (channel_test s p (number a.a0)) (λ ch. cancel_channel_kept s p (number a.a0))
+service_of_kept s p a Cancel = at_tested_kept s (cancel_at s p (number a.a0)) (channel_test s p (number a.a0)) (λ ch. cancel_channel_kept s p (number a.a0))
 service_of_kept s p a GetTim = refl
 
 pub service_keeps_system : (s : State) (p : Pid) (c : Call) → (service s p c).after.system ≡ s.system

@@ -1,6 +1,6 @@
 -- ASTs: which one may start, how one is queued, and the services on ASTs and modes.
-use Rattle.std.specs.Prelude.{ℕ, ◌+◌, List, [], ◌∷◌, ◌++◌, Bool, true, false, ◌&&◌, ◌||◌, ◌==◌, not, nat_le, if◌then◌else◌, Option, Some, None, slice_index_or}
-use Rattle.vx_base.specs.Modes.{rank, inner, outer, reaches}
+use Rattle.std.specs.Prelude.{ℕ, List, [], ◌∷◌, ◌++◌, Bool, true, false, ◌||◌, ◌==◌, not, nat_le, if◌then◌else◌, Option, Some, None}
+use Rattle.vx_base.specs.Modes.{rank, inner, outer}
 use Rattle.vx_base.specs.Pieces.{Queued, is_enabled_in, with_enable}
 use Rattle.vx_base.specs.Queues.{deliverable}
 use Rattle.vx_base.specs.declared.cond.Cond.{Cond}
@@ -15,7 +15,6 @@ use Rattle.vx_base.specs.declared.mode.Mode.{Mode}
 use Rattle.vx_base.specs.declared.mode.Mode.TheVariants.{Kernel, Exec}
 use Rattle.vx_base.specs.declared.number.Id.{Id}
 use Rattle.vx_base.specs.declared.number.Pid.{Pid}
-use Rattle.vx_base.specs.declared.quota.Privs.{Privs}
 use Rattle.vx_base.specs.declared.routine.Entry.{Entry}
 use Rattle.vx_base.specs.declared.routine.Entry.TheVariants as entry
 use Rattle.vx_image.specs.Local.{place_of}

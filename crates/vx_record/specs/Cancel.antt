@@ -1,5 +1,5 @@
 -- Cancelling a channel, and the services that do.
-use Rattle.std.specs.Prelude.{ℕ, List, [], ◌∷◌, Bool, true, false, ◌&&◌, ◌==◌, not, if◌then◌else◌, Option, Some, None}
+use Rattle.std.specs.Prelude.{ℕ, [], Bool, true, ◌&&◌, ◌==◌, not, if◌then◌else◌}
 use Rattle.std.specs.List.{filter, list_any}
 use Rattle.vx_base.specs.Lists.{less, amend}
 use Rattle.vx_base.specs.Pieces.{Channel, Request, Attention}

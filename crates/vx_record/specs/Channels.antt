@@ -1,5 +1,5 @@
 -- Channels and mailboxes: assigning, creating, freeing, marking.
-use Rattle.std.specs.Prelude.{ℕ, ◌+◌, ◌-◌, List, [], ◌∷◌, Bool, true, false, ◌&&◌, ◌||◌, ◌==◌, not, nat_lt, nat_le, if◌then◌else◌, Option, Some, None, Result, Ok, Err, bytes_eq, is_some, is_none, option_map, position, slice_set}
+use Rattle.std.specs.Prelude.{ℕ, ◌-◌, List, [], Bool, true, false, ◌&&◌, ◌||◌, ◌==◌, not, nat_lt, if◌then◌else◌, Option, Some, None, Result, Ok, Err, bytes_eq, is_some, is_none, position, slice_set}
 use Rattle.std.specs.List.{list_any}
 use Rattle.vx_base.specs.Channels.{is_channel_number, channel_at, least_free}
 use Rattle.vx_base.specs.Modes.{outer, is_inner}
@@ -10,12 +10,11 @@ use Rattle.vx_base.specs.declared.effects.Effect.TheVariants as effect
 use Rattle.vx_base.specs.declared.mode.Mode.{Mode}
 use Rattle.vx_base.specs.declared.number.BoxNo.{BoxNo}
 use Rattle.vx_base.specs.declared.number.Pid.{Pid}
-use Rattle.vx_base.specs.declared.number.UnitNo.{UnitNo}
 use Rattle.vx_base.specs.declared.request.Device.{Device}
 use Rattle.vx_base.specs.declared.request.Device.TheVariants as device
 use Rattle.vx_image.specs.declared.unit.UnitDecl.{UnitDecl}
-use Rattle.vx_record.specs.State.{Process, State, process_at, change, current, box_at, with_box}
-use Rattle.vx_record.specs.Parts.{Part, Outcome, nothing, tells, and_then, part_if, answered, refused}
+use Rattle.vx_record.specs.State.{Process, State, process_at, change, current, with_box}
+use Rattle.vx_record.specs.Parts.{Part, Outcome, nothing, tells, and_then, part_if, answered, refused, at_tested}
 use Rattle.vx_record.specs.Mailboxes.{is_box, mailbox_at}
 
 -- Channel test: IVCHAN for a number that is none, NOPRIV for a free channel or one of a mode inner than the caller's.
@@ -27,12 +26,8 @@ usable_in mode (Some ch) = if is_inner ch.mode mode then Err NoPriv else Ok ch
 abbrev pub channel_test : State → Pid → ℕ → Result Channel Cond
 channel_test s p n = if is_channel_number n then usable_in (current s p) (channel_at (process_at s p).channels n) else Err IvChan
 
-abbrev pub at_tested : (Cond → Outcome Cond) → (Channel → Outcome Cond) → Result Channel Cond → Outcome Cond
-at_tested refuse go (Err c) = refuse c
-at_tested refuse go (Ok ch) = go ch
-
 abbrev pub at_channel : State → Pid → ℕ → (Channel → Outcome Cond) → Outcome Cond
-at_channel s p n go = at_tested (refused s) go (channel_test s p n)
+at_channel s p n go = at_tested s go (channel_test s p n)
 
 -- Devices by name.
 

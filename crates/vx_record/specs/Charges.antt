@@ -1,5 +1,5 @@
 -- Charges: what a process's requests, timers and ASTs take of its five quotas, counted from the lists.
-use Rattle.std.specs.Prelude.{ℕ, ◌+◌, Bool, true, false, ◌&&◌, ◌==◌, not, is_some, if◌then◌else◌, length}
+use Rattle.std.specs.Prelude.{ℕ, ◌+◌, Bool, true, false, ◌&&◌, ◌==◌, not, is_some, if◌then◌else◌}
 use Rattle.vx_base.specs.Pieces.{Queued, Request, Timer, Alarm, OfTimer, OfWake, Attention}
 use Rattle.vx_base.specs.Quotas.{no_need, together, is_within}
 use Rattle.vx_base.specs.declared.number.Pid.{Pid}
@@ -7,8 +7,7 @@ use Rattle.vx_base.specs.declared.quota.Need.{Need}
 use Rattle.vx_base.specs.declared.request.Device.{Device}
 use Rattle.vx_base.specs.declared.request.Device.TheVariants as device
 use Rattle.vx_base.specs.declared.request.Func.{Func}
-use Rattle.vx_base.specs.declared.request.Func.TheVariants.{Read, ReadNow, Write, WriteNow, Eof, EofNow, ReadAttn, WrtAttn}
-use Rattle.vx_base.specs.declared.request.Req.{Req}
+use Rattle.vx_base.specs.declared.request.Func.TheVariants.{Eof, EofNow, ReadAttn, WrtAttn}
 use Rattle.vx_record.specs.State.{State, process_at, limits_of, unit_decl}
 use Rattle.vx_record.specs.Parts.{tally, total}
 

@@ -1,5 +1,5 @@
 -- Control of processes: who may control whom, hibernation, suspension, forced exits, creation.
-use Rattle.std.specs.Prelude.{ℕ, ◌+◌, ◌-◌, List, [], ◌∷◌, ◌++◌, Bool, true, false, ◌&&◌, ◌||◌, ◌==◌, not, nat_lt, nat_le, if◌then◌else◌, length, replicate, Option, Some, None, Result, Ok, Err, slice_index_or}
+use Rattle.std.specs.Prelude.{ℕ, ◌+◌, [], ◌∷◌, ◌++◌, Bool, true, false, ◌&&◌, ◌||◌, ◌==◌, not, nat_le, if◌then◌else◌, length, replicate, Some, None, Result, Ok, Err, slice_index_or}
 use Rattle.vx_base.specs.Modes.{outer}
 use Rattle.vx_base.specs.Pieces.{all_on, Queued}
 use Rattle.vx_base.specs.declared.cond.Cond.{Cond}
@@ -19,8 +19,8 @@ use Rattle.vx_base.specs.declared.routine.Entry.TheVariants as entry
 use Rattle.vx_image.specs.Storage.{no_storage}
 use Rattle.vx_image.specs.declared.decl.ProcDecl.{ProcDecl}
 use Rattle.vx_record.specs.State.{Process, State, process_at, change, current, next_id, past_id, pid, no_decl}
-use Rattle.vx_record.specs.Parts.{Part, Outcome, nothing, tells, and_then, answered, refused}
-use Rattle.vx_record.specs.Flags.{awaited, with_wait}
+use Rattle.vx_record.specs.Parts.{Part, Outcome, nothing, tells, and_then, answered, at_tested}
+use Rattle.vx_record.specs.Flags.{with_wait}
 use Rattle.vx_record.specs.Asts.{open_part, que_part}
 use Rattle.vx_record.specs.declared.served.Served.{Served}
 use Rattle.vx_record.specs.declared.served.Served.TheVariants.{Answered, Waits}
@@ -58,13 +58,9 @@ process_test s p n =
     if not (exists_for_control s (named_process p n).0) then Err NonExpr else (
     if may_control s p (named_process p n) then Ok (named_process p n) else Err NoPriv)
 
-abbrev pub at_tested : (Cond → Outcome Cond) → (Pid → Outcome Cond) → Result Pid Cond → Outcome Cond
-at_tested refuse go (Err c) = refuse c
-at_tested refuse go (Ok q) = go q
-
 -- what is done to the process that a number names
 abbrev pub at_process : State → Pid → ℕ → (Pid → Outcome Cond) → Outcome Cond
-at_process s p n go = at_tested (refused s) go (process_test s p n)
+at_process s p n go = at_tested s go (process_test s p n)
 
 -- a change of that process, with no effect
 abbrev pub changed_process : State → (Process → Process) → Pid → Outcome Cond

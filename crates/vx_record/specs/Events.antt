@@ -1,7 +1,6 @@
 -- Events: what is enabled, and what a step does.
-use Rattle.std.specs.Prelude.{ℕ, ◌+◌, List, [], ◌∷◌, ◌++◌, Bool, true, false, ◌&&◌, ◌||◌, ◌==◌, not, if◌then◌else◌, Option, Some, None, is_some, length}
+use Rattle.std.specs.Prelude.{ℕ, ◌+◌, List, [], ◌∷◌, ◌++◌, Bool, true, false, not, if◌then◌else◌, Option, Some, None, is_some}
 use Rattle.vx_base.specs.Cond.{number_of}
-use Rattle.vx_base.specs.Lists.{less}
 use Rattle.vx_base.specs.Pieces.{Queued, Request, Timer, DeviceUnit}
 use Rattle.vx_base.specs.Queues.{front, in_service}
 use Rattle.vx_base.specs.declared.call.Call.{Call}
@@ -16,7 +15,6 @@ use Rattle.vx_base.specs.declared.frame.Phase.{Phase}
 use Rattle.vx_base.specs.declared.frame.Phase.TheVariants as phase
 use Rattle.vx_base.specs.declared.frame.Wait.{Wait}
 use Rattle.vx_base.specs.declared.frame.Wait.TheVariants as wait
-use Rattle.vx_base.specs.declared.number.Id.{Id}
 use Rattle.vx_base.specs.declared.number.Pid.{Pid}
 use Rattle.vx_base.specs.declared.number.UnitNo.{UnitNo}
 use Rattle.vx_base.specs.declared.record.Answer.{Answer}
@@ -26,15 +24,15 @@ use Rattle.vx_base.specs.declared.record.Event.TheVariants as event
 use Rattle.vx_base.specs.declared.routine.Entry.{Entry}
 use Rattle.vx_base.specs.declared.routine.Entry.TheVariants as entry
 use Rattle.vx_image.specs.Local.{Reader, Advanced, advanced}
-use Rattle.vx_image.specs.Storage.{Storage, with_target}
+use Rattle.vx_image.specs.Storage.{Storage}
 use Rattle.vx_image.specs.declared.stop.Stop.{Stop}
 use Rattle.vx_image.specs.declared.stop.Stop.TheVariants as stop
-use Rattle.vx_record.specs.State.{Process, State, process_at, change, image_of, pid, with_top, no_unit}
+use Rattle.vx_record.specs.State.{Process, State, process_at, change, image_of, pid, with_top}
 use Rattle.vx_record.specs.Parts.{Part, Outcome, nothing, tells, and_then, answered}
 use Rattle.vx_record.specs.Flags.{satisfied, with_wait}
 use Rattle.vx_record.specs.Asts.{deliverable_ast, with_frame, new_frame}
 use Rattle.vx_record.specs.Timers.{tick, next_time}
-use Rattle.vx_record.specs.Control.{is_deleted, with_wake}
+use Rattle.vx_record.specs.Control.{with_wake}
 use Rattle.vx_record.specs.Requests.{begun, done}
 use Rattle.vx_record.specs.Rundown.{exited, is_busy, rundown, without_ast}
 use Rattle.vx_record.specs.Services.{service, with_variable}
@@ -42,10 +40,6 @@ use Rattle.vx_record.specs.declared.served.Served.{Served}
 use Rattle.vx_record.specs.declared.served.Served.TheVariants.{Answered, Waits}
 
 -- What is enabled: the processes in number order, each with at most one event; the units in script order; time.
-
-abbrev pub wait_of : List Frame → Option Wait
-wait_of [] = None
-wait_of (f ∷ fs) = f.wait
 
 abbrev pub is_satisfied : State → Pid → Option Wait → Bool
 is_satisfied s p None = true

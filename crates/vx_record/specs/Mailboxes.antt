@@ -1,8 +1,8 @@
 -- Mailboxes: what an accepted write, end of file, read or attention entry does.
-use Rattle.std.specs.Prelude.{ℕ, ◌+◌, List, [], ◌∷◌, ◌++◌, Bool, true, false, ◌&&◌, ◌||◌, ◌==◌, not, nat_lt, if◌then◌else◌, length, take, Option, Some, None}
+use Rattle.std.specs.Prelude.{List, [], ◌∷◌, ◌++◌, Bool, true, false, ◌&&◌, ◌==◌, not, nat_lt, if◌then◌else◌, length, take, Option, Some, None}
 use Rattle.std.specs.List.{find, filter, list_any}
 use Rattle.vx_base.specs.Lists.{less}
-use Rattle.vx_base.specs.Pieces.{Request, Attention, Mailbox, Status}
+use Rattle.vx_base.specs.Pieces.{Request, Attention, Mailbox}
 use Rattle.vx_base.specs.Queues.{body_bytes}
 use Rattle.vx_base.specs.declared.cond.Cond.TheVariants.{Normal, BufferOvf, EndOfFile}
 use Rattle.vx_base.specs.declared.effects.Effect.TheVariants as effect
@@ -13,12 +13,12 @@ use Rattle.vx_base.specs.declared.request.Body.TheVariants as body
 use Rattle.vx_base.specs.declared.request.Device.{Device}
 use Rattle.vx_base.specs.declared.request.Device.TheVariants as device
 use Rattle.vx_base.specs.declared.request.Func.{Func}
-use Rattle.vx_base.specs.declared.request.Func.TheVariants.{Read, ReadNow, Write, WriteNow, Eof, EofNow, ReadAttn, WrtAttn}
+use Rattle.vx_base.specs.declared.request.Func.TheVariants.{Read, Write, Eof, ReadAttn, WrtAttn}
 use Rattle.vx_base.specs.declared.request.Msg.{Msg}
 use Rattle.vx_base.specs.declared.request.Req.{Req}
 use Rattle.vx_record.specs.State.{State, box_at, with_box}
-use Rattle.vx_record.specs.Parts.{Part, nothing, tells, and_then, each, part_if}
-use Rattle.vx_record.specs.Finish.{Ending, ending, finish, finish_id, this_request}
+use Rattle.vx_record.specs.Parts.{Part, tells, and_then, each, part_if}
+use Rattle.vx_record.specs.Finish.{Ending, ending, finish, finish_id}
 use Rattle.vx_record.specs.Asts.{que_part, charged_ast}
 use Rattle.vx_record.specs.Charges.{is_end_of_file}
 

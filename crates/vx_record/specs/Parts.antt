@@ -1,5 +1,5 @@
 -- What an event does: parts, one after another, each with its effects and the state after it.
-use Rattle.std.specs.Prelude.{◌≡◌, ℕ, ◌+◌, List, [], ◌∷◌, ◌++◌, Bool, true, false, if◌then◌else◌, Option, Some, None, Result, Ok, Err}
+use Rattle.std.specs.Prelude.{◌≡◌, ℕ, ◌+◌, List, [], ◌∷◌, ◌++◌, Bool, if◌then◌else◌, Result, Ok, Err}
 use Rattle.vx_base.specs.Clusters.{Change}
 use Rattle.vx_base.specs.Flags.{one}
 use Rattle.vx_base.specs.Log.{Log, logged}
@@ -43,6 +43,11 @@ answered a part = record { answer = a; effects = part.effects; after = part.afte
 -- the answer alone: nothing is logged or changed
 abbrev pub refused : State → Cond → Outcome Cond
 refused s c = answered c (nothing s)
+
+-- what is done with what a test found; where it refuses, its refusal alone
+abbrev pub at_tested : {A : Type 0} → State → (A → Outcome Cond) → Result A Cond → Outcome Cond
+at_tested s go (Err c) = refused s c
+at_tested s go (Ok x) = go x
 
 -- a part, and then an outcome on the state that it leaves
 abbrev pub followed_by : {A : Type 0} → Part → (State → Outcome A) → Outcome A

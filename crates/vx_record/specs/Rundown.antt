@@ -1,5 +1,5 @@
 -- Exit, deletion and rundown.
-use Rattle.std.specs.Prelude.{ℕ, List, [], ◌∷◌, Bool, true, false, ◌&&◌, ◌==◌, not, if◌then◌else◌, Option, Some, None, is_some}
+use Rattle.std.specs.Prelude.{ℕ, List, [], ◌∷◌, Bool, true, false, ◌&&◌, ◌==◌, if◌then◌else◌, Option, Some, None}
 use Rattle.std.specs.List.{find, filter, list_any}
 use Rattle.vx_base.specs.Channels.{channels_of}
 use Rattle.vx_base.specs.Clusters.{dissociated}

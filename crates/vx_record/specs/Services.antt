@@ -1,5 +1,5 @@
 -- Calls: each service with its arguments, in the order of the table.
-use Rattle.std.specs.Prelude.{ℕ, List, [], ◌∷◌, Bool, if◌then◌else◌, Option, Some, None, Result, Ok, Err, bytes_eq, position, unwrap_or, option_map}
+use Rattle.std.specs.Prelude.{ℕ, List, [], Option, Some, None, Result, Ok, Err, bytes_eq, position, unwrap_or, option_map}
 use Rattle.vx_base.specs.declared.call.Arg.{Arg}
 use Rattle.vx_base.specs.declared.call.Arg.TheVariants as arg
 use Rattle.vx_base.specs.declared.call.Args.{Args}
@@ -22,7 +22,7 @@ use Rattle.vx_base.specs.declared.service.Service.TheVariants.{SetEf, ClrEf, Rea
 use Rattle.vx_image.specs.Storage.{with_target}
 use Rattle.vx_image.specs.declared.image.Image.{Image}
 use Rattle.vx_record.specs.State.{Process, State, change, image_of}
-use Rattle.vx_record.specs.Parts.{Part, Outcome, nothing, tells, and_then, answered, followed_by, part_of}
+use Rattle.vx_record.specs.Parts.{Part, Outcome, nothing, tells, and_then, answered, part_of}
 use Rattle.vx_record.specs.Flags.{setef, clref, readef, waitfr, wflor, wfland, ascefc, dacefc, dlcefc}
 use Rattle.vx_record.specs.Asts.{dclast, setast, cmexec, cmkrnl}
 use Rattle.vx_record.specs.Timers.{setimr, cantim, schdwk, canwak, gettim}
@@ -32,7 +32,7 @@ use Rattle.vx_record.specs.Channels.{assign, crembx, delmbx}
 use Rattle.vx_record.specs.Cancel.{cancel, dassgn}
 use Rattle.vx_record.specs.Requests.{Asked, qio, qiow, synch}
 use Rattle.vx_record.specs.declared.served.Served.{Served}
-use Rattle.vx_record.specs.declared.served.Served.TheVariants.{Answered, Waits}
+use Rattle.vx_record.specs.declared.served.Served.TheVariants.{Answered}
 
 -- Arguments, with their values computed.
 

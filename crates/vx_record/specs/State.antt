@@ -1,7 +1,7 @@
 -- The plain state of the executive: one list of each thing, and nothing of how the code keeps it.
-use Rattle.std.specs.Prelude.{◌≡◌, ℕ, ◌+◌, ◌-◌, ◌≤◌, List, [], ◌∷◌, Bool, true, false, Option, None, length, replicate, slice_index_or, slice_set}
+use Rattle.std.specs.Prelude.{ℕ, ◌+◌, ◌-◌, ◌≤◌, List, [], ◌∷◌, Bool, false, Option, None, length, slice_index_or, slice_set}
 use Rattle.vx_base.specs.Clusters.{Common}
-use Rattle.vx_base.specs.Pieces.{Queued, Enables, all_on, Channel, Handler, Request, Timer, Attention, Mailbox, DeviceUnit, Contents, Lines, Blocks}
+use Rattle.vx_base.specs.Pieces.{Queued, Enables, all_on, Channel, Handler, Request, Timer, Attention, Mailbox, DeviceUnit, Lines}
 use Rattle.vx_base.specs.Quotas.{no_need}
 use Rattle.vx_base.specs.declared.frame.Frame.{Frame}
 use Rattle.vx_base.specs.declared.frame.Phase.{Phase}

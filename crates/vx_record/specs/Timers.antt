@@ -1,5 +1,5 @@
 -- Timers and scheduled wakes: the services on them, and time.
-use Rattle.std.specs.Prelude.{ℕ, ◌+◌, ◌%◌, ◌^◌, List, [], ◌∷◌, ◌++◌, Bool, true, false, ◌&&◌, ◌||◌, ◌==◌, not, nat_le, if◌then◌else◌, is_some, Option, Some, None}
+use Rattle.std.specs.Prelude.{ℕ, ◌+◌, ◌%◌, ◌^◌, [], ◌∷◌, ◌++◌, Bool, true, false, ◌&&◌, ◌||◌, ◌==◌, nat_le, if◌then◌else◌, is_some, Option, Some, None}
 use Rattle.std.specs.List.{filter}
 use Rattle.vx_base.specs.Lists.{less, amend}
 use Rattle.vx_base.specs.Modes.{outer, reaches}

@@ -6,7 +6,6 @@
 #![tactic(auto)]
 
 mod outstanding;
-mod place;
 mod reqs;
 
 pub use reqs::Reqs;

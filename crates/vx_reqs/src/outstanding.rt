@@ -7,8 +7,7 @@ ghost use Rattle.vx_base.specs.Queues.{is_unit, is_served_by, waits_for};
 ghost use Rattle.vx_reqs.specs.Requests.{has_id, as_served, as_marked, comes_after, lesser_of, least_id, keeps_open};
 ghost use Rattle.vx_reqs.specs.Seen.{request_of};
 
-use crate::place::{at_place, taken};
-use vx_base::{Device, Id, Mode, Pid, Req, Routine, UnitNo};
+use vx_base::{Device, Id, Mode, Pid, Req, Routine, UnitNo, at_place, taken};
 
 /// A request with its AST, if it has one, whether its unit serves it, and whether it is to be aborted.
 #[derive(Drop)]

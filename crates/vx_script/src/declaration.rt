@@ -135,11 +135,7 @@ pub fn input_line(line: u32, tokens: &[Token]) -> Result<InputLine, LineFail>
 }
 
 // A fault number that its unit does not have yet.
-pub fn fresh_fault(
-    unit: Name,
-    n: u32,
-    faults: &NumberedRegister<FaultLine>,
-) -> Result<u32, FaultKind>
+fn fresh_fault(unit: Name, n: u32, faults: &NumberedRegister<FaultLine>) -> Result<u32, FaultKind>
     ensures { result ≡ spec.fresh_fault unit n faults.now }
 {
     if faults.has(unit, n) {

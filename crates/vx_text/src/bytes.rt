@@ -4,54 +4,63 @@ ghost use Rattle.std.specs.Prelude.{◌≡◌, ◌≤◌, ◌<◌, length, map, 
 ghost use Rattle.std.specs.List.{prefix_len};
 ghost use Rattle.vx_text.specs.Bytes as classes;
 
+/// A letter in capitals; any other byte as it is.
 pub fn upper(b: u8) -> u8
     ensures { result ≡ classes.upper b }
 {
     if 97 <= b && b <= 122 { b - 32 } else { b }
 }
 
+/// Whether a byte is a letter, of either case.
 pub fn is_letter(b: u8) -> bool
     ensures { result ≡ classes.is_letter b }
 {
     65 <= b && b <= 90 || 97 <= b && b <= 122
 }
 
+/// Whether a byte is a decimal digit.
 pub fn is_digit(b: u8) -> bool
     ensures { result ≡ classes.is_digit b }
 {
     48 <= b && b <= 57
 }
 
+/// Whether a byte is a hexadecimal digit, of either case.
 pub fn is_hex_digit(b: u8) -> bool
     ensures { result ≡ classes.is_hex_digit b }
 {
     is_digit(b) || 65 <= upper(b) && upper(b) <= 70
 }
 
+/// Whether a byte is a letter or a decimal digit.
 pub fn is_alphanumeric(b: u8) -> bool
     ensures { result ≡ classes.is_alphanumeric b }
 {
     is_letter(b) || is_digit(b)
 }
 
+/// Whether a byte may stand in a word: a letter, a digit, `_` or `$`.
 pub fn is_word_byte(b: u8) -> bool
     ensures { result ≡ classes.is_word_byte b }
 {
     is_alphanumeric(b) || b == b'_' || b == b'$'
 }
 
+/// Whether a byte may stand in a service's name behind its `$`: a letter, a digit or `_`.
 pub fn is_service_byte(b: u8) -> bool
     ensures { result ≡ classes.is_service_byte b }
 {
     is_alphanumeric(b) || b == b'_'
 }
 
+/// Whether a byte is a space or a tab.
 pub fn is_gap(b: u8) -> bool
     ensures { result ≡ classes.is_gap b }
 {
     b == b' ' || b == b'\t'
 }
 
+/// Whether a byte is a sign that is a token of its own: one of `,=+-:`.
 pub fn is_sign(b: u8) -> bool
     ensures { result ≡ classes.is_sign b }
 {

@@ -3,10 +3,10 @@ use Rattle.std.proofs.Common.{◌≡◌, ℕ, ◌||◌, ◌<◌, ◌≤◌, Bool
 use Rattle.std.specs.List.{find, list_any, AllByRecursion}
 use Rattle.std.proofs.lemmas.Bool.Decides.{nat_tests}
 use Rattle.std.proofs.lemmas.Bool.{eq-eqb}
-use Rattle.vx_base.specs.Lists.{less}
+use Rattle.vx_base.specs.Lists.{less, put_before}
 use Rattle.vx_base.specs.Pieces.{Timer}
 use Rattle.vx_base.specs.Queues.{sooner, least_due}
-use Rattle.vx_timers.specs.Timing.{put_before, has_id, inserted, IsInIdOrder, is_due_at, if_due_by, first_due, less_entry}
+use Rattle.vx_timers.specs.Timing.{has_id, inserted, IsInIdOrder, is_due_at, if_due_by, first_due, less_entry}
 
 -- all ids are above n
 abbrev AllAbove : ℕ → List Timer → Type 0

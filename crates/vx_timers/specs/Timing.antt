@@ -1,7 +1,7 @@
 -- Timers and scheduled wakes.
 use Rattle.std.specs.Prelude.{ℕ, ◌<◌, List, [], ◌∷◌, Bool, true, false, ◌&&◌, ◌||◌, ◌==◌, nat_le, Option, Some, None, is_some, if◌then◌else◌}
 use Rattle.std.specs.List.{AllByRecursion}
-use Rattle.vx_base.specs.Lists.{less}
+use Rattle.vx_base.specs.Lists.{less, put_before}
 use Rattle.vx_base.specs.Modes.{reaches}
 use Rattle.vx_base.specs.Pieces.{Timer, Alarm, OfTimer, OfWake}
 use Rattle.vx_base.specs.Queues.{least_due}
@@ -13,11 +13,6 @@ use Rattle.vx_base.specs.declared.number.Pid.{Pid}
 pub record Timing : Type 0 where
   pub items : List Timer
   pub capacity : ℕ
-
--- an item put before the first that passes, or at the end
-abbrev pub put_before : {A : Type 0} → (A → Bool) → A → List A → List A
-put_before p a [] = a ∷ []
-put_before p a (x ∷ xs) = if p x then a ∷ x ∷ xs else x ∷ put_before p a xs
 
 -- the entry has this id
 abbrev pub has_id : Id → Timer → Bool

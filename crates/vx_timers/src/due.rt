@@ -8,8 +8,7 @@ ghost use Rattle.vx_base.specs.Queues.{least_due};
 ghost use Rattle.vx_timers.specs.Timing.{has_id, inserted, IsInIdOrder, is_due_at, is_timer_with, is_wake, is_timer, is_charged, sets, wakes};
 ghost use Rattle.vx_timers.specs.Seen.{timer_of, lesser_of};
 
-use crate::place::taken;
-use vx_base::{Id, Mode, Pid, Routine};
+use vx_base::{Id, Mode, Pid, Routine, taken};
 
 /// What happens when an entry falls due.
 #[derive(Drop)]

@@ -6,7 +6,6 @@
 #![tactic(auto)]
 
 mod due;
-mod place;
 mod timers;
 
 pub use due::{Due, What};

@@ -1,6 +1,6 @@
 use Rattle.vx_base.specs.Queues.{is_of_mode}
 use Rattle.vx_ast.specs.Queue.{queued_of}
-use Rattle.vx_ast.proofs.First.{seen_as}
+use Rattle.vx_base.proofs.First.{seen_as}
 use Rattle.vx_ast.proofs.by_mode.first_of_mode.Goals as goal
 
 pub returns : goal.returns

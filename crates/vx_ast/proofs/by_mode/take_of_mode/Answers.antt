@@ -1,7 +1,7 @@
 use Rattle.vx_base.specs.Queues.{is_of_mode}
 use Rattle.vx_ast.specs.declared.queue.Delivery.{Delivery}
 use Rattle.vx_ast.specs.Queue.{queued_of}
-use Rattle.vx_ast.proofs.First.{found_as, less_as, same_place}
+use Rattle.vx_base.proofs.First.{found_as, less_as, same_place}
 use Rattle.vx_ast.proofs.by_mode.take_of_mode.Goals as goal
 
 pub returns-clause-found : goal.returns-clause-found

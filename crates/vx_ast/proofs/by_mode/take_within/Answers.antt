@@ -1,6 +1,6 @@
 use Rattle.vx_ast.specs.declared.queue.Delivery.{Delivery}
 use Rattle.vx_ast.specs.Queue.{queued_of, is_within}
-use Rattle.vx_ast.proofs.First.{found_as, less_as, same_place}
+use Rattle.vx_base.proofs.First.{found_as, less_as, same_place}
 use Rattle.vx_ast.proofs.by_mode.take_within.Goals as goal
 
 pub returns-clause-found : goal.returns-clause-found

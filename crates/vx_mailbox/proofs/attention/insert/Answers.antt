@@ -2,7 +2,7 @@ use Rattle.std.proofs.Common.{◌∙◌, ℕ, List, Bool, nat_le, sym, ap, subst
 use Rattle.vx_mailbox.specs.declared.attention.Attention.{Attention}
 use Rattle.vx_mailbox.specs.Boxes.{Asked, IsInIdOrder}
 use Rattle.vx_mailbox.specs.Seen.{asked_of}
-use Rattle.vx_mailbox.proofs.First.{same_place, insert_at, insert_end}
+use Rattle.vx_base.proofs.First.{same_place, insert_at, insert_end}
 use Rattle.vx_mailbox.proofs.Order.{in_order_put}
 use Rattle.vx_mailbox.proofs.attention.insert.Goals as goal
 

@@ -1,7 +1,7 @@
 use Rattle.std.proofs.Common.{sym, subst}
 use Rattle.vx_mailbox.specs.Boxes.{IsInIdOrder}
 use Rattle.vx_mailbox.specs.Seen.{asked_of}
-use Rattle.vx_mailbox.proofs.First.{found_as, less_as}
+use Rattle.vx_base.proofs.First.{found_as, less_as}
 use Rattle.vx_mailbox.proofs.Order.{in_order_less}
 use Rattle.vx_mailbox.proofs.attention.take_at.Goals as goal
 

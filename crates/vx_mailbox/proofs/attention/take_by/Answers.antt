@@ -2,7 +2,7 @@ use Rattle.std.proofs.Common.{Bool}
 use Rattle.vx_mailbox.specs.declared.attention.Attention.{Attention}
 use Rattle.vx_mailbox.specs.Boxes.{Asked, asks_by}
 use Rattle.vx_mailbox.specs.Seen.{asked_of}
-use Rattle.vx_mailbox.proofs.First.{same_place}
+use Rattle.vx_base.proofs.First.{same_place}
 use Rattle.vx_mailbox.proofs.attention.take_by.Goals as goal
 
 pub returns-clause-found : goal.returns-clause-found

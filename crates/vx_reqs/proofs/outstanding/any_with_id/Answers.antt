@@ -1,7 +1,7 @@
 use Rattle.std.proofs.Common.{◌∙◌, sym}
 use Rattle.vx_reqs.specs.Requests.{has_id}
 use Rattle.vx_reqs.specs.Seen.{request_of}
-use Rattle.vx_reqs.proofs.First.{list_any_map}
+use Rattle.vx_base.proofs.First.{list_any_map}
 use Rattle.vx_reqs.proofs.outstanding.any_with_id.Goals as goal
 
 pub returns : goal.returns

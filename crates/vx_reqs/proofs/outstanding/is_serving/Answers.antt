@@ -1,7 +1,7 @@
 use Rattle.std.proofs.Common.{◌∙◌, sym}
 use Rattle.vx_base.specs.Queues.{is_served_by}
 use Rattle.vx_reqs.specs.Seen.{request_of}
-use Rattle.vx_reqs.proofs.First.{list_any_map}
+use Rattle.vx_base.proofs.First.{list_any_map}
 use Rattle.vx_reqs.proofs.outstanding.is_serving.Goals as goal
 
 pub returns : goal.returns

@@ -1,7 +1,7 @@
 use Rattle.std.proofs.Common.{◌∙◌, sym, refl}
 use Rattle.vx_reqs.specs.Requests.{has_id, as_marked}
 use Rattle.vx_reqs.specs.Seen.{request_of}
-use Rattle.vx_reqs.proofs.First.{amend_at, amend_none}
+use Rattle.vx_base.proofs.First.{amend_at, amend_none}
 use Rattle.vx_reqs.proofs.outstanding.mark_with_id.Goals as goal
 
 pub returns-in-Some : goal.returns-in-Some

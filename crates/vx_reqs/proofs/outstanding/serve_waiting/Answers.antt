@@ -2,7 +2,7 @@ use Rattle.std.proofs.Common.{◌∙◌, sym, refl}
 use Rattle.vx_base.specs.Queues.{waits_for}
 use Rattle.vx_reqs.specs.Requests.{as_served}
 use Rattle.vx_reqs.specs.Seen.{request_of}
-use Rattle.vx_reqs.proofs.First.{amend_at, amend_none}
+use Rattle.vx_base.proofs.First.{amend_at, amend_none}
 use Rattle.vx_reqs.proofs.outstanding.serve_waiting.Goals as goal
 
 pub returns-in-Some : goal.returns-in-Some

@@ -1,6 +1,6 @@
 use Rattle.vx_base.specs.Queues.{is_served_by}
 use Rattle.vx_reqs.specs.Seen.{request_of}
-use Rattle.vx_reqs.proofs.First.{seen_as}
+use Rattle.vx_base.proofs.First.{seen_as}
 use Rattle.vx_reqs.proofs.outstanding.served_by.Goals as goal
 
 pub returns : goal.returns

@@ -1,7 +1,7 @@
 use Rattle.vx_reqs.specs.declared.outstanding.Outstanding.{Outstanding}
 use Rattle.vx_reqs.specs.Requests.{has_id}
 use Rattle.vx_reqs.specs.Seen.{request_of}
-use Rattle.vx_reqs.proofs.First.{found_as, less_as, same_place}
+use Rattle.vx_base.proofs.First.{found_as, less_as, same_place}
 use Rattle.vx_reqs.proofs.outstanding.take_with_id.Goals as goal
 
 pub returns-clause-found : goal.returns-clause-found

@@ -1,6 +1,6 @@
 use Rattle.vx_base.specs.Queues.{waits_for}
 use Rattle.vx_reqs.specs.Seen.{request_of}
-use Rattle.vx_reqs.proofs.First.{seen_as}
+use Rattle.vx_base.proofs.First.{seen_as}
 use Rattle.vx_reqs.proofs.outstanding.waiting_for.Goals as goal
 
 pub returns : goal.returns

@@ -1,6 +1,6 @@
 use Rattle.vx_reqs.specs.Requests.{has_id}
 use Rattle.vx_reqs.specs.Seen.{request_of}
-use Rattle.vx_reqs.proofs.First.{seen_as}
+use Rattle.vx_base.proofs.First.{seen_as}
 use Rattle.vx_reqs.proofs.outstanding.with_id.Goals as goal
 
 pub returns : goal.returns

@@ -1,7 +1,7 @@
 use Rattle.std.proofs.Common.{◌∙◌, sym}
 use Rattle.vx_timers.specs.Timing.{has_id}
 use Rattle.vx_timers.specs.Seen.{timer_of}
-use Rattle.vx_timers.proofs.First.{list_any_map}
+use Rattle.vx_base.proofs.First.{list_any_map}
 use Rattle.vx_timers.proofs.due.any_with_id.Goals as goal
 
 pub returns : goal.returns

@@ -3,7 +3,7 @@ use Rattle.vx_base.specs.Pieces.{Timer}
 use Rattle.vx_timers.specs.declared.due.Due.{Due}
 use Rattle.vx_timers.specs.Seen.{timer_of}
 use Rattle.vx_timers.specs.Timing.{IsInIdOrder}
-use Rattle.vx_timers.proofs.First.{same_place, insert_at, insert_end}
+use Rattle.vx_base.proofs.First.{same_place, insert_at, insert_end}
 use Rattle.vx_timers.proofs.Order.{in_order_put}
 use Rattle.vx_timers.proofs.due.insert.Goals as goal
 

@@ -1,7 +1,7 @@
 use Rattle.std.proofs.Common.{sym, subst}
 use Rattle.vx_timers.specs.Seen.{timer_of}
 use Rattle.vx_timers.specs.Timing.{IsInIdOrder}
-use Rattle.vx_timers.proofs.First.{found_as, less_as}
+use Rattle.vx_base.proofs.First.{found_as, less_as}
 use Rattle.vx_timers.proofs.Order.{in_order_less}
 use Rattle.vx_timers.proofs.due.take_at.Goals as goal
 

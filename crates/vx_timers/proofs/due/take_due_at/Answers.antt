@@ -3,7 +3,7 @@ use Rattle.vx_base.specs.Pieces.{Timer}
 use Rattle.vx_timers.specs.declared.due.Due.{Due}
 use Rattle.vx_timers.specs.Seen.{timer_of}
 use Rattle.vx_timers.specs.Timing.{is_due_at}
-use Rattle.vx_timers.proofs.First.{same_place}
+use Rattle.vx_base.proofs.First.{same_place}
 use Rattle.vx_timers.proofs.due.take_due_at.Goals as goal
 
 pub returns-clause-found : goal.returns-clause-found

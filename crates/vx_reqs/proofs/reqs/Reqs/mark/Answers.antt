@@ -4,7 +4,7 @@ use Rattle.vx_base.specs.Pieces.{Request}
 use Rattle.vx_reqs.specs.declared.outstanding.Outstanding.{Outstanding}
 use Rattle.vx_reqs.specs.Requests.{Requests, has_id, as_marked}
 use Rattle.vx_reqs.specs.Seen.{request_of}
-use Rattle.vx_reqs.proofs.First.{amend_same}
+use Rattle.vx_base.proofs.First.{amend_same}
 use Rattle.vx_reqs.proofs.reqs.Reqs.mark.Goals as goal
 
 -- the request that is found is marked already

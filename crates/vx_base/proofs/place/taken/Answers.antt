@@ -1,6 +1,6 @@
 use Rattle.std.proofs.Common.{◌∙◌, sym}
-use Rattle.vx_timers.proofs.First.{found_at, less_at, none_at}
-use Rattle.vx_timers.proofs.place.taken.Goals as goal
+use Rattle.vx_base.proofs.First.{found_at, less_at, none_at}
+use Rattle.vx_base.proofs.place.taken.Goals as goal
 
 pub returns-in-Some-clause-found : goal.returns-in-Some-clause-found
 returns-in-Some-clause-found g c = λ p place. found_at p _ _ _ (sym c.in-Some.is ∙ place) c.remove.ensures.value

@@ -1,6 +1,6 @@
 use Rattle.std.proofs.Common.{◌∙◌, sym}
-use Rattle.vx_ast.proofs.First.{found_at, none_at}
-use Rattle.vx_ast.proofs.place.at_place.Goals as goal
+use Rattle.vx_base.proofs.First.{found_at, none_at}
+use Rattle.vx_base.proofs.place.at_place.Goals as goal
 
 pub returns-in-Some : goal.returns-in-Some
 returns-in-Some g c = λ p place. found_at p _ _ _ (sym c.in-Some.is ∙ place) c.index-items-place.is

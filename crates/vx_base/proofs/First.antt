@@ -3,8 +3,7 @@ use Rattle.std.proofs.Common.{◌≡◌, ℕ, ◌+◌, ◌<◌, ◌≤◌, List,
 use Rattle.std.specs.List.{find, position_or_len, list_any, insert}
 use Rattle.std.proofs.lemmas.List.{map-append}
 use Rattle.std.proofs.lemmas.Bool.{ltb-true, ltb-false}
-use Rattle.vx_base.specs.Lists.{less, amend}
-use Rattle.vx_mailbox.specs.Boxes.{put_before}
+use Rattle.vx_base.specs.Lists.{less, amend, put_before}
 
 pub find-map : {X Y : Type 0} (f : X → Y) (p : Y → Bool) (xs : List X) → find p (map f xs) ≡ option_map f (find (λ x. p (f x)) xs)
 find-map f p [] = refl
