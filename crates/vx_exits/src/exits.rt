@@ -6,12 +6,11 @@ ghost use Rattle.std.specs.List.{find};
 ghost use Rattle.vx_base.specs.Lists.{less};
 ghost use Rattle.vx_exits.specs.Exits.{is_kernel, declared, is_of_mode, is_tagged, is_any};
 ghost use Rattle.vx_exits.specs.Exits.{known, handed, handed_or, or_no_handler};
-ghost use Rattle.vx_exits.specs.Places.{item_at, without};
 
 use crate::declared::Declared;
 use std::alloc::Global;
 use std::marker::Model;
-use vx_base::{Entry, Id, Mode, NoMemory, Routine};
+use vx_base::{Entry, Id, Mode, NoMemory, Routine, taken};
 
 /// Why a call on exit handlers is refused.
 #[derive(Clone, Copy, Debug, PartialEq, Eq)]
@@ -82,7 +81,6 @@ impl<R: Routine> Exits<R> {
 
     /// Takes out the newest handler of a mode that has a tag ($CANEXH). NoHandler, and nothing changed, where there is
     /// none.
-    #[tactic(auto, using(crate::proofs::Places::found, crate::proofs::Places::rest))]
     pub fn cancel(&mut self, mode: Mode, tag: Entry) -> Result<(Id, R), ExitFail>
         ensures answer { handed_or R.tagged result ≡ or_no_handler (option_map known (find (is_tagged mode tag) self.old.items)) }
         ensures after { self.new ≡ record self.old { items = less (is_tagged mode tag) self.old.items } }
@@ -95,7 +93,6 @@ impl<R: Routine> Exits<R> {
     }
 
     /// Takes out the newest handler of a mode, if there is one.
-    #[tactic(auto, using(crate::proofs::Places::found, crate::proofs::Places::rest))]
     pub fn pop(&mut self, mode: Mode) -> Option<(Id, R)>
         ensures handler { option_map (handed R.tagged) result ≡ option_map known (find (is_of_mode mode) self.old.items) }
         ensures after { self.new ≡ record self.old { items = less (is_of_mode mode) self.old.items } }
@@ -121,20 +118,6 @@ impl<R: Routine> Exits<R> {
         ensures { result ≡ length self.now.items }
     {
         self.items.len()
-    }
-}
-
-/// Takes out the handler there.
-fn taken<R: Routine>(items: &mut Vec<Declared<R>>, place: Option<usize>) -> Option<Declared<R>>
-    requires { IfSome place (λ i. i < vec_len items.old) }
-    ensures found { result ≡ item_at items.old.items place }
-    ensures after { items.new.items ≡ without items.old.items place }
-    ensures fewer { vec_len items.new ≤ vec_len items.old }
-    ensures capacity { vec_capacity items.new ≡ vec_capacity items.old }
-{
-    match place {
-        None => None,
-        Some(i) => Some(items.remove(i)),
     }
 }
 
