@@ -1,7 +1,7 @@
 //! Handlers, the newest first.
 
 ghost use Rattle.std.specs.Prelude.{◌≡◌, ◌↔◌, ◌<◌, ◌≤◌, [], length, IsTrue, IsErr, IfErr, IfSome, OnOk, OnErr};
-ghost use Rattle.std.specs.Prelude.{option_map, position, vec_len, vec_capacity};
+ghost use Rattle.std.specs.Prelude.{option_map, position};
 ghost use Rattle.std.specs.List.{find};
 ghost use Rattle.vx_base.specs.Lists.{less};
 ghost use Rattle.vx_exits.specs.Exits.{is_kernel, declared, is_of_mode, is_tagged, is_any};
