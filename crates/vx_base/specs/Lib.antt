@@ -1,7 +1,9 @@
 pub mod Channels
 pub mod Clusters
 pub mod Cond
+pub mod Entries
 pub mod Flags
+pub mod Frames
 pub mod Lists
 pub mod Log
 pub mod Modes

@@ -1,5 +1,6 @@
 -- Words on lists that the structures and the machine share.
-use Rattle.std.specs.Prelude.{ℕ, List, [], ◌∷◌, ◌++◌, Bool, if◌then◌else◌, drop, length}
+use Rattle.std.specs.Prelude.{ℕ, List, [], ◌∷◌, ◌++◌, Bool, if◌then◌else◌, drop, length, ◌+◌}
+use Rattle.vx_base.specs.Flags.{one}
 
 -- the list without the first that passes
 abbrev pub less : {A : Type 0} → (A → Bool) → List A → List A
@@ -19,3 +20,8 @@ put_before p a (x ∷ xs) = if p x then a ∷ x ∷ xs else x ∷ put_before p a
 -- bytes written over the start of others
 abbrev pub overlaid : List ℕ → List ℕ → List ℕ
 overlaid piece bytes = piece ++ drop (length piece) bytes
+
+-- how many of a list pass
+abbrev pub tally : {A : Type 0} → (A → Bool) → List A → ℕ
+tally p [] = 0
+tally p (x ∷ xs) = one (p x) + tally p xs

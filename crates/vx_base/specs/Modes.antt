@@ -1,5 +1,5 @@
 -- Access modes.
-use Rattle.std.specs.Prelude.{ℕ, Bool, nat_lt, nat_le, if◌then◌else◌}
+use Rattle.std.specs.Prelude.{ℕ, Bool, nat_lt, nat_le, if◌then◌else◌, ◌==◌}
 use Rattle.vx_base.specs.declared.mode.Mode.{Mode}
 use Rattle.vx_base.specs.declared.mode.Mode.TheVariants.{Kernel, Exec, Super, User}
 
@@ -25,3 +25,7 @@ is_inner a b = nat_lt (rank a) (rank b)
 -- mode a is mode b or further out
 abbrev pub reaches : Mode → Mode → Bool
 reaches a b = nat_le (rank b) (rank a)
+
+-- the innermost mode
+abbrev pub is_kernel : Mode → Bool
+is_kernel m = rank m == 0

@@ -1,6 +1,6 @@
 //! Room for the bytes of one transfer.
 
-ghost use Rattle.std.specs.Prelude.{◌≡◌, ◌≤◌, length};
+ghost use Rattle.std.specs.Prelude.{◌≡◌, ◌≤◌, IfOk, length};
 
 use crate::bytes::{Bytes, NoMemory};
 use std::alloc::Global;
@@ -27,7 +27,9 @@ impl Model for Buffer {
 
 impl Buffer {
     /// Empty room.
-    pub fn new(alloc: Global) -> Result<Buffer, NoMemory> {
+    pub fn new(alloc: Global) -> Result<Buffer, NoMemory>
+        ensures { IfOk result (λ buffer. buffer ≡ tt) }
+    {
         let mut items = Vec::new(alloc);
         items.reserve(BUFFER_BYTES)?;
         Ok(Buffer { items })

@@ -9,6 +9,7 @@ use crate::mode::Mode;
 use crate::name::Name;
 use crate::number::{Id, Pid};
 use crate::request::Body;
+use crate::reserved::Reserved;
 use crate::sequence::Sequence;
 use std::alloc::Global;
 use std::marker::Model;
@@ -152,19 +153,15 @@ pub type EffectList = Sequence<Effect>;
 /// The effects of one event, as they are logged. Contracts see the effects, and how many there is room for in all.
 #[derive(Debug, Drop)]
 pub struct Effects {
-    items: Vec<Effect>,
-    room: usize,
+    items: Reserved<Effect>,
 }
 
 impl Model for Effects {
-    ghost use Rattle.std.specs.Prelude.{◌≤◌, vec_len, vec_capacity};
     ghost use Rattle.vx_base.specs.Log.{Log};
 
     ghost Value = { Log };
 
-    ghost view = { λ a. record { items = a.items.items; capacity = a.room } };
-
-    ghost invariant = { λ a. (vec_len a.items ≤ a.room) × (a.room ≤ vec_capacity a.items) };
+    ghost view = { λ a. a.items };
 }
 
 impl Effects {
@@ -173,8 +170,7 @@ impl Effects {
         ensures { result ≡ record { items = []; capacity = 0 } }
     {
         Effects {
-            items: Vec::new(alloc),
-            room: 0,
+            items: Reserved::new(alloc),
         }
     }
 
@@ -185,9 +181,7 @@ impl Effects {
         ensures ok { OnOk result (length self.new.items + n ≤ self.new.capacity) }
         ensures err { OnErr result (self.new ≡ self.old) }
     {
-        self.items.reserve(n as usize)?;
-        self.room = self.items.capacity();
-        Ok(())
+        self.items.reserve(n)
     }
 
     /// Logs an effect. Takes no memory.
@@ -195,17 +189,14 @@ impl Effects {
         requires { length self.old.items < self.old.capacity }
         ensures { self.new ≡ record self.old { items = self.old.items ++ effect ∷ [] } }
     {
-        match self.items.push(effect) {
-            Ok(()) => (),
-            Err(_) => unreachable!(),
-        }
+        self.items.put(effect);
     }
 
     /// The effects alone. Takes no memory.
     pub fn done(self) -> EffectList
         ensures { result ≡ self.items }
     {
-        let Effects { items, room: _ } = self;
-        Sequence::from_vec(items)
+        let Effects { items } = self;
+        Sequence::from_vec(items.into_vec())
     }
 }

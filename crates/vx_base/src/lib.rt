@@ -46,6 +46,3 @@ pub use routine::{Entry, Routine, Scripted};
 pub use same::{Duplicate, Same};
 pub use sequence::Sequence;
 pub use service::{Kind, Param, Service};
-
-#[cfg(test)]
-mod tests;

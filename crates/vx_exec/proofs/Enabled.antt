@@ -9,10 +9,11 @@ use Rattle.vx_base.specs.declared.number.Pid.{Pid}
 use Rattle.vx_base.specs.declared.record.Event.{Event}
 use Rattle.vx_frames.specs.Frames.{top_of}
 use Rattle.vx_image.specs.declared.unit.UnitDecl.{UnitDecl}
+use Rattle.vx_image.specs.Units.{first_unit}
 use Rattle.vx_record.specs.State.{Process, State, IsProcess, process_at, nobody, pid}
 use Rattle.vx_record.specs.Asts.{deliverable_ast}
 use Rattle.vx_record.specs.Events.{ast_or_run, can_run, can_run_down, enabled, process_events, processes_from, run_events, units_from}
-use Rattle.vx_record.specs.Runs.{first_unit, next_seed, picked}
+use Rattle.vx_record.specs.Runs.{next_seed, picked}
 use Rattle.vx_record.proofs.Lists.{either, all_append, all_at}
 use Rattle.vx_procs.specs.View.{state}
 use Rattle.vx_procs.specs.declared.procs.Core.{Core}

@@ -1,12 +1,13 @@
 -- The exit handlers of a process, the newest first.
 use Rattle.std.specs.Prelude.{ℕ, List, ◌∷◌, Bool, true, false, ◌&&◌, ◌==◌, if◌then◌else◌, Option, Some, None, Result, Ok, Err}
-use Rattle.vx_base.specs.Modes.{rank}
+use Rattle.vx_base.specs.Modes.{rank, is_kernel}
 use Rattle.vx_base.specs.Pieces.{Handler}
 use Rattle.vx_base.specs.declared.mode.Mode.{Mode}
 use Rattle.vx_base.specs.declared.mode.Mode.TheVariants.{Kernel}
 use Rattle.vx_base.specs.declared.number.Id.{Id}
 use Rattle.vx_base.specs.declared.routine.Entry.{Entry}
 use Rattle.vx_base.specs.declared.routine.Entry.TheVariants.{Label, Exit, Host}
+use Rattle.vx_base.specs.Entries.{is_same_entry}
 use Rattle.vx_exits.specs.declared.exits.ExitFail.{ExitFail}
 use Rattle.vx_exits.specs.declared.exits.ExitFail.TheVariants.{NoHandler}
 
@@ -15,10 +16,6 @@ pub record Stack : Type 0 where
   pub items : List Handler
   pub capacity : ℕ
 
-abbrev pub is_kernel : Mode → Bool
-is_kernel Kernel = true
-is_kernel _ = false
-
 -- a handler declared: none in kernel mode
 abbrev pub declared : Stack → Handler → Stack
 declared s h = if is_kernel h.mode then s else record s { items = h ∷ s.items }
@@ -26,15 +23,8 @@ declared s h = if is_kernel h.mode then s else record s { items = h ∷ s.items 
 abbrev pub is_of_mode : Mode → Handler → Bool
 is_of_mode mode h = rank h.mode == rank mode
 
--- two tags are one
-abbrev pub is_same_tag : Entry → Entry → Bool
-is_same_tag (Label a b) (Label c d) = a == c && b == d
-is_same_tag (Exit a) (Exit b) = a == b
-is_same_tag (Host a) (Host b) = a == b
-is_same_tag _ _ = false
-
 abbrev pub is_tagged : Mode → Entry → Handler → Bool
-is_tagged mode tag h = is_of_mode mode h && is_same_tag h.tag tag
+is_tagged mode tag h = is_of_mode mode h && is_same_entry h.tag tag
 
 abbrev pub is_any : Handler → Bool
 is_any h = true

@@ -1,7 +1,8 @@
 //! One declared handler.
 
 ghost use Rattle.std.specs.Prelude.{◌≡◌, IsTrue, ◌↔◌};
-ghost use Rattle.vx_exits.specs.Exits.{is_of_mode, is_same_tag, is_tagged, known, handed};
+ghost use Rattle.vx_base.specs.Entries.{is_same_entry};
+ghost use Rattle.vx_exits.specs.Exits.{is_of_mode, is_tagged, known, handed};
 
 use std::marker::Model;
 use vx_base::{Entry, Id, Mode, Routine};
@@ -40,7 +41,7 @@ impl<R: Routine> Declared<R> {
     pub(crate) fn is_tagged(&self, mode: Mode, tag: Entry) -> bool
         ensures { result ≡ is_tagged mode tag self.now }
     {
-        self.is_of_mode(mode) && is_same_tag(self.routine.tag(), tag)
+        self.is_of_mode(mode) && is_same_entry(self.routine.tag(), tag)
     }
 
     /// Its id and its routine.
@@ -57,8 +58,8 @@ impl<R: Routine> Declared<R> {
 }
 
 /// Whether two tags are one.
-fn is_same_tag(a: Entry, b: Entry) -> bool
-    ensures word { result ≡ is_same_tag a b }
+fn is_same_entry(a: Entry, b: Entry) -> bool
+    ensures word { result ≡ is_same_entry a b }
     ensures same { IsTrue result ↔ (a ≡ b) }
 {
     match (a, b) {

@@ -4,7 +4,8 @@ ghost use Rattle.std.specs.Prelude.{◌≡◌, ◌↔◌, ◌<◌, ◌≤◌, []
 ghost use Rattle.std.specs.Prelude.{option_map, position};
 ghost use Rattle.std.specs.List.{find};
 ghost use Rattle.vx_base.specs.Lists.{less};
-ghost use Rattle.vx_exits.specs.Exits.{is_kernel, declared, is_of_mode, is_tagged, is_any};
+ghost use Rattle.vx_base.specs.Modes.{is_kernel};
+ghost use Rattle.vx_exits.specs.Exits.{declared, is_of_mode, is_tagged, is_any};
 ghost use Rattle.vx_exits.specs.Exits.{known, handed, handed_or, or_no_handler};
 
 use crate::declared::Declared;

@@ -5,7 +5,8 @@ use Rattle.std.proofs.lemmas.Bool.{and_parts, and_from, or_right, or_left, leb-t
 use Rattle.vx_base.specs.Modes.{reaches, rank}
 use Rattle.vx_base.specs.declared.frame.Frame.{Frame}
 use Rattle.vx_base.specs.declared.mode.Mode.{Mode}
-use Rattle.vx_frames.specs.Frames.{active_mode, is_ast, is_inmost, may_stand_on, goes_inward}
+use Rattle.vx_base.specs.Frames.{active_mode, is_ast}
+use Rattle.vx_frames.specs.Frames.{is_inmost, may_stand_on, goes_inward}
 
 -- the mode of the first frame that is an AST's
 pub active_find : (fs : List Frame) → active_mode fs ≡ option_map (λ f. f.mode) (find (λ f. is_ast f.kind) fs)

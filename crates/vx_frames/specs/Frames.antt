@@ -7,6 +7,7 @@ use Rattle.vx_base.specs.declared.frame.FrameKind.{FrameKind}
 use Rattle.vx_base.specs.declared.frame.FrameKind.TheVariants.{Ast}
 use Rattle.vx_base.specs.declared.frame.Wait.{Wait}
 use Rattle.vx_base.specs.declared.mode.Mode.{Mode}
+use Rattle.vx_base.specs.Frames.{is_ast}
 
 -- the frames, and how many there is room for in all
 pub record Stack : Type 0 where
@@ -35,15 +36,6 @@ may_stand_on f (g ∷ fs) = reaches g.mode f.mode
 abbrev pub goes_inward : List Frame → Bool
 goes_inward [] = true
 goes_inward (f ∷ fs) = may_stand_on f fs && goes_inward fs
-
-abbrev pub is_ast : FrameKind → Bool
-is_ast (Ast id) = true
-is_ast _ = false
-
--- the mode of the innermost active AST: of the first frame from the top that is one's
-abbrev pub active_mode : List Frame → Option Mode
-active_mode [] = None
-active_mode (f ∷ fs) = if is_ast f.kind then Some f.mode else active_mode fs
 
 -- each active AST is of this mode or further out
 abbrev pub is_inmost : Mode → List Frame → Bool

@@ -2,8 +2,9 @@
 
 ghost use Rattle.std.specs.Prelude.{◌≡◌, ◌<◌, ◌≤◌, ◌∷◌, [], length, IsTrue, OnOk, OnErr, IfSome, option_map, reverse};
 ghost use Rattle.std.specs.List.{find};
+ghost use Rattle.vx_base.specs.Frames.{active_mode, is_ast};
 ghost use Rattle.vx_frames.specs.Frames.{top_of, below_top, gone_on, may_stand_on, goes_inward};
-ghost use Rattle.vx_frames.specs.Frames.{active_mode, is_inmost, is_ast};
+ghost use Rattle.vx_frames.specs.Frames.{is_inmost};
 
 use std::alloc::Global;
 use std::marker::Model;

@@ -1,4 +1,5 @@
 pub mod Example
 pub mod Local
 pub mod Storage
+pub mod Units
 pub mod WellFormed

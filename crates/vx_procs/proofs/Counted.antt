@@ -3,8 +3,8 @@ use Rattle.std.proofs.Common.{◌≡◌, ℕ, ◌+◌, List, Bool, true, false, 
 use Rattle.std.proofs.lemmas.List.Recursion.{is_count_by}
 use Rattle.vx_base.specs.Flags.{one}
 use Rattle.vx_base.specs.Pieces.{Queued}
+use Rattle.vx_base.specs.Lists.{tally}
 use Rattle.vx_record.specs.Charges.{is_charged}
-use Rattle.vx_record.specs.Parts.{tally}
 
 one_more : (b : Bool) (n : ℕ) → one b + n ≡ cond b (1 + n) n
 one_more true n = refl

@@ -10,7 +10,6 @@ use Rattle.vx_frames.specs.Frames as stack
 use Rattle.vx_image.specs.Local.{Advanced, advanced}
 use Rattle.vx_image.specs.Storage.{Storage}
 use Rattle.vx_image.specs.declared.image.Image.{Image}
-use Rattle.vx_record.specs.Asts as machine
 use Rattle.vx_record.specs.Events.{below_top, reader, without_top}
 use Rattle.vx_record.specs.Rundown.{leave_all, leave_kind}
 use Rattle.vx_record.specs.State.{Process, State}
@@ -22,16 +21,6 @@ frames_below (f ∷ fs) = refl
 
 pub same_below : (pr : Process) → record pr { frames = stack.below_top pr.frames } ≡ below_top pr
 same_below pr = ap (λ fs. record pr { frames = fs }) (frames_below pr.frames)
-
-same_kind : (k : FrameKind) → stack.is_ast k ≡ machine.is_ast k
-same_kind kind.Main = refl
-same_kind kind.Change = refl
-same_kind (kind.Ast id) = refl
-same_kind kind.Handler = refl
-
-pub same_active : (fs : List Frame) → stack.active_mode fs ≡ machine.active_mode fs
-same_active [] = refl
-same_active (f ∷ fs) = rw (same_kind f.kind, same_active fs) refl
 
 -- local statements, from the top frame on
 pub advanced_top : (image : Image) (p : Pid) (store : Storage) (fs : List Frame) (f : Frame) (a : Advanced) → Some f ≡ stack.top_of fs → a ≡ advanced image (record { prm = f.prm; p = p }) store f.pc → a ≡ advanced_from image p store fs

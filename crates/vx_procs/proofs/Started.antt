@@ -9,13 +9,13 @@ use Rattle.vx_base.specs.Queues.{is_of_mode, may_start, first_of_mode, or_else, 
 use Rattle.vx_base.specs.declared.frame.Frame.{Frame}
 use Rattle.vx_base.specs.declared.mode.Mode.{Mode}
 use Rattle.vx_base.specs.declared.mode.Mode.TheVariants.{Kernel, Exec, Super, User}
+use Rattle.vx_base.specs.Frames.{active_mode}
 use Rattle.vx_ast.specs.Queue.{less_first_like}
 use Rattle.vx_base.proofs.First.{found_passes}
 use Rattle.vx_frames.specs.Frames as stack
 use Rattle.vx_record.specs.Asts.{deliverable_at}
 use Rattle.vx_record.specs.State.{Process}
 use Rattle.vx_procs.specs.Words.{deliverable_of, have_own_ids, without_started}
-use Rattle.vx_procs.proofs.Stack.{same_active}
 
 -- what does not hold of any does not hold of the one that is found
 none_found : (p g : Queued → Bool) (xs : List Queued) (q : Queued) → list_any g xs ≡ false → find p xs ≡ Some q → g q ≡ false
@@ -80,11 +80,11 @@ one_own (q ∷ r ∷ asts) few = absurd (omega arith)
 
 -- the AST that may start, from the top frame on
 
-deliverable_from : (pr : Process) (fs : List Frame) (f : Frame) (active : Option Mode) → Some f ≡ stack.top_of fs → active ≡ stack.active_mode fs → deliverable pr.enables f.mode active pr.asts ≡ deliverable_at pr fs
+deliverable_from : (pr : Process) (fs : List Frame) (f : Frame) (active : Option Mode) → Some f ≡ stack.top_of fs → active ≡ active_mode fs → deliverable pr.enables f.mode active pr.asts ≡ deliverable_at pr fs
 deliverable_from pr [] f active top is = absurd (cc)
 deliverable_from pr (g ∷ fs) f active top is =
     let same : f ≡ g = cc in
-    ap (λ (h : Frame). deliverable pr.enables h.mode active pr.asts) same ∙ ap (λ (a : Option Mode). deliverable pr.enables g.mode a pr.asts) (is ∙ same_active (g ∷ fs))
+    ap (λ (h : Frame). deliverable pr.enables h.mode active pr.asts) same ∙ ap (λ (a : Option Mode). deliverable pr.enables g.mode a pr.asts) is
 
-pub deliverable_top : (pr : Process) (f : Frame) (active : Option Mode) → pr.suspended ≡ false → Some f ≡ stack.top_of pr.frames → active ≡ stack.active_mode pr.frames → deliverable pr.enables f.mode active pr.asts ≡ deliverable_of pr
+pub deliverable_top : (pr : Process) (f : Frame) (active : Option Mode) → pr.suspended ≡ false → Some f ≡ stack.top_of pr.frames → active ≡ active_mode pr.frames → deliverable pr.enables f.mode active pr.asts ≡ deliverable_of pr
 deliverable_top pr f active runs top is = rw runs (deliverable_from pr pr.frames f active top is)

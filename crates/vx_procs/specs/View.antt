@@ -1,8 +1,8 @@
 -- What the processes of the code stand for.
 use Rattle.std.specs.Prelude.{ℕ, ◌+◌, ◌-◌, ◌<◌, ◌≤◌, List, [], None, length, map, replicate, slice_index_or}
+use Rattle.vx_image.specs.Units.{first_unit}
 use Rattle.vx_base.specs.declared.number.Pid.{Pid}
 use Rattle.vx_record.specs.State.{Process, State, process_at}
-use Rattle.vx_record.specs.Runs.{first_unit}
 use Rattle.vx_procs.specs.declared.procs.Core.{Core}
 use Rattle.vx_procs.specs.declared.process.Proc.{Proc}
 

@@ -12,12 +12,13 @@ use Rattle.vx_base.specs.declared.frame.FrameKind.TheVariants as kind
 use Rattle.vx_base.specs.declared.mode.Mode.{Mode}
 use Rattle.vx_base.specs.declared.number.Pid.{Pid}
 use Rattle.vx_base.specs.declared.routine.Entry.{Entry}
+use Rattle.vx_base.specs.Modes.{is_kernel}
 use Rattle.vx_record.specs.State.{Process, State, IsProcess, process_at, change, current, next_id, past_id, nobody}
 use Rattle.vx_record.specs.Parts.{Outcome, each}
 use Rattle.vx_record.specs.Charges.{exceeds, ast_need}
 use Rattle.vx_record.specs.Control.{exists_for_control, may_control, named_process, process_test, at_process, changed_process, with_wake, with_suspension, hiber, wake, suspnd, resume, exit_ast, forced, forcex, born, created, creprc}
 use Rattle.vx_record.specs.Timers.{new_wake, scheduled, schdwk, is_wake_for, unscheduled, canwak}
-use Rattle.vx_record.specs.Rundown.{without_frames, leave_kind, leave_frame, leave_all, exited, exit, is_handler_of, is_handler_with, new_handler, is_kernel, dclexh, drop_handler, drop_handlers, any_handler, cancel_found, cancel_handlers, canexh, named_for_deletion, deleted_by, delprc}
+use Rattle.vx_record.specs.Rundown.{without_frames, leave_kind, leave_frame, leave_all, exited, exit, is_handler_of, is_handler_with, new_handler, dclexh, drop_handler, drop_handlers, any_handler, cancel_found, cancel_handlers, canexh, named_for_deletion, deleted_by, delprc}
 use Rattle.vx_record.specs.Sound.{ground, IsRoutineOf, ProcessStands, ChannelStands, IsSound}
 use Rattle.vx_record.specs.declared.served.Served.{Served}
 use Rattle.vx_record.proofs.Lists.{either, either_by, all_append, all_weaker, not_fails}

@@ -25,6 +25,7 @@ use Rattle.vx_image.specs.declared.stop.Stop.TheVariants as stop
 use Rattle.vx_image.specs.declared.decl.ProcDecl.{ProcDecl}
 use Rattle.vx_image.specs.declared.image.Image.{Image}
 use Rattle.vx_image.specs.declared.system.System.{System}
+use Rattle.vx_image.specs.Units.{first_unit}
 use Rattle.vx_record.specs.State.{Process, State, IsProcess, HasFrame, process_at, change, image_of, decl_of, pid, with_top, nobody, no_image}
 use Rattle.vx_record.specs.Parts.{Outcome}
 use Rattle.vx_record.specs.Asts.{deliverable_at, deliverable_ast, new_frame}
@@ -32,7 +33,7 @@ use Rattle.vx_record.specs.Flags.{satisfied}
 use Rattle.vx_record.specs.Rundown.{without_ast}
 use Rattle.vx_record.specs.Services.{service}
 use Rattle.vx_record.specs.Events.{can_run, can_run_down, run_events, ast_or_run, process_events, processes_from, beg_event, don_or_beg, unit_events, units_from, tick_events, enabled, or_normal, resumed_with, moved_to, served_call, below_top, put_back, r0_of, returned_from, returned, moved_behind, run_on, run_advanced, reader, run_frame, run, started, delivered, beg, don, step}
-use Rattle.vx_record.specs.Runs.{born_of, born_from, first_unit, first, AreSteps, IsRun, after_from, after}
+use Rattle.vx_record.specs.Runs.{born_of, born_from, first, AreSteps, IsRun, after_from, after}
 use Rattle.vx_record.specs.Sound.{ground, RequestStands, ProcessStands, IsSound, FitsImage, image_for}
 use Rattle.vx_record.specs.declared.served.Served.{Served}
 use Rattle.vx_record.specs.declared.served.Served.TheVariants.{Answered, Waits}

@@ -17,6 +17,7 @@ use Rattle.vx_base.specs.declared.number.Id.{Id}
 use Rattle.vx_base.specs.declared.number.Pid.{Pid}
 use Rattle.vx_base.specs.declared.routine.Entry.{Entry}
 use Rattle.vx_base.specs.declared.routine.Entry.TheVariants as entry
+use Rattle.vx_base.specs.Frames.{is_ast, active_mode}
 use Rattle.vx_image.specs.Local.{place_of}
 use Rattle.vx_record.specs.State.{Process, State, process_at, change, image_of, current, next_id, past_id}
 use Rattle.vx_record.specs.Parts.{Part, Outcome, nothing, tells, and_then, answered, refused}
@@ -41,15 +42,6 @@ abbrev pub charged_ast : Id → Mode → Entry → Queued
 charged_ast id mode tag = record { id = id; mode = mode; tag = tag; charged = true }
 
 -- Which AST may start.
-
-abbrev pub is_ast : FrameKind → Bool
-is_ast (kind.Ast id) = true
-is_ast _ = false
-
--- the innermost mode with an active AST: frames never go outward, so the first from the top
-abbrev pub active_mode : List Frame → Option Mode
-active_mode [] = None
-active_mode (f ∷ fs) = if is_ast f.kind then Some f.mode else active_mode fs
 
 abbrev pub deliverable_at : Process → List Frame → Option Queued
 deliverable_at pr [] = None

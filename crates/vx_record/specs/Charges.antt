@@ -8,8 +8,9 @@ use Rattle.vx_base.specs.declared.request.Device.{Device}
 use Rattle.vx_base.specs.declared.request.Device.TheVariants as device
 use Rattle.vx_base.specs.declared.request.Func.{Func}
 use Rattle.vx_base.specs.declared.request.Func.TheVariants.{Eof, EofNow, ReadAttn, WrtAttn}
+use Rattle.vx_base.specs.Lists.{tally}
 use Rattle.vx_record.specs.State.{State, process_at, limits_of, unit_decl}
-use Rattle.vx_record.specs.Parts.{tally, total}
+use Rattle.vx_record.specs.Parts.{total}
 
 abbrev pub is_same : Pid → Pid → Bool
 is_same p q = p.0 == q.0

@@ -61,11 +61,6 @@ part_of o = record { effects = o.effects; after = o.after }
 abbrev pub commonly : State → Change → Part
 commonly s c = record { effects = c.effects; after = record s { common = c.after } }
 
--- how many of a list pass
-abbrev pub tally : {A : Type 0} → (A → Bool) → List A → ℕ
-tally p [] = 0
-tally p (x ∷ xs) = one (p x) + tally p xs
-
 -- what a list comes to, each item counted as f says
 abbrev pub total : {A : Type 0} → (A → ℕ) → List A → ℕ
 total f [] = 0

@@ -4,7 +4,7 @@ use Rattle.std.specs.List.{find, filter, list_any}
 use Rattle.vx_base.specs.Channels.{channels_of}
 use Rattle.vx_base.specs.Clusters.{dissociated}
 use Rattle.vx_base.specs.Lists.{less}
-use Rattle.vx_base.specs.Modes.{rank, reaches}
+use Rattle.vx_base.specs.Modes.{rank, reaches, is_kernel}
 use Rattle.vx_base.specs.Pieces.{Handler, Queued, Request, Timer, Alarm, OfTimer, OfWake}
 use Rattle.vx_base.specs.declared.cond.Cond.{Cond}
 use Rattle.vx_base.specs.declared.cond.Cond.TheVariants.{Normal, IvSsRq, NoHandler}
@@ -23,6 +23,7 @@ use Rattle.vx_base.specs.declared.record.Answer.{Answer}
 use Rattle.vx_base.specs.declared.record.Answer.TheVariants as answer
 use Rattle.vx_base.specs.declared.routine.Entry.{Entry}
 use Rattle.vx_base.specs.declared.routine.Entry.TheVariants as entry
+use Rattle.vx_base.specs.Entries.{is_same_entry}
 use Rattle.vx_record.specs.State.{Process, State, process_at, change, current, next_id, past_id, top_mode}
 use Rattle.vx_record.specs.Parts.{Part, Outcome, nothing, tells, and_then, each, answered, refused, followed_by, commonly}
 use Rattle.vx_record.specs.Charges.{is_same}
@@ -68,12 +69,6 @@ this_handler id h = h.id.0 == id.0
 abbrev pub is_handler_of : Mode → Handler → Bool
 is_handler_of m h = rank h.mode == rank m
 
-abbrev pub is_same_entry : Entry → Entry → Bool
-is_same_entry (entry.Label a b) (entry.Label c d) = (a == c) && (b == d)
-is_same_entry (entry.Exit a) (entry.Exit c) = a == c
-is_same_entry (entry.Host a) (entry.Host c) = a == c
-is_same_entry _ _ = false
-
 abbrev pub is_handler_with : Mode → Entry → Handler → Bool
 is_handler_with m tag h = is_handler_of m h && is_same_entry h.tag tag
 
@@ -82,9 +77,6 @@ with_handler h pr = record pr { handlers = h ∷ pr.handlers }
 
 abbrev pub without_handler : Id → Process → Process
 without_handler id pr = record pr { handlers = less (this_handler id) pr.handlers }
-
-abbrev pub is_kernel : Mode → Bool
-is_kernel m = rank m == 0
 
 abbrev pub new_handler : State → Pid → Entry → Handler
 new_handler s p tag = record { id = next_id s; mode = current s p; tag = tag }

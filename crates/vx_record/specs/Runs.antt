@@ -9,6 +9,7 @@ use Rattle.vx_base.specs.declared.record.Rec.{Rec}
 use Rattle.vx_image.specs.declared.decl.ProcDecl.{ProcDecl}
 use Rattle.vx_image.specs.declared.system.System.{System}
 use Rattle.vx_image.specs.declared.unit.UnitDecl.{UnitDecl}
+use Rattle.vx_image.specs.Units.{first_unit}
 use Rattle.vx_record.specs.State.{Process, State}
 use Rattle.vx_record.specs.Control.{born, is_deleted}
 use Rattle.vx_record.specs.Events.{enabled, step}
@@ -22,12 +23,6 @@ born_of place d = born place d.group d.member d.privs d.mode
 abbrev pub born_from : ℕ → List ProcDecl → List Process
 born_from place [] = []
 born_from place (d ∷ ds) = if d.start then born_of place d ∷ born_from (place + 1) ds else born_from (place + 1) ds
-
-abbrev pub first_contents : UnitDecl → Contents
-first_contents u = if u.blocks == 0 then Lines u.inputs [] else Blocks (replicate (u.blocks * 512) 0)
-
-abbrev pub first_unit : UnitDecl → DeviceUnit
-first_unit u = record { contents = first_contents u; faults = u.faults; services = 0 }
 
 abbrev pub first : System → State
 first system = record {

@@ -38,13 +38,6 @@ done_by (Some unit) s = record s { unit = unit; pending = None }
 abbrev pub done : Serving → Serving
 done s = done_by s.pending s
 
--- what a unit holds first: a line unit the lines of its declaration, a block unit zeros
-abbrev pub first_contents : UnitDecl → Contents
-first_contents u = if u.blocks == 0 then Lines u.inputs [] else Blocks (replicate (u.blocks * 512) 0)
-
-abbrev pub first_unit : UnitDecl → DeviceUnit
-first_unit u = record { contents = first_contents u; faults = u.faults; services = 0 }
-
 -- the lines that a line unit was given
 abbrev pub outputs_of : Contents → List (List ℕ)
 outputs_of (Lines inputs outputs) = outputs

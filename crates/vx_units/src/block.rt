@@ -2,8 +2,9 @@
 
 ghost use Rattle.std.specs.Prelude.{◌≡◌, ◌≢◌, ◌<◌, ◌≤◌, ◌+◌, ◌*◌, ◌==◌, IfOk, IsTrue, length, take, drop, ◌++◌, option_map};
 ghost use Rattle.std.specs.List.{list_any};
+ghost use Rattle.vx_image.specs.Units.{first_unit};
 ghost use Rattle.vx_base.specs.Serving.{fails, is_past_end};
-ghost use Rattle.vx_units.specs.Units.{Serving, first_unit, idle, bytes_of, block_at};
+ghost use Rattle.vx_units.specs.Units.{Serving, idle, bytes_of, block_at};
 
 use crate::line::is_in;
 use crate::unit::DeviceUnit;

@@ -2,8 +2,9 @@
 
 ghost use Rattle.std.specs.Prelude.{◌≡◌, ◌<◌, ◌≤◌, [], ◌+◌, ◌==◌, IfOk, IsTrue, length, take, drop};
 ghost use Rattle.std.specs.List.{list_any};
+ghost use Rattle.vx_image.specs.Units.{first_unit};
 ghost use Rattle.vx_base.specs.Serving.{fails, serve, read_line};
-ghost use Rattle.vx_units.specs.Units.{Serving, is_for_unit, first_unit, idle, outputs_of};
+ghost use Rattle.vx_units.specs.Units.{Serving, is_for_unit, idle, outputs_of};
 
 use crate::store::Store;
 use crate::unit::DeviceUnit;

@@ -1,5 +1,6 @@
 ghost use Rattle.std.specs.Prelude.{◌≡◌, ◌≢◌, ◌+◌, ◌<◌, ◌≤◌, IsTrue, IfOk, None, length};
-ghost use Rattle.vx_units.specs.Units.{is_for_unit, idle, first_unit};
+ghost use Rattle.vx_image.specs.Units.{first_unit};
+ghost use Rattle.vx_units.specs.Units.{is_for_unit, idle};
 
 use super::*;
 use std::test::*;
