@@ -1,31 +1,8 @@
--- The first item that passes a test: found, taken out, and seen as something else.
-use Rattle.std.proofs.Common.{◌≡◌, ℕ, ◌+◌, ◌<◌, ◌≤◌, List, [], ◌∷◌, ◌++◌, Bool, true, false, cond, not, ◌||◌, Option, Some, None, map, option_map, length, remove, position, slice_index_or, slice_set, refl, ap, sym, ◌∙◌, arith, suc, nat_lt}
-use Rattle.std.specs.List.{find, position_or_len, list_any, insert}
-use Rattle.std.proofs.lemmas.List.{map-append}
+-- The first item that passes a test: found, taken out, changed, and another put before it.
+use Rattle.std.proofs.Common.{◌≡◌, ℕ, ◌+◌, ◌<◌, ◌≤◌, List, [], ◌∷◌, ◌++◌, Bool, true, false, cond, not, Option, Some, None, length, remove, position, slice_index_or, slice_set, refl, ap, sym, ◌∙◌, arith, suc, nat_lt}
+use Rattle.std.specs.List.{find, position_or_len, insert}
 use Rattle.std.proofs.lemmas.Bool.{ltb-true, ltb-false}
 use Rattle.vx_base.specs.Lists.{less, amend, put_before}
-
-pub find-map : {X Y : Type 0} (f : X → Y) (p : Y → Bool) (xs : List X) → find p (map f xs) ≡ option_map f (find (λ x. p (f x)) xs)
-find-map f p [] = refl
-find-map f p (x ∷ xs) = elim (p (f x)) as (λ b. cond b (Some (f x)) (find p (map f xs)) ≡ option_map f (cond b (Some x) (find (λ y. p (f y)) xs))) [ true ↦ refl | false ↦ find-map f p xs ]
-
-pub less-map : {X Y : Type 0} (f : X → Y) (p : Y → Bool) (xs : List X) → less p (map f xs) ≡ map f (less (λ x. p (f x)) xs)
-less-map f p [] = refl
-less-map f p (x ∷ xs) = elim (p (f x)) as (λ b. cond b (map f xs) (f x ∷ less p (map f xs)) ≡ map f (cond b xs (x ∷ less (λ y. p (f y)) xs))) [ true ↦ refl | false ↦ ap (λ ys. f x ∷ ys) (less-map f p xs) ]
-
-option_map-map : {X Y Z : Type 0} (f : Y → Z) (g : X → Y) (r : Option X) → option_map (λ x. f (g x)) r ≡ option_map f (option_map g r)
-option_map-map f g None = refl
-option_map-map f g (Some x) = refl
-
--- what was found, seen as something else
-pub found_as : {X Y : Type 0} (f : X → Y) (p : Y → Bool) (xs : List X) (r : Option X) → r ≡ find (λ x. p (f x)) xs → option_map f r ≡ find p (map f xs)
-found_as f p xs r e = ap (option_map f) e ∙ sym (find-map f p xs)
-
-pub seen_as : {B X Y : Type 0} (f : X → Y) (now : B → X) (p : Y → Bool) (xs : List X) (r : Option B) → option_map now r ≡ find (λ x. p (f x)) xs → option_map (λ b. f (now b)) r ≡ find p (map f xs)
-seen_as f now p xs r e = option_map-map f now r ∙ found_as f p xs _ e
-
-pub less_as : {X Y : Type 0} (f : X → Y) (p : Y → Bool) (xs ys : List X) → ys ≡ less (λ x. p (f x)) xs → map f ys ≡ less p (map f xs)
-less_as f p xs ys e = ap (map f) e ∙ sym (less-map f p xs)
 
 -- a step past an item that does not pass
 remove_past : {X : Type 0} (x : X) (xs : List X) (n : ℕ) → remove (x ∷ xs) (1 + n) ≡ x ∷ remove xs n
@@ -86,10 +63,6 @@ less_at p xs i place =
 pub none_at : {X : Type 0} (p : X → Bool) (xs : List X) → None ≡ position p xs → (None ≡ find p xs) × (xs ≡ less p xs)
 none_at p xs place = none_first p xs (ltb-false _ _ (none_place (nat_lt (position_or_len p xs) (length xs)) (position_or_len p xs) place))
 
--- the place in a list that is another by name
-pub same_place : {X : Type 0} (p : X → Bool) (xs ys : List X) (place : Option ℕ) → place ≡ position p ys → ys ≡ xs → place ≡ position p xs
-same_place p xs ys place is same = is ∙ ap (position p) same
-
 -- what is found passes
 pub found_passes : {X : Type 0} (p : X → Bool) (xs : List X) (x : X) → find p xs ≡ Some x → p x ≡ true
 found_passes p [] x e = absurd (cc)
@@ -108,29 +81,24 @@ less_none p (y ∷ ys) e =
       | false ↦ λ found. ap (λ zs. y ∷ zs) (less_none p ys found)
     ] e
 
--- whether one passes, before or after each is seen as f of it
-pub list_any_map : {X Y : Type 0} (f : X → Y) (p : Y → Bool) (xs : List X) → list_any p (map f xs) ≡ list_any (λ x. p (f x)) xs
-list_any_map f p [] = refl
-list_any_map f p (x ∷ xs) = ap (λ b. p (f x) || b) (list_any_map f p xs)
-
 set_past : {X : Type 0} (x : X) (xs : List X) (n : ℕ) (y : X) → slice_set (x ∷ xs) (1 + n) y ≡ x ∷ slice_set xs n y
 set_past x xs n y = let e : 1 + n ≡ suc n = omega arith in rw e refl
 
-amend_first : {X Y : Type 0} (f : X → Y) (p : Y → Bool) (g : Y → Y) (xs : List X) (d y : X) → position_or_len (λ x. p (f x)) xs < length xs → f y ≡ g (f (slice_index_or xs (position_or_len (λ x. p (f x)) xs) d)) → map f (slice_set xs (position_or_len (λ x. p (f x)) xs) y) ≡ amend p g (map f xs)
-amend_first f p g [] d y h e = absurd (omega arith)
-amend_first f p g (x ∷ xs) d y h e =
-    let n = position_or_len (λ z. p (f z)) xs in
-    let P : Bool → Type 0 = λ b. cond (not b) (1 + n) 0 < length (x ∷ xs) → f y ≡ g (f (slice_index_or (x ∷ xs) (cond (not b) (1 + n) 0) d)) → map f (slice_set (x ∷ xs) (cond (not b) (1 + n) 0) y) ≡ cond b (g (f x) ∷ map f xs) (f x ∷ amend p g (map f xs)) in
-    elim (p (f x)) as P [
-      | true ↦ λ _ is. ap (λ z. z ∷ map f xs) is
-      | false ↦ λ within is. ap (map f) (set_past x xs n y) ∙ ap (λ zs. f x ∷ zs) (amend_first f p g xs d y (omega arith) (is ∙ ap (λ z. g (f z)) (get_past x xs n d)))
-    ] h e
+amend_first : {X : Type 0} (p : X → Bool) (g : X → X) (xs : List X) (d : X) → position_or_len p xs < length xs → slice_set xs (position_or_len p xs) (g (slice_index_or xs (position_or_len p xs) d)) ≡ amend p g xs
+amend_first p g [] d h = absurd (omega arith)
+amend_first p g (x ∷ xs) d h =
+    let n = position_or_len p xs in
+    let P : Bool → Type 0 = λ b. let at : ℕ = cond (not b) (1 + n) 0 in at < length (x ∷ xs) → slice_set (x ∷ xs) at (g (slice_index_or (x ∷ xs) at d)) ≡ cond b (g x ∷ xs) (x ∷ amend p g xs) in
+    elim (p x) as P [
+      | true ↦ λ _. refl
+      | false ↦ λ within. ap (λ y. slice_set (x ∷ xs) (1 + n) (g y)) (get_past x xs n d) ∙ set_past x xs n (g (slice_index_or xs n d)) ∙ ap (λ zs. x ∷ zs) (amend_first p g xs d (omega arith))
+    ] h
 
 -- the first that passes changed at its place
-pub amend_at : {X Y : Type 0} (f : X → Y) (p : Y → Bool) (g : Y → Y) (xs : List X) (i : ℕ) (d y : X) → Some i ≡ position (λ x. p (f x)) xs → f y ≡ g (f (slice_index_or xs i d)) → map f (slice_set xs i y) ≡ amend p g (map f xs)
-amend_at f p g xs i d y place is =
-    let there = some_place (nat_lt (position_or_len (λ x. p (f x)) xs) (length xs)) (position_or_len (λ x. p (f x)) xs) i place in
-    ap (λ n. map f (slice_set xs n y)) there.1 ∙ amend_first f p g xs d y (ltb-true _ _ there.0) (is ∙ ap (λ n. g (f (slice_index_or xs n d))) there.1)
+pub amend_at : {X : Type 0} (p : X → Bool) (g : X → X) (xs : List X) (i : ℕ) (d : X) → Some i ≡ position p xs → slice_set xs i (g (slice_index_or xs i d)) ≡ amend p g xs
+amend_at p g xs i d place =
+    let there = some_place (nat_lt (position_or_len p xs) (length xs)) (position_or_len p xs) i place in
+    ap (λ n. slice_set xs n (g (slice_index_or xs n d))) there.1 ∙ amend_first p g xs d (ltb-true _ _ there.0)
 
 amend_nowhere : {X : Type 0} (p : X → Bool) (g : X → X) (xs : List X) → None ≡ find p xs → xs ≡ amend p g xs
 amend_nowhere p g [] e = refl
@@ -141,8 +109,8 @@ amend_nowhere p g (x ∷ xs) e =
     ] e
 
 -- where none passes, none is changed
-pub amend_none : {X Y : Type 0} (f : X → Y) (p : Y → Bool) (g : Y → Y) (xs : List X) → None ≡ position (λ x. p (f x)) xs → map f xs ≡ amend p g (map f xs)
-amend_none f p g xs place = amend_nowhere p g (map f xs) (found_as f p xs None (none_at (λ x. p (f x)) xs place).0)
+pub amend_none : {X : Type 0} (p : X → Bool) (g : X → X) (xs : List X) → None ≡ position p xs → xs ≡ amend p g xs
+amend_none p g xs place = amend_nowhere p g xs (none_at p xs place).0
 
 -- where the change leaves the one that is found as it was, it changes nothing
 pub amend_same : {X : Type 0} (p : X → Bool) (g : X → X) (xs : List X) (x : X) → find p xs ≡ Some x → g x ≡ x → xs ≡ amend p g xs
@@ -156,30 +124,30 @@ amend_same p g (y ∷ ys) x e same =
 insert_past : {X : Type 0} (x : X) (xs : List X) (n : ℕ) (y : X) → insert (x ∷ xs) (1 + n) y ≡ x ∷ insert xs n y
 insert_past x xs n y = let e : 1 + n ≡ suc n = omega arith in rw e refl
 
-insert_first : {X Y : Type 0} (f : X → Y) (p : Y → Bool) (xs : List X) (y : X) → position_or_len (λ x. p (f x)) xs < length xs → map f (insert xs (position_or_len (λ x. p (f x)) xs) y) ≡ put_before p (f y) (map f xs)
-insert_first f p [] y h = absurd (omega arith)
-insert_first f p (x ∷ xs) y h =
-    let n = position_or_len (λ z. p (f z)) xs in
-    let P : Bool → Type 0 = λ b. cond (not b) (1 + n) 0 < length (x ∷ xs) → map f (insert (x ∷ xs) (cond (not b) (1 + n) 0) y) ≡ cond b (f y ∷ f x ∷ map f xs) (f x ∷ put_before p (f y) (map f xs)) in
-    elim (p (f x)) as P [
+insert_first : {X : Type 0} (p : X → Bool) (xs : List X) (y : X) → position_or_len p xs < length xs → insert xs (position_or_len p xs) y ≡ put_before p y xs
+insert_first p [] y h = absurd (omega arith)
+insert_first p (x ∷ xs) y h =
+    let n = position_or_len p xs in
+    let P : Bool → Type 0 = λ b. cond (not b) (1 + n) 0 < length (x ∷ xs) → insert (x ∷ xs) (cond (not b) (1 + n) 0) y ≡ cond b (y ∷ x ∷ xs) (x ∷ put_before p y xs) in
+    elim (p x) as P [
       | true ↦ λ _. refl
-      | false ↦ λ within. ap (map f) (insert_past x xs n y) ∙ ap (λ zs. f x ∷ zs) (insert_first f p xs y (omega arith))
+      | false ↦ λ within. insert_past x xs n y ∙ ap (λ zs. x ∷ zs) (insert_first p xs y (omega arith))
     ] h
 
 -- put before the first that passes, at its place
-pub insert_at : {X Y : Type 0} (f : X → Y) (p : Y → Bool) (xs : List X) (i : ℕ) (y : X) → Some i ≡ position (λ x. p (f x)) xs → map f (insert xs i y) ≡ put_before p (f y) (map f xs)
-insert_at f p xs i y place =
-    let there = some_place (nat_lt (position_or_len (λ x. p (f x)) xs) (length xs)) (position_or_len (λ x. p (f x)) xs) i place in
-    ap (λ n. map f (insert xs n y)) there.1 ∙ insert_first f p xs y (ltb-true _ _ there.0)
+pub insert_at : {X : Type 0} (p : X → Bool) (xs : List X) (i : ℕ) (y : X) → Some i ≡ position p xs → insert xs i y ≡ put_before p y xs
+insert_at p xs i y place =
+    let there = some_place (nat_lt (position_or_len p xs) (length xs)) (position_or_len p xs) i place in
+    ap (λ n. insert xs n y) there.1 ∙ insert_first p xs y (ltb-true _ _ there.0)
 
-put_last : {Y : Type 0} (p : Y → Bool) (y : Y) (ys : List Y) → None ≡ find p ys → ys ++ y ∷ [] ≡ put_before p y ys
+put_last : {X : Type 0} (p : X → Bool) (y : X) (xs : List X) → None ≡ find p xs → xs ++ y ∷ [] ≡ put_before p y xs
 put_last p y [] e = refl
-put_last p y (z ∷ zs) e =
-    elim (p z) as (λ b. None ≡ cond b (Some z) (find p zs) → z ∷ zs ++ y ∷ [] ≡ cond b (y ∷ z ∷ zs) (z ∷ put_before p y zs)) [
+put_last p y (x ∷ xs) e =
+    elim (p x) as (λ b. None ≡ cond b (Some x) (find p xs) → x ∷ xs ++ y ∷ [] ≡ cond b (y ∷ x ∷ xs) (x ∷ put_before p y xs)) [
       | true ↦ λ found. absurd (cc)
-      | false ↦ λ found. ap (λ ws. z ∷ ws) (put_last p y zs found)
+      | false ↦ λ found. ap (λ zs. x ∷ zs) (put_last p y xs found)
     ] e
 
 -- put at the end, where none passes
-pub insert_end : {X Y : Type 0} (f : X → Y) (p : Y → Bool) (xs : List X) (y : X) → None ≡ position (λ x. p (f x)) xs → map f (xs ++ y ∷ []) ≡ put_before p (f y) (map f xs)
-insert_end f p xs y place = map-append f xs (y ∷ []) ∙ put_last p (f y) (map f xs) (found_as f p xs None (none_at (λ x. p (f x)) xs place).0)
+pub insert_end : {X : Type 0} (p : X → Bool) (xs : List X) (y : X) → None ≡ position p xs → xs ++ y ∷ [] ≡ put_before p y xs
+insert_end p xs y place = put_last p y xs (none_at p xs place).0

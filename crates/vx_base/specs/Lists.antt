@@ -1,6 +1,16 @@
 -- Words on lists that the structures and the machine share.
-use Rattle.std.specs.Prelude.{ℕ, List, [], ◌∷◌, ◌++◌, Bool, if◌then◌else◌, drop, length, ◌+◌}
+use Rattle.std.specs.Prelude.{ℕ, List, [], ◌∷◌, ◌++◌, Bool, if◌then◌else◌, drop, length, ◌+◌, Option, Some, None}
 use Rattle.vx_base.specs.Flags.{one}
+
+-- the first item, if there is one
+abbrev pub first : {A : Type 0} → List A → Option A
+first [] = None
+first (x ∷ xs) = Some x
+
+-- the items behind the first
+abbrev pub rest : {A : Type 0} → List A → List A
+rest [] = []
+rest (x ∷ xs) = xs
 
 -- the list without the first that passes
 abbrev pub less : {A : Type 0} → (A → Bool) → List A → List A

@@ -1,8 +1,9 @@
 //! A list with room that was made before.
 
-ghost use Rattle.std.specs.Prelude.{◌≡◌, ◌<◌, ◌≤◌, ◌+◌, ◌++◌, ◌∷◌, [], Bool, IfSome, OnOk, OnErr, length, insert, position};
+ghost use Rattle.std.specs.Prelude.{◌≡◌, ◌↔◌, ◌<◌, ◌≤◌, ◌+◌, ◌++◌, ◌∷◌, [], Bool, IfSome, IsSome, OnOk, OnErr, length, insert, position, option_to_list, slice_set, slice_index_or};
+ghost use Rattle.std.specs.Borrow.{sem, Lends};
 ghost use Rattle.std.specs.List.{find};
-ghost use Rattle.vx_base.specs.Lists.{less};
+ghost use Rattle.vx_base.specs.Lists.{first, less, put_before, rest};
 ghost use Rattle.vx_base.specs.Roomy.{HasSpace, with_items};
 
 use crate::bytes::NoMemory;
@@ -64,6 +65,8 @@ impl<T> Reserved<T> {
 }
 
 impl<T: Drop> Reserved<T> {
+    ghost use Rattle.vx_base.specs.contracts.reserved.Reserved.{the_row};
+
     /// Makes room for n items more, or changes nothing.
     pub fn reserve(&mut self, n: u32) -> Result<(), NoMemory>
         ensures items { self.new.items ≡ self.old.items }
@@ -99,6 +102,18 @@ impl<T: Drop> Reserved<T> {
         }
     }
 
+    /// Puts an item before the one at a place, at the end if there is none. Takes no memory.
+    pub fn put_before(&mut self, place: Option<usize>, item: T)
+        requires room { HasSpace self.old 1 }
+        requires within { IfSome place (λ i. i < length self.old.items) }
+        ensures { (p : T → Bool) → place ≡ position p self.old.items → self.new ≡ with_items self.old (put_before p item self.old.items) }
+    {
+        match place {
+            Some(place) => self.put_at(place, item),
+            None => self.put(item),
+        }
+    }
+
     /// Takes out the item at a place, if there is one.
     pub fn take(&mut self, place: Option<usize>) -> Option<T>
         requires { IfSome place (λ i. i < length self.old.items) }
@@ -106,5 +121,35 @@ impl<T: Drop> Reserved<T> {
         ensures after { (p : T → Bool) → place ≡ position p self.old.items → self.new ≡ with_items self.old (less p self.old.items) }
     {
         taken(&mut self.items, place)
+    }
+
+    /// Takes out the first item, if there is one.
+    pub fn take_first(&mut self) -> Option<T>
+        ensures found { result ≡ first self.old.items }
+        ensures after { self.new ≡ with_items self.old (rest self.old.items) }
+    {
+        if self.items.is_empty() {
+            None
+        } else {
+            Some(self.items.remove(0))
+        }
+    }
+
+    /// Takes out the last item, if there is one.
+    pub fn pop(&mut self) -> Option<T>
+        ensures last { self.old.items ≡ self.new.items ++ option_to_list result }
+        ensures found { IsSome result ↔ (0 < length self.old.items) }
+        ensures room { self.new.capacity ≡ self.old.capacity }
+    {
+        self.items.pop()
+    }
+
+    /// The item at a place, to be changed where it stands.
+    pub fn at_mut(&mut self, place: usize) -> &mut T
+        requires { place < length self.old.items }
+        ensures* writes_back { sem 𝓛 (Lends (the_row T.row) T.row self.entry result (λ item. with_items self.old (slice_set self.old.items place item))) }
+        ensures value { result.now ≡ slice_index_or self.old.items place result.now }
+    {
+        &mut self.items[place]
     }
 }

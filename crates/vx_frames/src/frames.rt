@@ -8,24 +8,23 @@ ghost use Rattle.vx_frames.specs.Frames.{is_inmost};
 
 use std::alloc::Global;
 use std::marker::Model;
-use vx_base::{Frame, FrameKind, Mode, NoMemory, Wait};
+use vx_base::{Frame, FrameKind, Mode, NoMemory, Reserved, Wait};
 
 /// The frames of a process. Contracts see them with the top first, and how many there is room for in all.
 #[derive(Debug, Drop)]
 pub struct Frames {
-    items: Vec<Frame>,
-    room: usize,
+    items: Reserved<Frame>,
 }
 
 impl Model for Frames {
-    ghost use Rattle.std.specs.Prelude.{◌≤◌, vec_len, vec_capacity, reverse, IsTrue};
+    ghost use Rattle.std.specs.Prelude.{reverse, IsTrue};
     ghost use Rattle.vx_frames.specs.Frames.{Stack, goes_inward};
 
     ghost Value = { Stack };
 
-    ghost view = { λ a. record { items = reverse a.items.items; capacity = a.room } };
+    ghost view = { λ a. record { items = reverse a.items.items; capacity = a.items.capacity } };
 
-    ghost invariant = { λ a. (vec_len a.items ≤ a.room) × (a.room ≤ vec_capacity a.items) × IsTrue (goes_inward (reverse a.items.items)) };
+    ghost invariant = { λ a. IsTrue (goes_inward (reverse a.items.items)) };
 }
 
 impl Frames {
@@ -34,8 +33,7 @@ impl Frames {
         ensures { result ≡ record { items = []; capacity = 0 } }
     {
         Frames {
-            items: Vec::new(alloc),
-            room: 0,
+            items: Reserved::new(alloc),
         }
     }
 
@@ -46,9 +44,7 @@ impl Frames {
         ensures ok { OnOk result (length self.new.items < self.new.capacity) }
         ensures err { OnErr result (self.new ≡ self.old) }
     {
-        self.items.reserve(1)?;
-        self.room = self.items.capacity();
-        Ok(())
+        self.items.reserve(1)
     }
 
     /// Puts a frame on the top; it is not further out than the frame there. Takes no memory.
@@ -57,17 +53,14 @@ impl Frames {
         requires inward { IsTrue (may_stand_on frame self.old.items) }
         ensures { self.new ≡ record self.old { items = frame ∷ self.old.items } }
     {
-        match self.items.push(frame) {
-            Ok(()) => (),
-            Err(_) => unreachable!(),
-        }
+        self.items.put(frame);
     }
 
     /// The top frame, if there is one.
     pub fn top(&self) -> Option<&Frame>
         ensures { option_map (λ frame. frame.now) result ≡ top_of self.now.items }
     {
-        self.items.last()
+        self.items.as_slice().last()
     }
 
     /// Puts into the top frame at which statement it goes on, and what it waits for; all else stays.
@@ -78,10 +71,7 @@ impl Frames {
         let Some(frame) = self.items.pop() else {
             unreachable!()
         };
-        match self.items.push(Frame { pc, wait, ..frame }) {
-            Ok(()) => (),
-            Err(_) => unreachable!(),
-        }
+        self.items.put(Frame { pc, wait, ..frame });
     }
 
     /// Takes the top frame off, if there is one.
@@ -98,7 +88,7 @@ impl Frames {
         ensures mode { result ≡ active_mode self.now.items }
         ensures inmost { IfSome result (λ mode. IsTrue (is_inmost mode self.now.items)) }
     {
-        let frame = active_frame(&self.items)?;
+        let frame = active_frame(self.items.as_slice())?;
         Some(frame.mode)
     }
 

@@ -7,6 +7,3 @@
 mod frames;
 
 pub use frames::Frames;
-
-#[cfg(test)]
-mod tests;
