@@ -1,6 +1,6 @@
 //! A list with room that was made before.
 
-ghost use Rattle.std.specs.Prelude.{◌≡◌, ◌↔◌, ◌<◌, ◌≤◌, ◌+◌, ◌++◌, ◌∷◌, [], Bool, IfSome, IsSome, OnOk, OnErr, length, insert, position, option_to_list, slice_set, slice_index_or};
+ghost use Rattle.std.specs.Prelude.{◌≡◌, ◌↔◌, ◌<◌, ◌≤◌, ◌+◌, ◌++◌, ◌∷◌, [], Bool, IfSome, IsSome, OnSome, OnOk, OnErr, length, insert, position, option_to_list, slice_set, slice_index_or};
 ghost use Rattle.std.specs.Borrow.{sem, Lends};
 ghost use Rattle.std.specs.List.{find};
 ghost use Rattle.vx_base.specs.Lists.{first, less, put_before, rest};
@@ -140,6 +140,7 @@ impl<T: Drop> Reserved<T> {
         ensures last { self.old.items ≡ self.new.items ++ option_to_list result }
         ensures found { IsSome result ↔ (0 < length self.old.items) }
         ensures room { self.new.capacity ≡ self.old.capacity }
+        ensures free { OnSome result (HasSpace self.new 1) }
     {
         self.items.pop()
     }
