@@ -2,6 +2,7 @@
 use Rattle.std.specs.Prelude.{ℕ, List, ◌∷◌, Bool, true, false, ◌&&◌, ◌==◌, if◌then◌else◌, Option, Some, None, Result, Ok, Err}
 use Rattle.vx_base.specs.Modes.{rank, is_kernel}
 use Rattle.vx_base.specs.Pieces.{Handler}
+use Rattle.vx_base.specs.Roomy.{Roomy, with_items}
 use Rattle.vx_base.specs.declared.mode.Mode.{Mode}
 use Rattle.vx_base.specs.declared.mode.Mode.TheVariants.{Kernel}
 use Rattle.vx_base.specs.declared.number.Id.{Id}
@@ -12,13 +13,12 @@ use Rattle.vx_exits.specs.declared.exits.ExitFail.{ExitFail}
 use Rattle.vx_exits.specs.declared.exits.ExitFail.TheVariants.{NoHandler}
 
 -- the handlers, and how many there is room for in all
-pub record Stack : Type 0 where
-  pub items : List Handler
-  pub capacity : ℕ
+abbrev pub Stack : Type 0
+Stack = Roomy Handler
 
 -- a handler declared: none in kernel mode
 abbrev pub declared : Stack → Handler → Stack
-declared s h = if is_kernel h.mode then s else record s { items = h ∷ s.items }
+declared s h = if is_kernel h.mode then s else with_items s (h ∷ s.items)
 
 abbrev pub is_of_mode : Mode → Handler → Bool
 is_of_mode mode h = rank h.mode == rank mode

@@ -11,7 +11,7 @@ ghost use Rattle.vx_exits.specs.Exits.{known, handed, handed_or, or_no_handler};
 use crate::declared::Declared;
 use std::alloc::Global;
 use std::marker::Model;
-use vx_base::{Entry, Id, Mode, NoMemory, Routine, taken};
+use vx_base::{Entry, Id, Mode, NoMemory, Reserved, Routine};
 
 /// Why a call on exit handlers is refused.
 #[derive(Clone, Copy, Debug, PartialEq, Eq)]
@@ -25,19 +25,15 @@ pub enum ExitFail {
 /// The exit handlers of a process. Contracts see them with the newest first, and how many there is room for in all.
 #[derive(Debug, Drop)]
 pub struct Exits<R: Routine> {
-    items: Vec<Declared<R>>,
-    room: usize,
+    items: Reserved<Declared<R>>,
 }
 
 impl<R: Routine> Model for Exits<R> {
-    ghost use Rattle.std.specs.Prelude.{◌≤◌, vec_len, vec_capacity};
     ghost use Rattle.vx_exits.specs.Exits.{Stack};
 
     ghost Value = { Stack };
 
-    ghost view = { λ a. record { items = a.items.items; capacity = a.room } };
-
-    ghost invariant = { λ a. (vec_len a.items ≤ a.room) × (a.room ≤ vec_capacity a.items) };
+    ghost view = { λ a. a.items };
 }
 
 impl<R: Routine> Exits<R> {
@@ -46,8 +42,7 @@ impl<R: Routine> Exits<R> {
         ensures { result ≡ record { items = []; capacity = 0 } }
     {
         Exits {
-            items: Vec::new(alloc),
-            room: 0,
+            items: Reserved::new(alloc),
         }
     }
 
@@ -58,9 +53,7 @@ impl<R: Routine> Exits<R> {
         ensures ok { OnOk result (length self.new.items < self.new.capacity) }
         ensures err { OnErr result (self.new ≡ self.old) }
     {
-        self.items.reserve(1)?;
-        self.room = self.items.capacity();
-        Ok(())
+        self.items.reserve(1)
     }
 
     /// Declares a handler, as the newest ($DCLEXH). IvSsRq in kernel mode: it hands the routine back, and changes
@@ -74,10 +67,8 @@ impl<R: Routine> Exits<R> {
         if mode == Mode::Kernel {
             return Err((ExitFail::IvSsRq, routine));
         }
-        match self.items.insert(0, Declared::new(id, mode, routine)) {
-            Ok(()) => Ok(()),
-            Err(_) => unreachable!(),
-        }
+        self.items.put_at(0, Declared::new(id, mode, routine));
+        Ok(())
     }
 
     /// Takes out the newest handler of a mode that has a tag ($CANEXH). NoHandler, and nothing changed, where there is
@@ -86,8 +77,8 @@ impl<R: Routine> Exits<R> {
         ensures answer { handed_or R.tagged result ≡ or_no_handler (option_map known (find (is_tagged mode tag) self.old.items)) }
         ensures after { self.new ≡ record self.old { items = less (is_tagged mode tag) self.old.items } }
     {
-        let place = place_of_tag(&self.items, mode, tag);
-        match taken(&mut self.items, place) {
+        let place = place_of_tag(self.items.as_slice(), mode, tag);
+        match self.items.take(place) {
             Some(handler) => Ok(handler.parts()),
             None => Err(ExitFail::NoHandler),
         }
@@ -98,8 +89,8 @@ impl<R: Routine> Exits<R> {
         ensures handler { option_map (handed R.tagged) result ≡ option_map known (find (is_of_mode mode) self.old.items) }
         ensures after { self.new ≡ record self.old { items = less (is_of_mode mode) self.old.items } }
     {
-        let place = place_of_mode(&self.items, mode);
-        let handler = taken(&mut self.items, place)?;
+        let place = place_of_mode(self.items.as_slice(), mode);
+        let handler = self.items.take(place)?;
         Some(handler.parts())
     }
 
@@ -108,10 +99,8 @@ impl<R: Routine> Exits<R> {
         ensures handler { option_map (handed R.tagged) result ≡ option_map known (find is_any self.old.items) }
         ensures after { self.new ≡ record self.old { items = less is_any self.old.items } }
     {
-        if self.items.is_empty() {
-            return None;
-        }
-        Some(self.items.remove(0).parts())
+        let handler = self.items.take_first()?;
+        Some(handler.parts())
     }
 
     /// How many handlers there are.

@@ -7,6 +7,3 @@ mod declared;
 mod exits;
 
 pub use exits::{ExitFail, Exits};
-
-#[cfg(test)]
-mod tests;
