@@ -84,21 +84,21 @@ less_none p (y ∷ ys) e =
 set_past : {X : Type 0} (x : X) (xs : List X) (n : ℕ) (y : X) → slice_set (x ∷ xs) (1 + n) y ≡ x ∷ slice_set xs n y
 set_past x xs n y = let e : 1 + n ≡ suc n = omega arith in rw e refl
 
-amend_first : {X : Type 0} (p : X → Bool) (g : X → X) (xs : List X) (d : X) → position_or_len p xs < length xs → slice_set xs (position_or_len p xs) (g (slice_index_or xs (position_or_len p xs) d)) ≡ amend p g xs
-amend_first p g [] d h = absurd (omega arith)
-amend_first p g (x ∷ xs) d h =
+amend_first : {X : Type 0} (p : X → Bool) (g : X → X) (xs : List X) (d y : X) → position_or_len p xs < length xs → y ≡ g (slice_index_or xs (position_or_len p xs) d) → slice_set xs (position_or_len p xs) y ≡ amend p g xs
+amend_first p g [] d y h e = absurd (omega arith)
+amend_first p g (x ∷ xs) d y h e =
     let n = position_or_len p xs in
-    let P : Bool → Type 0 = λ b. let at : ℕ = cond (not b) (1 + n) 0 in at < length (x ∷ xs) → slice_set (x ∷ xs) at (g (slice_index_or (x ∷ xs) at d)) ≡ cond b (g x ∷ xs) (x ∷ amend p g xs) in
+    let P : Bool → Type 0 = λ b. let at : ℕ = cond (not b) (1 + n) 0 in at < length (x ∷ xs) → y ≡ g (slice_index_or (x ∷ xs) at d) → slice_set (x ∷ xs) at y ≡ cond b (g x ∷ xs) (x ∷ amend p g xs) in
     elim (p x) as P [
-      | true ↦ λ _. refl
-      | false ↦ λ within. ap (λ y. slice_set (x ∷ xs) (1 + n) (g y)) (get_past x xs n d) ∙ set_past x xs n (g (slice_index_or xs n d)) ∙ ap (λ zs. x ∷ zs) (amend_first p g xs d (omega arith))
-    ] h
+      | true ↦ λ _ is. ap (λ z. z ∷ xs) is
+      | false ↦ λ within is. set_past x xs n y ∙ ap (λ zs. x ∷ zs) (amend_first p g xs d y (omega arith) (is ∙ ap g (get_past x xs n d)))
+    ] h e
 
 -- the first that passes changed at its place
-pub amend_at : {X : Type 0} (p : X → Bool) (g : X → X) (xs : List X) (i : ℕ) (d : X) → Some i ≡ position p xs → slice_set xs i (g (slice_index_or xs i d)) ≡ amend p g xs
-amend_at p g xs i d place =
+pub amend_at : {X : Type 0} (p : X → Bool) (g : X → X) (xs : List X) (i : ℕ) (d y : X) → Some i ≡ position p xs → y ≡ g (slice_index_or xs i d) → slice_set xs i y ≡ amend p g xs
+amend_at p g xs i d y place is =
     let there = some_place (nat_lt (position_or_len p xs) (length xs)) (position_or_len p xs) i place in
-    ap (λ n. slice_set xs n (g (slice_index_or xs n d))) there.1 ∙ amend_first p g xs d (ltb-true _ _ there.0)
+    ap (λ n. slice_set xs n y) there.1 ∙ amend_first p g xs d y (ltb-true _ _ there.0) (is ∙ ap (λ n. g (slice_index_or xs n d)) there.1)
 
 amend_nowhere : {X : Type 0} (p : X → Bool) (g : X → X) (xs : List X) → None ≡ find p xs → xs ≡ amend p g xs
 amend_nowhere p g [] e = refl

@@ -3,17 +3,22 @@ use Rattle.std.specs.Prelude.{ℕ, List, [], ◌∷◌, Bool, true, false, ◌&&
 use Rattle.std.specs.List.{list_any}
 use Rattle.vx_base.specs.Lists.{amend}
 use Rattle.vx_base.specs.Modes.{reaches}
-use Rattle.vx_base.specs.Pieces.{Request}
+use Rattle.vx_base.specs.Pieces.{Request, Promised}
 use Rattle.vx_base.specs.Queues.{is_served_by, waits_for}
+use Rattle.vx_base.specs.Roomy.{Roomy}
 use Rattle.vx_base.specs.declared.mode.Mode.{Mode}
 use Rattle.vx_base.specs.declared.number.Id.{Id}
 use Rattle.vx_base.specs.declared.number.Pid.{Pid}
 use Rattle.vx_base.specs.declared.number.UnitNo.{UnitNo}
+use Rattle.vx_base.specs.declared.routine.Entry.{Entry}
 
 -- The requests in order of acceptance, and how many there is room for in all.
-pub record Requests : Type 0 where
-  pub items : List Request
-  pub capacity : ℕ
+abbrev pub Requests : Type 0
+Requests = Roomy Request
+
+-- an AST that is promised, its tag in place of its routine
+abbrev pub promised_of : {R : Type 0} → (R → Entry) → (Mode × R) → Promised
+promised_of tag ast = record { mode = ast.0; tag = tag ast.1 }
 
 -- the request has this id
 abbrev pub has_id : Id → Request → Bool

@@ -5,10 +5,8 @@
 //! Contracts see one list in order of acceptance, and how many requests there is room for: `specs/Requests.antt`.
 #![tactic(auto)]
 
+mod found;
 mod outstanding;
 mod reqs;
 
 pub use reqs::Reqs;
-
-#[cfg(test)]
-mod tests;

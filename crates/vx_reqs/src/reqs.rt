@@ -4,34 +4,29 @@ ghost use Rattle.std.specs.Prelude.{◌≡◌, ◌<◌, ◌≤◌, ◌+◌, ◌+
 ghost use Rattle.std.specs.List.{find, list_any};
 ghost use Rattle.vx_base.specs.Lists.{less, amend};
 ghost use Rattle.vx_base.specs.Queues.{front, in_service};
-ghost use Rattle.vx_reqs.specs.Requests.{has_id, is_found, as_marked, begun, comes_after, least_id, keeps_open};
-ghost use Rattle.vx_reqs.specs.Seen.{promised_of};
+ghost use Rattle.vx_reqs.specs.Requests.{promised_of, has_id, is_found, as_marked, begun, comes_after, least_id, keeps_open};
 
-use crate::outstanding::{
-    Outstanding, any_with_id, is_outstanding, is_serving, mark_with_id, next_id, serve_waiting,
-    served_by, take_with_id, waiting_for, with_id,
+use crate::found::{
+    is_serving, mark_at, next_id, place_of_id, place_waiting, serve_at, served_by, waiting_for,
+    with_id,
 };
+use crate::outstanding::Outstanding;
 use std::alloc::Global;
 use std::marker::Model;
-use vx_base::{Id, Mode, NoMemory, Pid, Req, Routine, UnitNo};
+use vx_base::{Id, Mode, NoMemory, Pid, Req, Reserved, Routine, UnitNo};
 
 /// The outstanding requests of all processes.
 #[derive(Drop)]
 pub struct Reqs<R: Routine> {
-    items: Vec<Outstanding<R>>,
-    room: usize,
+    items: Reserved<Outstanding<R>>,
 }
 
 impl<R: Routine> Model for Reqs<R> {
-    ghost use Rattle.std.specs.Prelude.{◌≤◌, vec_len, vec_capacity, map};
     ghost use Rattle.vx_reqs.specs.Requests.{Requests};
-    ghost use Rattle.vx_reqs.specs.Seen.{request_of};
 
     ghost Value = { Requests };
 
-    ghost view = { λ a. record { items = map (request_of R.tagged) a.items.items; capacity = a.room } };
-
-    ghost invariant = { λ a. (vec_len a.items ≤ a.room) × (a.room ≤ vec_capacity a.items) };
+    ghost view = { λ a. a.items };
 }
 
 impl<R: Routine> Reqs<R> {
@@ -40,8 +35,7 @@ impl<R: Routine> Reqs<R> {
         ensures { result ≡ record { items = []; capacity = 0 } }
     {
         Reqs {
-            items: Vec::new(alloc),
-            room: 0,
+            items: Reserved::new(alloc),
         }
     }
 
@@ -52,9 +46,7 @@ impl<R: Routine> Reqs<R> {
         ensures ok { OnOk result (length self.new.items < self.new.capacity) }
         ensures err { OnErr result (self.new ≡ self.old) }
     {
-        self.items.reserve(1)?;
-        self.room = self.items.capacity();
-        Ok(())
+        self.items.reserve(1)
     }
 
     /// Accepts a request ($QIO), with the AST that it is to queue when it finishes, if it has one. Takes no memory.
@@ -63,16 +55,7 @@ impl<R: Routine> Reqs<R> {
         requires fresh { list_any (has_id req.id) self.old.items ≡ false }
         ensures { self.new ≡ record self.old { items = self.old.items ++ record { req = req; ast = option_map (promised_of R.tagged) ast; served = false; marked = false } ∷ [] } }
     {
-        let accepted = Outstanding {
-            req,
-            ast,
-            served: false,
-            marked: false,
-        };
-        match self.items.push(accepted) {
-            Ok(()) => (),
-            Err(_) => unreachable!(),
-        }
+        self.items.put(Outstanding::new(req, ast));
     }
 
     /// The request that a unit would take next: the first that waits for it. None exactly where the unit serves one, or
@@ -80,11 +63,11 @@ impl<R: Routine> Reqs<R> {
     pub fn front(&self, u: UnitNo) -> Option<Id>
         ensures { result ≡ option_map (λ r. r.req.id) (front u self.now.items) }
     {
-        if is_serving(&self.items, u) {
+        if is_serving(self.items.as_slice(), u) {
             return None;
         }
-        let front = waiting_for(&self.items, u)?;
-        Some(front.req.id)
+        let front = waiting_for(self.items.as_slice(), u)?;
+        Some(front.id())
     }
 
     /// Has a unit take the request that it takes next, as `front` has it: the unit serves it from now on.
@@ -93,8 +76,9 @@ impl<R: Routine> Reqs<R> {
         ensures after { self.new ≡ record self.old { items = begun u self.old.items } }
     {
         let front = self.front(u);
-        if !is_serving(&self.items, u) {
-            serve_waiting(&mut self.items, u);
+        if !is_serving(self.items.as_slice(), u) {
+            let place = place_waiting(self.items.as_slice(), u);
+            serve_at(&mut self.items, place);
         }
         front
     }
@@ -103,23 +87,23 @@ impl<R: Routine> Reqs<R> {
     pub fn in_service(&self, u: UnitNo) -> Option<Id>
         ensures { result ≡ option_map (λ r. r.req.id) (in_service u self.now.items) }
     {
-        let served = served_by(&self.items, u)?;
-        Some(served.req.id)
+        let served = served_by(self.items.as_slice(), u)?;
+        Some(served.id())
     }
 
     /// The request with an id. None exactly where there is none.
     pub fn get(&self, id: Id) -> Option<&Req>
         ensures { option_map (λ r. r.now) result ≡ option_map (λ r. r.req) (find (has_id id) self.now.items) }
     {
-        let found = with_id(&self.items, id)?;
-        Some(&found.req)
+        let found = with_id(self.items.as_slice(), id)?;
+        Some(found.req())
     }
 
     /// Whether there is a request with an id.
     pub fn has(&self, id: Id) -> bool
         ensures { result ≡ list_any (has_id id) self.now.items }
     {
-        any_with_id(&self.items, id)
+        self.items.as_slice().iter().any(|o| o.has_id(id))
     }
 
     /// Takes out the request with an id, with its AST, and whether it was marked. None exactly where there is none.
@@ -129,27 +113,23 @@ impl<R: Routine> Reqs<R> {
         ensures marked { option_map (λ done. done.2) result ≡ option_map (λ r. r.marked) (find (has_id id) self.old.items) }
         ensures after { self.new ≡ record self.old { items = less (has_id id) self.old.items } }
     {
-        let Outstanding {
-            req,
-            ast,
-            served: _,
-            marked,
-        } = take_with_id(&mut self.items, id)?;
-        Some((req, ast, marked))
+        let place = place_of_id(self.items.as_slice(), id);
+        let done = self.items.take(place)?;
+        Some(done.parts())
     }
 
     /// The least id above `after` among the requests of a process on a channel. None exactly where there is none.
     pub fn next_on_channel(&self, p: Pid, chan: u32, after: Id) -> Option<Id>
         ensures { result ≡ least_id (comes_after p (Some chan) after) self.now.items }
     {
-        next_id(&self.items, p, Some(chan), after)
+        next_id(self.items.as_slice(), p, Some(chan), after)
     }
 
     /// The least id above `after` among the requests of a process. None exactly where there is none.
     pub fn next_of(&self, p: Pid, after: Id) -> Option<Id>
         ensures { result ≡ least_id (comes_after p None after) self.now.items }
     {
-        next_id(&self.items, p, None, after)
+        next_id(self.items.as_slice(), p, None, after)
     }
 
     /// Marks the request with an id: it is to be aborted when its unit has served it ($CANCEL). Answers false, and changes
@@ -160,12 +140,13 @@ impl<R: Routine> Reqs<R> {
         ensures kept { result ≡ false → self.new ≡ self.old }
         ensures after { self.new ≡ record self.old { items = amend (has_id id) as_marked self.old.items } }
     {
-        if let Some(found) = with_id(&self.items, id)
-            && found.marked
+        if let Some(found) = with_id(self.items.as_slice(), id)
+            && found.is_marked()
         {
             return false;
         }
-        mark_with_id(&mut self.items, id);
+        let place = place_of_id(self.items.as_slice(), id);
+        mark_at(&mut self.items, place);
         true
     }
 
@@ -173,15 +154,15 @@ impl<R: Routine> Reqs<R> {
     pub fn outstanding(&self, p: Pid, mode: Mode) -> bool
         ensures { result ≡ list_any (keeps_open p mode) self.now.items }
     {
-        is_outstanding(&self.items, p, mode)
+        self.items.as_slice().iter().any(|o| o.keeps_open(p, mode))
     }
 
     /// Whether there is a request with an id, and it has an AST.
     pub fn has_ast(&self, id: Id) -> bool
         ensures { result ≡ is_found (λ r. is_some r.ast) (find (has_id id) self.now.items) }
     {
-        match with_id(&self.items, id) {
-            Some(found) => found.ast.is_some(),
+        match with_id(self.items.as_slice(), id) {
+            Some(found) => found.has_ast(),
             None => false,
         }
     }
