@@ -66,14 +66,6 @@ is_some_list (x ∷ xs) = true
 abbrev pub fits : Attended → ℕ → Bool
 fits b len = is_some_list b.reads || nat_le (stored_bytes b.mailbox.messages + len) b.mailbox.bufquo
 
-abbrev pub first : {A : Type 0} → List A → Option A
-first [] = None
-first (x ∷ xs) = Some x
-
-abbrev pub rest : {A : Type 0} → List A → List A
-rest [] = []
-rest (x ∷ xs) = xs
-
 -- the oldest waiting read gets the message
 abbrev pub handed : Option Id → Msg → Option (Id × Msg)
 handed None m = None
@@ -127,3 +119,10 @@ dropped a = (a.id, a.tag)
 
 abbrev pub with_messages : Mailbox → List Msg → Mailbox
 with_messages b messages = record b { messages = messages }
+
+-- an attention entry that is handed out, the tag in place of its routine
+abbrev pub fired_of : {R : Type 0} → (R → Entry) → (Id × Pid × Mode × R) → Id × Pid × Mode × Entry
+fired_of tag f = (f.0, f.1, f.2, tag f.3)
+
+abbrev pub dropped_of : {R : Type 0} → (R → Entry) → (Id × R) → Id × Entry
+dropped_of tag f = (f.0, tag f.1)

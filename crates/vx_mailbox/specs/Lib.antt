@@ -1,2 +1,1 @@
 pub mod Boxes
-pub mod Seen

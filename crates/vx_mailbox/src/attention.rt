@@ -1,23 +1,132 @@
-//! Attention entries, found in a plain list.
+//! One attention entry.
 
-ghost use Rattle.std.specs.Prelude.{◌≡◌, ◌<◌, nat_le, Bool, IfSome, map, option_map, position, length};
-ghost use Rattle.std.specs.List.{find};
-ghost use Rattle.vx_base.specs.Lists.{less};
-ghost use Rattle.vx_mailbox.specs.Boxes.{Asked, IsInIdOrder, inserted, func_number, asks_by, asks_on};
-ghost use Rattle.vx_mailbox.specs.Seen.{asked_of};
+ghost use Rattle.std.specs.Prelude.{◌≡◌, ◌<◌, nat_le, IfSome, position, length};
+ghost use Rattle.vx_mailbox.specs.Boxes.{func_number, asks_by, asks_on, is_of, asked_for, fired_of, dropped, dropped_of};
 
-use crate::store::Store;
+use std::marker::Model;
 use vx_base::{Func, Id, Mode, Pid, Routine};
 
-/// A process asks, on its channel to the mailbox, for an AST.
+/// A process asks, on its channel to the mailbox, for an AST. Contracts see the plain `Asked`.
 #[derive(Drop)]
-pub struct Attention<R> {
-    pub id: Id,
-    pub p: Pid,
-    pub chan: u32,
-    pub func: Func,
-    pub mode: Mode,
-    pub routine: R,
+pub(crate) struct Attention<R: Routine> {
+    id: Id,
+    p: Pid,
+    chan: u32,
+    func: Func,
+    mode: Mode,
+    routine: R,
+}
+
+impl<R: Routine> Model for Attention<R> {
+    ghost use Rattle.vx_mailbox.specs.Boxes.{Asked};
+
+    ghost Value = { Asked };
+
+    ghost view = { λ a. record { id = a.id; p = a.p; chan = a.chan; func = a.func; mode = a.mode; tag = R.tagged a.routine } };
+}
+
+impl<R: Routine> Attention<R> {
+    pub(crate) fn new(
+        id: Id,
+        p: Pid,
+        chan: u32,
+        func: Func,
+        mode: Mode,
+        routine: R,
+    ) -> Attention<R>
+        ensures { result ≡ record { id = id; p = p; chan = chan; func = func; mode = mode; tag = R.tagged routine } }
+    {
+        Attention {
+            id,
+            p,
+            chan,
+            func,
+            mode,
+            routine,
+        }
+    }
+
+    /// Its id.
+    pub(crate) fn id(&self) -> Id
+        ensures { result ≡ self.now.id }
+    {
+        self.id
+    }
+
+    /// Whether it asks by a function.
+    pub(crate) fn asks_by(&self, func: Func) -> bool
+        ensures { result ≡ asks_by func self.now }
+    {
+        func_number(self.func) == func_number(func)
+    }
+
+    /// Whether a process asks by it on a channel.
+    pub(crate) fn asks_on(&self, p: Pid, chan: u32) -> bool
+        ensures { result ≡ asks_on p chan self.now }
+    {
+        self.p.0 == p.0 && self.chan == chan
+    }
+
+    /// Whether a process asks by it.
+    pub(crate) fn is_of(&self, p: Pid) -> bool
+        ensures { result ≡ is_of p self.now }
+    {
+        self.p.0 == p.0
+    }
+
+    /// What it asks for: its id, the process, and the mode and the routine of the AST.
+    pub(crate) fn fired(self) -> (Id, Pid, Mode, R)
+        ensures { fired_of R.tagged result ≡ asked_for self }
+    {
+        let Attention {
+            id,
+            p,
+            chan: _,
+            func: _,
+            mode,
+            routine,
+        } = self;
+        (id, p, mode, routine)
+    }
+
+    /// Its id and its routine.
+    pub(crate) fn dropped(self) -> (Id, R)
+        ensures { dropped_of R.tagged result ≡ dropped self }
+    {
+        let Attention {
+            id,
+            p: _,
+            chan: _,
+            func: _,
+            mode: _,
+            routine,
+        } = self;
+        (id, routine)
+    }
+}
+
+/// Where the first entry stands that asks by a function.
+pub(crate) fn place_by<R: Routine>(entries: &[Attention<R>], func: Func) -> Option<usize>
+    ensures place { result ≡ position (asks_by func) entries.now }
+    ensures within { IfSome result (λ i. i < length entries.now) }
+{
+    entries.iter().position(|a| a.asks_by(func))
+}
+
+/// Where the first entry stands by which a process asks on a channel.
+pub(crate) fn place_on<R: Routine>(entries: &[Attention<R>], p: Pid, chan: u32) -> Option<usize>
+    ensures place { result ≡ position (asks_on p chan) entries.now }
+    ensures within { IfSome result (λ i. i < length entries.now) }
+{
+    entries.iter().position(|a| a.asks_on(p, chan))
+}
+
+/// Where the first entry stands whose id is not less than another.
+pub(crate) fn place_from<R: Routine>(entries: &[Attention<R>], id: Id) -> Option<usize>
+    ensures place { result ≡ position (λ a. nat_le id.0 a.id.0) entries.now }
+    ensures within { IfSome result (λ i. i < length entries.now) }
+{
+    entries.iter().position(|a| id.0 <= a.id().0)
 }
 
 // The number of a function.
@@ -33,84 +142,5 @@ fn func_number(func: Func) -> u8
         Func::EofNow => 5,
         Func::ReadAttn => 6,
         Func::WrtAttn => 7,
-    }
-}
-
-// Where the first entry stands that asks by a function.
-fn place_by<R: Routine>(items: &[Attention<R>], func: Func) -> Option<usize>
-    ensures place { result ≡ position (λ a. asks_by func (asked_of R.tagged a)) items.now }
-    ensures within { IfSome result (λ i. i < length items.now) }
-{
-    items
-        .iter()
-        .position(|a| func_number(a.func) == func_number(func))
-}
-
-// Where the first entry stands by which a process asks on a channel.
-fn place_on<R: Routine>(items: &[Attention<R>], p: Pid, chan: u32) -> Option<usize>
-    ensures place { result ≡ position (λ a. asks_on p chan (asked_of R.tagged a)) items.now }
-    ensures within { IfSome result (λ i. i < length items.now) }
-{
-    items.iter().position(|a| a.p.0 == p.0 && a.chan == chan)
-}
-
-// Where the first entry stands whose id is not less than another.
-fn place_from<R: Routine>(items: &[Attention<R>], id: Id) -> Option<usize>
-    ensures place { result ≡ position (λ a. nat_le id.0 (asked_of R.tagged a).id.0) items.now }
-    ensures within { IfSome result (λ i. i < length items.now) }
-{
-    items.iter().position(|a| id.0 <= a.id.0)
-}
-
-// Takes out the entry at a place, if there is one.
-fn take_at<R: Routine>(
-    entries: &mut Store<Attention<R>>,
-    place: Option<usize>,
-) -> Option<Attention<R>>
-    requires { IfSome place (λ i. i < length entries.old.0) }
-    ensures found { (p : Asked → Bool) → place ≡ position (λ a. p (asked_of R.tagged a)) entries.old.0 → option_map (asked_of R.tagged) result ≡ find p (map (asked_of R.tagged) entries.old.0) }
-    ensures after { (p : Asked → Bool) → place ≡ position (λ a. p (asked_of R.tagged a)) entries.old.0 → map (asked_of R.tagged) entries.new.0 ≡ less p (map (asked_of R.tagged) entries.old.0) }
-    ensures order { (p : Asked → Bool) → place ≡ position (λ a. p (asked_of R.tagged a)) entries.old.0 → IsInIdOrder (map (asked_of R.tagged) entries.old.0) → IsInIdOrder (map (asked_of R.tagged) entries.new.0) }
-    ensures room { entries.new.1 ≡ entries.old.1 }
-{
-    entries.take_at(place)
-}
-
-/// Takes out the first entry that asks by a function.
-pub fn take_by<R: Routine>(entries: &mut Store<Attention<R>>, func: Func) -> Option<Attention<R>>
-    ensures found { option_map (asked_of R.tagged) result ≡ find (asks_by func) (map (asked_of R.tagged) entries.old.0) }
-    ensures after { map (asked_of R.tagged) entries.new.0 ≡ less (asks_by func) (map (asked_of R.tagged) entries.old.0) }
-    ensures order { IsInIdOrder (map (asked_of R.tagged) entries.old.0) → IsInIdOrder (map (asked_of R.tagged) entries.new.0) }
-    ensures room { entries.new.1 ≡ entries.old.1 }
-{
-    let place = place_by(entries.as_slice(), func);
-    take_at(entries, place)
-}
-
-/// Takes out the first entry by which a process asks on a channel.
-pub fn take_on<R: Routine>(
-    entries: &mut Store<Attention<R>>,
-    p: Pid,
-    chan: u32,
-) -> Option<Attention<R>>
-    ensures found { option_map (asked_of R.tagged) result ≡ find (asks_on p chan) (map (asked_of R.tagged) entries.old.0) }
-    ensures after { map (asked_of R.tagged) entries.new.0 ≡ less (asks_on p chan) (map (asked_of R.tagged) entries.old.0) }
-    ensures order { IsInIdOrder (map (asked_of R.tagged) entries.old.0) → IsInIdOrder (map (asked_of R.tagged) entries.new.0) }
-    ensures room { entries.new.1 ≡ entries.old.1 }
-{
-    let place = place_on(entries.as_slice(), p, chan);
-    take_at(entries, place)
-}
-
-/// Puts an entry into the place of its id. Takes no memory.
-pub fn insert<R: Routine>(entries: &mut Store<Attention<R>>, entry: Attention<R>)
-    requires { length entries.old.0 < entries.old.1 }
-    ensures after { map (asked_of R.tagged) entries.new.0 ≡ inserted (asked_of R.tagged entry) (map (asked_of R.tagged) entries.old.0) }
-    ensures order { IsInIdOrder (map (asked_of R.tagged) entries.old.0) → IsInIdOrder (map (asked_of R.tagged) entries.new.0) }
-    ensures room { entries.new.1 ≡ entries.old.1 }
-{
-    match place_from(entries.as_slice(), entry.id) {
-        Some(place) => entries.put_at(place, entry),
-        None => entries.put(entry),
     }
 }

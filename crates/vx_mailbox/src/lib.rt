@@ -8,10 +8,6 @@
 mod attention;
 mod mailbox;
 mod messages;
-mod store;
 
 pub use mailbox::Mailbox;
 pub use vx_base::{Body, Msg};
-
-#[cfg(test)]
-mod tests;

@@ -2,16 +2,14 @@
 
 ghost use Rattle.std.specs.Prelude.{◌≡◌, ◌<◌, ◌≤◌, [], length, true, false, ◌||◌, OnOk, IsTrue, is_some, option_map, count_by};
 ghost use Rattle.std.specs.List.{find};
-ghost use Rattle.vx_base.specs.Lists.{less};
-ghost use Rattle.vx_mailbox.specs.Boxes.{no_rooms, IsRoomier, HasRooms, AreApart, IsInIdOrder, fits, is_some_list, first, rest, handed, stored, waiting, with_messages, is_message, is_read, inserted, asks_by, asks_on, is_of, asked_for, dropped};
-ghost use Rattle.vx_mailbox.specs.Seen.{fired_of, dropped_of};
+ghost use Rattle.vx_base.specs.Lists.{first, less, rest};
+ghost use Rattle.vx_mailbox.specs.Boxes.{no_rooms, IsRoomier, HasRooms, AreApart, IsInIdOrder, fits, is_some_list, handed, stored, waiting, with_messages, is_message, is_read, inserted, asks_by, asks_on, is_of, asked_for, dropped, fired_of, dropped_of};
 
-use crate::attention::{Attention, insert, take_by, take_on};
+use crate::attention::{Attention, place_by, place_from, place_on};
 use crate::messages::{are_within, cut_message, cut_read};
-use crate::store::Store;
 use std::alloc::Global;
 use std::marker::Model;
-use vx_base::{Func, Id, Mode, Msg, Name, NoMemory, Pid, Routine};
+use vx_base::{Func, Id, Mode, Msg, Name, NoMemory, Pid, Reserved, Routine};
 
 /// A mailbox: its name, whether it is permanent and marked for deletion, the longest message and the bytes that it stores at
 /// most, its messages, the reads that wait at it, and its attention entries.
@@ -22,26 +20,24 @@ pub struct Mailbox<R: Routine> {
     marked: bool,
     maxmsg: u32,
     bufquo: u32,
-    messages: Store<Msg>,
-    reads: Store<Id>,
-    attention: Store<Attention<R>>,
+    messages: Reserved<Msg>,
+    reads: Reserved<Id>,
+    attention: Reserved<Attention<R>>,
 }
 
 impl<R: Routine> Model for Mailbox<R> {
-    ghost use Rattle.std.specs.Prelude.{map};
     ghost use Rattle.vx_mailbox.specs.Boxes.{Attended, AreApart, IsInIdOrder};
-    ghost use Rattle.vx_mailbox.specs.Seen.{asked_of};
 
     ghost Value = { Attended };
 
     ghost view = { λ b. record {
-      mailbox = record { name = b.name; permanent = b.permanent; marked = b.marked; maxmsg = b.maxmsg; bufquo = b.bufquo; messages = b.messages.0 };
-      reads = b.reads.0;
-      attention = map (asked_of R.tagged) b.attention.0;
-      rooms = record { messages = b.messages.1; reads = b.reads.1; attention = b.attention.1 };
+      mailbox = record { name = b.name; permanent = b.permanent; marked = b.marked; maxmsg = b.maxmsg; bufquo = b.bufquo; messages = b.messages.items };
+      reads = b.reads.items;
+      attention = b.attention.items;
+      rooms = record { messages = b.messages.capacity; reads = b.reads.capacity; attention = b.attention.capacity };
     } };
 
-    ghost invariant = { λ b. AreApart b.messages.0 b.reads.0 × IsInIdOrder (map (asked_of R.tagged) b.attention.0) };
+    ghost invariant = { λ b. AreApart b.messages.items b.reads.items × IsInIdOrder b.attention.items };
 }
 
 impl<R: Routine> Mailbox<R> {
@@ -55,9 +51,9 @@ impl<R: Routine> Mailbox<R> {
             marked: false,
             maxmsg,
             bufquo,
-            messages: Store::new(alloc),
-            reads: Store::new(alloc),
-            attention: Store::new(alloc),
+            messages: Reserved::new(alloc),
+            reads: Reserved::new(alloc),
+            attention: Reserved::new(alloc),
         }
     }
 
@@ -67,16 +63,16 @@ impl<R: Routine> Mailbox<R> {
         ensures kept { IsRoomier self.old.rooms self.new.rooms }
         ensures ok { OnOk result (HasRooms self.new) }
     {
-        self.messages.reserve()?;
-        self.reads.reserve()?;
-        self.attention.reserve()
+        self.messages.reserve(1)?;
+        self.reads.reserve(1)?;
+        self.attention.reserve(1)
     }
 
     /// Whether a message of so many bytes can be written: a read waits, or the stored bytes and these are at most the quota.
     pub fn fits(&self, len: u32) -> bool
         ensures { result ≡ fits self.now len }
     {
-        !self.reads.is_empty()
+        !self.reads.as_slice().is_empty()
             || len <= self.bufquo
                 && are_within(self.messages.as_slice(), (self.bufquo - len) as usize)
     }
@@ -126,37 +122,36 @@ impl<R: Routine> Mailbox<R> {
     }
 
     /// Adds an attention entry, in the place of its id. Takes no memory.
+    #[tactic(auto, using(crate::proofs::Order::in_order_put))]
     pub fn attend(&mut self, id: Id, p: Pid, chan: u32, func: Func, mode: Mode, routine: R)
         requires { length self.old.attention < self.old.rooms.attention }
         ensures { self.new ≡ record self.old { attention = inserted (record { id = id; p = p; chan = chan; func = func; mode = mode; tag = R.tagged routine }) self.old.attention } }
     {
-        let entry = Attention {
-            id,
-            p,
-            chan,
-            func,
-            mode,
-            routine,
-        };
-        insert(&mut self.attention, entry);
+        let place = place_from(self.attention.as_slice(), id);
+        let entry = Attention::new(id, p, chan, func, mode, routine);
+        self.attention.put_before(place, entry);
     }
 
     /// Takes out the attention entry of least id that asks by a function: it fires. None exactly where there is none.
+    #[tactic(auto, using(crate::proofs::Order::in_order_less))]
     pub fn fire(&mut self, func: Func) -> Option<(Id, Pid, Mode, R)>
         ensures found { option_map (fired_of R.tagged) result ≡ option_map asked_for (find (asks_by func) self.old.attention) }
         ensures after { self.new ≡ record self.old { attention = less (asks_by func) self.old.attention } }
     {
-        let entry = take_by(&mut self.attention, func)?;
-        Some((entry.id, entry.p, entry.mode, entry.routine))
+        let place = place_by(self.attention.as_slice(), func);
+        let entry = self.attention.take(place)?;
+        Some(entry.fired())
     }
 
     /// Takes out the attention entry of least id by which a process asks on a channel. None exactly where there is none.
+    #[tactic(auto, using(crate::proofs::Order::in_order_less))]
     pub fn drop_attention(&mut self, p: Pid, chan: u32) -> Option<(Id, R)>
         ensures found { option_map (dropped_of R.tagged) result ≡ option_map dropped (find (asks_on p chan) self.old.attention) }
         ensures after { self.new ≡ record self.old { attention = less (asks_on p chan) self.old.attention } }
     {
-        let entry = take_on(&mut self.attention, p, chan)?;
-        Some((entry.id, entry.routine))
+        let place = place_on(self.attention.as_slice(), p, chan);
+        let entry = self.attention.take(place)?;
+        Some(entry.dropped())
     }
 
     /// How many attention entries a process has. All of them stand in id order.
@@ -167,7 +162,7 @@ impl<R: Routine> Mailbox<R> {
         self.attention
             .as_slice()
             .iter()
-            .filter(|a| a.p.0 == p.0)
+            .filter(|a| a.is_of(p))
             .count()
     }
 
@@ -217,7 +212,7 @@ impl<R: Routine> Mailbox<R> {
     pub fn has_messages(&self) -> bool
         ensures { result ≡ is_some_list self.now.mailbox.messages }
     {
-        !self.messages.is_empty()
+        !self.messages.as_slice().is_empty()
     }
 
     /// Whether reads wait. They never do where messages are stored.
@@ -225,6 +220,6 @@ impl<R: Routine> Mailbox<R> {
         ensures value { result ≡ is_some_list self.now.reads }
         ensures apart { AreApart self.now.mailbox.messages self.now.reads }
     {
-        !self.reads.is_empty()
+        !self.reads.as_slice().is_empty()
     }
 }

@@ -4,10 +4,10 @@ ghost use Rattle.std.specs.Prelude.{◌≡◌, ◌<◌, nat_le, IfSome, is_some,
 ghost use Rattle.std.specs.List.{find};
 ghost use Rattle.vx_base.specs.Lists.{less};
 ghost use Rattle.vx_base.specs.Queues.{body_bytes, stored_bytes};
+ghost use Rattle.vx_base.specs.Roomy.{with_items};
 ghost use Rattle.vx_mailbox.specs.Boxes.{is_message, is_read};
 
-use crate::store::Store;
-use vx_base::{Body, Id, Msg};
+use vx_base::{Body, Id, Msg, Reserved};
 
 // How many bytes a message has.
 fn body_len(body: &Body) -> usize
@@ -20,7 +20,7 @@ fn body_len(body: &Body) -> usize
 }
 
 /// Whether messages have together at most so many bytes.
-pub fn are_within(messages: &[Msg], room: usize) -> bool
+pub(crate) fn are_within(messages: &[Msg], room: usize) -> bool
     ensures { result ≡ nat_le (stored_bytes messages.now) room }
 {
     let mut left = room;
@@ -51,19 +51,19 @@ fn place_of_read(reads: &[Id], id: Id) -> Option<usize>
 }
 
 /// Takes out the message with an id, and tells whether there was one.
-pub fn cut_message(messages: &mut Store<Msg>, id: Id) -> bool
-    ensures found { result ≡ is_some (find (is_message id) messages.old.0) }
-    ensures after { messages.new ≡ (less (is_message id) messages.old.0, messages.old.1) }
+pub(crate) fn cut_message(messages: &mut Reserved<Msg>, id: Id) -> bool
+    ensures found { result ≡ is_some (find (is_message id) messages.old.items) }
+    ensures after { messages.new ≡ with_items messages.old (less (is_message id) messages.old.items) }
 {
     let place = place_of_message(messages.as_slice(), id);
-    messages.take_at(place).is_some()
+    messages.take(place).is_some()
 }
 
 /// Takes out the read with an id, and tells whether there was one.
-pub fn cut_read(reads: &mut Store<Id>, id: Id) -> bool
-    ensures found { result ≡ is_some (find (is_read id) reads.old.0) }
-    ensures after { reads.new ≡ (less (is_read id) reads.old.0, reads.old.1) }
+pub(crate) fn cut_read(reads: &mut Reserved<Id>, id: Id) -> bool
+    ensures found { result ≡ is_some (find (is_read id) reads.old.items) }
+    ensures after { reads.new ≡ with_items reads.old (less (is_read id) reads.old.items) }
 {
     let place = place_of_read(reads.as_slice(), id);
-    reads.take_at(place).is_some()
+    reads.take(place).is_some()
 }

@@ -9,13 +9,9 @@
 mod any;
 mod block;
 mod line;
-mod store;
 mod unit;
 
 pub use any::AnyUnit;
 pub use block::BlockUnit;
 pub use line::LineUnit;
 pub use unit::DeviceUnit;
-
-#[cfg(test)]
-mod tests;

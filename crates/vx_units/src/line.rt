@@ -6,12 +6,11 @@ ghost use Rattle.vx_image.specs.Units.{first_unit};
 ghost use Rattle.vx_base.specs.Serving.{fails, serve, read_line};
 ghost use Rattle.vx_units.specs.Units.{Serving, is_for_unit, idle, outputs_of};
 
-use crate::store::Store;
 use crate::unit::DeviceUnit;
 use std::alloc::Global;
 use std::marker::Model;
 use std::mem::replace;
-use vx_base::{Buffer, Bytes, Cond, Duplicate, Func, NoMemory, Reply, Req};
+use vx_base::{Buffer, Bytes, Cond, Duplicate, Func, NoMemory, Reply, Req, Reserved};
 use vx_image::{Lines, Numbers, UnitDecl};
 
 /// What a pending service of a line unit will do: count alone, take a line of input, or give a line of output.
@@ -29,7 +28,7 @@ pub struct LineUnit {
     alloc: Global,
     inputs: Lines,
     next: usize,
-    outputs: Store<Bytes>,
+    outputs: Reserved<Bytes>,
     faults: Numbers,
     services: u32,
     buffer: Option<Buffer>,
@@ -44,9 +43,9 @@ impl Model for LineUnit {
 
     ghost use Rattle.vx_units.specs.Lined.{line_unit, line_pending, given, LineStands};
 
-    ghost view = { λ a. record { unit = line_unit (drop a.next a.inputs) a.outputs.0 a.faults a.services; pending = line_pending a.pending (drop a.next a.inputs) a.outputs.0 a.faults a.services; ready = is_some a.buffer } };
+    ghost view = { λ a. record { unit = line_unit (drop a.next a.inputs) a.outputs.items a.faults a.services; pending = line_pending a.pending (drop a.next a.inputs) a.outputs.items a.faults a.services; ready = is_some a.buffer } };
 
-    ghost invariant = { λ a. (a.next ≤ length a.inputs) × (is_some a.buffer ≡ true → length a.outputs.0 + given a.pending < a.outputs.1) × LineStands a.pending (length a.inputs - a.next) (length a.outputs.0) a.outputs.1 a.services };
+    ghost invariant = { λ a. (a.next ≤ length a.inputs) × (is_some a.buffer ≡ true → length a.outputs.items + given a.pending < a.outputs.capacity) × LineStands a.pending (length a.inputs - a.next) (length a.outputs.items) a.outputs.capacity a.services };
 }
 
 impl LineUnit {
@@ -59,7 +58,7 @@ impl LineUnit {
             alloc,
             inputs: decl.inputs.duplicate()?,
             next: 0,
-            outputs: Store::new(alloc),
+            outputs: Reserved::new(alloc),
             faults: decl.faults.duplicate()?,
             services: 0,
             buffer: None,
