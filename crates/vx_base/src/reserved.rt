@@ -62,6 +62,13 @@ impl<T> Reserved<T> {
     {
         self.items.len()
     }
+
+    /// How many items there is room for in all.
+    pub fn capacity(&self) -> usize
+        ensures { result ≡ self.now.capacity }
+    {
+        self.room
+    }
 }
 
 impl<T: Drop> Reserved<T> {
@@ -119,6 +126,7 @@ impl<T: Drop> Reserved<T> {
         requires { IfSome place (λ i. i < length self.old.items) }
         ensures found { (p : T → Bool) → place ≡ position p self.old.items → result ≡ find p self.old.items }
         ensures after { (p : T → Bool) → place ≡ position p self.old.items → self.new ≡ with_items self.old (less p self.old.items) }
+        ensures fewer { length self.new.items ≤ length self.old.items }
     {
         taken(&mut self.items, place)
     }

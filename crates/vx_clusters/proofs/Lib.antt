@@ -1,4 +1,3 @@
 pub mod Few
 pub mod Lists
-pub mod Places
 pub mod Sound

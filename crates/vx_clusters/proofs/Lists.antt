@@ -76,17 +76,6 @@ apart_push same (x ∷ xs) y apart none =
     let nones = or_parts (same x y) (list_any (λ z. same z y) xs) none in
     and_from _ _ (not_from_false _ (none_push (same x) xs y (not-true _ parts.0) nones.0)) (apart_push same xs y parts.1 nones.1)
 
-pub found_passes : {A : Type 0} (p : A → Bool) (xs : List A) (y : A) → find p xs ≡ Some y → IsTrue (p y)
-found_passes p [] y found = absurd (cc)
-found_passes {A = A} p (x ∷ xs) y found = elim (cases_Bool (p x)) [
-  | inl passes ↦
-      let here : Some x ≡ Some y = rw passes at found in
-      let same : x ≡ y = cc in
-      let P : A → Type 0 = λ z. IsTrue (p z) in
-      subst P same passes
-  | inr fails ↦ let below : find p xs ≡ Some y = rw fails at found in found_passes p xs y below
-]
-
 pub none_found : {A : Type 0} (p : A → Bool) (xs : List A) → find p xs ≡ None → list_any p xs ≡ false
 none_found p [] none = refl
 none_found p (x ∷ xs) none = elim (cases_Bool (p x)) [

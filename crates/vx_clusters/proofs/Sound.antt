@@ -8,9 +8,10 @@ use Rattle.vx_base.specs.Flags.{with_flag}
 use Rattle.vx_base.specs.Lists.{less, amend}
 use Rattle.vx_base.specs.Pieces.{Cluster, Association}
 use Rattle.vx_base.specs.declared.number.Pid.{Pid}
+use Rattle.vx_base.proofs.First.{found_passes}
 use Rattle.vx_clusters.specs.Clusters.{with_flag_at, no_cluster}
 use Rattle.vx_clusters.specs.Sound.{are_apart, is_same_cluster, is_same_association, has_cluster, IsSound}
-use Rattle.vx_clusters.proofs.Lists.{all_less, apart_less, none_stronger, any_push, any_last, all_push, all_weaker, apart_push, found_passes, none_found}
+use Rattle.vx_clusters.proofs.Lists.{all_less, apart_less, none_stronger, any_push, any_last, all_push, all_weaker, apart_push, none_found}
 
 -- Keys.
 

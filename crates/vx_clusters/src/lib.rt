@@ -15,6 +15,3 @@ mod table;
 
 pub use clusters::Clusters;
 pub use fail::AscFail;
-
-#[cfg(test)]
-mod tests;

@@ -1,36 +1,37 @@
 //! The clusters and the associations, and the steps that a service makes on them.
 
-ghost use Rattle.std.specs.Prelude.{◌≡◌, ◌<◌, ◌≤◌, length, IfSome, OnOk, OnErr, true, false};
-ghost use Rattle.std.specs.Prelude.{option_map, position, vec_len, vec_capacity};
+ghost use Rattle.std.specs.Prelude.{◌≡◌, ◌<◌, ◌≤◌, Bool, length, IfSome, OnOk, OnErr, true, false};
+ghost use Rattle.std.specs.Prelude.{option_map, position};
 ghost use Rattle.std.specs.List.{find};
 ghost use Rattle.vx_base.specs.Lists.{amend};
 ghost use Rattle.vx_base.specs.Clusters.{is_cluster, is_association, stands, is_used, has_already, with_mark};
 ghost use Rattle.vx_base.specs.Clusters.{made_where_new, gone, joined, parted, swept, dissociated, associated, marked};
 ghost use Rattle.vx_base.specs.Flags.{is_set};
 ghost use Rattle.vx_base.specs.Log.{HasRoom};
-ghost use Rattle.vx_clusters.specs.Clusters.{Does, none, with_clusters, cluster_at, no_cluster, with_flag_at};
-ghost use Rattle.vx_clusters.specs.Places.{without, changed_at};
+ghost use Rattle.vx_base.specs.Pieces.{Cluster};
+ghost use Rattle.vx_base.specs.Roomy.{with_items};
+ghost use Rattle.vx_clusters.specs.Clusters.{Does, none, with_clusters, cluster_at, with_flag_at};
 
 use crate::association::Association;
 use crate::cluster::FlagCluster;
 use std::alloc::Global;
 use std::marker::Model;
-use vx_base::{Effect, Effects, Name, NoMemory, Pid};
+use vx_base::{Effect, Effects, Name, NoMemory, Pid, Reserved};
 
 // A place is a number of 32 bits.
 const MOST_CLUSTERS: usize = 4_294_967_295;
 
-/// The clusters and who has them associated.
+/// The clusters and who has them associated. Both get more room, or neither does: so each has its room beside it.
 #[derive(Debug, Drop)]
 pub(crate) struct Table {
-    clusters: Vec<FlagCluster>,
-    associations: Vec<Association>,
+    clusters: Reserved<FlagCluster>,
+    associations: Reserved<Association>,
     cluster_room: usize,
     association_room: usize,
 }
 
 impl Model for Table {
-    ghost use Rattle.std.specs.Prelude.{◌<◌, ◌≤◌, vec_len, vec_capacity};
+    ghost use Rattle.std.specs.Prelude.{◌<◌, ◌≤◌, length};
     ghost use Rattle.vx_clusters.specs.Clusters.{Shared};
 
     ghost Value = { Shared };
@@ -41,10 +42,10 @@ impl Model for Table {
       association_capacity = t.association_room;
     } };
 
-    ghost invariant = { λ t. (vec_len t.clusters ≤ t.cluster_room)
-        × (t.cluster_room ≤ vec_capacity t.clusters)
-        × (vec_len t.associations ≤ t.association_room)
-        × (t.association_room ≤ vec_capacity t.associations)
+    ghost invariant = { λ t. (length t.clusters.items ≤ t.cluster_room)
+        × (t.cluster_room ≤ t.clusters.capacity)
+        × (length t.associations.items ≤ t.association_room)
+        × (t.association_room ≤ t.associations.capacity)
         × (t.cluster_room < 4294967296) };
 }
 
@@ -53,8 +54,8 @@ impl Table {
         ensures { result ≡ none }
     {
         Table {
-            clusters: Vec::new(alloc),
-            associations: Vec::new(alloc),
+            clusters: Reserved::new(alloc),
+            associations: Reserved::new(alloc),
             cluster_room: 0,
             association_room: 0,
         }
@@ -90,7 +91,7 @@ impl Table {
     pub(crate) fn stands(&self, group: u32, name: Name) -> bool
         ensures { result ≡ stands self.now.common group name }
     {
-        self.clusters.iter().any(|cluster| cluster.is(group, name))
+        self.clusters.as_slice().iter().any(|cluster| cluster.is(group, name))
     }
 
     /// Whether somebody has the cluster of a group and name associated.
@@ -98,6 +99,7 @@ impl Table {
         ensures { result ≡ is_used self.now.common group name }
     {
         self.associations
+            .as_slice()
             .iter()
             .any(|association| association.is_of(group, name))
     }
@@ -106,25 +108,24 @@ impl Table {
     pub(crate) fn association(&self, p: Pid, k: u32) -> Option<Association>
         ensures { result ≡ find (is_association p k) self.now.common.associations }
     {
-        association_of(&self.associations, p, k).copied()
+        association_of(self.associations.as_slice(), p, k).copied()
     }
 
     /// The cluster of a group and name.
     fn cluster(&self, group: u32, name: Name) -> Option<&FlagCluster>
         ensures { option_map (λ cluster. cluster.now) result ≡ find (is_cluster group name) self.now.common.clusters }
     {
-        self.clusters.iter().find(|cluster| cluster.is(group, name))
+        self.clusters.as_slice().iter().find(|cluster| cluster.is(group, name))
     }
 
     /// A cluster is gone.
-    #[tactic(auto, using(crate::proofs::Places::rest))]
     fn remove(&mut self, group: u32, name: Name, log: &mut Effects)
         requires { HasRoom log.old 1 }
         ensures does { Does (gone self.old.common group name) self.old self.new log.old log.new }
         ensures fewer { length self.new.common.clusters ≤ length self.old.common.clusters }
     {
-        let place = place_of_cluster(&self.clusters, group, name);
-        remove_at(&mut self.clusters, place);
+        let place = place_of_cluster(self.clusters.as_slice(), group, name);
+        let _cluster = self.clusters.take(place);
         log.add(Effect::Cef {
             group,
             name,
@@ -133,14 +134,13 @@ impl Table {
     }
 
     /// A process has a cluster no more.
-    #[tactic(auto, using(crate::proofs::Places::rest))]
     fn part(&mut self, p: Pid, k: u32, log: &mut Effects)
         requires { HasRoom log.old 1 }
         ensures does { Does (parted self.old.common p k) self.old self.new log.old log.new }
         ensures fewer { length self.new.common.associations ≤ length self.old.common.associations }
     {
-        let place = place_of_association(&self.associations, p, k);
-        remove_at(&mut self.associations, place);
+        let place = place_of_association(self.associations.as_slice(), p, k);
+        let _association = self.associations.take(place);
         log.add(Effect::Clu {
             p,
             k,
@@ -189,10 +189,8 @@ impl Table {
         if self.stands(group, name) {
             return;
         }
-        match self.clusters.push(FlagCluster::new(group, name, permanent)) {
-            Ok(()) => (),
-            Err(_) => unreachable!(),
-        }
+        self.clusters
+            .put(FlagCluster::new(group, name, permanent));
         log.add(Effect::Cef {
             group,
             name,
@@ -206,10 +204,8 @@ impl Table {
         requires log { HasRoom log.old 1 }
         ensures { Does (joined self.old.common p k group name) self.old self.new log.old log.new }
     {
-        match self.associations.push(Association::new(p, k, group, name)) {
-            Ok(()) => (),
-            Err(_) => unreachable!(),
-        }
+        self.associations
+            .put(Association::new(p, k, group, name));
         log.add(Effect::Clu {
             p,
             k,
@@ -251,11 +247,10 @@ impl Table {
     }
 
     /// A cluster is marked for deletion.
-    #[tactic(auto, using(crate::proofs::Places::amended))]
     fn mark_cluster(&mut self, group: u32, name: Name)
         ensures { self.new ≡ with_clusters self.old (amend (is_cluster group name) with_mark self.old.common.clusters) }
     {
-        let place = place_of_cluster(&self.clusters, group, name);
+        let place = place_of_cluster(self.clusters.as_slice(), group, name);
         mark_at(&mut self.clusters, place);
     }
 
@@ -284,7 +279,7 @@ impl Table {
         ensures within { IfSome result (λ i. i < length self.now.common.clusters) }
         ensures fits { IfSome result (λ i. i < 4294967296) }
     {
-        place_of_cluster(&self.clusters, group, name)
+        place_of_cluster(self.clusters.as_slice(), group, name)
     }
 
     /// The cluster at a place.
@@ -292,7 +287,7 @@ impl Table {
         requires { place < length self.now.common.clusters }
         ensures { result.now ≡ cluster_at self.now.common place }
     {
-        &self.clusters[place]
+        &self.clusters.as_slice()[place]
     }
 
     /// Sets a flag of the cluster at a place, and tells whether it was set.
@@ -302,7 +297,7 @@ impl Table {
         ensures was { result ≡ is_set (cluster_at self.old.common place).flags n }
         ensures after { self.new ≡ record self.old { common = with_flag_at self.old.common place n true } }
     {
-        self.clusters[place].set(n)
+        self.clusters.at_mut(place).set(n)
     }
 
     /// Clears a flag of the cluster at a place, and tells whether it was set.
@@ -312,7 +307,7 @@ impl Table {
         ensures was { result ≡ is_set (cluster_at self.old.common place).flags n }
         ensures after { self.new ≡ record self.old { common = with_flag_at self.old.common place n false } }
     {
-        self.clusters[place].clear(n)
+        self.clusters.at_mut(place).clear(n)
     }
 }
 
@@ -323,26 +318,15 @@ fn association_of(associations: &[Association], p: Pid, k: u32) -> Option<&Assoc
     associations.iter().find(|association| association.is(p, k))
 }
 
-/// Takes out what stands at a place.
-fn remove_at<T: Drop>(items: &mut Vec<T>, place: Option<usize>)
-    requires { IfSome place (λ i. i < vec_len items.old) }
-    ensures after { items.new.items ≡ without items.old.items place }
-    ensures fewer { vec_len items.new ≤ vec_len items.old }
-    ensures capacity { vec_capacity items.new ≡ vec_capacity items.old }
+/// Marks the cluster at a place for deletion, if there is one.
+fn mark_at(clusters: &mut Reserved<FlagCluster>, place: Option<usize>)
+    requires { IfSome place (λ i. i < length clusters.old.items) }
+    ensures len { length clusters.new.items ≡ length clusters.old.items }
+    ensures after { (p : Cluster → Bool) → place ≡ position p clusters.old.items → clusters.new ≡ with_items clusters.old (amend p with_mark clusters.old.items) }
 {
-    if let Some(place) = place {
-        let _item = items.remove(place);
-    }
-}
-
-/// Marks the cluster at a place for deletion.
-fn mark_at(clusters: &mut Vec<FlagCluster>, place: Option<usize>)
-    requires { IfSome place (λ i. i < vec_len clusters.old) }
-    ensures after { clusters.new.items ≡ changed_at no_cluster with_mark clusters.old.items place }
-    ensures capacity { vec_capacity clusters.new ≡ vec_capacity clusters.old }
-{
-    if let Some(place) = place {
-        clusters[place].mark();
+    match place {
+        Some(place) => clusters.at_mut(place).mark(),
+        None => (),
     }
 }
 
