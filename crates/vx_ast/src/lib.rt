@@ -12,6 +12,3 @@ mod queue;
 
 pub use delivery::Delivery;
 pub use queue::AstQueue;
-
-#[cfg(test)]
-mod tests;

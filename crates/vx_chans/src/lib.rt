@@ -5,6 +5,3 @@ mod chans;
 mod row;
 
 pub use chans::{ChanFail, Chans};
-
-#[cfg(test)]
-mod tests;

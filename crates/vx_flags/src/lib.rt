@@ -7,6 +7,3 @@
 mod flags;
 
 pub use flags::Flags;
-
-#[cfg(test)]
-mod tests;

@@ -27,6 +27,3 @@ pub use stop::Stop;
 pub use store::Store;
 pub use system::System;
 pub use unit::{Lines, Numbers, UnitDecl, UnitDecls};
-
-#[cfg(test)]
-mod tests;

@@ -7,6 +7,3 @@
 mod account;
 
 pub use account::Account;
-
-#[cfg(test)]
-mod tests;

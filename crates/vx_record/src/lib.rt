@@ -16,6 +16,3 @@ pub use law::{
 };
 pub use same::same_rec;
 pub use served::Served;
-
-#[cfg(test)]
-mod tests;

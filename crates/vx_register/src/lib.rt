@@ -14,6 +14,3 @@ mod system;
 pub use named::{Named, Numbered};
 pub use numbered::NumberedRegister;
 pub use register::Register;
-
-#[cfg(test)]
-mod tests;

@@ -18,6 +18,3 @@ pub use fail::CallFail;
 pub use print::{call_text, mode_name, print_operand, print_target};
 pub use table::{ServiceTable, service_table};
 pub use vx_base::Kind;
-
-#[cfg(test)]
-mod tests;

@@ -18,6 +18,3 @@ mod token;
 pub use quote::{print_num, print_quote, read_quote};
 pub use reading::tokens;
 pub use token::{LexFail, Tok, Token};
-
-#[cfg(test)]
-mod tests;
