@@ -102,8 +102,8 @@ impl<R: Routine> AstQueue<R> {
         Some(first.id())
     }
 
-    #[tactic(auto, using(crate::proofs::Started::less_started))]
     /// Takes out the AST that may start, as `deliverable` has it.
+    #[tactic(auto, using(crate::proofs::Started::less_started))]
     pub fn take(&mut self, current: Mode, active: Option<Mode>) -> Option<Delivery<R>>
         ensures found { result ≡ deliverable self.old.enables current active self.old.items }
         ensures after { self.new ≡ record self.old { items = less_deliverable self.old.enables current active self.old.items } }
