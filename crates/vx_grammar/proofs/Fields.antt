@@ -157,7 +157,7 @@ var_is : (b : ℕ) (o : Option ℕ) (x : Operand) → ((v : ℕ) → o ≡ Some 
 var_is b None x k h = absurd (cc)
 var_is b (Some v) x k h = let e : operand.Var v ≡ x = cc in ap (λ c. tok.Word (c ∷ [])) (k v refl) ∙ ap operand_token e
 
-operand_name : (word : List ℕ) (x : Operand) → operand_word word ≡ Some x → tok.Word word ≡ operand_token x
+pub operand_name : (word : List ℕ) (x : Operand) → operand_word word ≡ Some x → tok.Word word ≡ operand_token x
 operand_name word x =
     by_test {A = Option Operand} (λ o. o ≡ Some x → tok.Word word ≡ operand_token x) (length word == 1) _ _
     (λ e h. ap tok.Word (one_letter word e) ∙ var_is (slice_index word 0) (letter (slice_index word 0)) x (λ v. letter_is (slice_index word 0) v) h)
