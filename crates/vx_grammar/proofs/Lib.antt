@@ -1,3 +1,4 @@
 pub mod Fields
 pub mod Calls
 pub mod Statements
+pub mod ReadStatements
