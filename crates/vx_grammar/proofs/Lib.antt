@@ -5,3 +5,4 @@ pub mod ReadStatements
 pub mod Once
 pub mod PrivilegeNames
 pub mod ProcessKeys
+pub mod SaidSoFar

@@ -259,19 +259,10 @@ decl_in _ = []
 abbrev pub system_of : List Item → System
 system_of items = record { units = flat_map (unit_in items) items; images = flat_map image_in items; decls = flat_map decl_in items }
 
--- no fault of a unit stands twice
-
-abbrev pub is_fault : List ℕ → ℕ → Item → Bool
-is_fault unit n (OfFault other m) = if bytes_eq unit other then n == m else false
-is_fault unit n _ = false
-
-abbrev pub FaultOnce : Item → List Item → Type 0
-FaultOnce (OfFault unit n) items = list_any (is_fault unit n) items ≡ false
-FaultOnce _ items = Unit {0}
-
-abbrev pub FaultsOnce : List Item → Type 0
-FaultsOnce [] = Unit {0}
-FaultsOnce (item ∷ items) = FaultOnce item items × FaultsOnce items
+-- a FAULT line, as its number and the name of its unit
+abbrev pub fault_in : Item → List (List ℕ)
+fault_in (OfFault unit number) = (number ∷ unit) ∷ []
+fault_in _ = []
 
 -- the tokens of a line
 abbrev pub tokens_of : List ℕ → Result (List Tok) LexFail
@@ -288,7 +279,7 @@ pub record Spells (text : List ℕ) (s : System) : Type 0 where
   pub units_once : IsTrue (are_distinct (map (λ u. u.name) s.units))
   pub images_once : IsTrue (are_distinct (map (λ i. i.name) s.images))
   pub processes_once : IsTrue (are_distinct (decl_names s))
-  pub faults_once : FaultsOnce items
+  pub faults_once : IsTrue (are_distinct (flat_map fault_in items))
   pub few_units : length s.units ≤ 32
   pub few_images : length s.images ≤ 256
   pub few_processes : length s.decls ≤ 1000
