@@ -6,3 +6,6 @@ pub mod Once
 pub mod PrivilegeNames
 pub mod ProcessKeys
 pub mod SaidSoFar
+pub mod Feeding
+pub mod OuterSpelled
+pub mod InnerSpelled
