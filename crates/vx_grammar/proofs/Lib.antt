@@ -9,3 +9,4 @@ pub mod SaidSoFar
 pub mod Feeding
 pub mod OuterSpelled
 pub mod InnerSpelled
+pub mod LinesBack
