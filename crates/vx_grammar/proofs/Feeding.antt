@@ -1,5 +1,6 @@
 -- The lines of a text are read by their tokens.
 use Rattle.std.proofs.Common.{◌≡◌, ℕ, ◌+◌, List, [], ◌∷◌, map, Option, Some, None, Result, Ok, Err, refl, ap, ◌∙◌}
+use Rattle.std.proofs.lemmas.Result.{IfOk-at_ok}
 use Rattle.vx_image.specs.declared.system.System.{System}
 use Rattle.vx_text.specs.Lex.{lex}
 use Rattle.vx_text.specs.declared.token.LexFail.{LexFail}
@@ -15,6 +16,7 @@ use Rattle.vx_script.specs.declared.fault.FaultKind.{FaultKind}
 use Rattle.vx_script.specs.declared.fault.ScriptFault.{ScriptFault}
 use Rattle.vx_script.specs.declared.parts.Parts.{Parts}
 use Rattle.vx_script.specs.declared.parts.Reading.{Reading}
+use Rattle.vx_script.proofs.KeptParts.{AreParts, IsRead, line_kept}
 use Rattle.vx_grammar.specs.Grammar.{tokens_of}
 use Rattle.vx_grammar.proofs.Fields.{bind_ok}
 
@@ -30,6 +32,7 @@ pub record Fed (line : ℕ) (r : Reading) (ls : List (List ℕ)) (s : System) : 
   pub lexed : map tokens_of ls ≡ map Ok tss
   pub fed : feeds line r tss ≡ Ok (between_images all)
   pub resolved : resolve all ≡ Ok s
+  pub kept : AreParts all
 
 kinds : (r : Result (List Token) LexFail) (ts : List Tok) → with_kind r ≡ Ok ts → toks_of r ≡ Ok ts
 kinds (Ok tokens) ts h = ap Ok (let e : toks tokens ≡ ts = cc in e)
@@ -43,25 +46,27 @@ at_line_ok : {A : Type 0} (line : ℕ) (r : Result A FaultKind) (x : A) → at_l
 at_line_ok line (Ok y) x h = ap Ok (let e : y ≡ x = cc in e)
 at_line_ok line (Err e) x h = absurd (cc)
 
-closed_is : (line : ℕ) (r : Reading) (current : Option DraftImage) (s : System) → r.current ≡ current → closed line r.parts current ≡ Ok s → Fed line r [] s
-closed_is line r None s e h = record { tss = []; all = r.parts; lexed = refl; fed = ap (λ (c : Option DraftImage). Ok (record { parts = r.parts; current = c })) e; resolved = h }
-closed_is line r (Some image) s e h = absurd (cc)
+closed_is : (line : ℕ) (r : Reading) (current : Option DraftImage) (s : System) → AreParts r.parts → r.current ≡ current → closed line r.parts current ≡ Ok s → Fed line r [] s
+closed_is line r None s kept e h = record { tss = []; all = r.parts; lexed = refl; fed = ap (λ (c : Option DraftImage). Ok (record { parts = r.parts; current = c })) e; resolved = h; kept = kept }
+closed_is line r (Some image) s kept e h = absurd (cc)
 
 -- what is read of a text is read of tokens
-pub fed : (line : ℕ) (r : Reading) (ls : List (List ℕ)) (s : System) → read_lines line r ls ≡ Ok s → Fed line r ls s
+pub fed : (line : ℕ) (r : Reading) (ls : List (List ℕ)) (s : System) → IsRead r → read_lines line r ls ≡ Ok s → Fed line r ls s
 unfolding read_lines take_line
-fed line r [] s h = closed_is line r r.current s refl h
-fed line r (l ∷ ls) s h =
+fed line r [] s is h = closed_is line r r.current s is.parts refl h
+fed line r (l ∷ ls) s is h =
     let b = bind_ok (at_line line (take_line line r l)) _ s h in
     let t = at_line_ok line (take_line line r l) b.0 b.1 in
     let c = bind_ok (with_kind (lex l)) (accepted line r) b.0 t in
-    let rest = fed (line + 1) b.0 ls s b.2 in
+    let kept = IfOk-at_ok IsRead t (line_kept line r l is) in
+    let rest = fed (line + 1) b.0 ls s kept b.2 in
     record {
       tss = c.0 ∷ rest.tss;
       all = rest.all;
       lexed = ap (λ (x : Result (List Tok) LexFail). x ∷ map tokens_of ls) (kinds (lex l) c.0 c.1) ∙ ap (λ (xs : List (Result (List Tok) LexFail)). Ok c.0 ∷ xs) rest.lexed;
       fed = ap (λ (x : Result Reading FaultKind). x >>= λ q. feeds (line + 1) q rest.tss) c.2 ∙ rest.fed;
       resolved = rest.resolved;
+      kept = rest.kept;
     }
 
 taken : (line : ℕ) (r : Reading) (l : List ℕ) (ts : List Tok) (s : Reading) → toks_of (lex l) ≡ Ok ts → accepted line r ts ≡ Ok s → take_line line r l ≡ Ok s

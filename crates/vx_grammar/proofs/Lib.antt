@@ -10,3 +10,5 @@ pub mod Feeding
 pub mod OuterSpelled
 pub mod InnerSpelled
 pub mod LinesBack
+pub mod Looking
+pub mod Whole

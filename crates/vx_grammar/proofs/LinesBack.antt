@@ -289,15 +289,15 @@ body_read decls i _ _ (and_line ts lines front said first more) line parts image
 
 -- Outside images.
 
-abbrev unit_name_in : Item → List (List ℕ)
+abbrev pub unit_name_in : Item → List (List ℕ)
 unit_name_in (OfUnit name blocks) = name ∷ []
 unit_name_in _ = []
 
-abbrev image_name_in : Item → List (List ℕ)
+abbrev pub image_name_in : Item → List (List ℕ)
 image_name_in (OfImage i) = i.name ∷ []
 image_name_in _ = []
 
-abbrev decl_name_in : Item → List (List ℕ)
+abbrev pub decl_name_in : Item → List (List ℕ)
 decl_name_in (OfProcess d) = d.name ∷ []
 decl_name_in _ = []
 
