@@ -1,5 +1,5 @@
 -- Calls: what is read of their tokens is what the grammar says, and the other way round.
-use Rattle.std.proofs.Common.{◌≡◌, ℕ, zero, suc, ◌+◌, ◌==◌, Bool, true, false, cond, List, [], ◌∷◌, ◌++◌, length, map, find, codes, Option, Some, None, Result, Ok, Err, option_map, bytes_eq, refl, sym, subst, ap, ◌∙◌, arith}
+use Rattle.std.proofs.Common.{◌≡◌, ℕ, ◌+◌, ◌==◌, Bool, true, false, cond, List, [], ◌∷◌, ◌++◌, map, Option, Some, None, Result, Ok, Err, option_map, bytes_eq, refl, sym, subst, ap, ◌∙◌}
 use Rattle.std.proofs.lemmas.Bool.{eqb-true}
 use Rattle.vx_base.specs.declared.call.Arg.{Arg}
 use Rattle.vx_base.specs.declared.call.Arg.TheVariants as arg
@@ -8,9 +8,7 @@ use Rattle.vx_base.specs.declared.call.Call.{Call}
 use Rattle.vx_base.specs.declared.call.Operand.{Operand}
 use Rattle.vx_base.specs.declared.call.Operand.TheVariants as operand
 use Rattle.vx_base.specs.declared.call.Target.{Target}
-use Rattle.vx_base.specs.declared.mode.Mode.{Mode}
 use Rattle.vx_base.specs.declared.mode.Mode.TheVariants.{Kernel, Exec, Super, User}
-use Rattle.vx_base.specs.declared.request.Func.{Func}
 use Rattle.vx_base.specs.declared.request.Func.TheVariants.{Read, ReadNow, Write, WriteNow, Eof, EofNow, ReadAttn, WrtAttn}
 use Rattle.vx_base.specs.declared.cond.Cond.{Cond}
 use Rattle.vx_base.specs.declared.service.Kind.{Kind}
@@ -24,9 +22,8 @@ use Rattle.vx_text.specs.declared.token.Tok.{Tok}
 use Rattle.vx_text.specs.declared.token.Tok.TheVariants as tok
 use Rattle.vx_text.proofs.Runs.{by_test}
 use Rattle.vx_table.specs.declared.fail.CallFail.{CallFail}
-use Rattle.vx_table.specs.declared.fail.CallFail.TheVariants as fail
-use Rattle.vx_table.specs.Reading.{operand_word, target_word, mode_word, func_word, word_arg, token_arg, arg_or, default_of, read_arg, is_comma, onto_first, cut, pieces, behind_args, and_args, read_args, as_args, call_with, read_row, read_named, read_call}
-use Rattle.vx_table.specs.Spelling.{mode_name, func_name, operand_token, target_token, arg_token, comma}
+use Rattle.vx_table.specs.Reading.{operand_word, target_word, mode_word, func_word, word_arg, token_arg, arg_or, default_of, read_arg, is_comma, onto_first, cut, pieces, and_args, read_args, as_args, call_with, read_row, read_named, read_call}
+use Rattle.vx_table.specs.Spelling.{mode_name, func_name, arg_token, comma}
 use Rattle.vx_table.proofs.Back.{no_comma, kind_used, token_back}
 use Rattle.vx_table.proofs.Calls.{IsOperandOr, IsTargetOr, operand_is, target_is}
 use Rattle.vx_grammar.specs.Grammar.{Argument, stands, left_out, Arguments, no_params, by_piece, with_no_piece, between_commas}

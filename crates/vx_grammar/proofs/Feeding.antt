@@ -9,11 +9,10 @@ use Rattle.vx_text.specs.declared.token.Token.{Token}
 use Rattle.vx_table.specs.Back.{toks_of}
 use Rattle.vx_table.specs.Reading.{toks}
 use Rattle.vx_script.specs.Results.{◌>>=◌, at_line}
-use Rattle.vx_script.specs.Reading.{accepted, kind_of, with_kind, take_line, closed, between_images, read_lines}
+use Rattle.vx_script.specs.Reading.{accepted, with_kind, take_line, closed, between_images, read_lines}
 use Rattle.vx_script.specs.Resolving.{resolve}
 use Rattle.vx_script.specs.declared.draft.DraftImage.{DraftImage}
 use Rattle.vx_script.specs.declared.fault.FaultKind.{FaultKind}
-use Rattle.vx_script.specs.declared.fault.ScriptFault.{ScriptFault}
 use Rattle.vx_script.specs.declared.parts.Parts.{Parts}
 use Rattle.vx_script.specs.declared.parts.Reading.{Reading}
 use Rattle.vx_script.proofs.KeptParts.{AreParts, IsRead, line_kept}

@@ -1,6 +1,6 @@
 -- What a field that was read says of the tokens.
-use Rattle.std.proofs.Common.{◌≡◌, ℕ, zero, suc, ◌+◌, ◌≤◌, ◌==◌, ◌&&◌, Bool, true, false, cond, nat_le, List, [], ◌∷◌, ◌++◌, length, drop, map, find, codes, Option, Some, None, Result, Ok, Err, option_map, slice_index, bytes_eq, refl, sym, subst, ap, ◌∙◌, arith}
-use Rattle.std.proofs.lemmas.Bool.{and_parts, leb-true, eqb-true, ltb-true}
+use Rattle.std.proofs.Common.{◌≡◌, ℕ, ◌+◌, ◌≤◌, ◌==◌, ◌&&◌, Bool, true, false, cond, nat_le, List, [], ◌∷◌, length, drop, find, codes, Option, Some, None, Result, Ok, Err, option_map, slice_index, bytes_eq, refl, sym, subst, ap, ◌∙◌, arith}
+use Rattle.std.proofs.lemmas.Bool.{and_parts, leb-true, eqb-true}
 use Rattle.std.proofs.lemmas.List.{drop-drop}
 use Rattle.std.proofs.lemmas.Slice.Eq.{bytes_eq-Decides}
 use Rattle.vx_base.specs.declared.call.Operand.{Operand}
@@ -14,7 +14,7 @@ use Rattle.vx_text.proofs.Runs.{by_test}
 use Rattle.vx_table.specs.Reading.{letter, long_operand, operand_word, operand_of, target_word}
 use Rattle.vx_table.specs.Spelling.{operand_token, target_token}
 use Rattle.vx_script.specs.Results.{◌>>=◌, given}
-use Rattle.vx_script.specs.Fields.{first_of, end_at, is_word, is_sign, when, sign_at, word_at, name_in, name_at, number_in, within, number_between, number_at, text_in, text_at, operand_at, target_in, target_at}
+use Rattle.vx_script.specs.Fields.{first_of, end_at, is_word, is_sign, when, sign_at, word_at, name_in, name_at, number_in, within, number_at, text_in, text_at, operand_at, target_in, target_at}
 use Rattle.vx_script.specs.declared.fault.FaultKind.{FaultKind}
 use Rattle.vx_script.specs.declared.fault.FaultKind.TheVariants as kind
 use Rattle.vx_grammar.specs.Grammar.{Between}

@@ -1,9 +1,8 @@
 -- What is read of lines is what the grammar says, from the last line back to the first.
-use Rattle.std.proofs.Common.{◌≡◌, ℕ, zero, suc, ◌+◌, ◌≤◌, ◌==◌, ◌&&◌, not, Bool, true, false, cond, nat_le, nat_lt, List, [], ◌∷◌, ◌++◌, length, drop, map, flat_map, find, codes, Option, Some, None, Result, Ok, Err, bytes_eq, refl, sym, subst, ap, ◌∙◌, arith, append-nil, append_assoc, length-append}
+use Rattle.std.proofs.Common.{◌≡◌, ℕ, ◌+◌, ◌&&◌, not, Bool, true, cond, nat_le, List, [], ◌∷◌, ◌++◌, length, drop, map, flat_map, find, codes, Option, Some, None, Result, Ok, Err, bytes_eq, refl, sym, subst, ap, ◌∙◌, append-nil, length-append}
 use Rattle.std.specs.List.{list_all}
 use Rattle.std.proofs.lemmas.Bool.{and_parts, and_from, leb-true}
 use Rattle.vx_image.specs.declared.image.Image.{Image}
-use Rattle.vx_image.specs.declared.image.Label.{Label}
 use Rattle.vx_image.specs.declared.stmt.Stmt.{Stmt}
 use Rattle.vx_image.specs.declared.system.System.{System}
 use Rattle.vx_image.specs.declared.unit.UnitDecl.{UnitDecl}
@@ -11,17 +10,15 @@ use Rattle.vx_image.specs.WellFormed.{are_distinct, falls_nowhere, label_names, 
 use Rattle.vx_text.specs.declared.token.Tok.{Tok}
 use Rattle.vx_text.specs.declared.token.Tok.TheVariants as tok
 use Rattle.vx_text.proofs.Runs.{by_test}
-use Rattle.vx_script.specs.Results.{◌>>=◌}
-use Rattle.vx_script.specs.Fields.{is_sign, begins_with_sign, end_at}
+use Rattle.vx_script.specs.Fields.{begins_with_sign, end_at}
 use Rattle.vx_script.specs.Declarations.{fresh, room_for, unit_line, input_line, fault_line, image_line, process_line}
-use Rattle.vx_script.specs.Reading.{with_stmt, with_label, labelled, goes_on, going_on, ended, word_line, first_word, by_word, inside, between_images, outer_line, outside, by_place, accepted}
-use Rattle.vx_script.specs.Resolving.{label_place, names_no_label, first_unlabelled, settled, image_of, with_image}
+use Rattle.vx_script.specs.Reading.{with_stmt, with_label, labelled, goes_on, going_on, word_line, inside, between_images, outer_line, outside, by_place, accepted}
+use Rattle.vx_script.specs.Resolving.{label_place, names_no_label, settled, image_of, with_image}
 use Rattle.vx_script.specs.Statements.{stmt_of}
 use Rattle.vx_script.specs.declared.draft.Draft.{Draft}
 use Rattle.vx_script.specs.declared.draft.DraftImage.{DraftImage}
 use Rattle.vx_script.specs.declared.draft.DraftLine.{DraftLine}
 use Rattle.vx_script.specs.declared.fault.FaultKind.{FaultKind}
-use Rattle.vx_script.specs.declared.fault.FaultKind.TheVariants as kind
 use Rattle.vx_script.specs.declared.parts.Parts.{Parts}
 use Rattle.vx_script.specs.declared.parts.Reading.{Reading}
 use Rattle.vx_script.proofs.Appended.{not_out, all_both, unfound, none_from}
@@ -107,10 +104,15 @@ becomes_label s image last name said b = record {
 inner_line : (s : System) (all parts : Parts) (image more : DraftImage) (ts : List Tok) (tss : List (List Tok)) (front : List Said) (i : Inner s all parts more tss)
     → BodyLine (decl_names s) (image_of i.last) ts front → Becomes s image i.last (front ++ i.said) → Inner s all parts image (ts ∷ tss)
 inner_line s all parts image more ts tss front i line b = record {
-  last = i.last; body = ts ∷ i.body; rest = i.rest; said = front ++ i.said;
+  last = i.last;
+  body = ts ∷ i.body;
+  rest = i.rest;
+  said = front ++ i.said;
   split = ap (λ (us : List (List Tok)). ts ∷ us) i.split;
   is = and_line ts i.body front i.said line i.is;
-  becomes = b; formed = i.formed; outer = i.outer;
+  becomes = b;
+  formed = i.formed;
+  outer = i.outer;
 }
 
 inner_as : (s : System) (all parts : Parts) (image : DraftImage) (ts us : List Tok) (tss : List (List Tok)) → us ≡ ts → Inner s all parts image (us ∷ tss) → Inner s all parts image (ts ∷ tss)
@@ -185,9 +187,15 @@ end_spelled s all parts image tss sound o =
     let formed = (all_front (is_image (decl_names s)) parts.images (image_of image) here.0).1 in
     let f = formed_parts (decl_names s) (image_of image) formed in
     record {
-      last = image; body = []; rest = tss; said = []; split = refl; is = no_lines;
+      last = image;
+      body = [];
+      rest = tss;
+      said = [];
+      split = refl;
+      is = no_lines;
       becomes = record { name = refl; labels = sym (append-nil image.labels); stmts = sym (append-nil (map (settle image) image.lines)); fine = all_fine s image image.lines there f.stmts };
-      formed = formed; outer = o;
+      formed = formed;
+      outer = o;
     }
 
 -- Any line.
@@ -213,14 +221,14 @@ word_spelled : (s : System) (all parts : Parts) (line : ℕ) (image : DraftImage
 word_spelled s all parts line image word ts tss r sound h b =
     by_test {A = Result Reading FaultKind} (λ q. q ≡ Ok r → Inner s all parts image ((tok.Word word ∷ ts) ∷ tss)) (begins_with_sign 58 ts) _ _
     (λ e k. going s all parts image (tok.Word word ∷ ts) tss (labelled line image word (drop 1 ts)) r k b λ more m i.
-        inner_as s all parts image _ (tok.Word word ∷ colon ∷ drop 1 ts) tss (ap (λ (us : List Tok). tok.Word word ∷ us) (sym (colon_by ts e))) (label_spelled s all parts line image more word (drop 1 ts) tss m i))
+    inner_as s all parts image _ (tok.Word word ∷ colon ∷ drop 1 ts) tss (ap (λ (us : List Tok). tok.Word word ∷ us) (sym (colon_by ts e))) (label_spelled s all parts line image more word (drop 1 ts) tss m i))
     (λ _. by_test {A = Result Reading FaultKind} (λ q. q ≡ Ok r → Inner s all parts image ((tok.Word word ∷ ts) ∷ tss)) (bytes_eq word (codes "END")) _ _
     (λ e k.
-        let end = bind_ok (end_at ts) _ r k in
-        let none = end_is 0 ts end.0 end.1 in
-        let is : r ≡ between_images (with_image parts image) = cc (end.2) in
-        let shape : tok.Word (codes "END") ∷ [] ≡ tok.Word word ∷ ts = ap (λ (w : List ℕ). tok.Word w ∷ []) (sym (name_is word (codes "END") e)) ∙ ap (λ (us : List Tok). tok.Word word ∷ us) (sym none) in
-        inner_as s all parts image _ (tok.Word (codes "END") ∷ []) tss shape (end_spelled s all parts image tss sound (subst (λ (q : Reading). Behind s all q tss) is b)))
+    let end = bind_ok (end_at ts) _ r k in
+    let none = end_is 0 ts end.0 end.1 in
+    let is : r ≡ between_images (with_image parts image) = cc (end.2) in
+    let shape : tok.Word (codes "END") ∷ [] ≡ tok.Word word ∷ ts = ap (λ (w : List ℕ). tok.Word w ∷ []) (sym (name_is word (codes "END") e)) ∙ ap (λ (us : List Tok). tok.Word word ∷ us) (sym none) in
+    inner_as s all parts image _ (tok.Word (codes "END") ∷ []) tss shape (end_spelled s all parts image tss sound (subst (λ (q : Reading). Behind s all q tss) is b)))
     (λ _ k. going s all parts image (tok.Word word ∷ ts) tss (with_stmt line image (tok.Word word ∷ ts)) r k b λ more m i. plain_line s all parts line image more (tok.Word word ∷ ts) tss m i)) h
 
 inside_spelled : (s : System) (all parts : Parts) (line : ℕ) (image : DraftImage) (ts : List Tok) (tss : List (List Tok)) (r : Reading) → Sound s all → inside line parts image ts ≡ Ok r
@@ -246,8 +254,8 @@ open_spelled s all parts name tss i =
     let is : ImageOf (decl_names s) i.body image = record { said = i.said; body = i.is; stmts = i.becomes.stmts; labels = i.becomes.labels; few = leb-true _ _ f.few; once = f.names } in
     let lines = an_image image i.body i.rest i.outer.items is i.outer.lines in
     let shape : (tok.Word (codes "IMAGE") ∷ tok.Word i.last.name ∷ []) ∷ (i.body ++ (tok.Word (codes "END") ∷ []) ∷ i.rest) ≡ (tok.Word (codes "IMAGE") ∷ tok.Word name ∷ []) ∷ tss =
-        ap (λ (n : List ℕ). (tok.Word (codes "IMAGE") ∷ tok.Word n ∷ []) ∷ (i.body ++ (tok.Word (codes "END") ∷ []) ∷ i.rest)) i.becomes.name
-        ∙ ap (λ (us : List (List Tok)). (tok.Word (codes "IMAGE") ∷ tok.Word name ∷ []) ∷ us) (sym i.split) in
+    ap (λ (n : List ℕ). (tok.Word (codes "IMAGE") ∷ tok.Word n ∷ []) ∷ (i.body ++ (tok.Word (codes "END") ∷ []) ∷ i.rest)) i.becomes.name
+    ∙ ap (λ (us : List (List Tok)). (tok.Word (codes "IMAGE") ∷ tok.Word name ∷ []) ∷ us) (sym i.split) in
     record {
       items = OfImage image ∷ i.outer.items;
       lines = subst (λ (us : List (List Tok)). Lines s us (OfImage image ∷ i.outer.items)) shape lines;
@@ -276,35 +284,35 @@ word_outside : (s : System) (all parts : Parts) (line : ℕ) (word : List ℕ) (
     → Outer s all parts ((tok.Word word ∷ ts) ∷ tss)
 word_outside s all parts line word ts tss r h b =
     by_keyword s all parts word (codes "UNIT") ts tss r _ _ (λ k.
-        let u = bind_ok (unit_line parts.units ts) _ r k in
-        let is : r ≡ between_images (and_unit parts u.0) = cc (u.2) in
-        with_unit_spelled s all parts parts u.0 ts tss u.1 (subst (λ (q : Reading). Behind s all q tss) is b)) (
+    let u = bind_ok (unit_line parts.units ts) _ r k in
+    let is : r ≡ between_images (and_unit parts u.0) = cc (u.2) in
+    with_unit_spelled s all parts parts u.0 ts tss u.1 (subst (λ (q : Reading). Behind s all q tss) is b)) (
     by_keyword s all parts word (codes "INPUT") ts tss r _ _ (λ k.
-        let i = bind_ok (input_line line ts) _ r k in
-        let is : r ≡ between_images (and_input parts i.0) = cc (i.2) in
-        let o : Outer s all (and_input parts i.0) tss = subst (λ (q : Reading). Behind s all q tss) is b in
-        let n = known_input s parts i.0 o.known in
-        outer_one s all parts (and_input parts i.0) _ tss (OfInput i.0.unit i.0.text) o (input_spelled line ts i.0 i.1 s n.1) (input_added s all parts i.0 o.items o.adds) n.0) (
+    let i = bind_ok (input_line line ts) _ r k in
+    let is : r ≡ between_images (and_input parts i.0) = cc (i.2) in
+    let o : Outer s all (and_input parts i.0) tss = subst (λ (q : Reading). Behind s all q tss) is b in
+    let n = known_input s parts i.0 o.known in
+    outer_one s all parts (and_input parts i.0) _ tss (OfInput i.0.unit i.0.text) o (input_spelled line ts i.0 i.1 s n.1) (input_added s all parts i.0 o.items o.adds) n.0) (
     by_keyword s all parts word (codes "FAULT") ts tss r _ _ (λ k.
-        let f = bind_ok (fault_line line parts.faults ts) _ r k in
-        let is : r ≡ between_images (and_fault parts f.0) = cc (f.2) in
-        let o : Outer s all (and_fault parts f.0) tss = subst (λ (q : Reading). Behind s all q tss) is b in
-        let n = known_fault s parts f.0 o.known in
-        outer_one s all parts (and_fault parts f.0) _ tss (OfFault f.0.unit f.0.number) o (fault_spelled line parts.faults ts f.0 f.1 s n.1) (fault_added s all parts f.0 o.items o.adds) n.0) (
+    let f = bind_ok (fault_line line parts.faults ts) _ r k in
+    let is : r ≡ between_images (and_fault parts f.0) = cc (f.2) in
+    let o : Outer s all (and_fault parts f.0) tss = subst (λ (q : Reading). Behind s all q tss) is b in
+    let n = known_fault s parts f.0 o.known in
+    outer_one s all parts (and_fault parts f.0) _ tss (OfFault f.0.unit f.0.number) o (fault_spelled line parts.faults ts f.0 f.1 s n.1) (fault_added s all parts f.0 o.items o.adds) n.0) (
     by_keyword s all parts word (codes "IMAGE") ts tss r _ _ (λ k.
-        let i = bind_ok (image_line parts.images ts) _ r k in
-        let is : r ≡ goes_on parts i.0 = cc (i.2) in
-        let n = image_spelled parts.images ts i.0 i.1 in
-        let o : Inner s all parts i.0 tss = subst (λ (q : Reading). Behind s all q tss) is b in
-        outer_as s all parts _ (tok.Word (codes "IMAGE") ∷ tok.Word n.0 ∷ []) tss (ap (λ (us : List Tok). tok.Word (codes "IMAGE") ∷ us) (sym n.1))
-        (open_spelled s all parts n.0 tss (subst (λ (j : DraftImage). Inner s all parts j tss) (sym n.2) o))) (
+    let i = bind_ok (image_line parts.images ts) _ r k in
+    let is : r ≡ goes_on parts i.0 = cc (i.2) in
+    let n = image_spelled parts.images ts i.0 i.1 in
+    let o : Inner s all parts i.0 tss = subst (λ (q : Reading). Behind s all q tss) is b in
+    outer_as s all parts _ (tok.Word (codes "IMAGE") ∷ tok.Word n.0 ∷ []) tss (ap (λ (us : List Tok). tok.Word (codes "IMAGE") ∷ us) (sym n.1))
+    (open_spelled s all parts n.0 tss (subst (λ (j : DraftImage). Inner s all parts j tss) (sym n.2) o))) (
     by_keyword s all parts word (codes "PROCESS") ts tss r _ _ (λ k.
-        let d = bind_ok (process_line line parts.decls ts) _ r k in
-        let is : r ≡ between_images (and_decl parts d.0) = cc (d.2) in
-        let o : Outer s all (and_decl parts d.0) tss = subst (λ (q : Reading). Behind s all q tss) is b in
-        let n = known_decl s parts d.0 o.known in
-        let p = process_spelled line parts.decls ts d.0 d.1 s n.1 in
-        outer_one s all parts (and_decl parts d.0) _ tss (OfProcess p.decl) o p.line (decl_added s all parts d.0 p.decl o.items p.is o.adds) n.0)
+    let d = bind_ok (process_line line parts.decls ts) _ r k in
+    let is : r ≡ between_images (and_decl parts d.0) = cc (d.2) in
+    let o : Outer s all (and_decl parts d.0) tss = subst (λ (q : Reading). Behind s all q tss) is b in
+    let n = known_decl s parts d.0 o.known in
+    let p = process_spelled line parts.decls ts d.0 d.1 s n.1 in
+    outer_one s all parts (and_decl parts d.0) _ tss (OfProcess p.decl) o p.line (decl_added s all parts d.0 p.decl o.items p.is o.adds) n.0)
     (λ k. absurd (cc)))))) h
 
 outside_spelled : (s : System) (all parts : Parts) (line : ℕ) (ts : List Tok) (tss : List (List Tok)) (r : Reading) → outside line parts ts ≡ Ok r → Behind s all r tss → Outer s all parts (ts ∷ tss)

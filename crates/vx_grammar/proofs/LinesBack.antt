@@ -1,5 +1,5 @@
 -- Lines that are spelled are read.
-use Rattle.std.proofs.Common.{◌≡◌, ℕ, zero, suc, ◌+◌, ◌<◌, ◌≤◌, ◌==◌, ◌&&◌, ◌||◌, not, Bool, true, false, cond, nat_le, nat_lt, List, [], ◌∷◌, ◌++◌, length, drop, map, flat_map, find, codes, Option, Some, None, is_some, position, Result, Ok, Err, bytes_eq, refl, sym, subst, ap, ◌∙◌, arith, append-nil, append_assoc, length-append}
+use Rattle.std.proofs.Common.{◌≡◌, ℕ, ◌+◌, ◌≤◌, ◌==◌, ◌&&◌, not, Bool, true, false, cond, nat_le, nat_lt, List, [], ◌∷◌, ◌++◌, length, map, flat_map, find, codes, Option, Some, None, is_some, position, Result, Ok, bytes_eq, refl, sym, subst, ap, ◌∙◌, arith, append-nil, append_assoc, length-append}
 use Rattle.std.specs.List.{list_all, list_any}
 use Rattle.std.proofs.lemmas.Bool.{and_parts, and_from, or_parts, or_from, not_from_false, le-leb, lt-ltb}
 use Rattle.std.proofs.lemmas.List.{map-append}
@@ -14,9 +14,9 @@ use Rattle.vx_image.specs.WellFormed.{is_among, are_distinct, label_names, decl_
 use Rattle.vx_text.specs.declared.token.Tok.{Tok}
 use Rattle.vx_text.specs.declared.token.Tok.TheVariants as tok
 use Rattle.vx_script.specs.Results.{◌>>=◌}
-use Rattle.vx_script.specs.Keys.{no_keys, keys_from}
+use Rattle.vx_script.specs.Keys.{no_keys}
 use Rattle.vx_script.specs.Declarations.{unit_place, image_place, decl_place, fresh, unit_line, input_line, is_fault_of, fault_line, image_line, process_line}
-use Rattle.vx_script.specs.Reading.{with_stmt, with_label, goes_on, going_on, inside, between_images, outside, accepted}
+use Rattle.vx_script.specs.Reading.{with_stmt, with_label, goes_on, going_on, inside, between_images, outside}
 use Rattle.vx_script.specs.Resolving.{label_place, names_no_label, first_unlabelled, place_or_zero, settled, image_of, with_image, creation_of, creations_of, decl_of}
 use Rattle.vx_script.specs.Statements.{stmt_of}
 use Rattle.vx_script.specs.declared.draft.Draft.{Draft}
@@ -33,7 +33,7 @@ use Rattle.vx_script.specs.declared.parts.Reading.{Reading}
 use Rattle.vx_script.proofs.Appended.{not_out, map_push, all_push, same_back, as_many}
 use Rattle.vx_script.proofs.EndedImages.{is_known}
 use Rattle.vx_script.proofs.Places.{any_map, has_place}
-use Rattle.vx_grammar.specs.Grammar.{Between, Said, Names, Does, Statement, BodyLine, empty_line, statement_line, label_line, labelled_line, Body, no_lines, and_line, stmts_in, labels_in, ImageOf, Settings, plain_decl, Item, OfUnit, OfInput, OfFault, OfImage, OfProcess, Line, a_line_unit, a_block_unit, an_input, a_fault, a_process, Lines, none_left, an_empty_line, a_line, an_image, fault_in, colon}
+use Rattle.vx_grammar.specs.Grammar.{Between, Said, Names, Does, BodyLine, empty_line, statement_line, label_line, labelled_line, Body, no_lines, and_line, stmts_in, labels_in, ImageOf, plain_decl, Item, OfUnit, OfInput, OfFault, OfImage, OfProcess, Line, a_line_unit, a_block_unit, an_input, a_fault, a_process, Lines, none_left, an_empty_line, a_line, an_image, fault_in, colon}
 use Rattle.vx_grammar.proofs.ReadStatements.{Reads, ReadsAs, stmt_reads}
 use Rattle.vx_grammar.proofs.ProcessKeys.{has, decl_with, KeysRead, settings_read}
 use Rattle.vx_grammar.proofs.SaidSoFar.{pushed, map_pushed, fault_key, Extends, nothing_added, and_unit, and_input, and_fault, and_decl, bare_unit, unit_added, input_added, fault_added, decl_added, image_added, Known, with_known_unit, with_known_input, with_known_fault, with_known_decl, with_known_image}
@@ -171,8 +171,8 @@ room_behind decls i image more front said g r =
     let both : length (stmts_in (front ++ said)) ≡ length (stmts_in front ++ stmts_in said) = ap (λ (ss : List Stmt). length ss) (stmts_both front said) in
     let names : map name more.labels ≡ map name image.labels ++ names_in front = ap (map name) g.labels ∙ map-append name image.labels (labels_in (length image.lines) front) ∙ ap (λ (ns : List (List ℕ)). map name image.labels ++ ns) (labels_named (length image.lines) front) in
     let same : map name image.labels ++ names_in (front ++ said) ≡ map name more.labels ++ names_in said =
-        ap (λ (ns : List (List ℕ)). map name image.labels ++ ns) (names_both front said) ∙ sym (append_assoc (map name image.labels) (names_in front) (names_in said))
-        ∙ ap (λ (ns : List (List ℕ)). ns ++ names_in said) (sym names) in
+    ap (λ (ns : List (List ℕ)). map name image.labels ++ ns) (names_both front said) ∙ sym (append_assoc (map name image.labels) (names_in front) (names_in said))
+    ∙ ap (λ (ns : List (List ℕ)). ns ++ names_in said) (sym names) in
     record {
       apart = subst (λ (ns : List (List ℕ)). are_distinct ns ≡ true) same r.apart;
       few = omega (arith, few, long, both, length-append (stmts_in front) (stmts_in said));
@@ -265,7 +265,7 @@ front_room image front said r =
     let both : length (stmts_in (front ++ said)) ≡ length (stmts_in front ++ stmts_in said) = ap (λ (ss : List Stmt). length ss) (stmts_both front said) in
     let name = λ (l : Label). l.name in
     let same : map name image.labels ++ names_in (front ++ said) ≡ (map name image.labels ++ names_in front) ++ names_in said =
-        ap (λ (ns : List (List ℕ)). map name image.labels ++ ns) (names_both front said) ∙ sym (append_assoc (map name image.labels) (names_in front) (names_in said)) in
+    ap (λ (ns : List (List ℕ)). map name image.labels ++ ns) (names_both front said) ∙ sym (append_assoc (map name image.labels) (names_in front) (names_in said)) in
     record {
       apart = front_apart (map name image.labels ++ names_in front) (names_in said) (subst (λ (ns : List (List ℕ)). are_distinct ns ≡ true) same r.apart);
       few = omega (arith, few, both, length-append (stmts_in front) (stmts_in said));
@@ -282,7 +282,8 @@ body_read decls i _ _ (and_line ts lines front said first more) line parts image
     let l = line_read decls i ts front first line parts image g (front_room image front said room) in
     let b = body_read decls i lines said more (line + 1) parts l.more (record { known = l.grows.known; made = l.grows.made }) (room_behind decls i image l.more front said l.grows room) in
     record {
-      next = b.next; last = b.last;
+      next = b.next;
+      last = b.last;
       read = λ rest. fed_line line parts image l.more ts (lines ++ rest) l.read ∙ b.read rest;
       grows = and_grows decls i image l.more b.last front said l.grows b.grows;
     }
@@ -323,19 +324,25 @@ input_room parts i items r = record { units = r.units; images = r.images; decls 
 
 fault_room : (parts : Parts) (f : FaultLine) (items : List Item) → Rooms parts (OfFault f.unit f.number ∷ items) → Rooms (and_fault parts f) items
 fault_room parts f items r = record {
-  units = r.units; images = r.images; decls = r.decls;
+  units = r.units;
+  images = r.images;
+  decls = r.decls;
   faults = subst (λ (ns : List (List ℕ)). are_distinct ns ≡ true) (sym (map_pushed fault_key parts.faults f (flat_map fault_in items))) r.faults;
 }
 
 decl_room : (parts : Parts) (d : DeclLine) (p : ProcDecl) (items : List Item) → p.name ≡ d.name → Rooms parts (OfProcess p ∷ items) → Rooms (and_decl parts d) items
 decl_room parts d p items e r = record {
-  units = r.units; images = r.images; faults = r.faults;
+  units = r.units;
+  images = r.images;
+  faults = r.faults;
   decls = room_push 1000 (λ (d : DeclLine). d.name) parts.decls d (flat_map decl_name_in items) (subst (λ (n : List ℕ). Room 1000 (map (λ (d : DeclLine). d.name) parts.decls) (n ∷ flat_map decl_name_in items)) e r.decls);
 }
 
 image_room : (parts : Parts) (image : DraftImage) (i : Image) (items : List Item) → i.name ≡ image.name → Rooms parts (OfImage i ∷ items) → Rooms (with_image parts image) items
 image_room parts image i items e r = record {
-  units = r.units; decls = r.decls; faults = r.faults;
+  units = r.units;
+  decls = r.decls;
+  faults = r.faults;
   images = room_push 256 (λ (i : Image). i.name) parts.images (image_of image) (flat_map image_name_in items) (subst (λ (n : List ℕ). Room 256 (map (λ (i : Image). i.name) parts.images) (n ∷ flat_map image_name_in items)) e r.images);
 }
 
@@ -501,7 +508,7 @@ a_line_read s _ _ (a_process name image k ts keys set place settings once) tss i
     let there : is_some (image_place image s.images) ≡ true = ap (λ (o : Option ℕ). is_some o) place in
     let r = more (line + 1) (and_decl parts d) (with_known_decl s parts d known there) (decl_room parts d p items named rooms) in
     let here : Room 1000 (map (λ (d : DeclLine). d.name) parts.decls) (name ∷ flat_map decl_name_in items) =
-        subst (λ (n : List ℕ). Room 1000 (map (λ (d : DeclLine). d.name) parts.decls) (n ∷ flat_map decl_name_in items)) named rooms.decls in
+    subst (λ (n : List ℕ). Room 1000 (map (λ (d : DeclLine). d.name) parts.decls) (n ∷ flat_map decl_name_in items)) named rooms.decls in
     let new = room_new 1000 (λ (d : DeclLine). d.name) parts.decls name (flat_map decl_name_in items) here in
     let room = room_left 1000 (λ (d : DeclLine). d.name) parts.decls name (flat_map decl_name_in items) here in
     read_on s line (line + 1) parts (and_decl parts d) _ tss (OfProcess p) items r (fed_outside line parts (between_images (and_decl parts d)) _ tss (a_process_read line parts name image ts set read new room))

@@ -1,5 +1,5 @@
 -- What is read names only what is there; and the system that was read is the one that the lines stand for.
-use Rattle.std.proofs.Common.{◌≡◌, ℕ, ◌==◌, ◌&&◌, ◌||◌, not, Bool, true, false, List, [], ◌∷◌, ◌++◌, map, flat_map, find, Option, Some, None, option_map, is_some, is_none, position, bytes_eq, refl, sym, subst, ap, ◌∙◌}
+use Rattle.std.proofs.Common.{◌≡◌, ℕ, ◌==◌, ◌&&◌, not, Bool, true, false, List, [], ◌∷◌, map, flat_map, find, Option, Some, None, option_map, is_some, is_none, position, bytes_eq, refl, sym, ap, ◌∙◌}
 use Rattle.std.specs.List.{list_all, list_any}
 use Rattle.vx_image.specs.declared.decl.ProcDecl.{ProcDecl}
 use Rattle.vx_image.specs.declared.image.Image.{Image}
@@ -15,13 +15,13 @@ use Rattle.vx_script.specs.declared.lines.DeclLine.{DeclLine}
 use Rattle.vx_script.specs.declared.lines.FaultLine.{FaultLine}
 use Rattle.vx_script.specs.declared.lines.InputLine.{InputLine}
 use Rattle.vx_script.specs.declared.parts.Parts.{Parts}
-use Rattle.vx_script.proofs.Appended.{all_weaker, unfound, none_from, not_out}
+use Rattle.vx_script.proofs.Appended.{unfound, none_from, not_out}
 use Rattle.vx_script.proofs.EndedImages.{is_known, neither}
 use Rattle.vx_script.proofs.FaultLines.{are_apart}
 use Rattle.vx_script.proofs.Places.{any_map, has_place}
 use Rattle.std.proofs.lemmas.Bool.{and_parts, and_from, or_parts, or_from, not_from_false}
 use Rattle.vx_grammar.specs.Grammar.{Item, OfUnit, OfInput, OfFault, OfImage, OfProcess, unit_in, input_of, number_of, image_in, decl_in, system_of}
-use Rattle.vx_grammar.proofs.SaidSoFar.{fault_key, plain_unit, Extends, Known, has_image, has_line_unit, has_unit, unit_names}
+use Rattle.vx_grammar.proofs.SaidSoFar.{fault_key, plain_unit, Extends, Known, has_image, has_line_unit, has_unit}
 use Rattle.vx_grammar.proofs.LinesBack.{none_found}
 
 -- Names, as the second pass looks for them.

@@ -1,32 +1,29 @@
 -- The lines that stand in no image: what is read of them is what the grammar says.
-use Rattle.std.proofs.Common.{◌≡◌, ℕ, zero, suc, ◌+◌, ◌≤◌, ◌==◌, ◌&&◌, Bool, true, false, cond, nat_lt, List, [], ◌∷◌, ◌++◌, length, drop, map, find, codes, Option, Some, None, is_some, Result, Ok, Err, bytes_eq, refl, sym, subst, ap, ◌∙◌, arith}
+use Rattle.std.proofs.Common.{◌≡◌, ℕ, true, List, [], ◌∷◌, length, drop, codes, Option, Some, None, is_some, Result, Ok, Err, refl, sym, subst, ap}
 use Rattle.std.specs.List.{list_any}
 use Rattle.vx_image.specs.declared.decl.ProcDecl.{ProcDecl}
 use Rattle.vx_image.specs.declared.image.Image.{Image}
 use Rattle.vx_image.specs.declared.system.System.{System}
 use Rattle.vx_image.specs.declared.unit.UnitDecl.{UnitDecl}
-use Rattle.vx_image.specs.WellFormed.{are_distinct}
 use Rattle.vx_text.specs.declared.token.Tok.{Tok}
 use Rattle.vx_text.specs.declared.token.Tok.TheVariants as tok
 use Rattle.vx_text.proofs.Runs.{by_test}
-use Rattle.vx_script.specs.Results.{◌>>=◌, given}
-use Rattle.vx_script.specs.Fields.{first_of, end_at, name_at, number_at, text_at}
-use Rattle.vx_script.specs.Keys.{key_name, no_keys, keys_from}
-use Rattle.vx_script.specs.Declarations.{unit_place, image_place, decl_place, fresh, room_for, device_name, device_word, device_in, device_at, block_count, blocks_of, unit_line, input_line, is_fault_of, fresh_fault, fault_line, image_line, process_line}
+use Rattle.vx_script.specs.Fields.{end_at, name_at, number_at, text_at}
+use Rattle.vx_script.specs.Keys.{no_keys, keys_from}
+use Rattle.vx_script.specs.Declarations.{unit_place, image_place, decl_place, fresh, room_for, device_name, device_in, device_at, blocks_of, unit_line, input_line, is_fault_of, fresh_fault, fault_line, image_line, process_line}
 use Rattle.vx_script.specs.Resolving.{place_or_zero, decl_of}
 use Rattle.vx_script.specs.declared.declaration.Device.{Device}
 use Rattle.vx_script.specs.declared.declaration.Device.TheVariants as device
 use Rattle.vx_script.specs.declared.draft.DraftImage.{DraftImage}
 use Rattle.vx_script.specs.declared.fault.FaultKind.{FaultKind}
 use Rattle.vx_script.specs.declared.fault.FaultKind.TheVariants as kind
-use Rattle.vx_script.specs.declared.keys.Key.{Key}
 use Rattle.vx_script.specs.declared.keys.Keys.{Keys}
 use Rattle.vx_script.specs.declared.lines.DeclLine.{DeclLine}
 use Rattle.vx_script.specs.declared.lines.FaultLine.{FaultLine}
 use Rattle.vx_script.specs.declared.lines.InputLine.{InputLine}
-use Rattle.vx_grammar.specs.Grammar.{Between, Settings, plain_decl, Item, OfUnit, OfInput, OfFault, OfProcess, Line, a_line_unit, a_block_unit, an_input, a_fault, a_process}
+use Rattle.vx_grammar.specs.Grammar.{plain_decl, OfUnit, OfInput, OfFault, OfProcess, Line, a_line_unit, a_block_unit, an_input, a_fault, a_process}
 use Rattle.vx_grammar.proofs.Fields.{bind_ok, found_name, end_is, name_found, number_found, text_found, choice_found}
-use Rattle.vx_grammar.proofs.ProcessKeys.{decl_with, KeysStand, keys_stand}
+use Rattle.vx_grammar.proofs.ProcessKeys.{KeysStand, keys_stand}
 use Rattle.vx_grammar.proofs.SaidSoFar.{bare_unit, has_image, has_line_unit, has_unit}
 
 fresh_ok : (o : Option ℕ) (word name : List ℕ) → fresh o word ≡ Ok name → word ≡ name

@@ -1,19 +1,17 @@
 -- Names of privileges, joined by +: what is read of them is what the grammar says, and the other way round.
-use Rattle.std.proofs.Common.{◌≡◌, ℕ, zero, suc, ◌+◌, ◌||◌, Bool, true, false, cond, List, [], ◌∷◌, ◌++◌, drop, map, find, fold, codes, Option, Some, None, Result, Ok, Err, bytes_eq, refl, sym, subst, ap, ◌∙◌, arith, add-one}
-use Rattle.std.specs.List.{list_any}
+use Rattle.std.proofs.Common.{◌≡◌, ℕ, ◌+◌, ◌||◌, true, false, List, [], ◌∷◌, ◌++◌, drop, fold, Some, Result, Ok, Err, bytes_eq, refl, sym, subst, ap, ◌∙◌, add-one}
 use Rattle.vx_base.specs.declared.quota.Privs.{Privs}
 use Rattle.vx_text.specs.declared.token.Tok.{Tok}
 use Rattle.vx_text.specs.declared.token.Tok.TheVariants as tok
 use Rattle.vx_text.proofs.Runs.{by_test}
-use Rattle.vx_script.specs.Results.{◌>>=◌, given}
-use Rattle.vx_script.specs.Fields.{is_sign, is_word, begins_with_sign}
-use Rattle.vx_script.specs.Keys.{privilege_name, privileges, privilege_word, privilege_in, holds, granted, no_privs, with_privilege, with_token, no_more, one_more, privs_from, privs_of}
+use Rattle.vx_script.specs.Results.{given}
+use Rattle.vx_script.specs.Fields.{is_sign, begins_with_sign}
+use Rattle.vx_script.specs.Keys.{privilege_name, privileges, privilege_word, privilege_in, holds, granted, with_privilege, with_token, no_more, one_more, privs_from}
 use Rattle.vx_script.specs.declared.fault.FaultKind.{FaultKind}
 use Rattle.vx_script.specs.declared.fault.FaultKind.TheVariants as kind
 use Rattle.vx_script.specs.declared.privileges.Privilege.{Privilege}
 use Rattle.vx_script.specs.declared.privileges.Privilege.TheVariants as privilege
 use Rattle.vx_script.specs.declared.privileges.TakenPrivs.{TakenPrivs}
-use Rattle.vx_image.specs.declared.decl.ProcDecl.{ProcDecl}
 use Rattle.vx_grammar.specs.Grammar.{Privileges, one_name, and_name, plus}
 use Rattle.vx_grammar.proofs.Fields.{bind_ok, given_ok, found_name, sign_token}
 use Rattle.vx_grammar.proofs.Once.{OneMore, AreNew, and_new, first_new, rest_new}
@@ -154,11 +152,11 @@ names_stand held (t ∷ s ∷ tokens) taken h =
     let c = bind_ok (privs_from true b.0 (s ∷ tokens)) _ taken b.2 in
     by_test {A = Result TakenPrivs FaultKind} (λ r. r ≡ Ok c.0 → NamesStand held (t ∷ s ∷ tokens) taken) (is_sign 43 s) _ _
     (λ sign k.
-        let i = bind_ok (privs_from false b.0 tokens) _ c.0 k in
-        let e : one_more i.0 ≡ c.0 = cc (i.2) in
-        let f : one_more c.0 ≡ taken = cc (c.2) in
-        next_stands held t s tokens b.0 i.0 taken o (sign_token 43 s sign) (names_stand b.0 tokens i.0 i.1) (ap one_more e ∙ f))
+    let i = bind_ok (privs_from false b.0 tokens) _ c.0 k in
+    let e : one_more i.0 ≡ c.0 = cc (i.2) in
+    let f : one_more c.0 ≡ taken = cc (c.2) in
+    next_stands held t s tokens b.0 i.0 taken o (sign_token 43 s sign) (names_stand b.0 tokens i.0 i.1) (ap one_more e ∙ f))
     (λ _ k.
-        let e : no_more b.0 ≡ c.0 = cc in
-        let f : one_more c.0 ≡ taken = cc (c.2) in
-        last_stands held t (s ∷ tokens) b.0 taken o (ap one_more e ∙ f)) c.1
+    let e : no_more b.0 ≡ c.0 = cc in
+    let f : one_more c.0 ≡ taken = cc (c.2) in
+    last_stands held t (s ∷ tokens) b.0 taken o (ap one_more e ∙ f)) c.1

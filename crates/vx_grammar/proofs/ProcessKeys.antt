@@ -1,5 +1,5 @@
 -- The keys of a PROCESS line: what is read of them is what the grammar says, and the other way round.
-use Rattle.std.proofs.Common.{◌≡◌, ℕ, zero, suc, ◌+◌, ◌≤◌, ◌==◌, ◌||◌, Bool, true, false, cond, nat_le, List, [], ◌∷◌, ◌++◌, drop, map, find, fold, codes, Option, Some, None, is_some, Result, Ok, Err, bytes_eq, refl, sym, subst, ap, ◌∙◌, arith, add-one}
+use Rattle.std.proofs.Common.{◌≡◌, ℕ, zero, suc, ◌+◌, ◌==◌, ◌||◌, Bool, true, false, nat_le, List, [], ◌∷◌, ◌++◌, drop, fold, codes, Option, Some, None, is_some, Result, Ok, bytes_eq, refl, sym, subst, ap, ◌∙◌, arith, add-one}
 use Rattle.std.specs.List.{list_any}
 use Rattle.std.proofs.lemmas.Bool.{le-leb}
 use Rattle.std.proofs.lemmas.List.{drop-drop}
@@ -7,15 +7,14 @@ use Rattle.vx_base.specs.declared.mode.Mode.{Mode}
 use Rattle.vx_base.specs.declared.mode.Mode.TheVariants.{Kernel, Exec, Super, User}
 use Rattle.vx_base.specs.declared.quota.Privs.{Privs}
 use Rattle.vx_image.specs.declared.decl.ProcDecl.{ProcDecl}
-use Rattle.vx_image.specs.WellFormed.{are_distinct}
 use Rattle.vx_text.specs.declared.token.Tok.{Tok}
 use Rattle.vx_text.specs.declared.token.Tok.TheVariants as tok
 use Rattle.vx_text.proofs.Runs.{by_test}
 use Rattle.vx_table.specs.Reading.{mode_word}
 use Rattle.vx_table.specs.Spelling.{mode_name}
 use Rattle.vx_script.specs.Results.{◌>>=◌, given}
-use Rattle.vx_script.specs.Fields.{first_of, is_sign, is_word, begins_with_sign, sign_at, number_at}
-use Rattle.vx_script.specs.Keys.{privilege_name, holds, granted, no_privs, privs_from, privs_of, privs_at, uic_at, mode_in, mode_of, mode_at, limit_at, start_at, key_name, all_keys, key_word, key_in, no_keys, once, with_uic, with_mode, with_ast, with_bio, with_dio, with_byt, with_tqe, with_privs, with_start, with_key, taken_key, keys_from, or, first_uic, limits_of}
+use Rattle.vx_script.specs.Fields.{is_word, begins_with_sign, sign_at, number_at}
+use Rattle.vx_script.specs.Keys.{privilege_name, holds, granted, no_privs, privs_from, privs_of, privs_at, uic_at, mode_in, mode_at, limit_at, start_at, key_name, all_keys, key_word, key_in, once, with_uic, with_mode, with_ast, with_bio, with_dio, with_byt, with_tqe, with_privs, with_start, with_key, taken_key, keys_from, or, first_uic, limits_of}
 use Rattle.vx_script.specs.declared.fault.FaultKind.{FaultKind}
 use Rattle.vx_script.specs.declared.fault.FaultKind.TheVariants as kind
 use Rattle.vx_script.specs.declared.keys.Key.{Key}
@@ -27,10 +26,10 @@ use Rattle.vx_script.specs.declared.privileges.Privilege.{Privilege}
 use Rattle.vx_script.specs.declared.privileges.Privilege.TheVariants as privilege
 use Rattle.vx_script.specs.declared.privileges.TakenPrivs.{TakenPrivs}
 use Rattle.vx_script.proofs.Taking.{keys_behind}
-use Rattle.vx_grammar.specs.Grammar.{Between, Privileges, one_name, and_name, Setting, uic_is, mode_is, astlm_is, biolm_is, diolm_is, bytlm_is, tqelm_is, no_priv_is, priv_is, start_is, Settings, no_settings, and_setting, plain_decl, colon, equals, plus}
-use Rattle.vx_grammar.proofs.Fields.{bind_ok, given_ok, found_name, At, sign_found, sign_token, word_token, number_found, choice_found}
+use Rattle.vx_grammar.specs.Grammar.{Between, Privileges, one_name, and_name, Setting, uic_is, mode_is, astlm_is, biolm_is, diolm_is, bytlm_is, tqelm_is, no_priv_is, priv_is, start_is, Settings, no_settings, and_setting, colon, equals, plus}
+use Rattle.vx_grammar.proofs.Fields.{bind_ok, given_ok, found_name, sign_found, word_token, number_found, choice_found}
 use Rattle.vx_grammar.proofs.Once.{OneMore, AreNew, and_new, first_new, rest_new}
-use Rattle.vx_grammar.proofs.PrivilegeNames.{NamesRead, names_read, NamesStand, names_stand}
+use Rattle.vx_grammar.proofs.PrivilegeNames.{names_read, names_stand}
 
 -- a key stands already
 abbrev pub has : Keys → Key → Bool
@@ -220,48 +219,76 @@ pub setting_takes : (k : Key) (value : List Tok) (set : ProcDecl → ProcDecl) �
     → Takes keys k set value rest
 unfolding with_key
 setting_takes _ _ _ (uic_is g m h k) keys rest new ends = record {
-  more = record keys { uic = Some (record { group = g; member = m }) }; used = 4; read = uic_takes keys g m rest h k new; behind = refl;
+  more = record keys { uic = Some (record { group = g; member = m }) };
+  used = 4;
+  read = uic_takes keys g m rest h k new;
+  behind = refl;
   is_set = record { new = new; sets = λ name image. refl; one = record { each = has_uic keys (record { group = g; member = m }) } };
 }
 setting_takes _ _ _ (mode_is m) keys rest new ends = record {
-  more = record keys { mode = Some m }; used = 2; read = mode_takes keys m rest new; behind = refl;
+  more = record keys { mode = Some m };
+  used = 2;
+  read = mode_takes keys m rest new;
+  behind = refl;
   is_set = record { new = new; sets = λ name image. refl; one = record { each = has_mode keys m } };
 }
 setting_takes _ _ _ (astlm_is n h) keys rest new ends = record {
-  more = record keys { ast = Some n }; used = 2; read = ast_takes keys n rest h new; behind = refl;
+  more = record keys { ast = Some n };
+  used = 2;
+  read = ast_takes keys n rest h new;
+  behind = refl;
   is_set = record { new = new; sets = λ name image. refl; one = record { each = has_ast keys n } };
 }
 setting_takes _ _ _ (biolm_is n h) keys rest new ends = record {
-  more = record keys { bio = Some n }; used = 2; read = bio_takes keys n rest h new; behind = refl;
+  more = record keys { bio = Some n };
+  used = 2;
+  read = bio_takes keys n rest h new;
+  behind = refl;
   is_set = record { new = new; sets = λ name image. refl; one = record { each = has_bio keys n } };
 }
 setting_takes _ _ _ (diolm_is n h) keys rest new ends = record {
-  more = record keys { dio = Some n }; used = 2; read = dio_takes keys n rest h new; behind = refl;
+  more = record keys { dio = Some n };
+  used = 2;
+  read = dio_takes keys n rest h new;
+  behind = refl;
   is_set = record { new = new; sets = λ name image. refl; one = record { each = has_dio keys n } };
 }
 setting_takes _ _ _ (bytlm_is n h) keys rest new ends = record {
-  more = record keys { byt = Some n }; used = 2; read = byt_takes keys n rest h new; behind = refl;
+  more = record keys { byt = Some n };
+  used = 2;
+  read = byt_takes keys n rest h new;
+  behind = refl;
   is_set = record { new = new; sets = λ name image. refl; one = record { each = has_byt keys n } };
 }
 setting_takes _ _ _ (tqelm_is n h) keys rest new ends = record {
-  more = record keys { tqe = Some n }; used = 2; read = tqe_takes keys n rest h new; behind = refl;
+  more = record keys { tqe = Some n };
+  used = 2;
+  read = tqe_takes keys n rest h new;
+  behind = refl;
   is_set = record { new = new; sets = λ name image. refl; one = record { each = has_tqe keys n } };
 }
 setting_takes _ _ _ no_priv_is keys rest new ends = record {
-  more = record keys { privs = Some no_privs }; used = 2; read = none_takes keys rest new; behind = refl;
+  more = record keys { privs = Some no_privs };
+  used = 2;
+  read = none_takes keys rest new;
+  behind = refl;
   is_set = record { new = new; sets = λ name image. refl; one = record { each = has_privs keys no_privs } };
 }
 setting_takes _ _ _ (priv_is names ps are apart) keys rest new ends =
     let held = fold granted no_privs ps in
     let r = names_read names ps are no_privs rest (record { none = none_held ps; apart = apart }) ends in
     record {
-      more = record keys { privs = Some held }; used = r.used + 1;
+      more = record keys { privs = Some held };
+      used = r.used + 1;
       read = names_take keys names rest (record { privs = held; used = r.used }) new (names_of names ps are rest ∙ r.read);
       behind = dropped_one r.used equals (names ++ rest) rest r.behind;
       is_set = record { new = new; sets = λ name image. refl; one = record { each = has_privs keys held } };
     }
 setting_takes _ _ _ (start_is n h) keys rest new ends = record {
-  more = record keys { start = Some (n == 1) }; used = 2; read = start_takes keys n rest h new; behind = refl;
+  more = record keys { start = Some (n == 1) };
+  used = 2;
+  read = start_takes keys n rest h new;
+  behind = refl;
   is_set = record { new = new; sets = λ name image. refl; one = record { each = has_start keys (n == 1) } };
 }
 
@@ -300,7 +327,7 @@ settings_read _ _ _ (and_setting k value tokens ks set more h rest) keys new =
     let t = setting_takes k value set h keys tokens (first_new key_name (has keys) k ks new) (settings_end tokens ks more rest) in
     let r = settings_read tokens ks more rest t.more (rest_new key_name (has keys) (has t.more) k ks t.is_set.one new) in
     let first : taken_key keys (tok.Word (key_name k)) (equals ∷ (value ++ tokens)) ≡ Ok (record { keys = t.more; used = t.used }) =
-        ap (λ (o : Option Key). given kind.Word o >>= λ j. with_key keys j (equals ∷ (value ++ tokens))) (key_back k) ∙ t.read in
+    ap (λ (o : Option Key). given kind.Word o >>= λ j. with_key keys j (equals ∷ (value ++ tokens))) (key_back k) ∙ t.read in
     record {
       all = r.all;
       read = one_key keys (tok.Word (key_name k)) (equals ∷ (value ++ tokens)) (record { keys = t.more; used = t.used }) first
@@ -393,12 +420,18 @@ privs_stand [] taken h = absurd (cc)
 privs_stand (t ∷ tokens) taken h =
     by_test {A = Result TakenPrivs FaultKind} (λ r. r ≡ Ok taken → PrivsStand (t ∷ tokens) taken) (is_word (codes "NONE") t) _ _
     (λ none k. subst (λ (u : TakenPrivs). PrivsStand (t ∷ tokens) u) (let e : record { privs = no_privs; used = 1 } ≡ taken = cc in e) (record {
-      value = tok.Word (codes "NONE") ∷ []; set = λ d. record d { privs = no_privs }; is = no_priv_is;
-      split = ap (λ (u : Tok). u ∷ tokens) (word_token (codes "NONE") t none); sets = λ d. refl;
+      value = tok.Word (codes "NONE") ∷ [];
+      set = λ d. record d { privs = no_privs };
+      is = no_priv_is;
+      split = ap (λ (u : Tok). u ∷ tokens) (word_token (codes "NONE") t none);
+      sets = λ d. refl;
     }))
     (λ _ k. let n = names_stand no_privs (t ∷ tokens) taken k in record {
-      value = n.names; set = λ d. record d { privs = fold granted no_privs n.ps }; is = priv_is n.names n.ps n.are n.new.apart;
-      split = n.split; sets = λ d. ap (λ (p : Privs). record d { privs = p }) (sym n.privs);
+      value = n.names;
+      set = λ d. record d { privs = fold granted no_privs n.ps };
+      is = priv_is n.names n.ps n.are n.new.apart;
+      split = n.split;
+      sets = λ d. ap (λ (p : Privs). record d { privs = p }) (sym n.privs);
     }) h
 
 privs_at_stand : (tokens : List Tok) (taken : TakenPrivs) → privs_at tokens ≡ Ok taken
@@ -427,8 +460,10 @@ uic_key keys tokens taken h =
     let u = bind_ok (uic_at tokens) _ taken o.2 in
     let s = uic_stands tokens u.0 u.1 in
     stands_as keys key.Uic tokens (record keys { uic = Some u.0 }) 4 taken u.2 (record {
-      value = tok.Num u.0.group ∷ colon ∷ tok.Num u.0.member ∷ []; set = λ d. record d { group = u.0.group; member = u.0.member };
-      is = uic_is u.0.group u.0.member s.group s.member; split = s.split;
+      value = tok.Num u.0.group ∷ colon ∷ tok.Num u.0.member ∷ [];
+      set = λ d. record d { group = u.0.group; member = u.0.member };
+      is = uic_is u.0.group u.0.member s.group s.member;
+      split = s.split;
       is_set = record { new = absent_is keys.uic o.0 o.1; sets = λ name image. refl; one = record { each = has_uic keys u.0 } };
     })
 
@@ -437,7 +472,10 @@ mode_key keys tokens taken h =
     let o = bind_ok (once keys.mode) _ taken h in
     let m = bind_ok (mode_at tokens) _ taken o.2 in
     stands_as keys key.Mode tokens (record keys { mode = Some m.0 }) 2 taken m.2 (record {
-      value = tok.Word (mode_name m.0) ∷ []; set = λ d. record d { mode = m.0 }; is = mode_is m.0; split = mode_stands tokens m.0 m.1;
+      value = tok.Word (mode_name m.0) ∷ [];
+      set = λ d. record d { mode = m.0 };
+      is = mode_is m.0;
+      split = mode_stands tokens m.0 m.1;
       is_set = record { new = absent_is keys.mode o.0 o.1; sets = λ name image. refl; one = record { each = has_mode keys m.0 } };
     })
 
@@ -447,7 +485,10 @@ ast_key keys tokens taken h =
     let n = bind_ok (limit_at tokens) _ taken o.2 in
     let s = limit_stands tokens n.0 n.1 in
     stands_as keys key.AstLm tokens (record keys { ast = Some n.0 }) 2 taken n.2 (record {
-      value = tok.Num n.0 ∷ []; set = λ d. record d { limits = record d.limits { ast = n.0 } }; is = astlm_is n.0 s.1; split = s.0;
+      value = tok.Num n.0 ∷ [];
+      set = λ d. record d { limits = record d.limits { ast = n.0 } };
+      is = astlm_is n.0 s.1;
+      split = s.0;
       is_set = record { new = absent_is keys.ast o.0 o.1; sets = λ name image. refl; one = record { each = has_ast keys n.0 } };
     })
 
@@ -457,7 +498,10 @@ bio_key keys tokens taken h =
     let n = bind_ok (limit_at tokens) _ taken o.2 in
     let s = limit_stands tokens n.0 n.1 in
     stands_as keys key.BioLm tokens (record keys { bio = Some n.0 }) 2 taken n.2 (record {
-      value = tok.Num n.0 ∷ []; set = λ d. record d { limits = record d.limits { bio = n.0 } }; is = biolm_is n.0 s.1; split = s.0;
+      value = tok.Num n.0 ∷ [];
+      set = λ d. record d { limits = record d.limits { bio = n.0 } };
+      is = biolm_is n.0 s.1;
+      split = s.0;
       is_set = record { new = absent_is keys.bio o.0 o.1; sets = λ name image. refl; one = record { each = has_bio keys n.0 } };
     })
 
@@ -467,7 +511,10 @@ dio_key keys tokens taken h =
     let n = bind_ok (limit_at tokens) _ taken o.2 in
     let s = limit_stands tokens n.0 n.1 in
     stands_as keys key.DioLm tokens (record keys { dio = Some n.0 }) 2 taken n.2 (record {
-      value = tok.Num n.0 ∷ []; set = λ d. record d { limits = record d.limits { dio = n.0 } }; is = diolm_is n.0 s.1; split = s.0;
+      value = tok.Num n.0 ∷ [];
+      set = λ d. record d { limits = record d.limits { dio = n.0 } };
+      is = diolm_is n.0 s.1;
+      split = s.0;
       is_set = record { new = absent_is keys.dio o.0 o.1; sets = λ name image. refl; one = record { each = has_dio keys n.0 } };
     })
 
@@ -477,7 +524,10 @@ byt_key keys tokens taken h =
     let n = bind_ok (limit_at tokens) _ taken o.2 in
     let s = limit_stands tokens n.0 n.1 in
     stands_as keys key.BytLm tokens (record keys { byt = Some n.0 }) 2 taken n.2 (record {
-      value = tok.Num n.0 ∷ []; set = λ d. record d { limits = record d.limits { byt = n.0 } }; is = bytlm_is n.0 s.1; split = s.0;
+      value = tok.Num n.0 ∷ [];
+      set = λ d. record d { limits = record d.limits { byt = n.0 } };
+      is = bytlm_is n.0 s.1;
+      split = s.0;
       is_set = record { new = absent_is keys.byt o.0 o.1; sets = λ name image. refl; one = record { each = has_byt keys n.0 } };
     })
 
@@ -487,7 +537,10 @@ tqe_key keys tokens taken h =
     let n = bind_ok (limit_at tokens) _ taken o.2 in
     let s = limit_stands tokens n.0 n.1 in
     stands_as keys key.TqeLm tokens (record keys { tqe = Some n.0 }) 2 taken n.2 (record {
-      value = tok.Num n.0 ∷ []; set = λ d. record d { limits = record d.limits { tqe = n.0 } }; is = tqelm_is n.0 s.1; split = s.0;
+      value = tok.Num n.0 ∷ [];
+      set = λ d. record d { limits = record d.limits { tqe = n.0 } };
+      is = tqelm_is n.0 s.1;
+      split = s.0;
       is_set = record { new = absent_is keys.tqe o.0 o.1; sets = λ name image. refl; one = record { each = has_tqe keys n.0 } };
     })
 
@@ -497,7 +550,10 @@ privs_key keys tokens taken h =
     let p = bind_ok (privs_at tokens) _ taken o.2 in
     let s = privs_at_stand tokens p.0 p.1 in
     stands_as keys key.Priv tokens (record keys { privs = Some p.0.privs }) (p.0.used + 1) taken p.2 (record {
-      value = s.0.value; set = s.0.set; is = s.0.is; split = s.1;
+      value = s.0.value;
+      set = s.0.set;
+      is = s.0.is;
+      split = s.1;
       is_set = record { new = absent_is keys.privs o.0 o.1; sets = λ name image. s.0.sets (decl_with name image keys); one = record { each = has_privs keys p.0.privs } };
     })
 
@@ -507,7 +563,10 @@ start_key keys tokens taken h =
     let b = bind_ok (start_at tokens) _ taken o.2 in
     let s = start_stands tokens b.0 b.1 in
     stands_as keys key.Start tokens (record keys { start = Some b.0 }) 2 taken b.2 (record {
-      value = tok.Num s.0 ∷ []; set = λ d. record d { start = s.0 == 1 }; is = start_is s.0 s.2; split = s.1;
+      value = tok.Num s.0 ∷ [];
+      set = λ d. record d { start = s.0 == 1 };
+      is = start_is s.0 s.2;
+      split = s.1;
       is_set = record { new = absent_is keys.start o.0 o.1; sets = λ name image. ap (λ (x : Bool). record (decl_with name image keys) { start = x }) (sym s.3); one = record { each = has_start keys b.0 } };
     })
 

@@ -1,17 +1,16 @@
 -- Statements that are spelled are read.
-use Rattle.std.proofs.Common.{◌≡◌, ℕ, zero, suc, ◌+◌, ◌≤◌, ◌==◌, ◌&&◌, not, Bool, true, false, cond, nat_lt, nat_le, List, [], ◌∷◌, ◌++◌, length, drop, map, find, codes, Option, Some, None, is_some, Result, Ok, Err, bytes_eq, refl, sym, subst, ap, ◌∙◌, arith}
+use Rattle.std.proofs.Common.{◌≡◌, ℕ, ◌≤◌, not, true, false, nat_le, List, [], ◌∷◌, length, codes, Option, Some, None, is_some, Ok, bytes_eq, refl, sym, ap, ◌∙◌}
 use Rattle.std.specs.List.{list_all, list_any}
 use Rattle.std.proofs.lemmas.Bool.{and_parts, and_from, le-leb}
 use Rattle.vx_base.specs.declared.call.Arg.{Arg}
 use Rattle.vx_base.specs.declared.call.Arg.TheVariants as arg
-use Rattle.vx_base.specs.declared.call.Call.{Call}
 use Rattle.vx_base.specs.declared.call.Operand.{Operand}
 use Rattle.vx_base.specs.declared.call.Operand.TheVariants as operand
 use Rattle.vx_base.specs.declared.call.Target.{Target}
 use Rattle.vx_base.specs.declared.call.Target.TheVariants as target
 use Rattle.vx_base.specs.declared.service.Service.{Service}
 use Rattle.vx_base.specs.declared.service.Service.TheVariants.{CrePrc}
-use Rattle.vx_base.specs.Services.{service_name, service_rows, params_of, is_call, is_operand, is_target, args_list}
+use Rattle.vx_base.specs.Services.{is_operand, is_target, args_list}
 use Rattle.vx_image.specs.declared.image.Image.{Image}
 use Rattle.vx_image.specs.declared.image.Label.{Label}
 use Rattle.vx_image.specs.declared.stmt.Field.{Field}
@@ -20,31 +19,23 @@ use Rattle.vx_image.specs.declared.stmt.Rel.{Rel}
 use Rattle.vx_image.specs.declared.stmt.Rel.TheVariants as rel
 use Rattle.vx_image.specs.declared.stmt.Stmt.{Stmt}
 use Rattle.vx_image.specs.declared.stmt.Stmt.TheVariants as stmt
-use Rattle.vx_image.specs.WellFormed.{is_among, has_its_label, has_its_decl, is_stmt}
+use Rattle.vx_image.specs.WellFormed.{is_among, has_its_label, has_its_decl}
 use Rattle.vx_text.specs.declared.token.Tok.{Tok}
 use Rattle.vx_text.specs.declared.token.Tok.TheVariants as tok
-use Rattle.vx_text.proofs.Runs.{by_test}
-use Rattle.vx_table.specs.declared.fail.CallFail.{CallFail}
-use Rattle.vx_table.specs.Reading.{operand_of, read_call, pieces}
+use Rattle.vx_table.specs.Reading.{operand_of}
 use Rattle.vx_table.specs.Spelling.{operand_token, target_token}
-use Rattle.vx_script.specs.Results.{◌>>=◌, given}
-use Rattle.vx_script.specs.Fields.{first_of, end_at, is_sign, begins_with_sign, sign_at, word_at, name_at, number_at, text_at, operand_at, target_in, target_at}
+use Rattle.vx_script.specs.Fields.{is_sign, begins_with_sign, target_in}
 use Rattle.vx_script.specs.Reading.{with_stmt, going_on, inside}
 use Rattle.vx_script.specs.Resolving.{label_place, is_label, place_or_zero, settled, draft_names_none, arg_names_none, created_by, created_in}
-use Rattle.vx_script.specs.Statements.{added, subtracted, let_rest, let_stmt, goto_stmt, rel_name, rel_word, rel_in, rel_at, if_stmt, put_stmt, byte_stmt, field_name, field_word, field_in, field_at, iosb_stmt, return_stmt, local_stmt, called, stmt_of}
+use Rattle.vx_script.specs.Statements.{let_rest, let_stmt, goto_stmt, rel_name, rel_word, if_stmt, put_stmt, byte_stmt, field_name, field_word, iosb_stmt, return_stmt, local_stmt, called, stmt_of}
 use Rattle.vx_script.specs.declared.draft.Draft.{Draft}
 use Rattle.vx_script.specs.declared.draft.Draft.TheVariants as draft
 use Rattle.vx_script.specs.declared.draft.DraftImage.{DraftImage}
-use Rattle.vx_script.specs.declared.fault.FaultKind.{FaultKind}
-use Rattle.vx_script.specs.declared.fault.FaultKind.TheVariants as kind
-use Rattle.vx_script.specs.declared.lines.Creation.{Creation}
 use Rattle.vx_script.specs.declared.parts.Parts.{Parts}
-use Rattle.vx_script.proofs.Appended.{not_out, not_in, all_weaker}
 use Rattle.vx_script.proofs.EndedImages.{is_known}
 use Rattle.vx_script.proofs.Places.{any_map, has_place}
-use Rattle.vx_grammar.specs.Grammar.{Between, Arguments, between_commas, Statement, let_value, let_sum, let_difference, goto_label, if_goto, put_text, get_byte, get_iosb, returns, call_service, colon, equals, plus, minus}
-use Rattle.vx_grammar.proofs.Fields.{bind_ok, name_is, found_name, end_is, sign_token, sign_found, word_found, name_found, number_found, text_found, operand_found, target_found, choice_found}
-use Rattle.vx_grammar.proofs.Calls.{SpellsCall, call_spelled, call_read, joined_pieces}
+use Rattle.vx_grammar.specs.Grammar.{Between, Statement, let_value, let_sum, let_difference, goto_label, if_goto, put_text, get_byte, get_iosb, returns, call_service}
+use Rattle.vx_grammar.proofs.Calls.{call_read}
 
 -- The words of a statement, read back.
 
@@ -177,39 +168,75 @@ decl_there decls line _ a h = refl
 -- what is spelled as a statement is read so
 pub stmt_reads : (decls : List (List ℕ)) (image : Image) (tokens : List Tok) (s : Stmt) → Statement decls image tokens s → ReadsAs decls image tokens s
 stmt_reads decls image _ _ (let_value v x h k) = record {
-  drafted = draft.Plain (stmt.Let v x); read = let_back v x [] h k; settles = refl; labels = refl; made = λ line. refl;
+  drafted = draft.Plain (stmt.Let v x);
+  read = let_back v x [] h k;
+  settles = refl;
+  labels = refl;
+  made = λ line. refl;
   alone = no_label (codes "LET") (let_toks v x []) (target_no_colon v) refl;
 }
 stmt_reads decls image _ _ (let_sum v x y h k l) = record {
-  drafted = draft.Plain (stmt.Add v x y); read = let_back v x _ h k ∙ add_back v x y l; settles = refl; labels = refl; made = λ line. refl;
+  drafted = draft.Plain (stmt.Add v x y);
+  read = let_back v x _ h k ∙ add_back v x y l;
+  settles = refl;
+  labels = refl;
+  made = λ line. refl;
   alone = no_label (codes "LET") (let_toks v x (tok.Sign 43 ∷ operand_token y ∷ [])) (target_no_colon v) refl;
 }
 stmt_reads decls image _ _ (let_difference v x y h k l) = record {
-  drafted = draft.Plain (stmt.Sub v x y); read = let_back v x _ h k ∙ sub_back v x y l; settles = refl; labels = refl; made = λ line. refl;
+  drafted = draft.Plain (stmt.Sub v x y);
+  read = let_back v x _ h k ∙ sub_back v x y l;
+  settles = refl;
+  labels = refl;
+  made = λ line. refl;
   alone = no_label (codes "LET") (let_toks v x (tok.Sign 45 ∷ operand_token y ∷ [])) (target_no_colon v) refl;
 }
 stmt_reads decls image _ _ (goto_label name k h) = record {
-  drafted = draft.Goto name; read = goto_back name; settles = ap (λ (o : Option ℕ). stmt.Goto (place_or_zero o)) h; labels = there name image.labels k h; made = λ line. refl;
+  drafted = draft.Goto name;
+  read = goto_back name;
+  settles = ap (λ (o : Option ℕ). stmt.Goto (place_or_zero o)) h;
+  labels = there name image.labels k h;
+  made = λ line. refl;
   alone = no_label (codes "GOTO") (tok.Word name ∷ []) refl refl;
 }
 stmt_reads decls image _ _ (if_goto x r y name k h l p) = record {
-  drafted = draft.If x r y name; read = if_back x r y name h l; settles = ap (λ (o : Option ℕ). stmt.If x r y (place_or_zero o)) p; labels = there name image.labels k p; made = λ line. refl;
+  drafted = draft.If x r y name;
+  read = if_back x r y name h l;
+  settles = ap (λ (o : Option ℕ). stmt.If x r y (place_or_zero o)) p;
+  labels = there name image.labels k p;
+  made = λ line. refl;
   alone = no_label (codes "IF") (operand_token x ∷ tok.Word (rel_name r) ∷ operand_token y ∷ tok.Word (codes "GOTO") ∷ tok.Word name ∷ []) (operand_no_colon x) refl;
 }
 stmt_reads decls image _ _ (put_text b bytes h k) = record {
-  drafted = draft.Plain (stmt.Put b bytes); read = put_back b bytes h k; settles = refl; labels = refl; made = λ line. refl;
+  drafted = draft.Plain (stmt.Put b bytes);
+  read = put_back b bytes h k;
+  settles = refl;
+  labels = refl;
+  made = λ line. refl;
   alone = no_label (codes "PUT") (tok.Num b ∷ tok.Quote bytes ∷ []) refl refl;
 }
 stmt_reads decls image _ _ (get_byte v b x h k l) = record {
-  drafted = draft.Plain (stmt.Byte v b x); read = byte_back v b x h k l; settles = refl; labels = refl; made = λ line. refl;
+  drafted = draft.Plain (stmt.Byte v b x);
+  read = byte_back v b x h k l;
+  settles = refl;
+  labels = refl;
+  made = λ line. refl;
   alone = no_label (codes "BYTE") (target_token v ∷ tok.Num b ∷ operand_token x ∷ []) (target_no_colon v) refl;
 }
 stmt_reads decls image _ _ (get_iosb v i f h k) = record {
-  drafted = draft.Plain (stmt.Iosb v i f); read = iosb_back v i f h k; settles = refl; labels = refl; made = λ line. refl;
+  drafted = draft.Plain (stmt.Iosb v i f);
+  read = iosb_back v i f h k;
+  settles = refl;
+  labels = refl;
+  made = λ line. refl;
   alone = no_label (codes "IOSB") (target_token v ∷ tok.Num i ∷ tok.Word (field_name f) ∷ []) (target_no_colon v) refl;
 }
 stmt_reads decls image _ _ returns = record {
-  drafted = draft.Plain stmt.Return; read = return_back; settles = refl; labels = refl; made = λ line. refl;
+  drafted = draft.Plain stmt.Return;
+  read = return_back;
+  settles = refl;
+  labels = refl;
+  made = λ line. refl;
   alone = no_label (codes "RETURN") [] refl refl;
 }
 stmt_reads decls image _ _ (call_service c ps args are same labels decl) = record {

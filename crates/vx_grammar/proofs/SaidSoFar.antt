@@ -1,13 +1,13 @@
 -- What lines add to what was read before them, and what must be known of it.
-use Rattle.std.proofs.Common.{◌≡◌, ℕ, zero, suc, ◌+◌, ◌<◌, ◌≤◌, ◌==◌, ◌||◌, ◌&&◌, not, Bool, true, false, cond, List, [], ◌∷◌, ◌++◌, length, map, flat_map, Option, Some, None, is_some, Result, Ok, Err, bytes_eq, refl, sym, subst, ap, ◌∙◌, arith, append-nil, append_assoc, length-append}
+use Rattle.std.proofs.Common.{◌≡◌, ℕ, Bool, true, List, [], ◌∷◌, ◌++◌, map, flat_map, Option, None, is_some, sym, ap, ◌∙◌, append-nil, append_assoc}
 use Rattle.std.specs.List.{list_all, list_any}
-use Rattle.std.proofs.lemmas.Bool.{and_parts, and_from, or_parts, or_from}
-use Rattle.std.proofs.lemmas.List.Folds.{list_all-append, list_any-append}
+use Rattle.std.proofs.lemmas.Bool.{and_parts, and_from}
+use Rattle.std.proofs.lemmas.List.Folds.{list_all-append}
 use Rattle.vx_image.specs.declared.decl.ProcDecl.{ProcDecl}
 use Rattle.vx_image.specs.declared.image.Image.{Image}
 use Rattle.vx_image.specs.declared.system.System.{System}
 use Rattle.vx_image.specs.declared.unit.UnitDecl.{UnitDecl}
-use Rattle.vx_image.specs.WellFormed.{is_among, are_distinct, decl_names}
+use Rattle.vx_image.specs.WellFormed.{is_among, decl_names}
 use Rattle.vx_script.specs.Declarations.{image_place}
 use Rattle.vx_script.specs.Resolving.{is_line_unit, input_if, inputs_of, fault_if, numbers_of, decl_of, image_of, with_image, first_unlabelled, earlier, creations_of}
 use Rattle.vx_script.specs.declared.draft.DraftImage.{DraftImage}
@@ -79,31 +79,50 @@ bare_unit name blocks = record { name = name; blocks = blocks; inputs = []; faul
 pub unit_added : (s : System) (all parts : Parts) (name : List ℕ) (blocks : ℕ) (items : List Item) → Extends s all (and_unit parts (bare_unit name blocks)) items → Extends s all parts (OfUnit name blocks ∷ items)
 unit_added s all parts name blocks items e = record {
   units = e.units ∙ pushed parts.units (bare_unit name blocks) (flat_map plain_unit items);
-  inputs = e.inputs; numbers = e.numbers; faults = e.faults; images = e.images; decls = e.decls;
+  inputs = e.inputs;
+  numbers = e.numbers;
+  faults = e.faults;
+  images = e.images;
+  decls = e.decls;
 }
 
 pub input_added : (s : System) (all parts : Parts) (i : InputLine) (items : List Item) → Extends s all (and_input parts i) items → Extends s all parts (OfInput i.unit i.text ∷ items)
 input_added s all parts i items e = record {
-  units = e.units; numbers = e.numbers; faults = e.faults; images = e.images; decls = e.decls;
+  units = e.units;
+  numbers = e.numbers;
+  faults = e.faults;
+  images = e.images;
+  decls = e.decls;
   inputs = λ name. e.inputs name ∙ flat_pushed (input_if name) parts.inputs i (flat_map (input_of name) items);
 }
 
 pub fault_added : (s : System) (all parts : Parts) (f : FaultLine) (items : List Item) → Extends s all (and_fault parts f) items → Extends s all parts (OfFault f.unit f.number ∷ items)
 fault_added s all parts f items e = record {
-  units = e.units; inputs = e.inputs; images = e.images; decls = e.decls;
+  units = e.units;
+  inputs = e.inputs;
+  images = e.images;
+  decls = e.decls;
   numbers = λ name. e.numbers name ∙ flat_pushed (fault_if name) parts.faults f (flat_map (number_of name) items);
   faults = e.faults ∙ map_pushed fault_key parts.faults f (flat_map fault_in items);
 }
 
 pub decl_added : (s : System) (all parts : Parts) (d : DeclLine) (p : ProcDecl) (items : List Item) → decl_of s.images d ≡ p → Extends s all (and_decl parts d) items → Extends s all parts (OfProcess p ∷ items)
 decl_added s all parts d p items is e = record {
-  units = e.units; inputs = e.inputs; numbers = e.numbers; faults = e.faults; images = e.images;
+  units = e.units;
+  inputs = e.inputs;
+  numbers = e.numbers;
+  faults = e.faults;
+  images = e.images;
   decls = e.decls ∙ map_pushed (decl_of s.images) parts.decls d (flat_map decl_in items) ∙ ap (λ (q : ProcDecl). map (decl_of s.images) parts.decls ++ q ∷ flat_map decl_in items) is;
 }
 
 pub image_added : (s : System) (all parts : Parts) (image : DraftImage) (i : Image) (items : List Item) → image_of image ≡ i → Extends s all (with_image parts image) items → Extends s all parts (OfImage i ∷ items)
 image_added s all parts image i items is e = record {
-  units = e.units; inputs = e.inputs; numbers = e.numbers; faults = e.faults; decls = e.decls;
+  units = e.units;
+  inputs = e.inputs;
+  numbers = e.numbers;
+  faults = e.faults;
+  decls = e.decls;
   images = e.images ∙ pushed parts.images (image_of image) (flat_map image_in items) ∙ ap (λ (j : Image). parts.images ++ j ∷ flat_map image_in items) is;
 }
 
@@ -174,5 +193,7 @@ pub with_known_image : (s : System) (parts : Parts) (image : DraftImage) → Kno
 with_known_image s parts image k h c = record {
   labels = ap (λ (o : Option ℕ). earlier o (first_unlabelled image)) k.labels ∙ h;
   creations = list_all-append (is_known (decl_names s)) parts.creations (creations_of image.lines) ∙ and_from (list_all (is_known (decl_names s)) parts.creations) _ k.creations c;
-  images = k.images; inputs = k.inputs; faults = k.faults;
+  images = k.images;
+  inputs = k.inputs;
+  faults = k.faults;
 }

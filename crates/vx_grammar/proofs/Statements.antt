@@ -1,50 +1,34 @@
 -- Statements: what is read of their tokens is what the grammar says, and the other way round.
-use Rattle.std.proofs.Common.{◌≡◌, ℕ, zero, suc, ◌+◌, ◌≤◌, ◌==◌, ◌&&◌, not, Bool, true, false, cond, nat_lt, nat_le, List, [], ◌∷◌, ◌++◌, length, drop, map, find, codes, Option, Some, None, is_some, Result, Ok, Err, bytes_eq, refl, sym, subst, ap, ◌∙◌, arith}
-use Rattle.std.specs.List.{list_all, list_any}
-use Rattle.std.proofs.lemmas.Bool.{and_parts, and_from, le-leb}
-use Rattle.vx_base.specs.declared.call.Arg.{Arg}
-use Rattle.vx_base.specs.declared.call.Arg.TheVariants as arg
+use Rattle.std.proofs.Common.{◌≡◌, ℕ, not, true, false, cond, nat_lt, List, [], ◌∷◌, drop, codes, Option, Some, None, is_some, Result, Ok, Err, bytes_eq, refl, sym, subst, ap, ◌∙◌}
+use Rattle.std.specs.List.{list_all}
+use Rattle.std.proofs.lemmas.Bool.{and_parts}
 use Rattle.vx_base.specs.declared.call.Call.{Call}
 use Rattle.vx_base.specs.declared.call.Operand.{Operand}
-use Rattle.vx_base.specs.declared.call.Operand.TheVariants as operand
 use Rattle.vx_base.specs.declared.call.Target.{Target}
-use Rattle.vx_base.specs.declared.call.Target.TheVariants as target
-use Rattle.vx_base.specs.declared.service.Service.{Service}
-use Rattle.vx_base.specs.declared.service.Service.TheVariants.{CrePrc}
-use Rattle.vx_base.specs.Services.{service_name, service_rows, params_of, is_call, is_operand, is_target, args_list}
+use Rattle.vx_base.specs.Services.{service_name, service_rows, is_call, is_operand, is_target, args_list}
 use Rattle.vx_image.specs.declared.image.Image.{Image}
-use Rattle.vx_image.specs.declared.image.Label.{Label}
 use Rattle.vx_image.specs.declared.stmt.Field.{Field}
 use Rattle.vx_image.specs.declared.stmt.Field.TheVariants as field
 use Rattle.vx_image.specs.declared.stmt.Rel.{Rel}
 use Rattle.vx_image.specs.declared.stmt.Rel.TheVariants as rel
-use Rattle.vx_image.specs.declared.stmt.Stmt.{Stmt}
 use Rattle.vx_image.specs.declared.stmt.Stmt.TheVariants as stmt
-use Rattle.vx_image.specs.WellFormed.{is_among, has_its_label, has_its_decl, is_stmt}
+use Rattle.vx_image.specs.WellFormed.{has_its_label, is_stmt}
 use Rattle.vx_text.specs.declared.token.Tok.{Tok}
 use Rattle.vx_text.specs.declared.token.Tok.TheVariants as tok
 use Rattle.vx_text.proofs.Runs.{by_test}
 use Rattle.vx_table.specs.declared.fail.CallFail.{CallFail}
-use Rattle.vx_table.specs.Reading.{operand_of, read_call, pieces}
+use Rattle.vx_table.specs.Reading.{read_call, pieces}
 use Rattle.vx_table.specs.Spelling.{operand_token, target_token}
-use Rattle.vx_script.specs.Results.{◌>>=◌, given}
-use Rattle.vx_script.specs.Fields.{first_of, end_at, is_sign, begins_with_sign, sign_at, word_at, name_at, number_at, text_at, operand_at, target_in, target_at}
-use Rattle.vx_script.specs.Reading.{with_stmt, going_on, inside}
-use Rattle.vx_script.specs.Resolving.{label_place, is_label, place_or_zero, settled, draft_names_none, arg_names_none, created_by, created_in}
-use Rattle.vx_script.specs.Statements.{added, subtracted, let_rest, let_stmt, goto_stmt, rel_name, rel_word, rel_in, rel_at, if_stmt, put_stmt, byte_stmt, field_name, field_word, field_in, field_at, iosb_stmt, return_stmt, local_stmt, called, stmt_of}
+use Rattle.vx_script.specs.Fields.{end_at, is_sign, sign_at, word_at, name_at, number_at, text_at, operand_at, target_at}
+use Rattle.vx_script.specs.Resolving.{label_place, place_or_zero, settled, draft_names_none}
+use Rattle.vx_script.specs.Statements.{let_rest, let_stmt, goto_stmt, rel_name, rel_in, rel_at, if_stmt, put_stmt, byte_stmt, field_name, field_in, field_at, iosb_stmt, return_stmt, local_stmt, called, stmt_of}
 use Rattle.vx_script.specs.declared.draft.Draft.{Draft}
 use Rattle.vx_script.specs.declared.draft.Draft.TheVariants as draft
-use Rattle.vx_script.specs.declared.draft.DraftImage.{DraftImage}
 use Rattle.vx_script.specs.declared.fault.FaultKind.{FaultKind}
 use Rattle.vx_script.specs.declared.fault.FaultKind.TheVariants as kind
-use Rattle.vx_script.specs.declared.lines.Creation.{Creation}
-use Rattle.vx_script.specs.declared.parts.Parts.{Parts}
-use Rattle.vx_script.proofs.Appended.{not_out, not_in, all_weaker}
-use Rattle.vx_script.proofs.EndedImages.{is_known}
-use Rattle.vx_script.proofs.Places.{any_map, has_place}
-use Rattle.vx_grammar.specs.Grammar.{Between, Arguments, between_commas, Statement, let_value, let_sum, let_difference, goto_label, if_goto, put_text, get_byte, get_iosb, returns, call_service, colon, equals, plus, minus}
+use Rattle.vx_grammar.specs.Grammar.{between_commas, Statement, let_value, let_sum, let_difference, goto_label, if_goto, put_text, get_byte, get_iosb, returns, call_service}
 use Rattle.vx_grammar.proofs.Fields.{bind_ok, name_is, found_name, end_is, sign_token, sign_found, word_found, name_found, number_found, text_found, operand_found, target_found, choice_found}
-use Rattle.vx_grammar.proofs.Calls.{SpellsCall, call_spelled, call_read, joined_pieces}
+use Rattle.vx_grammar.proofs.Calls.{call_spelled, joined_pieces}
 
 -- What is read is spelled: where the names are there, and the statement is in range.
 
@@ -69,24 +53,24 @@ rest_spelled decls image tokens [] v x d e h =
 rest_spelled decls image tokens (t ∷ rest) v x d e h =
     by_test {A = Result Draft FaultKind} (λ r. r ≡ Ok d → Spelled decls image (tok.Word (codes "LET") ∷ tokens) d) (is_sign 43 t) _ _
     (λ sign k.
-        let y = bind_ok (operand_at rest) _ d k in
-        let end = bind_ok (end_at (drop 1 rest)) _ d y.2 in
-        let a = operand_found 0 rest y.0 y.1 in
-        let b = end_is 1 rest end.0 end.1 in
-        let s = sign_token 43 t sign in
-        let shape : rest ≡ operand_token y.0 ∷ [] = cc in
-        spelled decls image _ (tok.Word (codes "LET") ∷ target_token v ∷ tok.Sign 61 ∷ operand_token x ∷ tok.Sign 43 ∷ operand_token y.0 ∷ []) (draft.Plain (stmt.Add v x y.0)) d (cc) end.2
-        λ _ range. let p = and_parts (is_target v) _ range in let q = and_parts (is_operand x) (is_operand y.0) p.1 in let_sum v x y.0 p.0 q.0 q.1)
+    let y = bind_ok (operand_at rest) _ d k in
+    let end = bind_ok (end_at (drop 1 rest)) _ d y.2 in
+    let a = operand_found 0 rest y.0 y.1 in
+    let b = end_is 1 rest end.0 end.1 in
+    let s = sign_token 43 t sign in
+    let shape : rest ≡ operand_token y.0 ∷ [] = cc in
+    spelled decls image _ (tok.Word (codes "LET") ∷ target_token v ∷ tok.Sign 61 ∷ operand_token x ∷ tok.Sign 43 ∷ operand_token y.0 ∷ []) (draft.Plain (stmt.Add v x y.0)) d (cc) end.2
+    λ _ range. let p = and_parts (is_target v) _ range in let q = and_parts (is_operand x) (is_operand y.0) p.1 in let_sum v x y.0 p.0 q.0 q.1)
     (λ _. by_test {A = Result Draft FaultKind} (λ r. r ≡ Ok d → Spelled decls image (tok.Word (codes "LET") ∷ tokens) d) (is_sign 45 t) _ _
     (λ sign k.
-        let y = bind_ok (operand_at rest) _ d k in
-        let end = bind_ok (end_at (drop 1 rest)) _ d y.2 in
-        let a = operand_found 0 rest y.0 y.1 in
-        let b = end_is 1 rest end.0 end.1 in
-        let s = sign_token 45 t sign in
-        let shape : rest ≡ operand_token y.0 ∷ [] = cc in
-        spelled decls image _ (tok.Word (codes "LET") ∷ target_token v ∷ tok.Sign 61 ∷ operand_token x ∷ tok.Sign 45 ∷ operand_token y.0 ∷ []) (draft.Plain (stmt.Sub v x y.0)) d (cc) end.2
-        λ _ range. let p = and_parts (is_target v) _ range in let q = and_parts (is_operand x) (is_operand y.0) p.1 in let_difference v x y.0 p.0 q.0 q.1)
+    let y = bind_ok (operand_at rest) _ d k in
+    let end = bind_ok (end_at (drop 1 rest)) _ d y.2 in
+    let a = operand_found 0 rest y.0 y.1 in
+    let b = end_is 1 rest end.0 end.1 in
+    let s = sign_token 45 t sign in
+    let shape : rest ≡ operand_token y.0 ∷ [] = cc in
+    spelled decls image _ (tok.Word (codes "LET") ∷ target_token v ∷ tok.Sign 61 ∷ operand_token x ∷ tok.Sign 45 ∷ operand_token y.0 ∷ []) (draft.Plain (stmt.Sub v x y.0)) d (cc) end.2
+    λ _ range. let p = and_parts (is_target v) _ range in let q = and_parts (is_operand x) (is_operand y.0) p.1 in let_difference v x y.0 p.0 q.0 q.1)
     (λ _ k. absurd (cc))) h
 
 let_spelled : (decls : List (List ℕ)) (image : Image) (tokens : List Tok) (d : Draft) → let_stmt tokens ≡ Ok d → Spelled decls image (tok.Word (codes "LET") ∷ tokens) d

@@ -1,14 +1,13 @@
 -- What is read of a text is exactly what the grammar spells.
-use Rattle.std.proofs.Common.{◌≡◌, ◌↔◌, ℕ, ◌+◌, ◌≤◌, ◌==◌, nat_le, Bool, true, false, List, [], ◌∷◌, ◌++◌, length, map, flat_map, Option, Some, None, Result, Ok, Err, refl, sym, subst, ap, ◌∙◌, arith}
-use Rattle.std.specs.List.{list_all}
+use Rattle.std.proofs.Common.{◌≡◌, ◌↔◌, ℕ, ◌≤◌, true, List, [], ◌∷◌, length, map, flat_map, Option, Some, None, Result, Ok, refl, sym, subst, ap, ◌∙◌, arith}
 use Rattle.std.proofs.lemmas.Bool.{leb-true}
 use Rattle.vx_image.specs.declared.decl.ProcDecl.{ProcDecl}
 use Rattle.vx_image.specs.declared.image.Image.{Image}
 use Rattle.vx_image.specs.declared.system.System.{System}
 use Rattle.vx_image.specs.declared.unit.UnitDecl.{UnitDecl}
-use Rattle.vx_image.specs.WellFormed.{IsWellFormed, are_distinct, decl_names}
+use Rattle.vx_image.specs.WellFormed.{IsWellFormed, are_distinct}
 use Rattle.vx_script.specs.Lines.{lines_of}
-use Rattle.vx_script.specs.Reading.{between_images, nothing_read, read_lines, read_script}
+use Rattle.vx_script.specs.Reading.{nothing_read, read_lines, read_script}
 use Rattle.vx_script.specs.Resolving.{first_unknown, resolved, resolve}
 use Rattle.vx_script.specs.Resolving as resolving
 use Rattle.vx_script.specs.declared.fault.ScriptFault.{ScriptFault}
@@ -16,12 +15,12 @@ use Rattle.vx_script.specs.declared.parts.Parts.{Parts}
 use Rattle.vx_script.proofs.Accepted.{accepted}
 use Rattle.vx_script.proofs.Appended.{as_many}
 use Rattle.vx_script.proofs.KeptParts.{nothing_kept}
-use Rattle.vx_grammar.specs.Grammar.{Item, OfUnit, OfInput, OfFault, OfImage, OfProcess, unit_in, image_in, decl_in, fault_in, system_of, Spells}
+use Rattle.vx_grammar.specs.Grammar.{Item, OfUnit, OfInput, OfFault, OfImage, OfProcess, unit_in, image_in, decl_in, Spells}
 use Rattle.vx_grammar.proofs.Feeding.{Fed, fed, fed_back}
-use Rattle.vx_grammar.proofs.InnerSpelled.{Sound, Outer, back}
-use Rattle.vx_grammar.proofs.LinesBack.{Room, Rooms, unit_name_in, image_name_in, decl_name_in, AllRead, lines_read}
+use Rattle.vx_grammar.proofs.InnerSpelled.{Outer, back}
+use Rattle.vx_grammar.proofs.LinesBack.{Room, Rooms, unit_name_in, image_name_in, decl_name_in, lines_read}
 use Rattle.vx_grammar.proofs.Looking.{all_known, known_all, same_system, faults_differ}
-use Rattle.vx_grammar.proofs.SaidSoFar.{Extends, Known}
+use Rattle.vx_grammar.proofs.SaidSoFar.{Known}
 
 -- Read, and so spelled.
 

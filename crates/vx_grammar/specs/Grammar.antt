@@ -1,6 +1,6 @@
 -- The grammar of scripts. Each production says the form of a line, by its tokens, and the part of the system that the line stands
 -- for. Nothing here goes over a text: a text is spelled by the grammar as a system, or it is not.
-use Rattle.std.specs.Prelude.{◌≡◌, ℕ, ◌+◌, ◌≤◌, ◌==◌, Bool, true, false, IsTrue, List, [], ◌∷◌, ◌++◌, map, flat_map, fold, length, codes, Option, Some, Result, Ok, bytes_eq, if◌then◌else◌}
+use Rattle.std.specs.Prelude.{◌≡◌, ℕ, ◌+◌, ◌≤◌, ◌==◌, true, IsTrue, List, [], ◌∷◌, ◌++◌, map, flat_map, fold, length, codes, Some, Result, Ok, bytes_eq, if◌then◌else◌}
 use Rattle.std.specs.List.{list_all, list_any}
 use Rattle.vx_base.specs.declared.call.Arg.{Arg}
 use Rattle.vx_base.specs.declared.call.Call.{Call}
@@ -8,12 +8,9 @@ use Rattle.vx_base.specs.declared.call.Operand.{Operand}
 use Rattle.vx_base.specs.declared.call.Target.{Target}
 use Rattle.vx_base.specs.declared.mode.Mode.{Mode}
 use Rattle.vx_base.specs.declared.mode.Mode.TheVariants.{User}
-use Rattle.vx_base.specs.declared.quota.Need.{Need}
-use Rattle.vx_base.specs.declared.quota.Privs.{Privs}
 use Rattle.vx_base.specs.declared.service.Kind.{Kind}
 use Rattle.vx_base.specs.declared.service.Param.{Param}
 use Rattle.vx_base.specs.declared.service.Param.TheVariants.{Optional}
-use Rattle.vx_base.specs.declared.service.Service.{Service}
 use Rattle.vx_base.specs.Services.{service_name, params_of, kind_of, is_of_kind, is_operand, is_target, args_list, args_of}
 use Rattle.vx_image.specs.declared.decl.ProcDecl.{ProcDecl}
 use Rattle.vx_image.specs.declared.image.Image.{Image}
