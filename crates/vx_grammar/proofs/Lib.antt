@@ -12,3 +12,4 @@ pub mod InnerSpelled
 pub mod LinesBack
 pub mod Looking
 pub mod Whole
+pub mod Somewhere

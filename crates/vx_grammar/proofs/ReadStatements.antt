@@ -137,7 +137,7 @@ abbrev pub ReadsAs : List (List ℕ) → Image → List Tok → Stmt → Type 0
 ReadsAs decls image [] s = ⊥
 ReadsAs decls image (t ∷ rest) s = Reads decls image t rest s
 
-no_label : (word : List ℕ) (rest : List Tok) → begins_with_sign 58 rest ≡ false → bytes_eq word (codes "END") ≡ false
+pub no_label : (word : List ℕ) (rest : List Tok) → begins_with_sign 58 rest ≡ false → bytes_eq word (codes "END") ≡ false
     → (line : ℕ) (parts : Parts) (i : DraftImage) → inside line parts i (tok.Word word ∷ rest) ≡ going_on parts (with_stmt line i (tok.Word word ∷ rest))
 no_label word rest h k line parts i = rw (h, k) refl
 
@@ -154,7 +154,7 @@ label_there image (arg.Label None) h = refl
 label_there image (arg.Value x) h = refl
 label_there image _ h = refl
 
-labels_there : (image : Image) (args : List Arg) → list_all (has_its_label image) args ≡ true → list_any (arg_names_none image.labels) args ≡ false
+pub labels_there : (image : Image) (args : List Arg) → list_all (has_its_label image) args ≡ true → list_any (arg_names_none image.labels) args ≡ false
 labels_there image [] h = refl
 labels_there image (a ∷ args) h =
     let p = and_parts (has_its_label image a) (list_all (has_its_label image) args) h in
