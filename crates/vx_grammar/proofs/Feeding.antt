@@ -33,11 +33,11 @@ pub record Fed (line : ℕ) (r : Reading) (ls : List (List ℕ)) (s : System) : 
   pub resolved : resolve all ≡ Ok s
   pub kept : AreParts all
 
-kinds : (r : Result (List Token) LexFail) (ts : List Tok) → with_kind r ≡ Ok ts → toks_of r ≡ Ok ts
+pub kinds : (r : Result (List Token) LexFail) (ts : List Tok) → with_kind r ≡ Ok ts → toks_of r ≡ Ok ts
 kinds (Ok tokens) ts h = ap Ok (let e : toks tokens ≡ ts = cc in e)
 kinds (Err e) ts h = absurd (cc)
 
-back_kinds : (r : Result (List Token) LexFail) (ts : List Tok) → toks_of r ≡ Ok ts → with_kind r ≡ Ok ts
+pub back_kinds : (r : Result (List Token) LexFail) (ts : List Tok) → toks_of r ≡ Ok ts → with_kind r ≡ Ok ts
 back_kinds (Ok tokens) ts h = ap Ok (let e : toks tokens ≡ ts = cc in e)
 back_kinds (Err e) ts h = absurd (cc)
 
@@ -68,7 +68,7 @@ fed line r (l ∷ ls) s is h =
       kept = rest.kept;
     }
 
-taken : (line : ℕ) (r : Reading) (l : List ℕ) (ts : List Tok) (s : Reading) → toks_of (lex l) ≡ Ok ts → accepted line r ts ≡ Ok s → take_line line r l ≡ Ok s
+pub taken : (line : ℕ) (r : Reading) (l : List ℕ) (ts : List Tok) (s : Reading) → toks_of (lex l) ≡ Ok ts → accepted line r ts ≡ Ok s → take_line line r l ≡ Ok s
 unfolding take_line
 taken line r l ts s h k = ap (λ (x : Result (List Tok) FaultKind). x >>= accepted line r) (back_kinds (lex l) ts h) ∙ k
 

@@ -212,7 +212,7 @@ going : (s : System) (all parts : Parts) (image : DraftImage) (ts : List Tok) (t
 going s all parts image ts tss (Ok more) r h b k = k more refl (subst (λ (q : Reading). Behind s all q tss) (let e : r ≡ goes_on parts more = cc in e) b)
 going s all parts image ts tss (Err e) r h b k = absurd (cc)
 
-colon_by : (ts : List Tok) → begins_with_sign 58 ts ≡ true → ts ≡ colon ∷ drop 1 ts
+pub colon_by : (ts : List Tok) → begins_with_sign 58 ts ≡ true → ts ≡ colon ∷ drop 1 ts
 colon_by [] h = absurd (cc)
 colon_by (t ∷ ts) h = ap (λ (u : Tok). u ∷ ts) (sign_token 58 t h)
 

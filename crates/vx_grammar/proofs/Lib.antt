@@ -13,3 +13,5 @@ pub mod LinesBack
 pub mod Looking
 pub mod Whole
 pub mod Somewhere
+pub mod LinesFit
+pub mod FirstFaults

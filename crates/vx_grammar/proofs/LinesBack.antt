@@ -46,7 +46,7 @@ absent_both : (x : List ℕ) (xs ys : List (List ℕ)) → not (is_among x (xs +
 absent_both x xs ys h = or_parts (is_among x xs) (is_among x ys) (sym (list_any-append (bytes_eq x) xs ys) ∙ not_out (is_among x (xs ++ ys)) h)
 
 -- a name differs from those before it
-here_new : (xs : List (List ℕ)) (n : List ℕ) (ys : List (List ℕ)) → are_distinct (xs ++ n ∷ ys) ≡ true → is_among n xs ≡ false
+pub here_new : (xs : List (List ℕ)) (n : List ℕ) (ys : List (List ℕ)) → are_distinct (xs ++ n ∷ ys) ≡ true → is_among n xs ≡ false
 here_new [] n ys h = refl
 here_new (x ∷ xs) n ys h =
     let p = and_parts (not (is_among x (xs ++ n ∷ ys))) (are_distinct (xs ++ n ∷ ys)) h in
@@ -79,7 +79,7 @@ none_some : (o : Option ℕ) → is_some o ≡ false → o ≡ None
 none_some None h = refl
 none_some (Some k) h = absurd (cc)
 
-no_place : {A : Type 0} (name : A → List ℕ) (n : List ℕ) (xs : List A) → is_among n (map name xs) ≡ false → position (λ x. bytes_eq n (name x)) xs ≡ None
+pub no_place : {A : Type 0} (name : A → List ℕ) (n : List ℕ) (xs : List A) → is_among n (map name xs) ≡ false → position (λ x. bytes_eq n (name x)) xs ≡ None
 no_place name n xs h = none_some (position (λ x. bytes_eq n (name x)) xs) (has_place (λ x. bytes_eq n (name x)) xs ∙ sym (any_map (bytes_eq n) name xs) ∙ h)
 
 room_new : {A : Type 0} (most : ℕ) (name : A → List ℕ) (xs : List A) (n : List ℕ) (ys : List (List ℕ)) → Room most (map name xs) (n ∷ ys) → position (λ x. bytes_eq n (name x)) xs ≡ None
@@ -184,7 +184,7 @@ record LineRead (decls : List (List ℕ)) (i : Image) (line : ℕ) (parts : Part
   read : inside line parts image ts ≡ Ok (goes_on parts more)
   grows : Grows decls i image more said
 
-abbrev with_draft : ℕ → DraftImage → Draft → DraftImage
+abbrev pub with_draft : ℕ → DraftImage → Draft → DraftImage
 with_draft line image d = record image { lines = image.lines ++ record { line = line; draft = d } ∷ [] }
 
 flat_both : (line : ℕ) (d : Draft) (ds : List DraftLine) → creations_of (ds ++ record { line = line; draft = d } ∷ []) ≡ creations_of ds ++ creation_of (record { line = line; draft = d })
@@ -205,7 +205,7 @@ grows_stmt decls i line image t rest s r g =
           ∙ list_all-append (is_known decls) (creations_of image.lines) (creation_of one) ∙ and_from (list_all (is_known decls) (creations_of image.lines)) _ g.made (r.made line);
     }
 
-stmt_taken : (line : ℕ) (image : DraftImage) (t : Tok) (rest : List Tok) (d : Draft) → stmt_of t rest ≡ Ok d → nat_lt (length image.lines) 10000 ≡ true → with_stmt line image (t ∷ rest) ≡ Ok (with_draft line image d)
+pub stmt_taken : (line : ℕ) (image : DraftImage) (t : Tok) (rest : List Tok) (d : Draft) → stmt_of t rest ≡ Ok d → nat_lt (length image.lines) 10000 ≡ true → with_stmt line image (t ∷ rest) ≡ Ok (with_draft line image d)
 stmt_taken line image t rest d h room = rw (h, room) refl
 
 statement_read : (decls : List (List ℕ)) (i : Image) (line : ℕ) (parts : Parts) (image : DraftImage) (ts : List Tok) (s : Stmt) → ReadsAs decls i ts s → Grown decls i image → HasRoom image (Does s ∷ [])
@@ -226,7 +226,7 @@ grows_label decls i image name g = record { name = refl; labels = refl; stmts = 
 label_new : (image : DraftImage) (name : List ℕ) (said : List Said) → HasRoom image (Names name ∷ said) → label_place name image.labels ≡ None
 label_new image name said r = no_place (λ (l : Label). l.name) name image.labels (here_new (map (λ (l : Label). l.name) image.labels) name (names_in said) r.apart)
 
-label_taken : (line : ℕ) (parts : Parts) (image : DraftImage) (name : List ℕ) (ts : List Tok) (m : Result DraftImage FaultKind) → label_place name image.labels ≡ None → with_stmt line (with_label image name) ts ≡ m
+pub label_taken : (line : ℕ) (parts : Parts) (image : DraftImage) (name : List ℕ) (ts : List Tok) (m : Result DraftImage FaultKind) → label_place name image.labels ≡ None → with_stmt line (with_label image name) ts ≡ m
     → inside line parts image (tok.Word name ∷ colon ∷ ts) ≡ going_on parts m
 label_taken line parts image name ts m new h = ap (λ (o : Option ℕ). going_on parts (fresh o name >>= λ _. with_stmt line (with_label image name) ts)) new ∙ ap (going_on parts) h
 
@@ -348,12 +348,12 @@ image_room parts image i items e r = record {
 
 -- Each line.
 
-line_unit_read : (line : ℕ) (parts : Parts) (name : List ℕ) → unit_place name parts.units ≡ None → nat_lt (length parts.units) 32 ≡ true
+pub line_unit_read : (line : ℕ) (parts : Parts) (name : List ℕ) → unit_place name parts.units ≡ None → nat_lt (length parts.units) 32 ≡ true
     → outside line parts (tok.Word (codes "UNIT") ∷ tok.Word name ∷ tok.Word (codes "LINE") ∷ []) ≡ Ok (between_images (and_unit parts (bare_unit name 0)))
 unfolding outside unit_line
 line_unit_read line parts name new room = rw (new, room) refl
 
-block_unit_read : (line : ℕ) (parts : Parts) (name : List ℕ) (n : ℕ) → Between 1 4096 n → unit_place name parts.units ≡ None → nat_lt (length parts.units) 32 ≡ true
+pub block_unit_read : (line : ℕ) (parts : Parts) (name : List ℕ) (n : ℕ) → Between 1 4096 n → unit_place name parts.units ≡ None → nat_lt (length parts.units) 32 ≡ true
     → outside line parts (tok.Word (codes "UNIT") ∷ tok.Word name ∷ tok.Word (codes "BLOCK") ∷ tok.Num n ∷ []) ≡ Ok (between_images (and_unit parts (bare_unit name n)))
 unfolding outside unit_line
 block_unit_read line parts name n h new room =
@@ -361,7 +361,7 @@ block_unit_read line parts name n h new room =
     let high : nat_le n 4096 ≡ true = le-leb _ _ h.1 in
     rw (new, low, high, room) refl
 
-an_input_read : (line : ℕ) (parts : Parts) (unit text : List ℕ) → length text ≤ 2048
+pub an_input_read : (line : ℕ) (parts : Parts) (unit text : List ℕ) → length text ≤ 2048
     → outside line parts (tok.Word (codes "INPUT") ∷ tok.Word unit ∷ tok.Quote text ∷ []) ≡ Ok (between_images (and_input parts (record { line = line; unit = unit; text = text })))
 unfolding outside input_line
 an_input_read line parts unit text h =
@@ -374,13 +374,13 @@ both_ways true false = refl
 both_ways false true = refl
 both_ways false false = refl
 
-fault_new : (unit : List ℕ) (n : ℕ) (faults : List FaultLine) → is_among (n ∷ unit) (map fault_key faults) ≡ false → list_any (is_fault_of unit n) faults ≡ false
+pub fault_new : (unit : List ℕ) (n : ℕ) (faults : List FaultLine) → is_among (n ∷ unit) (map fault_key faults) ≡ false → list_any (is_fault_of unit n) faults ≡ false
 fault_new unit n [] h = refl
 fault_new unit n (f ∷ faults) h =
     let p = or_parts (bytes_eq (n ∷ unit) (fault_key f)) (is_among (n ∷ unit) (map fault_key faults)) h in
     or_from (is_fault_of unit n f) (list_any (is_fault_of unit n) faults) (both_ways (bytes_eq unit f.unit) (n == f.number) ∙ p.0) (fault_new unit n faults p.1)
 
-a_fault_read : (line : ℕ) (parts : Parts) (unit : List ℕ) (n : ℕ) → Between 1 100000 n → list_any (is_fault_of unit n) parts.faults ≡ false
+pub a_fault_read : (line : ℕ) (parts : Parts) (unit : List ℕ) (n : ℕ) → Between 1 100000 n → list_any (is_fault_of unit n) parts.faults ≡ false
     → outside line parts (tok.Word (codes "FAULT") ∷ tok.Word unit ∷ tok.Num n ∷ []) ≡ Ok (between_images (and_fault parts (record { line = line; unit = unit; number = n })))
 unfolding outside fault_line
 a_fault_read line parts unit n h new =
@@ -388,17 +388,17 @@ a_fault_read line parts unit n h new =
     let high : nat_le n 100000 ≡ true = le-leb _ _ h.1 in
     rw (low, high, new) refl
 
-a_process_read : (line : ℕ) (parts : Parts) (name image : List ℕ) (ts : List Tok) (set : ProcDecl → ProcDecl) (k : KeysRead no_keys ts set) → decl_place name parts.decls ≡ None → nat_lt (length parts.decls) 1000 ≡ true
+pub a_process_read : (line : ℕ) (parts : Parts) (name image : List ℕ) (ts : List Tok) (set : ProcDecl → ProcDecl) (k : KeysRead no_keys ts set) → decl_place name parts.decls ≡ None → nat_lt (length parts.decls) 1000 ≡ true
     → outside line parts (tok.Word (codes "PROCESS") ∷ tok.Word name ∷ tok.Word image ∷ ts) ≡ Ok (between_images (and_decl parts (record { line = line; name = name; image = image; keys = k.all })))
 unfolding outside process_line
 a_process_read line parts name image ts set k new room = rw (new, k.read, room) refl
 
-opened_read : (line : ℕ) (parts : Parts) (name : List ℕ) → image_place name parts.images ≡ None → nat_lt (length parts.images) 256 ≡ true
+pub opened_read : (line : ℕ) (parts : Parts) (name : List ℕ) → image_place name parts.images ≡ None → nat_lt (length parts.images) 256 ≡ true
     → outside line parts (tok.Word (codes "IMAGE") ∷ tok.Word name ∷ []) ≡ Ok (goes_on parts (record { name = name; labels = []; lines = [] }))
 unfolding outside image_line
 opened_read line parts name new room = rw (new, room) refl
 
-nothing_outside : (line : ℕ) (parts : Parts) → outside line parts [] ≡ Ok (between_images parts)
+pub nothing_outside : (line : ℕ) (parts : Parts) → outside line parts [] ≡ Ok (between_images parts)
 unfolding outside
 nothing_outside line parts = refl
 
@@ -471,7 +471,7 @@ no_key_has : (k : Key) → has no_keys k ≡ false
 no_key_has key.Uic = refl
 no_key_has _ = refl
 
-none_has : (ks : List Key) → list_any (has no_keys) ks ≡ false
+pub none_has : (ks : List Key) → list_any (has no_keys) ks ≡ false
 none_has [] = refl
 none_has (k ∷ ks) = or_from (has no_keys k) (list_any (has no_keys) ks) (no_key_has k) (none_has ks)
 

@@ -1,5 +1,5 @@
 -- Which line of a text is the first faulty one: the first that no production fits, after the lines before it.
-use Rattle.std.specs.Prelude.{◌≡◌, ◌⊎◌, ℕ, ◌+◌, ◌<◌, Bool, false, List, [], ◌∷◌, ◌++◌, length, fold, codes, Option, Some, None, Ok}
+use Rattle.std.specs.Prelude.{◌≡◌, ℕ, ◌+◌, ◌<◌, Bool, false, List, [], ◌∷◌, ◌++◌, length, fold, codes, Option, Some, None, Ok}
 use Rattle.std.specs.List.{AllByRecursion}
 use Rattle.vx_image.specs.declared.image.Image.{Image}
 use Rattle.vx_image.specs.declared.system.System.{System}
@@ -94,8 +94,8 @@ pub record FitsAlone (lines : List (List ℕ)) : Type 0 where
   pub fit : Fit lines declared
   pub ended : declared.image ≡ None
 
--- what the first fault of a text is
-abbrev pub TellsFault : List ℕ → ScriptFault → Type 0
-TellsFault text fault =
-    FirstFaulty (lines_of text) fault.line
-    ⊎ ((NotEnded (lines_of text) fault.line × (fault.kind ≡ End)) ⊎ (FitsAlone (lines_of text) × (fault.kind ≡ Unknown)))
+-- What the first fault of a text is.
+pub data TellsFault (text : List ℕ) (fault : ScriptFault) : Type 0 where
+  of_a_line : FirstFaulty (lines_of text) fault.line → TellsFault text fault
+  of_the_end : NotEnded (lines_of text) fault.line → fault.kind ≡ End → TellsFault text fault
+  of_a_name : FitsAlone (lines_of text) → fault.kind ≡ Unknown → TellsFault text fault
