@@ -16,10 +16,11 @@ use Rattle.vx_script.specs.declared.fault.ScriptFault.{ScriptFault}
 use Rattle.vx_script.specs.declared.parts.Parts.{Parts}
 use Rattle.vx_script.specs.declared.parts.Reading.{Reading}
 use Rattle.vx_script.proofs.KeptParts.{IsRead, line_kept, nothing_kept}
-use Rattle.vx_grammar.specs.Grammar.{tokens_of}
+use Rattle.vx_grammar.specs.Grammar.{IsLines}
 use Rattle.vx_grammar.specs.FirstFault.{Declared, nothing_declared, Fits, Fit, none_fit, one_fits, AllFit, FirstFaulty, NotEnded, FitsAlone, TellsFault, of_a_line, of_the_end, of_a_name}
 use Rattle.vx_grammar.proofs.Fields.{bind_ok}
 use Rattle.vx_grammar.proofs.Feeding.{kinds, taken}
+use Rattle.vx_grammar.proofs.TextLines.{lines_cut, cut_lines}
 use Rattle.vx_grammar.proofs.LinesFit.{open_of, declared_by, declared, ReadAs, fits_read, read_fits}
 
 -- what is read of lines, whatever follows
@@ -75,15 +76,11 @@ record Before (line : ℕ) (r : Reading) (front : List (List ℕ)) : Type 0 wher
   fit : Fit front (declared r)
   is : IsRead r
 
--- TellsFault, of lines
-abbrev Tells : List (List ℕ) → ScriptFault → Type 0
-Tells ls f = (text : List ℕ) → lines_of text ≡ ls → TellsFault text f
+as_text : (ls : List (List ℕ)) (f : ScriptFault) (g : ScriptFault) → f ≡ g → TellsFault ls f → TellsFault ls g
+as_text ls f g e h = subst (λ (x : ScriptFault). TellsFault ls x) e h
 
-as_text : (ls : List (List ℕ)) (f : ScriptFault) (g : ScriptFault) → f ≡ g → Tells ls f → Tells ls g
-as_text ls f g e h = subst (λ (x : ScriptFault). Tells ls x) e h
-
-tells_line : (line : ℕ) (r : Reading) (front : List (List ℕ)) (l : List ℕ) (ls : List (List ℕ)) (kind : FaultKind) → Before line r front → take_line line r l ≡ Err kind → Tells (front ++ l ∷ ls) (record { line = line; kind = kind })
-tells_line line r front l ls kind b h text e =
+tells_line : (line : ℕ) (r : Reading) (front : List (List ℕ)) (l : List ℕ) (ls : List (List ℕ)) (kind : FaultKind) → Before line r front → take_line line r l ≡ Err kind → TellsFault (front ++ l ∷ ls) (record { line = line; kind = kind })
+tells_line line r front l ls kind b h =
     let none : AllFit (front ++ l ∷ []) → ⊥ = λ all.
         let f = fit_read (front ++ l ∷ []) all.0 all.1 in
         let first : reads 1 nothing_read (front ++ l ∷ []) ≡ take_line (1 + length front) r l = one_more 1 nothing_read front l ∙ ap (λ (q : Result Reading FaultKind). q >>= λ s. take_line (1 + length front) s l) b.read in
@@ -92,32 +89,31 @@ tells_line line r front l ls kind b h text e =
         cc
     in
     let place = b.place in
-    of_a_line (record { before = front; line = l; behind = ls; split = e; place = (let n : line ≡ length front + 1 = omega (arith, place) in n); fit = (declared r, b.fit); faulty = none })
+    of_a_line (record { before = front; line = l; behind = ls; split = refl; place = (let n : line ≡ length front + 1 = omega (arith, place) in n); fit = (declared r, b.fit); faulty = none })
 
-tells_end : (line : ℕ) (r : Reading) (front : List (List ℕ)) (current : Option DraftImage) (f : ScriptFault) → Before line r front → r.current ≡ current → closed line r.parts current ≡ Err f → Tells front f
+tells_end : (line : ℕ) (r : Reading) (front : List (List ℕ)) (current : Option DraftImage) (f : ScriptFault) → Before line r front → r.current ≡ current → closed line r.parts current ≡ Err f → TellsFault front f
 tells_end line r front (Some image) f b c h =
-    as_text front (record { line = line; kind = End }) f (let e : record { line = line; kind = End } ≡ f = cc (h) in e) λ text e.
+    as_text front (record { line = line; kind = End }) f (let e : record { line = line; kind = End } ≡ f = cc (h) in e) (
     let opened : (declared r).image ≡ Some (open_of image) = ap (λ (x : Option DraftImage). (declared_by r.parts x).image) c in
     let place = b.place in
     of_the_end (record {
-      declared = declared r; image = open_of image; fit = subst (λ (ls : List (List ℕ)). Fit ls (declared r)) (sym e) b.fit; not_ended = opened;
-      place = (let n : line ≡ length front + 1 = omega (arith, place) in n) ∙ ap (λ (ls : List (List ℕ)). length ls + 1) (sym e);
-    }) refl
+      declared = declared r; image = open_of image; fit = b.fit; not_ended = opened;
+      place = (let n : line ≡ length front + 1 = omega (arith, place) in n);
+    }) refl)
 tells_end line r front None f b c h = by (first_unknown r.parts) h
   where
-    by : (unknown : Option ℕ) → resolved r.parts unknown ≡ Err f → Tells front f
+    by : (unknown : Option ℕ) → resolved r.parts unknown ≡ Err f → TellsFault front f
     by None h = absurd (cc)
     by (Some n) h =
-        as_text front (record { line = n; kind = Unknown }) f (let e : record { line = n; kind = Unknown } ≡ f = cc in e) λ text e.
-        of_a_name (record { declared = declared r; fit = subst (λ (ls : List (List ℕ)). Fit ls (declared r)) (sym e) b.fit; ended = ap (λ (x : Option DraftImage). (declared_by r.parts x).image) c }) refl
+        as_text front (record { line = n; kind = Unknown }) f (let e : record { line = n; kind = Unknown } ≡ f = cc in e) (of_a_name (record { declared = declared r; fit = b.fit; ended = ap (λ (x : Option DraftImage). (declared_by r.parts x).image) c }) refl)
 
-tells : (line : ℕ) (r : Reading) (front ls : List (List ℕ)) (f : ScriptFault) → Before line r front → read_lines line r ls ≡ Err f → Tells (front ++ ls) f
+tells : (line : ℕ) (r : Reading) (front ls : List (List ℕ)) (f : ScriptFault) → Before line r front → read_lines line r ls ≡ Err f → TellsFault (front ++ ls) f
 unfolding read_lines
-tells line r front [] f b h = subst (λ (ls : List (List ℕ)). Tells ls f) (sym (append-nil front)) (tells_end line r front r.current f b refl h)
+tells line r front [] f b h = subst (λ (ls : List (List ℕ)). TellsFault ls f) (sym (append-nil front)) (tells_end line r front r.current f b refl h)
 tells line r front (l ∷ ls) f b h = by (take_line line r l) refl h (λ s. tells (line + 1) s (front ++ l ∷ []) ls f)
   where
     by : (q : Result Reading FaultKind) → take_line line r l ≡ q → (at_line line q >>= λ s. read_lines (line + 1) s ls) ≡ Err f
-        → ((s : Reading) → Before (line + 1) s (front ++ l ∷ []) → read_lines (line + 1) s ls ≡ Err f → Tells ((front ++ l ∷ []) ++ ls) f) → Tells (front ++ l ∷ ls) f
+        → ((s : Reading) → Before (line + 1) s (front ++ l ∷ []) → read_lines (line + 1) s ls ≡ Err f → TellsFault ((front ++ l ∷ []) ++ ls) f) → TellsFault (front ++ l ∷ ls) f
     by (Err kind) t h rest = as_text (front ++ l ∷ ls) (record { line = line; kind = kind }) f (let e : record { line = line; kind = kind } ≡ f = cc in e) (tells_line line r front l ls kind b t)
     by (Ok s) t h rest =
         let is : IsRead s = IfOk-at_ok IsRead t (line_kept line r l b.is) in
@@ -128,15 +124,15 @@ tells line r front (l ∷ ls) f b h = by (take_line line r l) refl h (λ s. tell
           fit = line_fits line r s l front t is b.fit;
           is = is;
         } in
-        subst (λ (ks : List (List ℕ)). Tells ks f) (append_assoc front (l ∷ []) ls) (rest s more h)
+        subst (λ (ks : List (List ℕ)). TellsFault ks f) (append_assoc front (l ∷ []) ls) (rest s more h)
 
 starts : (text : List ℕ) → read_script text ≡ read_lines 1 nothing_read (lines_of text)
 unfolding read_script
 starts text = refl
 
 -- the fault of a text is its first
-pub first_fault : (text : List ℕ) (f : ScriptFault) → read_script text ≡ Err f → TellsFault text f
-first_fault text f h = tells 1 nothing_read [] (lines_of text) f (record { read = refl; place = refl; fit = none_fit; is = nothing_kept }) (sym (starts text) ∙ h) text refl
+pub first_fault : (text : List ℕ) (f : ScriptFault) → read_script text ≡ Err f → (lines : List (List ℕ)) × IsLines text lines × TellsFault lines f
+first_fault text f h = (lines_of text, cut_lines text, tells 1 nothing_read [] (lines_of text) f (record { read = refl; place = refl; fit = none_fit; is = nothing_kept }) (sym (starts text) ∙ h))
 
 -- The first faulty line is told.
 
@@ -178,5 +174,8 @@ told_by text number f r (Err kind) e =
         ∙ ap (λ (k : ℕ). Err (record { line = k; kind = kind })) n)
 
 -- the first faulty line is told
-pub faulty_told : (text : List ℕ) (number : ℕ) → FirstFaulty (lines_of text) number → IsTold text number
-faulty_told text number f = let r = fit_read f.before f.fit.0 f.fit.1 in told_by text number f r (take_line (1 + length f.before) r.r f.line) refl
+pub faulty_told : (text : List ℕ) (lines : List (List ℕ)) (number : ℕ) → IsLines text lines → FirstFaulty lines number → IsTold text number
+faulty_told text lines number cut faulty =
+    let f = subst (λ (ls : List (List ℕ)). FirstFaulty ls number) (sym (lines_cut text lines cut)) faulty in
+    let r = fit_read f.before f.fit.0 f.fit.1 in
+    told_by text number f r (take_line (1 + length f.before) r.r f.line) refl

@@ -11,6 +11,7 @@ pub mod OuterSpelled
 pub mod InnerSpelled
 pub mod LinesBack
 pub mod Looking
+pub mod TextLines
 pub mod Whole
 pub mod Somewhere
 pub mod LinesFit

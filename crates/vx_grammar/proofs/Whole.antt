@@ -16,11 +16,13 @@ use Rattle.vx_script.proofs.Accepted.{accepted}
 use Rattle.vx_script.proofs.Appended.{as_many}
 use Rattle.vx_script.proofs.KeptParts.{nothing_kept}
 use Rattle.vx_grammar.specs.Grammar.{Item, OfUnit, OfInput, OfFault, OfImage, OfProcess, unit_in, image_in, decl_in, Spells}
+use Rattle.vx_grammar.specs.Grammar.{tokens_of}
 use Rattle.vx_grammar.proofs.Feeding.{Fed, fed, fed_back}
 use Rattle.vx_grammar.proofs.InnerSpelled.{Outer, back}
 use Rattle.vx_grammar.proofs.LinesBack.{Room, Rooms, unit_name_in, image_name_in, decl_name_in, lines_read}
 use Rattle.vx_grammar.proofs.Looking.{all_known, known_all, same_system, faults_differ}
 use Rattle.vx_grammar.proofs.SaidSoFar.{Known}
+use Rattle.vx_grammar.proofs.TextLines.{lines_cut, cut_lines}
 
 -- Read, and so spelled.
 
@@ -38,9 +40,11 @@ spelled_by text s f well known same =
     let o : Outer s f.all nothing_read.parts f.tss = back s f.all 1 nothing_read f.tss (record { images = images; formed = well.images }) known f.fed in
     let adds = o.adds in
     record {
-      lines = f.tss;
+      lines = lines_of text;
+      tokens = f.tss;
       items = o.items;
-      tokens = f.lexed;
+      cut = cut_lines text;
+      lexed = f.lexed;
       script = o.lines;
       system = sym same ∙ same_system s f.all o.items images adds;
       units_once = well.unit_names;
@@ -102,11 +106,11 @@ rooms_of text s g = record {
 pub spelled_is_read : (text : List ℕ) (s : System) → Spells text s → read_script text ≡ Ok s
 spelled_is_read text s g =
     let start : Known s nothing_read.parts = record { labels = refl; creations = refl; images = refl; inputs = refl; faults = refl } in
-    let r = lines_read s g.lines g.items g.script 1 nothing_read.parts start (rooms_of text s g) in
+    let r = lines_read s g.tokens g.items g.script 1 nothing_read.parts start (rooms_of text s g) in
     let images : s.images ≡ r.all.images = ap (λ (t : System). t.images) g.system ∙ sym r.adds.images in
     let same : resolving.system_of r.all ≡ s = same_system s r.all g.items images r.adds ∙ sym g.system in
     let known : Known (resolving.system_of r.all) r.all = subst (λ (t : System). Known t r.all) (sym same) r.known in
-    starts text ∙ fed_back 1 nothing_read (lines_of text) g.lines r.all g.tokens r.fed
+    starts text ∙ fed_back 1 nothing_read (lines_of text) g.tokens r.all (ap (map tokens_of) (lines_cut text g.lines g.cut) ∙ g.lexed) r.fed
     ∙ ap (resolved r.all) (known_all r.all known) ∙ ap (λ (t : System). Ok t) same
 
 -- both ways

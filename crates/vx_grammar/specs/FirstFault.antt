@@ -6,7 +6,6 @@ use Rattle.vx_image.specs.declared.system.System.{System}
 use Rattle.vx_image.specs.WellFormed.{is_among}
 use Rattle.vx_text.specs.declared.token.Tok.{Tok}
 use Rattle.vx_text.specs.declared.token.Tok.TheVariants.{Word}
-use Rattle.vx_script.specs.Lines.{lines_of}
 use Rattle.vx_script.specs.declared.fault.FaultKind.TheVariants.{End, Unknown}
 use Rattle.vx_script.specs.declared.fault.ScriptFault.{ScriptFault}
 use Rattle.vx_grammar.specs.Grammar.{Said, Names, Does, BodyLine, Item, OfUnit, OfInput, OfFault, OfImage, OfProcess, Line, tokens_of}
@@ -94,8 +93,8 @@ pub record FitsAlone (lines : List (List ℕ)) : Type 0 where
   pub fit : Fit lines declared
   pub ended : declared.image ≡ None
 
--- What the first fault of a text is.
-pub data TellsFault (text : List ℕ) (fault : ScriptFault) : Type 0 where
-  of_a_line : FirstFaulty (lines_of text) fault.line → TellsFault text fault
-  of_the_end : NotEnded (lines_of text) fault.line → fault.kind ≡ End → TellsFault text fault
-  of_a_name : FitsAlone (lines_of text) → fault.kind ≡ Unknown → TellsFault text fault
+-- What a fault tells of the lines of a text.
+pub data TellsFault (lines : List (List ℕ)) (fault : ScriptFault) : Type 0 where
+  of_a_line : FirstFaulty lines fault.line → TellsFault lines fault
+  of_the_end : NotEnded lines fault.line → fault.kind ≡ End → TellsFault lines fault
+  of_a_name : FitsAlone lines → fault.kind ≡ Unknown → TellsFault lines fault

@@ -1,6 +1,6 @@
 -- The grammar of scripts. Each production says the form of a line, by its tokens, and the part of the system that the line stands
 -- for. Nothing here goes over a text: a text is spelled by the grammar as a system, or it is not.
-use Rattle.std.specs.Prelude.{◌≡◌, ℕ, ◌+◌, ◌≤◌, ◌==◌, true, IsTrue, List, [], ◌∷◌, ◌++◌, map, flat_map, fold, length, codes, Some, Result, Ok, bytes_eq, if◌then◌else◌}
+use Rattle.std.specs.Prelude.{◌≡◌, ◌≢◌, ℕ, ◌+◌, ◌≤◌, ◌==◌, true, IsTrue, List, [], ◌∷◌, ◌++◌, map, flat_map, fold, length, codes, Some, Result, Ok, bytes_eq, if◌then◌else◌, not}
 use Rattle.std.specs.List.{list_all, list_any}
 use Rattle.vx_base.specs.declared.call.Arg.{Arg}
 use Rattle.vx_base.specs.declared.call.Call.{Call}
@@ -29,7 +29,6 @@ use Rattle.vx_text.specs.declared.token.Tok.TheVariants.{Word, Num, Quote, Sign}
 use Rattle.vx_text.specs.declared.token.Tok.TheVariants as tok
 use Rattle.vx_table.specs.Back.{toks_of}
 use Rattle.vx_table.specs.Spelling.{mode_name, operand_token, target_token, arg_token, comma}
-use Rattle.vx_script.specs.Lines.{lines_of}
 use Rattle.vx_script.specs.Keys.{key_name, privilege_name, granted, no_privs}
 use Rattle.vx_script.specs.Statements.{rel_name, field_name}
 use Rattle.vx_script.specs.Resolving.{label_place, is_line_unit, rising}
@@ -261,6 +260,21 @@ abbrev pub fault_in : Item → List (List ℕ)
 fault_in (OfFault unit number) = (number ∷ unit) ∷ []
 fault_in _ = []
 
+-- Texts.
+
+-- no line feed stands in a line
+abbrev pub IsFeedless : List ℕ → Type 0
+IsFeedless line = IsTrue (list_all (λ b. not (b == 10)) line)
+
+-- Lines end with a line feed; the last may lack it. A carriage return in front of a line feed is no part of the line.
+pub data IsLines : List ℕ → List (List ℕ) → Type 0 where
+  no_text : IsLines [] []
+  last_line : (line : List ℕ) → IsFeedless line → line ≢ [] → IsLines line (line ∷ [])
+  fed_line : (line text : List ℕ) (lines : List (List ℕ)) → IsFeedless line → ((front : List ℕ) → line ≢ front ++ 13 ∷ []) → IsLines text lines
+      → IsLines (line ++ 10 ∷ text) (line ∷ lines)
+  returned_line : (line text : List ℕ) (lines : List (List ℕ)) → IsFeedless line → IsLines text lines
+      → IsLines (line ++ 13 ∷ 10 ∷ text) (line ∷ lines)
+
 -- the tokens of a line
 abbrev pub tokens_of : List ℕ → Result (List Tok) LexFail
 tokens_of line = toks_of (lex line)
@@ -268,10 +282,12 @@ tokens_of line = toks_of (lex line)
 -- A text is spelled as a system: its lines have tokens, and stand for the system together; each name of a kind is declared once,
 -- and there are no more units, images and process declarations than there may be.
 pub record Spells (text : List ℕ) (s : System) : Type 0 where
-  pub lines : List (List Tok)
+  pub lines : List (List ℕ)
+  pub tokens : List (List Tok)
   pub items : List Item
-  pub tokens : map tokens_of (lines_of text) ≡ map Ok lines
-  pub script : Lines s lines items
+  pub cut : IsLines text lines
+  pub lexed : map tokens_of lines ≡ map Ok tokens
+  pub script : Lines s tokens items
   pub system : s ≡ system_of items
   pub units_once : IsTrue (are_distinct (map (λ u. u.name) s.units))
   pub images_once : IsTrue (are_distinct (map (λ i. i.name) s.images))

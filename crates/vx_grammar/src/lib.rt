@@ -7,12 +7,11 @@
 
 ghost use Rattle.std.specs.Prelude.{◌≡◌, ◌↔◌, ℕ, List, Ok, Err};
 ghost use Rattle.vx_image.specs.declared.system.System.{System};
-ghost use Rattle.vx_script.specs.Lines.{lines_of};
 ghost use Rattle.vx_script.specs.Reading.{read_script};
 ghost use Rattle.vx_script.specs.declared.fault.FaultKind.{FaultKind};
 ghost use Rattle.vx_script.specs.declared.fault.ScriptFault.{ScriptFault};
 ghost use Rattle.vx_grammar.specs.FirstFault.{FirstFaulty, TellsFault};
-ghost use Rattle.vx_grammar.specs.Grammar.{Spells};
+ghost use Rattle.vx_grammar.specs.Grammar.{IsLines, Spells};
 
 /// A text is read as a system exactly where the grammar spells the text as that system.
 pub fn what_is_spelled_is_read()
@@ -27,6 +26,6 @@ pub fn a_text_says_one_system()
 /// The line of the first fault is the first that no production fits after the lines before it; where all fit, an image is not
 /// ended, or a line names what is not there.
 pub fn the_first_faulty_line_is_told()
-    ensures tells { (text : List ℕ) (fault : ScriptFault) → read_script text ≡ Err fault → TellsFault text fault }
-    ensures told { (text : List ℕ) (number : ℕ) → FirstFaulty (lines_of text) number → (kind : FaultKind) × (read_script text ≡ Err (record { line = number; kind = kind })) }
+    ensures tells { (text : List ℕ) (fault : ScriptFault) → read_script text ≡ Err fault → (lines : List (List ℕ)) × IsLines text lines × TellsFault lines fault }
+    ensures told { (text : List ℕ) (lines : List (List ℕ)) (number : ℕ) → IsLines text lines → FirstFaulty lines number → (kind : FaultKind) × (read_script text ≡ Err (record { line = number; kind = kind })) }
 {}
