@@ -16,3 +16,4 @@ pub mod Whole
 pub mod Somewhere
 pub mod LinesFit
 pub mod FirstFaults
+pub mod Returned

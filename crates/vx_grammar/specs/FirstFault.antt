@@ -1,5 +1,5 @@
 -- Which line of a text is the first faulty one: the first that no production fits, after the lines before it.
-use Rattle.std.specs.Prelude.{◌≡◌, ℕ, ◌+◌, ◌<◌, Bool, false, List, [], ◌∷◌, ◌++◌, length, fold, codes, Option, Some, None, Ok}
+use Rattle.std.specs.Prelude.{◌≡◌, ℕ, ◌+◌, ◌<◌, Bool, false, List, [], ◌∷◌, ◌++◌, length, fold, codes, Option, Some, None, Result, Ok, Err}
 use Rattle.std.specs.List.{AllByRecursion}
 use Rattle.vx_image.specs.declared.image.Image.{Image}
 use Rattle.vx_image.specs.declared.system.System.{System}
@@ -7,8 +7,10 @@ use Rattle.vx_image.specs.WellFormed.{is_among}
 use Rattle.vx_text.specs.declared.token.Tok.{Tok}
 use Rattle.vx_text.specs.declared.token.Tok.TheVariants.{Word}
 use Rattle.vx_script.specs.declared.fault.FaultKind.TheVariants.{End, Unknown}
+use Rattle.vx_script.specs.declared.fault.ScriptFail.{ScriptFail}
+use Rattle.vx_script.specs.declared.fault.ScriptFail.TheVariants as fail
 use Rattle.vx_script.specs.declared.fault.ScriptFault.{ScriptFault}
-use Rattle.vx_grammar.specs.Grammar.{Said, Names, Does, BodyLine, Item, OfUnit, OfInput, OfFault, OfImage, OfProcess, Line, tokens_of}
+use Rattle.vx_grammar.specs.Grammar.{Said, Names, Does, BodyLine, Item, OfUnit, OfInput, OfFault, OfImage, OfProcess, Line, IsLines, tokens_of}
 
 -- An image that is not ended: its labels, and the number of its statements.
 pub record Open : Type 0 where
@@ -98,3 +100,8 @@ pub data TellsFault (lines : List (List ℕ)) (fault : ScriptFault) : Type 0 whe
   of_a_line : FirstFaulty lines fault.line → TellsFault lines fault
   of_the_end : NotEnded lines fault.line → fault.kind ≡ End → TellsFault lines fault
   of_a_name : FitsAlone lines → fault.kind ≡ Unknown → TellsFault lines fault
+
+-- a fault of a script that is told tells so of the text's lines; want of memory tells nothing
+abbrev pub TellsIfFault : List ℕ → Result System ScriptFail → Type 0
+TellsIfFault text (Err (fail.Fault fault)) = (lines : List (List ℕ)) × IsLines text lines × TellsFault lines fault
+TellsIfFault text _ = Unit {0}

@@ -5,17 +5,38 @@
 //! spelling of fixed words.
 #![tactic(auto)]
 
-ghost use Rattle.std.specs.Prelude.{◌≡◌, ◌↔◌, ℕ, List, Ok, Err};
+ghost use Rattle.std.specs.Prelude.{◌≡◌, ◌↔◌, ◌<◌, ℕ, List, length, Ok, Err, IfOk};
+ghost use Rattle.vx_image.specs.WellFormed.{IsWellFormed};
 ghost use Rattle.vx_image.specs.declared.system.System.{System};
-ghost use Rattle.vx_script.specs.Reading.{read_script};
+ghost use Rattle.vx_script.specs.Reading as reading;
+ghost use Rattle.vx_script.specs.Results.{ReadsScript};
 ghost use Rattle.vx_script.specs.declared.fault.FaultKind.{FaultKind};
 ghost use Rattle.vx_script.specs.declared.fault.ScriptFault.{ScriptFault};
-ghost use Rattle.vx_grammar.specs.FirstFault.{FirstFaulty, TellsFault};
+ghost use Rattle.vx_grammar.specs.FirstFault.{FirstFaulty, TellsFault, TellsIfFault};
 ghost use Rattle.vx_grammar.specs.Grammar.{IsLines, Spells};
+
+use std::alloc::Global;
+use vx_image::System;
+use vx_script::ScriptFail;
+
+/// The system that a text is spelled as, or the first fault of the text. The text may be of any bytes.
+#[tactic(auto, using(crate::proofs::Returned::if_spelled, crate::proofs::Returned::no_other, crate::proofs::Returned::if_fault))]
+pub fn read_script(alloc: Global, text: &[u8]) -> Result<System, ScriptFail>
+    requires { length text.now < 4294967295 }
+    // What is read is spelled so.
+    ensures spelled { IfOk result (λ s. Spells text.now s) }
+    // What is spelled so is read, unless memory runs out.
+    ensures only { (s : System) → Spells text.now s → ReadsScript result (Ok s) }
+    // Which line has the fault.
+    ensures fault { TellsIfFault text.now result }
+    ensures well_formed { IfOk result (λ s. IsWellFormed s) }
+{
+    vx_script::read_script(alloc, text)
+}
 
 /// A text is read as a system exactly where the grammar spells the text as that system.
 pub fn what_is_spelled_is_read()
-    ensures { (text : List ℕ) (s : System) → (read_script text ≡ Ok s) ↔ Spells text s }
+    ensures { (text : List ℕ) (s : System) → (reading.read_script text ≡ Ok s) ↔ Spells text s }
 {}
 
 /// The grammar spells a text as at most one system.
@@ -26,6 +47,6 @@ pub fn a_text_says_one_system()
 /// The line of the first fault is the first that no production fits after the lines before it; where all fit, an image is not
 /// ended, or a line names what is not there.
 pub fn the_first_faulty_line_is_told()
-    ensures tells { (text : List ℕ) (fault : ScriptFault) → read_script text ≡ Err fault → (lines : List (List ℕ)) × IsLines text lines × TellsFault lines fault }
-    ensures told { (text : List ℕ) (lines : List (List ℕ)) (number : ℕ) → IsLines text lines → FirstFaulty lines number → (kind : FaultKind) × (read_script text ≡ Err (record { line = number; kind = kind })) }
+    ensures tells { (text : List ℕ) (fault : ScriptFault) → reading.read_script text ≡ Err fault → (lines : List (List ℕ)) × IsLines text lines × TellsFault lines fault }
+    ensures told { (text : List ℕ) (lines : List (List ℕ)) (number : ℕ) → IsLines text lines → FirstFaulty lines number → (kind : FaultKind) × (reading.read_script text ≡ Err (record { line = number; kind = kind })) }
 {}

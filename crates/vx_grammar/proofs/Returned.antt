@@ -1,0 +1,23 @@
+-- What the reader returned, in words of the grammar.
+use Rattle.std.proofs.Common.{◌≡◌, ℕ, List, Result, Ok, Err, IfOk, refl, sym, subst, ap, ◌∙◌}
+use Rattle.vx_image.specs.declared.system.System.{System}
+use Rattle.vx_script.specs.Reading.{read_script}
+use Rattle.vx_script.specs.Results.{ReadsScript}
+use Rattle.vx_script.specs.declared.fault.ScriptFail.{ScriptFail}
+use Rattle.vx_script.specs.declared.fault.ScriptFail.TheVariants as fail
+use Rattle.vx_grammar.specs.FirstFault.{TellsIfFault}
+use Rattle.vx_grammar.specs.Grammar.{Spells}
+use Rattle.vx_grammar.proofs.FirstFaults.{first_fault}
+use Rattle.vx_grammar.proofs.Whole.{read_is_spelled, spelled_is_read}
+
+pub if_spelled : (text : List ℕ) (r : Result System ScriptFail) → ReadsScript r (read_script text) → IfOk r (λ s. Spells text s)
+if_spelled text (Ok s) h = read_is_spelled text s h
+if_spelled text (Err e) h = tt
+
+pub no_other : (text : List ℕ) (r : Result System ScriptFail) → ReadsScript r (read_script text) → (s : System) → Spells text s → ReadsScript r (Ok s)
+no_other text r h s g = subst (λ x. ReadsScript r x) (spelled_is_read text s g) h
+
+pub if_fault : (text : List ℕ) (r : Result System ScriptFail) → ReadsScript r (read_script text) → TellsIfFault text r
+if_fault text (Ok s) h = tt
+if_fault text (Err fail.NoMemory) h = tt
+if_fault text (Err (fail.Fault f)) h = first_fault text f h
