@@ -1,27 +1,23 @@
 -- The first fault that is told is the first faulty line.
-use Rattle.std.proofs.Common.{◌≡◌, ℕ, zero, suc, ◌+◌, List, [], ◌∷◌, ◌++◌, length, Option, Some, None, Result, Ok, Err, refl, sym, subst, ap, ◌∙◌, arith, append-nil, append_assoc, length-append}
+use Rattle.std.proofs.Common.{◌≡◌, ℕ, ◌+◌, List, [], ◌∷◌, ◌++◌, length, Option, Some, None, Result, Ok, Err, refl, sym, subst, ap, ◌∙◌, arith, append-nil, append_assoc, length-append}
 use Rattle.std.proofs.lemmas.Result.{IfOk-at_ok}
-use Rattle.vx_image.specs.declared.system.System.{System}
 use Rattle.vx_text.specs.Lex.{lex}
-use Rattle.vx_text.specs.declared.token.Tok.{Tok}
-use Rattle.vx_table.specs.Back.{toks_of}
 use Rattle.vx_script.specs.Lines.{lines_of}
 use Rattle.vx_script.specs.Results.{◌>>=◌, at_line}
 use Rattle.vx_script.specs.Reading.{accepted, with_kind, take_line, closed, nothing_read, read_lines, read_script}
-use Rattle.vx_script.specs.Resolving.{first_unknown, resolved, resolve}
+use Rattle.vx_script.specs.Resolving.{first_unknown, resolved}
 use Rattle.vx_script.specs.declared.draft.DraftImage.{DraftImage}
 use Rattle.vx_script.specs.declared.fault.FaultKind.{FaultKind}
 use Rattle.vx_script.specs.declared.fault.FaultKind.TheVariants.{End, Unknown}
 use Rattle.vx_script.specs.declared.fault.ScriptFault.{ScriptFault}
-use Rattle.vx_script.specs.declared.parts.Parts.{Parts}
 use Rattle.vx_script.specs.declared.parts.Reading.{Reading}
 use Rattle.vx_script.proofs.KeptParts.{IsRead, line_kept, nothing_kept}
 use Rattle.vx_grammar.specs.Grammar.{IsLines}
-use Rattle.vx_grammar.specs.FirstFault.{Declared, nothing_declared, Fits, Fit, none_fit, one_fits, AllFit, FirstFaulty, NotEnded, FitsAlone, TellsFault, of_a_line, of_the_end, of_a_name}
+use Rattle.vx_grammar.specs.FirstFault.{Declared, Fit, none_fit, one_fits, AllFit, FirstFaulty, TellsFault, of_a_line, of_the_end, of_a_name}
 use Rattle.vx_grammar.proofs.Fields.{bind_ok}
 use Rattle.vx_grammar.proofs.Feeding.{kinds, taken}
 use Rattle.vx_grammar.proofs.TextLines.{lines_cut, cut_lines}
-use Rattle.vx_grammar.proofs.LinesFit.{open_of, declared_by, declared, ReadAs, fits_read, read_fits}
+use Rattle.vx_grammar.proofs.LinesFit.{open_of, declared_by, declared, fits_read, read_fits}
 
 -- what is read of lines, whatever follows
 abbrev reads : ℕ → Reading → List (List ℕ) → Result Reading FaultKind
@@ -82,11 +78,11 @@ as_text ls f g e h = subst (λ (x : ScriptFault). TellsFault ls x) e h
 tells_line : (line : ℕ) (r : Reading) (front : List (List ℕ)) (l : List ℕ) (ls : List (List ℕ)) (kind : FaultKind) → Before line r front → take_line line r l ≡ Err kind → TellsFault (front ++ l ∷ ls) (record { line = line; kind = kind })
 tells_line line r front l ls kind b h =
     let none : AllFit (front ++ l ∷ []) → ⊥ = λ all.
-        let f = fit_read (front ++ l ∷ []) all.0 all.1 in
-        let first : reads 1 nothing_read (front ++ l ∷ []) ≡ take_line (1 + length front) r l = one_more 1 nothing_read front l ∙ ap (λ (q : Result Reading FaultKind). q >>= λ s. take_line (1 + length front) s l) b.read in
-        let second : take_line (1 + length front) r l ≡ Err kind = ap (λ (n : ℕ). take_line n r l) (sym b.place) ∙ h in
-        let both : Ok f.r ≡ Err kind = sym f.read ∙ first ∙ second in
-        cc
+    let f = fit_read (front ++ l ∷ []) all.0 all.1 in
+    let first : reads 1 nothing_read (front ++ l ∷ []) ≡ take_line (1 + length front) r l = one_more 1 nothing_read front l ∙ ap (λ (q : Result Reading FaultKind). q >>= λ s. take_line (1 + length front) s l) b.read in
+    let second : take_line (1 + length front) r l ≡ Err kind = ap (λ (n : ℕ). take_line n r l) (sym b.place) ∙ h in
+    let both : Ok f.r ≡ Err kind = sym f.read ∙ first ∙ second in
+    cc
     in
     let place = b.place in
     of_a_line (record { before = front; line = l; behind = ls; split = refl; place = (let n : line ≡ length front + 1 = omega (arith, place) in n); fit = (declared r, b.fit); faulty = none })
@@ -97,7 +93,10 @@ tells_end line r front (Some image) f b c h =
     let opened : (declared r).image ≡ Some (open_of image) = ap (λ (x : Option DraftImage). (declared_by r.parts x).image) c in
     let place = b.place in
     of_the_end (record {
-      declared = declared r; image = open_of image; fit = b.fit; not_ended = opened;
+      declared = declared r;
+      image = open_of image;
+      fit = b.fit;
+      not_ended = opened;
       place = (let n : line ≡ length front + 1 = omega (arith, place) in n);
     }) refl)
 tells_end line r front None f b c h = by (first_unknown r.parts) h
@@ -169,9 +168,11 @@ told_by text number f r (Ok s) e =
     absurd (f.faulty (declared s, line_fits (1 + length f.before) r.r s f.line f.before e is fit))
 told_by text number f r (Err kind) e =
     let place = f.place in
-    let n : 1 + length f.before ≡ number = omega (arith, place) in
-    (kind, starts text ∙ ap (read_lines 1 nothing_read) f.split ∙ read_behind 1 nothing_read r.r f.before (f.line ∷ f.behind) r.read ∙ line_told (1 + length f.before) r.r f.line f.behind kind e
-        ∙ ap (λ (k : ℕ). Err (record { line = k; kind = kind })) n)
+    let n : 1 + length f.before ≡ number = omega (arith, place) in (
+      kind,
+      starts text ∙ ap (read_lines 1 nothing_read) f.split ∙ read_behind 1 nothing_read r.r f.before (f.line ∷ f.behind) r.read ∙ line_told (1 + length f.before) r.r f.line f.behind kind e
+          ∙ ap (λ (k : ℕ). Err (record { line = k; kind = kind })) n,
+    )
 
 -- the first faulty line is told
 pub faulty_told : (text : List ℕ) (lines : List (List ℕ)) (number : ℕ) → IsLines text lines → FirstFaulty lines number → IsTold text number

@@ -1,6 +1,6 @@
 -- A line is read exactly where a production fits it behind the lines before it.
-use Rattle.std.proofs.Common.{◌≡◌, ℕ, zero, suc, ◌+◌, ◌<◌, ◌≤◌, ◌==◌, ◌&&◌, ◌||◌, not, Bool, true, false, cond, nat_le, nat_lt, List, [], ◌∷◌, ◌++◌, length, drop, map, fold, codes, Option, Some, None, is_some, position, Result, Ok, Err, bytes_eq, refl, sym, subst, ap, ◌∙◌, arith, length-append}
-use Rattle.std.specs.List.{AllByRecursion, list_all, list_any}
+use Rattle.std.proofs.Common.{◌≡◌, ℕ, ◌+◌, ◌<◌, ◌==◌, ◌&&◌, ◌||◌, Bool, true, false, cond, nat_le, nat_lt, List, [], ◌∷◌, ◌++◌, length, drop, map, fold, codes, Option, Some, None, is_some, Result, Ok, Err, bytes_eq, refl, sym, subst, ap, ◌∙◌, arith, length-append}
+use Rattle.std.specs.List.{AllByRecursion}
 use Rattle.std.proofs.lemmas.Bool.{leb-true, lt-ltb, ltb-true}
 use Rattle.vx_image.specs.declared.decl.ProcDecl.{ProcDecl}
 use Rattle.vx_image.specs.declared.image.Image.{Image}
@@ -12,12 +12,11 @@ use Rattle.vx_image.specs.WellFormed.{is_among, are_distinct}
 use Rattle.vx_text.specs.declared.token.Tok.{Tok}
 use Rattle.vx_text.specs.declared.token.Tok.TheVariants as tok
 use Rattle.vx_text.proofs.Runs.{by_test}
-use Rattle.vx_script.specs.Results.{◌>>=◌}
 use Rattle.vx_script.specs.Fields.{begins_with_sign, end_at}
 use Rattle.vx_script.specs.Keys.{no_keys}
 use Rattle.vx_script.specs.Declarations.{image_place, fresh, room_for, unit_line, input_line, fault_line, image_line, process_line}
 use Rattle.vx_script.specs.Reading.{with_stmt, with_label, labelled, goes_on, going_on, word_line, inside, between_images, outer_line, outside, by_place}
-use Rattle.vx_script.specs.Resolving.{label_place, image_of, with_image, place_or_zero, decl_of}
+use Rattle.vx_script.specs.Resolving.{label_place, image_of, with_image}
 use Rattle.vx_script.specs.Statements.{stmt_of}
 use Rattle.vx_script.specs.declared.draft.Draft.{Draft}
 use Rattle.vx_script.specs.declared.draft.DraftImage.{DraftImage}
@@ -29,20 +28,20 @@ use Rattle.vx_script.specs.declared.lines.InputLine.{InputLine}
 use Rattle.vx_script.specs.declared.parts.Parts.{Parts}
 use Rattle.vx_script.specs.declared.parts.Reading.{Reading}
 use Rattle.vx_script.proofs.Appended.{map_push, as_many}
-use Rattle.vx_script.proofs.KeptParts.{AreParts, IsRead, IsOpenOr}
+use Rattle.vx_script.proofs.KeptParts.{AreParts, IsRead}
 use Rattle.vx_script.proofs.OpenImages.{IsOpen}
 use Rattle.vx_script.proofs.Places.{has_place}
-use Rattle.vx_grammar.specs.Grammar.{Between, Said, Names, Does, Statement, BodyLine, empty_line, statement_line, label_line, labelled_line, Settings, plain_decl, Item, OfUnit, OfInput, OfFault, OfImage, OfProcess, Line, a_line_unit, a_block_unit, an_input, a_fault, a_process, colon}
+use Rattle.vx_grammar.specs.Grammar.{Said, Names, Does, BodyLine, empty_line, statement_line, label_line, labelled_line, plain_decl, Item, OfUnit, OfInput, OfFault, OfImage, OfProcess, Line, a_line_unit, a_block_unit, an_input, a_fault, a_process, colon}
 use Rattle.vx_grammar.specs.FirstFault.{Open, Declared, IsNew, and_item, IsNewIn, and_said, Fits, empty_fits, line_fits, opening_fits, body_fits, end_fits}
 use Rattle.vx_grammar.proofs.Fields.{bind_ok, name_is, same_name, end_is}
-use Rattle.vx_grammar.proofs.ReadStatements.{Reads, ReadsAs, stmt_reads}
-use Rattle.vx_grammar.proofs.ProcessKeys.{has, decl_with, KeysRead, settings_read}
+use Rattle.vx_grammar.proofs.ReadStatements.{ReadsAs, stmt_reads}
+use Rattle.vx_grammar.proofs.ProcessKeys.{settings_read}
 use Rattle.vx_grammar.proofs.SaidSoFar.{fault_key, and_unit, and_input, and_fault, and_decl, bare_unit}
 use Rattle.vx_grammar.proofs.InnerSpelled.{colon_by}
 use Rattle.vx_grammar.proofs.LinesBack.{here_new, no_place, with_draft, stmt_taken, label_taken, line_unit_read, block_unit_read, an_input_read, fault_new, a_fault_read, none_has, a_process_read, opened_read, nothing_outside}
 use Rattle.vx_grammar.proofs.Looking.{faults_differ}
-use Rattle.vx_grammar.proofs.OuterSpelled.{UnitSpelled, unit_spelled, input_spelled, fault_spelled, image_spelled, ProcessSpelled, process_spelled}
-use Rattle.vx_grammar.proofs.Somewhere.{SomeStatement, some_statement}
+use Rattle.vx_grammar.proofs.OuterSpelled.{unit_spelled, input_spelled, fault_spelled, image_spelled, process_spelled}
+use Rattle.vx_grammar.proofs.Somewhere.{some_statement}
 
 -- what was read declares this
 
@@ -51,10 +50,17 @@ open_of image = record { labels = map (λ l. l.name) image.labels; stmts = lengt
 
 abbrev pub declared_by : Parts → Option DraftImage → Declared
 declared_by parts None = record {
-  units = map (λ u. u.name) parts.units; images = map (λ i. i.name) parts.images; processes = map (λ d. d.name) parts.decls; faults = map fault_key parts.faults; image = None;
+  units = map (λ u. u.name) parts.units;
+  images = map (λ i. i.name) parts.images;
+  processes = map (λ d. d.name) parts.decls;
+  faults = map fault_key parts.faults;
+  image = None;
 }
 declared_by parts (Some image) = record {
-  units = map (λ u. u.name) parts.units; images = map (λ i. i.name) parts.images ++ image.name ∷ []; processes = map (λ d. d.name) parts.decls; faults = map fault_key parts.faults;
+  units = map (λ u. u.name) parts.units;
+  images = map (λ i. i.name) parts.images ++ image.name ∷ [];
+  processes = map (λ d. d.name) parts.decls;
+  faults = map fault_key parts.faults;
   image = Some (open_of image);
 }
 
@@ -286,25 +292,25 @@ by_keyword parts word keyword ts r x y h k =
 word_fits : (line : ℕ) (parts : Parts) (word : List ℕ) (ts : List Tok) (r : Reading) → outer_line line parts word ts ≡ Ok r → IsRead r → FitsTo parts None (tok.Word word ∷ ts) r
 word_fits line parts word ts r h is =
     by_keyword parts word (codes "UNIT") ts r _ _ (λ k.
-        let u = bind_ok (unit_line parts.units ts) _ r k in
-        let same : between_images (and_unit parts u.0) ≡ r = cc (u.2) in
-        subst (λ (q : Reading). FitsTo parts None (tok.Word (codes "UNIT") ∷ ts) q) same (unit_fits parts u.0 ts u.1 (subst IsRead (sym same) is).parts)) (
+    let u = bind_ok (unit_line parts.units ts) _ r k in
+    let same : between_images (and_unit parts u.0) ≡ r = cc (u.2) in
+    subst (λ (q : Reading). FitsTo parts None (tok.Word (codes "UNIT") ∷ ts) q) same (unit_fits parts u.0 ts u.1 (subst IsRead (sym same) is).parts)) (
     by_keyword parts word (codes "INPUT") ts r _ _ (λ k.
-        let i = bind_ok (input_line line ts) _ r k in
-        let same : between_images (and_input parts i.0) ≡ r = cc (i.2) in
-        subst (λ (q : Reading). FitsTo parts None (tok.Word (codes "INPUT") ∷ ts) q) same (input_fits line parts i.0 ts i.1)) (
+    let i = bind_ok (input_line line ts) _ r k in
+    let same : between_images (and_input parts i.0) ≡ r = cc (i.2) in
+    subst (λ (q : Reading). FitsTo parts None (tok.Word (codes "INPUT") ∷ ts) q) same (input_fits line parts i.0 ts i.1)) (
     by_keyword parts word (codes "FAULT") ts r _ _ (λ k.
-        let f = bind_ok (fault_line line parts.faults ts) _ r k in
-        let same : between_images (and_fault parts f.0) ≡ r = cc (f.2) in
-        subst (λ (q : Reading). FitsTo parts None (tok.Word (codes "FAULT") ∷ ts) q) same (fault_fits line parts f.0 ts f.1 (subst IsRead (sym same) is).parts)) (
+    let f = bind_ok (fault_line line parts.faults ts) _ r k in
+    let same : between_images (and_fault parts f.0) ≡ r = cc (f.2) in
+    subst (λ (q : Reading). FitsTo parts None (tok.Word (codes "FAULT") ∷ ts) q) same (fault_fits line parts f.0 ts f.1 (subst IsRead (sym same) is).parts)) (
     by_keyword parts word (codes "IMAGE") ts r _ _ (λ k.
-        let i = bind_ok (image_line parts.images ts) _ r k in
-        let same : goes_on parts i.0 ≡ r = cc (i.2) in
-        subst (λ (q : Reading). FitsTo parts None (tok.Word (codes "IMAGE") ∷ ts) q) same (image_fits parts i.0 ts i.1 (subst IsRead (sym same) is).current)) (
+    let i = bind_ok (image_line parts.images ts) _ r k in
+    let same : goes_on parts i.0 ≡ r = cc (i.2) in
+    subst (λ (q : Reading). FitsTo parts None (tok.Word (codes "IMAGE") ∷ ts) q) same (image_fits parts i.0 ts i.1 (subst IsRead (sym same) is).current)) (
     by_keyword parts word (codes "PROCESS") ts r _ _ (λ k.
-        let d = bind_ok (process_line line parts.decls ts) _ r k in
-        let same : between_images (and_decl parts d.0) ≡ r = cc (d.2) in
-        subst (λ (q : Reading). FitsTo parts None (tok.Word (codes "PROCESS") ∷ ts) q) same (process_fits line parts d.0 ts d.1 (subst IsRead (sym same) is).parts))
+    let d = bind_ok (process_line line parts.decls ts) _ r k in
+    let same : between_images (and_decl parts d.0) ≡ r = cc (d.2) in
+    subst (λ (q : Reading). FitsTo parts None (tok.Word (codes "PROCESS") ∷ ts) q) same (process_fits line parts d.0 ts d.1 (subst IsRead (sym same) is).parts))
     (λ k. absurd (cc)))))) h
 
 outside_fits : (line : ℕ) (parts : Parts) (ts : List Tok) (r : Reading) → outside line parts ts ≡ Ok r → IsRead r → FitsTo parts None ts r
@@ -381,16 +387,16 @@ word_inside : (line : ℕ) (parts : Parts) (image : DraftImage) (word : List ℕ
 word_inside line parts image word ts r h is =
     by_test {A = Result Reading FaultKind} (λ q. q ≡ Ok r → FitsTo parts (Some image) (tok.Word word ∷ ts) r) (begins_with_sign 58 ts) _ _
     (λ e k. tokens_as parts (Some image) _ (tok.Word word ∷ colon ∷ drop 1 ts) r (ap (λ (us : List Tok). tok.Word word ∷ us) (sym (colon_by ts e)))
-        (going_fits parts image (tok.Word word ∷ colon ∷ drop 1 ts) (labelled line image word (drop 1 ts)) r k is λ more m o. label_fits line parts image more word (drop 1 ts) m o))
+    (going_fits parts image (tok.Word word ∷ colon ∷ drop 1 ts) (labelled line image word (drop 1 ts)) r k is λ more m o. label_fits line parts image more word (drop 1 ts) m o))
     (λ _. by_test {A = Result Reading FaultKind} (λ q. q ≡ Ok r → FitsTo parts (Some image) (tok.Word word ∷ ts) r) (bytes_eq word (codes "END")) _ _
     (λ e k.
-        let end = bind_ok (end_at ts) _ r k in
-        let none = end_is 0 ts end.0 end.1 in
-        let same : between_images (with_image parts image) ≡ r = cc (end.2) in
-        let shape : tok.Word (codes "END") ∷ [] ≡ tok.Word word ∷ ts = ap (λ (w : List ℕ). tok.Word w ∷ []) (sym (name_is word (codes "END") e)) ∙ ap (λ (us : List Tok). tok.Word word ∷ us) (sym none) in
-        subst (λ (q : Reading). FitsTo parts (Some image) (tok.Word word ∷ ts) q) same (
-        fits_as (declared_by parts (Some image)) _ (tok.Word (codes "END") ∷ []) _ (declared_by (with_image parts image) None) shape
-        (ap (λ (ns : List (List ℕ)). record (declared_by parts None) { images = ns }) (sym (map_push (λ (i : Image). i.name) parts.images (image_of image)))) (end_fits (open_of image) refl)))
+    let end = bind_ok (end_at ts) _ r k in
+    let none = end_is 0 ts end.0 end.1 in
+    let same : between_images (with_image parts image) ≡ r = cc (end.2) in
+    let shape : tok.Word (codes "END") ∷ [] ≡ tok.Word word ∷ ts = ap (λ (w : List ℕ). tok.Word w ∷ []) (sym (name_is word (codes "END") e)) ∙ ap (λ (us : List Tok). tok.Word word ∷ us) (sym none) in
+    subst (λ (q : Reading). FitsTo parts (Some image) (tok.Word word ∷ ts) q) same (
+    fits_as (declared_by parts (Some image)) _ (tok.Word (codes "END") ∷ []) _ (declared_by (with_image parts image) None) shape
+    (ap (λ (ns : List (List ℕ)). record (declared_by parts None) { images = ns }) (sym (map_push (λ (i : Image). i.name) parts.images (image_of image)))) (end_fits (open_of image) refl)))
     (λ _ k. going_fits parts image (tok.Word word ∷ ts) (with_stmt line image (tok.Word word ∷ ts)) r k is λ more m o. plain_fits line parts image more (tok.Word word ∷ ts) m o)) h
 
 inside_fits : (line : ℕ) (parts : Parts) (image : DraftImage) (ts : List Tok) (r : Reading) → inside line parts image ts ≡ Ok r → IsRead r → FitsTo parts (Some image) ts r

@@ -1,5 +1,5 @@
 -- What the reader returned, in words of the grammar.
-use Rattle.std.proofs.Common.{◌≡◌, ℕ, List, Result, Ok, Err, IfOk, refl, sym, subst, ap, ◌∙◌}
+use Rattle.std.proofs.Common.{ℕ, List, Result, Ok, Err, IfOk, subst}
 use Rattle.vx_image.specs.declared.system.System.{System}
 use Rattle.vx_script.specs.Reading.{read_script}
 use Rattle.vx_script.specs.Results.{ReadsScript}

@@ -1,29 +1,26 @@
 -- What is read as a statement is spelled as one of some image, which has the labels that it names.
-use Rattle.std.proofs.Common.{◌≡◌, ℕ, ◌+◌, ◌&&◌, ◌||◌, not, Bool, true, false, nat_lt, nat_le, List, [], ◌∷◌, ◌++◌, length, map, Option, Some, None, is_some, position, Result, Ok, Err, bytes_eq, refl, sym, subst, ap, ◌∙◌}
-use Rattle.std.specs.List.{list_all, list_any}
+use Rattle.std.proofs.Common.{◌≡◌, ℕ, ◌||◌, not, Bool, true, false, nat_lt, List, [], ◌∷◌, ◌++◌, map, Some, None, Ok, bytes_eq, refl, ap, ◌∙◌}
+use Rattle.std.specs.List.{list_all}
 use Rattle.std.proofs.lemmas.Bool.{and_parts, and_from}
 use Rattle.std.proofs.lemmas.Result.{IfOk-at_ok}
 use Rattle.std.proofs.lemmas.List.Folds.{list_any-append}
 use Rattle.vx_base.specs.declared.call.Arg.{Arg}
 use Rattle.vx_base.specs.declared.call.Arg.TheVariants as arg
 use Rattle.vx_base.specs.declared.call.Call.{Call}
-use Rattle.vx_base.specs.declared.call.Operand.{Operand}
 use Rattle.vx_base.specs.declared.service.Service.{Service}
 use Rattle.vx_base.specs.declared.service.Service.TheVariants.{CrePrc}
 use Rattle.vx_base.specs.Services.{is_call, is_operand, args_list}
 use Rattle.vx_image.specs.declared.image.Image.{Image}
 use Rattle.vx_image.specs.declared.image.Label.{Label}
-use Rattle.vx_image.specs.declared.stmt.Rel.{Rel}
 use Rattle.vx_image.specs.declared.stmt.Stmt.{Stmt}
 use Rattle.vx_image.specs.declared.stmt.Stmt.TheVariants as stmt
-use Rattle.vx_image.specs.WellFormed.{is_among, has_its_label, has_its_decl, is_call_of, is_stmt, label_names}
+use Rattle.vx_image.specs.WellFormed.{is_among, has_its_label, has_its_decl, is_stmt, label_names}
 use Rattle.vx_text.specs.declared.token.Tok.{Tok}
 use Rattle.vx_text.proofs.Runs.{or_true}
 use Rattle.vx_script.specs.Resolving.{label_place, is_label, place_or_zero, settled, draft_names_none}
 use Rattle.vx_script.specs.Statements.{stmt_of}
 use Rattle.vx_script.specs.declared.draft.Draft.{Draft}
 use Rattle.vx_script.specs.declared.draft.Draft.TheVariants as draft
-use Rattle.vx_script.specs.declared.fault.FaultKind.{FaultKind}
 use Rattle.vx_script.proofs.InRange.{is_plain, is_draft, IsDraft, statement}
 use Rattle.vx_script.proofs.Places.{has_place, placed}
 use Rattle.vx_grammar.specs.Grammar.{Statement}
