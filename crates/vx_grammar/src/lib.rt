@@ -1,8 +1,9 @@
 //! The grammar of scripts, and the law that the reader reads exactly what it spells.
 //!
 //! `specs/Grammar.antt` says what a script is, line by line: each production has the form of a line and the part of the system that
-//! the line stands for. It goes over no text, and shares with the reader the rules of tokens, the table of services and the
-//! spelling of fixed words.
+//! the line stands for. `specs/FirstFault.antt` says by it which line of a text is the first faulty one. Neither goes over a text.
+//! They share with the reader the rules of tokens (`vx_text`), the table of services, the spelling of fixed words, and small words
+//! on lists: the place of a name, a unit that is a line unit, numbers in rising order.
 #![tactic(auto)]
 
 ghost use Rattle.std.specs.Prelude.{◌≡◌, ◌↔◌, ◌<◌, ℕ, List, length, Ok, Err, IfOk};
@@ -30,6 +31,8 @@ pub fn read_script(alloc: Global, text: &[u8]) -> Result<System, ScriptFail>
     // Which line has the fault.
     ensures fault { TellsIfFault text.now result }
     ensures well_formed { IfOk result (λ s. IsWellFormed s) }
+    // And each fault's kind.
+    ensures reads { ReadsScript result (reading.read_script text.now) }
 {
     vx_script::read_script(alloc, text)
 }
