@@ -14,8 +14,8 @@ use Rattle.vx_text.specs.Lex.{lex}
 use Rattle.vx_text.specs.Quote.{quote_text, AreBytes}
 use Rattle.vx_table.specs.Back.{toks_of}
 use Rattle.vx_script.specs.Declarations as read
-use Rattle.vx_script.specs.Fields.{within}
-use Rattle.vx_script.specs.Reading.{take_line, with_kind, accepted, outside, between_images, goes_on, read_lines}
+use Rattle.vx_script.specs.Fields.{within, with_kind}
+use Rattle.vx_script.specs.Reading.{take_line, accepted, outside, between_images, goes_on, read_lines}
 use Rattle.vx_script.specs.Script as script
 use Rattle.vx_script.specs.declared.draft.DraftImage.{DraftImage}
 use Rattle.vx_script.specs.declared.fault.FaultKind.{FaultKind}

@@ -9,7 +9,8 @@ use Rattle.vx_text.specs.declared.token.Token.{Token}
 use Rattle.vx_table.specs.Back.{toks_of}
 use Rattle.vx_table.specs.Reading.{toks}
 use Rattle.vx_script.specs.Results.{◌>>=◌, at_line}
-use Rattle.vx_script.specs.Reading.{accepted, with_kind, take_line, closed, between_images, read_lines}
+use Rattle.vx_script.specs.Reading.{accepted, take_line, closed, between_images, read_lines}
+use Rattle.vx_script.specs.Fields.{with_kind}
 use Rattle.vx_script.specs.Resolving.{resolve}
 use Rattle.vx_script.specs.declared.draft.DraftImage.{DraftImage}
 use Rattle.vx_script.specs.declared.fault.FaultKind.{FaultKind}

@@ -4,7 +4,8 @@ use Rattle.std.proofs.lemmas.Result.{IfOk-at_ok}
 use Rattle.vx_text.specs.Lex.{lex}
 use Rattle.vx_script.specs.Lines.{lines_of}
 use Rattle.vx_script.specs.Results.{◌>>=◌, at_line}
-use Rattle.vx_script.specs.Reading.{accepted, with_kind, take_line, closed, nothing_read, read_lines, read_script}
+use Rattle.vx_script.specs.Reading.{accepted, take_line, closed, nothing_read, read_lines, read_script}
+use Rattle.vx_script.specs.Fields.{with_kind}
 use Rattle.vx_script.specs.Resolving.{first_unknown, resolved}
 use Rattle.vx_script.specs.declared.draft.DraftImage.{DraftImage}
 use Rattle.vx_script.specs.declared.fault.FaultKind.{FaultKind}
@@ -13,10 +14,12 @@ use Rattle.vx_script.specs.declared.fault.ScriptFault.{ScriptFault}
 use Rattle.vx_script.specs.declared.parts.Reading.{Reading}
 use Rattle.vx_script.proofs.KeptParts.{IsRead, line_kept, nothing_kept}
 use Rattle.vx_grammar.specs.Grammar.{IsLines}
-use Rattle.vx_grammar.specs.FirstFault.{Declared, Fit, none_fit, one_fits, AllFit, FirstFaulty, TellsFault, of_a_line, of_the_end, of_a_name}
+use Rattle.vx_grammar.specs.Declared.{Declared}
+use Rattle.vx_grammar.specs.FirstFault.{Fit, none_fit, one_fits, AllFit, FirstFaulty, TellsFault, of_a_line, of_the_end, of_a_name}
 use Rattle.vx_grammar.proofs.Fields.{bind_ok}
 use Rattle.vx_grammar.proofs.Feeding.{kinds, taken}
 use Rattle.vx_grammar.proofs.TextLines.{lines_cut, cut_lines}
+use Rattle.vx_grammar.proofs.LineFaults.{refused}
 use Rattle.vx_grammar.proofs.LinesFit.{open_of, declared_by, declared, fits_read, read_fits}
 
 -- what is read of lines, whatever follows
@@ -85,7 +88,7 @@ tells_line line r front l ls kind b h =
     cc
     in
     let place = b.place in
-    of_a_line (record { before = front; line = l; behind = ls; split = refl; place = (let n : line ≡ length front + 1 = omega (arith, place) in n); fit = (declared r, b.fit); faulty = none })
+    of_a_line (record { before = front; line = l; behind = ls; split = refl; place = (let n : line ≡ length front + 1 = omega (arith, place) in n); declared = declared r; fit = b.fit; faulty = none }) (refused line r l kind h)
 
 tells_end : (line : ℕ) (r : Reading) (front : List (List ℕ)) (current : Option DraftImage) (f : ScriptFault) → Before line r front → r.current ≡ current → closed line r.parts current ≡ Err f → TellsFault front f
 tells_end line r front (Some image) f b c h =
@@ -161,10 +164,10 @@ line_told line r l ls kind h = rw h refl
 abbrev pub IsTold : List ℕ → ℕ → Type 0
 IsTold text number = (kind : FaultKind) × (read_script text ≡ Err (record { line = number; kind = kind }))
 
-told_by : (text : List ℕ) (number : ℕ) (f : FirstFaulty (lines_of text) number) (r : FitRead f.before f.fit.0) (q : Result Reading FaultKind) → take_line (1 + length f.before) r.r f.line ≡ q → IsTold text number
+told_by : (text : List ℕ) (number : ℕ) (f : FirstFaulty (lines_of text) number) (r : FitRead f.before f.declared) (q : Result Reading FaultKind) → take_line (1 + length f.before) r.r f.line ≡ q → IsTold text number
 told_by text number f r (Ok s) e =
     let is : IsRead s = IfOk-at_ok IsRead e (line_kept (1 + length f.before) r.r f.line (reads_kept 1 nothing_read r.r f.before nothing_kept r.read)) in
-    let fit : Fit f.before (declared r.r) = subst (λ (d : Declared). Fit f.before d) (sym r.same) f.fit.1 in
+    let fit : Fit f.before (declared r.r) = subst (λ (d : Declared). Fit f.before d) (sym r.same) f.fit in
     absurd (f.faulty (declared s, line_fits (1 + length f.before) r.r s f.line f.before e is fit))
 told_by text number f r (Err kind) e =
     let place = f.place in
@@ -178,5 +181,5 @@ told_by text number f r (Err kind) e =
 pub faulty_told : (text : List ℕ) (lines : List (List ℕ)) (number : ℕ) → IsLines text lines → FirstFaulty lines number → IsTold text number
 faulty_told text lines number cut faulty =
     let f = subst (λ (ls : List (List ℕ)). FirstFaulty ls number) (sym (lines_cut text lines cut)) faulty in
-    let r = fit_read f.before f.fit.0 f.fit.1 in
+    let r = fit_read f.before f.declared f.fit in
     told_by text number f r (take_line (1 + length f.before) r.r f.line) refl

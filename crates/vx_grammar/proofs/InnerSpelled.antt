@@ -6,14 +6,15 @@ use Rattle.vx_image.specs.declared.image.Image.{Image}
 use Rattle.vx_image.specs.declared.stmt.Stmt.{Stmt}
 use Rattle.vx_image.specs.declared.system.System.{System}
 use Rattle.vx_image.specs.declared.unit.UnitDecl.{UnitDecl}
-use Rattle.vx_image.specs.WellFormed.{are_distinct, falls_nowhere, label_names, label_places, decl_names, is_stmt, is_image}
+use Rattle.vx_image.specs.WellFormed.{are_distinct, falls_nowhere, label_names, label_places, decl_names, is_stmt}
 use Rattle.vx_text.specs.declared.token.Tok.{Tok}
 use Rattle.vx_text.specs.declared.token.Tok.TheVariants as tok
 use Rattle.vx_text.proofs.Runs.{by_test}
-use Rattle.vx_script.specs.Fields.{begins_with_sign, end_at}
-use Rattle.vx_script.specs.Declarations.{fresh, room_for, unit_line, input_line, fault_line, image_line, process_line}
+use Rattle.vx_script.specs.Fields.{begins_with_sign, end_at, room_for}
+use Rattle.vx_script.specs.Declarations.{fresh, unit_line, input_line, fault_line, image_line, process_line}
+use Rattle.vx_script.specs.Places.{label_place}
 use Rattle.vx_script.specs.Reading.{with_stmt, with_label, labelled, goes_on, going_on, word_line, inside, between_images, outer_line, outside, by_place, accepted}
-use Rattle.vx_script.specs.Resolving.{label_place, names_no_label, settled, image_of, with_image}
+use Rattle.vx_script.specs.Resolving.{names_no_label, settled, image_of, with_image}
 use Rattle.vx_script.specs.Statements.{stmt_of}
 use Rattle.vx_script.specs.declared.draft.Draft.{Draft}
 use Rattle.vx_script.specs.declared.draft.DraftImage.{DraftImage}
@@ -22,6 +23,7 @@ use Rattle.vx_script.specs.declared.fault.FaultKind.{FaultKind}
 use Rattle.vx_script.specs.declared.parts.Parts.{Parts}
 use Rattle.vx_script.specs.declared.parts.Reading.{Reading}
 use Rattle.vx_script.proofs.Appended.{not_out, all_both, unfound, none_from}
+use Rattle.vx_script.proofs.EndedImages.{is_formed}
 use Rattle.vx_grammar.specs.Grammar.{Said, Names, Does, Statement, BodyLine, empty_line, statement_line, label_line, labelled_line, Body, no_lines, and_line, stmts_in, labels_in, ImageOf, Item, OfUnit, OfInput, OfFault, OfImage, OfProcess, Line, Lines, none_left, an_empty_line, a_line, an_image, image_in, colon}
 use Rattle.vx_grammar.proofs.Fields.{bind_ok, name_is, end_is, sign_token}
 use Rattle.vx_grammar.proofs.Statements.{stmt_spelled}
@@ -32,7 +34,7 @@ use Rattle.vx_grammar.proofs.OuterSpelled.{unit_spelled, input_spelled, fault_sp
 -- what the system is to have
 pub record Sound (s : System) (all : Parts) : Type 0 where
   pub images : s.images ≡ all.images
-  pub formed : list_all (is_image (decl_names s)) s.images ≡ true
+  pub formed : list_all (is_formed (decl_names s)) s.images ≡ true
 
 -- From a line on, outside images.
 pub record Outer (s : System) (all parts : Parts) (tss : List (List Tok)) : Type 0 where
@@ -65,7 +67,7 @@ pub record Inner (s : System) (all parts : Parts) (image : DraftImage) (tss : Li
   pub split : tss ≡ body ++ (tok.Word (codes "END") ∷ []) ∷ rest
   pub is : Body (decl_names s) (image_of last) body said
   pub becomes : Becomes s image last said
-  pub formed : is_image (decl_names s) (image_of last) ≡ true
+  pub formed : is_formed (decl_names s) (image_of last) ≡ true
   pub outer : Outer s all (with_image parts last) rest
 
 -- The lines of an image.
@@ -170,7 +172,7 @@ record Formed (decls : List (List ℕ)) (i : Image) : Type 0 where
   names : are_distinct (label_names i) ≡ true
   stmts : list_all (is_stmt decls i) i.stmts ≡ true
 
-formed_parts : (decls : List (List ℕ)) (i : Image) → is_image decls i ≡ true → Formed decls i
+formed_parts : (decls : List (List ℕ)) (i : Image) → is_formed decls i ≡ true → Formed decls i
 formed_parts decls i h =
     let a = and_parts (nat_le (length i.stmts) 10000) _ h in
     let b = and_parts (are_distinct (label_names i)) _ a.1 in
@@ -182,9 +184,9 @@ end_spelled : (s : System) (all parts : Parts) (image : DraftImage) (tss : List 
 end_spelled s all parts image tss sound o =
     let k = known_image s parts image o.known in
     let there = unfound (names_no_label image.labels) image.lines (none_from (λ (d : DraftLine). d.line) (find (names_no_label image.labels) image.lines) k.1) in
-    let images = subst (λ (is : List Image). list_all (is_image (decl_names s)) is ≡ true) (sound.images ∙ o.adds.images) sound.formed in
-    let here = all_both (is_image (decl_names s)) (parts.images ++ image_of image ∷ []) (flat_map image_in o.items) images in
-    let formed = (all_front (is_image (decl_names s)) parts.images (image_of image) here.0).1 in
+    let images = subst (λ (is : List Image). list_all (is_formed (decl_names s)) is ≡ true) (sound.images ∙ o.adds.images) sound.formed in
+    let here = all_both (is_formed (decl_names s)) (parts.images ++ image_of image ∷ []) (flat_map image_in o.items) images in
+    let formed = (all_front (is_formed (decl_names s)) parts.images (image_of image) here.0).1 in
     let f = formed_parts (decl_names s) (image_of image) formed in
     record {
       last = image;

@@ -15,5 +15,7 @@ pub mod TextLines
 pub mod Whole
 pub mod Somewhere
 pub mod LinesFit
+pub mod LineFaults
 pub mod FirstFaults
+pub mod FewLabels
 pub mod Returned

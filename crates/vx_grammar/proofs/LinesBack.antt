@@ -15,9 +15,10 @@ use Rattle.vx_text.specs.declared.token.Tok.{Tok}
 use Rattle.vx_text.specs.declared.token.Tok.TheVariants as tok
 use Rattle.vx_script.specs.Results.{◌>>=◌}
 use Rattle.vx_script.specs.Keys.{no_keys}
-use Rattle.vx_script.specs.Declarations.{unit_place, image_place, decl_place, fresh, unit_line, input_line, is_fault_of, fault_line, image_line, process_line}
+use Rattle.vx_script.specs.Declarations.{decl_place, fresh, unit_line, input_line, is_fault_of, fault_line, image_line, process_line}
+use Rattle.vx_script.specs.Places.{unit_place, image_place, label_place}
 use Rattle.vx_script.specs.Reading.{with_stmt, with_label, goes_on, going_on, inside, between_images, outside}
-use Rattle.vx_script.specs.Resolving.{label_place, names_no_label, first_unlabelled, place_or_zero, settled, image_of, with_image, creation_of, creations_of, decl_of}
+use Rattle.vx_script.specs.Resolving.{names_no_label, first_unlabelled, place_or_zero, settled, image_of, with_image, creation_of, creations_of, decl_of}
 use Rattle.vx_script.specs.Statements.{stmt_of}
 use Rattle.vx_script.specs.declared.draft.Draft.{Draft}
 use Rattle.vx_script.specs.declared.draft.DraftImage.{DraftImage}

@@ -1,5 +1,5 @@
 -- A line is read exactly where a production fits it behind the lines before it.
-use Rattle.std.proofs.Common.{◌≡◌, ℕ, ◌+◌, ◌<◌, ◌==◌, ◌&&◌, ◌||◌, Bool, true, false, cond, nat_le, nat_lt, List, [], ◌∷◌, ◌++◌, length, drop, map, fold, codes, Option, Some, None, is_some, Result, Ok, Err, bytes_eq, refl, sym, subst, ap, ◌∙◌, arith, length-append}
+use Rattle.std.proofs.Common.{◌≡◌, ℕ, ◌+◌, ◌<◌, ◌==◌, ◌&&◌, ◌||◌, Bool, true, false, cond, nat_le, nat_lt, List, [], ◌∷◌, ◌++◌, length, drop, map, flat_map, fold, codes, Option, Some, None, is_some, Result, Ok, Err, bytes_eq, refl, sym, subst, ap, ◌∙◌, arith, append-nil, length-append}
 use Rattle.std.specs.List.{AllByRecursion}
 use Rattle.std.proofs.lemmas.Bool.{leb-true, lt-ltb, ltb-true}
 use Rattle.vx_image.specs.declared.decl.ProcDecl.{ProcDecl}
@@ -12,11 +12,12 @@ use Rattle.vx_image.specs.WellFormed.{is_among, are_distinct}
 use Rattle.vx_text.specs.declared.token.Tok.{Tok}
 use Rattle.vx_text.specs.declared.token.Tok.TheVariants as tok
 use Rattle.vx_text.proofs.Runs.{by_test}
-use Rattle.vx_script.specs.Fields.{begins_with_sign, end_at}
+use Rattle.vx_script.specs.Fields.{begins_with_sign, end_at, room_for}
 use Rattle.vx_script.specs.Keys.{no_keys}
-use Rattle.vx_script.specs.Declarations.{image_place, fresh, room_for, unit_line, input_line, fault_line, image_line, process_line}
+use Rattle.vx_script.specs.Declarations.{fresh, unit_line, input_line, fault_line, image_line, process_line}
+use Rattle.vx_script.specs.Places.{image_place, label_place}
 use Rattle.vx_script.specs.Reading.{with_stmt, with_label, labelled, goes_on, going_on, word_line, inside, between_images, outer_line, outside, by_place}
-use Rattle.vx_script.specs.Resolving.{label_place, image_of, with_image}
+use Rattle.vx_script.specs.Resolving.{settled, image_of, with_image}
 use Rattle.vx_script.specs.Statements.{stmt_of}
 use Rattle.vx_script.specs.declared.draft.Draft.{Draft}
 use Rattle.vx_script.specs.declared.draft.DraftImage.{DraftImage}
@@ -32,11 +33,12 @@ use Rattle.vx_script.proofs.KeptParts.{AreParts, IsRead}
 use Rattle.vx_script.proofs.OpenImages.{IsOpen}
 use Rattle.vx_script.proofs.Places.{has_place}
 use Rattle.vx_grammar.specs.Grammar.{Said, Names, Does, BodyLine, empty_line, statement_line, label_line, labelled_line, plain_decl, Item, OfUnit, OfInput, OfFault, OfImage, OfProcess, Line, a_line_unit, a_block_unit, an_input, a_fault, a_process, colon}
-use Rattle.vx_grammar.specs.FirstFault.{Open, Declared, IsNew, and_item, IsNewIn, and_said, Fits, empty_fits, line_fits, opening_fits, body_fits, end_fits}
+use Rattle.vx_grammar.specs.Declared.{Open, Declared, IsNew, line_name, and_item, IsNewIn, and_said}
+use Rattle.vx_grammar.specs.FirstFault.{Fits, empty_fits, line_fits, opening_fits, body_fits, end_fits}
 use Rattle.vx_grammar.proofs.Fields.{bind_ok, name_is, same_name, end_is}
 use Rattle.vx_grammar.proofs.ReadStatements.{ReadsAs, stmt_reads}
 use Rattle.vx_grammar.proofs.ProcessKeys.{settings_read}
-use Rattle.vx_grammar.proofs.SaidSoFar.{fault_key, and_unit, and_input, and_fault, and_decl, bare_unit}
+use Rattle.vx_grammar.proofs.SaidSoFar.{flat_pushed, fault_key, and_unit, and_input, and_fault, and_decl, bare_unit}
 use Rattle.vx_grammar.proofs.InnerSpelled.{colon_by}
 use Rattle.vx_grammar.proofs.LinesBack.{here_new, no_place, with_draft, stmt_taken, label_taken, line_unit_read, block_unit_read, an_input_read, fault_new, a_fault_read, none_has, a_process_read, opened_read, nothing_outside}
 use Rattle.vx_grammar.proofs.Looking.{faults_differ}
@@ -46,26 +48,51 @@ use Rattle.vx_grammar.proofs.Somewhere.{some_statement}
 -- what was read declares this
 
 abbrev pub open_of : DraftImage → Open
-open_of image = record { labels = map (λ l. l.name) image.labels; stmts = length image.lines }
+open_of image = record { name = image.name; labels = map (λ l. l.name) image.labels; stmts = length image.lines }
+
+abbrev pub ended_of : Image → Open
+ended_of i = record { name = i.name; labels = map (λ l. l.name) i.labels; stmts = length i.stmts }
+
+abbrev pub line_of : UnitDecl → List (List ℕ)
+line_of u = line_name u.name u.blocks
 
 abbrev pub declared_by : Parts → Option DraftImage → Declared
 declared_by parts None = record {
   units = map (λ u. u.name) parts.units;
+  line_units = flat_map line_of parts.units;
   images = map (λ i. i.name) parts.images;
   processes = map (λ d. d.name) parts.decls;
   faults = map fault_key parts.faults;
+  ended = map ended_of parts.images;
   image = None;
 }
 declared_by parts (Some image) = record {
   units = map (λ u. u.name) parts.units;
+  line_units = flat_map line_of parts.units;
   images = map (λ i. i.name) parts.images ++ image.name ∷ [];
   processes = map (λ d. d.name) parts.decls;
   faults = map fault_key parts.faults;
+  ended = map ended_of parts.images;
   image = Some (open_of image);
 }
 
 abbrev pub declared : Reading → Declared
 declared r = declared_by r.parts r.current
+
+unit_more : (parts : Parts) (u : UnitDecl) → declared_by (and_unit parts u) None ≡ and_item (declared_by parts None) (OfUnit u.name u.blocks)
+unit_more parts u =
+    let name = λ (u : UnitDecl). u.name in
+    let lines : flat_map line_of (parts.units ++ u ∷ []) ≡ flat_map line_of parts.units ++ line_of u = sym (append-nil _) ∙ flat_pushed line_of parts.units u [] ∙ ap (λ ls. flat_map line_of parts.units ++ ls) (append-nil (line_of u)) in
+    ap (λ (us : List (List ℕ)). record (declared_by parts None) { units = us; line_units = flat_map line_of (parts.units ++ u ∷ []) }) (map_push name parts.units u)
+    ∙ ap (λ (ls : List (List ℕ)). record (declared_by parts None) { units = map name parts.units ++ u.name ∷ []; line_units = ls }) lines
+
+ended_more : (parts : Parts) (image : DraftImage) → declared_by (with_image parts image) None
+    ≡ record (declared_by parts (Some image)) { ended = map ended_of parts.images ++ open_of image ∷ []; image = None }
+ended_more parts image =
+    ap (λ (ns : List (List ℕ)). record (declared_by parts None) { images = ns; ended = map ended_of (parts.images ++ image_of image ∷ []) }) (map_push (λ (i : Image). i.name) parts.images (image_of image))
+    ∙ ap (λ (os : List Open). record (declared_by parts None) { images = map (λ (i : Image). i.name) parts.images ++ image.name ∷ []; ended = os }) (map_push ended_of parts.images (image_of image))
+    ∙ ap (λ (n : ℕ). record (declared_by parts None) { images = map (λ (i : Image). i.name) parts.images ++ image.name ∷ []; ended = map ended_of parts.images ++ record (open_of image) { stmts = n } ∷ [] })
+    (as_many (λ (d : DraftLine). settled image.labels d.draft) image.lines)
 
 -- What fits is read.
 
@@ -82,12 +109,12 @@ item_read : (line : ℕ) (parts : Parts) (s : System) (ts : List Tok) (item : It
 item_read line parts s _ _ (a_line_unit name) new = record {
   next = between_images (and_unit parts (bare_unit name 0));
   read = line_unit_read line parts name (no_place (λ (u : UnitDecl). u.name) name parts.units new.0) (room_in 32 (λ (u : UnitDecl). u.name) parts.units new.1);
-  same = ap (λ (us : List (List ℕ)). record (declared_by parts None) { units = us }) (map_push (λ (u : UnitDecl). u.name) parts.units (bare_unit name 0));
+  same = unit_more parts (bare_unit name 0);
 }
 item_read line parts s _ _ (a_block_unit name n h) new = record {
   next = between_images (and_unit parts (bare_unit name n));
   read = block_unit_read line parts name n h (no_place (λ (u : UnitDecl). u.name) name parts.units new.0) (room_in 32 (λ (u : UnitDecl). u.name) parts.units new.1);
-  same = ap (λ (us : List (List ℕ)). record (declared_by parts None) { units = us }) (map_push (λ (u : UnitDecl). u.name) parts.units (bare_unit name n));
+  same = unit_more parts (bare_unit name n);
 }
 item_read line parts s _ _ (an_input unit text h there) new = record {
   next = between_images (and_input parts (record { line = line; unit = unit; text = text }));
@@ -184,7 +211,7 @@ fits_read d _ _ (opening_fits i none new) line parts None same =
     record {
       next = goes_on parts (record { name = i.name; labels = []; lines = [] });
       read = opened_read line parts i.name (no_place (λ (i : Image). i.name) i.name parts.images fresh.0) (room_in 256 (λ (i : Image). i.name) parts.images fresh.1);
-      same = ap (λ (x : Declared). record (and_item x (OfImage i)) { image = Some (record { labels = []; stmts = 0 }) }) same;
+      same = ap (λ (x : Declared). record (and_item x (OfImage i)) { image = Some (record { name = i.name; labels = []; stmts = 0 }) }) same;
     }
 fits_read d _ _ (opening_fits i none new) line parts (Some image) same = absurd (not_both image parts d same none)
 fits_read d _ _ (body_fits o decls i ts said some h new) line parts None same = absurd (not_open parts o d same some)
@@ -200,12 +227,16 @@ fits_read d _ _ (body_fits o decls i ts said some h new) line parts (Some image)
           ∙ ap (λ (x : Declared). record x { image = Some (fold and_said o said) }) same;
     }
 fits_read d _ _ (end_fits o some) line parts None same = absurd (not_open parts o d same some)
-fits_read d _ _ (end_fits o some) line parts (Some image) same = record {
-  next = between_images (with_image parts image);
-  read = refl;
-  same = ap (λ (ns : List (List ℕ)). record (declared_by parts None) { images = ns }) (map_push (λ (i : Image). i.name) parts.images (image_of image))
-      ∙ ap (λ (x : Declared). record x { image = None }) same;
-}
+fits_read d _ _ (end_fits o some) line parts (Some image) same =
+    let both : Some (open_of image) ≡ Some o = ap (λ (x : Declared). x.image) same ∙ some in
+    let here : open_of image ≡ o = cc in
+    record {
+      next = between_images (with_image parts image);
+      read = refl;
+      same = ended_more parts image
+          ∙ ap (λ (x : Open). record (declared_by parts (Some image)) { ended = map ended_of parts.images ++ x ∷ []; image = None }) here
+          ∙ ap (λ (x : Declared). record x { ended = x.ended ++ o ∷ []; image = None }) same;
+    }
 
 -- What is read fits.
 
@@ -237,8 +268,7 @@ unit_fits parts u ts h k =
     let same : s.name ≡ u.name = ap name s.is in
     let new = subst (λ (n : List ℕ). is_among n (map name parts.units) ≡ false) (sym same) (pushed_new name parts.units u k.units.names) in
     fits_as (declared_by parts None) _ (tok.Word (codes "UNIT") ∷ ts) (and_item (declared_by parts None) (OfUnit s.name s.blocks)) (declared_by (and_unit parts u) None) refl
-    (ap (λ (n : List ℕ). record (declared_by parts None) { units = map name parts.units ++ n ∷ [] }) same
-    ∙ ap (λ (us : List (List ℕ)). record (declared_by parts None) { units = us }) (sym (map_push name parts.units u)))
+    (ap (λ (v : UnitDecl). and_item (declared_by parts None) (OfUnit v.name v.blocks)) s.is ∙ sym (unit_more parts u))
     (line_fits bare _ (OfUnit s.name s.blocks) refl (s.line bare) (new, pushed_room 32 name parts.units u k.units.few))
 
 input_fits : (line : ℕ) (parts : Parts) (i : InputLine) (ts : List Tok) → input_line line ts ≡ Ok i → FitsTo parts None (tok.Word (codes "INPUT") ∷ ts) (between_images (and_input parts i))
@@ -396,7 +426,7 @@ word_inside line parts image word ts r h is =
     let shape : tok.Word (codes "END") ∷ [] ≡ tok.Word word ∷ ts = ap (λ (w : List ℕ). tok.Word w ∷ []) (sym (name_is word (codes "END") e)) ∙ ap (λ (us : List Tok). tok.Word word ∷ us) (sym none) in
     subst (λ (q : Reading). FitsTo parts (Some image) (tok.Word word ∷ ts) q) same (
     fits_as (declared_by parts (Some image)) _ (tok.Word (codes "END") ∷ []) _ (declared_by (with_image parts image) None) shape
-    (ap (λ (ns : List (List ℕ)). record (declared_by parts None) { images = ns }) (sym (map_push (λ (i : Image). i.name) parts.images (image_of image)))) (end_fits (open_of image) refl)))
+    (sym (ended_more parts image)) (end_fits (open_of image) refl)))
     (λ _ k. going_fits parts image (tok.Word word ∷ ts) (with_stmt line image (tok.Word word ∷ ts)) r k is λ more m o. plain_fits line parts image more (tok.Word word ∷ ts) m o)) h
 
 inside_fits : (line : ℕ) (parts : Parts) (image : DraftImage) (ts : List Tok) (r : Reading) → inside line parts image ts ≡ Ok r → IsRead r → FitsTo parts (Some image) ts r

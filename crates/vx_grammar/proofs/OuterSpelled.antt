@@ -8,9 +8,10 @@ use Rattle.vx_image.specs.declared.unit.UnitDecl.{UnitDecl}
 use Rattle.vx_text.specs.declared.token.Tok.{Tok}
 use Rattle.vx_text.specs.declared.token.Tok.TheVariants as tok
 use Rattle.vx_text.proofs.Runs.{by_test}
-use Rattle.vx_script.specs.Fields.{end_at, name_at, number_at, text_at}
+use Rattle.vx_script.specs.Fields.{end_at, name_at, number_at, text_at, room_for, device_name, device_in, device_at, blocks_of}
 use Rattle.vx_script.specs.Keys.{no_keys, keys_from}
-use Rattle.vx_script.specs.Declarations.{unit_place, image_place, decl_place, fresh, room_for, device_name, device_in, device_at, blocks_of, unit_line, input_line, is_fault_of, fresh_fault, fault_line, image_line, process_line}
+use Rattle.vx_script.specs.Declarations.{decl_place, fresh, unit_line, input_line, is_fault_of, fresh_fault, fault_line, image_line, process_line}
+use Rattle.vx_script.specs.Places.{unit_place, image_place}
 use Rattle.vx_script.specs.Resolving.{place_or_zero, decl_of}
 use Rattle.vx_script.specs.declared.declaration.Device.{Device}
 use Rattle.vx_script.specs.declared.declaration.Device.TheVariants as device

@@ -26,7 +26,8 @@ use Rattle.vx_table.specs.Reading.{operand_of}
 use Rattle.vx_table.specs.Spelling.{operand_token, target_token}
 use Rattle.vx_script.specs.Fields.{is_sign, begins_with_sign, target_in}
 use Rattle.vx_script.specs.Reading.{with_stmt, going_on, inside}
-use Rattle.vx_script.specs.Resolving.{label_place, is_label, place_or_zero, settled, draft_names_none, arg_names_none, created_by, created_in}
+use Rattle.vx_script.specs.Resolving.{is_label, place_or_zero, settled, draft_names_none, arg_names_none, created_by, created_in}
+use Rattle.vx_script.specs.Places.{label_place}
 use Rattle.vx_script.specs.Statements.{let_rest, let_stmt, goto_stmt, rel_name, rel_word, if_stmt, put_stmt, byte_stmt, field_name, field_word, iosb_stmt, return_stmt, local_stmt, called, stmt_of}
 use Rattle.vx_script.specs.declared.draft.Draft.{Draft}
 use Rattle.vx_script.specs.declared.draft.Draft.TheVariants as draft

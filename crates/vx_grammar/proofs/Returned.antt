@@ -1,12 +1,15 @@
 -- What the reader returned, in words of the grammar.
-use Rattle.std.proofs.Common.{ℕ, List, Result, Ok, Err, IfOk, subst}
+use Rattle.std.proofs.Common.{ℕ, ◌<◌, List, length, Result, Ok, Err, IfOk, subst}
 use Rattle.vx_image.specs.declared.system.System.{System}
+use Rattle.vx_image.specs.WellFormed.{IsWellFormed}
 use Rattle.vx_script.specs.Reading.{read_script}
 use Rattle.vx_script.specs.Results.{ReadsScript}
 use Rattle.vx_script.specs.declared.fault.ScriptFail.{ScriptFail}
 use Rattle.vx_script.specs.declared.fault.ScriptFail.TheVariants as fail
 use Rattle.vx_grammar.specs.FirstFault.{TellsIfFault}
 use Rattle.vx_grammar.specs.Grammar.{Spells}
+use Rattle.vx_script.proofs.Accepted.{accepted}
+use Rattle.vx_grammar.proofs.FewLabels.{well_formed}
 use Rattle.vx_grammar.proofs.FirstFaults.{first_fault}
 use Rattle.vx_grammar.proofs.Whole.{read_is_spelled, spelled_is_read}
 
@@ -21,3 +24,7 @@ pub if_fault : (text : List ℕ) (r : Result System ScriptFail) → ReadsScript 
 if_fault text (Ok s) h = tt
 if_fault text (Err fail.NoMemory) h = tt
 if_fault text (Err (fail.Fault f)) h = first_fault text f h
+
+pub if_formed : (text : List ℕ) (r : Result System ScriptFail) → ReadsScript r (read_script text) → length text < 4294967295 → IfOk r (λ s. IsWellFormed s)
+if_formed text (Ok s) h short = well_formed text s short (read_is_spelled text s h) (accepted text s h)
+if_formed text (Err e) h short = tt

@@ -8,8 +8,8 @@ use Rattle.vx_image.specs.declared.image.Image.{Image}
 use Rattle.vx_image.specs.declared.system.System.{System}
 use Rattle.vx_image.specs.declared.unit.UnitDecl.{UnitDecl}
 use Rattle.vx_image.specs.WellFormed.{is_among, decl_names}
-use Rattle.vx_script.specs.Declarations.{image_place}
-use Rattle.vx_script.specs.Resolving.{is_line_unit, input_if, inputs_of, fault_if, numbers_of, decl_of, image_of, with_image, first_unlabelled, earlier, creations_of}
+use Rattle.vx_script.specs.Places.{image_place, is_line_unit}
+use Rattle.vx_script.specs.Resolving.{input_if, inputs_of, fault_if, numbers_of, decl_of, image_of, with_image, first_unlabelled, earlier, creations_of}
 use Rattle.vx_script.specs.declared.draft.DraftImage.{DraftImage}
 use Rattle.vx_script.specs.declared.lines.DeclLine.{DeclLine}
 use Rattle.vx_script.specs.declared.lines.FaultLine.{FaultLine}

