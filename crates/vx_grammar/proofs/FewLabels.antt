@@ -1,5 +1,5 @@
 -- Each label takes a line of its own, so a text that is shorter than 4294967295 bytes has fewer than 4294967296 labels.
-use Rattle.std.proofs.Common.{◌≡◌, ◌≢◌, ℕ, ◌+◌, ◌<◌, ◌≤◌, Bool, true, nat_le, nat_lt, List, [], ◌∷◌, ◌++◌, length, map, flat_map, Result, Ok, Err, IfOk, refl, sym, subst, ap, ◌∙◌, arith, length-append}
+use Rattle.std.proofs.Common.{◌≡◌, ◌≢◌, ℕ, ◌+◌, ◌<◌, ◌≤◌, Bool, true, nat_le, nat_lt, List, [], ◌∷◌, ◌++◌, length, map, flat_map, codes, Result, Ok, Err, IfOk, refl, sym, subst, ap, ◌∙◌, arith, length-append}
 use Rattle.std.specs.List.{list_all}
 use Rattle.std.proofs.lemmas.Bool.{and_parts, and_from, leb-true, le-leb, lt-ltb}
 use Rattle.vx_image.specs.declared.image.Image.{Image}
@@ -7,6 +7,7 @@ use Rattle.vx_image.specs.declared.image.Label.{Label}
 use Rattle.vx_image.specs.declared.system.System.{System}
 use Rattle.vx_image.specs.WellFormed.{IsWellFormed, decl_names, is_image}
 use Rattle.vx_text.specs.declared.token.Tok.{Tok}
+use Rattle.vx_text.specs.declared.token.Tok.TheVariants as tok
 use Rattle.vx_script.proofs.Appended.{as_many}
 use Rattle.vx_script.proofs.EndedImages.{is_formed}
 use Rattle.vx_script.proofs.ResolvedSystem.{IsFormed}
@@ -47,7 +48,7 @@ images_few n s _ _ none_left h = refl
 images_few n s _ _ (an_empty_line tss items more) h = images_few n s tss items more (omega (arith, h))
 images_few n s _ _ (a_line ts tss item items line more) h = one_item n s ts item items line (images_few n s tss items more (omega (arith, h)))
 images_few n s _ _ (an_image i body tss items is more) h =
-    let both = length-append body (_ ∷ tss) in
+    let both = length-append body ((tok.Word (codes "END") ∷ []) ∷ tss) in
     and_from (has_few n i) _ (image_labels n (decl_names s) body i is (omega (arith, h, both))) (images_few n s tss items more (omega (arith, h, both)))
 
 -- a text has no more lines than bytes
@@ -74,10 +75,10 @@ are_images decls n (i ∷ images) bound formed few =
 -- a system that a short text is spelled as is well formed
 pub well_formed : (text : List ℕ) (s : System) → length text < 4294967295 → Spells text s → IsFormed s → IsWellFormed s
 well_formed text s short g f =
-    let as : length g.tokens ≡ length g.lines = sym (as_many Ok g.tokens) ∙ ap (λ (xs : List (Result (List Tok) _)). length xs) (sym g.lexed) ∙ as_many tokens_of g.lines in
+    let same : length g.tokens ≡ length g.lines = sym (as_many Ok g.tokens) ∙ ap (λ (xs : List (Result (List Tok) _)). length xs) (sym g.lexed) ∙ as_many tokens_of g.lines in
     let few = few_lines text g.lines g.cut in
     let images : flat_map image_in g.items ≡ s.images = ap (λ (t : System). t.images) (sym g.system) in
-    let labels = subst (λ (is : List Image). list_all (has_few (length text)) is ≡ true) images (images_few (length text) s g.tokens g.items g.script (omega (arith, as, few))) in
+    let labels = subst (λ (is : List Image). list_all (has_few (length text)) is ≡ true) images (images_few (length text) s g.tokens g.items g.script (omega (arith, same, few))) in
     record {
       few_units = f.few_units;
       few_images = f.few_images;

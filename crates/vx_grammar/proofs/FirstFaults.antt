@@ -1,26 +1,33 @@
 -- The first fault that is told is the first faulty line.
-use Rattle.std.proofs.Common.{◌≡◌, ℕ, ◌+◌, List, [], ◌∷◌, ◌++◌, length, Option, Some, None, Result, Ok, Err, refl, sym, subst, ap, ◌∙◌, arith, append-nil, append_assoc, length-append}
+use Rattle.std.proofs.Common.{◌≡◌, ℕ, ◌+◌, ◌≤◌, Bool, true, false, List, [], ◌∷◌, ◌++◌, length, Option, Some, None, Result, Ok, Err, refl, sym, subst, ap, ◌∙◌, arith, append-nil, append_assoc, length-append}
 use Rattle.std.proofs.lemmas.Result.{IfOk-at_ok}
+use Rattle.vx_image.specs.declared.image.Image.{Image}
 use Rattle.vx_text.specs.Lex.{lex}
+use Rattle.vx_text.specs.declared.token.Tok.{Tok}
 use Rattle.vx_script.specs.Lines.{lines_of}
 use Rattle.vx_script.specs.Results.{◌>>=◌, at_line}
-use Rattle.vx_script.specs.Reading.{accepted, take_line, closed, nothing_read, read_lines, read_script}
+use Rattle.vx_script.specs.Reading.{accepted, by_place, take_line, closed, nothing_read, read_lines, read_script}
 use Rattle.vx_script.specs.Fields.{with_kind}
 use Rattle.vx_script.specs.Resolving.{first_unknown, resolved}
 use Rattle.vx_script.specs.declared.draft.DraftImage.{DraftImage}
 use Rattle.vx_script.specs.declared.fault.FaultKind.{FaultKind}
 use Rattle.vx_script.specs.declared.fault.FaultKind.TheVariants.{End, Unknown}
 use Rattle.vx_script.specs.declared.fault.ScriptFault.{ScriptFault}
+use Rattle.vx_script.specs.declared.parts.Parts.{Parts}
 use Rattle.vx_script.specs.declared.parts.Reading.{Reading}
 use Rattle.vx_script.proofs.KeptParts.{IsRead, line_kept, nothing_kept}
-use Rattle.vx_grammar.specs.Grammar.{IsLines}
+use Rattle.vx_grammar.specs.Grammar.{IsLines, tokens_of}
 use Rattle.vx_grammar.specs.Declared.{Declared}
-use Rattle.vx_grammar.specs.FirstFault.{Fit, none_fit, one_fits, AllFit, FirstFaulty, TellsFault, of_a_line, of_the_end, of_a_name}
+use Rattle.vx_grammar.specs.FirstFault.{Fit, none_fit, one_fits, AllFit, FirstFaulty, AllKnown, none_known, one_known, FirstUnknown, TellsFault, of_a_line, of_the_end, of_a_name, Tells}
+use Rattle.vx_grammar.specs.LineFault.{line_fault}
+use Rattle.vx_grammar.specs.UnknownName.{names_unknown}
 use Rattle.vx_grammar.proofs.Fields.{bind_ok}
 use Rattle.vx_grammar.proofs.Feeding.{kinds, taken}
 use Rattle.vx_grammar.proofs.TextLines.{lines_cut, cut_lines}
+use Rattle.vx_grammar.proofs.Least.{least, Nothing, Sees, least_is, least_none, none_moves, seen_moves, stay_moves}
 use Rattle.vx_grammar.proofs.LineFaults.{refused}
 use Rattle.vx_grammar.proofs.LinesFit.{open_of, declared_by, declared, fits_read, read_fits}
+use Rattle.vx_grammar.proofs.UnknownNames.{firsts, firsts_of, Stepped, stepped}
 
 -- what is read of lines, whatever follows
 abbrev reads : ℕ → Reading → List (List ℕ) → Result Reading FaultKind
@@ -66,6 +73,94 @@ line_fits line r s l ls h is fit =
     let b = bind_ok (with_kind (lex l)) (accepted line r) s h in
     one_fits ls l b.0 (declared r) (declared s) fit (kinds (lex l) b.0 b.1) (read_fits line r.parts r.current b.0 s b.2 is)
 
+-- Names that are looked up in the end.
+
+-- the tokens of a line that is read, and what it does
+record Taken (fin : Parts) (line : ℕ) (r s : Reading) (l : List ℕ) : Type 0 where
+  ts : List Tok
+  lexed : tokens_of l ≡ Ok ts
+  read : by_place line r.parts r.current ts ≡ Ok s
+  steps : Stepped fin line r.parts r.current s (names_unknown (declared_by fin None) (declared r).image ts)
+
+line_taken : (fin : Parts) (line : ℕ) (r s : Reading) (l : List ℕ) → IsRead r → take_line line r l ≡ Ok s → Taken fin line r s l
+unfolding take_line
+line_taken fin line r s l is h =
+    let b = bind_ok (with_kind (lex l)) (accepted line r) s h in
+    record { ts = b.0; lexed = kinds (lex l) b.0 b.1; read = b.2; steps = stepped fin line r.parts r.current b.0 s is.current b.2 }
+
+-- images stay where they stand
+more_images : (line : ℕ) (r : Reading) (ls : List (List ℕ)) (e : Reading) → IsRead r → reads line r ls ≡ Ok e → (more : List Image) × (e.parts.images ≡ r.parts.images ++ more)
+more_images line r [] e is h = ([], ap (λ (q : Reading). q.parts.images) (let k : e ≡ r = cc in k) ∙ sym (append-nil r.parts.images))
+more_images line r (l ∷ ls) e is h =
+    let b = bind_ok (take_line line r l) _ e h in
+    let here = (line_taken e.parts line r b.0 l is b.1).steps.images in
+    let rest = more_images (line + 1) b.0 ls e (IfOk-at_ok IsRead b.1 (line_kept line r l is)) b.2 in
+    (here.0 ++ rest.0, rest.1 ∙ ap (λ (is : List Image). is ++ rest.0) here.1 ∙ append_assoc r.parts.images here.0 rest.0)
+
+-- a line that is seen is seen in the end
+stays : (k line : ℕ) (r : Reading) (ls : List (List ℕ)) (e : Reading) → IsRead r → reads line r ls ≡ Ok e → k ≤ line → Sees k (firsts_of e.parts r) → Sees k (firsts_of e.parts e)
+stays k line r [] e is h b seen = subst (λ (q : Reading). Sees k (firsts_of e.parts q)) (let same : r ≡ e = cc in same) seen
+stays k line r (l ∷ ls) e is h b seen =
+    let n = bind_ok (take_line line r l) _ e h in
+    let kept = IfOk-at_ok IsRead n.1 (line_kept line r l is) in
+    let rest = more_images (line + 1) n.0 ls e kept n.2 in
+    let moves = (line_taken e.parts line r n.0 l is n.1).steps.moves rest.0 rest.1 in
+    stays k (line + 1) n.0 ls e kept n.2 (omega (arith, b)) (stay_moves k line _ _ _ moves b seen)
+
+-- so far each line names what is there
+record Scanned (e : Reading) (line : ℕ) (r : Reading) (front : List (List ℕ)) : Type 0 where
+  place : line ≡ 1 + length front
+  known : AllKnown (declared_by e.parts None) front (declared r)
+  is : IsRead r
+  nothing : Nothing (firsts_of e.parts r)
+
+-- the first line that names what is not there
+scan : (e : Reading) (lines : List (List ℕ)) (number : ℕ) → Fit lines (declared_by e.parts None) → least (firsts_of e.parts e) ≡ Some number
+    → (line : ℕ) (r : Reading) (front ls : List (List ℕ)) → lines ≡ front ++ ls → Scanned e line r front → reads line r ls ≡ Ok e → FirstUnknown lines number
+scan e lines number fit told line r front [] split so h =
+    let same : r ≡ e = cc in
+    let none = least_none (firsts_of e.parts e) (subst (λ (q : Reading). Nothing (firsts_of e.parts q)) same so.nothing) in
+    absurd (cc)
+scan e lines number fit told line r front (l ∷ ls) split so h =
+    let n = bind_ok (take_line line r l) _ e h in
+    by n.0 n.1 n.2 (line_taken e.parts line r n.0 l so.is n.1) (names_unknown (declared_by e.parts None) (declared r).image (line_taken e.parts line r n.0 l so.is n.1).ts) refl
+    (λ more. scan e lines number fit told (line + 1) n.0 (front ++ l ∷ []) ls (split ∙ sym (append_assoc front (l ∷ []) ls)) more n.2)
+  where
+    by : (s : Reading) → take_line line r l ≡ Ok s → reads (line + 1) s ls ≡ Ok e → (t : Taken e.parts line r s l) → (b : Bool) → names_unknown (declared_by e.parts None) (declared r).image t.ts ≡ b
+        → (Scanned e (line + 1) s (front ++ l ∷ []) → FirstUnknown lines number) → FirstUnknown lines number
+    by s taken rest t b flag more =
+        let kept = IfOk-at_ok IsRead taken (line_kept line r l so.is) in
+        let images = more_images (line + 1) s ls e kept rest in
+        let moves = t.steps.moves images.0 images.1 in
+        let place = so.place in
+        elim b as (λ b. names_unknown (declared_by e.parts None) (declared r).image t.ts ≡ b → FirstUnknown lines number) [
+          true ↦ λ flag.
+              let seen = stays line (line + 1) s ls e kept rest (omega arith) (seen_moves line _ _ _ moves flag so.nothing) in
+              let same : Some line ≡ Some number = sym (least_is line (firsts_of e.parts e) seen) ∙ told in
+              let here : line ≡ number = cc in
+              record {
+                all = declared_by e.parts None;
+                fit = fit;
+                ended = refl;
+                before = front;
+                line = l;
+                behind = ls;
+                split = split;
+                place = omega (arith, here, place);
+                declared = declared r;
+                known = so.known;
+                tokens = t.ts;
+                lexed = t.lexed;
+                unknown = flag;
+              }
+          | false ↦ λ flag. more (record {
+            place = omega (arith, place, length-append front (l ∷ []));
+            known = one_known front l t.ts (declared r) (declared s) so.known t.lexed (read_fits line r.parts r.current t.ts s t.read kept) flag;
+            is = kept;
+            nothing = none_moves line _ _ _ moves flag so.nothing;
+          })
+        ] flag
+
 -- What is told of lines, of which these were read.
 
 -- so far these lines were read, and each fits
@@ -90,6 +185,9 @@ tells_line line r front l ls kind b h =
     let place = b.place in
     of_a_line (record { before = front; line = l; behind = ls; split = refl; place = (let n : line ≡ length front + 1 = omega (arith, place) in n); declared = declared r; fit = b.fit; faulty = none }) (refused line r l kind h)
 
+nothing_yet : (fin : Parts) → Nothing (firsts_of fin nothing_read)
+nothing_yet fin = (refl, (refl, (refl, (refl, (refl, (refl, tt))))))
+
 tells_end : (line : ℕ) (r : Reading) (front : List (List ℕ)) (current : Option DraftImage) (f : ScriptFault) → Before line r front → r.current ≡ current → closed line r.parts current ≡ Err f → TellsFault front f
 tells_end line r front (Some image) f b c h =
     as_text front (record { line = line; kind = End }) f (let e : record { line = line; kind = End } ≡ f = cc (h) in e) (
@@ -102,12 +200,15 @@ tells_end line r front (Some image) f b c h =
       not_ended = opened;
       place = (let n : line ≡ length front + 1 = omega (arith, place) in n);
     }) refl)
-tells_end line r front None f b c h = by (first_unknown r.parts) h
+tells_end line r front None f b c h = by (first_unknown r.parts) refl h
   where
-    by : (unknown : Option ℕ) → resolved r.parts unknown ≡ Err f → TellsFault front f
-    by None h = absurd (cc)
-    by (Some n) h =
-        as_text front (record { line = n; kind = Unknown }) f (let e : record { line = n; kind = Unknown } ≡ f = cc in e) (of_a_name (record { declared = declared r; fit = b.fit; ended = ap (λ (x : Option DraftImage). (declared_by r.parts x).image) c }) refl)
+    by : (unknown : Option ℕ) → first_unknown r.parts ≡ unknown → resolved r.parts unknown ≡ Err f → TellsFault front f
+    by None u h = absurd (cc)
+    by (Some n) u h =
+        let all : declared r ≡ declared_by r.parts None = ap (λ (x : Option DraftImage). declared_by r.parts x) c in
+        let told : least (firsts_of r.parts r) ≡ Some n = ap (λ (x : Option DraftImage). least (firsts r.parts r.parts x)) c ∙ u in
+        let first = scan r front n (subst (λ (d : Declared). Fit front d) all b.fit) told 1 nothing_read [] front refl (record { place = refl; known = none_known; is = nothing_kept; nothing = nothing_yet r.parts }) b.read in
+        as_text front (record { line = n; kind = Unknown }) f (let e : record { line = n; kind = Unknown } ≡ f = cc in e) (of_a_name first refl)
 
 tells : (line : ℕ) (r : Reading) (front ls : List (List ℕ)) (f : ScriptFault) → Before line r front → read_lines line r ls ≡ Err f → TellsFault (front ++ ls) f
 unfolding read_lines
@@ -133,7 +234,7 @@ unfolding read_script
 starts text = refl
 
 -- the fault of a text is its first
-pub first_fault : (text : List ℕ) (f : ScriptFault) → read_script text ≡ Err f → (lines : List (List ℕ)) × IsLines text lines × TellsFault lines f
+pub first_fault : (text : List ℕ) (f : ScriptFault) → read_script text ≡ Err f → Tells text f
 first_fault text f h = (lines_of text, cut_lines text, tells 1 nothing_read [] (lines_of text) f (record { read = refl; place = refl; fit = none_fit; is = nothing_kept }) (sym (starts text) ∙ h))
 
 -- The first faulty line is told.

@@ -16,6 +16,8 @@ pub mod Whole
 pub mod Somewhere
 pub mod LinesFit
 pub mod LineFaults
+pub mod Least
+pub mod UnknownNames
 pub mod FirstFaults
 pub mod FewLabels
 pub mod Returned
