@@ -1,9 +1,9 @@
 -- What an input comes to.
-use Rattle.std.proofs.Common.{◌≡◌, ℕ, List, Option, Ok, Err, false, IsTrue, subst}
+use Rattle.std.proofs.Common.{◌≡◌, ℕ, List, Option, false, IsTrue, subst}
 use Rattle.std.specs.Io.KnownBytes.{Appends}
 use Rattle.vx_base.specs.declared.record.End.{End}
 use Rattle.vx_image.specs.declared.system.System.{System}
-use Rattle.vx_script.specs.Reading.{read_script}
+use Rattle.vx_grammar.specs.FirstFault.{Tells}
 use Rattle.vx_grammar.specs.Grammar.{Spells}
 use Rattle.vx_script.specs.declared.fault.ScriptFault.{ScriptFault}
 use Rattle.vx_exec.specs.Built.{is_built}
@@ -25,7 +25,7 @@ writes_run input options held held_after system text end want says built simulat
 }
 
 -- the line of a fault that was written refuses the input
-pub writes_fault : (input : List ℕ) (command : Command) (held held_after : Option (List ℕ)) (fault : ScriptFault) → read_script input ≡ Err fault → Appends held held_after (fault_line fault) → WritesRefusal command input held held_after
+pub writes_fault : (input : List ℕ) (command : Command) (held held_after : Option (List ℕ)) (fault : ScriptFault) → Tells input fault → Appends held held_after (fault_line fault) → WritesRefusal command input held held_after
 writes_fault input command held held_after fault says written = record { text = fault_line fault; refused = no_script command fault says; written = written }
 
 -- so does the line of a system that is not built

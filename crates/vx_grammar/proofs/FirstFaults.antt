@@ -30,11 +30,11 @@ use Rattle.vx_grammar.proofs.LinesFit.{open_of, declared_by, declared, fits_read
 use Rattle.vx_grammar.proofs.UnknownNames.{firsts, firsts_of, Stepped, stepped}
 
 -- what is read of lines, whatever follows
-abbrev reads : ℕ → Reading → List (List ℕ) → Result Reading FaultKind
+abbrev pub reads : ℕ → Reading → List (List ℕ) → Result Reading FaultKind
 reads line r [] = Ok r
 reads line r (l ∷ ls) = take_line line r l >>= λ s. reads (line + 1) s ls
 
-one_more : (line : ℕ) (r : Reading) (ls : List (List ℕ)) (l : List ℕ) → reads line r (ls ++ l ∷ []) ≡ (reads line r ls >>= λ s. take_line (line + length ls) s l)
+pub one_more : (line : ℕ) (r : Reading) (ls : List (List ℕ)) (l : List ℕ) → reads line r (ls ++ l ∷ []) ≡ (reads line r ls >>= λ s. take_line (line + length ls) s l)
 one_more line r [] l = last (take_line line r l) ∙ (let e : line ≡ line + 0 = omega arith in ap (λ (k : ℕ). take_line k r l) e)
   where
     last : (q : Result Reading FaultKind) → (q >>= λ s. Ok s) ≡ q
@@ -49,12 +49,12 @@ one_more line r (k ∷ ls) l = through (take_line line r k) (λ s. one_more (lin
 
 -- Lines that fit are read.
 
-record FitRead (ls : List (List ℕ)) (d : Declared) : Type 0 where
-  r : Reading
-  read : reads 1 nothing_read ls ≡ Ok r
-  same : declared r ≡ d
+pub record FitRead (ls : List (List ℕ)) (d : Declared) : Type 0 where
+  pub r : Reading
+  pub read : reads 1 nothing_read ls ≡ Ok r
+  pub same : declared r ≡ d
 
-fit_read : (ls : List (List ℕ)) (d : Declared) → Fit ls d → FitRead ls d
+pub fit_read : (ls : List (List ℕ)) (d : Declared) → Fit ls d → FitRead ls d
 fit_read _ _ none_fit = record { r = nothing_read; read = refl; same = refl }
 fit_read _ _ (one_fits ls l ts d e before lexed fits) =
     let b = fit_read ls d before in
@@ -67,7 +67,7 @@ fit_read _ _ (one_fits ls l ts d e before lexed fits) =
 
 -- A line that is read fits.
 
-line_fits : (line : ℕ) (r s : Reading) (l : List ℕ) (ls : List (List ℕ)) → take_line line r l ≡ Ok s → IsRead s → Fit ls (declared r) → Fit (ls ++ l ∷ []) (declared s)
+pub line_fits : (line : ℕ) (r s : Reading) (l : List ℕ) (ls : List (List ℕ)) → take_line line r l ≡ Ok s → IsRead s → Fit ls (declared r) → Fit (ls ++ l ∷ []) (declared s)
 unfolding take_line
 line_fits line r s l ls h is fit =
     let b = bind_ok (with_kind (lex l)) (accepted line r) s h in
@@ -76,20 +76,20 @@ line_fits line r s l ls h is fit =
 -- Names that are looked up in the end.
 
 -- the tokens of a line that is read, and what it does
-record Taken (fin : Parts) (line : ℕ) (r s : Reading) (l : List ℕ) : Type 0 where
-  ts : List Tok
-  lexed : tokens_of l ≡ Ok ts
-  read : by_place line r.parts r.current ts ≡ Ok s
-  steps : Stepped fin line r.parts r.current s (names_unknown (declared_by fin None) (declared r).image ts)
+pub record Taken (fin : Parts) (line : ℕ) (r s : Reading) (l : List ℕ) : Type 0 where
+  pub ts : List Tok
+  pub lexed : tokens_of l ≡ Ok ts
+  pub read : by_place line r.parts r.current ts ≡ Ok s
+  pub steps : Stepped fin line r.parts r.current s (names_unknown (declared_by fin None) (declared r).image ts)
 
-line_taken : (fin : Parts) (line : ℕ) (r s : Reading) (l : List ℕ) → IsRead r → take_line line r l ≡ Ok s → Taken fin line r s l
+pub line_taken : (fin : Parts) (line : ℕ) (r s : Reading) (l : List ℕ) → IsRead r → take_line line r l ≡ Ok s → Taken fin line r s l
 unfolding take_line
 line_taken fin line r s l is h =
     let b = bind_ok (with_kind (lex l)) (accepted line r) s h in
     record { ts = b.0; lexed = kinds (lex l) b.0 b.1; read = b.2; steps = stepped fin line r.parts r.current b.0 s is.current b.2 }
 
 -- images stay where they stand
-more_images : (line : ℕ) (r : Reading) (ls : List (List ℕ)) (e : Reading) → IsRead r → reads line r ls ≡ Ok e → (more : List Image) × (e.parts.images ≡ r.parts.images ++ more)
+pub more_images : (line : ℕ) (r : Reading) (ls : List (List ℕ)) (e : Reading) → IsRead r → reads line r ls ≡ Ok e → (more : List Image) × (e.parts.images ≡ r.parts.images ++ more)
 more_images line r [] e is h = ([], ap (λ (q : Reading). q.parts.images) (let k : e ≡ r = cc in k) ∙ sym (append-nil r.parts.images))
 more_images line r (l ∷ ls) e is h =
     let b = bind_ok (take_line line r l) _ e h in
@@ -98,7 +98,7 @@ more_images line r (l ∷ ls) e is h =
     (here.0 ++ rest.0, rest.1 ∙ ap (λ (is : List Image). is ++ rest.0) here.1 ∙ append_assoc r.parts.images here.0 rest.0)
 
 -- a line that is seen is seen in the end
-stays : (k line : ℕ) (r : Reading) (ls : List (List ℕ)) (e : Reading) → IsRead r → reads line r ls ≡ Ok e → k ≤ line → Sees k (firsts_of e.parts r) → Sees k (firsts_of e.parts e)
+pub stays : (k line : ℕ) (r : Reading) (ls : List (List ℕ)) (e : Reading) → IsRead r → reads line r ls ≡ Ok e → k ≤ line → Sees k (firsts_of e.parts r) → Sees k (firsts_of e.parts e)
 stays k line r [] e is h b seen = subst (λ (q : Reading). Sees k (firsts_of e.parts q)) (let same : r ≡ e = cc in same) seen
 stays k line r (l ∷ ls) e is h b seen =
     let n = bind_ok (take_line line r l) _ e h in
@@ -185,7 +185,7 @@ tells_line line r front l ls kind b h =
     let place = b.place in
     of_a_line (record { before = front; line = l; behind = ls; split = refl; place = (let n : line ≡ length front + 1 = omega (arith, place) in n); declared = declared r; fit = b.fit; faulty = none }) (refused line r l kind h)
 
-nothing_yet : (fin : Parts) → Nothing (firsts_of fin nothing_read)
+pub nothing_yet : (fin : Parts) → Nothing (firsts_of fin nothing_read)
 nothing_yet fin = (refl, (refl, (refl, (refl, (refl, (refl, tt))))))
 
 tells_end : (line : ℕ) (r : Reading) (front : List (List ℕ)) (current : Option DraftImage) (f : ScriptFault) → Before line r front → r.current ≡ current → closed line r.parts current ≡ Err f → TellsFault front f
@@ -229,58 +229,10 @@ tells line r front (l ∷ ls) f b h = by (take_line line r l) refl h (λ s. tell
         } in
         subst (λ (ks : List (List ℕ)). TellsFault ks f) (append_assoc front (l ∷ []) ls) (rest s more h)
 
-starts : (text : List ℕ) → read_script text ≡ read_lines 1 nothing_read (lines_of text)
+pub starts : (text : List ℕ) → read_script text ≡ read_lines 1 nothing_read (lines_of text)
 unfolding read_script
 starts text = refl
 
 -- the fault of a text is its first
 pub first_fault : (text : List ℕ) (f : ScriptFault) → read_script text ≡ Err f → Tells text f
 first_fault text f h = (lines_of text, cut_lines text, tells 1 nothing_read [] (lines_of text) f (record { read = refl; place = refl; fit = none_fit; is = nothing_kept }) (sym (starts text) ∙ h))
-
--- The first faulty line is told.
-
-ends : (line : ℕ) (r : Reading) (ls : List (List ℕ)) → read_lines line r ([] ++ ls) ≡ read_lines (line + 0) r ls
-ends line r ls = let e : line ≡ line + 0 = omega arith in ap (λ (k : ℕ). read_lines k r ls) e
-
--- lines that are read are behind
-read_behind : (line : ℕ) (r s : Reading) (front ls : List (List ℕ)) → reads line r front ≡ Ok s → read_lines line r (front ++ ls) ≡ read_lines (line + length front) s ls
-unfolding read_lines
-read_behind line r s [] ls h = ends line r ls ∙ ap (λ (q : Reading). read_lines (line + 0) q ls) (let e : r ≡ s = cc in e)
-read_behind line r s (l ∷ front) ls h =
-    let b = bind_ok (take_line line r l) _ s h in
-    let e : line + 1 + length front ≡ line + length (l ∷ front) = omega arith in
-    ap (λ (q : Result Reading FaultKind). at_line line q >>= λ t. read_lines (line + 1) t (front ++ ls)) b.1 ∙ read_behind (line + 1) b.0 s front ls b.2 ∙ ap (λ (k : ℕ). read_lines k s ls) e
-
-reads_kept : (line : ℕ) (r s : Reading) (front : List (List ℕ)) → IsRead r → reads line r front ≡ Ok s → IsRead s
-reads_kept line r s [] is h = subst IsRead (let e : r ≡ s = cc in e) is
-reads_kept line r s (l ∷ front) is h =
-    let b = bind_ok (take_line line r l) _ s h in
-    reads_kept (line + 1) b.0 s front (IfOk-at_ok IsRead b.1 (line_kept line r l is)) b.2
-
-line_told : (line : ℕ) (r : Reading) (l : List ℕ) (ls : List (List ℕ)) (kind : FaultKind) → take_line line r l ≡ Err kind → read_lines line r (l ∷ ls) ≡ Err (record { line = line; kind = kind })
-unfolding read_lines
-line_told line r l ls kind h = rw h refl
-
--- a fault with this number of its line is told
-abbrev pub IsTold : List ℕ → ℕ → Type 0
-IsTold text number = (kind : FaultKind) × (read_script text ≡ Err (record { line = number; kind = kind }))
-
-told_by : (text : List ℕ) (number : ℕ) (f : FirstFaulty (lines_of text) number) (r : FitRead f.before f.declared) (q : Result Reading FaultKind) → take_line (1 + length f.before) r.r f.line ≡ q → IsTold text number
-told_by text number f r (Ok s) e =
-    let is : IsRead s = IfOk-at_ok IsRead e (line_kept (1 + length f.before) r.r f.line (reads_kept 1 nothing_read r.r f.before nothing_kept r.read)) in
-    let fit : Fit f.before (declared r.r) = subst (λ (d : Declared). Fit f.before d) (sym r.same) f.fit in
-    absurd (f.faulty (declared s, line_fits (1 + length f.before) r.r s f.line f.before e is fit))
-told_by text number f r (Err kind) e =
-    let place = f.place in
-    let n : 1 + length f.before ≡ number = omega (arith, place) in (
-      kind,
-      starts text ∙ ap (read_lines 1 nothing_read) f.split ∙ read_behind 1 nothing_read r.r f.before (f.line ∷ f.behind) r.read ∙ line_told (1 + length f.before) r.r f.line f.behind kind e
-          ∙ ap (λ (k : ℕ). Err (record { line = k; kind = kind })) n,
-    )
-
--- the first faulty line is told
-pub faulty_told : (text : List ℕ) (lines : List (List ℕ)) (number : ℕ) → IsLines text lines → FirstFaulty lines number → IsTold text number
-faulty_told text lines number cut faulty =
-    let f = subst (λ (ls : List (List ℕ)). FirstFaulty ls number) (sym (lines_cut text lines cut)) faulty in
-    let r = fit_read f.before f.declared f.fit in
-    told_by text number f r (take_line (1 + length f.before) r.r f.line) refl

@@ -19,5 +19,6 @@ pub mod LineFaults
 pub mod Least
 pub mod UnknownNames
 pub mod FirstFaults
+pub mod ToldFaults
 pub mod FewLabels
 pub mod Returned

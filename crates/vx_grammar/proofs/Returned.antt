@@ -6,11 +6,13 @@ use Rattle.vx_script.specs.Reading.{read_script}
 use Rattle.vx_script.specs.Results.{ReadsScript}
 use Rattle.vx_script.specs.declared.fault.ScriptFail.{ScriptFail}
 use Rattle.vx_script.specs.declared.fault.ScriptFail.TheVariants as fail
-use Rattle.vx_grammar.specs.FirstFault.{TellsIfFault}
+use Rattle.vx_script.specs.declared.fault.ScriptFault.{ScriptFault}
+use Rattle.vx_grammar.specs.FirstFault.{Tells, TellsIfFault}
 use Rattle.vx_grammar.specs.Grammar.{Spells}
 use Rattle.vx_script.proofs.Accepted.{accepted}
 use Rattle.vx_grammar.proofs.FewLabels.{well_formed}
 use Rattle.vx_grammar.proofs.FirstFaults.{first_fault}
+use Rattle.vx_grammar.proofs.ToldFaults.{only_fault}
 use Rattle.vx_grammar.proofs.Whole.{read_is_spelled, spelled_is_read}
 
 pub if_spelled : (text : List ℕ) (r : Result System ScriptFail) → ReadsScript r (read_script text) → IfOk r (λ s. Spells text s)
@@ -28,3 +30,6 @@ if_fault text (Err (fail.Fault f)) h = first_fault text f h
 pub if_formed : (text : List ℕ) (r : Result System ScriptFail) → ReadsScript r (read_script text) → length text < 4294967295 → IfOk r (λ s. IsWellFormed s)
 if_formed text (Ok s) h short = well_formed text s short (read_is_spelled text s h) (accepted text s h)
 if_formed text (Err e) h short = tt
+
+pub no_other_fault : (text : List ℕ) (r : Result System ScriptFail) → ReadsScript r (read_script text) → (fault : ScriptFault) → Tells text fault → ReadsScript r (Err fault)
+no_other_fault text r h fault t = subst (λ x. ReadsScript r x) (only_fault text fault t) h

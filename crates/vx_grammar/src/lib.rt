@@ -1,9 +1,10 @@
-//! The grammar of scripts, and the law that the reader reads exactly what it spells.
+//! The grammar of scripts, and the reader whose contract it is.
 //!
 //! `specs/Grammar.antt` says what a script is, line by line: each production has the form of a line and the part of the system that
-//! the line stands for. `specs/FirstFault.antt` says by it which line of a text is the first faulty one. Neither goes over a text.
-//! They share with the reader the rules of tokens (`vx_text`), the table of services, the spelling of fixed words, and small words
-//! on lists: the place of a name, a unit that is a line unit, numbers in rising order.
+//! the line stands for. `specs/FirstFault.antt` says which line of a text is the first faulty one: the first that no production fits;
+//! `specs/LineFault.antt` says the kind of its fault, and `specs/UnknownName.antt` which line names what is not there. None of them
+//! carries a part of the system from line to line. They share with the reader the rules of tokens (`vx_text`), the table of services,
+//! the fields of a line, the spelling of fixed words, and small words on lists.
 #![tactic(auto)]
 
 ghost use Rattle.std.specs.Prelude.{◌≡◌, ◌↔◌, ◌<◌, ℕ, List, length, Ok, Err, IfOk};
@@ -11,25 +12,25 @@ ghost use Rattle.vx_image.specs.WellFormed.{IsWellFormed};
 ghost use Rattle.vx_image.specs.declared.system.System.{System};
 ghost use Rattle.vx_script.specs.Reading as reading;
 ghost use Rattle.vx_script.specs.Results.{ReadsScript};
-ghost use Rattle.vx_script.specs.declared.fault.FaultKind.{FaultKind};
 ghost use Rattle.vx_script.specs.declared.fault.ScriptFault.{ScriptFault};
-ghost use Rattle.vx_grammar.specs.FirstFault.{FirstFaulty, TellsFault, TellsIfFault};
-ghost use Rattle.vx_grammar.specs.Grammar.{IsLines, Spells};
+ghost use Rattle.vx_grammar.specs.FirstFault.{Tells, TellsIfFault};
+ghost use Rattle.vx_grammar.specs.Grammar.{Spells};
 
 use std::alloc::Global;
 use vx_image::System;
 use vx_script::ScriptFail;
 
-/// The system that a text is spelled as, or the first fault of the text. The text may be of any bytes.
-#[tactic(auto, using(crate::proofs::Returned::if_spelled, crate::proofs::Returned::no_other, crate::proofs::Returned::if_fault, crate::proofs::Returned::if_formed))]
+/// Reads the system that a text is spelled as, or tells the first fault of the text: its line, from 1, and its kind. The text may
+/// be of any bytes.
+#[tactic(auto, using(crate::proofs::Returned::if_spelled, crate::proofs::Returned::no_other, crate::proofs::Returned::if_fault, crate::proofs::Returned::no_other_fault, crate::proofs::Returned::if_formed))]
 pub fn read_script(alloc: Global, text: &[u8]) -> Result<System, ScriptFail>
     requires { length text.now < 4294967295 }
-    // What is read is spelled so.
+    // What is read is spelled so, and what is spelled so is read, unless memory runs out.
     ensures spelled { IfOk result (λ s. Spells text.now s) }
-    // What is spelled so is read, unless memory runs out.
     ensures only { (s : System) → Spells text.now s → ReadsScript result (Ok s) }
-    // Which line has the fault.
+    // The same of the text's fault.
     ensures fault { TellsIfFault text.now result }
+    ensures only_fault { (fault : ScriptFault) → Tells text.now fault → ReadsScript result (Err fault) }
     ensures well_formed { IfOk result (λ s. IsWellFormed s) }
 {
     vx_script::parse_script(alloc, text)
@@ -45,9 +46,8 @@ pub fn a_text_says_one_system()
     ensures { (text : List ℕ) (s t : System) → Spells text s → Spells text t → s ≡ t }
 {}
 
-/// The line of the first fault is the first that no production fits after the lines before it; where all fit, an image is not
-/// ended, or a line names what is not there.
-pub fn the_first_faulty_line_is_told()
-    ensures tells { (text : List ℕ) (fault : ScriptFault) → reading.read_script text ≡ Err fault → (lines : List (List ℕ)) × IsLines text lines × TellsFault lines fault }
-    ensures told { (text : List ℕ) (lines : List (List ℕ)) (number : ℕ) → IsLines text lines → FirstFaulty lines number → (kind : FaultKind) × (reading.read_script text ≡ Err (record { line = number; kind = kind })) }
+/// The reader refuses a text with a fault exactly where the fault is the text's first.
+pub fn the_first_fault_is_told()
+    ensures tells { (text : List ℕ) (fault : ScriptFault) → reading.read_script text ≡ Err fault → Tells text fault }
+    ensures only { (text : List ℕ) (fault : ScriptFault) → Tells text fault → reading.read_script text ≡ Err fault }
 {}
