@@ -1,5 +1,5 @@
 -- A canonical script is read back as its system.
-use Rattle.std.proofs.Common.{◌≡◌, ℕ, List, [], ◌++◌, map, flat_map, refl, ap, ◌∙◌, arith, append-nil, append_assoc}
+use Rattle.std.proofs.Common.{◌≡◌, ℕ, List, [], ◌++◌, map, flat_map, refl, ap, ◌∙◌, Ok, arith, append-nil, append_assoc}
 use Rattle.std.proofs.lemmas.Bool.{leb-true}
 use Rattle.vx_image.specs.WellFormed.{IsWellFormed, decl_names}
 use Rattle.vx_image.specs.declared.system.System.{System}
