@@ -25,7 +25,7 @@ use Rattle.vx_script.specs.declared.parts.Parts.{Parts}
 use Rattle.vx_script.specs.declared.parts.Reading.{Reading}
 use Rattle.vx_script.proofs.Appended.{as_many}
 use Rattle.vx_script.proofs.Places.{any_map, has_place}
-use Rattle.vx_grammar.specs.Declared.{Open, Declared}
+use Rattle.vx_grammar.specs.Declared.{DeclaredImage, Declared}
 use Rattle.vx_grammar.specs.LineFault.{Verdict, new_among, unit_fault, input_fault, number_fault, image_fault, process_fault, outer_fault, outside_fault, statement_fault, word_fault, inside_fault, fault_at, line_fault}
 use Rattle.vx_grammar.proofs.LinesFit.{open_of, declared_by, declared}
 use Rattle.vx_grammar.proofs.SaidSoFar.{fault_key}

@@ -33,7 +33,7 @@ use Rattle.vx_script.proofs.KeptParts.{AreParts, IsRead}
 use Rattle.vx_script.proofs.OpenImages.{IsOpen}
 use Rattle.vx_script.proofs.Places.{has_place}
 use Rattle.vx_grammar.specs.Grammar.{Said, Names, Does, BodyLine, empty_line, statement_line, label_line, labelled_line, plain_decl, Item, OfUnit, OfInput, OfFault, OfImage, OfProcess, Line, a_line_unit, a_block_unit, an_input, a_fault, a_process, colon}
-use Rattle.vx_grammar.specs.Declared.{Open, Declared, IsNew, line_name, and_item, IsNewIn, and_said}
+use Rattle.vx_grammar.specs.Declared.{DeclaredImage, Declared, IsNew, line_name, and_item, IsNewIn, and_said}
 use Rattle.vx_grammar.specs.FirstFault.{Fits, empty_fits, line_fits, opening_fits, body_fits, end_fits}
 use Rattle.vx_grammar.proofs.Fields.{bind_ok, name_is, same_name, end_is}
 use Rattle.vx_grammar.proofs.ReadStatements.{ReadsAs, stmt_reads}
@@ -47,10 +47,10 @@ use Rattle.vx_grammar.proofs.Somewhere.{some_statement}
 
 -- what was read declares this
 
-abbrev pub open_of : DraftImage → Open
+abbrev pub open_of : DraftImage → DeclaredImage
 open_of image = record { name = image.name; labels = map (λ l. l.name) image.labels; stmts = length image.lines }
 
-abbrev pub ended_of : Image → Open
+abbrev pub ended_of : Image → DeclaredImage
 ended_of i = record { name = i.name; labels = map (λ l. l.name) i.labels; stmts = length i.stmts }
 
 abbrev pub line_of : UnitDecl → List (List ℕ)
@@ -90,7 +90,7 @@ ended_more : (parts : Parts) (image : DraftImage) → declared_by (with_image pa
     ≡ record (declared_by parts (Some image)) { ended = map ended_of parts.images ++ open_of image ∷ []; image = None }
 ended_more parts image =
     ap (λ (ns : List (List ℕ)). record (declared_by parts None) { images = ns; ended = map ended_of (parts.images ++ image_of image ∷ []) }) (map_push (λ (i : Image). i.name) parts.images (image_of image))
-    ∙ ap (λ (os : List Open). record (declared_by parts None) { images = map (λ (i : Image). i.name) parts.images ++ image.name ∷ []; ended = os }) (map_push ended_of parts.images (image_of image))
+    ∙ ap (λ (os : List DeclaredImage). record (declared_by parts None) { images = map (λ (i : Image). i.name) parts.images ++ image.name ∷ []; ended = os }) (map_push ended_of parts.images (image_of image))
     ∙ ap (λ (n : ℕ). record (declared_by parts None) { images = map (λ (i : Image). i.name) parts.images ++ image.name ∷ []; ended = map ended_of parts.images ++ record (open_of image) { stmts = n } ∷ [] })
     (as_many (λ (d : DraftLine). settled image.labels d.draft) image.lines)
 
@@ -170,7 +170,7 @@ labelled_as line parts image decls i name (t ∷ rest) s r new room = record {
   more = with_draft line (with_label image name) r.drafted;
   read = label_taken line parts image name (t ∷ rest) (Ok (with_draft line (with_label image name) r.drafted)) new (stmt_taken line (with_label image name) t rest r.drafted r.read (lt-ltb _ _ room));
   name = refl;
-  grown = one_longer (with_label image name) line r.drafted ∙ ap (λ (o : Open). and_said o (Does s)) (label_more image name);
+  grown = one_longer (with_label image name) line r.drafted ∙ ap (λ (o : DeclaredImage). and_said o (Does s)) (label_more image name);
 }
 
 new_label : (image : DraftImage) (name : List ℕ) → is_among name (open_of image).labels ≡ false → label_place name image.labels ≡ None
@@ -195,7 +195,7 @@ as_declared line parts current ts d e same r = record { next = r.next; read = r.
 not_both : (image : DraftImage) (parts : Parts) (d : Declared) → declared_by parts (Some image) ≡ d → d.image ≡ None → ⊥
 not_both image parts d e h = let k : Some (open_of image) ≡ None = ap (λ (x : Declared). x.image) e ∙ h in cc
 
-not_open : (parts : Parts) (o : Open) (d : Declared) → declared_by parts None ≡ d → d.image ≡ Some o → ⊥
+not_open : (parts : Parts) (o : DeclaredImage) (d : Declared) → declared_by parts None ≡ d → d.image ≡ Some o → ⊥
 not_open parts o d e h = let k : None ≡ Some o = ap (λ (x : Declared). x.image) e ∙ h in cc
 
 -- what fits is read
@@ -218,12 +218,12 @@ fits_read d _ _ (body_fits o decls i ts said some h new) line parts None same = 
 fits_read d _ _ (body_fits o decls i ts said some h new) line parts (Some image) same =
     let both : Some (open_of image) ≡ Some o = ap (λ (x : Declared). x.image) same ∙ some in
     let here : o ≡ open_of image = cc in
-    let b = body_as line parts image decls i ts said h (subst (λ (x : Open). AllByRecursion (IsNewIn x) said) here new) in
+    let b = body_as line parts image decls i ts said h (subst (λ (x : DeclaredImage). AllByRecursion (IsNewIn x) said) here new) in
     record {
       next = goes_on parts b.more;
       read = b.read;
       same = ap (λ (n : List ℕ). record (declared_by parts (Some image)) { images = map (λ i. i.name) parts.images ++ n ∷ []; image = Some (open_of b.more) }) b.name
-          ∙ ap (λ (x : Open). record (declared_by parts (Some image)) { image = Some x }) (b.grown ∙ ap (λ (x : Open). fold and_said x said) (sym here))
+          ∙ ap (λ (x : DeclaredImage). record (declared_by parts (Some image)) { image = Some x }) (b.grown ∙ ap (λ (x : DeclaredImage). fold and_said x said) (sym here))
           ∙ ap (λ (x : Declared). record x { image = Some (fold and_said o said) }) same;
     }
 fits_read d _ _ (end_fits o some) line parts None same = absurd (not_open parts o d same some)
@@ -234,7 +234,7 @@ fits_read d _ _ (end_fits o some) line parts (Some image) same =
       next = between_images (with_image parts image);
       read = refl;
       same = ended_more parts image
-          ∙ ap (λ (x : Open). record (declared_by parts (Some image)) { ended = map ended_of parts.images ++ x ∷ []; image = None }) here
+          ∙ ap (λ (x : DeclaredImage). record (declared_by parts (Some image)) { ended = map ended_of parts.images ++ x ∷ []; image = None }) here
           ∙ ap (λ (x : Declared). record x { ended = x.ended ++ o ∷ []; image = None }) same;
     }
 
@@ -370,7 +370,7 @@ plain_fits line parts image more (t ∷ ts) h o =
     let s = some_statement t ts d.0 d.1 in
     subst (λ (m : DraftImage). FitsTo parts (Some image) (t ∷ ts) (goes_on parts m)) e (
     fits_as (declared_by parts (Some image)) _ (t ∷ ts) _ (declared_by parts (Some (with_draft line image d.0))) refl
-    (ap (λ (x : Open). record (declared_by parts (Some image)) { image = Some x }) (sym (one_longer image line d.0)))
+    (ap (λ (x : DeclaredImage). record (declared_by parts (Some image)) { image = Some x }) (sym (one_longer image line d.0)))
     (body_fits (open_of image) s.decls s.image (t ∷ ts) (Does s.s ∷ []) refl (statement_line (t ∷ ts) s.s s.is) (stmt_room image line d.0 p.few, tt)))
 
 label_fresh : (images : List Image) (image : DraftImage) (name : List ℕ) → are_distinct (map (λ (l : Label). l.name) (image.labels ++ record { name = name; place = length image.lines } ∷ [])) ≡ true
@@ -384,7 +384,7 @@ behind_label line parts image more name [] h o =
     let p = subst (λ (m : DraftImage). IsOpen parts.images m) (sym e) o in
     subst (λ (m : DraftImage). FitsTo parts (Some image) (tok.Word name ∷ colon ∷ []) (goes_on parts m)) e (
     fits_as (declared_by parts (Some image)) _ (tok.Word name ∷ colon ∷ []) _ (declared_by parts (Some (with_label image name))) refl
-    (ap (λ (x : Open). record (declared_by parts (Some image)) { image = Some x }) (sym (label_more image name)))
+    (ap (λ (x : DeclaredImage). record (declared_by parts (Some image)) { image = Some x }) (sym (label_more image name)))
     (body_fits (open_of image) [] (record { name = []; labels = []; stmts = [] }) _ (Names name ∷ []) refl (label_line name) (label_fresh parts.images image name p.names, tt)))
 behind_label line parts image more name (t ∷ ts) h o =
     let d = bind_ok (stmt_of t ts) _ more h in
@@ -394,7 +394,7 @@ behind_label line parts image more name (t ∷ ts) h o =
     let s = some_statement t ts d.0 d.1 in
     subst (λ (m : DraftImage). FitsTo parts (Some image) (tok.Word name ∷ colon ∷ t ∷ ts) (goes_on parts m)) e (
     fits_as (declared_by parts (Some image)) _ (tok.Word name ∷ colon ∷ t ∷ ts) _ (declared_by parts (Some (with_draft line (with_label image name) d.0))) refl
-    (ap (λ (x : Open). record (declared_by parts (Some image)) { image = Some x }) (sym (one_longer (with_label image name) line d.0 ∙ ap (λ (o : Open). and_said o (Does s.s)) (label_more image name))))
+    (ap (λ (x : DeclaredImage). record (declared_by parts (Some image)) { image = Some x }) (sym (one_longer (with_label image name) line d.0 ∙ ap (λ (o : DeclaredImage). and_said o (Does s.s)) (label_more image name))))
     (body_fits (open_of image) s.decls s.image _ (Names name ∷ Does s.s ∷ []) refl (labelled_line name (t ∷ ts) s.s s.is)
     (label_fresh parts.images image name p.names, (stmt_room image line d.0 p.few, tt))))
 

@@ -18,7 +18,7 @@ use Rattle.vx_script.specs.declared.parts.Parts.{Parts}
 use Rattle.vx_script.specs.declared.parts.Reading.{Reading}
 use Rattle.vx_script.proofs.KeptParts.{IsRead, line_kept, nothing_kept}
 use Rattle.vx_grammar.specs.Grammar.{IsLines, tokens_of}
-use Rattle.vx_grammar.specs.Declared.{Open, Declared}
+use Rattle.vx_grammar.specs.Declared.{DeclaredImage, Declared}
 use Rattle.vx_grammar.specs.FirstFault.{Fit, none_fit, one_fits, AllFit, FirstFaulty, AllKnown, none_known, one_known, FirstUnknown, TellsFault, of_a_line, of_the_end, of_a_name, Tells}
 use Rattle.vx_grammar.specs.LineFault.{line_fault}
 use Rattle.vx_grammar.specs.UnknownName.{names_unknown}
@@ -79,19 +79,13 @@ line_of_fault text number f =
     let r = fit_read f.before f.declared f.fit in
     told_by text number f r (take_line (1 + length f.before) r.r f.line) refl
 
--- the first faulty line is told
-pub faulty_told : (text : List ℕ) (lines : List (List ℕ)) (number : ℕ) → IsLines text lines → FirstFaulty lines number → (kind : FaultKind) × (read_script text ≡ Err (record { line = number; kind = kind }))
-faulty_told text lines number cut faulty =
-    let t = line_of_fault text number (subst (λ (ls : List (List ℕ)). FirstFaulty ls number) (sym (lines_cut text lines cut)) faulty) in
-    (t.kind, t.told)
-
 -- A text whose lines all fit.
 
 all_read : (text : List ℕ) (r : Reading) → reads 1 nothing_read (lines_of text) ≡ Ok r → read_script text ≡ closed (1 + length (lines_of text)) r.parts r.current
 unfolding read_lines
 all_read text r h = starts text ∙ ap (read_lines 1 nothing_read) (sym (append-nil (lines_of text))) ∙ read_behind 1 nothing_read r (lines_of text) [] h
 
-end_told : (line : ℕ) (p : Parts) (current : Option DraftImage) (o : Open) → (declared_by p current).image ≡ Some o → closed line p current ≡ Err (record { line = line; kind = End })
+end_told : (line : ℕ) (p : Parts) (current : Option DraftImage) (o : DeclaredImage) → (declared_by p current).image ≡ Some o → closed line p current ≡ Err (record { line = line; kind = End })
 end_told line p None o h = absurd (cc)
 end_told line p (Some image) o h = refl
 

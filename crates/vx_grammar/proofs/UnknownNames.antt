@@ -39,8 +39,8 @@ use Rattle.vx_script.specs.declared.parts.Reading.{Reading}
 use Rattle.vx_script.proofs.KeptParts.{IsRead, IsOpenOr}
 use Rattle.vx_script.proofs.OpenImages.{IsOpen}
 use Rattle.vx_script.proofs.Places.{any_map, has_place}
-use Rattle.vx_grammar.specs.Declared.{Open, Declared}
-use Rattle.vx_grammar.specs.UnknownName.{image_unknown, outside_unknown, label_unknown, statement_unknown, labels_of, stmt_unknown, inside_unknown, names_unknown}
+use Rattle.vx_grammar.specs.Declared.{DeclaredImage, Declared}
+use Rattle.vx_grammar.specs.UnknownName.{image_unknown, outside_unknown, label_unknown, draft_unknown, labels_of, statement_unknown, inside_unknown, names_unknown}
 use Rattle.vx_grammar.proofs.Fields.{bind_ok, name_is, same_name, name_found, end_is}
 use Rattle.vx_grammar.proofs.Least.{mark, marked, any_of, Moves, marks, ends}
 use Rattle.vx_grammar.proofs.LinesBack.{with_draft}
@@ -364,7 +364,7 @@ goes_flag : (labels : List Label) (label : List ℕ) → not (is_label labels la
 goes_flag labels label = or_false (not (is_label labels label)) ∙ ap not (label_there labels label)
 
 draft_flag : (fin : Parts) (line : ℕ) (labels : List Label) (d : Draft) → draft_names_none labels d || (list_any (names_no_decl fin.decls) (created_in line d) || false)
-    ≡ statement_unknown (all_of fin) (map (λ (l : Label). l.name) labels) (Ok d)
+    ≡ draft_unknown (all_of fin) (map (λ (l : Label). l.name) labels) (Ok d)
 draft_flag fin line labels (draft.Goto label) = goes_flag labels label
 draft_flag fin line labels (draft.If x r y label) = goes_flag labels label
 draft_flag fin line labels (draft.Plain (stmt.Service c)) =
@@ -405,7 +405,7 @@ draft_push fin xs line (draft.Goto label) = made_nothing fin xs
 draft_push fin xs line (draft.If x r y label) = made_nothing fin xs
 
 one_draft : (fin : Parts) (line : ℕ) (p : Parts) (image : DraftImage) (d : Draft)
-    → Stepped fin line p (Some image) (goes_on p (with_draft line image d)) (statement_unknown (all_of fin) (labels_of image.name (map ended_of fin.images)) (Ok d))
+    → Stepped fin line p (Some image) (goes_on p (with_draft line image d)) (draft_unknown (all_of fin) (labels_of image.name (map ended_of fin.images)) (Ok d))
 one_draft fin line p image d =
     let labels = final fin.images image.name in
     let one : DraftLine = record { line = line; draft = d } in
@@ -425,26 +425,26 @@ one_draft fin line p image d =
     let same : marked line ms os ≡ qs =
     ap (λ (o : Option ℕ). p.unlabelled ∷ o ∷ mark line u (made_at fin (p.creations ++ old)) ∷ run_at fin p.decls ∷ fed_at fin p.inputs ∷ failed_at fin p.faults ∷ []) (sym gone)
     ∙ ap (λ (o : Option ℕ). p.unlabelled ∷ gone_to labels (image.lines ++ one ∷ []) ∷ o ∷ run_at fin p.decls ∷ fed_at fin p.inputs ∷ failed_at fin p.faults ∷ []) (sym creations) in
-    let flag : any_of ms ≡ statement_unknown (all_of fin) (labels_of image.name (map ended_of fin.images)) (Ok d) =
-    draft_flag fin line labels d ∙ ap (λ (ns : List (List ℕ)). statement_unknown (all_of fin) ns (Ok d)) (sym (labels_same image.name fin.images)) in
+    let flag : any_of ms ≡ draft_unknown (all_of fin) (labels_of image.name (map ended_of fin.images)) (Ok d) =
+    draft_flag fin line labels d ∙ ap (λ (ns : List (List ℕ)). draft_unknown (all_of fin) ns (Ok d)) (sym (labels_same image.name fin.images)) in
     record {
       images = ([], sym (append-nil p.images));
       moves = λ rest all. subst (λ (b : Bool). Moves line b os qs) flag (subst (λ (qs : List (Option ℕ)). Moves line (any_of ms) os qs) same (marks ms os tt));
     }
 
 statement_stepped : (fin : Parts) (line : ℕ) (p : Parts) (image more : DraftImage) (ts : List Tok) → with_stmt line image ts ≡ Ok more
-    → Stepped fin line p (Some image) (goes_on p more) (stmt_unknown (all_of fin) (open_of image) ts)
+    → Stepped fin line p (Some image) (goes_on p more) (statement_unknown (all_of fin) (open_of image) ts)
 statement_stepped fin line p image more [] h =
     subst (λ (m : DraftImage). Stepped fin line p (Some image) (goes_on p m) false) (let e : image ≡ more = cc in e) (unchanged fin line p (Some image) (goes_on p image) false refl refl refl)
 statement_stepped fin line p image more (t ∷ ts) h =
     let d = bind_ok (stmt_of t ts) _ more h in
     let r = bind_ok (room_for 10000 (length image.lines)) _ more d.2 in
     let e : with_draft line image d.0 ≡ more = cc (r.2) in
-    subst (λ (m : DraftImage). Stepped fin line p (Some image) (goes_on p m) (stmt_unknown (all_of fin) (open_of image) (t ∷ ts))) e (
-    as_flag fin line p (Some image) (goes_on p (with_draft line image d.0)) _ _ (ap (statement_unknown (all_of fin) (labels_of image.name (map ended_of fin.images))) (sym d.1)) (one_draft fin line p image d.0))
+    subst (λ (m : DraftImage). Stepped fin line p (Some image) (goes_on p m) (statement_unknown (all_of fin) (open_of image) (t ∷ ts))) e (
+    as_flag fin line p (Some image) (goes_on p (with_draft line image d.0)) _ _ (ap (draft_unknown (all_of fin) (labels_of image.name (map ended_of fin.images))) (sym d.1)) (one_draft fin line p image d.0))
 
 behind_label : (fin : Parts) (line : ℕ) (p : Parts) (image more : DraftImage) (name : List ℕ) (ts : List Tok) → labelled line image name ts ≡ Ok more
-    → Stepped fin line p (Some image) (goes_on p more) (stmt_unknown (all_of fin) (open_of image) ts)
+    → Stepped fin line p (Some image) (goes_on p more) (statement_unknown (all_of fin) (open_of image) ts)
 behind_label fin line p image more name ts h =
     let f = bind_ok (fresh (label_place name image.labels) name) _ more h in
     let st = statement_stepped fin line p (with_label image name) more ts f.2 in
@@ -485,7 +485,7 @@ word_inside fin line p image word ts s o h =
     let all = all_of fin in
     let i = open_of image in
     by_test {A = Result Reading FaultKind} (λ q. q ≡ Ok s → Stepped fin line p (Some image) s (inside_unknown all i (tok.Word word ∷ ts))) (begins_with_sign 58 ts) _ _
-    (λ e k. as_flag fin line p (Some image) s _ _ (ap (λ (t : Bool). cond t (stmt_unknown all i (drop 1 ts)) (stmt_unknown all i (tok.Word word ∷ ts))) (sym e))
+    (λ e k. as_flag fin line p (Some image) s _ _ (ap (λ (t : Bool). cond t (statement_unknown all i (drop 1 ts)) (statement_unknown all i (tok.Word word ∷ ts))) (sym e))
     (going fin line p image (labelled line image word (drop 1 ts)) s _ k λ more m. behind_label fin line p image more word (drop 1 ts) m))
     (λ none. by_test {A = Result Reading FaultKind} (λ q. q ≡ Ok s → Stepped fin line p (Some image) s (inside_unknown all i (tok.Word word ∷ ts))) (bytes_eq word (codes "END")) _ _
     (λ e k.
@@ -495,10 +495,10 @@ word_inside fin line p image word ts s o h =
     let shape : tok.Word (codes "END") ∷ [] ≡ tok.Word word ∷ ts = ap (λ (w : List ℕ). tok.Word w ∷ []) (sym (name_is word (codes "END") e)) ∙ ap (λ (us : List Tok). tok.Word word ∷ us) (sym nothing) in
     subst (λ (q : Reading). Stepped fin line p (Some image) q (inside_unknown all i (tok.Word word ∷ ts))) same (
     as_flag fin line p (Some image) _ false _ (end_flag fin image ∙ ap (inside_unknown all i) shape) (end_stepped fin line p image o)))
-    (λ _ k. as_flag fin line p (Some image) s _ _ (ap (λ (t : Bool). cond t (stmt_unknown all i (drop 1 ts)) (stmt_unknown all i (tok.Word word ∷ ts))) (sym none))
+    (λ _ k. as_flag fin line p (Some image) s _ _ (ap (λ (t : Bool). cond t (statement_unknown all i (drop 1 ts)) (statement_unknown all i (tok.Word word ∷ ts))) (sym none))
     (going fin line p image (with_stmt line image (tok.Word word ∷ ts)) s _ k λ more m. statement_stepped fin line p image more (tok.Word word ∷ ts) m))) h
 
-alone : (fin : Parts) (line : ℕ) (p : Parts) (image : DraftImage) (ts : List Tok) (s : Reading) → going_on p (with_stmt line image ts) ≡ Ok s → Stepped fin line p (Some image) s (stmt_unknown (all_of fin) (open_of image) ts)
+alone : (fin : Parts) (line : ℕ) (p : Parts) (image : DraftImage) (ts : List Tok) (s : Reading) → going_on p (with_stmt line image ts) ≡ Ok s → Stepped fin line p (Some image) s (statement_unknown (all_of fin) (open_of image) ts)
 alone fin line p image ts s h = going fin line p image (with_stmt line image ts) s _ h λ more m. statement_stepped fin line p image more ts m
 
 inside_stepped : (fin : Parts) (line : ℕ) (p : Parts) (image : DraftImage) (ts : List Tok) (s : Reading) → IsOpen p.images image → inside line p image ts ≡ Ok s

@@ -1,5 +1,5 @@
 -- What is read of a text is exactly what the grammar spells.
-use Rattle.std.proofs.Common.{◌≡◌, ◌↔◌, ℕ, ◌≤◌, true, List, [], ◌∷◌, length, map, flat_map, Option, Some, None, Result, Ok, refl, sym, subst, ap, ◌∙◌, arith}
+use Rattle.std.proofs.Common.{◌≡◌, ℕ, ◌≤◌, true, List, [], ◌∷◌, length, map, flat_map, Option, Some, None, Result, Ok, refl, sym, subst, ap, ◌∙◌, arith}
 use Rattle.std.proofs.lemmas.Bool.{leb-true}
 use Rattle.vx_image.specs.declared.decl.ProcDecl.{ProcDecl}
 use Rattle.vx_image.specs.declared.image.Image.{Image}
@@ -113,10 +113,6 @@ spelled_is_read text s g =
     let known : Known (resolving.system_of r.all) r.all = subst (λ (t : System). Known t r.all) (sym same) r.known in
     starts text ∙ fed_back 1 nothing_read (lines_of text) g.tokens r.all (ap (map tokens_of) (lines_cut text g.lines g.cut) ∙ g.lexed) r.fed
     ∙ ap (resolved r.all) (known_all r.all known) ∙ ap (λ (t : System). Ok t) same
-
--- both ways
-pub exactly : (text : List ℕ) (s : System) → (read_script text ≡ Ok s) ↔ Spells text s
-exactly text s = (read_is_spelled text s, spelled_is_read text s)
 
 -- a text says one system
 

@@ -4,7 +4,7 @@ use Rattle.vx_image.specs.WellFormed.{is_among}
 use Rattle.vx_grammar.specs.Grammar.{Said, Names, Does, Item, OfUnit, OfInput, OfFault, OfImage, OfProcess}
 
 -- An image: its labels so far, and the number of its statements.
-pub record Open : Type 0 where
+pub record DeclaredImage : Type 0 where
   pub name : List ℕ
   pub labels : List (List ℕ)
   pub stmts : ℕ
@@ -17,8 +17,8 @@ pub record Declared : Type 0 where
   pub images : List (List ℕ)
   pub processes : List (List ℕ)
   pub faults : List (List ℕ)
-  pub ended : List Open
-  pub image : Option Open
+  pub ended : List DeclaredImage
+  pub image : Option DeclaredImage
 
 abbrev pub nothing_declared : Declared
 nothing_declared = record { units = []; line_units = []; images = []; processes = []; faults = []; ended = []; image = None }
@@ -43,10 +43,10 @@ and_item d (OfImage i) = record d { images = d.images ++ i.name ∷ [] }
 and_item d (OfProcess p) = record d { processes = d.processes ++ p.name ∷ [] }
 
 -- the same of what a line of an image says
-abbrev pub IsNewIn : Open → Said → Type 0
+abbrev pub IsNewIn : DeclaredImage → Said → Type 0
 IsNewIn o (Names label) = is_among label o.labels ≡ false
 IsNewIn o (Does s) = o.stmts < 10000
 
-abbrev pub and_said : Open → Said → Open
+abbrev pub and_said : DeclaredImage → Said → DeclaredImage
 and_said o (Names label) = record o { labels = o.labels ++ label ∷ [] }
 and_said o (Does s) = record o { stmts = o.stmts + 1 }

@@ -9,7 +9,7 @@ use Rattle.vx_script.specs.declared.fault.FaultKind.TheVariants.{End, Unknown}
 use Rattle.vx_script.specs.declared.fault.ScriptFail.{ScriptFail}
 use Rattle.vx_script.specs.declared.fault.ScriptFail.TheVariants as fail
 use Rattle.vx_script.specs.declared.fault.ScriptFault.{ScriptFault}
-use Rattle.vx_grammar.specs.Declared.{Open, Declared, nothing_declared, IsNew, and_item, IsNewIn, and_said}
+use Rattle.vx_grammar.specs.Declared.{DeclaredImage, Declared, nothing_declared, IsNew, and_item, IsNewIn, and_said}
 use Rattle.vx_grammar.specs.Grammar.{Said, BodyLine, Item, OfImage, Line, IsLines, tokens_of}
 use Rattle.vx_grammar.specs.LineFault.{line_fault}
 use Rattle.vx_grammar.specs.UnknownName.{names_unknown}
@@ -20,9 +20,9 @@ pub data Fits (d : Declared) : List Tok → Declared → Type 0 where
   line_fits : (s : System) (tokens : List Tok) (item : Item) → d.image ≡ None → Line s tokens item → IsNew d item → Fits d tokens (and_item d item)
   opening_fits : (i : Image) → d.image ≡ None → IsNew d (OfImage i)
       → Fits d (Word (codes "IMAGE") ∷ Word i.name ∷ []) (record (and_item d (OfImage i)) { image = Some (record { name = i.name; labels = []; stmts = 0 }) })
-  body_fits : (o : Open) (decls : List (List ℕ)) (i : Image) (tokens : List Tok) (said : List Said) → d.image ≡ Some o → BodyLine decls i tokens said
+  body_fits : (o : DeclaredImage) (decls : List (List ℕ)) (i : Image) (tokens : List Tok) (said : List Said) → d.image ≡ Some o → BodyLine decls i tokens said
       → AllByRecursion (IsNewIn o) said → Fits d tokens (record d { image = Some (fold and_said o said) })
-  end_fits : (o : Open) → d.image ≡ Some o → Fits d (Word (codes "END") ∷ []) (record d { ended = d.ended ++ o ∷ []; image = None })
+  end_fits : (o : DeclaredImage) → d.image ≡ Some o → Fits d (Word (codes "END") ∷ []) (record d { ended = d.ended ++ o ∷ []; image = None })
 
 -- Lines each of which fits behind those before it, and what they declare.
 pub data Fit : List (List ℕ) → Declared → Type 0 where
@@ -47,7 +47,7 @@ pub record FirstFaulty (lines : List (List ℕ)) (number : ℕ) : Type 0 where
 -- all lines fit, and an image is not ended
 pub record NotEnded (lines : List (List ℕ)) (number : ℕ) : Type 0 where
   pub declared : Declared
-  pub image : Open
+  pub image : DeclaredImage
   pub fit : Fit lines declared
   pub not_ended : declared.image ≡ Some image
   pub place : number ≡ length lines + 1

@@ -11,7 +11,7 @@ use Rattle.vx_script.specs.Results.{◌>>=◌}
 use Rattle.vx_script.specs.Statements.{stmt_of}
 use Rattle.vx_script.specs.declared.fault.FaultKind.{FaultKind}
 use Rattle.vx_script.specs.declared.fault.FaultKind.TheVariants as kind
-use Rattle.vx_grammar.specs.Declared.{Open, Declared}
+use Rattle.vx_grammar.specs.Declared.{DeclaredImage, Declared}
 
 abbrev pub Verdict : Type 0
 Verdict = Result (Unit {0}) FaultKind
@@ -79,23 +79,23 @@ outside_fault d (t ∷ tokens) = Err kind.Word
 -- The lines of an image.
 
 -- a statement, or nothing
-abbrev pub statement_fault : Open → List Tok → Verdict
+abbrev pub statement_fault : DeclaredImage → List Tok → Verdict
 statement_fault o [] = Ok tt
 statement_fault o (t ∷ tokens) = stmt_of t tokens >>= λ _. room_for 10000 o.stmts
 
 -- a line that begins with a word: it is a label if a colon follows, whatever the word
-abbrev pub word_fault : Open → List ℕ → List Tok → Verdict
+abbrev pub word_fault : DeclaredImage → List ℕ → List Tok → Verdict
 word_fault o word tokens =
     if begins_with_sign 58 tokens then (new_among o.labels word >>= λ _. statement_fault o (drop 1 tokens)) else (
     if bytes_eq word (codes "END") then end_at tokens else statement_fault o (Word word ∷ tokens))
 
-abbrev pub inside_fault : Open → List Tok → Verdict
+abbrev pub inside_fault : DeclaredImage → List Tok → Verdict
 inside_fault o (Word word ∷ tokens) = word_fault o word tokens
 inside_fault o tokens = statement_fault o tokens
 
 -- Lines.
 
-abbrev pub fault_at : Declared → Option Open → List Tok → Verdict
+abbrev pub fault_at : Declared → Option DeclaredImage → List Tok → Verdict
 fault_at d None tokens = outside_fault d tokens
 fault_at d (Some o) tokens = inside_fault o tokens
 

@@ -13,7 +13,7 @@ use Rattle.vx_script.specs.Statements.{stmt_of}
 use Rattle.vx_script.specs.declared.draft.Draft.{Draft}
 use Rattle.vx_script.specs.declared.draft.Draft.TheVariants as draft
 use Rattle.vx_script.specs.declared.fault.FaultKind.{FaultKind}
-use Rattle.vx_grammar.specs.Declared.{Open, Declared}
+use Rattle.vx_grammar.specs.Declared.{DeclaredImage, Declared}
 
 -- the image of a PROCESS line is no image
 abbrev pub image_unknown : Declared → List Tok → Bool
@@ -34,27 +34,27 @@ label_unknown labels (arg.Label (Some name)) = not (is_among name labels)
 label_unknown labels _ = false
 
 -- a statement goes to a label that is none of these, or its call names one, or a process declaration that is not there
-abbrev pub statement_unknown : Declared → List (List ℕ) → Result Draft FaultKind → Bool
-statement_unknown all labels (Ok (draft.Goto label)) = not (is_among label labels)
-statement_unknown all labels (Ok (draft.If x r y label)) = not (is_among label labels)
-statement_unknown all labels (Ok (draft.Plain (stmt.Service c))) = list_any (label_unknown labels) (args_list c.args) || not (has_its_decl all.processes c.service c.args.a1)
-statement_unknown all labels other = false
+abbrev pub draft_unknown : Declared → List (List ℕ) → Result Draft FaultKind → Bool
+draft_unknown all labels (Ok (draft.Goto label)) = not (is_among label labels)
+draft_unknown all labels (Ok (draft.If x r y label)) = not (is_among label labels)
+draft_unknown all labels (Ok (draft.Plain (stmt.Service c))) = list_any (label_unknown labels) (args_list c.args) || not (has_its_decl all.processes c.service c.args.a1)
+draft_unknown all labels other = false
 
 -- the labels of the image of this name
-abbrev pub labels_of : List ℕ → List Open → List (List ℕ)
+abbrev pub labels_of : List ℕ → List DeclaredImage → List (List ℕ)
 labels_of name [] = []
 labels_of name (image ∷ images) = if bytes_eq name image.name then image.labels else labels_of name images
 
-abbrev pub stmt_unknown : Declared → Open → List Tok → Bool
-stmt_unknown all image [] = false
-stmt_unknown all image (t ∷ tokens) = statement_unknown all (labels_of image.name all.ended) (stmt_of t tokens)
+abbrev pub statement_unknown : Declared → DeclaredImage → List Tok → Bool
+statement_unknown all image [] = false
+statement_unknown all image (t ∷ tokens) = draft_unknown all (labels_of image.name all.ended) (stmt_of t tokens)
 
 -- a line of an image; a label stands before a colon
-abbrev pub inside_unknown : Declared → Open → List Tok → Bool
-inside_unknown all image (Word word ∷ tokens) = if begins_with_sign 58 tokens then stmt_unknown all image (drop 1 tokens) else stmt_unknown all image (Word word ∷ tokens)
-inside_unknown all image tokens = stmt_unknown all image tokens
+abbrev pub inside_unknown : Declared → DeclaredImage → List Tok → Bool
+inside_unknown all image (Word word ∷ tokens) = if begins_with_sign 58 tokens then statement_unknown all image (drop 1 tokens) else statement_unknown all image (Word word ∷ tokens)
+inside_unknown all image tokens = statement_unknown all image tokens
 
 -- a line that stands in this image, or in none
-abbrev pub names_unknown : Declared → Option Open → List Tok → Bool
+abbrev pub names_unknown : Declared → Option DeclaredImage → List Tok → Bool
 names_unknown all None tokens = outside_unknown all tokens
 names_unknown all (Some image) tokens = inside_unknown all image tokens

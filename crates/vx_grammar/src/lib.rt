@@ -7,10 +7,9 @@
 //! the fields of a line, the spelling of fixed words, and small words on lists.
 #![tactic(auto)]
 
-ghost use Rattle.std.specs.Prelude.{◌≡◌, ◌↔◌, ◌<◌, ℕ, List, length, Ok, Err, IfOk};
+ghost use Rattle.std.specs.Prelude.{◌≡◌, ◌⊎◌, ◌<◌, ℕ, List, length, Ok, Err, IfOk};
 ghost use Rattle.vx_image.specs.WellFormed.{IsWellFormed};
 ghost use Rattle.vx_image.specs.declared.system.System.{System};
-ghost use Rattle.vx_script.specs.Reading as reading;
 ghost use Rattle.vx_script.specs.Results.{ReadsScript};
 ghost use Rattle.vx_script.specs.declared.fault.ScriptFault.{ScriptFault};
 ghost use Rattle.vx_grammar.specs.FirstFault.{Tells, TellsIfFault};
@@ -36,18 +35,10 @@ pub fn read_script(alloc: Global, text: &[u8]) -> Result<System, ScriptFail>
     vx_script::parse_script(alloc, text)
 }
 
-/// A text is read as a system exactly where the grammar spells the text as that system.
-pub fn what_is_spelled_is_read()
-    ensures { (text : List ℕ) (s : System) → (reading.read_script text ≡ Ok s) ↔ Spells text s }
-{}
-
-/// The grammar spells a text as at most one system.
-pub fn a_text_says_one_system()
-    ensures { (text : List ℕ) (s t : System) → Spells text s → Spells text t → s ≡ t }
-{}
-
-/// The reader refuses a text with a fault exactly where the fault is the text's first.
-pub fn the_first_fault_is_told()
-    ensures tells { (text : List ℕ) (fault : ScriptFault) → reading.read_script text ≡ Err fault → Tells text fault }
-    ensures only { (text : List ℕ) (fault : ScriptFault) → Tells text fault → reading.read_script text ≡ Err fault }
+/// Each text says exactly one thing: a system that the grammar spells it as, or a first fault.
+pub fn each_text_says_one_thing()
+    ensures some { (text : List ℕ) → ((s : System) × Spells text s) ⊎ ((fault : ScriptFault) × Tells text fault) }
+    ensures one_system { (text : List ℕ) (s t : System) → Spells text s → Spells text t → s ≡ t }
+    ensures one_fault { (text : List ℕ) (f g : ScriptFault) → Tells text f → Tells text g → f ≡ g }
+    ensures not_both { (text : List ℕ) (s : System) (fault : ScriptFault) → Spells text s → Tells text fault → ⊥ }
 {}
