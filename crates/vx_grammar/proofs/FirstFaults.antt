@@ -134,7 +134,7 @@ scan e lines number fit told line r front (l ∷ ls) split so h =
         let moves = t.steps.moves images.0 images.1 in
         let place = so.place in
         elim b as (λ b. names_unknown (declared_by e.parts None) (declared r).image t.ts ≡ b → FirstUnknown lines number) [
-          true ↦ λ flag.
+          | true ↦ λ flag.
               let seen = stays line (line + 1) s ls e kept rest (omega arith) (seen_moves line _ _ _ moves flag so.nothing) in
               let same : Some line ≡ Some number = sym (least_is line (firsts_of e.parts e) seen) ∙ told in
               let here : line ≡ number = cc in

@@ -58,7 +58,7 @@ pub least_is : (k : ℕ) (os : List (Option ℕ)) → Sees k os → least os ≡
 least_is k [] s = absurd s.0
 least_is k (o ∷ []) s = elim s.0 [ inl e ↦ e | inr e ↦ absurd e ]
 least_is k (o ∷ p ∷ os) s = elim s.0 [
-  inl e ↦ ap (λ (x : Option ℕ). earlier x (least (p ∷ os))) e ∙ first_least k (least (p ∷ os)) (from_least k (p ∷ os) s.1.1)
+  | inl e ↦ ap (λ (x : Option ℕ). earlier x (least (p ∷ os))) e ∙ first_least k (least (p ∷ os)) (from_least k (p ∷ os) s.1.1)
   | inr e ↦ ap (λ (x : Option ℕ). earlier o x) (least_is k (p ∷ os) (e, s.1.1)) ∙ second_least k o s.1.0
 ]
 
@@ -163,7 +163,7 @@ has_stays k line (t ∷ ts) (o ∷ os) h = elim h [ inl e ↦ inl (stays_marked 
 
 ended_has : (k : ℕ) (a b : Option ℕ) (os : List (Option ℕ)) → From k a → From k b → Has k (a ∷ b ∷ os) → Has k (earlier a b ∷ None ∷ os)
 ended_has k a b os f g h = elim h [
-  inl e ↦ inl (ap (λ (x : Option ℕ). earlier x b) e ∙ first_least k b g)
+  | inl e ↦ inl (ap (λ (x : Option ℕ). earlier x b) e ∙ first_least k b g)
   | inr m ↦ elim m [ inl e ↦ inl (ap (λ (x : Option ℕ). earlier a x) e ∙ second_least k a f) | inr more ↦ inr (inr more) ]
 ]
 

@@ -245,4 +245,3 @@ pub fn parse_script(alloc: Global, text: &[u8]) -> Result<System, ScriptFail>
     }
     closed(alloc, line, reading)
 }
-
