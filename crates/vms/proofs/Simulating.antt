@@ -1,9 +1,10 @@
 -- What an input comes to.
-use Rattle.std.proofs.Common.{◌≡◌, ℕ, List, Option, Ok, Err, false, IsTrue, subst}
+use Rattle.std.proofs.Common.{◌≡◌, ℕ, List, Option, false, IsTrue, subst}
 use Rattle.std.specs.Io.KnownBytes.{Appends}
 use Rattle.vx_base.specs.declared.record.End.{End}
 use Rattle.vx_image.specs.declared.system.System.{System}
-use Rattle.vx_script.specs.Reading.{read_script}
+use Rattle.vx_grammar.specs.FirstFault.{Tells}
+use Rattle.vx_grammar.specs.Grammar.{Spells}
 use Rattle.vx_script.specs.declared.fault.ScriptFault.{ScriptFault}
 use Rattle.vx_exec.specs.Built.{is_built}
 use Rattle.vms.specs.Simulated.{WritesRun, WritesRefusal}
@@ -13,7 +14,7 @@ use Rattle.vms.specs.declared.command.Command.TheVariants.{Sim}
 use Rattle.vms.specs.declared.command.Options.{Options}
 
 -- a transcript that was written is that of a run with this ending
-pub writes_run : (input : List ℕ) (options : Options) (held held_after : Option (List ℕ)) (system : System) (text : List ℕ) (end want : End) → read_script input ≡ Ok system → IsTrue (is_built system) → IsSimulated system options end text → (end ≡ want) × Appends held held_after text → WritesRun input options held held_after want
+pub writes_run : (input : List ℕ) (options : Options) (held held_after : Option (List ℕ)) (system : System) (text : List ℕ) (end want : End) → Spells input system → IsTrue (is_built system) → IsSimulated system options end text → (end ≡ want) × Appends held held_after text → WritesRun input options held held_after want
 writes_run input options held held_after system text end want says built simulated told = record {
   system = system;
   says = says;
@@ -24,9 +25,9 @@ writes_run input options held held_after system text end want says built simulat
 }
 
 -- the line of a fault that was written refuses the input
-pub writes_fault : (input : List ℕ) (command : Command) (held held_after : Option (List ℕ)) (fault : ScriptFault) → read_script input ≡ Err fault → Appends held held_after (fault_line fault) → WritesRefusal command input held held_after
+pub writes_fault : (input : List ℕ) (command : Command) (held held_after : Option (List ℕ)) (fault : ScriptFault) → Tells input fault → Appends held held_after (fault_line fault) → WritesRefusal command input held held_after
 writes_fault input command held held_after fault says written = record { text = fault_line fault; refused = no_script command fault says; written = written }
 
 -- so does the line of a system that is not built
-pub writes_later : (input : List ℕ) (options : Options) (held held_after : Option (List ℕ)) (system : System) → read_script input ≡ Ok system → is_built system ≡ false → Appends held held_after later → WritesRefusal (Sim options) input held held_after
+pub writes_later : (input : List ℕ) (options : Options) (held held_after : Option (List ℕ)) (system : System) → Spells input system → is_built system ≡ false → Appends held held_after later → WritesRefusal (Sim options) input held held_after
 writes_later input options held held_after system says unbuilt written = record { text = later; refused = not_built options system says unbuilt; written = written }

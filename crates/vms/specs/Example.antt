@@ -1,5 +1,5 @@
 -- Two worked examples: a script that sets, reads and clears a flag and exits, and one whose flags are refused.
-use Rattle.std.specs.Prelude.{◌≡◌, ℕ, List, [], ◌∷◌, map, codes, true, false, Some, Ok}
+use Rattle.std.specs.Prelude.{◌≡◌, ℕ, List, [], ◌∷◌, map, codes, true, false, Some}
 use Rattle.vx_base.specs.declared.mode.Mode.TheVariants.{User}
 use Rattle.vx_base.specs.declared.service.Service.{Service}
 use Rattle.vx_base.specs.declared.service.Service.TheVariants.{SetEf, ClrEf, ReadEf, Exit}
@@ -22,7 +22,7 @@ use Rattle.vx_base.specs.declared.record.Rec.{Rec}
 use Rattle.vx_image.specs.declared.decl.ProcDecl.{ProcDecl}
 use Rattle.vx_image.specs.declared.stmt.Stmt.TheVariants as stmt
 use Rattle.vx_image.specs.declared.system.System.{System}
-use Rattle.vx_script.specs.Reading.{read_script}
+use Rattle.vx_grammar.specs.Grammar.{Spells}
 use Rattle.vx_record.specs.Runs.{chosen, end_after}
 use Rattle.vms.specs.Transcript.{transcript}
 
@@ -80,7 +80,7 @@ flag_transcript = codes "IMAGE MAIN\n  $SETEF 5\n  $READEF 5,A\n  $CLREF 5\n  $E
 
 -- The script says the system, the records are the run that seed 0 chooses, and the transcript is theirs.
 pub record IsFlagExample : Type 0 where
-  pub script : read_script flag_script ≡ Ok flag_system
+  pub script : Spells flag_script flag_system
   pub run : chosen flag_system 0 10000 ≡ flag_records
   pub ended : end_after flag_system flag_records 10000 ≡ Some Done
   pub output : transcript flag_system flag_records Done ≡ flag_transcript
@@ -115,7 +115,7 @@ refused_transcript = codes "IMAGE MAIN\n  $SETEF 31\n  $SETEF 63\n  $SETEF 64\n 
 
 -- The script says the system, the records are the run that seed 0 chooses, and the transcript is theirs.
 pub record IsRefusedExample : Type 0 where
-  pub script : read_script refused_script ≡ Ok refused_system
+  pub script : Spells refused_script refused_system
   pub run : chosen refused_system 0 10000 ≡ refused_records
   pub ended : end_after refused_system refused_records 10000 ≡ Some Done
   pub output : transcript refused_system refused_records Done ≡ refused_transcript

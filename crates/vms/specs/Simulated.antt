@@ -4,7 +4,7 @@ use Rattle.std.specs.Io.KnownBytes.{Appends}
 use Rattle.vx_base.specs.declared.record.End.{End}
 use Rattle.vx_image.specs.declared.system.System.{System}
 use Rattle.vx_host.specs.Streams.{AppendsFront}
-use Rattle.vx_script.specs.Reading.{read_script}
+use Rattle.vx_grammar.specs.Grammar.{Spells}
 use Rattle.vx_script.specs.Script.{script}
 use Rattle.vx_exec.specs.Built.{is_built}
 use Rattle.vms.specs.Top.{no_memory, IsRefused, IsSimulated}
@@ -15,7 +15,7 @@ use Rattle.vms.specs.declared.command.Options.{Options}
 -- The input is the script of a system that is built, and the sink holds the transcript of its run more, which has ended so.
 pub record WritesRun (input : List ℕ) (options : Options) (held held_after : Option (List ℕ)) (end : End) : Type 0 where
   pub system : System
-  pub says : read_script input ≡ Ok system
+  pub says : Spells input system
   pub built : IsTrue (is_built system)
   pub text : List ℕ
   pub simulated : IsSimulated system options end text
@@ -30,19 +30,19 @@ pub record WritesRefusal (command : Command) (input : List ℕ) (held held_after
 -- The input is a script, and the sink holds its canonical script more.
 pub record WritesShown (input : List ℕ) (held held_after : Option (List ℕ)) : Type 0 where
   pub system : System
-  pub says : read_script input ≡ Ok system
+  pub says : Spells input system
   pub text : List ℕ
   pub spells : text ≡ script system
   pub written : Appends held held_after text
 
 -- The sink holds a front of the transcript, of the line of a refusal or of the line on memory more.
 pub data BreaksInput (input : List ℕ) (options : Options) (held held_after : Option (List ℕ)) : Type 0 where
-  in_run : (system : System) (end : End) (text : List ℕ) → read_script input ≡ Ok system → IsTrue (is_built system) → IsSimulated system options end text → AppendsFront held held_after text → BreaksInput input options held held_after
+  in_run : (system : System) (end : End) (text : List ℕ) → Spells input system → IsTrue (is_built system) → IsSimulated system options end text → AppendsFront held held_after text → BreaksInput input options held held_after
   in_refusal : (text : List ℕ) → IsRefused input (Sim options) text → AppendsFront held held_after text → BreaksInput input options held held_after
   in_no_memory : AppendsFront held held_after no_memory → BreaksInput input options held held_after
 
 -- The sink holds a front of the canonical script, of the line of a fault or of the line on memory more.
 pub data BreaksShown (input : List ℕ) (held held_after : Option (List ℕ)) : Type 0 where
-  in_script : (system : System) (text : List ℕ) → read_script input ≡ Ok system → text ≡ script system → AppendsFront held held_after text → BreaksShown input held held_after
+  in_script : (system : System) (text : List ℕ) → Spells input system → text ≡ script system → AppendsFront held held_after text → BreaksShown input held held_after
   in_fault : (text : List ℕ) → IsRefused input Show text → AppendsFront held held_after text → BreaksShown input held held_after
   in_want : AppendsFront held held_after no_memory → BreaksShown input held held_after

@@ -1,12 +1,13 @@
 -- What the top call answers and writes, and what it read for it.
-use Rattle.std.specs.Prelude.{◌≡◌, ℕ, List, [], ◌∷◌, ◌++◌, codes, decimal, false, IsTrue, Option, None, Some, Ok, Err}
+use Rattle.std.specs.Prelude.{◌≡◌, ℕ, List, [], ◌∷◌, ◌++◌, codes, decimal, false, IsTrue, Option, None, Some}
 use Rattle.std.specs.Io.KnownBytes.{Appends, Keeps}
 use Rattle.vx_base.specs.declared.record.End.{End}
 use Rattle.vx_base.specs.declared.record.End.TheVariants.{Done}
 use Rattle.vx_image.specs.declared.system.System.{System}
 use Rattle.vx_host.specs.Causes.{Rose}
 use Rattle.vx_host.specs.Streams.{TakesAll, Takes, TakesAtMost, AppendsFront}
-use Rattle.vx_script.specs.Reading.{read_script}
+use Rattle.vx_grammar.specs.FirstFault.{Tells}
+use Rattle.vx_grammar.specs.Grammar.{Spells}
 use Rattle.vx_script.specs.Script.{script}
 use Rattle.vx_script.specs.declared.fault.FaultKind.{FaultKind}
 use Rattle.vx_script.specs.declared.fault.FaultKind.TheVariants as kind
@@ -87,8 +88,8 @@ pub record ReadsInput (words : List (List ℕ)) (command : Command) (left left_a
 -- why an input is refused, and the line that tells it: it is no script, and this is its first fault; or it is the script of
 -- a system that is to be simulated and that the executive does not run yet
 pub data IsRefused (input : List ℕ) : Command → List ℕ → Type 0 where
-  no_script : (command : Command) (fault : ScriptFault) → read_script input ≡ Err fault → IsRefused input command (fault_line fault)
-  not_built : (options : Options) (system : System) → read_script input ≡ Ok system → is_built system ≡ false → IsRefused input (Sim options) later
+  no_script : (command : Command) (fault : ScriptFault) → Tells input fault → IsRefused input command (fault_line fault)
+  not_built : (options : Options) (system : System) → Spells input system → is_built system ≡ false → IsRefused input (Sim options) later
 
 -- The input is refused, and the text is the line of the cause.
 pub record RefusesText (words : List (List ℕ)) (left left_after : Option (List ℕ)) (text : List ℕ) : Type 0 where
@@ -111,7 +112,7 @@ pub record Simulates (words : List (List ℕ)) (left left_after : Option (List �
   pub input : List ℕ
   pub read : ReadsInput words (Sim options) left left_after input
   pub system : System
-  pub says : read_script input ≡ Ok system
+  pub says : Spells input system
   pub built : IsTrue (is_built system)
   pub simulated : IsSimulated system options end text
 
@@ -120,7 +121,7 @@ pub record Shows (words : List (List ℕ)) (left left_after : Option (List ℕ))
   pub input : List ℕ
   pub read : ReadsInput words Show left left_after input
   pub system : System
-  pub says : read_script input ≡ Ok system
+  pub says : Spells input system
   pub spells : text ≡ script system
 
 -- The words are a command's, and no memory was found for it.

@@ -13,8 +13,9 @@ use crate::status::Status;
 use std::alloc::Global;
 use vx_base::{Bytes, End, NoMemory};
 use vx_exec::built;
+use vx_grammar::read_script;
 use vx_host::{ReadFail, Sink, Source, read_all, write_all};
-use vx_script::{FaultKind, ScriptFail, ScriptFault, print_script, read_script};
+use vx_script::{FaultKind, ScriptFail, ScriptFault, print_script};
 use vx_text::print_num;
 
 /// The most bytes of an input.

@@ -1,5 +1,5 @@
 -- A canonical script is read back as its system.
-use Rattle.std.proofs.Common.{◌≡◌, ℕ, List, [], ◌++◌, map, flat_map, refl, ap, ◌∙◌, arith, append-nil, append_assoc}
+use Rattle.std.proofs.Common.{◌≡◌, ℕ, List, [], ◌++◌, map, flat_map, refl, ap, ◌∙◌, Ok, arith, append-nil, append_assoc}
 use Rattle.std.proofs.lemmas.Bool.{leb-true}
 use Rattle.vx_image.specs.WellFormed.{IsWellFormed, decl_names}
 use Rattle.vx_image.specs.declared.system.System.{System}
@@ -9,6 +9,7 @@ use Rattle.vx_script.specs.Script.{unit_lines, image_lines, decl_line, script_li
 use Rattle.vx_script.specs.declared.parts.Parts.{Parts}
 use Rattle.vx_script.specs.Resolving.{resolve}
 use Rattle.vx_back.specs.Held.{IsHeldSystem}
+use Rattle.vx_grammar.proofs.Whole.{read_is_spelled}
 use Rattle.vx_back.specs.Law.{ReadsBack}
 use Rattle.vx_back.proofs.Decls.{process_names, decls_back}
 use Rattle.vx_back.proofs.Feeds.{cut_all}
@@ -59,9 +60,12 @@ begins : (text : List ℕ) → read_script text ≡ read_lines 1 nothing_read (l
 unfolding read_script
 begins text = refl
 
--- the law
-pub reads_back : ReadsBack
-reads_back s well held =
+read_back : (s : System) → IsWellFormed s → IsHeldSystem s → read_script (script s) ≡ Ok s
+read_back s well held =
     let all = all_read s well held in
     let sound : Sound s = record { unit_apart = well.unit_names; image_apart = well.image_names; units_are = well.units; decls_are = well.decls } in
     begins (script s) ∙ ap (read_lines 1 nothing_read) (cut_all (script_lines s) (all.read.clean refl)) ∙ all.read.read ∙ at_end all.line2 all.parts ∙ resolved_back s all.parts sound all.told
+
+-- the law
+pub reads_back : ReadsBack
+reads_back s well held = read_is_spelled (script s) s (read_back s well held)

@@ -31,7 +31,8 @@ record ImageTest (names : List (List ℕ)) (i : Image) : Type 0 where
 
 image_test : (names : List (List ℕ)) (i : Image) → is_image names i ≡ true → ImageTest names i
 image_test names i h =
-    let one = and_parts (nat_le (length i.stmts) 10000) _ h in
+    let few = and_parts (nat_lt (length i.labels) 4294967296) _ h in
+    let one = and_parts (nat_le (length i.stmts) 10000) _ few.1 in
     let two = and_parts (are_distinct (label_names i)) _ one.1 in
     let three = and_parts (falls_nowhere 0 (label_places i)) _ two.1 in
     let four = and_parts (list_all (λ place. nat_le place (length i.stmts)) (label_places i)) _ three.1 in

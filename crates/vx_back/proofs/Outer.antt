@@ -14,8 +14,9 @@ use Rattle.vx_text.specs.Lex.{lex}
 use Rattle.vx_text.specs.Quote.{quote_text, AreBytes}
 use Rattle.vx_table.specs.Back.{toks_of}
 use Rattle.vx_script.specs.Declarations as read
-use Rattle.vx_script.specs.Fields.{within}
-use Rattle.vx_script.specs.Reading.{take_line, with_kind, accepted, outside, between_images, goes_on, read_lines}
+use Rattle.vx_script.specs.Fields.{within, with_kind}
+use Rattle.vx_script.specs.Places.{unit_place, image_place}
+use Rattle.vx_script.specs.Reading.{take_line, accepted, outside, between_images, goes_on, read_lines}
 use Rattle.vx_script.specs.Script as script
 use Rattle.vx_script.specs.declared.draft.DraftImage.{DraftImage}
 use Rattle.vx_script.specs.declared.fault.FaultKind.{FaultKind}
@@ -91,7 +92,7 @@ kinds_spelled : (t : Bool) (n : ℕ) → n < 2 ^ 32 → AreSpelled (cond t (code
 kinds_spelled true n h = (spells_word (codes "LINE") refl, tt)
 kinds_spelled false n h = (spells_word (codes "BLOCK") refl, (spells_number n h, tt))
 
-unit_by : (units : List UnitDecl) (name : List ℕ) (n : ℕ) (t : Bool) → (n == 0) ≡ t → nat_le n 4096 ≡ true → read.unit_place name units ≡ None → nat_lt (length units) 32 ≡ true → read.unit_line units (tok.Word name ∷ kind_toks t n) ≡ Ok (record { name = name; blocks = n; inputs = []; faults = [] })
+unit_by : (units : List UnitDecl) (name : List ℕ) (n : ℕ) (t : Bool) → (n == 0) ≡ t → nat_le n 4096 ≡ true → unit_place name units ≡ None → nat_lt (length units) 32 ≡ true → read.unit_line units (tok.Word name ∷ kind_toks t n) ≡ Ok (record { name = name; blocks = n; inputs = []; faults = [] })
 unfolding read.unit_line
 unit_by units name n true e h new room =
     let none : 0 ≡ n = grind (arith, nat_tests, e) in
@@ -100,7 +101,7 @@ unit_by units name n false e h new room =
     let some : nat_le 1 n ≡ true = grind (arith, nat_tests, e) in
     rw (new, room, some, h) refl
 
-pub take_unit : (line : ℕ) (parts : Parts) (u : UnitDecl) → is_name u.name ≡ true → nat_le u.blocks 4096 ≡ true → read.unit_place u.name parts.units ≡ None → nat_lt (length parts.units) 32 ≡ true → Taken line (between_images parts) (script.unit_line u) (between_images (record parts { units = parts.units ++ bare u ∷ [] }))
+pub take_unit : (line : ℕ) (parts : Parts) (u : UnitDecl) → is_name u.name ≡ true → nat_le u.blocks 4096 ≡ true → unit_place u.name parts.units ≡ None → nat_lt (length parts.units) 32 ≡ true → Taken line (between_images parts) (script.unit_line u) (between_images (record parts { units = parts.units ++ bare u ∷ [] }))
 unfolding outside
 take_unit line parts u name blocks new room =
     let few : u.blocks < 2 ^ 32 = omega (arith, leb-true _ _ blocks) in
@@ -129,7 +130,7 @@ take_fault line parts name n named low high new =
 abbrev pub empty_image : List ℕ → DraftImage
 empty_image name = record { name = name; labels = []; lines = [] }
 
-pub take_image : (line : ℕ) (parts : Parts) (name : List ℕ) → is_name name ≡ true → read.image_place name parts.images ≡ None → nat_lt (length parts.images) 256 ≡ true → Taken line (between_images parts) (codes "IMAGE " ++ name) (goes_on parts (empty_image name))
+pub take_image : (line : ℕ) (parts : Parts) (name : List ℕ) → is_name name ≡ true → image_place name parts.images ≡ None → nat_lt (length parts.images) 256 ≡ true → Taken line (between_images parts) (codes "IMAGE " ++ name) (goes_on parts (empty_image name))
 unfolding outside read.image_line
 take_image line parts name named new room =
     let toks = tok.Word name ∷ [] in

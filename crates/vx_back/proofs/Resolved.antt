@@ -9,8 +9,8 @@ use Rattle.vx_image.specs.declared.decl.ProcDecl.{ProcDecl}
 use Rattle.vx_image.specs.declared.image.Image.{Image}
 use Rattle.vx_image.specs.declared.system.System.{System}
 use Rattle.vx_image.specs.declared.unit.UnitDecl.{UnitDecl}
-use Rattle.vx_script.specs.Declarations.{image_place}
-use Rattle.vx_script.specs.Resolving.{names_no_decl, names_no_image, is_line_unit, names_no_line_unit, names_no_unit, unknown_creation, unknown_image, unknown_input, unknown_fault, first_unknown, in_place, rising, input_if, inputs_of, fault_if, numbers_of, unit_of, decl_of, resolve}
+use Rattle.vx_script.specs.Places.{image_place, is_line_unit, in_place, rising}
+use Rattle.vx_script.specs.Resolving.{names_no_decl, names_no_image, names_no_line_unit, names_no_unit, unknown_creation, unknown_image, unknown_input, unknown_fault, first_unknown, input_if, inputs_of, fault_if, numbers_of, unit_of, decl_of, resolve}
 use Rattle.vx_script.specs.Script.{no_image}
 use Rattle.vx_script.specs.declared.lines.Creation.{Creation}
 use Rattle.vx_script.specs.declared.lines.DeclLine.{DeclLine}

@@ -14,7 +14,8 @@ use Rattle.vx_image.specs.declared.image.Image.{Image}
 use Rattle.vx_image.specs.declared.image.Label.{Label}
 use Rattle.vx_image.specs.declared.stmt.Stmt.{Stmt}
 use Rattle.vx_image.specs.declared.stmt.Stmt.TheVariants as stmt
-use Rattle.vx_script.specs.Resolving.{label_place, is_label, arg_names_none, draft_names_none, names_no_label, first_unlabelled, settled, created_by, created_in, creation_of, creations_of}
+use Rattle.vx_script.specs.Resolving.{is_label, arg_names_none, draft_names_none, names_no_label, first_unlabelled, settled, created_by, created_in, creation_of, creations_of}
+use Rattle.vx_script.specs.Places.{label_place}
 use Rattle.vx_script.specs.Script.{label_name}
 use Rattle.vx_script.specs.declared.draft.Draft.{Draft}
 use Rattle.vx_script.specs.declared.draft.DraftLine.{DraftLine}

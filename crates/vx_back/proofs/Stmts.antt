@@ -29,7 +29,8 @@ use Rattle.vx_table.specs.Spelling.{call_text, call_tokens, operand_text, operan
 use Rattle.vx_table.proofs.Back.{call_back}
 use Rattle.vx_script.specs.Fields.{begins_with_sign, is_sign, target_in}
 use Rattle.vx_script.specs.Reading.{inside, goes_on, between_images, with_label}
-use Rattle.vx_script.specs.Resolving.{label_place, with_image}
+use Rattle.vx_script.specs.Resolving.{with_image}
+use Rattle.vx_script.specs.Places.{label_place}
 use Rattle.vx_script.specs.Script.{stmt_line, let_words, goto_words, label_name, label_line}
 use Rattle.vx_script.specs.Statements.{local_stmt, let_stmt, let_rest, goto_stmt, if_stmt, put_stmt, byte_stmt, iosb_stmt, return_stmt, rel_name, rel_word, field_name, field_word}
 use Rattle.vx_script.specs.declared.draft.Draft.{Draft}

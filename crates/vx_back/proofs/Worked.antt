@@ -1,8 +1,8 @@
 -- The worked example.
-use Rattle.std.proofs.Common.{◌≡◌, refl, sym, ap, ◌∙◌, arith, lit<}
+use Rattle.std.proofs.Common.{◌≡◌, ℕ, List, refl, subst, arith, lit<}
 use Rattle.std.specs.Fmt.{digits}
 use Rattle.vx_image.specs.WellFormed.{IsWellFormed}
-use Rattle.vx_script.specs.Reading.{read_script}
+use Rattle.vx_grammar.specs.Grammar.{Spells}
 use Rattle.vx_script.specs.Script.{script, decl_line, decl_names, rights_keys, limits_keys, start_keys}
 use Rattle.vx_back.specs.Example.{example, example_text, IsExample}
 use Rattle.vx_back.specs.Held.{IsHeldSystem}
@@ -19,4 +19,4 @@ held : IsHeldSystem example
 held = search (arith, lit<)
 
 pub worked_example : IsExample
-worked_example = record { text = text; well_formed = well_formed; held = held; read = ap read_script (sym text) ∙ reads_back example well_formed held }
+worked_example = record { text = text; well_formed = well_formed; held = held; read = subst (λ (t : List ℕ). Spells t example) text (reads_back example well_formed held) }

@@ -1,5 +1,5 @@
 -- A worked example: a system with every kind of line and of local statement, and its canonical script.
-use Rattle.std.specs.Prelude.{◌≡◌, ℕ, true, false, List, [], ◌∷◌, codes, Ok}
+use Rattle.std.specs.Prelude.{◌≡◌, ℕ, true, false, List, [], ◌∷◌, codes}
 use Rattle.vx_base.specs.declared.call.Arg.TheVariants as arg
 use Rattle.vx_base.specs.declared.call.Args.{Args}
 use Rattle.vx_base.specs.declared.call.Operand.TheVariants.{Num, Cond, Var, Pid, Prm}
@@ -16,7 +16,7 @@ use Rattle.vx_image.specs.declared.stmt.Stmt.{Stmt}
 use Rattle.vx_image.specs.declared.stmt.Stmt.TheVariants as stmt
 use Rattle.vx_image.specs.declared.system.System.{System}
 use Rattle.vx_image.specs.declared.unit.UnitDecl.{UnitDecl}
-use Rattle.vx_script.specs.Reading.{read_script}
+use Rattle.vx_grammar.specs.Grammar.{Spells}
 use Rattle.vx_script.specs.Script.{script}
 use Rattle.vx_back.specs.Held.{IsHeldSystem}
 
@@ -81,9 +81,9 @@ example = record { units = example_units; images = example_image ∷ []; decls =
 abbrev pub example_text : List ℕ
 example_text = codes "UNIT TT LINE\nINPUT TT \"HI\"\nINPUT TT \"\\22\\0A\"\nUNIT DK BLOCK 8\nFAULT DK 2\nFAULT DK 5\nIMAGE MAIN\nTOP:\n  LET A = 1\n  IF A NE SS$_WASSET GOTO LAST\n  LET B = A + PRM\n  LET R0 = B - PID\n  PUT 31 \"HI\"\n  BYTE C 31 A\n  IOSB D 32 COUNT\n  $CREPRC A,P\n  GOTO TOP\n  RETURN\nLAST:\nEND\nPROCESS FIRST MAIN UIC=16382:0 MODE=USER ASTLM=24 BIOLM=18 DIOLM=19 BYTLM=8192 TQELM=10 PRIV=NONE START=1\nPROCESS P MAIN UIC=1:65534 MODE=EXEC ASTLM=0 BIOLM=1 DIOLM=2 BYTLM=3 TQELM=1000000 PRIV=CMEXEC+CMKRNL+GROUP+PRMCEB+PRMMBX+WORLD START=0\n"
 
--- The law speaks of the example: its canonical script is the text, which is read back as the example.
+-- The law speaks of the example: its canonical script is the text, which is spelled as the example.
 pub record IsExample : Type 0 where
   pub text : script example ≡ example_text
   pub well_formed : IsWellFormed example
   pub held : IsHeldSystem example
-  pub read : read_script example_text ≡ Ok example
+  pub read : Spells example_text example

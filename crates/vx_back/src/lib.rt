@@ -1,14 +1,14 @@
 //! The law that what is printed is read back: the canonical script of a well formed system is read as the system.
 //!
-//! `vx_script/specs/Script.antt` says what the canonical script of a system is, and `vx_script/specs/Reading.antt` what a text
-//! is read as; they share only the spelling of calls and of fixed words. The law holds for every system that a script may say
+//! `vx_script/specs/Script.antt` says what the canonical script of a system is, and the grammar (`vx_grammar`) what a text is spelled
+//! as; they share only the spelling of calls and of fixed words. The law holds for every system that a script may say
 //! (`IsWellFormed`) and that the program's types hold (`IsHeldSystem`).
 #![tactic(auto)]
 
 ghost use Rattle.vx_back.specs.Example.{IsExample};
 ghost use Rattle.vx_back.specs.Law.{ReadsBack};
 
-/// A canonical script is read back as its system, for every well formed system.
+/// A canonical script is spelled as its system, and so `vx_grammar::read_script` reads it back, for every well formed system.
 #[tactic(auto, using(crate::proofs::Back::reads_back))]
 pub fn canonical_script_is_read_back()
     ensures { ReadsBack }

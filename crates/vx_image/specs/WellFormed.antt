@@ -43,7 +43,8 @@ is_unit u =
     ((u.blocks == 0) || (length u.inputs == 0)) && (
     rises_above 0 u.faults && list_all (λ n. nat_le n 100000) u.faults)))
 
--- Images: at most 10,000 statements; labels with different names, in the order of their places, none past the end.
+-- Images: labels: fewer than 4294967296; at most 10,000 statements; labels with different names, in the order of their places,
+-- none past the end.
 
 abbrev pub label_names : Image → List (List ℕ)
 label_names image = map (λ l. l.name) image.labels
@@ -83,10 +84,11 @@ is_stmt decls image (stmt.Service c) = is_call_of decls image c
 
 abbrev pub is_image : List (List ℕ) → Image → Bool
 is_image decls image =
+    nat_lt (length image.labels) 4294967296 && (
     nat_le (length image.stmts) 10000 && (
     are_distinct (label_names image) && (
     falls_nowhere 0 (label_places image) && (
-    list_all (λ place. nat_le place (length image.stmts)) (label_places image) && list_all (is_stmt decls image) image.stmts)))
+    list_all (λ place. nat_le place (length image.stmts)) (label_places image) && list_all (is_stmt decls image) image.stmts))))
 
 -- an image that a system may have, whatever its process declarations are named
 abbrev pub IsImage : Image → Type 0

@@ -1,12 +1,13 @@
 -- A text is its first line, and the lines behind it.
 use Rattle.std.proofs.Common.{◌≡◌, ℕ, suc, ◌+◌, ◌<◌, ◌≤◌, ◌&&◌, ◌==◌, not, Bool, true, false, cond, List, [], ◌∷◌, length, take, drop, refl, sym, ap, ◌∙◌, arith, Result, Ok}
 use Rattle.vx_image.specs.declared.system.System.{System}
-use Rattle.vx_script.specs.Lines.{lines_of, first_line, line_len, onto_first, begins_with, without_return}
+use Rattle.vx_script.specs.Lines.{lines_of, onto_first, begins_with}
+use Rattle.vx_script.specs.Steps.{first_line, line_len, without_return, fail_of, LineFails}
 use Rattle.vx_text.specs.Lex.{lex, Fails}
 use Rattle.vx_text.specs.declared.token.LexFail.{LexFail}
 use Rattle.vx_text.specs.declared.token.LexFail.TheVariants as lex_fail
-use Rattle.vx_script.specs.Reading.{read_lines, read_script, take_line, line_fail, closed, nothing_read}
-use Rattle.vx_script.specs.Results.{◌>>=◌, at_line, LineFails, ScriptFails}
+use Rattle.vx_script.specs.Reading.{read_lines, read_script, take_line, closed, nothing_read}
+use Rattle.vx_script.specs.Results.{◌>>=◌, at_line, ScriptFails}
 use Rattle.vx_script.specs.declared.fault.ScriptFail.{ScriptFail}
 use Rattle.vx_script.specs.declared.fault.ScriptFail.TheVariants as fail
 use Rattle.vx_script.specs.declared.fault.ScriptFault.{ScriptFault}
@@ -125,7 +126,7 @@ first_taken [] h = absurd (omega (arith, h))
 first_taken (b ∷ bytes) h = taken_step b bytes (b == 10) ((b == 13) && begins_with 10 bytes) refl (λ k. first_taken bytes k) h
 
 -- a line whose tokens have a fault has it
-pub lexed_badly : (e : LexFail) (line : ℕ) (r : Reading) (text : List ℕ) → Fails e (lex text) → LineFails (line_fail e) (take_line line r text)
+pub lexed_badly : (e : LexFail) (line : ℕ) (r : Reading) (text : List ℕ) → Fails e (lex text) → LineFails (fail_of e) (take_line line r text)
 unfolding take_line
 lexed_badly lex_fail.Byte line r text h = rw h refl
 lexed_badly lex_fail.Quote line r text h = rw h refl

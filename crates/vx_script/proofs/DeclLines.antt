@@ -3,8 +3,8 @@ use Rattle.std.proofs.Common.{◌≡◌, ◌∙◌, ℕ, true, false, nat_le, na
 use Rattle.std.specs.List.{list_all}
 use Rattle.vx_image.specs.WellFormed.{is_among, are_distinct}
 use Rattle.vx_text.specs.declared.token.Tok.{Tok}
-use Rattle.vx_script.specs.Fields.{name_at}
-use Rattle.vx_script.specs.Declarations.{decl_place, fresh, room_for, process_line}
+use Rattle.vx_script.specs.Fields.{name_at, room_for}
+use Rattle.vx_script.specs.Declarations.{decl_place, fresh, process_line}
 use Rattle.vx_script.specs.Keys.{no_keys, keys_from}
 use Rattle.vx_script.specs.declared.lines.DeclLine.{DeclLine}
 use Rattle.vx_script.proofs.Appended.{all_push, map_push, few_push, distinct_push}

@@ -12,8 +12,9 @@ use Rattle.vx_image.specs.declared.image.Image.{Image}
 use Rattle.vx_image.specs.declared.image.Label.{Label}
 use Rattle.vx_image.specs.declared.stmt.Stmt.{Stmt}
 use Rattle.vx_image.specs.declared.stmt.Stmt.TheVariants as stmt
-use Rattle.vx_image.specs.WellFormed.{is_among, are_distinct, falls_nowhere, label_names, label_places, has_its_label, has_its_decl, is_call_of, is_stmt, is_image}
-use Rattle.vx_script.specs.Resolving.{earlier, label_place, is_label, arg_names_none, call_names_none, draft_names_none, names_no_label, first_unlabelled, place_or_zero, settled, image_of, created_by, created_in, creation_of, creations_of}
+use Rattle.vx_image.specs.WellFormed.{is_among, are_distinct, falls_nowhere, label_names, label_places, has_its_label, has_its_decl, is_call_of, is_stmt}
+use Rattle.vx_script.specs.Resolving.{earlier, is_label, arg_names_none, call_names_none, draft_names_none, names_no_label, first_unlabelled, place_or_zero, settled, image_of, created_by, created_in, creation_of, creations_of}
+use Rattle.vx_script.specs.Places.{label_place}
 use Rattle.vx_script.specs.declared.draft.Draft.{Draft}
 use Rattle.vx_script.specs.declared.draft.Draft.TheVariants as draft
 use Rattle.vx_script.specs.declared.draft.DraftImage.{DraftImage}
@@ -98,8 +99,16 @@ stmts_are decls image (d ∷ ds) drafts labels known =
 
 -- The image.
 
+-- an image that is well formed, but for the number of its labels
+abbrev pub is_formed : List (List ℕ) → Image → Bool
+is_formed decls image =
+    nat_le (length image.stmts) 10000 && (
+    are_distinct (label_names image) && (
+    falls_nowhere 0 (label_places image) && (
+    list_all (λ place. nat_le place (length image.stmts)) (label_places image) && list_all (is_stmt decls image) image.stmts)))
+
 image_is : (decls : List (List ℕ)) (images : List Image) (image : DraftImage) → IsOpen images image → first_unlabelled image ≡ None
-    → list_all (is_known decls) (creations_of image.lines) ≡ true → is_image decls (image_of image) ≡ true
+    → list_all (is_known decls) (creations_of image.lines) ≡ true → is_formed decls (image_of image) ≡ true
 image_is decls images image h labels known =
     let i : Image = image_of image in
     let n : length i.stmts ≡ length image.lines = as_many (λ (d : DraftLine). settled image.labels d.draft) image.lines in
@@ -126,7 +135,7 @@ neither (Some a) (Some b) h = absurd (cc h)
 pub record AreImages (images : List Image) (creations : List Creation) (unlabelled : Option ℕ) : Type 0 where
   pub few : nat_le (length images) 256 ≡ true
   pub names : are_distinct (map (λ i. i.name) images) ≡ true
-  pub formed : (decls : List (List ℕ)) → unlabelled ≡ None → list_all (is_known decls) creations ≡ true → list_all (is_image decls) images ≡ true
+  pub formed : (decls : List (List ℕ)) → unlabelled ≡ None → list_all (is_known decls) creations ≡ true → list_all (is_formed decls) images ≡ true
 
 pub image_ended : (images : List Image) (creations : List Creation) (unlabelled : Option ℕ) (image : DraftImage)
     → AreImages images creations unlabelled → IsOpen images image
@@ -139,5 +148,5 @@ image_ended images creations unlabelled image h o =
       formed = λ decls labels known.
           let none = neither unlabelled (first_unlabelled image) labels in
           let all = all_both (is_known decls) creations (creations_of image.lines) known in
-          all_push (is_image decls) images (image_of image) (h.formed decls none.0 all.0) (image_is decls images image o none.1 all.1);
+          all_push (is_formed decls) images (image_of image) (h.formed decls none.0 all.0) (image_is decls images image o none.1 all.1);
     }

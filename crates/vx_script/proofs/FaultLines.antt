@@ -9,7 +9,8 @@ use Rattle.vx_text.specs.declared.token.Tok.{Tok}
 use Rattle.vx_text.proofs.Runs.{by_test}
 use Rattle.vx_script.specs.Declarations.{is_fault_of, fresh_fault, fault_line}
 use Rattle.vx_script.specs.Fields.{end_at, name_at, number_at}
-use Rattle.vx_script.specs.Resolving.{in_place, rising, fault_if, numbers_of}
+use Rattle.vx_script.specs.Resolving.{fault_if, numbers_of}
+use Rattle.vx_script.specs.Places.{in_place, rising}
 use Rattle.vx_script.specs.declared.fault.FaultKind.{FaultKind}
 use Rattle.vx_script.specs.declared.lines.FaultLine.{FaultLine}
 use Rattle.vx_script.proofs.Appended.{not_out, all_flat, all_push, all_weaker, same_back, equal_back}

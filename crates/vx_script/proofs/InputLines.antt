@@ -9,7 +9,8 @@ use Rattle.vx_text.specs.declared.token.Tok.{Tok}
 use Rattle.vx_text.proofs.Runs.{by_test}
 use Rattle.vx_script.specs.Declarations.{input_line}
 use Rattle.vx_script.specs.Fields.{end_at, name_at, text_at}
-use Rattle.vx_script.specs.Resolving.{is_line_unit, names_no_line_unit, input_if, inputs_of}
+use Rattle.vx_script.specs.Resolving.{names_no_line_unit, input_if, inputs_of}
+use Rattle.vx_script.specs.Places.{is_line_unit}
 use Rattle.vx_script.specs.declared.lines.InputLine.{InputLine}
 use Rattle.vx_script.proofs.Appended.{not_out, not_in, all_weaker, all_flat, all_pairs, all_push, none_any, same_back}
 use Rattle.vx_script.proofs.Chains.{after, after_by}

@@ -5,10 +5,10 @@ use Rattle.vx_text.specs.Lex.{lex}
 use Rattle.vx_text.specs.declared.token.Tok.{Tok}
 use Rattle.vx_text.specs.declared.token.Tok.TheVariants as tok
 use Rattle.vx_text.proofs.Runs.{by_test}
-use Rattle.vx_script.specs.Fields.{begins_with_sign, end_at}
+use Rattle.vx_script.specs.Fields.{begins_with_sign, end_at, with_kind}
 use Rattle.vx_script.specs.Declarations.{unit_line, input_line, fault_line, image_line, process_line}
 use Rattle.vx_script.specs.Resolving.{with_image}
-use Rattle.vx_script.specs.Reading.{with_stmt, labelled, goes_on, going_on, word_line, first_word, by_word, between_images, outer_line, outside, by_place, with_kind, take_line, nothing_read}
+use Rattle.vx_script.specs.Reading.{with_stmt, labelled, goes_on, going_on, word_line, first_word, by_word, between_images, outer_line, outside, by_place, take_line, nothing_read}
 use Rattle.vx_script.specs.declared.draft.DraftImage.{DraftImage}
 use Rattle.vx_script.specs.declared.fault.FaultKind.{FaultKind}
 use Rattle.vx_script.specs.declared.parts.Parts.{Parts}

@@ -6,10 +6,10 @@ use Rattle.vx_image.specs.declared.image.Image.{Image}
 use Rattle.vx_image.specs.declared.image.Label.{Label}
 use Rattle.vx_image.specs.WellFormed.{is_among, are_distinct, falls_nowhere}
 use Rattle.vx_text.specs.declared.token.Tok.{Tok}
-use Rattle.vx_script.specs.Fields.{name_at, end_at, when}
-use Rattle.vx_script.specs.Declarations.{image_place, fresh, room_for, image_line}
+use Rattle.vx_script.specs.Fields.{name_at, end_at, when, room_for}
+use Rattle.vx_script.specs.Declarations.{fresh, image_line}
+use Rattle.vx_script.specs.Places.{image_place, label_place}
 use Rattle.vx_script.specs.Statements.{stmt_of}
-use Rattle.vx_script.specs.Resolving.{label_place}
 use Rattle.vx_script.specs.Reading.{with_stmt, with_label, labelled}
 use Rattle.vx_script.specs.declared.draft.DraftImage.{DraftImage}
 use Rattle.vx_script.specs.declared.draft.DraftLine.{DraftLine}

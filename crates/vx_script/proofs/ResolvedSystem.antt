@@ -5,15 +5,17 @@ use Rattle.std.proofs.lemmas.Bool.{and_parts, and_from}
 use Rattle.vx_image.specs.declared.decl.ProcDecl.{ProcDecl}
 use Rattle.vx_image.specs.declared.image.Image.{Image}
 use Rattle.vx_image.specs.declared.unit.UnitDecl.{UnitDecl}
-use Rattle.vx_image.specs.WellFormed.{IsWellFormed, are_distinct, rises_above, is_unit, is_image, is_decl, decl_names}
-use Rattle.vx_script.specs.Declarations.{image_place, decl_place}
-use Rattle.vx_script.specs.Resolving.{names_no_decl, unknown_creation, names_no_image, unknown_image, names_no_line_unit, unknown_input, unknown_fault, first_unknown, earlier, place_or_zero, rising, inputs_of, numbers_of, unit_of, decl_of, system_of}
+use Rattle.vx_image.specs.declared.system.System.{System}
+use Rattle.vx_image.specs.WellFormed.{are_distinct, rises_above, is_unit, is_decl, decl_names}
+use Rattle.vx_script.specs.Declarations.{decl_place}
+use Rattle.vx_script.specs.Places.{image_place, rising}
+use Rattle.vx_script.specs.Resolving.{names_no_decl, unknown_creation, names_no_image, unknown_image, names_no_line_unit, unknown_input, unknown_fault, first_unknown, earlier, place_or_zero, inputs_of, numbers_of, unit_of, decl_of, system_of}
 use Rattle.vx_script.specs.declared.lines.Creation.{Creation}
 use Rattle.vx_script.specs.declared.lines.DeclLine.{DeclLine}
 use Rattle.vx_script.specs.declared.lines.InputLine.{InputLine}
 use Rattle.vx_script.specs.declared.parts.Parts.{Parts}
 use Rattle.vx_script.proofs.Appended.{all_weaker, unfound, none_from, as_many}
-use Rattle.vx_script.proofs.EndedImages.{is_known, neither}
+use Rattle.vx_script.proofs.EndedImages.{is_formed, is_known, neither}
 use Rattle.vx_script.proofs.FaultLines.{faults_rise, faults_within}
 use Rattle.vx_script.proofs.InputLines.{no_block_lines, lines_are}
 use Rattle.vx_script.proofs.KeptParts.{AreParts}
@@ -75,7 +77,19 @@ units_are p (u ∷ us) h few lines =
 
 -- The system.
 
-pub well_formed : (p : Parts) → AreParts p → first_unknown p ≡ None → IsWellFormed (system_of p)
+-- well formed, but for the numbers of labels
+pub record IsFormed (s : System) : Type 0 where
+  pub few_units : nat_le (length s.units) 32 ≡ true
+  pub few_images : nat_le (length s.images) 256 ≡ true
+  pub few_decls : nat_le (length s.decls) 1000 ≡ true
+  pub unit_names : are_distinct (map (λ u. u.name) s.units) ≡ true
+  pub image_names : are_distinct (map (λ i. i.name) s.images) ≡ true
+  pub process_names : are_distinct (decl_names s) ≡ true
+  pub units : list_all is_unit s.units ≡ true
+  pub images : list_all (is_formed (decl_names s)) s.images ≡ true
+  pub decls : list_all (is_decl (length s.images)) s.decls ≡ true
+
+pub well_formed : (p : Parts) → AreParts p → first_unknown p ≡ None → IsFormed (system_of p)
 well_formed p h e =
     let labels = neither p.unlabelled (earlier (unknown_creation p) (earlier (unknown_image p) (earlier (unknown_input p) (unknown_fault p)))) e in
     let made = neither (unknown_creation p) (earlier (unknown_image p) (earlier (unknown_input p) (unknown_fault p))) labels.1 in
@@ -96,6 +110,6 @@ well_formed p h e =
       image_names = h.images.names;
       process_names = ap are_distinct names ∙ h.decls.names;
       units = units_are p p.units h h.units.blocks (no_block_lines p.units p.inputs h.units.names inputs);
-      images = ap (λ (ds : List (List ℕ)). list_all (is_image ds) p.images) names ∙ h.images.formed (map (λ (d : DeclLine). d.name) p.decls) labels.0 known;
+      images = ap (λ (ds : List (List ℕ)). list_all (is_formed ds) p.images) names ∙ h.images.formed (map (λ (d : DeclLine). d.name) p.decls) labels.0 known;
       decls = decls_are p.images p.decls h.decls.in_range images;
     }

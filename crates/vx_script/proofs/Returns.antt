@@ -1,6 +1,6 @@
 -- A return at the end of a line.
 use Rattle.std.proofs.Common.{◌≡◌, ℕ, ◌==◌, Bool, true, false, ◌∙◌, List, [], ◌∷◌, ◌++◌, refl, ap, if◌then◌else◌}
-use Rattle.vx_script.specs.Lines.{without_return}
+use Rattle.vx_script.specs.Steps.{without_return}
 
 onto : (b : ℕ) (front : List ℕ) (last : ℕ) → without_return (b ∷ (front ++ last ∷ [])) ≡ b ∷ without_return (front ++ last ∷ [])
 onto b [] last = refl

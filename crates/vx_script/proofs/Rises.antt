@@ -5,7 +5,7 @@ use Rattle.std.specs.List.{sum_by}
 use Rattle.std.specs.List.Sorted.{IsPermutation, IsNonDecreasing}
 use Rattle.std.proofs.lemmas.List.Sums.{sum_by-cons}
 use Rattle.std.proofs.lemmas.List.Sorted.{sum_by-IsPermutation}
-use Rattle.vx_script.specs.Resolving.{in_place, rising}
+use Rattle.vx_script.specs.Places.{in_place, rising}
 
 -- how often a number stands
 one_of : ℕ → ℕ → ℕ

@@ -5,8 +5,9 @@ use Rattle.std.proofs.lemmas.Bool.{le-leb}
 use Rattle.vx_image.specs.declared.unit.UnitDecl.{UnitDecl}
 use Rattle.vx_image.specs.WellFormed.{is_among, are_distinct}
 use Rattle.vx_text.specs.declared.token.Tok.{Tok}
-use Rattle.vx_script.specs.Fields.{end_at, name_at, number_at}
-use Rattle.vx_script.specs.Declarations.{unit_place, fresh, room_for, device_at, blocks_of, unit_line}
+use Rattle.vx_script.specs.Fields.{end_at, name_at, number_at, room_for, device_at, blocks_of}
+use Rattle.vx_script.specs.Declarations.{fresh, unit_line}
+use Rattle.vx_script.specs.Places.{unit_place}
 use Rattle.vx_script.specs.declared.declaration.Device.{Device}
 use Rattle.vx_script.specs.declared.declaration.Device.TheVariants as device
 use Rattle.vx_script.proofs.Appended.{all_push, map_push, few_push, distinct_push}

@@ -1,12 +1,12 @@
 -- The lines that stand in no image. The tokens are those behind the line's word; SIZE is tested last.
-use Rattle.std.specs.Prelude.{ℕ, ◌==◌, ◌&&◌, Bool, nat_lt, List, [], ◌∷◌, length, drop, codes, Option, Some, None, position, Result, Ok, Err, bytes_eq, if◌then◌else◌}
-use Rattle.std.specs.List.{find, list_any}
+use Rattle.std.specs.Prelude.{ℕ, ◌==◌, ◌&&◌, Bool, List, [], length, drop, Option, Some, None, position, Result, Ok, Err, bytes_eq, if◌then◌else◌}
+use Rattle.std.specs.List.{list_any}
 use Rattle.vx_image.specs.declared.image.Image.{Image}
 use Rattle.vx_image.specs.declared.unit.UnitDecl.{UnitDecl}
 use Rattle.vx_text.specs.declared.token.Tok.{Tok}
-use Rattle.vx_text.specs.declared.token.Tok.TheVariants as tok
-use Rattle.vx_script.specs.Results.{◌>>=◌, given}
-use Rattle.vx_script.specs.Fields.{first_of, end_at, when, name_at, number_at, text_at}
+use Rattle.vx_script.specs.Results.{◌>>=◌}
+use Rattle.vx_script.specs.Fields.{end_at, name_at, number_at, text_at, device_at, blocks_of, room_for}
+use Rattle.vx_script.specs.Places.{unit_place, image_place}
 use Rattle.vx_script.specs.Keys.{no_keys, keys_from}
 use Rattle.vx_script.specs.declared.draft.DraftImage.{DraftImage}
 use Rattle.vx_script.specs.declared.fault.FaultKind.{FaultKind}
@@ -14,16 +14,6 @@ use Rattle.vx_script.specs.declared.fault.FaultKind.TheVariants as kind
 use Rattle.vx_script.specs.declared.lines.DeclLine.{DeclLine}
 use Rattle.vx_script.specs.declared.lines.FaultLine.{FaultLine}
 use Rattle.vx_script.specs.declared.lines.InputLine.{InputLine}
-use Rattle.vx_script.specs.declared.declaration.Device.{Device}
-use Rattle.vx_script.specs.declared.declaration.Device.TheVariants as device
-
--- Where a name stands among those of its kind.
-
-abbrev pub unit_place : List ℕ → List UnitDecl → Option ℕ
-unit_place name units = position (λ u. bytes_eq name u.name) units
-
-abbrev pub image_place : List ℕ → List Image → Option ℕ
-image_place name images = position (λ i. bytes_eq name i.name) images
 
 abbrev pub decl_place : List ℕ → List DeclLine → Option ℕ
 decl_place name decls = position (λ d. bytes_eq name d.name) decls
@@ -33,33 +23,7 @@ abbrev pub fresh : Option ℕ → List ℕ → Result (List ℕ) FaultKind
 fresh None name = Ok name
 fresh (Some place) name = Err kind.Twice
 
--- fewer than so many are there
-abbrev pub room_for : ℕ → ℕ → Result (Unit {0}) FaultKind
-room_for most count = when (nat_lt count most) kind.Size
-
 -- UNIT name LINE, and UNIT name BLOCK n
-
-abbrev pub device_name : Device → List ℕ
-device_name device.Line = codes "LINE"
-device_name device.Block = codes "BLOCK"
-
-abbrev pub device_word : List ℕ → Option Device
-device_word word = find (λ d. bytes_eq word (device_name d)) (device.Line ∷ device.Block ∷ [])
-
-abbrev pub device_in : Tok → Option Device
-device_in (tok.Word word) = device_word word
-device_in _ = None
-
-abbrev pub device_at : List Tok → Result Device FaultKind
-device_at tokens = first_of tokens >>= λ t. given kind.Word (device_in t)
-
-abbrev pub block_count : List Tok → Result ℕ FaultKind
-block_count tokens = number_at 1 4096 tokens >>= λ n. end_at (drop 1 tokens) >>= λ _. Ok n
-
--- a line unit has no blocks
-abbrev pub blocks_of : Device → List Tok → Result ℕ FaultKind
-blocks_of device.Line tokens = end_at tokens >>= λ _. Ok 0
-blocks_of device.Block tokens = block_count tokens
 
 unfoldable pub unit_line : List UnitDecl → List Tok → Result UnitDecl FaultKind
 unit_line units tokens = do

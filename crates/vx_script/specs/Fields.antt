@@ -1,11 +1,17 @@
 -- The fields of a line, from the left. Each is the first of the tokens that are left; where none is left it is missing.
-use Rattle.std.specs.Prelude.{ℕ, ◌==◌, ◌&&◌, Bool, true, false, nat_le, List, [], ◌∷◌, length, Result, Ok, Err, bytes_eq, if◌then◌else◌}
+use Rattle.std.specs.Prelude.{ℕ, ◌==◌, ◌&&◌, Bool, true, false, nat_le, nat_lt, List, [], ◌∷◌, length, drop, codes, Option, None, Result, Ok, Err, bytes_eq, if◌then◌else◌}
+use Rattle.std.specs.List.{find}
 use Rattle.vx_base.specs.declared.call.Operand.{Operand}
 use Rattle.vx_base.specs.declared.call.Target.{Target}
+use Rattle.vx_text.specs.declared.token.LexFail.{LexFail}
+use Rattle.vx_text.specs.declared.token.LexFail.TheVariants as lex_fail
+use Rattle.vx_text.specs.declared.token.Token.{Token}
 use Rattle.vx_text.specs.declared.token.Tok.{Tok}
 use Rattle.vx_text.specs.declared.token.Tok.TheVariants as tok
-use Rattle.vx_table.specs.Reading.{operand_of, target_word}
+use Rattle.vx_table.specs.Reading.{toks, operand_of, target_word}
 use Rattle.vx_script.specs.Results.{◌>>=◌, given}
+use Rattle.vx_script.specs.declared.declaration.Device.{Device}
+use Rattle.vx_script.specs.declared.declaration.Device.TheVariants as device
 use Rattle.vx_script.specs.declared.fault.FaultKind.{FaultKind}
 use Rattle.vx_script.specs.declared.fault.FaultKind.TheVariants as kind
 
@@ -89,3 +95,46 @@ target_in _ = Err kind.Name
 
 abbrev pub target_at : List Tok → Result Target FaultKind
 target_at tokens = first_of tokens >>= target_in
+
+-- LINE, or BLOCK and a number of blocks.
+
+abbrev pub device_name : Device → List ℕ
+device_name device.Line = codes "LINE"
+device_name device.Block = codes "BLOCK"
+
+abbrev pub device_word : List ℕ → Option Device
+device_word word = find (λ d. bytes_eq word (device_name d)) (device.Line ∷ device.Block ∷ [])
+
+abbrev pub device_in : Tok → Option Device
+device_in (tok.Word word) = device_word word
+device_in _ = None
+
+abbrev pub device_at : List Tok → Result Device FaultKind
+device_at tokens = first_of tokens >>= λ t. given kind.Word (device_in t)
+
+abbrev pub block_count : List Tok → Result ℕ FaultKind
+block_count tokens = number_at 1 4096 tokens >>= λ n. end_at (drop 1 tokens) >>= λ _. Ok n
+
+-- a line unit has no blocks
+abbrev pub blocks_of : Device → List Tok → Result ℕ FaultKind
+blocks_of device.Line tokens = end_at tokens >>= λ _. Ok 0
+blocks_of device.Block tokens = block_count tokens
+
+-- Bounds.
+
+-- fewer than so many are there
+abbrev pub room_for : ℕ → ℕ → Result (Unit {0}) FaultKind
+room_for most count = when (nat_lt count most) kind.Size
+
+-- The tokens of a line, or the kind of their fault.
+
+abbrev pub kind_of : LexFail → FaultKind
+kind_of lex_fail.Byte = kind.Byte
+kind_of lex_fail.Quote = kind.Quote
+kind_of lex_fail.Number = kind.Number
+kind_of lex_fail.Name = kind.Name
+kind_of lex_fail.NoMemory = kind.Byte
+
+abbrev pub with_kind : Result (List Token) LexFail → Result (List Tok) FaultKind
+with_kind (Ok tokens) = Ok (toks tokens)
+with_kind (Err e) = Err (kind_of e)

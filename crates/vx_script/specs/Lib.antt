@@ -1,9 +1,11 @@
 pub mod Results
 pub mod Lines
 pub mod Fields
+pub mod Places
 pub mod Statements
 pub mod Keys
 pub mod Declarations
 pub mod Resolving
 pub mod Reading
+pub mod Steps
 pub mod Script

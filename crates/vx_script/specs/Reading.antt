@@ -1,24 +1,19 @@
 -- A script, line by line.
 use Rattle.std.specs.Prelude.{ℕ, ◌+◌, List, [], ◌∷◌, ◌++◌, length, drop, codes, Option, Some, None, Result, Ok, Err, bytes_eq, if◌then◌else◌}
 use Rattle.vx_image.specs.declared.system.System.{System}
-use Rattle.vx_text.specs.declared.token.Token.{Token}
 use Rattle.vx_text.specs.declared.token.Tok.{Tok}
 use Rattle.vx_text.specs.declared.token.Tok.TheVariants as tok
-use Rattle.vx_text.specs.declared.token.LexFail.{LexFail}
-use Rattle.vx_text.specs.declared.token.LexFail.TheVariants as lex_fail
 use Rattle.vx_text.specs.Lex.{lex}
-use Rattle.vx_table.specs.Reading.{toks}
 use Rattle.vx_script.specs.Results.{◌>>=◌, at_line}
 use Rattle.vx_script.specs.Lines.{lines_of}
-use Rattle.vx_script.specs.Fields.{begins_with_sign, end_at}
+use Rattle.vx_script.specs.Fields.{begins_with_sign, end_at, room_for, with_kind}
 use Rattle.vx_script.specs.Statements.{stmt_of}
-use Rattle.vx_script.specs.Declarations.{fresh, room_for, unit_line, input_line, fault_line, image_line, process_line}
-use Rattle.vx_script.specs.Resolving.{label_place, with_image, resolve}
+use Rattle.vx_script.specs.Declarations.{fresh, unit_line, input_line, fault_line, image_line, process_line}
+use Rattle.vx_script.specs.Places.{label_place}
+use Rattle.vx_script.specs.Resolving.{with_image, resolve}
 use Rattle.vx_script.specs.declared.draft.DraftImage.{DraftImage}
 use Rattle.vx_script.specs.declared.fault.FaultKind.{FaultKind}
 use Rattle.vx_script.specs.declared.fault.FaultKind.TheVariants as kind
-use Rattle.vx_script.specs.declared.fault.LineFail.{LineFail}
-use Rattle.vx_script.specs.declared.fault.LineFail.TheVariants as fail
 use Rattle.vx_script.specs.declared.fault.ScriptFault.{ScriptFault}
 use Rattle.vx_script.specs.declared.parts.Parts.{Parts}
 use Rattle.vx_script.specs.declared.parts.Reading.{Reading}
@@ -107,23 +102,6 @@ by_place line parts (Some image) tokens = inside line parts image tokens
 
 abbrev pub accepted : ℕ → Reading → List Tok → Result Reading FaultKind
 accepted line r tokens = by_place line r.parts r.current tokens
-
--- the kind of a fault of tokens, which come first
-abbrev pub kind_of : LexFail → FaultKind
-kind_of lex_fail.Byte = kind.Byte
-kind_of lex_fail.Quote = kind.Quote
-kind_of lex_fail.Number = kind.Number
-kind_of lex_fail.Name = kind.Name
-kind_of lex_fail.NoMemory = kind.Byte
-
--- the same, with want of memory apart
-abbrev pub line_fail : LexFail → LineFail
-line_fail lex_fail.NoMemory = fail.NoMemory
-line_fail e = fail.Fault (kind_of e)
-
-abbrev pub with_kind : Result (List Token) LexFail → Result (List Tok) FaultKind
-with_kind (Ok tokens) = Ok (toks tokens)
-with_kind (Err e) = Err (kind_of e)
 
 unfoldable pub take_line : ℕ → Reading → List ℕ → Result Reading FaultKind
 take_line line r text = with_kind (lex text) >>= accepted line r

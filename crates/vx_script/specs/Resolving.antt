@@ -1,5 +1,5 @@
 -- The second pass: what the lines name is looked up, and the system is put together.
-use Rattle.std.specs.Prelude.{ℕ, ◌==◌, ◌&&◌, not, Bool, true, false, nat_lt, nat_le, List, [], ◌∷◌, ◌++◌, map, flat_map, Option, Some, None, is_some, is_none, option_map, position, Result, Ok, Err, bytes_eq, if◌then◌else◌}
+use Rattle.std.specs.Prelude.{ℕ, not, Bool, true, false, nat_le, List, [], ◌∷◌, ◌++◌, map, flat_map, Option, Some, None, is_some, is_none, option_map, Result, Ok, Err, bytes_eq, if◌then◌else◌}
 use Rattle.std.specs.List.{find, list_any}
 use Rattle.vx_base.specs.Services.{args_list}
 use Rattle.vx_base.specs.declared.call.Arg.{Arg}
@@ -15,7 +15,8 @@ use Rattle.vx_image.specs.declared.stmt.Stmt.{Stmt}
 use Rattle.vx_image.specs.declared.stmt.Stmt.TheVariants as stmt
 use Rattle.vx_image.specs.declared.system.System.{System}
 use Rattle.vx_image.specs.declared.unit.UnitDecl.{UnitDecl}
-use Rattle.vx_script.specs.Declarations.{unit_place, image_place, decl_place}
+use Rattle.vx_script.specs.Declarations.{decl_place}
+use Rattle.vx_script.specs.Places.{unit_place, image_place, label_place, is_line_unit, rising}
 use Rattle.vx_script.specs.Keys.{or, first_uic, limits_of, no_privs}
 use Rattle.vx_script.specs.declared.draft.Draft.{Draft}
 use Rattle.vx_script.specs.declared.draft.Draft.TheVariants as draft
@@ -30,9 +31,6 @@ use Rattle.vx_script.specs.declared.lines.InputLine.{InputLine}
 use Rattle.vx_script.specs.declared.parts.Parts.{Parts}
 
 -- Labels of an image.
-
-abbrev pub label_place : List ℕ → List Label → Option ℕ
-label_place name labels = position (λ l. bytes_eq name l.name) labels
 
 abbrev pub is_label : List Label → List ℕ → Bool
 is_label labels name = is_some (label_place name labels)
@@ -118,9 +116,6 @@ names_no_image images d = is_none (image_place d.image images)
 abbrev pub unknown_image : Parts → Option ℕ
 unknown_image parts = option_map (λ d. d.line) (find (names_no_image parts.images) parts.decls)
 
-abbrev pub is_line_unit : List ℕ → UnitDecl → Bool
-is_line_unit name u = bytes_eq name u.name && (u.blocks == 0)
-
 abbrev pub names_no_line_unit : List UnitDecl → InputLine → Bool
 names_no_line_unit units i = not (list_any (is_line_unit i.unit) units)
 
@@ -138,15 +133,6 @@ abbrev pub first_unknown : Parts → Option ℕ
 first_unknown parts = earlier parts.unlabelled (earlier (unknown_creation parts) (earlier (unknown_image parts) (earlier (unknown_input parts) (unknown_fault parts))))
 
 -- The system.
-
--- a number in its place among rising ones
-abbrev pub in_place : ℕ → List ℕ → List ℕ
-in_place n [] = n ∷ []
-in_place n (m ∷ ms) = if nat_lt n m then n ∷ m ∷ ms else m ∷ in_place n ms
-
-abbrev pub rising : List ℕ → List ℕ
-rising [] = []
-rising (n ∷ ns) = in_place n (rising ns)
 
 -- a unit's input lines, in order
 

@@ -1,8 +1,6 @@
 -- Readings that may fail, and what a function says that returns one.
 use Rattle.std.specs.Prelude.{◌≡◌, ℕ, Option, Some, None, Result, Ok, Err}
 use Rattle.vx_script.specs.declared.fault.FaultKind.{FaultKind}
-use Rattle.vx_script.specs.declared.fault.LineFail.{LineFail}
-use Rattle.vx_script.specs.declared.fault.LineFail.TheVariants as line_fail
 use Rattle.vx_script.specs.declared.fault.ScriptFail.{ScriptFail}
 use Rattle.vx_script.specs.declared.fault.ScriptFail.TheVariants as fail
 use Rattle.vx_script.specs.declared.fault.ScriptFault.{ScriptFault}
@@ -17,16 +15,6 @@ abbrev pub ◌>>=◌ : {A B E : Type 0} → Result A E → (A → Result B E) �
 abbrev pub given : {A : Type 0} → FaultKind → Option A → Result A FaultKind
 given kind (Some x) = Ok x
 given kind None = Err kind
-
--- What a function of a line returned is what reading gives, unless memory ran out.
-
-abbrev pub LineFails : {Y : Type 0} → LineFail → Result Y FaultKind → Type 0
-LineFails line_fail.NoMemory read = Unit {0}
-LineFails (line_fail.Fault kind) read = read ≡ Err kind
-
-abbrev pub ReadsLine : {X : Type 0} → Result X LineFail → Result X FaultKind → Type 0
-ReadsLine (Ok x) read = read ≡ Ok x
-ReadsLine (Err e) read = LineFails e read
 
 -- What a function of a script returned is what reading gives, unless memory ran out.
 

@@ -3,7 +3,8 @@
 ghost use Rattle.std.specs.Prelude.{◌≡◌};
 ghost use Rattle.vx_table.specs.Reading.{toks};
 ghost use Rattle.vx_script.specs.Declarations as spec;
-ghost use Rattle.vx_script.specs.Results.{ReadsLine};
+ghost use Rattle.vx_script.specs.Fields as field;
+ghost use Rattle.vx_script.specs.Steps.{ReadsLine};
 
 use crate::draft::{DraftImage, DraftLines};
 use crate::fault::{FaultKind, LineFail};
@@ -41,7 +42,7 @@ pub fn fresh(place: Option<u32>, name: Name) -> Result<Name, FaultKind>
 
 /// Fewer than so many are there.
 pub fn room_for(most: usize, count: usize) -> Result<(), FaultKind>
-    ensures { result ≡ spec.room_for most count }
+    ensures { result ≡ field.room_for most count }
 {
     if count < most {
         Ok(())
@@ -51,7 +52,7 @@ pub fn room_for(most: usize, count: usize) -> Result<(), FaultKind>
 }
 
 fn device_word(word: &[u8]) -> Option<Device>
-    ensures { result ≡ spec.device_word word.now }
+    ensures { result ≡ field.device_word word.now }
 {
     if word == b"LINE".as_slice() {
         Some(Device::Line)
@@ -63,7 +64,7 @@ fn device_word(word: &[u8]) -> Option<Device>
 }
 
 fn device_in(tok: &Tok) -> Option<Device>
-    ensures { result ≡ spec.device_in tok.now }
+    ensures { result ≡ field.device_in tok.now }
 {
     match tok {
         Tok::Word(word) => device_word(word.text()),
@@ -72,7 +73,7 @@ fn device_in(tok: &Tok) -> Option<Device>
 }
 
 fn device_at(tokens: &[Token]) -> Result<Device, FaultKind>
-    ensures { result ≡ spec.device_at (toks tokens.now) }
+    ensures { result ≡ field.device_at (toks tokens.now) }
 {
     let [first, ..] = tokens else {
         return Err(FaultKind::Missing);
@@ -81,7 +82,7 @@ fn device_at(tokens: &[Token]) -> Result<Device, FaultKind>
 }
 
 fn block_count(tokens: &[Token]) -> Result<u32, FaultKind>
-    ensures { result ≡ spec.block_count (toks tokens.now) }
+    ensures { result ≡ field.block_count (toks tokens.now) }
 {
     let n = number_at(1, 4096, tokens)?;
     end_at(behind(tokens, 1))?;
@@ -90,7 +91,7 @@ fn block_count(tokens: &[Token]) -> Result<u32, FaultKind>
 
 // A line unit has no blocks.
 fn blocks_of(device: Device, tokens: &[Token]) -> Result<u32, FaultKind>
-    ensures { result ≡ spec.blocks_of device (toks tokens.now) }
+    ensures { result ≡ field.blocks_of device (toks tokens.now) }
 {
     match device {
         Device::Line => {

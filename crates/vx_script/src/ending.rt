@@ -3,6 +3,7 @@
 ghost use Rattle.std.specs.Prelude.{◌≡◌, ◌++◌, OnOk, IfOk, length, map, flat_map};
 ghost use Rattle.std.specs.List.{list_any};
 ghost use Rattle.vx_base.specs.Services.{args_list};
+ghost use Rattle.vx_script.specs.Places.{label_place};
 ghost use Rattle.vx_script.specs.Resolving as spec;
 
 use crate::draft::{Draft, DraftImage, DraftLine};
@@ -110,7 +111,7 @@ fn push_creations(lines: &[DraftLine], creations: &mut Sequence<Creation>) -> Re
 
 // Where a label stands; 0 where it is none, which is a fault.
 fn place_or_zero(labels: &Register<Label>, label: Name) -> u32
-    ensures { result ≡ spec.place_or_zero (spec.label_place label labels.now) }
+    ensures { result ≡ spec.place_or_zero (label_place label labels.now) }
 {
     match labels.place(label) {
         Some(place) => place,

@@ -4,7 +4,8 @@ ghost use Rattle.std.specs.Prelude.{◌≡◌, drop};
 ghost use Rattle.vx_table.specs.Reading.{toks};
 ghost use Rattle.vx_script.specs.Fields as spec;
 ghost use Rattle.vx_table.specs.Reading.{operand_of as the_operand_of};
-ghost use Rattle.vx_script.specs.Results.{given, ReadsLine};
+ghost use Rattle.vx_script.specs.Results.{given};
+ghost use Rattle.vx_script.specs.Steps.{ReadsLine};
 ghost use Rattle.vx_script.specs.declared.fault.FaultKind.TheVariants as kind;
 
 use crate::fault::{FaultKind, LineFail};

@@ -3,7 +3,7 @@
 ghost use Rattle.std.specs.Prelude.{◌≡◌, Ok};
 ghost use Rattle.vx_table.specs.Reading.{toks};
 ghost use Rattle.vx_script.specs.Reading as spec;
-ghost use Rattle.vx_script.specs.Results.{ReadsLine};
+ghost use Rattle.vx_script.specs.Steps.{ReadsLine};
 
 use crate::declaration::{fresh, room_for};
 use crate::draft::{DraftImage, DraftLine, MOST_STMTS};

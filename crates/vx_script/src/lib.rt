@@ -1,7 +1,7 @@
 //! Reads scripts, and prints them.
 //!
-//! `read_script` reads the whole grammar: what it answers is the system that the text spells, or the first faulty line and its
-//! fault, exactly as `specs/Reading.antt` says, which goes over the lines and their tokens.
+//! `parse_script` reads a text line by line, exactly as `specs/Reading.antt` does. That definition serves proofs alone:
+//! `vx_grammar::read_script` is the call for users, and its contract is the grammar.
 //! `print_script` writes the canonical script of any system, as `specs/Script.antt` has it line by line.
 #![tactic(auto)]
 
@@ -28,9 +28,4 @@ mod statement;
 
 pub use fault::{FaultKind, ScriptFail, ScriptFault};
 pub use print::print_script;
-pub use read::read_script;
-
-#[cfg(test)]
-mod print_tests;
-#[cfg(test)]
-mod tests;
+pub use read::parse_script;

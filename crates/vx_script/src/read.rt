@@ -1,11 +1,10 @@
 //! A script, line by line.
 
-ghost use Rattle.std.specs.Prelude.{◌≡◌, ◌+◌, ◌<◌, ◌≤◌, IfOk, length, drop};
-ghost use Rattle.vx_image.specs.WellFormed.{IsWellFormed};
+ghost use Rattle.std.specs.Prelude.{◌≡◌, ◌+◌, ◌<◌, ◌≤◌, length, drop};
 ghost use Rattle.vx_table.specs.Reading.{toks};
-ghost use Rattle.vx_script.specs.Lines.{line_len, first_line, without_return};
+ghost use Rattle.vx_script.specs.Steps.{ReadsLine, fail_of, first_line, line_len, without_return};
 ghost use Rattle.vx_script.specs.Reading as spec;
-ghost use Rattle.vx_script.specs.Results.{ReadsLine, ReadsScript, at_line};
+ghost use Rattle.vx_script.specs.Results.{ReadsScript, at_line};
 
 use crate::declaration::{fault_line, image_line, input_line, process_line, unit_line};
 use crate::fault::{FaultKind, LineFail, ScriptFail, ScriptFault};
@@ -126,7 +125,7 @@ fn accepted(
 }
 
 fn line_fail(fail: LexFail) -> LineFail
-    ensures { result ≡ spec.line_fail fail }
+    ensures { result ≡ fail_of fail }
 {
     match fail {
         LexFail::Byte => LineFail::Fault(FaultKind::Byte),
@@ -230,7 +229,8 @@ fn nothing_read(alloc: Global) -> Reading
     }
 }
 
-fn read_lines(alloc: Global, text: &[u8]) -> Result<System, ScriptFail>
+/// Reads a text line by line. `vx_grammar::read_script` is the call for users: its contract is the grammar.
+pub fn parse_script(alloc: Global, text: &[u8]) -> Result<System, ScriptFail>
     requires { length text.now < 4294967295 }
     ensures { ReadsScript result (spec.read_script text.now) }
 {
@@ -244,15 +244,4 @@ fn read_lines(alloc: Global, text: &[u8]) -> Result<System, ScriptFail>
         rest = bytes_behind(rest, len + 1);
     }
     closed(alloc, line, reading)
-}
-
-/// The system that a text spells, which is well formed, or the first line that is not of the grammar, and its fault. The text may
-/// be of any bytes.
-#[tactic(auto, using(crate::proofs::Accepted::if_read))]
-pub fn read_script(alloc: Global, text: &[u8]) -> Result<System, ScriptFail>
-    requires { length text.now < 4294967295 }
-    ensures reads { ReadsScript result (spec.read_script text.now) }
-    ensures well_formed { IfOk result (λ s. IsWellFormed s) }
-{
-    read_lines(alloc, text)
 }

@@ -4,7 +4,7 @@ ghost use Rattle.std.specs.Prelude.{◌≡◌, ◌++◌, OnOk, IfOk, map};
 ghost use Rattle.std.specs.List.{list_any};
 ghost use Rattle.vx_script.specs.Resolving as spec;
 ghost use Rattle.vx_script.specs.Keys as setting;
-ghost use Rattle.vx_script.specs.Declarations.{image_place};
+ghost use Rattle.vx_script.specs.Places.{image_place, is_line_unit, rising};
 ghost use Rattle.vx_script.specs.Results.{ReadsScript};
 
 use crate::ending::earlier;
@@ -43,13 +43,13 @@ fn unknown_image(parts: &Parts) -> Option<u32>
 }
 
 fn is_line_unit(name: Name, unit: &UnitDecl) -> bool
-    ensures { result ≡ spec.is_line_unit name unit.now }
+    ensures { result ≡ is_line_unit name unit.now }
 {
     name.text() == unit.name.text() && unit.blocks == 0
 }
 
 fn has_line_unit(units: &[UnitDecl], name: Name) -> bool
-    ensures { result ≡ list_any (spec.is_line_unit name) units.now }
+    ensures { result ≡ list_any (is_line_unit name) units.now }
 {
     units.iter().any(|unit| is_line_unit(name, unit))
 }
@@ -135,7 +135,7 @@ fn numbers_of(alloc: Global, name: Name, faults: &[FaultLine]) -> Result<Vec<u32
 }
 
 fn rising(mut numbers: Vec<u32>) -> Numbers
-    ensures { result ≡ spec.rising numbers.items }
+    ensures { result ≡ rising numbers.items }
 {
     numbers.sort_unstable();
     Numbers::from_vec(numbers)

@@ -1,7 +1,7 @@
 use Rattle.std.proofs.Common.{◌≡◌, ◌+◌, ◌≤◌, length}
 use Rattle.vx_script.specs.Lines.{lines_of}
 use Rattle.vx_script.specs.Reading as spec
-use Rattle.vx_script.proofs.read.read_lines.Given as goal
+use Rattle.vx_script.proofs.read.parse_script.Given as goal
 
 abbrev pub invariant-loop-rest : goal.invariant-loop-rest
 invariant-loop-rest l = record {

@@ -2,7 +2,7 @@ use Rattle.std.proofs.Common.{◌<◌, ◌∙◌, ap, arith, length-drop, length
 use Rattle.std.proofs.lemmas.Grind.{common_steps}
 use Rattle.std.proofs.lemmas.Result.{err_from_is_err_and}
 use Rattle.vx_script.proofs.Cutting.{after_line, stopped_line, no_line, begins}
-use Rattle.vx_script.proofs.read.read_lines.Goals as goal
+use Rattle.vx_script.proofs.read.parse_script.Goals as goal
 
 pub loop-rest-init : goal.loop-rest-init
 loop-rest-init c = record { one = omega arith; few = omega arith; same = rw c.nothing_read-reading.ensures (begins c.args.text.now) }

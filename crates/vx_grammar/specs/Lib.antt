@@ -1,0 +1,5 @@
+pub mod Grammar
+pub mod Declared
+pub mod LineFault
+pub mod UnknownName
+pub mod FirstFault

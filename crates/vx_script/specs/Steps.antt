@@ -1,0 +1,41 @@
+-- Words of the contracts of the reader's own functions: how it cuts a text, and what a function of a line returns. No public
+-- contract cites them.
+use Rattle.std.specs.Prelude.{◌≡◌, ℕ, ◌==◌, ◌&&◌, not, List, [], ◌∷◌, if◌then◌else◌, Result, Ok, Err}
+use Rattle.std.specs.List.{prefix_len}
+use Rattle.vx_text.specs.declared.token.LexFail.{LexFail}
+use Rattle.vx_text.specs.declared.token.LexFail.TheVariants as lex_fail
+use Rattle.vx_script.specs.Fields.{kind_of}
+use Rattle.vx_script.specs.Lines.{begins_with}
+use Rattle.vx_script.specs.declared.fault.FaultKind.{FaultKind}
+use Rattle.vx_script.specs.declared.fault.LineFail.{LineFail}
+use Rattle.vx_script.specs.declared.fault.LineFail.TheVariants as line_fail
+
+-- what stands before the first line feed, or before a return in front of it
+abbrev pub first_line : List ℕ → List ℕ
+first_line [] = []
+first_line (b ∷ bytes) = if b == 10 then [] else (if (b == 13) && begins_with 10 bytes then [] else b ∷ first_line bytes)
+
+-- how many bytes stand before the first line feed
+abbrev pub line_len : List ℕ → ℕ
+line_len text = prefix_len (λ b. not (b == 10)) text
+
+-- a line without a return at its end
+abbrev pub without_return : List ℕ → List ℕ
+without_return [] = []
+without_return (b ∷ []) = if b == 13 then [] else b ∷ []
+without_return (b ∷ c ∷ bytes) = b ∷ without_return (c ∷ bytes)
+
+-- a fault of tokens, with want of memory apart
+abbrev pub fail_of : LexFail → LineFail
+fail_of lex_fail.NoMemory = line_fail.NoMemory
+fail_of e = line_fail.Fault (kind_of e)
+
+-- What a function of a line returned is what reading gives, unless memory ran out.
+
+abbrev pub LineFails : {Y : Type 0} → LineFail → Result Y FaultKind → Type 0
+LineFails line_fail.NoMemory read = Unit {0}
+LineFails (line_fail.Fault kind) read = read ≡ Err kind
+
+abbrev pub ReadsLine : {X : Type 0} → Result X LineFail → Result X FaultKind → Type 0
+ReadsLine (Ok x) read = read ≡ Ok x
+ReadsLine (Err e) read = LineFails e read
