@@ -28,7 +28,7 @@ use Rattle.vx_record.specs.Mailboxes.{this_attention}
 use Rattle.vx_record.specs.Requests.{with_request, with_attention}
 use Rattle.vx_record.specs.Sound.{AreOrdered, request_id, timer_id, attention_id}
 use Rattle.vx_record.proofs.Lists.{either, all_weaker, all_append, all_less, all_amend, ordered_below, ordered_less, ordered_amend, ordered_more}
-use Rattle.vx_record.proofs.Moves.{Loose, IsAlarmMade, IsNew, IsNewAttention, IsNewTimer, Moves, none, skip, both, quiet, moved, bytes, var, status, enb, channel, newly, gone, leave, flag, clusters, open_ast, open_force, que, end_asts, open_handler, end_handler, end_handlers, enter, open_request, fin, mark, unit, mput, mget, mcut, box_opens, box_ends, box_marked, open_attention, attention_fires, end_attention, open_timer, open_wake, timer_fires, wake_fires, end_timer, time}
+use Rattle.vx_record.proofs.Moves.{Loose, IsAlarmMade, IsNew, IsNewAttention, IsNewTimer, MovesBy, none, skip, both, quiet, moved, bytes, var, status, enb, channel, newly, gone, leave, flag, clusters, open_ast, open_force, que, end_asts, open_handler, end_handler, end_handlers, enter, open_request, fin, mark, unit, mput, mget, mcut, box_opens, box_ends, box_marked, open_attention, attention_fires, end_attention, open_timer, open_wake, timer_fires, wake_fires, end_timer, time}
 
 pub record Base (s : State) : Type 0 where
   pub requests : AreOrdered request_id 0 s.next s.requests
@@ -175,7 +175,7 @@ each_of : {A : Type 0} (f : State → A → Part) → ((t : State) (x : A) → B
 each_of f k [] s h = record { base = h; more = omega arith }
 each_of f k (x ∷ xs) s h = let a = k s x h in kept_then s (f s x).after (each f xs (f s x).after).after a (each_of f k xs (f s x).after a.base)
 
-pub moves_keep : (s : State) (l : Option Loose) (es : List Effect) (t : State) (m : Option Loose) → Moves s l es t m → Base s → Kept s t
+pub moves_keep : {refs : Bool} (s : State) (l : Option Loose) (es : List Effect) (t : State) (m : Option Loose) → MovesBy refs s l es t m → Base s → Kept s t
 moves_keep s l es t m (none x a) h = record { base = h; more = omega arith }
 moves_keep s l es t m (skip x a k at) h = record { base = h; more = omega arith }
 moves_keep s l es t m (both x y z a b c fs gs i j) h =
@@ -187,21 +187,21 @@ moves_keep s l es t m (bytes x a p b more at) h = change_of x p (with_stored_byt
 moves_keep s l es t m (var x a p v n idle) h = change_of x p (with_variable v n) h
 moves_keep s l es t m (status x a p i st made at named) h = change_of x p (with_stored_status i st) h
 moves_keep s l es t m (enb x a p mode on made idle) h = change_of x p (with_delivery mode on) h
-moves_keep s l es t m (channel x a p n ch) h = change_of x p (with_channel n ch) h
-moves_keep s l es t m (newly x a p place idle) h = new_of x p place h
+moves_keep s l es t m (channel x a p n ch ok) h = change_of x p (with_channel n ch) h
+moves_keep s l es t m (newly x a p place idle ok) h = new_of x p place h
 moves_keep s l es t m (gone x a p idle) h = change_of x p (in_phase phase.Deleted) h
 moves_keep s l es t m (leave x a id idle) h = record { base = h; more = omega arith }
 moves_keep s l es t m (flag x a c on made at set_on) h = with_cell_of x c on h
-moves_keep s l es t m (clusters x a c k idle told) h = same_of x _ refl refl refl refl refl h
-moves_keep s l es t m (open_ast x p mode tag made) h = past_keeps x h
+moves_keep s l es t m (clusters x a c k idle told ok) h = same_of x _ refl refl refl refl refl h
+moves_keep s l es t m (open_ast x p mode tag made ok) h = past_keeps x h
 moves_keep s l es t m (open_force x p code made) h = past_keeps x h
 moves_keep s l es t m (que x p q stage made) h = change_of x p (with_queued q) h
 moves_keep s l es t m (end_asts x p mode made) h = each_of (drop_ast p) (λ y q k. change_of y p (without_ast q.id) k) (filter (is_ast_reached mode) (process_at x p).asts) x h
-moves_keep s l es t m (open_handler x p tag made) h = kept_then x (past_id x) _ (past_keeps x h) (change_of (past_id x) p (with_handler (new_handler x p tag)) (past_of x h))
+moves_keep s l es t m (open_handler x p tag made ok) h = kept_then x (past_id x) _ (past_keeps x h) (change_of (past_id x) p (with_handler (new_handler x p tag)) (past_of x h))
 moves_keep s l es t m (end_handler x p test d made is) h = change_of x p (without_handler d.id) h
 moves_keep s l es t m (end_handlers x p test made) h = each_of (drop_handler p) (λ y d k. change_of y p (without_handler d.id) k) (filter test (process_at x p).handlers) x h
-moves_keep s l es t m (enter x p f test d made is) h = change_of x p (entering f d.id) h
-moves_keep s l es t m (open_request x k p mode n r is new) h = record { base = more_request x p mode r new h; more = omega arith }
+moves_keep s l es t m (enter x p f test d made is ok) h = change_of x p (entering f d.id) h
+moves_keep s l es t m (open_request x k p mode n r is new ok) h = record { base = more_request x p mode r new h; more = omega arith }
 moves_keep s l es t m (fin x r c has) h = record {
   base = requests_of x (less (this_request r.req.id) x.requests) (ordered_less request_id (this_request r.req.id) 0 x.next x.requests h.requests) (all_less (λ (r : Request). IsProcess x r.req.p) (this_request r.req.id) x.requests h.request_owners) h;
   more = omega arith;
@@ -216,12 +216,12 @@ moves_keep s l es t m (mput x b d) h = same_of x _ refl refl refl refl refl h
 moves_keep s l es t m (mget x b d r) h = same_of x _ refl refl refl refl refl h
 moves_keep s l es t m (mcut x b w) h = same_of x _ refl refl refl refl refl h
 moves_keep s l es t m (box_opens x b box) h = same_of x _ refl refl refl refl refl h
-moves_keep s l es t m (box_ends x b) h = same_of x _ refl refl refl refl refl h
+moves_keep s l es t m (box_ends x b ok) h = same_of x _ refl refl refl refl refl h
 moves_keep s l es t m (box_marked x b box) h = same_of x _ refl refl refl refl refl h
-moves_keep s l es t m (open_attention x p mode a new at) h = record { base = more_attention x p a new h; more = omega arith }
+moves_keep s l es t m (open_attention x p mode a new at ok) h = record { base = more_attention x p a new h; more = omega arith }
 moves_keep s l es t m (attention_fires x a has) h = record { base = attention_less x (this_attention a.id) h; more = omega arith }
 moves_keep s l es t m (end_attention x a has) h = record { base = attention_less x (this_attention a.id) h; more = omega arith }
-moves_keep s l es t m (open_timer x p mode a efn reqid n tag new is at) h = record { base = more_timer x p a new h; more = omega arith }
+moves_keep s l es t m (open_timer x p mode a efn reqid n tag new is at ok) h = record { base = more_timer x p a new h; more = omega arith }
 moves_keep s l es t m (open_wake x p n a target new is) h = record { base = more_timer x p a new h; more = omega arith }
 moves_keep s l es t m (timer_fires x a has is) h = record { base = timers_less x (this_timer a.id) h; more = omega arith }
 moves_keep s l es t m (wake_fires x a target n has is) h = wake_of x a n h

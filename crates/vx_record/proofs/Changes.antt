@@ -1,5 +1,5 @@
 -- Changes of one process that keep references.
-use Rattle.std.proofs.Common.{◌≡◌, ℕ, ◌+◌, ◌-◌, ◌≤◌, List, [], ◌∷◌, Bool, false, nat_lt, length, Option, None, refl, sym, ap, ◌∙◌, arith}
+use Rattle.std.proofs.Common.{◌≡◌, ℕ, ◌-◌, ◌≤◌, List, [], ◌∷◌, Bool, false, nat_lt, length, Option, None, refl, sym, ap, ◌∙◌, arith}
 use Rattle.vx_base.specs.Pieces.{Queued, Handler, Status}
 use Rattle.vx_base.specs.declared.call.Target.{Target}
 use Rattle.vx_base.specs.declared.frame.Frame.{Frame}
@@ -11,14 +11,14 @@ use Rattle.vx_base.specs.declared.mode.Mode.{Mode}
 use Rattle.vx_base.specs.declared.number.Id.{Id}
 use Rattle.vx_base.specs.declared.number.Pid.{Pid}
 use Rattle.vx_image.specs.Storage.{Storage}
-use Rattle.vx_record.specs.State.{Process, State, IsProcess, process_at, change, top_mode, with_top}
+use Rattle.vx_record.specs.State.{Process, State, IsProcess, process_at, change, with_top}
 use Rattle.vx_record.specs.Flags.{with_local_flag, with_wait}
-use Rattle.vx_record.specs.Asts.{with_queued, with_delivery, with_frame}
+use Rattle.vx_record.specs.Asts.{with_queued, with_delivery}
 use Rattle.vx_record.specs.Finish.{with_stored_bytes, with_stored_status}
 use Rattle.vx_record.specs.Control.{with_wake, with_suspension}
-use Rattle.vx_record.specs.Rundown.{leaving, without_frames, with_handler, without_handler, leaving_deleted, named_for_deletion, in_phase, without_ast, entering}
+use Rattle.vx_record.specs.Rundown.{leaving, with_handler, without_handler, leaving_deleted, in_phase, without_ast, entering}
 use Rattle.vx_record.specs.Services.{with_variable}
-use Rattle.vx_record.specs.Events.{uses_wake, with_r0, moved_to, moved_behind, without_top, below_top, put_back}
+use Rattle.vx_record.specs.Events.{uses_wake, with_r0, moved_to, without_top, below_top, put_back}
 use Rattle.vx_record.specs.Sound.{ground, IsRoutine, IsRoutineOf, is_drained, IsIdle, ProcessStands, IsSound}
 use Rattle.vx_record.proofs.Lists.{either, all_append, all_less, all_at}
 use Rattle.vx_record.proofs.Ground.{Seat, Still, change_sound, change_still}
@@ -128,9 +128,6 @@ with_variable_quiet t n pr = same_frames pr _ refl refl refl refl refl refl
 pub moved_to_quiet : (store : Storage) (place : ℕ) (pr : Process) → Quiet pr (moved_to store place pr)
 moved_to_quiet store place pr = record { decl = refl; channels = refl; asts = refl; handlers = refl; phase = refl; idle = idle_top pr.phase (λ f. record f { pc = place }) pr.frames; down = λ e. ap (with_top (λ f. record f { pc = place })) e }
 
-pub moved_behind_quiet : (place : ℕ) (pr : Process) → Quiet pr (moved_behind place pr)
-moved_behind_quiet place pr = moved_to_quiet pr.store (place + 1) pr
-
 pub below_top_quiet : (pr : Process) → Quiet pr (below_top pr)
 below_top_quiet pr = record { decl = refl; channels = refl; asts = refl; handlers = refl; phase = refl; idle = idle_below pr.phase pr.frames; down = λ e. ap without_top e }
 
@@ -206,20 +203,6 @@ without_handler_still s p id h =
 
 -- Frames.
 
--- a process that drains nothing may get a frame
-pub with_frame_sound : (s : State) (p : Pid) (f : Frame) → IsIdle (process_at s p).phase (f ∷ (process_at s p).frames) → IsSound s → IsSound (change s p (with_frame f))
-with_frame_sound s p f i h =
-    let pr = process_at s p in
-    change_sound s p (with_frame f) (same_seat_of pr (with_frame f pr) refl refl refl)
-    (λ k. record {
-      decl = k.decl;
-      numbers = k.numbers;
-      channels = k.channels;
-      asts = k.asts;
-      handlers = k.handlers;
-      idle = i;
-    }) h
-
 pub entering_sound : (s : State) (p : Pid) (f : Frame) (id : Id) → IsIdle (process_at s p).phase (f ∷ (process_at s p).frames) → IsSound s → IsSound (change s p (entering f id))
 entering_sound s p f id i h =
     let pr = process_at s p in
@@ -233,43 +216,17 @@ entering_sound s p f id i h =
       idle = i;
     }) h
 
-leaving_going : (ph : Phase) (m n : Mode) → is_drained ph n ≡ false → is_drained (leaving ph m) n ≡ false
+pub leaving_going : (ph : Phase) (m n : Mode) → is_drained ph n ≡ false → is_drained (leaving ph m) n ≡ false
 leaving_going phase.Alive m n h = refl
 leaving_going (phase.Handlers k) m n h = h
 leaving_going (phase.Draining k) m n h = h
 leaving_going phase.Deleted m n h = h
 
-deleted_going : (ph : Phase) (n : Mode) → is_drained ph n ≡ false → is_drained (leaving_deleted ph) n ≡ false
+pub deleted_going : (ph : Phase) (n : Mode) → is_drained ph n ≡ false → is_drained (leaving_deleted ph) n ≡ false
 deleted_going phase.Alive n h = refl
 deleted_going (phase.Handlers k) n h = h
 deleted_going (phase.Draining k) n h = h
 deleted_going phase.Deleted n h = h
-
-pub without_frames_still : (s : State) (p : Pid) (code : ℕ) → IsSound s → Still s (change s p (without_frames code))
-without_frames_still s p code h =
-    let pr = process_at s p in
-    change_still s p (without_frames code) (record { decl = refl; channel = λ n ch e. e; going = leaving_going pr.phase (top_mode pr.frames) }) (λ e. refl)
-    (λ k. record {
-      decl = k.decl;
-      numbers = k.numbers;
-      channels = k.channels;
-      asts = k.asts;
-      handlers = k.handlers;
-      idle = idle_none (leaving pr.phase (top_mode pr.frames));
-    }) h
-
-pub named_for_deletion_still : (s : State) (p : Pid) → IsSound s → Still s (change s p named_for_deletion)
-named_for_deletion_still s p h =
-    let pr = process_at s p in
-    change_still s p named_for_deletion (record { decl = refl; channel = λ n ch e. e; going = deleted_going pr.phase }) (λ e. refl)
-    (λ k. record {
-      decl = k.decl;
-      numbers = k.numbers;
-      channels = k.channels;
-      asts = k.asts;
-      handlers = k.handlers;
-      idle = idle_none (leaving_deleted pr.phase);
-    }) h
 
 -- a phase that drains nothing
 pub in_phase_still : (s : State) (p : Pid) (ph : Phase) → ((m : Mode) → is_drained ph m ≡ false) → IsIdle ph (process_at s p).frames → IsSound s → Still s (change s p (in_phase ph))

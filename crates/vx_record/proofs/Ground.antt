@@ -1,11 +1,10 @@
 -- From one state to another: what was referred to is still there, so the facts on references still hold.
-use Rattle.std.proofs.Common.{◌≡◌, ℕ, zero, suc, ◌+◌, ◌-◌, ◌≤◌, List, [], ◌∷◌, false, length, Option, Some, None, Result, Ok, Err, IfSome, get_or, set, refl, ◌∙◌, arith}
+use Rattle.std.proofs.Common.{◌≡◌, ℕ, zero, suc, ◌+◌, ◌-◌, ◌≤◌, List, [], ◌∷◌, false, length, Option, Some, None, IfSome, get_or, set, refl, ◌∙◌, arith}
 use Rattle.std.proofs.Math.ListN.{length-set}
 use Rattle.std.specs.List.{AllByRecursion}
 use Rattle.vx_base.specs.Channels.{channel_at}
 use Rattle.vx_base.specs.Clusters.{Common}
 use Rattle.vx_base.specs.Pieces.{Channel, Request, Promised, Timer, Alarm, OfTimer, OfWake, Attention, Association, Mailbox, DeviceUnit, Queued, Handler}
-use Rattle.vx_base.specs.declared.cond.Cond.{Cond}
 use Rattle.vx_base.specs.declared.mode.Mode.{Mode}
 use Rattle.vx_base.specs.declared.number.BoxNo.{BoxNo}
 use Rattle.vx_base.specs.declared.number.Pid.{Pid}
@@ -15,7 +14,6 @@ use Rattle.vx_base.specs.declared.routine.Entry.{Entry}
 use Rattle.vx_base.specs.declared.routine.Entry.TheVariants as entry
 use Rattle.vx_image.specs.declared.system.System.{System}
 use Rattle.vx_record.specs.State.{Process, State, IsProcess, nobody, process_at, change, past_id}
-use Rattle.vx_record.specs.Parts.{Outcome, at_tested}
 use Rattle.vx_record.specs.Sound.{Ground, ground, IsMade, process_of, IsRoutine, IsRoutineOf, BoxStands, DeviceStands, ChannelStands, HasChannel, IsRooted, RequestStands, AlarmStands, TimerStands, is_drained, AttentionStands, ProcessStands, AssociationStands, AreOrdered, request_id, timer_id, attention_id, IsSound}
 use Rattle.vx_record.proofs.Lists.{all_weaker, all_set, ordered_below}
 
@@ -105,7 +103,7 @@ pub request_keeps : (g h : Ground) → Keeps g h → (r : Request) → RequestSt
 request_keeps g h k r f =
     request_moves g h k.base r (device_moves g h k.base.units k.box r.req.device) (rooted_keeps g h k r.req.p r.req.chan r.req.chan_mode r.req.device f.made) f
 
-alarm_moves : (g h : Ground) → Base g h → (p : Pid) (a : Alarm) → IsMade g p → AlarmStands g p a → AlarmStands h p a
+pub alarm_moves : (g h : Ground) → Base g h → (p : Pid) (a : Alarm) → IsMade g p → AlarmStands g p a → AlarmStands h p a
 alarm_moves g h k p (OfTimer efn reqid mode tag) m f = some_weaker (IsRoutineOf g p) (IsRoutineOf h p) (λ t e. routine_of_moves g h k p t m e) tag f
 alarm_moves g h k p (OfWake target repeat) m f = made_base g h k target f
 
@@ -281,7 +279,7 @@ at_set R k (x ∷ xs) zero (suc j) y d h = k (get_or xs j d)
 at_set R k (x ∷ xs) (suc i) zero y d h = k x
 at_set R k (x ∷ xs) (suc i) (suc j) y d h = at_set R k xs i j y d h
 
-change_keeps : (s : State) (p : Pid) (f : Process → Process) → Seat (process_at s p) (f (process_at s p)) → Keeps (ground s) (ground (change s p f))
+pub change_keeps : (s : State) (p : Pid) (f : Process → Process) → Seat (process_at s p) (f (process_at s p)) → Keeps (ground s) (ground (change s p f))
 change_keeps s p f k =
     let seat : (q : Pid) → Seat (process_at s q) (process_at (change s p f) q) = λ q. at_set Seat same_seat s.procs (p.0 - 1) (q.0 - 1) (f (process_at s p)) nobody k in
     record {
@@ -309,8 +307,3 @@ change_still s p f k none stands h = record {
   keeps = change_keeps s p f k;
   down = λ q m e. at_set (λ (x y : Process). x.frames ≡ [] → y.frames ≡ []) (λ x r. r) s.procs (p.0 - 1) (q.0 - 1) (f (process_at s p)) nobody none e;
 }
-
--- what is done with what a test found
-pub at_tested_sound : {A : Type 0} (s : State) (go : A → Outcome Cond) (r : Result A Cond) → ((x : A) → r ≡ Ok x → IsSound (go x).after) → IsSound s → IsSound (at_tested s go r).after
-at_tested_sound s go (Err c) f h = h
-at_tested_sound s go (Ok x) f h = f x refl
