@@ -128,6 +128,7 @@ use Rattle.vx_record.proofs.SoundCalls.{placed}
 use Rattle.vx_record.proofs.SoundChannels.{IsClear, is_on_box, free_row, is_some_box, named_stands, made_there}
 use Rattle.vx_record.proofs.SoundFlags.{associated_stands, dissociated_stands, marked_stands}
 use Rattle.vx_record.proofs.SoundRequests.{tested_channel}
+use Rattle.vx_record.specs.Sound.{WaitStands}
 use Rattle.vx_record.proofs.Base.{Base, made_more, moves_keep}
 use Rattle.vx_record.proofs.Finds.{other_id, find_less, find_amend, all_found, ordered_filter}
 
@@ -205,7 +206,7 @@ each_moves {A} key f P go keep low high (x ∷ xs) s o k h =
 
 -- a change of nothing that references are on is tame
 pub tamely : {refs : Bool} (s : State) (p : Pid) (f : Process → Process) → Quiet (process_at s p) (f (process_at s p)) → Answers refs s (IsTame s p f)
-tamely s p f q e h = calm f (record { going = λ m r. rw q.phase r; idle = λ r. rw q.phase (q.idle r) })
+tamely s p f q e h = calm f (record { going = λ m r. rw q.phase r; idle = λ r. rw q.phase (q.idle r); waits = q.waits })
 
 -- Flags.
 
@@ -241,18 +242,18 @@ at_named_moves s refuse go (Some c) f g k = g c k
 pub at_flag_moves : {refs : Bool} {A : Type 0} (s : State) (p : Pid) (efn : ℕ) (refuse : Cond → Outcome A) (go : Cell → Outcome A) → IsProcess s p → ((c : Cond) → OutcomeBy refs s (refuse c)) → ((c : Cell) → IsCellMade s c → OutcomeBy refs s (go c)) → OutcomeBy refs s (at_flag s p efn refuse go)
 at_flag_moves s p efn refuse go m f g = outcome_either s (nat_lt 127 efn) _ _ (f _) (at_named_moves s refuse go (cell s p efn) f g (cell_made s p efn m))
 
-pub waited : {refs : Bool} (s : State) (p : Pid) (w : Option Wait) → IsSilent refs s p (with_wait w)
-waited s p w = record { decl = refl; enables = refl; asts = refl; channels = refl; handlers = refl; low = refl; high = refl; statuses = refl; tame = tamely s p (with_wait w) (with_wait_quiet w (process_at s p)) }
+pub waited : {refs : Bool} (s : State) (p : Pid) (w : Option Wait) → (refs ≡ true → IfSome w WaitStands) → IsSilent refs s p (with_wait w)
+waited s p w k = record { decl = refl; enables = refl; asts = refl; channels = refl; handlers = refl; low = refl; high = refl; statuses = refl; tame = λ e h. tamely s p (with_wait w) (with_wait_quiet w (process_at s p) (k e)) e h }
 
-awaited_at_moves : {refs : Bool} (s : State) (p : Pid) (w : Wait) (o : Option Cond) → OutcomeBy refs s (awaited_at s p w o)
-awaited_at_moves s p w None = quiet s None p (with_wait (Some w)) (waited s p (Some w))
-awaited_at_moves s p w (Some c) = none s None
+awaited_at_moves : {refs : Bool} (s : State) (p : Pid) (w : Wait) (o : Option Cond) → (refs ≡ true → WaitStands w) → OutcomeBy refs s (awaited_at s p w o)
+awaited_at_moves s p w None k = quiet s None p (with_wait (Some w)) (waited s p (Some w) k)
+awaited_at_moves s p w (Some c) k = none s None
 
-pub awaited_moves : {refs : Bool} (s : State) (p : Pid) (w : Wait) → OutcomeBy refs s (awaited s p w)
-awaited_moves s p w = awaited_at_moves s p w (satisfied s p w)
+pub awaited_moves : {refs : Bool} (s : State) (p : Pid) (w : Wait) → (refs ≡ true → WaitStands w) → OutcomeBy refs s (awaited s p w)
+awaited_moves s p w k = awaited_at_moves s p w (satisfied s p w) k
 
-pub waits_moves : {refs : Bool} (s : State) (p : Pid) (efn : ℕ) (w : Wait) → IsProcess s p → OutcomeBy refs s (at_flag s p efn (refused_wait s) (waits_on s p w))
-waits_moves s p efn w m = at_flag_moves s p efn (refused_wait s) (waits_on s p w) m (λ c. none s None) (λ c k. awaited_moves s p w)
+pub waits_moves : {refs : Bool} (s : State) (p : Pid) (efn : ℕ) (w : Wait) → IsProcess s p → (refs ≡ true → WaitStands w) → OutcomeBy refs s (at_flag s p efn (refused_wait s) (waits_on s p w))
+waits_moves s p efn w m is = at_flag_moves s p efn (refused_wait s) (waits_on s p w) m (λ c. none s None) (λ c k. awaited_moves s p w is)
 
 -- Common clusters.
 
@@ -576,7 +577,7 @@ qio_moves s p q (Ok to) k fit h = accepted_moves s p q to.0 to.1 k.0 k.1 (fit to
 pub qiow_moves : {refs : Bool} (s : State) (p : Pid) (q : Asked) (r : Result (Cell × Channel) Cond) → CellOf s p q r → ((to : Cell × Channel) → r ≡ Ok to → refs ≡ true → IsFit s p q to.1) → Here s p → OutcomeBy refs s (qiow_tested s p q r)
 unfolding CellOf
 qiow_moves s p q (Err c) k fit h = none s None
-qiow_moves s p q (Ok to) k fit h = outcome_then s (accepted s p q to.0 to.1) (λ a. awaited a p (wait.Synch q.efn q.iosb)) h.base (accepted_moves s p q to.0 to.1 k.0 k.1 (fit to refl) h) (λ j. awaited_moves (accepted s p q to.0 to.1).after p (wait.Synch q.efn q.iosb))
+qiow_moves s p q (Ok to) k fit h = outcome_then s (accepted s p q to.0 to.1) (λ a. awaited a p (wait.Synch q.efn q.iosb)) h.base (accepted_moves s p q to.0 to.1 k.0 k.1 (fit to refl) h) (λ j. awaited_moves (accepted s p q to.0 to.1).after p (wait.Synch q.efn q.iosb) (λ e. (fit to refl e).iosb))
 
 -- what a test accepted
 pub cleared_after : {refs : Bool} (s : State) (p : Pid) (q : Asked) (to : Cell × Channel) → request_test s p q ≡ Ok to → Here s p → PartBy refs s (cleared_part s p q to.0)

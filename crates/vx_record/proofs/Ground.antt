@@ -128,6 +128,7 @@ process_moves g h e u k pr f = record {
   asts = all_weaker (λ (q : Queued). IsRoutine g.system pr.decl q.tag) (λ q. IsRoutine h.system pr.decl q.tag) (λ q r. routine_moves g.system h.system pr.decl pr.decl q.tag e refl r) pr.asts f.asts;
   handlers = all_weaker (λ (q : Handler). IsRoutine g.system pr.decl q.tag) (λ q. IsRoutine h.system pr.decl q.tag) (λ q r. routine_moves g.system h.system pr.decl pr.decl q.tag e refl r) pr.handlers f.handlers;
   idle = f.idle;
+  waits = f.waits;
 }
 
 pub association_moves : (n m : ℕ) (c : Common) → n ≤ m → (a : Association) → AssociationStands n c a → AssociationStands m c a
@@ -135,23 +136,17 @@ association_moves n m c k a f = record { made = record { above = f.made.above; w
 
 -- States.
 
--- a process without a frame gets none
-abbrev pub StaysDown : State → State → Type 0
-StaysDown s t = (p : Pid) → IsProcess s p → (process_at s p).frames ≡ [] → (process_at t p).frames ≡ []
-
 pub record Still (s t : State) : Type 0 where
   pub sound : IsSound t
   pub keeps : Keeps (ground s) (ground t)
-  pub down : StaysDown s t
 
 pub still : (s : State) → IsSound s → Still s s
-still s h = record { sound = h; keeps = keeps_all (ground s); down = λ p m e. e }
+still s h = record { sound = h; keeps = keeps_all (ground s) }
 
 pub still_then : {s t u : State} → Still s t → Still t u → Still s u
 still_then {s} {t} {u} a b = record {
   sound = b.sound;
   keeps = keeps_more (ground s) (ground t) (ground u) a.keeps b.keeps;
-  down = λ p m e. b.down p (made_keeps (ground s) (ground t) a.keeps p m) (a.down p m e);
 }
 
 -- other processes, mailboxes and units
@@ -176,7 +171,6 @@ moved s procs boxes units e k f h =
 pub requests_still : (s : State) (xs : List Request) → AllByRecursion (RequestStands (ground s)) xs → AreOrdered request_id 0 s.next xs → IsSound s → Still s (record s { requests = xs })
 requests_still s xs f o h = record {
   keeps = keeps_all (ground s);
-  down = λ p m e. e;
   sound = record {
     units = h.units;
     procs = h.procs;
@@ -193,7 +187,6 @@ requests_still s xs f o h = record {
 pub timers_still : (s : State) (xs : List Timer) → AllByRecursion (TimerStands (ground s)) xs → AreOrdered timer_id 0 s.next xs → IsSound s → Still s (record s { timers = xs })
 timers_still s xs f o h = record {
   keeps = keeps_all (ground s);
-  down = λ p m e. e;
   sound = record {
     units = h.units;
     procs = h.procs;
@@ -210,7 +203,6 @@ timers_still s xs f o h = record {
 pub attention_still : (s : State) (xs : List Attention) → AllByRecursion (AttentionStands (ground s)) xs → AreOrdered attention_id 0 s.next xs → IsSound s → Still s (record s { attention = xs })
 attention_still s xs f o h = record {
   keeps = keeps_all (ground s);
-  down = λ p m e. e;
   sound = record {
     units = h.units;
     procs = h.procs;
@@ -227,7 +219,6 @@ attention_still s xs f o h = record {
 pub common_still : (s : State) (c : Common) → AllByRecursion (AssociationStands (length s.procs) c) c.associations → IsSound s → Still s (record s { common = c })
 common_still s c f h = record {
   keeps = keeps_all (ground s);
-  down = λ p m e. e;
   sound = record {
     units = h.units;
     procs = h.procs;
@@ -244,7 +235,6 @@ common_still s c f h = record {
 pub later_still : (s : State) (time next : ℕ) → s.next ≤ next → IsSound s → Still s (record s { time = time; next = next })
 later_still s time next k h = record {
   keeps = keeps_all (ground s);
-  down = λ p m e. e;
   sound = record {
     units = h.units;
     procs = h.procs;
@@ -301,9 +291,8 @@ change_sound s p f k stands h =
     (all_weaker (ProcessStands (ground s)) (ProcessStands to) (process_moves (ground s) to refl refl (λ b e. e)) (change s p f).procs
     (all_set (ProcessStands (ground s)) s.procs (p.0 - 1) (f (process_at s p)) nobody stands h.procs)) h
 
-pub change_still : (s : State) (p : Pid) (f : Process → Process) → Seat (process_at s p) (f (process_at s p)) → ((process_at s p).frames ≡ [] → (f (process_at s p)).frames ≡ []) → (ProcessStands (ground s) (process_at s p) → ProcessStands (ground s) (f (process_at s p))) → IsSound s → Still s (change s p f)
-change_still s p f k none stands h = record {
+pub change_still : (s : State) (p : Pid) (f : Process → Process) → Seat (process_at s p) (f (process_at s p)) → (ProcessStands (ground s) (process_at s p) → ProcessStands (ground s) (f (process_at s p))) → IsSound s → Still s (change s p f)
+change_still s p f k stands h = record {
   sound = change_sound s p f k stands h;
   keeps = change_keeps s p f k;
-  down = λ q m e. at_set (λ (x y : Process). x.frames ≡ [] → y.frames ≡ []) (λ x r. r) s.procs (p.0 - 1) (q.0 - 1) (f (process_at s p)) nobody none e;
 }

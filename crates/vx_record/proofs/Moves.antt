@@ -1,7 +1,7 @@
 -- What the machine does, taken apart: each event is a sequence of moves, each with at most one effect. A law over runs is then
 -- one clause for each move, and says nothing of services.
 use Rattle.std.proofs.Common.{◌<◌, ◌≤◌, ◌≡◌, ℕ, List, [], ◌∷◌, ◌++◌, Bool, true, false, ◌==◌, Option, Some, None}
-use Rattle.std.specs.Prelude.{option_map, is_some, bytes_eq, length, if◌then◌else◌, ⊤}
+use Rattle.std.specs.Prelude.{IfSome, option_map, is_some, bytes_eq, length, if◌then◌else◌, ⊤}
 use Rattle.std.specs.List.{AllByRecursion, find}
 use Rattle.vx_base.specs.Clusters.{Change, Common, is_used, associated, dissociated, marked}
 use Rattle.vx_base.specs.Pieces.{Queued, Channel, Handler, Request, Promised, Timer, Alarm, OfTimer, OfWake, Attention, Mailbox, Status, DeviceUnit}
@@ -29,7 +29,7 @@ use Rattle.vx_base.specs.declared.frame.Phase.TheVariants as phase
 use Rattle.vx_record.specs.Cancel.{is_attention_on}
 use Rattle.vx_record.specs.Channels.{is_assigned}
 use Rattle.vx_record.specs.Rundown.{in_phase}
-use Rattle.vx_record.specs.Sound.{IsSound, ground, DeviceStands, IsRoutineOf, RequestStands, TimerStands, AttentionStands, AssociationStands, is_drained, IsIdle as Idles}
+use Rattle.vx_record.specs.Sound.{IsSound, ground, DeviceStands, IsRoutineOf, RequestStands, TimerStands, AttentionStands, AssociationStands, is_drained, IsIdle as Idles, WaitStands, WaitsStand}
 use Rattle.vx_record.proofs.SoundChannels.{IsClear}
 use Rattle.vx_record.specs.State.{Process, State, IsProcess, process_at, change, current, next_id, past_id, with_box}
 use Rattle.vx_record.specs.Parts.{Part, Outcome, commonly}
@@ -110,10 +110,12 @@ IsOfTimer (OfWake target repeat) = ⊥
 abbrev pub Answers : Bool → State → Type 0 → Type 0
 Answers refs s P = refs ≡ true → IsSound s → P
 
--- a change of a process in its place that references are not on: it drains no more, and where it drains it has no frame
+-- a change of a process in its place that references are not on: it drains no more, it has no frame where it drains, and its frames wait for
+-- status blocks that it has
 pub record IsCalm (x y : Process) : Type 0 where
   pub going : (m : Mode) → is_drained x.phase m ≡ false → is_drained y.phase m ≡ false
   pub idle : Idles x.phase x.frames → Idles y.phase y.frames
+  pub waits : WaitsStand x.frames → WaitsStand y.frames
 
 -- no attention entry is on a channel of these numbers
 abbrev pub AreUnattended : State → Pid → List ℕ → Type 0
@@ -257,7 +259,7 @@ pub data MovesBy (refs : Bool) : State → Option Loose → List Effect → Stat
   open_handler : (s : State) (p : Pid) (tag : Entry) → IsProcess s p → Answers refs s (IsRoutineOf (ground s) p tag) → MovesBy refs s None (effect.Open (next_id s) opened.Exh p (Some (current s p)) 0 ∷ []) (handler_declared s p tag).after None
   end_handler : (s : State) (p : Pid) (test : Handler → Bool) (h : Handler) → IsProcess s p → find test (process_at s p).handlers ≡ Some h → MovesBy refs s None (effect.Drop h.id ∷ []) (drop_handler p s h).after None
   end_handlers : (s : State) (p : Pid) (test : Handler → Bool) → IsProcess s p → MovesBy refs s None (drop_handlers s p test).effects (drop_handlers s p test).after None
-  enter : (s : State) (p : Pid) (f : Frame) (test : Handler → Bool) (h : Handler) → IsProcess s p → find test (process_at s p).handlers ≡ Some h → Answers refs s (Idles (process_at s p).phase (f ∷ (process_at s p).frames)) → MovesBy refs s None (effect.Enter h.id ∷ []) (change s p (entering f h.id)) None
+  enter : (s : State) (p : Pid) (f : Frame) (test : Handler → Bool) (h : Handler) → IsProcess s p → find test (process_at s p).handlers ≡ Some h → Answers refs s (Idles (process_at s p).phase (f ∷ (process_at s p).frames) × IfSome f.wait WaitStands) → MovesBy refs s None (effect.Enter h.id ∷ []) (change s p (entering f h.id)) None
   -- requests
   open_request : (s : State) (kind : Opened) (p : Pid) (mode : Option Mode) (n : ℕ) (r : Request) → IsOpenedAs s kind n r → IsNew s p mode r → Answers refs s (RequestStands (ground s) r) →
       MovesBy refs s None (effect.Open (next_id s) kind p mode n ∷ []) (with_request (past_id s) r) None

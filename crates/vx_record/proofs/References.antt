@@ -24,7 +24,7 @@ use Rattle.vx_record.specs.Services.{with_variable}
 use Rattle.vx_record.specs.Timers.{this_timer}
 use Rattle.vx_record.specs.Sound.{Ground, ground, IsMade, IsRoutineOf, RequestStands, TimerStands, AlarmStands, AttentionStands, ProcessStands, AssociationStands, is_drained, IsIdle as Idles, IsSound}
 use Rattle.vx_record.proofs.Lists.{all_weaker, all_both, all_append, all_set, all_find}
-use Rattle.vx_record.proofs.Ground.{Base, made_base, routine_of_moves, request_moves, timer_moves, process_moves, association_moves, Still, StaysDown, moved as with_procs, common_still, later_still, past_id_still, at_set, change_sound}
+use Rattle.vx_record.proofs.Ground.{Base, made_base, routine_of_moves, request_moves, timer_moves, process_moves, association_moves, Still, moved as with_procs, common_still, later_still, past_id_still, at_set, change_sound}
 use Rattle.vx_record.proofs.Changes.{quiet_still, with_queued_still, with_handler_still, without_handler_still, entering_sound, in_phase_still, moved_to_quiet, with_delivery_quiet, with_stored_bytes_quiet, with_stored_status_quiet, with_variable_quiet}
 use Rattle.vx_record.proofs.Fits.{field_same}
 use Rattle.vx_record.proofs.Moves.{Loose, passed, loosed, loosed_timer, IsAlarmMade, IsTame, calm, drains, IsSilent, IsRow, AreUnattended, MovesBy, none, skip, both, quiet, moved, bytes, var, status, enb, channel, newly, gone, leave, flag, clusters, open_ast, open_force, que, end_asts, open_handler, end_handler, end_handlers, enter, open_request, fin, mark, unit, mput, mget, mcut, box_opens, box_ends, box_marked, open_attention, attention_fires, end_attention, open_timer, open_wake, timer_fires, wake_fires, end_timer, time}
@@ -151,6 +151,7 @@ draining_sound s p m made bare left h =
             asts = e.asts;
             handlers = e.handlers;
             idle = idle;
+            waits = e.waits;
           }) h.procs);
       associations = all_weaker (AssociationStands (length s.procs) s.common) (AssociationStands (length t.procs) s.common) (association_moves (length s.procs) (length t.procs) s.common base.more) s.common.associations h.associations;
       requests = all_weaker (RequestStands g) (RequestStands to) (λ r e. request_moves g to base r (λ d. d) (draining_root s p r.req.p m r.req.chan r.req.chan_mode r.req.device) e) s.requests h.requests;
@@ -192,6 +193,7 @@ tame_sound s p f q (calm g c) h =
       asts = rw (q.asts, q.decl) k.asts;
       handlers = rw (q.handlers, q.decl) k.handlers;
       idle = c.idle k.idle;
+      waits = c.waits k.waits;
     }) h
 tame_sound s p f q (drains m made bare left) h = draining_sound s p m made bare left h
 
@@ -199,17 +201,12 @@ row_stands : (s : State) (p : Pid) (n : ℕ) (ch : Option Channel) → IsRow s p
 row_stands s p n None k h = freed_sound s p n k.0 k.1.0 k.1.1 h
 row_stands s p n (Some ch) k h = (assigned_still s p ch.device ch.mode n k.0 k.1 h).sound
 
--- a process that is there is as it was
-stays_down : (s : State) (pr : Process) → StaysDown s (record s { procs = s.procs ++ pr ∷ [] })
-stays_down s pr q m e = rw (get_or_append_left s.procs (pr ∷ []) nobody (q.0 - 1) (omega (arith, m.above, m.within))) e
-
 created_still : (s : State) (p : Pid) (place : ℕ) → place < length s.system.decls → IsSound s → Still s (record s { procs = s.procs ++ created s p place ∷ [] })
 created_still s p place k h =
     let pr = created s p place in
     let to = ground (record s { procs = s.procs ++ pr ∷ [] }) in
     record {
       keeps = more_keeps s pr;
-      down = stays_down s pr;
       sound = with_procs s (s.procs ++ pr ∷ []) s.boxes s.units refl (more_keeps s pr)
           (all_weaker (ProcessStands (ground s)) (ProcessStands to) (process_moves (ground s) to refl refl (λ b e. e)) (s.procs ++ pr ∷ [])
           (all_append (ProcessStands (ground s)) s.procs (pr ∷ []) h.procs (born_stands s place pr.group pr.member pr.privs _ k, tt))) h;
@@ -255,7 +252,7 @@ moves_stand s l es t m (end_asts x p mode made) h = nothing_loose _ (each_drop_a
 moves_stand s l es t m (open_handler x p tag made ok) h = let k = past_id_still x h.sound in nothing_loose _ (with_handler_still _ p (new_handler x p tag) (ok refl h.sound) k.sound).sound
 moves_stand s l es t m (end_handler x p test d made is) h = nothing_loose _ (without_handler_still x p d.id h.sound).sound
 moves_stand s l es t m (end_handlers x p test made) h = nothing_loose _ (each_drop_handler_still p (filter test (process_at x p).handlers) x h.sound).sound
-moves_stand s l es t m (enter x p f test d made is ok) h = nothing_loose _ (entering_sound x p f d.id (ok refl h.sound) h.sound)
+moves_stand s l es t m (enter x p f test d made is ok) h = nothing_loose _ (let k = ok refl h.sound in entering_sound x p f d.id k.0 k.1 h.sound)
 moves_stand s l es t m (open_request x k p mode n r is new ok) h = nothing_loose _ (with_request_still x r new.id (ok refl h.sound) h.sound).sound
 moves_stand s l es t m (fin x r c has) h = record { sound = (less_request_still x r.req.id h.sound).sound; loose = request_loose (ground x) r (all_find (RequestStands (ground x)) (this_request r.req.id) x.requests r h.sound.requests has) }
 moves_stand s l es t m (mark x r has free) h = nothing_loose _ (mark_still x r h.sound).sound

@@ -33,7 +33,6 @@ box_still s b box h =
     let k = box_keeps s b box in
     record {
       keeps = k;
-      down = λ p m e. e;
       sound = moved s s.procs (with_box s b (Some box)).boxes s.units refl k (all_weaker (ProcessStands (ground s)) (ProcessStands (ground (with_box s b (Some box)))) (process_moves (ground s) (ground (with_box s b (Some box))) refl refl k.box) s.procs h.procs) h;
     }
 

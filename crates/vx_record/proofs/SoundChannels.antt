@@ -40,7 +40,7 @@ pub assigned_still : (s : State) (p : Pid) (d : Device) (mode : Mode) (n : ℕ) 
 assigned_still s p d mode n free k h =
     let new : Channel = record { device = d; mode = mode } in
     let x = process_at s p in
-    change_still s p (with_channel n (Some new)) (record { decl = refl; channel = λ m ch e. assigned_channel x n new m ch free e; going = λ m e. e }) (λ e. e)
+    change_still s p (with_channel n (Some new)) (record { decl = refl; channel = λ m ch e. assigned_channel x n new m ch free e; going = λ m e. e })
     (λ f. record {
       decl = f.decl;
       numbers = length-set x.channels (n - 1) (Some new) ∙ f.numbers;
@@ -48,6 +48,7 @@ assigned_still s p d mode n free k h =
       asts = f.asts;
       handlers = f.handlers;
       idle = f.idle;
+      waits = f.waits;
     }) h
 
 pub is_some_box : (name : List ℕ) (o : Option Mailbox) → is_box_of name o ≡ true → is_some o ≡ true
@@ -128,6 +129,7 @@ freed_sound s p n made number clear h =
             asts = k.asts;
             handlers = k.handlers;
             idle = k.idle;
+            waits = k.waits;
           }) h.procs);
       associations = all_weaker (AssociationStands (length s.procs) s.common) (AssociationStands (length t.procs) s.common) (association_moves (length s.procs) (length t.procs) s.common base.more) s.common.associations h.associations;
       requests = all_weaker (λ r. RequestStands g r × ((is_on_box r.req.device && is_request_on p n r) ≡ false)) (RequestStands to)
@@ -196,6 +198,7 @@ gone_sound s b none h =
             asts = k.0.asts;
             handlers = k.0.handlers;
             idle = k.0.idle;
+            waits = k.0.waits;
           }) s.procs
           (all_both (ProcessStands g) (λ x. has_channel_to b x ≡ false) s.procs h.procs (none_passes (has_channel_to b) s.procs none));
       associations = h.associations;

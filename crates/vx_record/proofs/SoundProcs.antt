@@ -43,6 +43,7 @@ born_stands s place group member privs mode k = record {
   asts = tt;
   handlers = tt;
   idle = tt;
+  waits = (tt, tt);
 }
 
 -- Exit handlers.

@@ -119,7 +119,6 @@ with_unit_still s u unit h =
     let k = unit_keeps s u unit in
     record {
       keeps = k;
-      down = λ p m e. e;
       sound = moved s s.procs s.boxes (with_unit s u unit).units k.base.units k (all_weaker (ProcessStands (ground s)) (ProcessStands (ground (with_unit s u unit))) (process_moves (ground s) (ground (with_unit s u unit)) refl k.base.units k.box) s.procs h.procs) h;
     }
 

@@ -174,6 +174,7 @@ born_stand s place (d ∷ ds) e =
       asts = tt;
       handlers = tt;
       idle = tt;
+      waits = (tt, tt);
     } in
     either (AllByRecursion (ProcessStands (ground s))) d.start (born_of place d ∷ born_from (place + 1) ds) (born_from (place + 1) ds) (here, rest) rest
 

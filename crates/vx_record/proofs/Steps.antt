@@ -128,6 +128,8 @@ use Rattle.vx_record.proofs.SoundCalls.{placed}
 use Rattle.vx_record.proofs.SoundChannels.{IsClear, is_on_box, free_row, is_some_box, named_stands, made_there}
 use Rattle.vx_record.proofs.SoundFlags.{associated_stands, dissociated_stands, marked_stands}
 use Rattle.vx_record.proofs.SoundRequests.{tested_channel}
+use Rattle.std.proofs.lemmas.Bool.{ltb-false}
+use Rattle.vx_record.specs.Sound.{WaitStands}
 use Rattle.vx_record.proofs.Base.{Base, made_more, moves_keep}
 use Rattle.vx_record.proofs.Finds.{other_id, find_less, find_amend, all_found, ordered_filter}
 use Rattle.vx_record.proofs.Apart.{Here, here_after, part_then, based_then, outcome_either, each_free, tamely, at_flag_moves, waited, waits_moves, dissociated_only, associated_only, marked_at_only, finish_moves, requests_found, tested_cell, qio_moves, qiow_moves}
@@ -149,7 +151,7 @@ exited_moves s p code =
     let a = change s p (without_frames code) in
     let b = leave_all (process_at s p).frames a in
     both s a b.after None None None [] b.effects
-    (quiet s None p (without_frames code) (record { decl = refl; enables = refl; asts = refl; channels = refl; handlers = refl; low = refl; high = refl; statuses = refl; tame = λ e h. calm (without_frames code) (record { going = leaving_going (process_at s p).phase (top_mode (process_at s p).frames); idle = λ i. idle_none (leaving (process_at s p).phase (top_mode (process_at s p).frames)) }) }))
+    (quiet s None p (without_frames code) (record { decl = refl; enables = refl; asts = refl; channels = refl; handlers = refl; low = refl; high = refl; statuses = refl; tame = λ e h. calm (without_frames code) (record { going = leaving_going (process_at s p).phase (top_mode (process_at s p).frames); idle = λ i. idle_none (leaving (process_at s p).phase (top_mode (process_at s p).frames)); waits = λ w. tt }) }))
     (leave_all_moves (process_at s p).frames a)
 
 cancel_found_moves : {refs : Bool} (s : State) (p : Pid) (test : Handler → Bool) (o : Option Handler) → find test (process_at s p).handlers ≡ o → IsProcess s p → OutcomeBy refs s (cancel_found s p o)
@@ -166,7 +168,7 @@ deleted_by_moves {refs} s q h =
     let b = leave_all (process_at s q).frames a in
     let c = drop_handlers b.after q any_handler in
     let first : MovesBy refs s None b.effects b.after None = both s a b.after None None None [] b.effects
-    (quiet s None q named_for_deletion (record { decl = refl; enables = refl; asts = refl; channels = refl; handlers = refl; low = refl; high = refl; statuses = refl; tame = λ e h. calm named_for_deletion (record { going = deleted_going (process_at s q).phase; idle = λ i. idle_none (leaving_deleted (process_at s q).phase) }) }))
+    (quiet s None q named_for_deletion (record { decl = refl; enables = refl; asts = refl; channels = refl; handlers = refl; low = refl; high = refl; statuses = refl; tame = λ e h. calm named_for_deletion (record { going = deleted_going (process_at s q).phase; idle = λ i. idle_none (leaving_deleted (process_at s q).phase); waits = λ w. tt }) }))
     (leave_all_moves (process_at s q).frames a) in
     both s b.after c.after None None None b.effects c.effects first (end_handlers b.after q any_handler (here_after s q None b.effects b.after None first h).made)
 
@@ -213,11 +215,11 @@ numbered_at_moves : {refs : Bool} (s : State) (p : Pid) (t : Target) (part : Par
 numbered_at_moves s p t part (Ok n) k = valued_moves s p t part Normal n k
 numbered_at_moves s p t part (Err c) k = k
 
-frame_quiet : {refs : Bool} (s : State) (p : Pid) (f : Frame) → (refs ≡ true → HasFrame s p) → PartBy refs s (nothing (change s p (with_frame f)))
-frame_quiet s p f has =
+frame_quiet : {refs : Bool} (s : State) (p : Pid) (f : Frame) → IfSome f.wait WaitStands → (refs ≡ true → HasFrame s p) → PartBy refs s (nothing (change s p (with_frame f)))
+frame_quiet s p f k has =
     let pr = process_at s p in
     quiet s None p (with_frame f)
-    (record { decl = refl; enables = refl; asts = refl; channels = refl; handlers = refl; low = refl; high = refl; statuses = refl; tame = λ e h. calm (with_frame f) (record { going = λ n r. r; idle = λ i. idle_of pr.phase pr.frames (f ∷ pr.frames) (has e) i }) })
+    (record { decl = refl; enables = refl; asts = refl; channels = refl; handlers = refl; low = refl; high = refl; statuses = refl; tame = λ e h. calm (with_frame f) (record { going = λ n r. r; idle = λ i. idle_of pr.phase pr.frames (f ∷ pr.frames) (has e) i; waits = λ w. (k, w) }) })
 
 -- the declaration that a name has is the first of its name
 
@@ -244,9 +246,9 @@ service_of_moves s p a ClrEf h fits = at_flag_moves s p (number a.a0) (refused s
 service_of_moves s p a ReadEf h fits =
     let o = readef s p (number a.a0) in
     valued_at_moves s p (place a.a1) (part_of o) o.answer (at_flag_moves s p (number a.a0) (refused_value s) (readef_at s) h.made (λ c. none s None) (λ c k. none s None))
-service_of_moves s p a WaitFr h fits = waits_moves s p (number a.a0) (wait.Flags (number a.a0) (2 ^ (number a.a0 % 32)) false) h.made
-service_of_moves s p a WflOr h fits = waits_moves s p (number a.a0) (wait.Flags (number a.a0) (number a.a1) false) h.made
-service_of_moves s p a WflAnd h fits = waits_moves s p (number a.a0) (wait.Flags (number a.a0) (number a.a1) true) h.made
+service_of_moves s p a WaitFr h fits = waits_moves s p (number a.a0) (wait.Flags (number a.a0) (2 ^ (number a.a0 % 32)) false) h.made (λ e. tt)
+service_of_moves s p a WflOr h fits = waits_moves s p (number a.a0) (wait.Flags (number a.a0) (number a.a1) false) h.made (λ e. tt)
+service_of_moves s p a WflAnd h fits = waits_moves s p (number a.a0) (wait.Flags (number a.a0) (number a.a1) true) h.made (λ e. tt)
 service_of_moves s p a AscEfc h fits =
     outcome_either s (not (is_common (number a.a0))) _ _ (none s None) (outcome_either s (wants_prmceb s (process_at s p) (text a.a1) (number a.a2)) _ _ (none s None)
     (clusters s None (associated s.common p (cluster_number (number a.a0)) (process_at s p).group (text a.a1) (not (number a.a2 == 0))) (associated_only s.common p (cluster_number (number a.a0)) (process_at s p).group (text a.a1) (not (number a.a2 == 0))) tt
@@ -256,14 +258,14 @@ service_of_moves s p a DacEfc h fits = outcome_either s (not (is_common (number 
 service_of_moves s p a DlcEfc h fits = outcome_either s (not (process_at s p).privs.prmceb) _ _ (none s None) (clusters s None (marked s.common (process_at s p).group (text a.a0)) (marked_at_only s.common (find (is_cluster (process_at s p).group (text a.a0)) s.common.clusters)) tt (marks s.common (process_at s p).group (text a.a0)) (λ e i. marked_stands (length s.procs) s.common (process_at s p).group (text a.a0) i.associations))
 service_of_moves {refs} s p a DclAst h fits = either_by (λ (o : Outcome Cond). OutcomeBy refs s o) (exceeds s p (ast_need true)) _ _ (λ t. none s None) (λ f. declared_moves s p (outer (access_mode a.a2) (current s p)) (routine s p a.a0 (number a.a1)) h.made f (λ e i. declared_routine s p a (number a.a1) (fits e)))
 service_of_moves s p a SetAst h fits = enb s None p (current s p) (not (number a.a0 == 0)) h.made tt
-service_of_moves s p a CmExec h fits = outcome_either s (is_inside (current s p) || ((process_at s p).privs.cmexec || (process_at s p).privs.cmkrnl)) _ _ (frame_quiet s p _ (λ e. (fits e).frame)) (none s None)
-service_of_moves s p a CmKrnl h fits = outcome_either s (is_inside (current s p) || (process_at s p).privs.cmkrnl) _ _ (frame_quiet s p _ (λ e. (fits e).frame)) (none s None)
+service_of_moves s p a CmExec h fits = outcome_either s (is_inside (current s p) || ((process_at s p).privs.cmexec || (process_at s p).privs.cmkrnl)) _ _ (frame_quiet s p _ tt (λ e. (fits e).frame)) (none s None)
+service_of_moves s p a CmKrnl h fits = outcome_either s (is_inside (current s p) || (process_at s p).privs.cmkrnl) _ _ (frame_quiet s p _ tt (λ e. (fits e).frame)) (none s None)
 service_of_moves s p a SetImr h fits = setimr_moves s p (number a.a0) (number a.a1) (routine_or_none s p a.a2 (number a.a3)) (number a.a3) h.made (λ e. third_routine s p a (number a.a3) (fits e).labels)
 service_of_moves s p a CanTim h fits = drop_timers_moves s (is_cancelled_timer p (number a.a0) (outer (access_mode a.a1) (current s p))) h.base
 service_of_moves s p a SchdWk h fits =
     at_tested_moves s (scheduled s p (number a.a1) (number a.a2)) (process_test s p (number a.a0)) (λ q e. scheduled_moves s p (number a.a1) (number a.a2) q h.made (test_made s p (number a.a0) q e))
 service_of_moves s p a CanWak h fits = at_tested_moves s (unscheduled s) (process_test s p (number a.a0)) (λ q e. drop_timers_moves s (is_wake_for q) h.base)
-service_of_moves s p a Hiber h fits = outcome_either s (process_at s p).wake _ _ (quiet s None p (with_wake false) (woken s p false)) (quiet s None p (with_wait (Some wait.Hiber)) (waited s p (Some wait.Hiber)))
+service_of_moves s p a Hiber h fits = outcome_either s (process_at s p).wake _ _ (quiet s None p (with_wake false) (woken s p false)) (quiet s None p (with_wait (Some wait.Hiber)) (waited s p (Some wait.Hiber) (λ e. tt)))
 service_of_moves s p a Wake h fits = at_tested_moves s (changed_process s (with_wake true)) (process_test s p (number a.a0)) (λ q e. quiet_wake s q true)
 service_of_moves s p a Suspnd h fits = at_tested_moves s (changed_process s (with_suspension true)) (process_test s p (number a.a0)) (λ q e. quiet_suspension s q true)
 service_of_moves s p a Resume h fits = at_tested_moves s (changed_process s (with_suspension false)) (process_test s p (number a.a0)) (λ q e. quiet_suspension s q false)
@@ -291,7 +293,7 @@ service_of_moves s p a CreMbx h fits =
 service_of_moves s p a DelMbx h fits = at_tested_moves s (delmbx_at s p) (channel_test s p (number a.a0)) (λ ch e. delmbx_moves s p ch.device)
 service_of_moves s p a Qio h fits = qio_moves s p (asked s p a) (request_test s p (asked s p a)) (tested_cell s p (asked s p a) h.made) (λ to e y. tested_fits s p (asked s p a) to e (fits y).frame (fifth_routine s p a (number a.a5) (fits y).labels)) h
 service_of_moves s p a QioW h fits = qiow_moves s p (asked s p a) (request_test s p (asked s p a)) (tested_cell s p (asked s p a) h.made) (λ to e y. tested_fits s p (asked s p a) to e (fits y).frame (fifth_routine s p a (number a.a5) (fits y).labels)) h
-service_of_moves s p a Synch h fits = outcome_either s (nat_lt 32 (number a.a1)) _ _ (none s None) (waits_moves s p (number a.a0) (wait.Synch (number a.a0) (number a.a1)) h.made)
+service_of_moves {refs} s p a Synch h fits = either_by (λ (o : Outcome Served). OutcomeBy refs s o) (nat_lt 32 (number a.a1)) _ _ (λ f. none s None) (λ f. waits_moves s p (number a.a0) (wait.Synch (number a.a0) (number a.a1)) h.made (λ e. ltb-false 32 (number a.a1) f))
 service_of_moves s p a Cancel h fits = at_tested_moves s (cancel_at s p (number a.a0)) (channel_test s p (number a.a0)) (λ ch e. cancel_channel_moves s p (number a.a0) h.base)
 service_of_moves s p a GetTim h fits = valued_moves s p (place a.a0) (nothing s) Normal (gettim s) (none s None)
 
@@ -410,7 +412,7 @@ pub phase_silent : {refs : Bool} (s : State) (p : Pid) (ph : Phase) → Answers 
 phase_silent s p ph k = record { decl = refl; enables = refl; asts = refl; channels = refl; handlers = refl; low = refl; high = refl; statuses = refl; tame = k }
 
 pub handling_silent : {refs : Bool} (s : State) (p : Pid) (m : Mode) → IsSilent refs s p (in_phase (phase.Handlers m))
-handling_silent s p m = phase_silent s p (phase.Handlers m) (λ e h. calm (in_phase (phase.Handlers m)) (record { going = λ n r. refl; idle = λ i. tt }))
+handling_silent s p m = phase_silent s p (phase.Handlers m) (λ e h. calm (in_phase (phase.Handlers m)) (record { going = λ n r. refl; idle = λ i. tt; waits = λ w. w }))
 
 -- The channels of a mode that is drained are freed: nothing hangs on them.
 
@@ -480,7 +482,7 @@ run_handlers_moves s p m next test None e h at d k =
     (phase_at a p (phase.Draining m) down.made, field_same (λ (pr : Process). pr.frames) (in_phase (phase.Draining m)) a p p refl ∙ down.none)) k)
 run_handlers_moves s p m next test (Some d) e h at down k =
     let frame = handler_frame s p d in
-    enter s p frame test d h.made e (λ y i. subst (λ (ph : Phase). Idles ph (frame ∷ (process_at s p).frames)) (sym at) tt)
+    enter s p frame test d h.made e (λ y i. (subst (λ (ph : Phase). Idles ph (frame ∷ (process_at s p).frames)) (sym at) tt, tt))
 
 run_down_moves : {refs : Bool} (ms : List Mode) (p : Pid) (s : State) → Here s p → (refs ≡ true → (process_at s p).frames ≡ []) → OutcomeBy refs s (run_down p ms s)
 run_down_moves [] p s h d =
@@ -566,8 +568,8 @@ pub started_moves : {refs : Bool} (s : State) (p : Pid) (q : Queued) (tag : Entr
 started_moves s p q (entry.Exit code) has =
     let b = exited s p code in
     both s s b.after None None None (effect.Leave q.id ∷ []) b.effects (leave s None q.id tt) (exited_moves s p code)
-started_moves s p q (entry.Label k prm) has = frame_quiet s p _ has
-started_moves s p q (entry.Host prm) has = frame_quiet s p _ has
+started_moves s p q (entry.Label k prm) has = frame_quiet s p _ tt has
+started_moves s p q (entry.Host prm) has = frame_quiet s p _ tt has
 
 don_moves : {refs : Bool} (s : State) (u : UnitNo) (o : Option Request) → IfSome o (HasRequest s) → Base s → OutcomeBy refs s (don s u o)
 don_moves s u None k h = none s None

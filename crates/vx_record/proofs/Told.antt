@@ -4,6 +4,7 @@ use Rattle.vx_base.specs.Pieces.{Queued, Channel}
 use Rattle.vx_base.specs.declared.call.Call.{Call}
 use Rattle.vx_base.specs.declared.effects.Cell.{Cell}
 use Rattle.vx_base.specs.declared.frame.Phase.{Phase}
+use Rattle.vx_base.specs.declared.frame.Wait.{Wait}
 use Rattle.vx_base.specs.declared.mode.Mode.{Mode}
 use Rattle.vx_base.specs.declared.number.Pid.{Pid}
 use Rattle.vx_base.specs.declared.record.Event.{Event}
@@ -12,6 +13,7 @@ use Rattle.vx_base.specs.declared.routine.Entry.{Entry}
 use Rattle.vx_record.specs.State.{State, IsProcess}
 use Rattle.vx_record.specs.Charges.{exceeds, ast_need, is_attention}
 use Rattle.vx_record.specs.Events.{started, step}
+use Rattle.vx_record.specs.Flags.{awaited}
 use Rattle.vx_record.specs.Requests.{Asked, request_test, opened_request, attention_on, accepted}
 use Rattle.vx_record.specs.Rundown.{in_phase, release, cancelled_in}
 use Rattle.vx_record.specs.Services.{service}
@@ -33,6 +35,9 @@ attention_on_moves s p q d o h room = apart.attention_on_moves s p q d o h room 
 
 pub accepted_after : (s : State) (p : Pid) (q : Asked) (to : Cell × Channel) → request_test s p q ≡ Ok to → Here s p → PartMoves s (accepted s p q to.0 to.1)
 accepted_after s p q to is h = apart.accepted_after s p q to is (λ e. unasked e) h
+
+pub awaited_moves : (s : State) (p : Pid) (w : Wait) → OutcomeMoves s (awaited s p w)
+awaited_moves s p w = apart.awaited_moves s p w (λ e. unasked e)
 
 pub service_moves : (s : State) (p : Pid) (c : Call) → Here s p → OutcomeMoves s (service s p c)
 service_moves s p c h = steps.service_moves s p c h (λ e. unasked e)

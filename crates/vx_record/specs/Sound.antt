@@ -11,6 +11,8 @@ use Rattle.vx_base.specs.declared.call.Call.{Call}
 use Rattle.vx_base.specs.declared.frame.Frame.{Frame}
 use Rattle.vx_base.specs.declared.frame.Phase.{Phase}
 use Rattle.vx_base.specs.declared.frame.Phase.TheVariants as phase
+use Rattle.vx_base.specs.declared.frame.Wait.{Wait}
+use Rattle.vx_base.specs.declared.frame.Wait.TheVariants as wait
 use Rattle.vx_base.specs.declared.mode.Mode.{Mode}
 use Rattle.vx_base.specs.declared.number.BoxNo.{BoxNo}
 use Rattle.vx_base.specs.declared.number.Pid.{Pid}
@@ -129,8 +131,17 @@ abbrev pub IsIdle : Phase → List Frame → Type 0
 IsIdle (phase.Draining m) (f ∷ fs) = ⊥
 IsIdle _ _ = ⊤
 
+-- the status block that a wait names is one that a process has, or none
+abbrev pub WaitStands : Wait → Type 0
+WaitStands (wait.Flags efn mask all) = ⊤
+WaitStands (wait.Synch efn iosb) = iosb ≤ 32
+WaitStands wait.Hiber = ⊤
+
+abbrev pub WaitsStand : List Frame → Type 0
+WaitsStand frames = AllByRecursion (λ f. IfSome f.wait WaitStands) frames
+
 -- A process's declaration is the system's; it has 64 channels, whose devices stand; the routines of its queued ASTs and of
--- its exit handlers are its own.
+-- its exit handlers are its own; and so are the status blocks that its frames wait for.
 pub record ProcessStands (g : Ground) (pr : Process) : Type 0 where
   pub decl : pr.decl < length g.system.decls
   pub numbers : length pr.channels ≡ 64
@@ -138,6 +149,7 @@ pub record ProcessStands (g : Ground) (pr : Process) : Type 0 where
   pub asts : AllByRecursion (λ q. IsRoutine g.system pr.decl q.tag) pr.asts
   pub handlers : AllByRecursion (λ h. IsRoutine g.system pr.decl h.tag) pr.handlers
   pub idle : IsIdle pr.phase pr.frames
+  pub waits : WaitsStand pr.frames
 
 -- An association is a process's, and its cluster stands.
 pub record AssociationStands (procs : ℕ) (c : Common) (a : Association) : Type 0 where
