@@ -117,9 +117,10 @@ use Rattle.vx_record.specs.Asts.{with_queued}
 use Rattle.vx_record.specs.Channels.{is_box_of, unit_named}
 use Rattle.vx_record.specs.Finish.{with_stored_bytes}
 use Rattle.vx_record.specs.Rundown.{leaving, leaving_deleted, keeps_busy}
-use Rattle.vx_record.specs.Sound.{IsSound, ground, IsRoutineOf, DeviceStands, RequestStands, AttentionStands, MayBeServed, IsIdle as Idles}
+use Rattle.vx_record.specs.Sound.{ground, IsRoutineOf, DeviceStands, RequestStands, AttentionStands, MayBeServed, IsIdle as Idles}
+use Rattle.vx_record.proofs.Firm.{IsFirm}
 use Rattle.vx_record.proofs.Lists.{all_less, all_amend, ordered_amend, ordered_less, removed, fails_not, false_from, apart_bools, none_passes}
-use Rattle.vx_record.proofs.Changes.{Quiet, with_wait_quiet, with_wake_quiet, with_suspension_quiet, with_variable_quiet, put_back_quiet, below_top_quiet, woken_quiet, leaving_going, deleted_going, idle_none, idle_of, stands_at}
+use Rattle.vx_record.proofs.Changes.{Quiet, with_wait_quiet, with_wake_quiet, with_suspension_quiet, with_variable_quiet, put_back_quiet, below_top_quiet, woken_quiet, leaving_going, deleted_going, idle_none, idle_of, firm_at}
 use Rattle.vx_record.proofs.Called.{IsCalled, declared_routine, handler_routine, third_routine, fifth_routine, IsStopped, stopped_call, moved_stopped, advanced_stopped}
 use Rattle.vx_record.proofs.Fits.{field_same, IsSeated, seated_then, cell_seated, status_seated, routine_seated, IsFit, tested_fits, fit_seated, fit_request, fit_attention}
 use Rattle.vx_record.proofs.Freeing.{IsFreeing, IsReleased, freeing_first, freeing_row, freed_on, released_frames, phase_at}

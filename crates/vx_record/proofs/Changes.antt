@@ -20,7 +20,9 @@ use Rattle.vx_record.specs.Control.{with_wake, with_suspension}
 use Rattle.vx_record.specs.Rundown.{leaving, with_handler, without_handler, leaving_deleted, in_phase, without_ast, entering}
 use Rattle.vx_record.specs.Services.{with_variable}
 use Rattle.vx_record.specs.Events.{uses_wake, with_r0, moved_to, without_top, below_top, put_back}
-use Rattle.vx_record.specs.Sound.{ground, IsRoutine, IsRoutineOf, is_drained, IsIdle, ProcessStands, IsSound}
+use Rattle.vx_record.specs.Sound.{ground, IsRoutine, IsRoutineOf, is_drained, IsIdle, ProcessStands}
+use Rattle.vx_record.specs.Sound.{IsSound}
+use Rattle.vx_record.proofs.Firm.{IsFirm}
 use Rattle.vx_record.proofs.Lists.{either, all_append, all_less, all_at}
 use Rattle.vx_record.specs.Sound.{WaitStands, WaitsStand}
 use Rattle.vx_record.proofs.Ground.{Seat, Still, change_sound, change_still}
@@ -57,8 +59,12 @@ pub idle_below : (ph : Phase) (frames : List Frame) → IsIdle ph frames → IsI
 idle_below ph [] i = idle_none ph
 idle_below ph (x ∷ xs) i = idle_of ph (x ∷ xs) xs (omega arith) i
 
+-- of a state whose references stand
 pub stands_at : (s : State) (p : Pid) → IsSound s → IsProcess s p → ProcessStands (ground s) (process_at s p)
 stands_at s p h m = all_at (ProcessStands (ground s)) s.procs (p.0 - 1) _ h.procs (omega (arith, m.above, m.within))
+
+pub firm_at : (s : State) (p : Pid) → IsFirm s → IsProcess s p → ProcessStands (ground s) (process_at s p)
+firm_at s p h m = all_at (ProcessStands (ground s)) s.procs (p.0 - 1) _ h.procs (omega (arith, m.above, m.within))
 
 -- the waits of frames of which the top is changed, and left
 waits_top : (f : Frame → Frame) (frames : List Frame) → ((x : Frame) → IfSome x.wait WaitStands → IfSome (f x).wait WaitStands) → WaitsStand frames → WaitsStand (with_top f frames)
@@ -97,7 +103,7 @@ quiet_then x y z a b = record {
   waits = λ w. b.waits (a.waits w);
 }
 
-pub quiet_still : (s : State) (p : Pid) (f : Process → Process) → Quiet (process_at s p) (f (process_at s p)) → IsSound s → Still s (change s p f)
+pub quiet_still : (s : State) (p : Pid) (f : Process → Process) → Quiet (process_at s p) (f (process_at s p)) → IsFirm s → Still s (change s p f)
 quiet_still s p f q h =
     change_still s p f (quiet_seat (process_at s p) (f (process_at s p)) q)
     (λ k. record {
@@ -161,7 +167,7 @@ woken_quiet w n pr =
 same_seat_of : (x y : Process) → y.decl ≡ x.decl → y.channels ≡ x.channels → y.phase ≡ x.phase → Seat x y
 same_seat_of x y a b c = record { decl = a; channel = λ n ch e. rw b e; going = λ m e. rw c e }
 
-pub with_queued_still : (s : State) (p : Pid) (q : Queued) → IsRoutineOf (ground s) p q.tag → IsSound s → Still s (change s p (with_queued q))
+pub with_queued_still : (s : State) (p : Pid) (q : Queued) → IsRoutineOf (ground s) p q.tag → IsFirm s → Still s (change s p (with_queued q))
 with_queued_still s p q r h =
     let pr = process_at s p in
     change_still s p (with_queued q) (same_seat_of pr (with_queued q pr) refl refl refl)
@@ -175,7 +181,7 @@ with_queued_still s p q r h =
       waits = k.waits;
     }) h
 
-pub without_ast_still : (s : State) (p : Pid) (id : Id) → IsSound s → Still s (change s p (without_ast id))
+pub without_ast_still : (s : State) (p : Pid) (id : Id) → IsFirm s → Still s (change s p (without_ast id))
 without_ast_still s p id h =
     let pr = process_at s p in
     change_still s p (without_ast id) (same_seat_of pr (without_ast id pr) refl refl refl)
@@ -189,7 +195,7 @@ without_ast_still s p id h =
       waits = k.waits;
     }) h
 
-pub with_handler_still : (s : State) (p : Pid) (d : Handler) → IsRoutineOf (ground s) p d.tag → IsSound s → Still s (change s p (with_handler d))
+pub with_handler_still : (s : State) (p : Pid) (d : Handler) → IsRoutineOf (ground s) p d.tag → IsFirm s → Still s (change s p (with_handler d))
 with_handler_still s p d r h =
     let pr = process_at s p in
     change_still s p (with_handler d) (same_seat_of pr (with_handler d pr) refl refl refl)
@@ -203,7 +209,7 @@ with_handler_still s p d r h =
       waits = k.waits;
     }) h
 
-pub without_handler_still : (s : State) (p : Pid) (id : Id) → IsSound s → Still s (change s p (without_handler id))
+pub without_handler_still : (s : State) (p : Pid) (id : Id) → IsFirm s → Still s (change s p (without_handler id))
 without_handler_still s p id h =
     let pr = process_at s p in
     change_still s p (without_handler id) (same_seat_of pr (without_handler id pr) refl refl refl)
@@ -219,7 +225,7 @@ without_handler_still s p id h =
 
 -- Frames.
 
-pub entering_sound : (s : State) (p : Pid) (f : Frame) (id : Id) → IsIdle (process_at s p).phase (f ∷ (process_at s p).frames) → IfSome f.wait WaitStands → IsSound s → IsSound (change s p (entering f id))
+pub entering_sound : (s : State) (p : Pid) (f : Frame) (id : Id) → IsIdle (process_at s p).phase (f ∷ (process_at s p).frames) → IfSome f.wait WaitStands → IsFirm s → IsFirm (change s p (entering f id))
 entering_sound s p f id i w h =
     let pr = process_at s p in
     change_sound s p (entering f id) (same_seat_of pr (entering f id pr) refl refl refl)
@@ -246,7 +252,7 @@ deleted_going (phase.Draining k) n h = h
 deleted_going phase.Deleted n h = h
 
 -- a phase that drains nothing
-pub in_phase_still : (s : State) (p : Pid) (ph : Phase) → ((m : Mode) → is_drained ph m ≡ false) → IsIdle ph (process_at s p).frames → IsSound s → Still s (change s p (in_phase ph))
+pub in_phase_still : (s : State) (p : Pid) (ph : Phase) → ((m : Mode) → is_drained ph m ≡ false) → IsIdle ph (process_at s p).frames → IsFirm s → Still s (change s p (in_phase ph))
 in_phase_still s p ph g i h =
     let pr = process_at s p in
     change_still s p (in_phase ph) (record { decl = refl; channel = λ n ch e. e; going = λ m e. g m })

@@ -15,10 +15,11 @@ use Rattle.vx_record.specs.Parts.{Part, nothing}
 use Rattle.vx_record.specs.Flags.{with_cell, with_local_flag}
 use Rattle.vx_record.specs.Finish.{iosb_part, with_stored_status}
 use Rattle.vx_record.specs.Requests.{Asked, request_test, new_request, new_attention}
-use Rattle.vx_record.specs.Sound.{ground, IsRoutineOf, DeviceStands, RequestStands, AttentionStands, IsSound}
+use Rattle.vx_record.specs.Sound.{ground, IsRoutineOf, DeviceStands, RequestStands, AttentionStands}
+use Rattle.vx_record.proofs.Firm.{IsFirm}
 use Rattle.vx_record.proofs.Lists.{either, or_none}
 use Rattle.vx_record.proofs.Ground.{some_weaker, routine_moves}
-use Rattle.vx_record.proofs.Changes.{going_of, stands_at}
+use Rattle.vx_record.proofs.Changes.{going_of, firm_at}
 use Rattle.vx_record.proofs.SoundRequests.{request_test_row, tested_channel, device_stands, rooted_new, unserved, promised_stands}
 
 -- a field of a process after a change that keeps it
@@ -100,7 +101,7 @@ fit_seated s t p q ch k f = record {
   routine = routine_seated s t p q.ast k f.routine;
 }
 
-pub fit_request : (s : State) (p : Pid) (q : Asked) (ch : Channel) → IsProcess s p → IsFit s p q ch → IsSound s → RequestStands (ground s) (new_request s p q ch)
+pub fit_request : (s : State) (p : Pid) (q : Asked) (ch : Channel) → IsProcess s p → IsFit s p q ch → IsFirm s → RequestStands (ground s) (new_request s p q ch)
 fit_request s p q ch m f h = record {
   made = m;
   stands = device_stands s p q.chan ch m f.row h;
@@ -112,7 +113,7 @@ fit_request s p q ch m f h = record {
   routine = promised_stands (ground s) p (current s p) q.ast f.routine;
 }
 
-pub fit_attention : (s : State) (p : Pid) (q : Asked) (ch : Channel) (b : BoxNo) (tag : Entry) → IsProcess s p → ch.device ≡ device.Mailbox b → q.ast ≡ Some tag → IsFit s p q ch → IsSound s → AttentionStands (ground s) (new_attention s p q b tag)
+pub fit_attention : (s : State) (p : Pid) (q : Asked) (ch : Channel) (b : BoxNo) (tag : Entry) → IsProcess s p → ch.device ≡ device.Mailbox b → q.ast ≡ Some tag → IsFit s p q ch → IsFirm s → AttentionStands (ground s) (new_attention s p q b tag)
 fit_attention s p q ch b tag m on is f h =
     let P : Option Entry → Type 0 = λ o. IfSome o (IsRoutineOf (ground s) p) in
     let routine : P (Some tag) = subst P is f.routine in
@@ -122,6 +123,6 @@ fit_attention s p q ch b tag m on is f h =
       stands = subst (DeviceStands (ground s)) on (device_stands s p q.chan ch m f.row h);
       channel_mode = ch.mode;
       channel = record { number = f.number; row = row };
-      going = going_of (process_at s p).phase (process_at s p).frames f.frame (stands_at s p h m).idle ch.mode;
+      going = going_of (process_at s p).phase (process_at s p).frames f.frame (firm_at s p h m).idle ch.mode;
       routine = routine;
     }

@@ -19,10 +19,11 @@ use Rattle.vx_record.specs.Mailboxes.{mailbox_at}
 use Rattle.vx_record.specs.Channels.{with_channel, is_assigned, goes_unused, box_gone, swept_device, swept_box, free_channel}
 use Rattle.vx_record.specs.Cancel.{is_request_on, is_attention_on}
 use Rattle.vx_record.specs.Rundown.{in_phase, keeps_busy, free_one, drop_ast, is_ast_reached, release}
-use Rattle.vx_record.specs.Sound.{ground, process_of, IsRooted, RequestStands, is_drained, AttentionStands, IsSound}
+use Rattle.vx_record.specs.Sound.{ground, process_of, IsRooted, RequestStands, is_drained, AttentionStands}
+use Rattle.vx_record.proofs.Firm.{IsFirm}
 use Rattle.vx_record.proofs.Lists.{either, either_by, all_weaker, all_both, false_from, apart_bools}
 use Rattle.vx_record.proofs.Ground.{at_set}
-use Rattle.vx_record.proofs.Changes.{stands_at}
+use Rattle.vx_record.proofs.Changes.{firm_at}
 use Rattle.vx_record.proofs.SoundChannels.{is_on_box, IsClear}
 use Rattle.vx_record.specs.Rundown.{without_ast}
 use Rattle.vx_record.proofs.Fits.{field_same}
@@ -127,7 +128,7 @@ clear_attention s p m n a drained row k e =
     let going : is_drained (phase.Draining m) k.channel_mode ≡ false = subst (λ (x : Phase). is_drained x k.channel_mode ≡ false) ph k.going in
     apart_bools (reaches k.channel_mode m) there going
 
-pub freeing_row : (s : State) (p : Pid) (m : Mode) (n : ℕ) (ns : List ℕ) → IsFreeing s p m (n ∷ ns) → IsSound s → IsRow s p n None
+pub freeing_row : (s : State) (p : Pid) (m : Mode) (n : ℕ) (ns : List ℕ) → IsFreeing s p m (n ∷ ns) → IsFirm s → IsRow s p n None
 unfolding IsFreed
 freeing_row s p m n ns f h =
     let row = f.rows.0.2 in
@@ -137,7 +138,7 @@ freeing_row s p m n ns f h =
           (all_both (RequestStands (ground s)) (λ r. keeps_busy p m r ≡ false) s.requests h.requests f.released.idle);
       attention = all_weaker (AttentionStands (ground s)) (λ a. is_attention_on p n a ≡ false) (λ a k. false_from _ (clear_attention s p m n a f.released.phase row k)) s.attention h.attention;
     } in
-    let many = (stands_at s p h f.made).numbers in
+    let many = (firm_at s p h f.made).numbers in
     (f.made, (and_from (nat_le 1 n) (nat_le n 64) (le-leb 1 n f.rows.0.0) (le-leb n 64 (omega (arith, f.rows.0.1, many))), clear))
 
 row_freed : (m : Mode) (x : Process) (n k : ℕ) → RowReached m (channel_at x.channels k) → RowReached m (channel_at (with_channel n None x).channels k)

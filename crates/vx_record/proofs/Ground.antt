@@ -14,7 +14,8 @@ use Rattle.vx_base.specs.declared.routine.Entry.{Entry}
 use Rattle.vx_base.specs.declared.routine.Entry.TheVariants as entry
 use Rattle.vx_image.specs.declared.system.System.{System}
 use Rattle.vx_record.specs.State.{Process, State, IsProcess, nobody, process_at, change, past_id}
-use Rattle.vx_record.specs.Sound.{Ground, ground, IsMade, process_of, IsRoutine, IsRoutineOf, BoxStands, DeviceStands, ChannelStands, HasChannel, IsRooted, RequestStands, AlarmStands, TimerStands, is_drained, AttentionStands, ProcessStands, AssociationStands, AreOrdered, request_id, timer_id, attention_id, IsSound}
+use Rattle.vx_record.specs.Sound.{Ground, ground, IsMade, process_of, IsRoutine, IsRoutineOf, BoxStands, DeviceStands, ChannelStands, HasChannel, IsRooted, RequestStands, AlarmStands, TimerStands, is_drained, AttentionStands, ProcessStands, AssociationStands, AreOrdered, request_id, timer_id, attention_id}
+use Rattle.vx_record.proofs.Firm.{IsFirm}
 use Rattle.vx_record.proofs.Lists.{all_weaker, all_set, ordered_below}
 
 -- the processes are there, with their declarations, and the units
@@ -137,10 +138,10 @@ association_moves n m c k a f = record { made = record { above = f.made.above; w
 -- States.
 
 pub record Still (s t : State) : Type 0 where
-  pub sound : IsSound t
+  pub sound : IsFirm t
   pub keeps : Keeps (ground s) (ground t)
 
-pub still : (s : State) → IsSound s → Still s s
+pub still : (s : State) → IsFirm s → Still s s
 still s h = record { sound = h; keeps = keeps_all (ground s) }
 
 pub still_then : {s t u : State} → Still s t → Still t u → Still s u
@@ -150,7 +151,7 @@ still_then {s} {t} {u} a b = record {
 }
 
 -- other processes, mailboxes and units
-pub moved : (s : State) (procs : List Process) (boxes : List (Option Mailbox)) (units : List DeviceUnit) → length units ≡ length s.units → Keeps (ground s) (ground (record s { procs = procs; boxes = boxes; units = units })) → AllByRecursion (ProcessStands (ground (record s { procs = procs; boxes = boxes; units = units }))) procs → IsSound s → IsSound (record s { procs = procs; boxes = boxes; units = units })
+pub moved : (s : State) (procs : List Process) (boxes : List (Option Mailbox)) (units : List DeviceUnit) → length units ≡ length s.units → Keeps (ground s) (ground (record s { procs = procs; boxes = boxes; units = units })) → AllByRecursion (ProcessStands (ground (record s { procs = procs; boxes = boxes; units = units }))) procs → IsFirm s → IsFirm (record s { procs = procs; boxes = boxes; units = units })
 moved s procs boxes units e k f h =
     let g = ground s in
     let to = ground (record s { procs = procs; boxes = boxes; units = units }) in
@@ -168,7 +169,7 @@ moved s procs boxes units e k f h =
 
 -- other requests, timers, attention entries, associations, another time and next id
 
-pub requests_still : (s : State) (xs : List Request) → AllByRecursion (RequestStands (ground s)) xs → AreOrdered request_id 0 s.next xs → IsSound s → Still s (record s { requests = xs })
+pub requests_still : (s : State) (xs : List Request) → AllByRecursion (RequestStands (ground s)) xs → AreOrdered request_id 0 s.next xs → IsFirm s → Still s (record s { requests = xs })
 requests_still s xs f o h = record {
   keeps = keeps_all (ground s);
   sound = record {
@@ -184,7 +185,7 @@ requests_still s xs f o h = record {
   };
 }
 
-pub timers_still : (s : State) (xs : List Timer) → AllByRecursion (TimerStands (ground s)) xs → AreOrdered timer_id 0 s.next xs → IsSound s → Still s (record s { timers = xs })
+pub timers_still : (s : State) (xs : List Timer) → AllByRecursion (TimerStands (ground s)) xs → AreOrdered timer_id 0 s.next xs → IsFirm s → Still s (record s { timers = xs })
 timers_still s xs f o h = record {
   keeps = keeps_all (ground s);
   sound = record {
@@ -200,7 +201,7 @@ timers_still s xs f o h = record {
   };
 }
 
-pub attention_still : (s : State) (xs : List Attention) → AllByRecursion (AttentionStands (ground s)) xs → AreOrdered attention_id 0 s.next xs → IsSound s → Still s (record s { attention = xs })
+pub attention_still : (s : State) (xs : List Attention) → AllByRecursion (AttentionStands (ground s)) xs → AreOrdered attention_id 0 s.next xs → IsFirm s → Still s (record s { attention = xs })
 attention_still s xs f o h = record {
   keeps = keeps_all (ground s);
   sound = record {
@@ -216,7 +217,7 @@ attention_still s xs f o h = record {
   };
 }
 
-pub common_still : (s : State) (c : Common) → AllByRecursion (AssociationStands (length s.procs) c) c.associations → IsSound s → Still s (record s { common = c })
+pub common_still : (s : State) (c : Common) → AllByRecursion (AssociationStands (length s.procs) c) c.associations → IsFirm s → Still s (record s { common = c })
 common_still s c f h = record {
   keeps = keeps_all (ground s);
   sound = record {
@@ -232,7 +233,7 @@ common_still s c f h = record {
   };
 }
 
-pub later_still : (s : State) (time next : ℕ) → s.next ≤ next → IsSound s → Still s (record s { time = time; next = next })
+pub later_still : (s : State) (time next : ℕ) → s.next ≤ next → IsFirm s → Still s (record s { time = time; next = next })
 later_still s time next k h = record {
   keeps = keeps_all (ground s);
   sound = record {
@@ -248,7 +249,7 @@ later_still s time next k h = record {
   };
 }
 
-pub past_id_still : (s : State) → IsSound s → Still s (past_id s)
+pub past_id_still : (s : State) → IsFirm s → Still s (past_id s)
 past_id_still s h = later_still s s.time (s.next + 1) (omega arith) h
 
 -- One process changed.
@@ -284,14 +285,14 @@ change_keeps s p f k =
       going = λ q m made e. (seat q).going m e;
     }
 
-pub change_sound : (s : State) (p : Pid) (f : Process → Process) → Seat (process_at s p) (f (process_at s p)) → (ProcessStands (ground s) (process_at s p) → ProcessStands (ground s) (f (process_at s p))) → IsSound s → IsSound (change s p f)
+pub change_sound : (s : State) (p : Pid) (f : Process → Process) → Seat (process_at s p) (f (process_at s p)) → (ProcessStands (ground s) (process_at s p) → ProcessStands (ground s) (f (process_at s p))) → IsFirm s → IsFirm (change s p f)
 change_sound s p f k stands h =
     let to = ground (change s p f) in
     moved s (change s p f).procs s.boxes s.units refl (change_keeps s p f k)
     (all_weaker (ProcessStands (ground s)) (ProcessStands to) (process_moves (ground s) to refl refl (λ b e. e)) (change s p f).procs
     (all_set (ProcessStands (ground s)) s.procs (p.0 - 1) (f (process_at s p)) nobody stands h.procs)) h
 
-pub change_still : (s : State) (p : Pid) (f : Process → Process) → Seat (process_at s p) (f (process_at s p)) → (ProcessStands (ground s) (process_at s p) → ProcessStands (ground s) (f (process_at s p))) → IsSound s → Still s (change s p f)
+pub change_still : (s : State) (p : Pid) (f : Process → Process) → Seat (process_at s p) (f (process_at s p)) → (ProcessStands (ground s) (process_at s p) → ProcessStands (ground s) (f (process_at s p))) → IsFirm s → Still s (change s p f)
 change_still s p f k stands h = record {
   sound = change_sound s p f k stands h;
   keeps = change_keeps s p f k;

@@ -29,7 +29,8 @@ use Rattle.vx_base.specs.declared.frame.Phase.TheVariants as phase
 use Rattle.vx_record.specs.Cancel.{is_attention_on}
 use Rattle.vx_record.specs.Channels.{is_assigned}
 use Rattle.vx_record.specs.Rundown.{in_phase}
-use Rattle.vx_record.specs.Sound.{IsSound, ground, DeviceStands, IsRoutineOf, RequestStands, TimerStands, AttentionStands, AssociationStands, is_drained, IsIdle as Idles, WaitStands, WaitsStand}
+use Rattle.vx_record.specs.Sound.{ground, DeviceStands, IsRoutineOf, RequestStands, TimerStands, AttentionStands, AssociationStands, is_drained, IsIdle as Idles, WaitStands, WaitsStand}
+use Rattle.vx_record.proofs.Firm.{IsFirm}
 use Rattle.vx_record.proofs.SoundChannels.{IsClear}
 use Rattle.vx_record.specs.State.{Process, State, IsProcess, process_at, change, current, next_id, past_id, with_box}
 use Rattle.vx_record.specs.Parts.{Part, Outcome, commonly}
@@ -108,7 +109,7 @@ IsOfTimer (OfWake target repeat) = ⊥
 
 -- What references ask of moves: where they are answered for, the premise holds in each state whose references stand.
 abbrev pub Answers : Bool → State → Type 0 → Type 0
-Answers refs s P = refs ≡ true → IsSound s → P
+Answers refs s P = refs ≡ true → IsFirm s → P
 
 -- a change of a process in its place that references are not on: it drains no more, it has no frame where it drains, and its frames wait for
 -- status blocks that it has

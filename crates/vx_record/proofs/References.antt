@@ -22,7 +22,8 @@ use Rattle.vx_record.specs.Mailboxes.{this_attention}
 use Rattle.vx_record.specs.Rundown.{in_phase, draining, is_ast_reached, new_handler}
 use Rattle.vx_record.specs.Services.{with_variable}
 use Rattle.vx_record.specs.Timers.{this_timer}
-use Rattle.vx_record.specs.Sound.{Ground, ground, IsMade, IsRoutineOf, RequestStands, TimerStands, AlarmStands, AttentionStands, ProcessStands, AssociationStands, is_drained, IsIdle as Idles, IsSound}
+use Rattle.vx_record.specs.Sound.{Ground, ground, IsMade, IsRoutineOf, RequestStands, TimerStands, AlarmStands, AttentionStands, ProcessStands, AssociationStands, is_drained, IsIdle as Idles}
+use Rattle.vx_record.proofs.Firm.{IsFirm}
 use Rattle.vx_record.proofs.Lists.{all_weaker, all_both, all_append, all_set, all_find}
 use Rattle.vx_record.proofs.Ground.{Base, made_base, routine_of_moves, request_moves, timer_moves, process_moves, association_moves, Still, moved as with_procs, common_still, later_still, past_id_still, at_set, change_sound}
 use Rattle.vx_record.proofs.Changes.{quiet_still, with_queued_still, with_handler_still, without_handler_still, entering_sound, in_phase_still, moved_to_quiet, with_delivery_quiet, with_stored_bytes_quiet, with_stored_status_quiet, with_variable_quiet}
@@ -53,7 +54,7 @@ IsLooseOf g None = Unit {0}
 IsLooseOf g (Some x) = IsMade g x.p × IsRoutineOf g x.p x.ast.tag
 
 pub record Stands (s : State) (l : Option Loose) : Type 0 where
-  pub sound : IsSound s
+  pub sound : IsFirm s
   pub loose : IsLooseOf (ground s) l
 
 loose_on : (g h : Ground) (l : Option Loose) → Base g h → IsLooseOf g l → IsLooseOf h l
@@ -70,7 +71,7 @@ still_stands s t l h k = record { sound = k.sound; loose = loose_on (ground s) (
 passes : (s : State) (k : ℕ) (l : Option Loose) → Stands s l → Stands s (passed k l)
 passes s k l h = record { sound = h.sound; loose = loose_passed (ground s) k l h.loose }
 
-nothing_loose : (s : State) → IsSound s → Stands s None
+nothing_loose : (s : State) → IsFirm s → Stands s None
 nothing_loose s h = record { sound = h; loose = tt }
 
 -- A process changed.
@@ -131,7 +132,7 @@ draining_root : (s : State) (p q : Pid) (m : Mode) (n : ℕ) (mode : Mode) (d : 
 draining_root s p q m n mode (device.Unit u) c = tt
 draining_root s p q m n mode (device.Mailbox b) c = draining_rooted s p q m n b mode c
 
-draining_sound : (s : State) (p : Pid) (m : Mode) → IsProcess s p → (process_at s p).frames ≡ [] → AreUnattended s p (channels_of m (process_at s p).channels) → IsSound s → IsSound (draining p m s)
+draining_sound : (s : State) (p : Pid) (m : Mode) → IsProcess s p → (process_at s p).frames ≡ [] → AreUnattended s p (channels_of m (process_at s p).channels) → IsFirm s → IsFirm (draining p m s)
 draining_sound s p m made bare left h =
     let f = in_phase (phase.Draining m) in
     let t = draining p m s in
@@ -183,7 +184,7 @@ draining_sound s p m made bare left h =
               rw (get_or-set_other s.procs (p.0 - 1) (x.p.0 - 1) (f (process_at s p)) nobody apart) e.going
         ]
 
-tame_sound : (s : State) (p : Pid) (f : Process → Process) → IsSilent true s p f → IsTame s p f → IsSound s → IsSound (change s p f)
+tame_sound : (s : State) (p : Pid) (f : Process → Process) → IsSilent true s p f → IsTame s p f → IsFirm s → IsFirm (change s p f)
 tame_sound s p f q (calm g c) h =
     change_sound s p f (record { decl = q.decl; channel = λ n ch e. rw q.channels e; going = c.going })
     (λ k. record {
@@ -197,11 +198,11 @@ tame_sound s p f q (calm g c) h =
     }) h
 tame_sound s p f q (drains m made bare left) h = draining_sound s p m made bare left h
 
-row_stands : (s : State) (p : Pid) (n : ℕ) (ch : Option Channel) → IsRow s p n ch → IsSound s → IsSound (change s p (with_channel n ch))
+row_stands : (s : State) (p : Pid) (n : ℕ) (ch : Option Channel) → IsRow s p n ch → IsFirm s → IsFirm (change s p (with_channel n ch))
 row_stands s p n None k h = freed_sound s p n k.0 k.1.0 k.1.1 h
 row_stands s p n (Some ch) k h = (assigned_still s p ch.device ch.mode n k.0 k.1 h).sound
 
-created_still : (s : State) (p : Pid) (place : ℕ) → place < length s.system.decls → IsSound s → Still s (record s { procs = s.procs ++ created s p place ∷ [] })
+created_still : (s : State) (p : Pid) (place : ℕ) → place < length s.system.decls → IsFirm s → Still s (record s { procs = s.procs ++ created s p place ∷ [] })
 created_still s p place k h =
     let pr = created s p place in
     let to = ground (record s { procs = s.procs ++ pr ∷ [] }) in

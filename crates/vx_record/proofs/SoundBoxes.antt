@@ -8,13 +8,14 @@ use Rattle.vx_base.specs.declared.request.Msg.{Msg}
 use Rattle.vx_record.specs.State.{State, with_box}
 use Rattle.vx_record.specs.Finish.{this_request}
 use Rattle.vx_record.specs.Mailboxes.{mailbox_at, with_messages, this_attention}
-use Rattle.vx_record.specs.Sound.{ground, RequestStands, AttentionStands, ProcessStands, request_id, attention_id, IsSound}
+use Rattle.vx_record.specs.Sound.{ground, RequestStands, AttentionStands, ProcessStands, request_id, attention_id}
+use Rattle.vx_record.proofs.Firm.{IsFirm}
 use Rattle.vx_record.proofs.Lists.{all_weaker, all_less, ordered_less}
 use Rattle.vx_record.proofs.Ground.{Keeps, process_moves, Still, moved, requests_still, attention_still, at_set}
 
 -- Finish.
 
-pub less_request_still : (s : State) (id : Id) → IsSound s → Still s (record s { requests = less (this_request id) s.requests })
+pub less_request_still : (s : State) (id : Id) → IsFirm s → Still s (record s { requests = less (this_request id) s.requests })
 less_request_still s id h =
     requests_still s (less (this_request id) s.requests) (all_less (RequestStands (ground s)) (this_request id) s.requests h.requests) (ordered_less request_id (this_request id) 0 s.next s.requests h.request_ids) h
 
@@ -28,7 +29,7 @@ box_keeps s b box = record {
   going = λ p m made e. e;
 }
 
-pub box_still : (s : State) (b : BoxNo) (box : Mailbox) → IsSound s → Still s (with_box s b (Some box))
+pub box_still : (s : State) (b : BoxNo) (box : Mailbox) → IsFirm s → Still s (with_box s b (Some box))
 box_still s b box h =
     let k = box_keeps s b box in
     record {
@@ -36,11 +37,11 @@ box_still s b box h =
       sound = moved s s.procs (with_box s b (Some box)).boxes s.units refl k (all_weaker (ProcessStands (ground s)) (ProcessStands (ground (with_box s b (Some box)))) (process_moves (ground s) (ground (with_box s b (Some box))) refl refl k.box) s.procs h.procs) h;
     }
 
-pub with_messages_still : (s : State) (b : BoxNo) (messages : List Msg) → IsSound s → Still s (with_messages s b messages)
+pub with_messages_still : (s : State) (b : BoxNo) (messages : List Msg) → IsFirm s → Still s (with_messages s b messages)
 with_messages_still s b messages h = box_still s b (record (mailbox_at s b) { messages = messages }) h
 
 -- Attention.
 
-pub less_attention_still : (s : State) (id : Id) → IsSound s → Still s (record s { attention = less (this_attention id) s.attention })
+pub less_attention_still : (s : State) (id : Id) → IsFirm s → Still s (record s { attention = less (this_attention id) s.attention })
 less_attention_still s id h =
     attention_still s (less (this_attention id) s.attention) (all_less (AttentionStands (ground s)) (this_attention id) s.attention h.attention) (ordered_less attention_id (this_attention id) 0 s.next s.attention h.attention_ids) h

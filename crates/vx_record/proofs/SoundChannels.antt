@@ -16,7 +16,8 @@ use Rattle.vx_record.specs.Charges.{is_same}
 use Rattle.vx_record.specs.Mailboxes.{is_box}
 use Rattle.vx_record.specs.Cancel.{is_request_on, is_attention_on}
 use Rattle.vx_record.specs.Channels.{is_unit_of, is_box_of, box_number, unit_named, box_named, unit_or_box, with_channel, assigned, is_channel_to, has_channel_to, is_assigned}
-use Rattle.vx_record.specs.Sound.{ground, BoxStands, DeviceStands, ChannelStands, HasChannel, IsRooted, RequestStands, is_drained, TimerStands, AttentionStands, ProcessStands, AssociationStands, IsSound}
+use Rattle.vx_record.specs.Sound.{ground, BoxStands, DeviceStands, ChannelStands, HasChannel, IsRooted, RequestStands, is_drained, TimerStands, AttentionStands, ProcessStands, AssociationStands}
+use Rattle.vx_record.proofs.Firm.{IsFirm}
 use Rattle.vx_record.proofs.Lists.{all_weaker, all_both, all_set, all_at, all_get, none_passes}
 use Rattle.vx_record.proofs.Ground.{Base, made_base, routine_of_moves, request_moves, timer_moves, process_moves, association_moves, Still, change_still, at_set}
 
@@ -36,7 +37,7 @@ assigned_channel : (x : Process) (n : ℕ) (new : Channel) (m : ℕ) (ch : Chann
 assigned_channel x n new m ch free e =
     at_set (λ (a b : Option Channel). a ≡ Some ch → b ≡ Some ch) (λ a k. k) x.channels (n - 1) (m - 1) (Some new) None (λ k. cc) e
 
-pub assigned_still : (s : State) (p : Pid) (d : Device) (mode : Mode) (n : ℕ) → channel_at (process_at s p).channels n ≡ None → DeviceStands (ground s) d → IsSound s → Still s (assigned s p d mode n)
+pub assigned_still : (s : State) (p : Pid) (d : Device) (mode : Mode) (n : ℕ) → channel_at (process_at s p).channels n ≡ None → DeviceStands (ground s) d → IsFirm s → Still s (assigned s p d mode n)
 assigned_still s p d mode n free k h =
     let new : Channel = record { device = d; mode = mode } in
     let x = process_at s p in
@@ -56,7 +57,7 @@ is_some_box name None e = cc
 is_some_box name (Some box) e = refl
 
 -- a device that is found by its name stands
-pub named_stands : (s : State) (name : List ℕ) (u b : Option ℕ) → unit_named s name ≡ u → box_named s name ≡ b → IsSound s → IfSome (unit_or_box u b) (DeviceStands (ground s))
+pub named_stands : (s : State) (name : List ℕ) (u b : Option ℕ) → unit_named s name ≡ u → box_named s name ≡ b → IsFirm s → IfSome (unit_or_box u b) (DeviceStands (ground s))
 named_stands s name (Some u) b e f h = let at = position-Some (is_unit_of name) s.system.units u no_unit_decl e in omega (arith, at.0, h.units)
 named_stands s name None (Some b) e f h = is_some_box name _ (position-Some (is_box_of name) s.boxes b None f).1
 named_stands s name None None e f h = tt
@@ -106,7 +107,7 @@ rooted_stays : (s : State) (p q : Pid) (n m : ℕ) (mode : Mode) (d : Device) �
 rooted_stays s p q n m mode (device.Unit u) made also number other c = tt
 rooted_stays s p q n m mode (device.Mailbox b) made also number other c = channel_stays s p q n m b mode made also number other c
 
-pub freed_sound : (s : State) (p : Pid) (n : ℕ) → IsProcess s p → is_channel_number n ≡ true → IsClear s p n → IsSound s → IsSound (change s p (with_channel n None))
+pub freed_sound : (s : State) (p : Pid) (n : ℕ) → IsProcess s p → is_channel_number n ≡ true → IsClear s p n → IsFirm s → IsFirm (change s p (with_channel n None))
 freed_sound s p n made number clear h =
     let f = with_channel n None in
     let t = change s p f in
@@ -181,7 +182,7 @@ rooted_same : (s : State) (b : BoxNo) (p : Pid) (n : ℕ) (mode : Mode) (d : Dev
 rooted_same s b p n mode (device.Unit u) k = tt
 rooted_same s b p n mode (device.Mailbox c) k = record { number = k.number; row = k.row }
 
-pub gone_sound : (s : State) (b : BoxNo) → is_assigned s b ≡ false → IsSound s → IsSound (with_box s b None)
+pub gone_sound : (s : State) (b : BoxNo) → is_assigned s b ≡ false → IsFirm s → IsFirm (with_box s b None)
 gone_sound s b none h =
     let t = with_box s b None in
     let g = ground s in

@@ -11,7 +11,8 @@ use Rattle.vx_base.specs.declared.effects.Cell.TheVariants.{Local, Common as Sha
 use Rattle.vx_base.specs.declared.number.Pid.{Pid}
 use Rattle.vx_record.specs.State.{State, IsWithin, process_at}
 use Rattle.vx_record.specs.Flags.{with_local_flag, with_cluster_flag, with_cell, flag_part}
-use Rattle.vx_record.specs.Sound.{AssociationStands, IsSound}
+use Rattle.vx_record.specs.Sound.{AssociationStands}
+use Rattle.vx_record.proofs.Firm.{IsFirm}
 use Rattle.vx_record.proofs.Lists.{either, either_by, all_weaker, all_both, all_append, all_less, find_passes, none_passes}
 use Rattle.vx_record.proofs.Ground.{Still, common_still}
 use Rattle.vx_record.proofs.Changes.{quiet_still, with_local_flag_quiet}
@@ -134,12 +135,12 @@ marked_stands n c group name h = marked_at_stands n c (find (is_cluster group na
 
 -- Flags.
 
-with_cell_still : (s : State) (c : Cell) (on : Bool) → IsSound s → Still s (with_cell s c on)
+with_cell_still : (s : State) (c : Cell) (on : Bool) → IsFirm s → Still s (with_cell s c on)
 with_cell_still s (Local p n) on h = quiet_still s p (with_local_flag n on) (with_local_flag_quiet n on (process_at s p)) h
 with_cell_still s (Shared group name n) on h =
     let clusters = amend (is_cluster group name) (with_cluster_flag n on) s.common.clusters in
     common_still s (record s.common { clusters = clusters })
     (clusters_move (length s.procs) s.common clusters (λ a k. any_amend (is_cluster group name) (is_cluster a.group a.name) (with_cluster_flag n on) (λ x. refl) s.common.clusters k) h.associations) h
 
-pub flag_part_still : (s : State) (c : Cell) (on : Bool) → IsSound s → Still s (flag_part s c on).after
+pub flag_part_still : (s : State) (c : Cell) (on : Bool) → IsFirm s → Still s (flag_part s c on).after
 flag_part_still s c on h = with_cell_still s c on h

@@ -10,7 +10,8 @@ use Rattle.vx_record.specs.State.{Process, State, IsProcess, process_at, nobody}
 use Rattle.vx_record.specs.Parts.{each}
 use Rattle.vx_record.specs.Control.{born}
 use Rattle.vx_record.specs.Rundown.{drop_handler}
-use Rattle.vx_record.specs.Sound.{ground, ProcessStands, ChannelStands, IsSound}
+use Rattle.vx_record.specs.Sound.{ground, ProcessStands, ChannelStands}
+use Rattle.vx_record.proofs.Firm.{IsFirm}
 use Rattle.vx_record.proofs.Ground.{Keeps, Still, still, still_then}
 use Rattle.vx_record.proofs.Changes.{without_handler_still}
 
@@ -48,9 +49,9 @@ born_stands s place group member privs mode k = record {
 
 -- Exit handlers.
 
-drop_handler_still : (p : Pid) (s : State) (d : Handler) → IsSound s → Still s (drop_handler p s d).after
+drop_handler_still : (p : Pid) (s : State) (d : Handler) → IsFirm s → Still s (drop_handler p s d).after
 drop_handler_still p s d h = without_handler_still s p d.id h
 
-pub each_drop_handler_still : (p : Pid) (ds : List Handler) (s : State) → IsSound s → Still s (each (drop_handler p) ds s).after
+pub each_drop_handler_still : (p : Pid) (ds : List Handler) (s : State) → IsFirm s → Still s (each (drop_handler p) ds s).after
 each_drop_handler_still p [] s h = still s h
 each_drop_handler_still p (d ∷ ds) s h = let one = drop_handler_still p s d h in still_then one (each_drop_handler_still p ds (drop_handler p s d).after one.sound)

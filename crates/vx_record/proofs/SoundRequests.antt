@@ -24,10 +24,11 @@ use Rattle.vx_record.specs.Flags.{cell}
 use Rattle.vx_record.specs.Finish.{this_request}
 use Rattle.vx_record.specs.Channels.{usable_in, channel_test}
 use Rattle.vx_record.specs.Requests.{with_attention, Asked, is_bad, has_function, is_too_long, is_full, device_test, on_channel, on_cell, request_test, promised, with_request, taken_up, begun, with_unit}
-use Rattle.vx_record.specs.Sound.{Ground, ground, process_of, IsRoutineOf, DeviceStands, ChannelStands, IsRooted, MayBeServed, RequestStands, AttentionStands, ProcessStands, AreOrdered, request_id, attention_id, IsSound}
+use Rattle.vx_record.specs.Sound.{Ground, ground, process_of, IsRoutineOf, DeviceStands, ChannelStands, IsRooted, MayBeServed, RequestStands, AttentionStands, ProcessStands, AreOrdered, request_id, attention_id}
+use Rattle.vx_record.proofs.Firm.{IsFirm}
 use Rattle.vx_record.proofs.Lists.{either, either_by, all_weaker, all_append, all_find, ordered_more, ordered_amend, all_from, all_get}
 use Rattle.vx_record.proofs.Ground.{Keeps, process_moves, Still, still_then, moved, requests_still, attention_still, past_id_still}
-use Rattle.vx_record.proofs.Changes.{stands_at}
+use Rattle.vx_record.proofs.Changes.{firm_at}
 
 -- A channel that passed the test.
 
@@ -42,9 +43,9 @@ tested_channel s p n ch =
     (λ e same. (e, usable_row (current s p) (channel_at (process_at s p).channels n) ch same)) (λ e same. cc)
 
 -- an assigned channel's device stands
-pub device_stands : (s : State) (p : Pid) (n : ℕ) (ch : Channel) → IsProcess s p → channel_at (process_at s p).channels n ≡ Some ch → IsSound s → DeviceStands (ground s) ch.device
+pub device_stands : (s : State) (p : Pid) (n : ℕ) (ch : Channel) → IsProcess s p → channel_at (process_at s p).channels n ≡ Some ch → IsFirm s → DeviceStands (ground s) ch.device
 device_stands s p n ch m e h =
-    let k = all_get (ChannelStands (ground s)) (process_at s p).channels (n - 1) None tt (stands_at s p h m).channels in
+    let k = all_get (ChannelStands (ground s)) (process_at s p).channels (n - 1) None tt (firm_at s p h m).channels in
     let P : Option Channel → Type 0 = λ o. ChannelStands (ground s) o in
     let there : P (Some ch) = rw e at k in
     there
@@ -63,7 +64,7 @@ pub promised_stands : (g : Ground) (p : Pid) (mode : Mode) (o : Option Entry) �
 promised_stands g p mode None h = tt
 promised_stands g p mode (Some tag) h = h
 
-pub with_request_still : (s : State) (r : Request) → r.req.id ≡ next_id s → RequestStands (ground s) r → IsSound s → Still s (with_request (past_id s) r)
+pub with_request_still : (s : State) (r : Request) → r.req.id ≡ next_id s → RequestStands (ground s) r → IsFirm s → Still s (with_request (past_id s) r)
 with_request_still s r e k h =
     still_then (past_id_still s h)
     (requests_still (past_id s) (s.requests ++ r ∷ []) (all_append (RequestStands (ground s)) s.requests (r ∷ []) h.requests (k, tt))
@@ -71,7 +72,7 @@ with_request_still s r e k h =
 
 -- Attention.
 
-pub with_attention_still : (s : State) (a : Attention) → a.id ≡ next_id s → AttentionStands (ground s) a → IsSound s → Still s (with_attention (past_id s) a)
+pub with_attention_still : (s : State) (a : Attention) → a.id ≡ next_id s → AttentionStands (ground s) a → IsFirm s → Still s (with_attention (past_id s) a)
 with_attention_still s a e k h =
     still_then (past_id_still s h)
     (attention_still (past_id s) (s.attention ++ a ∷ []) (all_append (AttentionStands (ground s)) s.attention (a ∷ []) h.attention (k, tt))
@@ -114,7 +115,7 @@ unit_keeps s u unit = record {
   going = λ p m made e. e;
 }
 
-pub with_unit_still : (s : State) (u : UnitNo) (unit : DeviceUnit) → IsSound s → Still s (with_unit s u unit)
+pub with_unit_still : (s : State) (u : UnitNo) (unit : DeviceUnit) → IsFirm s → Still s (with_unit s u unit)
 with_unit_still s u unit h =
     let k = unit_keeps s u unit in
     record {
@@ -154,7 +155,7 @@ taken_up_stands g u r e k = record {
   routine = k.routine;
 }
 
-pub begun_sound : (s : State) (u : UnitNo) (r : Request) → find (waits_for u) s.requests ≡ Some r → IsSound s → IsSound (begun s r)
+pub begun_sound : (s : State) (u : UnitNo) (r : Request) → find (waits_for u) s.requests ≡ Some r → IsFirm s → IsFirm (begun s r)
 begun_sound s u r e h =
     let P = RequestStands (ground s) in
     (requests_still s (amend (this_request r.req.id) taken_up s.requests)

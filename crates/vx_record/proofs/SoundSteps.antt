@@ -24,6 +24,9 @@ use Rattle.vx_record.proofs.Base.{Base}
 use Rattle.vx_record.proofs.Called.{called}
 use Rattle.vx_record.proofs.Fits.{field_same}
 use Rattle.vx_record.proofs.Moves.{IsAlarmMade, OutcomeBy}
+use Rattle.vx_record.specs.Requests.{begun}
+use Rattle.vx_record.proofs.Firm.{firm, sound_of}
+use Rattle.vx_record.proofs.OwnIds.{moves_own, own_of, owned, started_own, begun_own, first_own}
 use Rattle.vx_record.proofs.References.{moves_stand}
 use Rattle.vx_record.proofs.Lists.{all_weaker}
 use Rattle.vx_record.specs.State.{Process, State, IsProcess, HasFrame, process_at, change, image_of, pid}
@@ -121,7 +124,9 @@ sound_base s h = record {
     alarm_made p (OfWake target repeat) k = k
 
 moved_sound : {A : Type 0} (s : State) (o : Outcome A) → OutcomeBy true s o → IsSound s → IsSound o.after
-moved_sound s o k h = (moves_stand s None o.effects o.after None k (record { sound = h; loose = tt })).sound
+moved_sound s o k h =
+    sound_of o.after (moves_stand s None o.effects o.after None k (record { sound = firm s h; loose = tt })).sound
+    (owned o.after (moves_own s None o.effects o.after None k (own_of s h.own_ids)))
 
 pub service_sound : (s : State) (p : Pid) (c : Call) → FitsImage (image_of s p) c → IsProcess s p → HasFrame s p → IsSound s → IsSound (service s p c).after
 service_sound s p c k m f h = moved_sound s (service s p c) (service_moves s p c (record { base = sound_base s h; made = m }) (λ e. called s p c k f)) h
@@ -140,14 +145,14 @@ delivered_sound s p (Some q) e h =
     let t = change s p (without_ast q.id) in
     let has : HasFrame t p = rw (field_same (λ (pr : Process). pr.frames) (without_ast q.id) s p p refl) (deliverable_framed s p q e) in
     let o : Outcome Answer = delivered s p (Some q) in
-    moved_sound t o (started_moves t p q q.tag (λ y. has)) (without_ast_still s p q.id h).sound
+    moved_sound t o (started_moves t p q q.tag (λ y. has)) (sound_of t (without_ast_still s p q.id (firm s h)).sound (started_own s p q.id h.own_ids))
 
 front_found : (u : UnitNo) (xs : List Request) (r : Request) → front u xs ≡ Some r → find (waits_for u) xs ≡ Some r
 front_found u xs r = either (λ (o : Option Request). o ≡ Some r → find (waits_for u) xs ≡ Some r) (list_any (is_served_by u) xs) _ _ (λ e. cc) (λ e. e)
 
 beg_sound : (s : State) (u : UnitNo) (o : Option Request) → front u s.requests ≡ o → IsSound s → IsSound (beg s o).after
 beg_sound s u None e h = h
-beg_sound s u (Some r) e h = begun_sound s u r (front_found u s.requests r e) h
+beg_sound s u (Some r) e h = sound_of (begun s r) (begun_sound s u r (front_found u s.requests r e) (firm s h)) (begun_own s r h.own_ids)
 
 allowed_sound : (s : State) (e : Event) → Allowed s e → IsWellFormed s.system → IsSound s → IsSound (step s e).after
 unfolding Allowed
@@ -189,6 +194,7 @@ first_sound system = record {
   request_ids = omega arith;
   timer_ids = omega arith;
   attention_ids = omega arith;
+  own_ids = first_own system;
 }
 
 -- Along a run.

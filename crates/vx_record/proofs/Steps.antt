@@ -117,9 +117,10 @@ use Rattle.vx_record.specs.Asts.{with_queued}
 use Rattle.vx_record.specs.Channels.{is_box_of, unit_named}
 use Rattle.vx_record.specs.Finish.{with_stored_bytes}
 use Rattle.vx_record.specs.Rundown.{leaving, leaving_deleted, keeps_busy}
-use Rattle.vx_record.specs.Sound.{IsSound, ground, IsRoutineOf, DeviceStands, RequestStands, AttentionStands, MayBeServed, IsIdle as Idles}
+use Rattle.vx_record.specs.Sound.{ground, IsRoutineOf, DeviceStands, RequestStands, AttentionStands, MayBeServed, IsIdle as Idles}
+use Rattle.vx_record.proofs.Firm.{IsFirm}
 use Rattle.vx_record.proofs.Lists.{all_less, all_amend, ordered_amend, ordered_less, removed, fails_not, false_from, apart_bools, none_passes}
-use Rattle.vx_record.proofs.Changes.{Quiet, with_wait_quiet, with_wake_quiet, with_suspension_quiet, with_variable_quiet, put_back_quiet, below_top_quiet, woken_quiet, leaving_going, deleted_going, idle_none, idle_of, stands_at}
+use Rattle.vx_record.proofs.Changes.{Quiet, with_wait_quiet, with_wake_quiet, with_suspension_quiet, with_variable_quiet, put_back_quiet, below_top_quiet, woken_quiet, leaving_going, deleted_going, idle_none, idle_of, firm_at}
 use Rattle.vx_record.proofs.Called.{IsCalled, declared_routine, handler_routine, third_routine, fifth_routine, IsStopped, stopped_call, moved_stopped, advanced_stopped}
 use Rattle.vx_record.proofs.Fits.{field_same, IsSeated, seated_then, cell_seated, status_seated, routine_seated, IsFit, tested_fits, fit_seated, fit_request, fit_attention}
 use Rattle.vx_record.proofs.Freeing.{IsFreeing, IsReleased, freeing_first, freeing_row, freed_on, released_frames, phase_at}
@@ -272,7 +273,7 @@ service_of_moves s p a Resume h fits = at_tested_moves s (changed_process s (wit
 service_of_moves s p a ForceX h fits = at_tested_moves s (forced s (number a.a1)) (process_test s p (number a.a0)) (λ q e. forced_moves s (number a.a1) q (test_made s p (number a.a0) q e))
 service_of_moves s p a CrePrc h fits =
     let o = creprc s p (decl_place s (text a.a1)) in
-    numbered_at_moves s p (place a.a0) (part_of o) o.answer (outcome_either s (nat_le 1000 (length s.procs)) _ _ (none s None) (newly s None p (decl_place s (text a.a1)) (tt, declared_place s p (text a.a1) h.made) (λ e i. placed (λ (d : ProcDecl). bytes_eq d.name (text a.a1)) s.system.decls (omega (arith, (stands_at s p i h.made).decl)))))
+    numbered_at_moves s p (place a.a0) (part_of o) o.answer (outcome_either s (nat_le 1000 (length s.procs)) _ _ (none s None) (newly s None p (decl_place s (text a.a1)) (tt, declared_place s p (text a.a1) h.made) (λ e i. placed (λ (d : ProcDecl). bytes_eq d.name (text a.a1)) s.system.decls (omega (arith, (firm_at s p i h.made).decl)))))
 service_of_moves s p a DelPrc h fits = at_tested_moves s (deleted_by s) (process_test s p (number a.a0)) (λ q e. deleted_by_moves s q (record { base = h.base; made = test_made s p (number a.a0) q e }))
 service_of_moves s p a Exit h fits = exited_moves s p (number a.a0)
 service_of_moves s p a DclExh h fits = outcome_either s (is_kernel (current s p)) _ _ (none s None) (open_handler s p (routine s p a.a0 0) h.made (λ e i. handler_routine s p a (fits e)))

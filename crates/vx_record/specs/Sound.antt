@@ -1,6 +1,6 @@
 -- References stand: what the state names is there, and what services tested of it still holds. Services and events rely on
 -- it, and keep it.
-use Rattle.std.specs.Prelude.{◌≡◌, ℕ, ◌+◌, ◌-◌, ◌<◌, ◌≤◌, List, [], ◌∷◌, Bool, false, IsTrue, IfSome, Option, Some, None, length, is_some, slice_index_or, ⊤}
+use Rattle.std.specs.Prelude.{◌≡◌, ◌==◌, ℕ, ◌+◌, ◌-◌, ◌<◌, ◌≤◌, List, [], ◌∷◌, Bool, false, IsTrue, IfSome, Option, Some, None, length, is_some, slice_index_or, ⊤}
 use Rattle.std.specs.List.{AllByRecursion, list_all}
 use Rattle.vx_base.specs.Channels.{is_channel_number, channel_at}
 use Rattle.vx_base.specs.Clusters.{Common, stands}
@@ -23,6 +23,7 @@ use Rattle.vx_base.specs.declared.routine.Entry.TheVariants as entry
 use Rattle.vx_image.specs.WellFormed.{has_its_label}
 use Rattle.vx_image.specs.declared.image.Image.{Image}
 use Rattle.vx_image.specs.declared.system.System.{System}
+use Rattle.vx_record.specs.Parts.{tally, total}
 use Rattle.vx_record.specs.State.{Process, State, IsWithin, nobody, no_decl, no_image}
 
 -- What references are to: the system, the processes, the mailboxes, and how many units there are.
@@ -170,7 +171,22 @@ timer_id t = t.id.0
 abbrev pub attention_id : Attention → ℕ
 attention_id a = a.id.0
 
--- There are the script's units; all that the state names stands; and ids rise, below the next id.
+-- What bears an id: requests, timers and attention entries, and of each process its queued ASTs and its exit handlers.
+
+abbrev pub process_bears : ℕ → Process → ℕ
+process_bears id pr = tally (λ q. q.id.0 == id) pr.asts + tally (λ h. h.id.0 == id) pr.handlers
+
+abbrev pub bearers : State → ℕ → ℕ
+bearers s id =
+    tally (λ r. request_id r == id) s.requests + (tally (λ t. timer_id t == id) s.timers + (tally (λ a. attention_id a == id) s.attention + total (process_bears id) s.procs))
+
+-- no two open things have one id, and all ids are below the next
+pub record HaveOwnIds (s : State) : Type 0 where
+  pub single : (id : ℕ) → bearers s id ≤ 1
+  pub below : (id : ℕ) → s.next ≤ id → bearers s id ≡ 0
+
+-- There are the script's units; all that the state names stands; ids rise, below the next id; and no two open things have
+-- one id.
 pub record IsSound (s : State) : Type 0 where
   pub units : length s.units ≡ length s.system.units
   pub procs : AllByRecursion (ProcessStands (ground s)) s.procs
@@ -181,6 +197,7 @@ pub record IsSound (s : State) : Type 0 where
   pub request_ids : AreOrdered request_id 0 s.next s.requests
   pub timer_ids : AreOrdered timer_id 0 s.next s.timers
   pub attention_ids : AreOrdered attention_id 0 s.next s.attention
+  pub own_ids : HaveOwnIds s
 
 -- What a caller of a service owes: the call's arguments are of the kinds that the service takes, and the labels that they
 -- name are the image's.
