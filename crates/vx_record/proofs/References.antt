@@ -29,14 +29,14 @@ use Rattle.vx_record.proofs.Ground.{Base, made_base, routine_of_moves, request_m
 use Rattle.vx_record.proofs.Changes.{quiet_still, with_queued_still, with_handler_still, without_handler_still, entering_sound, in_phase_still, moved_to_quiet, with_delivery_quiet, with_stored_bytes_quiet, with_stored_status_quiet, with_variable_quiet}
 use Rattle.vx_record.proofs.Fits.{field_same}
 use Rattle.vx_record.proofs.Moves.{Loose, passed, loosed, loosed_timer, IsAlarmMade, IsTame, calm, drains, IsSilent, IsRow, AreUnattended, MovesBy, none, skip, both, quiet, moved, bytes, var, status, enb, channel, newly, gone, leave, flag, clusters, open_ast, open_force, que, end_asts, open_handler, end_handler, end_handlers, enter, open_request, fin, mark, unit, mput, mget, mcut, box_opens, box_ends, box_marked, open_attention, attention_fires, end_attention, open_timer, open_wake, timer_fires, wake_fires, end_timer, time}
-use Rattle.vx_record.proofs.SoundAsts.{with_timer_still, less_timer_still, after_wake_still}
-use Rattle.vx_record.proofs.SoundBoxes.{less_request_still, less_attention_still, box_still, with_messages_still}
-use Rattle.vx_record.proofs.SoundCancel.{mark_still}
+use Rattle.vx_record.proofs.SoundLists.{with_timer_still, less_timer_still, after_wake_still}
+use Rattle.vx_record.proofs.SoundLists.{less_request_still, less_attention_still, box_still, with_messages_still}
+use Rattle.vx_record.proofs.SoundLists.{mark_still}
 use Rattle.vx_record.proofs.SoundChannels.{assigned_still, freed_sound, gone_sound}
 use Rattle.vx_record.proofs.SoundFlags.{flag_part_still}
-use Rattle.vx_record.proofs.SoundProcs.{more_keeps, born_stands, each_drop_handler_still}
+use Rattle.vx_record.proofs.SoundLists.{more_keeps, born_stands, each_drop_handler_still}
 use Rattle.vx_record.proofs.SoundRequests.{with_request_still, with_unit_still, with_attention_still}
-use Rattle.vx_record.proofs.SoundRundown.{each_drop_ast_still}
+use Rattle.vx_record.proofs.SoundLists.{each_drop_ast_still}
 use Rattle.std.proofs.Common.{zero, suc, nat_le, get_or}
 use Rattle.std.proofs.lemmas.Bool.{and_parts, and_from, eq-eqb, or_cases, or_left, or_right, leb-true}
 use Rattle.vx_base.specs.Channels.{channel_at, is_reached, reached_from}

@@ -40,7 +40,7 @@ use Rattle.vx_record.specs.Runs.{born_of, born_from, first_unit, first, AreSteps
 use Rattle.vx_record.specs.Sound.{ground, RequestStands, ProcessStands, IsSound, FitsImage}
 use Rattle.vx_record.proofs.Lists.{either, either_by, all_append, all_at}
 use Rattle.vx_record.proofs.Changes.{without_ast_still}
-use Rattle.vx_record.proofs.SoundProcs.{all_free}
+use Rattle.vx_record.proofs.SoundLists.{all_free}
 use Rattle.vx_record.proofs.SoundRequests.{begun_sound}
 use Rattle.vx_record.proofs.SystemKept.{step_keeps_system}
 
