@@ -111,8 +111,8 @@ IsOfTimer (OfWake target repeat) = ⊥
 abbrev pub Answers : Bool → State → Type 0 → Type 0
 Answers refs s P = refs ≡ true → IsFirm s → P
 
--- a change of a process in its place that references are not on: it drains no more, it has no frame where it drains, and its frames wait for
--- status blocks that it has
+-- a change of a process that references are not on: it drains no more than before, it has no frame where it drains, and its
+-- frames wait for status blocks that it has
 pub record IsCalm (x y : Process) : Type 0 where
   pub going : (m : Mode) → is_drained x.phase m ≡ false → is_drained y.phase m ≡ false
   pub idle : Idles x.phase x.frames → Idles y.phase y.frames

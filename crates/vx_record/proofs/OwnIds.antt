@@ -95,9 +95,9 @@ fewer_own k h = record { single = λ id. let a = h.single id in let b = k.few id
 more_own : {s : State} {l : Option Loose} {t : State} {m : Option Loose} → OneMore s l t m → Own s l → Own t m
 more_own {s} {l} {t} {m} k h = record {
   single = λ id. let b = k.few id in elim (cases_eq s.next id) [
-      | inl here ↦ let a = h.below id (omega (arith, here)) in let c : one (s.next == id) ≡ 1 = rw (eq-eqb s.next id here) refl in omega (arith, a, b, c)
-      | inr other ↦ let a = h.single id in let c : one (s.next == id) ≡ 0 = rw (ne_eqb s.next id other) refl in omega (arith, a, b, c)
-    ];
+    | inl here ↦ let a = h.below id (omega (arith, here)) in let c : one (s.next == id) ≡ 1 = rw (eq-eqb s.next id here) refl in omega (arith, a, b, c)
+    | inr other ↦ let a = h.single id in let c : one (s.next == id) ≡ 0 = rw (ne_eqb s.next id other) refl in omega (arith, a, b, c)
+  ];
   below = λ id e. let n = k.next in let b = k.few id in let a = h.below id (omega (arith, n, e)) in let c : one (s.next == id) ≡ 0 = rw (ne_eqb s.next id (λ (same : s.next ≡ id). omega (arith, n, e))) refl in omega (arith, a, b, c);
 }
 
@@ -175,10 +175,13 @@ moves_own s l es t m (clusters x a c k idle told ok) h = fewer_own (still_fewer 
 moves_own s l es t m (open_ast x p mode tag made ok) h = more_own (record { next = refl; few = λ id. omega arith }) h
 moves_own s l es t m (open_force x p code made) h = more_own (record { next = refl; few = λ id. omega arith }) h
 moves_own s l es t m (que x p q stage made) h =
-    fewer_own (record { next = refl; few = λ id.
-    let e = tally_append (λ (y : Queued). y.id.0 == id) (process_at x p).asts q in
-    let f = change_bears x p (with_queued q) id (one (q.id.0 == id)) (omega (arith, e)) in
-    omega (arith, f) }) h
+    fewer_own (record {
+      next = refl;
+      few = λ id.
+          let e = tally_append (λ (y : Queued). y.id.0 == id) (process_at x p).asts q in
+          let f = change_bears x p (with_queued q) id (one (q.id.0 == id)) (omega (arith, e)) in
+          omega (arith, f);
+    }) h
 moves_own s l es t m (end_asts x p mode made) h = each_asts_own p (filter (is_ast_reached mode) (process_at x p).asts) x h
 moves_own s l es t m (open_handler x p tag made ok) h = more_own (record { next = refl; few = λ id. let f = change_bears (past_id x) p (with_handler (new_handler x p tag)) id (one (x.next == id)) (omega arith) in omega (arith, f) }) h
 moves_own s l es t m (end_handler x p test d made is) h = fewer_own (drop_handler_fewer p x d.id) h
