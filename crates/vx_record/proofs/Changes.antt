@@ -1,5 +1,6 @@
 -- Changes of one process that keep references.
-use Rattle.std.proofs.Common.{◌≡◌, ℕ, ◌+◌, ◌-◌, ◌≤◌, List, [], ◌∷◌, Bool, false, nat_lt, length, Option, None, refl, sym, ap, ◌∙◌, arith}
+use Rattle.std.proofs.Common.{IfSome}
+use Rattle.std.proofs.Common.{◌≡◌, ℕ, ◌-◌, ◌≤◌, List, [], ◌∷◌, Bool, false, nat_lt, length, Option, None, refl, sym, ap, ◌∙◌, arith}
 use Rattle.vx_base.specs.Pieces.{Queued, Handler, Status}
 use Rattle.vx_base.specs.declared.call.Target.{Target}
 use Rattle.vx_base.specs.declared.frame.Frame.{Frame}
@@ -11,16 +12,19 @@ use Rattle.vx_base.specs.declared.mode.Mode.{Mode}
 use Rattle.vx_base.specs.declared.number.Id.{Id}
 use Rattle.vx_base.specs.declared.number.Pid.{Pid}
 use Rattle.vx_image.specs.Storage.{Storage}
-use Rattle.vx_record.specs.State.{Process, State, IsProcess, process_at, change, top_mode, with_top}
+use Rattle.vx_record.specs.State.{Process, State, IsProcess, process_at, change, with_top}
 use Rattle.vx_record.specs.Flags.{with_local_flag, with_wait}
-use Rattle.vx_record.specs.Asts.{with_queued, with_delivery, with_frame}
+use Rattle.vx_record.specs.Asts.{with_queued, with_delivery}
 use Rattle.vx_record.specs.Finish.{with_stored_bytes, with_stored_status}
 use Rattle.vx_record.specs.Control.{with_wake, with_suspension}
-use Rattle.vx_record.specs.Rundown.{leaving, without_frames, with_handler, without_handler, leaving_deleted, named_for_deletion, in_phase, without_ast, entering}
+use Rattle.vx_record.specs.Rundown.{leaving, with_handler, without_handler, leaving_deleted, in_phase, without_ast, entering}
 use Rattle.vx_record.specs.Services.{with_variable}
-use Rattle.vx_record.specs.Events.{uses_wake, with_r0, moved_to, moved_behind, without_top, below_top, put_back}
-use Rattle.vx_record.specs.Sound.{ground, IsRoutine, IsRoutineOf, is_drained, IsIdle, ProcessStands, IsSound}
+use Rattle.vx_record.specs.Events.{uses_wake, with_r0, moved_to, without_top, below_top, put_back}
+use Rattle.vx_record.specs.Sound.{ground, IsRoutine, IsRoutineOf, is_drained, IsIdle, ProcessStands}
+use Rattle.vx_record.specs.Sound.{IsSound}
+use Rattle.vx_record.proofs.Firm.{IsFirm}
 use Rattle.vx_record.proofs.Lists.{either, all_append, all_less, all_at}
+use Rattle.vx_record.specs.Sound.{WaitStands, WaitsStand}
 use Rattle.vx_record.proofs.Ground.{Seat, Still, change_sound, change_still}
 
 -- Idle processes.
@@ -55,8 +59,21 @@ pub idle_below : (ph : Phase) (frames : List Frame) → IsIdle ph frames → IsI
 idle_below ph [] i = idle_none ph
 idle_below ph (x ∷ xs) i = idle_of ph (x ∷ xs) xs (omega arith) i
 
+-- of a state whose references stand
 pub stands_at : (s : State) (p : Pid) → IsSound s → IsProcess s p → ProcessStands (ground s) (process_at s p)
 stands_at s p h m = all_at (ProcessStands (ground s)) s.procs (p.0 - 1) _ h.procs (omega (arith, m.above, m.within))
+
+pub firm_at : (s : State) (p : Pid) → IsFirm s → IsProcess s p → ProcessStands (ground s) (process_at s p)
+firm_at s p h m = all_at (ProcessStands (ground s)) s.procs (p.0 - 1) _ h.procs (omega (arith, m.above, m.within))
+
+-- the waits of frames of which the top is changed, and left
+waits_top : (f : Frame → Frame) (frames : List Frame) → ((x : Frame) → IfSome x.wait WaitStands → IfSome (f x).wait WaitStands) → WaitsStand frames → WaitsStand (with_top f frames)
+waits_top f [] k h = tt
+waits_top f (x ∷ xs) k h = (k x h.0, h.1)
+
+waits_below : (frames : List Frame) → WaitsStand frames → WaitsStand (without_top frames)
+waits_below [] h = tt
+waits_below (x ∷ xs) h = h.1
 
 -- A change of nothing that references are on.
 pub record Quiet (x y : Process) : Type 0 where
@@ -66,7 +83,7 @@ pub record Quiet (x y : Process) : Type 0 where
   pub handlers : y.handlers ≡ x.handlers
   pub phase : y.phase ≡ x.phase
   pub idle : IsIdle x.phase x.frames → IsIdle x.phase y.frames
-  pub down : x.frames ≡ [] → y.frames ≡ []
+  pub waits : WaitsStand x.frames → WaitsStand y.frames
 
 quiet_seat : (x y : Process) → Quiet x y → Seat x y
 quiet_seat x y q = record {
@@ -83,12 +100,12 @@ quiet_then x y z a b = record {
   handlers = b.handlers ∙ a.handlers;
   phase = b.phase ∙ a.phase;
   idle = λ i. rw (sym a.phase) (b.idle (rw a.phase (a.idle i)));
-  down = λ e. b.down (a.down e);
+  waits = λ w. b.waits (a.waits w);
 }
 
-pub quiet_still : (s : State) (p : Pid) (f : Process → Process) → Quiet (process_at s p) (f (process_at s p)) → IsSound s → Still s (change s p f)
+pub quiet_still : (s : State) (p : Pid) (f : Process → Process) → Quiet (process_at s p) (f (process_at s p)) → IsFirm s → Still s (change s p f)
 quiet_still s p f q h =
-    change_still s p f (quiet_seat (process_at s p) (f (process_at s p)) q) q.down
+    change_still s p f (quiet_seat (process_at s p) (f (process_at s p)) q)
     (λ k. record {
       decl = rw q.decl k.decl;
       numbers = rw q.channels k.numbers;
@@ -96,16 +113,17 @@ quiet_still s p f q h =
       asts = rw (q.asts, q.decl) k.asts;
       handlers = rw (q.handlers, q.decl) k.handlers;
       idle = rw q.phase (q.idle k.idle);
+      waits = q.waits k.waits;
     }) h
 
 same_frames : (x y : Process) → y.decl ≡ x.decl → y.channels ≡ x.channels → y.asts ≡ x.asts → y.handlers ≡ x.handlers → y.phase ≡ x.phase → y.frames ≡ x.frames → Quiet x y
-same_frames x y a b c d e f = record { decl = a; channels = b; asts = c; handlers = d; phase = e; idle = λ i. rw f i; down = λ e. f ∙ e }
+same_frames x y a b c d e f = record { decl = a; channels = b; asts = c; handlers = d; phase = e; idle = λ i. rw f i; waits = λ w. rw f w }
 
 pub with_local_flag_quiet : (n : ℕ) (on : Bool) (pr : Process) → Quiet pr (with_local_flag n on pr)
 with_local_flag_quiet n on pr = either (Quiet pr) (nat_lt n 32) _ _ (same_frames pr _ refl refl refl refl refl refl) (same_frames pr _ refl refl refl refl refl refl)
 
-pub with_wait_quiet : (w : Option Wait) (pr : Process) → Quiet pr (with_wait w pr)
-with_wait_quiet w pr = record { decl = refl; channels = refl; asts = refl; handlers = refl; phase = refl; idle = idle_top pr.phase (λ f. record f { wait = w }) pr.frames; down = λ e. ap (with_top (λ f. record f { wait = w })) e }
+pub with_wait_quiet : (w : Option Wait) (pr : Process) → IfSome w WaitStands → Quiet pr (with_wait w pr)
+with_wait_quiet w pr k = record { decl = refl; channels = refl; asts = refl; handlers = refl; phase = refl; idle = idle_top pr.phase (λ f. record f { wait = w }) pr.frames; waits = λ h. waits_top (λ f. record f { wait = w }) pr.frames (λ f r. k) h }
 
 pub with_delivery_quiet : (m : Mode) (on : Bool) (pr : Process) → Quiet pr (with_delivery m on pr)
 with_delivery_quiet m on pr = same_frames pr _ refl refl refl refl refl refl
@@ -126,16 +144,13 @@ pub with_variable_quiet : (t : Target) (n : ℕ) (pr : Process) → Quiet pr (wi
 with_variable_quiet t n pr = same_frames pr _ refl refl refl refl refl refl
 
 pub moved_to_quiet : (store : Storage) (place : ℕ) (pr : Process) → Quiet pr (moved_to store place pr)
-moved_to_quiet store place pr = record { decl = refl; channels = refl; asts = refl; handlers = refl; phase = refl; idle = idle_top pr.phase (λ f. record f { pc = place }) pr.frames; down = λ e. ap (with_top (λ f. record f { pc = place })) e }
-
-pub moved_behind_quiet : (place : ℕ) (pr : Process) → Quiet pr (moved_behind place pr)
-moved_behind_quiet place pr = moved_to_quiet pr.store (place + 1) pr
+moved_to_quiet store place pr = record { decl = refl; channels = refl; asts = refl; handlers = refl; phase = refl; idle = idle_top pr.phase (λ f. record f { pc = place }) pr.frames; waits = λ h. waits_top (λ f. record f { pc = place }) pr.frames (λ f r. r) h }
 
 pub below_top_quiet : (pr : Process) → Quiet pr (below_top pr)
-below_top_quiet pr = record { decl = refl; channels = refl; asts = refl; handlers = refl; phase = refl; idle = idle_below pr.phase pr.frames; down = λ e. ap without_top e }
+below_top_quiet pr = record { decl = refl; channels = refl; asts = refl; handlers = refl; phase = refl; idle = idle_below pr.phase pr.frames; waits = λ h. waits_below pr.frames h }
 
 pub put_back_quiet : (r0 : ℕ) (pr : Process) → Quiet pr (put_back r0 pr)
-put_back_quiet r0 pr = record { decl = refl; channels = refl; asts = refl; handlers = refl; phase = refl; idle = idle_below pr.phase pr.frames; down = λ e. ap without_top e }
+put_back_quiet r0 pr = record { decl = refl; channels = refl; asts = refl; handlers = refl; phase = refl; idle = idle_below pr.phase pr.frames; waits = λ h. waits_below pr.frames h }
 
 uses_wake_quiet : (w : Wait) (pr : Process) → Quiet pr (uses_wake w pr)
 uses_wake_quiet (wait.Flags a b c) pr = same_frames pr _ refl refl refl refl refl refl
@@ -144,7 +159,7 @@ uses_wake_quiet wait.Hiber pr = same_frames pr _ refl refl refl refl refl refl
 
 pub woken_quiet : (w : Wait) (n : ℕ) (pr : Process) → Quiet pr (with_r0 n (uses_wake w (with_wait None pr)))
 woken_quiet w n pr =
-    quiet_then pr (with_wait None pr) _ (with_wait_quiet None pr)
+    quiet_then pr (with_wait None pr) _ (with_wait_quiet None pr tt)
     (quiet_then (with_wait None pr) (uses_wake w (with_wait None pr)) _ (uses_wake_quiet w (with_wait None pr)) (same_frames (uses_wake w (with_wait None pr)) _ refl refl refl refl refl refl))
 
 -- Queued ASTs and handlers.
@@ -152,10 +167,10 @@ woken_quiet w n pr =
 same_seat_of : (x y : Process) → y.decl ≡ x.decl → y.channels ≡ x.channels → y.phase ≡ x.phase → Seat x y
 same_seat_of x y a b c = record { decl = a; channel = λ n ch e. rw b e; going = λ m e. rw c e }
 
-pub with_queued_still : (s : State) (p : Pid) (q : Queued) → IsRoutineOf (ground s) p q.tag → IsSound s → Still s (change s p (with_queued q))
+pub with_queued_still : (s : State) (p : Pid) (q : Queued) → IsRoutineOf (ground s) p q.tag → IsFirm s → Still s (change s p (with_queued q))
 with_queued_still s p q r h =
     let pr = process_at s p in
-    change_still s p (with_queued q) (same_seat_of pr (with_queued q pr) refl refl refl) (λ e. e)
+    change_still s p (with_queued q) (same_seat_of pr (with_queued q pr) refl refl refl)
     (λ k. record {
       decl = k.decl;
       numbers = k.numbers;
@@ -163,12 +178,13 @@ with_queued_still s p q r h =
       asts = all_append (λ (x : Queued). IsRoutine s.system pr.decl x.tag) pr.asts (q ∷ []) k.asts (r, tt);
       handlers = k.handlers;
       idle = k.idle;
+      waits = k.waits;
     }) h
 
-pub without_ast_still : (s : State) (p : Pid) (id : Id) → IsSound s → Still s (change s p (without_ast id))
+pub without_ast_still : (s : State) (p : Pid) (id : Id) → IsFirm s → Still s (change s p (without_ast id))
 without_ast_still s p id h =
     let pr = process_at s p in
-    change_still s p (without_ast id) (same_seat_of pr (without_ast id pr) refl refl refl) (λ e. e)
+    change_still s p (without_ast id) (same_seat_of pr (without_ast id pr) refl refl refl)
     (λ k. record {
       decl = k.decl;
       numbers = k.numbers;
@@ -176,12 +192,13 @@ without_ast_still s p id h =
       asts = all_less (λ (x : Queued). IsRoutine s.system pr.decl x.tag) _ pr.asts k.asts;
       handlers = k.handlers;
       idle = k.idle;
+      waits = k.waits;
     }) h
 
-pub with_handler_still : (s : State) (p : Pid) (d : Handler) → IsRoutineOf (ground s) p d.tag → IsSound s → Still s (change s p (with_handler d))
+pub with_handler_still : (s : State) (p : Pid) (d : Handler) → IsRoutineOf (ground s) p d.tag → IsFirm s → Still s (change s p (with_handler d))
 with_handler_still s p d r h =
     let pr = process_at s p in
-    change_still s p (with_handler d) (same_seat_of pr (with_handler d pr) refl refl refl) (λ e. e)
+    change_still s p (with_handler d) (same_seat_of pr (with_handler d pr) refl refl refl)
     (λ k. record {
       decl = k.decl;
       numbers = k.numbers;
@@ -189,12 +206,13 @@ with_handler_still s p d r h =
       asts = k.asts;
       handlers = (r, k.handlers);
       idle = k.idle;
+      waits = k.waits;
     }) h
 
-pub without_handler_still : (s : State) (p : Pid) (id : Id) → IsSound s → Still s (change s p (without_handler id))
+pub without_handler_still : (s : State) (p : Pid) (id : Id) → IsFirm s → Still s (change s p (without_handler id))
 without_handler_still s p id h =
     let pr = process_at s p in
-    change_still s p (without_handler id) (same_seat_of pr (without_handler id pr) refl refl refl) (λ e. e)
+    change_still s p (without_handler id) (same_seat_of pr (without_handler id pr) refl refl refl)
     (λ k. record {
       decl = k.decl;
       numbers = k.numbers;
@@ -202,26 +220,13 @@ without_handler_still s p id h =
       asts = k.asts;
       handlers = all_less (λ (x : Handler). IsRoutine s.system pr.decl x.tag) _ pr.handlers k.handlers;
       idle = k.idle;
+      waits = k.waits;
     }) h
 
 -- Frames.
 
--- a process that drains nothing may get a frame
-pub with_frame_sound : (s : State) (p : Pid) (f : Frame) → IsIdle (process_at s p).phase (f ∷ (process_at s p).frames) → IsSound s → IsSound (change s p (with_frame f))
-with_frame_sound s p f i h =
-    let pr = process_at s p in
-    change_sound s p (with_frame f) (same_seat_of pr (with_frame f pr) refl refl refl)
-    (λ k. record {
-      decl = k.decl;
-      numbers = k.numbers;
-      channels = k.channels;
-      asts = k.asts;
-      handlers = k.handlers;
-      idle = i;
-    }) h
-
-pub entering_sound : (s : State) (p : Pid) (f : Frame) (id : Id) → IsIdle (process_at s p).phase (f ∷ (process_at s p).frames) → IsSound s → IsSound (change s p (entering f id))
-entering_sound s p f id i h =
+pub entering_sound : (s : State) (p : Pid) (f : Frame) (id : Id) → IsIdle (process_at s p).phase (f ∷ (process_at s p).frames) → IfSome f.wait WaitStands → IsFirm s → IsFirm (change s p (entering f id))
+entering_sound s p f id i w h =
     let pr = process_at s p in
     change_sound s p (entering f id) (same_seat_of pr (entering f id pr) refl refl refl)
     (λ k. record {
@@ -231,51 +236,26 @@ entering_sound s p f id i h =
       asts = k.asts;
       handlers = all_less (λ (x : Handler). IsRoutine s.system pr.decl x.tag) _ pr.handlers k.handlers;
       idle = i;
+      waits = (w, k.waits);
     }) h
 
-leaving_going : (ph : Phase) (m n : Mode) → is_drained ph n ≡ false → is_drained (leaving ph m) n ≡ false
+pub leaving_going : (ph : Phase) (m n : Mode) → is_drained ph n ≡ false → is_drained (leaving ph m) n ≡ false
 leaving_going phase.Alive m n h = refl
 leaving_going (phase.Handlers k) m n h = h
 leaving_going (phase.Draining k) m n h = h
 leaving_going phase.Deleted m n h = h
 
-deleted_going : (ph : Phase) (n : Mode) → is_drained ph n ≡ false → is_drained (leaving_deleted ph) n ≡ false
+pub deleted_going : (ph : Phase) (n : Mode) → is_drained ph n ≡ false → is_drained (leaving_deleted ph) n ≡ false
 deleted_going phase.Alive n h = refl
 deleted_going (phase.Handlers k) n h = h
 deleted_going (phase.Draining k) n h = h
 deleted_going phase.Deleted n h = h
 
-pub without_frames_still : (s : State) (p : Pid) (code : ℕ) → IsSound s → Still s (change s p (without_frames code))
-without_frames_still s p code h =
-    let pr = process_at s p in
-    change_still s p (without_frames code) (record { decl = refl; channel = λ n ch e. e; going = leaving_going pr.phase (top_mode pr.frames) }) (λ e. refl)
-    (λ k. record {
-      decl = k.decl;
-      numbers = k.numbers;
-      channels = k.channels;
-      asts = k.asts;
-      handlers = k.handlers;
-      idle = idle_none (leaving pr.phase (top_mode pr.frames));
-    }) h
-
-pub named_for_deletion_still : (s : State) (p : Pid) → IsSound s → Still s (change s p named_for_deletion)
-named_for_deletion_still s p h =
-    let pr = process_at s p in
-    change_still s p named_for_deletion (record { decl = refl; channel = λ n ch e. e; going = deleted_going pr.phase }) (λ e. refl)
-    (λ k. record {
-      decl = k.decl;
-      numbers = k.numbers;
-      channels = k.channels;
-      asts = k.asts;
-      handlers = k.handlers;
-      idle = idle_none (leaving_deleted pr.phase);
-    }) h
-
 -- a phase that drains nothing
-pub in_phase_still : (s : State) (p : Pid) (ph : Phase) → ((m : Mode) → is_drained ph m ≡ false) → IsIdle ph (process_at s p).frames → IsSound s → Still s (change s p (in_phase ph))
+pub in_phase_still : (s : State) (p : Pid) (ph : Phase) → ((m : Mode) → is_drained ph m ≡ false) → IsIdle ph (process_at s p).frames → IsFirm s → Still s (change s p (in_phase ph))
 in_phase_still s p ph g i h =
     let pr = process_at s p in
-    change_still s p (in_phase ph) (record { decl = refl; channel = λ n ch e. e; going = λ m e. g m }) (λ e. e)
+    change_still s p (in_phase ph) (record { decl = refl; channel = λ n ch e. e; going = λ m e. g m })
     (λ k. record {
       decl = k.decl;
       numbers = k.numbers;
@@ -283,4 +263,5 @@ in_phase_still s p ph g i h =
       asts = k.asts;
       handlers = k.handlers;
       idle = i;
+      waits = k.waits;
     }) h

@@ -1,11 +1,10 @@
 -- From one state to another: what was referred to is still there, so the facts on references still hold.
-use Rattle.std.proofs.Common.{◌≡◌, ℕ, zero, suc, ◌+◌, ◌-◌, ◌≤◌, List, [], ◌∷◌, false, length, Option, Some, None, Result, Ok, Err, IfSome, get_or, set, refl, ◌∙◌, arith}
+use Rattle.std.proofs.Common.{◌≡◌, ℕ, zero, suc, ◌+◌, ◌-◌, ◌≤◌, List, [], ◌∷◌, false, length, Option, Some, None, IfSome, get_or, set, refl, ◌∙◌, arith}
 use Rattle.std.proofs.Math.ListN.{length-set}
 use Rattle.std.specs.List.{AllByRecursion}
 use Rattle.vx_base.specs.Channels.{channel_at}
 use Rattle.vx_base.specs.Clusters.{Common}
 use Rattle.vx_base.specs.Pieces.{Channel, Request, Promised, Timer, Alarm, OfTimer, OfWake, Attention, Association, Mailbox, DeviceUnit, Queued, Handler}
-use Rattle.vx_base.specs.declared.cond.Cond.{Cond}
 use Rattle.vx_base.specs.declared.mode.Mode.{Mode}
 use Rattle.vx_base.specs.declared.number.BoxNo.{BoxNo}
 use Rattle.vx_base.specs.declared.number.Pid.{Pid}
@@ -15,8 +14,8 @@ use Rattle.vx_base.specs.declared.routine.Entry.{Entry}
 use Rattle.vx_base.specs.declared.routine.Entry.TheVariants as entry
 use Rattle.vx_image.specs.declared.system.System.{System}
 use Rattle.vx_record.specs.State.{Process, State, IsProcess, nobody, process_at, change, past_id}
-use Rattle.vx_record.specs.Parts.{Outcome, at_tested}
-use Rattle.vx_record.specs.Sound.{Ground, ground, IsMade, process_of, IsRoutine, IsRoutineOf, BoxStands, DeviceStands, ChannelStands, HasChannel, IsRooted, RequestStands, AlarmStands, TimerStands, is_drained, AttentionStands, ProcessStands, AssociationStands, AreOrdered, request_id, timer_id, attention_id, IsSound}
+use Rattle.vx_record.specs.Sound.{Ground, ground, IsMade, process_of, IsRoutine, IsRoutineOf, BoxStands, DeviceStands, ChannelStands, HasChannel, IsRooted, RequestStands, AlarmStands, TimerStands, is_drained, AttentionStands, ProcessStands, AssociationStands, AreOrdered, request_id, timer_id, attention_id}
+use Rattle.vx_record.proofs.Firm.{IsFirm}
 use Rattle.vx_record.proofs.Lists.{all_weaker, all_set, ordered_below}
 
 -- the processes are there, with their declarations, and the units
@@ -105,7 +104,7 @@ pub request_keeps : (g h : Ground) → Keeps g h → (r : Request) → RequestSt
 request_keeps g h k r f =
     request_moves g h k.base r (device_moves g h k.base.units k.box r.req.device) (rooted_keeps g h k r.req.p r.req.chan r.req.chan_mode r.req.device f.made) f
 
-alarm_moves : (g h : Ground) → Base g h → (p : Pid) (a : Alarm) → IsMade g p → AlarmStands g p a → AlarmStands h p a
+pub alarm_moves : (g h : Ground) → Base g h → (p : Pid) (a : Alarm) → IsMade g p → AlarmStands g p a → AlarmStands h p a
 alarm_moves g h k p (OfTimer efn reqid mode tag) m f = some_weaker (IsRoutineOf g p) (IsRoutineOf h p) (λ t e. routine_of_moves g h k p t m e) tag f
 alarm_moves g h k p (OfWake target repeat) m f = made_base g h k target f
 
@@ -130,6 +129,7 @@ process_moves g h e u k pr f = record {
   asts = all_weaker (λ (q : Queued). IsRoutine g.system pr.decl q.tag) (λ q. IsRoutine h.system pr.decl q.tag) (λ q r. routine_moves g.system h.system pr.decl pr.decl q.tag e refl r) pr.asts f.asts;
   handlers = all_weaker (λ (q : Handler). IsRoutine g.system pr.decl q.tag) (λ q. IsRoutine h.system pr.decl q.tag) (λ q r. routine_moves g.system h.system pr.decl pr.decl q.tag e refl r) pr.handlers f.handlers;
   idle = f.idle;
+  waits = f.waits;
 }
 
 pub association_moves : (n m : ℕ) (c : Common) → n ≤ m → (a : Association) → AssociationStands n c a → AssociationStands m c a
@@ -137,27 +137,21 @@ association_moves n m c k a f = record { made = record { above = f.made.above; w
 
 -- States.
 
--- a process without a frame gets none
-abbrev pub StaysDown : State → State → Type 0
-StaysDown s t = (p : Pid) → IsProcess s p → (process_at s p).frames ≡ [] → (process_at t p).frames ≡ []
-
 pub record Still (s t : State) : Type 0 where
-  pub sound : IsSound t
+  pub sound : IsFirm t
   pub keeps : Keeps (ground s) (ground t)
-  pub down : StaysDown s t
 
-pub still : (s : State) → IsSound s → Still s s
-still s h = record { sound = h; keeps = keeps_all (ground s); down = λ p m e. e }
+pub still : (s : State) → IsFirm s → Still s s
+still s h = record { sound = h; keeps = keeps_all (ground s) }
 
 pub still_then : {s t u : State} → Still s t → Still t u → Still s u
 still_then {s} {t} {u} a b = record {
   sound = b.sound;
   keeps = keeps_more (ground s) (ground t) (ground u) a.keeps b.keeps;
-  down = λ p m e. b.down p (made_keeps (ground s) (ground t) a.keeps p m) (a.down p m e);
 }
 
 -- other processes, mailboxes and units
-pub moved : (s : State) (procs : List Process) (boxes : List (Option Mailbox)) (units : List DeviceUnit) → length units ≡ length s.units → Keeps (ground s) (ground (record s { procs = procs; boxes = boxes; units = units })) → AllByRecursion (ProcessStands (ground (record s { procs = procs; boxes = boxes; units = units }))) procs → IsSound s → IsSound (record s { procs = procs; boxes = boxes; units = units })
+pub moved : (s : State) (procs : List Process) (boxes : List (Option Mailbox)) (units : List DeviceUnit) → length units ≡ length s.units → Keeps (ground s) (ground (record s { procs = procs; boxes = boxes; units = units })) → AllByRecursion (ProcessStands (ground (record s { procs = procs; boxes = boxes; units = units }))) procs → IsFirm s → IsFirm (record s { procs = procs; boxes = boxes; units = units })
 moved s procs boxes units e k f h =
     let g = ground s in
     let to = ground (record s { procs = procs; boxes = boxes; units = units }) in
@@ -175,10 +169,9 @@ moved s procs boxes units e k f h =
 
 -- other requests, timers, attention entries, associations, another time and next id
 
-pub requests_still : (s : State) (xs : List Request) → AllByRecursion (RequestStands (ground s)) xs → AreOrdered request_id 0 s.next xs → IsSound s → Still s (record s { requests = xs })
+pub requests_still : (s : State) (xs : List Request) → AllByRecursion (RequestStands (ground s)) xs → AreOrdered request_id 0 s.next xs → IsFirm s → Still s (record s { requests = xs })
 requests_still s xs f o h = record {
   keeps = keeps_all (ground s);
-  down = λ p m e. e;
   sound = record {
     units = h.units;
     procs = h.procs;
@@ -192,10 +185,9 @@ requests_still s xs f o h = record {
   };
 }
 
-pub timers_still : (s : State) (xs : List Timer) → AllByRecursion (TimerStands (ground s)) xs → AreOrdered timer_id 0 s.next xs → IsSound s → Still s (record s { timers = xs })
+pub timers_still : (s : State) (xs : List Timer) → AllByRecursion (TimerStands (ground s)) xs → AreOrdered timer_id 0 s.next xs → IsFirm s → Still s (record s { timers = xs })
 timers_still s xs f o h = record {
   keeps = keeps_all (ground s);
-  down = λ p m e. e;
   sound = record {
     units = h.units;
     procs = h.procs;
@@ -209,10 +201,9 @@ timers_still s xs f o h = record {
   };
 }
 
-pub attention_still : (s : State) (xs : List Attention) → AllByRecursion (AttentionStands (ground s)) xs → AreOrdered attention_id 0 s.next xs → IsSound s → Still s (record s { attention = xs })
+pub attention_still : (s : State) (xs : List Attention) → AllByRecursion (AttentionStands (ground s)) xs → AreOrdered attention_id 0 s.next xs → IsFirm s → Still s (record s { attention = xs })
 attention_still s xs f o h = record {
   keeps = keeps_all (ground s);
-  down = λ p m e. e;
   sound = record {
     units = h.units;
     procs = h.procs;
@@ -226,10 +217,9 @@ attention_still s xs f o h = record {
   };
 }
 
-pub common_still : (s : State) (c : Common) → AllByRecursion (AssociationStands (length s.procs) c) c.associations → IsSound s → Still s (record s { common = c })
+pub common_still : (s : State) (c : Common) → AllByRecursion (AssociationStands (length s.procs) c) c.associations → IsFirm s → Still s (record s { common = c })
 common_still s c f h = record {
   keeps = keeps_all (ground s);
-  down = λ p m e. e;
   sound = record {
     units = h.units;
     procs = h.procs;
@@ -243,10 +233,9 @@ common_still s c f h = record {
   };
 }
 
-pub later_still : (s : State) (time next : ℕ) → s.next ≤ next → IsSound s → Still s (record s { time = time; next = next })
+pub later_still : (s : State) (time next : ℕ) → s.next ≤ next → IsFirm s → Still s (record s { time = time; next = next })
 later_still s time next k h = record {
   keeps = keeps_all (ground s);
-  down = λ p m e. e;
   sound = record {
     units = h.units;
     procs = h.procs;
@@ -260,7 +249,7 @@ later_still s time next k h = record {
   };
 }
 
-pub past_id_still : (s : State) → IsSound s → Still s (past_id s)
+pub past_id_still : (s : State) → IsFirm s → Still s (past_id s)
 past_id_still s h = later_still s s.time (s.next + 1) (omega arith) h
 
 -- One process changed.
@@ -281,7 +270,7 @@ at_set R k (x ∷ xs) zero (suc j) y d h = k (get_or xs j d)
 at_set R k (x ∷ xs) (suc i) zero y d h = k x
 at_set R k (x ∷ xs) (suc i) (suc j) y d h = at_set R k xs i j y d h
 
-change_keeps : (s : State) (p : Pid) (f : Process → Process) → Seat (process_at s p) (f (process_at s p)) → Keeps (ground s) (ground (change s p f))
+pub change_keeps : (s : State) (p : Pid) (f : Process → Process) → Seat (process_at s p) (f (process_at s p)) → Keeps (ground s) (ground (change s p f))
 change_keeps s p f k =
     let seat : (q : Pid) → Seat (process_at s q) (process_at (change s p f) q) = λ q. at_set Seat same_seat s.procs (p.0 - 1) (q.0 - 1) (f (process_at s p)) nobody k in
     record {
@@ -296,21 +285,15 @@ change_keeps s p f k =
       going = λ q m made e. (seat q).going m e;
     }
 
-pub change_sound : (s : State) (p : Pid) (f : Process → Process) → Seat (process_at s p) (f (process_at s p)) → (ProcessStands (ground s) (process_at s p) → ProcessStands (ground s) (f (process_at s p))) → IsSound s → IsSound (change s p f)
+pub change_sound : (s : State) (p : Pid) (f : Process → Process) → Seat (process_at s p) (f (process_at s p)) → (ProcessStands (ground s) (process_at s p) → ProcessStands (ground s) (f (process_at s p))) → IsFirm s → IsFirm (change s p f)
 change_sound s p f k stands h =
     let to = ground (change s p f) in
     moved s (change s p f).procs s.boxes s.units refl (change_keeps s p f k)
     (all_weaker (ProcessStands (ground s)) (ProcessStands to) (process_moves (ground s) to refl refl (λ b e. e)) (change s p f).procs
     (all_set (ProcessStands (ground s)) s.procs (p.0 - 1) (f (process_at s p)) nobody stands h.procs)) h
 
-pub change_still : (s : State) (p : Pid) (f : Process → Process) → Seat (process_at s p) (f (process_at s p)) → ((process_at s p).frames ≡ [] → (f (process_at s p)).frames ≡ []) → (ProcessStands (ground s) (process_at s p) → ProcessStands (ground s) (f (process_at s p))) → IsSound s → Still s (change s p f)
-change_still s p f k none stands h = record {
+pub change_still : (s : State) (p : Pid) (f : Process → Process) → Seat (process_at s p) (f (process_at s p)) → (ProcessStands (ground s) (process_at s p) → ProcessStands (ground s) (f (process_at s p))) → IsFirm s → Still s (change s p f)
+change_still s p f k stands h = record {
   sound = change_sound s p f k stands h;
   keeps = change_keeps s p f k;
-  down = λ q m e. at_set (λ (x y : Process). x.frames ≡ [] → y.frames ≡ []) (λ x r. r) s.procs (p.0 - 1) (q.0 - 1) (f (process_at s p)) nobody none e;
 }
-
--- what is done with what a test found
-pub at_tested_sound : {A : Type 0} (s : State) (go : A → Outcome Cond) (r : Result A Cond) → ((x : A) → r ≡ Ok x → IsSound (go x).after) → IsSound s → IsSound (at_tested s go r).after
-at_tested_sound s go (Err c) f h = h
-at_tested_sound s go (Ok x) f h = f x refl

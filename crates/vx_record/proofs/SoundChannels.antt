@@ -1,37 +1,29 @@
 -- References stand after channels are assigned and freed, and mailboxes come and go.
-use Rattle.std.proofs.Common.{◌≡◌, ◌≢◌, ℕ, zero, suc, ◌+◌, ◌-◌, ◌<◌, ◌≤◌, List, [], ◌∷◌, Bool, true, false, not, ◌==◌, ◌&&◌, nat_le, length, Option, Some, None, Result, IfSome, is_some, is_none, get_or, position, refl, sym, ap, ◌∙◌, arith, inl, inr, get_or-set_same, get_or-set_other}
+use Rattle.std.proofs.Common.{◌≡◌, ◌≢◌, ℕ, zero, suc, ◌+◌, ◌-◌, ◌<◌, ◌≤◌, List, [], ◌∷◌, Bool, true, false, ◌==◌, ◌&&◌, nat_le, length, Option, Some, None, IfSome, is_some, get_or, refl, sym, ap, ◌∙◌, arith, inl, inr, get_or-set_same, get_or-set_other}
 use Rattle.std.proofs.Math.ListN.{length-set}
 use Rattle.std.proofs.lemmas.Bool.{leb-true, and_parts, and_from, eq-eqb, eqb-false, cases_eq}
 use Rattle.std.proofs.lemmas.List.Quantifiers.{position-Some}
 use Rattle.std.specs.List.{AllByRecursion}
 use Rattle.vx_base.specs.Channels.{is_channel_number, channel_at, free_from}
-use Rattle.vx_base.specs.Modes.{outer}
 use Rattle.vx_base.specs.Pieces.{Channel, Mailbox}
-use Rattle.vx_base.specs.declared.cond.Cond.{Cond}
 use Rattle.vx_base.specs.declared.mode.Mode.{Mode}
 use Rattle.vx_base.specs.declared.number.BoxNo.{BoxNo}
 use Rattle.vx_base.specs.declared.number.Pid.{Pid}
 use Rattle.vx_base.specs.declared.request.Device.{Device}
 use Rattle.vx_base.specs.declared.request.Device.TheVariants as device
-use Rattle.vx_record.specs.State.{Process, State, IsProcess, process_at, change, current, with_box, nobody, no_unit_decl}
-use Rattle.vx_record.specs.Parts.{Part, Outcome, nothing}
+use Rattle.vx_record.specs.State.{Process, State, IsProcess, process_at, change, with_box, nobody, no_unit_decl}
 use Rattle.vx_record.specs.Charges.{is_same}
-use Rattle.vx_record.specs.Mailboxes.{is_box, mailbox_at}
+use Rattle.vx_record.specs.Mailboxes.{is_box}
 use Rattle.vx_record.specs.Cancel.{is_request_on, is_attention_on}
-use Rattle.vx_record.specs.Channels.{channel_test, at_channel, is_unit_of, is_box_of, box_number, unit_named, box_named, unit_or_box, device_named, with_channel, assigned, free_channel_of, assign_at, assign_to, assign, is_bad_box, new_box, make_box, make_box_in, create_box, find_or_create, crembx, marked_box, delete_box, delmbx_on, delmbx_at, delmbx, is_channel_to, has_channel_to, is_assigned, goes_unused, box_gone, swept_device, swept_box, free_channel}
-use Rattle.vx_record.specs.Sound.{ground, BoxStands, DeviceStands, ChannelStands, HasChannel, IsRooted, RequestStands, is_drained, TimerStands, AttentionStands, ProcessStands, AssociationStands, IsSound}
-use Rattle.vx_record.proofs.Lists.{either, either_by, all_weaker, all_both, all_set, all_at, all_get, none_passes, not_holds}
-use Rattle.vx_record.proofs.Ground.{at_tested_sound, Base, made_base, routine_of_moves, request_moves, timer_moves, process_moves, association_moves, Still, change_still, at_set}
-use Rattle.vx_record.proofs.SoundBoxes.{box_still}
-use Rattle.vx_record.proofs.SoundRequests.{tested_channel}
-
--- what is done at a channel that passed the test
-pub at_channel_sound : (s : State) (p : Pid) (n : ℕ) (go : Channel → Outcome Cond) → ((ch : Channel) → is_channel_number n ≡ true → channel_at (process_at s p).channels n ≡ Some ch → IsSound (go ch).after) → IsSound s → IsSound (at_channel s p n go).after
-at_channel_sound s p n go f h = at_tested_sound s go (channel_test s p n) (λ ch e. let k = tested_channel s p n ch e in f ch k.0 k.1) h
+use Rattle.vx_record.specs.Channels.{is_unit_of, is_box_of, box_number, unit_named, box_named, unit_or_box, with_channel, assigned, is_channel_to, has_channel_to, is_assigned}
+use Rattle.vx_record.specs.Sound.{ground, BoxStands, DeviceStands, ChannelStands, HasChannel, IsRooted, RequestStands, is_drained, TimerStands, AttentionStands, ProcessStands, AssociationStands}
+use Rattle.vx_record.proofs.Firm.{IsFirm}
+use Rattle.vx_record.proofs.Lists.{all_weaker, all_both, all_set, all_at, all_get, none_passes}
+use Rattle.vx_record.proofs.Ground.{Base, made_base, routine_of_moves, request_moves, timer_moves, process_moves, association_moves, Still, change_still, at_set}
 
 -- The least free number.
 
-free_row : (k n : ℕ) (rows : List (Option Channel)) → free_from k rows ≡ Some n → (k ≤ n) × (get_or rows (n - k) None ≡ None)
+pub free_row : (k n : ℕ) (rows : List (Option Channel)) → free_from k rows ≡ Some n → (k ≤ n) × (get_or rows (n - k) None ≡ None)
 free_row k n [] e = cc
 free_row k n (None ∷ rows) e = let same : k ≡ n = cc in let place : n - k ≡ zero = omega arith in (omega arith, rw place refl)
 free_row k n (Some row ∷ rows) e =
@@ -45,11 +37,11 @@ assigned_channel : (x : Process) (n : ℕ) (new : Channel) (m : ℕ) (ch : Chann
 assigned_channel x n new m ch free e =
     at_set (λ (a b : Option Channel). a ≡ Some ch → b ≡ Some ch) (λ a k. k) x.channels (n - 1) (m - 1) (Some new) None (λ k. cc) e
 
-pub assigned_still : (s : State) (p : Pid) (d : Device) (mode : Mode) (n : ℕ) → channel_at (process_at s p).channels n ≡ None → DeviceStands (ground s) d → IsSound s → Still s (assigned s p d mode n)
+pub assigned_still : (s : State) (p : Pid) (d : Device) (mode : Mode) (n : ℕ) → channel_at (process_at s p).channels n ≡ None → DeviceStands (ground s) d → IsFirm s → Still s (assigned s p d mode n)
 assigned_still s p d mode n free k h =
     let new : Channel = record { device = d; mode = mode } in
     let x = process_at s p in
-    change_still s p (with_channel n (Some new)) (record { decl = refl; channel = λ m ch e. assigned_channel x n new m ch free e; going = λ m e. e }) (λ e. e)
+    change_still s p (with_channel n (Some new)) (record { decl = refl; channel = λ m ch e. assigned_channel x n new m ch free e; going = λ m e. e })
     (λ f. record {
       decl = f.decl;
       numbers = length-set x.channels (n - 1) (Some new) ∙ f.numbers;
@@ -57,70 +49,23 @@ assigned_still s p d mode n free k h =
       asts = f.asts;
       handlers = f.handlers;
       idle = f.idle;
+      waits = f.waits;
     }) h
 
-assign_at_sound : (s : State) (p : Pid) (d : Device) (mode : Mode) (o : Option ℕ) → free_channel_of s p ≡ o → DeviceStands (ground s) d → IsSound s → IsSound (assign_at s p d mode o).after
-assign_at_sound s p d mode None e k h = h
-assign_at_sound s p d mode (Some n) e k h = (assigned_still s p d mode n (free_row 1 n (process_at s p).channels e).1 k h).sound
-
-is_some_box : (name : List ℕ) (o : Option Mailbox) → is_box_of name o ≡ true → is_some o ≡ true
+pub is_some_box : (name : List ℕ) (o : Option Mailbox) → is_box_of name o ≡ true → is_some o ≡ true
 is_some_box name None e = cc
 is_some_box name (Some box) e = refl
 
 -- a device that is found by its name stands
-named_stands : (s : State) (name : List ℕ) (u b : Option ℕ) → unit_named s name ≡ u → box_named s name ≡ b → IsSound s → IfSome (unit_or_box u b) (DeviceStands (ground s))
+pub named_stands : (s : State) (name : List ℕ) (u b : Option ℕ) → unit_named s name ≡ u → box_named s name ≡ b → IsFirm s → IfSome (unit_or_box u b) (DeviceStands (ground s))
 named_stands s name (Some u) b e f h = let at = position-Some (is_unit_of name) s.system.units u no_unit_decl e in omega (arith, at.0, h.units)
 named_stands s name None (Some b) e f h = is_some_box name _ (position-Some (is_box_of name) s.boxes b None f).1
 named_stands s name None None e f h = tt
 
-assign_to_sound : (s : State) (p : Pid) (mode : Mode) (o : Option Device) → IfSome o (DeviceStands (ground s)) → IsSound s → IsSound (assign_to s p mode o).after
-assign_to_sound s p mode None k h = h
-assign_to_sound s p mode (Some d) k h = assign_at_sound s p d mode (free_channel_of s p) refl k h
-
-pub assign_sound : (s : State) (p : Pid) (name : List ℕ) (mode : Mode) → IsSound s → IsSound (assign s p name mode).after
-assign_sound s p name mode h = assign_to_sound s p (outer mode (current s p)) (device_named s name) (named_stands s name (unit_named s name) (box_named s name) refl refl h) h
-
 -- Mailboxes.
 
-made_there : (s : State) (b : ℕ) (box : Mailbox) → b < length s.boxes → BoxStands (ground (with_box s (box_number b) (Some box))) (box_number b)
+pub made_there : (s : State) (b : ℕ) (box : Mailbox) → b < length s.boxes → BoxStands (ground (with_box s (box_number b) (Some box))) (box_number b)
 made_there s b box k = ap is_some (get_or-set_same s.boxes b (Some box) None k)
-
-make_box_sound : (s : State) (p : Pid) (mode : Mode) (box : Mailbox) (b : ℕ) (o : Option ℕ) → b < length s.boxes → free_channel_of s p ≡ o → IsSound s → IsSound (make_box s p mode box b o).after
-make_box_sound s p mode box b None k e h = h
-make_box_sound s p mode box b (Some n) k e h =
-    let a = with_box s (box_number b) (Some box) in
-    (assigned_still a p (device.Mailbox (box_number b)) mode n (free_row 1 n (process_at s p).channels e).1 (made_there s b box k) (box_still s (box_number b) box h).sound).sound
-
-make_box_in_sound : (s : State) (p : Pid) (mode : Mode) (box : Mailbox) (o : Option ℕ) → position is_none s.boxes ≡ o → IsSound s → IsSound (make_box_in s p mode box o).after
-make_box_in_sound s p mode box None e h = h
-make_box_in_sound s p mode box (Some b) e h = make_box_sound s p mode box b (free_channel_of s p) (position-Some is_none s.boxes b None e).0 refl h
-
-create_box_sound : (s : State) (p : Pid) (mode : Mode) (box : Mailbox) → IsSound s → IsSound (create_box s p mode box).after
-create_box_sound s p mode box h =
-    either (λ (o : Outcome (Result ℕ Cond)). IsSound o.after) (box.permanent && not (process_at s p).privs.prmmbx) _ _ h (make_box_in_sound s p mode box (position is_none s.boxes) refl h)
-
-find_or_create_sound : (s : State) (p : Pid) (mode : Mode) (box : Mailbox) (name : List ℕ) (o : Option ℕ) → box_named s name ≡ o → IsSound s → IsSound (find_or_create s p mode box o).after
-find_or_create_sound s p mode box name None e h = create_box_sound s p mode box h
-find_or_create_sound s p mode box name (Some b) e h =
-    assign_at_sound s p (device.Mailbox (box_number b)) mode (free_channel_of s p) refl (is_some_box name _ (position-Some (is_box_of name) s.boxes b None e).1) h
-
-pub crembx_sound : (s : State) (p : Pid) (name : List ℕ) (perm maxmsg bufquo : ℕ) (mode : Mode) → IsSound s → IsSound (crembx s p name perm maxmsg bufquo mode).after
-crembx_sound s p name perm maxmsg bufquo mode h =
-    either (λ (o : Outcome (Result ℕ Cond)). IsSound o.after) (is_bad_box s name maxmsg bufquo) _ _ h
-    (find_or_create_sound s p (outer mode (current s p)) (new_box name perm maxmsg bufquo) name (box_named s name) refl h)
-
-delete_box_sound : (s : State) (p : Pid) (b : BoxNo) → IsSound s → IsSound (delete_box s p b).after
-delete_box_sound s p b h =
-    let box = mailbox_at s b in
-    either (λ (o : Outcome Cond). IsSound o.after) (box.permanent && not (process_at s p).privs.prmmbx) _ _ h
-    (either (λ (x : Part). IsSound x.after) box.permanent (marked_box s b) (nothing s) (box_still s b (record box { marked = true }) h).sound h)
-
-delmbx_on_sound : (s : State) (p : Pid) (d : Device) → IsSound s → IsSound (delmbx_on s p d).after
-delmbx_on_sound s p (device.Unit u) h = h
-delmbx_on_sound s p (device.Mailbox b) h = delete_box_sound s p b h
-
-pub delmbx_sound : (s : State) (p : Pid) (n : ℕ) → IsSound s → IsSound (delmbx s p n).after
-delmbx_sound s p n h = at_channel_sound s p n (delmbx_at s p) (λ ch e f. delmbx_on_sound s p ch.device h) h
 
 -- A channel goes: nothing may hang on it.
 
@@ -162,7 +107,7 @@ rooted_stays : (s : State) (p q : Pid) (n m : ℕ) (mode : Mode) (d : Device) �
 rooted_stays s p q n m mode (device.Unit u) made also number other c = tt
 rooted_stays s p q n m mode (device.Mailbox b) made also number other c = channel_stays s p q n m b mode made also number other c
 
-pub freed_sound : (s : State) (p : Pid) (n : ℕ) → IsProcess s p → is_channel_number n ≡ true → IsClear s p n → IsSound s → IsSound (change s p (with_channel n None))
+pub freed_sound : (s : State) (p : Pid) (n : ℕ) → IsProcess s p → is_channel_number n ≡ true → IsClear s p n → IsFirm s → IsFirm (change s p (with_channel n None))
 freed_sound s p n made number clear h =
     let f = with_channel n None in
     let t = change s p f in
@@ -185,6 +130,7 @@ freed_sound s p n made number clear h =
             asts = k.asts;
             handlers = k.handlers;
             idle = k.idle;
+            waits = k.waits;
           }) h.procs);
       associations = all_weaker (AssociationStands (length s.procs) s.common) (AssociationStands (length t.procs) s.common) (association_moves (length s.procs) (length t.procs) s.common base.more) s.common.associations h.associations;
       requests = all_weaker (λ r. RequestStands g r × ((is_on_box r.req.device && is_request_on p n r) ≡ false)) (RequestStands to)
@@ -236,7 +182,7 @@ rooted_same : (s : State) (b : BoxNo) (p : Pid) (n : ℕ) (mode : Mode) (d : Dev
 rooted_same s b p n mode (device.Unit u) k = tt
 rooted_same s b p n mode (device.Mailbox c) k = record { number = k.number; row = k.row }
 
-pub gone_sound : (s : State) (b : BoxNo) → is_assigned s b ≡ false → IsSound s → IsSound (with_box s b None)
+pub gone_sound : (s : State) (b : BoxNo) → is_assigned s b ≡ false → IsFirm s → IsFirm (with_box s b None)
 gone_sound s b none h =
     let t = with_box s b None in
     let g = ground s in
@@ -253,6 +199,7 @@ gone_sound s b none h =
             asts = k.0.asts;
             handlers = k.0.handlers;
             idle = k.0.idle;
+            waits = k.0.waits;
           }) s.procs
           (all_both (ProcessStands g) (λ x. has_channel_to b x ≡ false) s.procs h.procs (none_passes (has_channel_to b) s.procs none));
       associations = h.associations;
@@ -272,16 +219,3 @@ gone_sound s b none h =
       timer_ids = h.timer_ids;
       attention_ids = h.attention_ids;
     }
-
-swept_device_sound : (s : State) (d : Device) → IsSound s → IsSound (swept_device s d).after
-swept_device_sound s (device.Unit u) h = h
-swept_device_sound s (device.Mailbox b) h =
-    either_by (λ (x : Part). IsSound x.after) (not (is_assigned s b) && goes_unused (mailbox_at s b)) (box_gone s b) (nothing s)
-    (λ e. gone_sound s b (not_holds (is_assigned s b) (and_parts (not (is_assigned s b)) (goes_unused (mailbox_at s b)) e).0) h) (λ e. h)
-
-pub swept_box_sound : (s : State) (o : Option Channel) → IsSound s → IsSound (swept_box s o).after
-swept_box_sound s None h = h
-swept_box_sound s (Some ch) h = swept_device_sound s ch.device h
-
-pub free_channel_sound : (s : State) (p : Pid) (n : ℕ) → IsProcess s p → is_channel_number n ≡ true → IsClear s p n → IsSound s → IsSound (free_channel s p n).after
-free_channel_sound s p n made number clear h = swept_box_sound (change s p (with_channel n None)) (channel_at (process_at s p).channels n) (freed_sound s p n made number clear h)

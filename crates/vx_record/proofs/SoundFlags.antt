@@ -1,24 +1,21 @@
 -- References stand after what is done to event flags and common clusters.
-use Rattle.std.proofs.Common.{◌≡◌, ℕ, ◌^◌, ◌%◌, List, [], ◌∷◌, ◌++◌, Bool, true, false, not, nat_lt, ◌==◌, ◌&&◌, length, Option, Some, None, IfSome, bytes_eq, refl, sym, ◌∙◌, inl, inr}
+use Rattle.std.proofs.Common.{◌≡◌, ℕ, List, [], ◌∷◌, ◌++◌, Bool, true, false, not, ◌==◌, ◌&&◌, length, Option, Some, None, IfSome, bytes_eq, refl, sym, ◌∙◌, inl, inr}
 use Rattle.std.specs.List.{AllByRecursion, find, list_any}
 use Rattle.std.proofs.lemmas.Bool.{eq-eqb, eqb-true, or_cases, and_parts, and_from, or_left, or_right}
 use Rattle.std.proofs.lemmas.Slice.Eq.{bytes_eq-Decides}
-use Rattle.vx_base.specs.Clusters.{Common, Change, cluster_number, is_cluster, is_association, is_user, stands, is_used, made, gone, joined, parted, swept_at, swept, dissociated_at, dissociated, has_already, made_where_new, associated, with_mark, marked_at, marked}
+use Rattle.vx_base.specs.Clusters.{Common, Change, is_cluster, is_association, is_user, stands, is_used, made, gone, joined, parted, swept_at, swept, dissociated_at, dissociated, has_already, made_where_new, associated, with_mark, marked_at, marked}
 use Rattle.vx_base.specs.Lists.{less, amend}
 use Rattle.vx_base.specs.Pieces.{Association, Cluster}
-use Rattle.vx_base.specs.declared.cond.Cond.{Cond}
 use Rattle.vx_base.specs.declared.effects.Cell.{Cell}
 use Rattle.vx_base.specs.declared.effects.Cell.TheVariants.{Local, Common as Shared}
-use Rattle.vx_base.specs.declared.frame.Wait.{Wait}
-use Rattle.vx_base.specs.declared.frame.Wait.TheVariants as wait
 use Rattle.vx_base.specs.declared.number.Pid.{Pid}
-use Rattle.vx_record.specs.State.{State, IsWithin, IsProcess, process_at, change}
-use Rattle.vx_record.specs.Parts.{Outcome, refused, commonly}
-use Rattle.vx_record.specs.Flags.{cell, with_local_flag, with_cluster_flag, with_cell, flag_part, flag_where_named, at_named, at_flag, put_flag_at, setef, clref, refused_value, readef_at, readef, with_wait, refused_wait, satisfied, awaited_at, awaited, waits_on, waitfr, wflor, wfland, is_common, wants_prmceb, ascefc, dacefc, dlcefc}
-use Rattle.vx_record.specs.Sound.{AssociationStands, IsSound}
+use Rattle.vx_record.specs.State.{State, IsWithin, process_at}
+use Rattle.vx_record.specs.Flags.{with_local_flag, with_cluster_flag, with_cell, flag_part}
+use Rattle.vx_record.specs.Sound.{AssociationStands}
+use Rattle.vx_record.proofs.Firm.{IsFirm}
 use Rattle.vx_record.proofs.Lists.{either, either_by, all_weaker, all_both, all_append, all_less, find_passes, none_passes}
-use Rattle.vx_record.proofs.Ground.{Still, still, common_still}
-use Rattle.vx_record.proofs.Changes.{quiet_still, with_local_flag_quiet, with_wait_quiet}
+use Rattle.vx_record.proofs.Ground.{Still, common_still}
+use Rattle.vx_record.proofs.Changes.{quiet_still, with_local_flag_quiet}
 
 -- Lists.
 
@@ -118,7 +115,7 @@ joined_stands n c p k group name m e h =
     let P = AssociationStands n (joined c p k group name).after in
     all_append P c.associations _ (all_weaker (AssociationStands n c) P (λ a i. record { made = i.made; stands = i.stands }) c.associations h) (record { made = m; stands = e }, tt)
 
-associated_stands : (n : ℕ) (c : Common) (p : Pid) (k group : ℕ) (name : List ℕ) (permanent : Bool) → IsWithin n p → CommonStands n c → CommonStands n (associated c p k group name permanent).after
+pub associated_stands : (n : ℕ) (c : Common) (p : Pid) (k group : ℕ) (name : List ℕ) (permanent : Bool) → IsWithin n p → CommonStands n c → CommonStands n (associated c p k group name permanent).after
 associated_stands n c p k group name permanent m h =
     let d = (dissociated c p k).after in
     let e = made_where_new_stands n d group name permanent (dissociated_stands n c p k h) in
@@ -133,82 +130,17 @@ marked_at_stands n c (Some cl) h =
     (λ e. clusters_move n c (amend (is_cluster cl.group cl.name) with_mark c.clusters) (λ a k. any_amend (is_cluster cl.group cl.name) (is_cluster a.group a.name) with_mark (λ x. refl) c.clusters k) h)
     (λ none. gone_stands n c cl.group cl.name none h))
 
-marked_stands : (n : ℕ) (c : Common) (group : ℕ) (name : List ℕ) → CommonStands n c → CommonStands n (marked c group name).after
+pub marked_stands : (n : ℕ) (c : Common) (group : ℕ) (name : List ℕ) → CommonStands n c → CommonStands n (marked c group name).after
 marked_stands n c group name h = marked_at_stands n c (find (is_cluster group name) c.clusters) h
-
-pub part_with_still : (s : State) (p : Pid) (k : ℕ) → IsSound s → Still s (commonly s (dissociated s.common p k)).after
-part_with_still s p k h = common_still s (dissociated s.common p k).after (dissociated_stands (length s.procs) s.common p k h.associations) h
 
 -- Flags.
 
-with_cell_still : (s : State) (c : Cell) (on : Bool) → IsSound s → Still s (with_cell s c on)
+with_cell_still : (s : State) (c : Cell) (on : Bool) → IsFirm s → Still s (with_cell s c on)
 with_cell_still s (Local p n) on h = quiet_still s p (with_local_flag n on) (with_local_flag_quiet n on (process_at s p)) h
 with_cell_still s (Shared group name n) on h =
     let clusters = amend (is_cluster group name) (with_cluster_flag n on) s.common.clusters in
     common_still s (record s.common { clusters = clusters })
     (clusters_move (length s.procs) s.common clusters (λ a k. any_amend (is_cluster group name) (is_cluster a.group a.name) (with_cluster_flag n on) (λ x. refl) s.common.clusters k) h.associations) h
 
-pub flag_part_still : (s : State) (c : Cell) (on : Bool) → IsSound s → Still s (flag_part s c on).after
+pub flag_part_still : (s : State) (c : Cell) (on : Bool) → IsFirm s → Still s (flag_part s c on).after
 flag_part_still s c on h = with_cell_still s c on h
-
-pub flag_where_named_still : (s : State) (o : Option Cell) (on : Bool) → IsSound s → Still s (flag_where_named s o on).after
-flag_where_named_still s None on h = still s h
-flag_where_named_still s (Some c) on h = flag_part_still s c on h
-
-at_named_sound : {A : Type 0} (refuse : Cond → Outcome A) (go : Cell → Outcome A) (o : Option Cell) → ((c : Cond) → IsSound (refuse c).after) → ((c : Cell) → IsSound (go c).after) → IsSound (at_named refuse go o).after
-at_named_sound refuse go None f g = f _
-at_named_sound refuse go (Some c) f g = g c
-
-pub at_flag_sound : {A : Type 0} (s : State) (p : Pid) (efn : ℕ) (refuse : Cond → Outcome A) (go : Cell → Outcome A) → ((c : Cond) → IsSound (refuse c).after) → ((c : Cell) → IsSound (go c).after) → IsSound (at_flag s p efn refuse go).after
-at_flag_sound {A} s p efn refuse go f g = either (λ (o : Outcome A). IsSound o.after) (nat_lt 127 efn) _ _ (f _) (at_named_sound refuse go (cell s p efn) f g)
-
-pub setef_sound : (s : State) (p : Pid) (efn : ℕ) → IsSound s → IsSound (setef s p efn).after
-setef_sound s p efn h = at_flag_sound s p efn (refused s) (put_flag_at s true) (λ c. h) (λ c. (flag_part_still s c true h).sound)
-
-pub clref_sound : (s : State) (p : Pid) (efn : ℕ) → IsSound s → IsSound (clref s p efn).after
-clref_sound s p efn h = at_flag_sound s p efn (refused s) (put_flag_at s false) (λ c. h) (λ c. (flag_part_still s c false h).sound)
-
-pub readef_sound : (s : State) (p : Pid) (efn : ℕ) → IsSound s → IsSound (readef s p efn).after
-readef_sound s p efn h = at_flag_sound s p efn (refused_value s) (readef_at s) (λ c. h) (λ c. h)
-
--- Waits.
-
-pub with_wait_still : (s : State) (p : Pid) (w : Option Wait) → IsSound s → Still s (change s p (with_wait w))
-with_wait_still s p w h = quiet_still s p (with_wait w) (with_wait_quiet w (process_at s p)) h
-
-awaited_at_sound : (s : State) (p : Pid) (w : Wait) (o : Option Cond) → IsSound s → IsSound (awaited_at s p w o).after
-awaited_at_sound s p w None h = (with_wait_still s p (Some w) h).sound
-awaited_at_sound s p w (Some c) h = h
-
-pub awaited_sound : (s : State) (p : Pid) (w : Wait) → IsSound s → IsSound (awaited s p w).after
-awaited_sound s p w h = awaited_at_sound s p w (satisfied s p w) h
-
-pub waits_sound : (s : State) (p : Pid) (efn : ℕ) (w : Wait) → IsSound s → IsSound (at_flag s p efn (refused_wait s) (waits_on s p w)).after
-waits_sound s p efn w h = at_flag_sound s p efn (refused_wait s) (waits_on s p w) (λ c. h) (λ c. awaited_sound s p w h)
-
-pub waitfr_sound : (s : State) (p : Pid) (efn : ℕ) → IsSound s → IsSound (waitfr s p efn).after
-waitfr_sound s p efn h = waits_sound s p efn (wait.Flags efn (2 ^ (efn % 32)) false) h
-
-pub wflor_sound : (s : State) (p : Pid) (efn mask : ℕ) → IsSound s → IsSound (wflor s p efn mask).after
-wflor_sound s p efn mask h = waits_sound s p efn (wait.Flags efn mask false) h
-
-pub wfland_sound : (s : State) (p : Pid) (efn mask : ℕ) → IsSound s → IsSound (wfland s p efn mask).after
-wfland_sound s p efn mask h = waits_sound s p efn (wait.Flags efn mask true) h
-
--- The services on common clusters.
-
-pub ascefc_sound : (s : State) (p : Pid) (efn : ℕ) (name : List ℕ) (perm : ℕ) → IsProcess s p → IsSound s → IsSound (ascefc s p efn name perm).after
-ascefc_sound s p efn name perm m h =
-    let P = λ (o : Outcome Cond). IsSound o.after in
-    let c = associated s.common p (cluster_number efn) (process_at s p).group name (not (perm == 0)) in
-    either P (not (is_common efn)) _ _ h
-    (either P (wants_prmceb s (process_at s p) name perm) _ _ h
-    (common_still s c.after (associated_stands (length s.procs) s.common p (cluster_number efn) (process_at s p).group name (not (perm == 0)) m h.associations) h).sound)
-
-pub dacefc_sound : (s : State) (p : Pid) (efn : ℕ) → IsSound s → IsSound (dacefc s p efn).after
-dacefc_sound s p efn h = either (λ (o : Outcome Cond). IsSound o.after) (not (is_common efn)) _ _ h (part_with_still s p (cluster_number efn) h).sound
-
-pub dlcefc_sound : (s : State) (p : Pid) (name : List ℕ) → IsSound s → IsSound (dlcefc s p name).after
-dlcefc_sound s p name h =
-    either (λ (o : Outcome Cond). IsSound o.after) (not (process_at s p).privs.prmceb) _ _ h
-    (common_still s (marked s.common (process_at s p).group name).after (marked_stands (length s.procs) s.common (process_at s p).group name h.associations) h).sound

@@ -1,51 +1,47 @@
 -- References stand at first, and after each step.
-use Rattle.vx_image.specs.Storage.{Storage}
-use Rattle.std.proofs.Common.{◌≡◌, ℕ, ◌+◌, ◌-◌, ◌≤◌, List, [], ◌∷◌, ◌++◌, true, length, Option, Some, None, IfSome, Contains, refl, sym, ap, ◌∙◌, arith, subst}
+use Rattle.std.proofs.Common.{◌≡◌, ℕ, ◌+◌, ◌≤◌, List, [], ◌∷◌, ◌++◌, true, length, Option, Some, None, Contains, refl, sym, ◌∙◌, arith, subst}
 use Rattle.std.proofs.lemmas.List.{length-map}
 use Rattle.std.specs.List.{AllByRecursion, find, list_any}
 use Rattle.vx_base.specs.Pieces.{Queued, Request, DeviceUnit, Timer}
 use Rattle.vx_base.specs.Queues.{is_served_by, waits_for, front, in_service}
 use Rattle.vx_base.specs.declared.call.Call.{Call}
-use Rattle.vx_base.specs.declared.call.Target.TheVariants as target
 use Rattle.vx_base.specs.declared.frame.Frame.{Frame}
-use Rattle.vx_base.specs.declared.frame.FrameKind.{FrameKind}
-use Rattle.vx_base.specs.declared.frame.FrameKind.TheVariants as kind
-use Rattle.vx_base.specs.declared.frame.Wait.{Wait}
 use Rattle.vx_base.specs.declared.number.Pid.{Pid}
 use Rattle.vx_base.specs.declared.number.UnitNo.{UnitNo}
 use Rattle.vx_base.specs.declared.record.Event.{Event}
 use Rattle.vx_base.specs.declared.record.Event.TheVariants as event
 use Rattle.vx_base.specs.declared.record.Rec.{Rec}
-use Rattle.vx_base.specs.declared.routine.Entry.{Entry}
-use Rattle.vx_base.specs.declared.routine.Entry.TheVariants as entry
-use Rattle.vx_image.specs.Local.{Advanced, advanced}
-use Rattle.vx_image.specs.WellFormed.{is_image, decl_names, IsWellFormed}
-use Rattle.vx_image.specs.declared.stop.Stop.{Stop}
-use Rattle.vx_image.specs.declared.stop.Stop.TheVariants as stop
+use Rattle.vx_image.specs.WellFormed.{IsWellFormed}
 use Rattle.vx_image.specs.declared.decl.ProcDecl.{ProcDecl}
-use Rattle.vx_image.specs.declared.image.Image.{Image}
 use Rattle.vx_image.specs.declared.system.System.{System}
-use Rattle.vx_image.specs.Units.{first_unit}
-use Rattle.vx_record.specs.State.{Process, State, IsProcess, HasFrame, process_at, change, image_of, decl_of, pid, with_top, nobody, no_image}
+use Rattle.vx_base.specs.Pieces.{Alarm, OfTimer, OfWake, Attention}
 use Rattle.vx_record.specs.Parts.{Outcome}
-use Rattle.vx_record.specs.Asts.{deliverable_at, deliverable_ast, new_frame}
-use Rattle.vx_record.specs.Flags.{satisfied}
+use Rattle.vx_base.specs.declared.record.Answer.{Answer}
+use Rattle.vx_record.specs.Rundown.{without_ast}
+use Rattle.vx_record.specs.Sound.{TimerStands, AttentionStands, AlarmStands}
+use Rattle.vx_record.proofs.Steps.{service_moves, started_moves, step_moves}
+use Rattle.vx_record.proofs.Base.{Base}
+use Rattle.vx_record.proofs.Called.{called}
+use Rattle.vx_record.proofs.Fits.{field_same}
+use Rattle.vx_record.proofs.Moves.{IsAlarmMade, OutcomeBy}
+use Rattle.vx_record.specs.Requests.{begun}
+use Rattle.vx_record.proofs.Firm.{firm, sound_of}
+use Rattle.vx_record.proofs.OwnIds.{moves_own, own_of, owned, started_own, begun_own, first_own}
+use Rattle.vx_record.proofs.References.{moves_stand}
+use Rattle.vx_record.proofs.Lists.{all_weaker}
+use Rattle.vx_record.specs.State.{Process, State, IsProcess, HasFrame, process_at, change, image_of, pid}
+use Rattle.vx_record.specs.Parts.{Outcome}
+use Rattle.vx_base.specs.declared.record.Answer.{Answer}
+use Rattle.vx_record.specs.Asts.{deliverable_at, deliverable_ast}
 use Rattle.vx_record.specs.Rundown.{without_ast}
 use Rattle.vx_record.specs.Services.{service}
-use Rattle.vx_record.specs.Events.{can_run, can_run_down, run_events, ast_or_run, process_events, processes_from, beg_event, don_or_beg, unit_events, units_from, tick_events, enabled, or_normal, resumed_with, moved_to, served_call, below_top, put_back, r0_of, returned_from, returned, moved_behind, run_on, run_advanced, reader, run_frame, run, started, delivered, beg, don, step}
-use Rattle.vx_record.specs.Runs.{born_of, born_from, first, AreSteps, IsRun, after_from, after}
-use Rattle.vx_record.specs.Sound.{ground, RequestStands, ProcessStands, IsSound, FitsImage, image_for}
-use Rattle.vx_record.specs.declared.served.Served.{Served}
-use Rattle.vx_record.specs.declared.served.Served.TheVariants.{Answered, Waits}
-use Rattle.vx_record.proofs.Lists.{either, either_by, all_append, all_at, all_get, some_found}
-use Rattle.vx_record.proofs.Ground.{Still, made_keeps, at_set}
-use Rattle.vx_record.proofs.Changes.{idle_of, stands_at, quiet_still, moved_to_quiet, put_back_quiet, below_top_quiet, woken_quiet, without_ast_still, with_frame_sound}
-use Rattle.vx_record.proofs.SoundAsts.{tick_sound}
-use Rattle.vx_record.proofs.SoundProcs.{all_free, exited_still}
-use Rattle.vx_record.proofs.SoundRequests.{begun_sound, done_sound}
-use Rattle.vx_record.proofs.SoundRundown.{rundown_sound}
-use Rattle.vx_record.proofs.SoundCalls.{all_from_list, StopFits, advanced_fits}
-use Rattle.vx_record.proofs.SoundServices.{variable_sound, service_sound}
+use Rattle.vx_record.specs.Events.{can_run, can_run_down, run_events, ast_or_run, process_events, processes_from, beg_event, don_or_beg, unit_events, units_from, tick_events, enabled, run, delivered, beg, step}
+use Rattle.vx_record.specs.Runs.{born_of, born_from, first_unit, first, AreSteps, IsRun, after_from, after}
+use Rattle.vx_record.specs.Sound.{ground, RequestStands, ProcessStands, IsSound, FitsImage}
+use Rattle.vx_record.proofs.Lists.{either, either_by, all_append, all_at}
+use Rattle.vx_record.proofs.Changes.{without_ast_still}
+use Rattle.vx_record.proofs.SoundLists.{all_free}
+use Rattle.vx_record.proofs.SoundRequests.{begun_sound}
 use Rattle.vx_record.proofs.SystemKept.{step_keeps_system}
 
 -- What is enabled: events of processes that are there, and rundowns of processes that have no frame.
@@ -110,80 +106,30 @@ enabled_allowed s e c =
     (all_append (Allowed s) (units_from s 0 s.units) (tick_events s.timers) (units_allowed s 0 s.units) (ticks_allowed s s.timers)) in
     subst (Allowed s) c.2 (all_at (Allowed s) (enabled s) c.0 e all c.1)
 
--- RUN.
+-- By moves.
 
-served_call_sound : (p : Pid) (c : Call) (o : Outcome Served) (answer : Served) → IsSound o.after → IsSound (served_call p c o answer).after
-served_call_sound p c o (Answered x) h = variable_sound o.after p target.R0 _ h
-served_call_sound p c o Waits h = h
+-- ids rise, and owners are there, where references stand
+sound_base : (s : State) → IsSound s → Base s
+sound_base s h = record {
+  requests = h.request_ids;
+  timers = h.timer_ids;
+  attention = h.attention_ids;
+  request_owners = all_weaker (RequestStands (ground s)) (λ (r : Request). IsProcess s r.req.p) (λ r k. k.made) s.requests h.requests;
+  timer_owners = all_weaker (TimerStands (ground s)) (λ (t : Timer). IsProcess s t.p × IsAlarmMade s t.what) (λ t k. (k.made, alarm_made t.p t.what k.alarm)) s.timers h.timers;
+  attention_owners = all_weaker (AttentionStands (ground s)) (λ (a : Attention). IsProcess s a.p) (λ a k. k.made) s.attention h.attention;
+}
+  where
+    alarm_made : (p : Pid) (a : Alarm) → AlarmStands (ground s) p a → IsAlarmMade s a
+    alarm_made p (OfTimer efn reqid mode tag) k = tt
+    alarm_made p (OfWake target repeat) k = k
 
-returned_from_sound : (s : State) (p : Pid) (f : Frame) (k : FrameKind) → IsSound s → IsSound (returned_from s p f k).after
-returned_from_sound s p f kind.Main h = (exited_still s p (r0_of s p) h).sound
-returned_from_sound s p f (kind.Ast id) h = (quiet_still s p (put_back f.saved_r0) (put_back_quiet f.saved_r0 (process_at s p)) h).sound
-returned_from_sound s p f kind.Change h = (quiet_still s p below_top (below_top_quiet (process_at s p)) h).sound
-returned_from_sound s p f kind.Handler h = (quiet_still s p below_top (below_top_quiet (process_at s p)) h).sound
+moved_sound : {A : Type 0} (s : State) (o : Outcome A) → OutcomeBy true s o → IsSound s → IsSound o.after
+moved_sound s o k h =
+    sound_of o.after (moves_stand s None o.effects o.after None k (record { sound = firm s h; loose = tt })).sound
+    (owned o.after (moves_own s None o.effects o.after None k (own_of s h.own_ids)))
 
-returned_sound : (s : State) (p : Pid) (frames : List Frame) → IsSound s → IsSound (returned s p frames).after
-returned_sound s p [] h = h
-returned_sound s p (f ∷ fs) h = returned_from_sound s p f f.kind h
-
-top_has : (f : Frame → Frame) (fs : List Frame) → 1 ≤ length fs → 1 ≤ length (with_top f fs)
-top_has f [] h = h
-top_has f (x ∷ xs) h = omega arith
-
--- a process that has moved on is there still, with a frame, in its image
-record Moving (s t : State) (p : Pid) : Type 0 where
-  pub sound : IsSound t
-  pub made : IsProcess t p
-  pub has : HasFrame t p
-  pub image : image_of t p ≡ image_of s p
-
-moved_on : (s : State) (p : Pid) (store : Storage) (place : ℕ) → IsProcess s p → HasFrame s p → IsSound s → Moving s (change s p (moved_to store place)) p
-moved_on s p store place m has h =
-    let f = moved_to store place in
-    let t = change s p f in
-    let k : Still s t = quiet_still s p f (moved_to_quiet store place (process_at s p)) h in
-    record {
-      sound = k.sound;
-      made = made_keeps (ground s) (ground t) k.keeps p m;
-      has = at_set (λ (x y : Process). 1 ≤ length x.frames → 1 ≤ length y.frames) (λ x e. e) s.procs (p.0 - 1) (p.0 - 1) (f (process_at s p)) nobody (top_has _ (process_at s p).frames) has;
-      image = ap (λ (n : ℕ). image_for s.system n) (k.keeps.base.decl p m);
-    }
-
-moved_behind_on : (s : State) (p : Pid) (place : ℕ) → IsProcess s p → HasFrame s p → IsSound s → Moving s (change s p (moved_behind place)) p
-moved_behind_on s p place m has h = moved_on s p (process_at s p).store (place + 1) m has h
-
-run_on_sound : (s : State) (p : Pid) (place : ℕ) (x : Stop) → StopFits (image_of s p) x → IsProcess s p → HasFrame s p → IsSound s → IsSound (run_on s p place x).after
-run_on_sound s p place (stop.Call c) k m has h =
-    let t = change s p (moved_behind place) in
-    let on : Moving s t p = moved_behind_on s p place m has h in
-    let fits : FitsImage (image_of t p) c = subst (λ (i : Image). FitsImage i c) (sym on.image) k in
-    served_call_sound p c (service t p c) (service t p c).answer (service_sound t p c fits on.made on.has on.sound)
-run_on_sound s p place stop.Return k m has h = returned_sound s p (process_at s p).frames h
-run_on_sound s p place stop.End k m has h = returned_sound s p (process_at s p).frames h
-run_on_sound s p place stop.Local k m has h = h
-
--- the image that a process runs is well formed
-image_formed : (s : State) (p : Pid) → IsWellFormed s.system → is_image (decl_names s.system) (image_of s p) ≡ true
-image_formed s p w =
-    all_get (λ (i : Image). is_image (decl_names s.system) i ≡ true) s.system.images (decl_of s p).image no_image refl (all_from_list (is_image (decl_names s.system)) s.system.images w.images)
-
-run_advanced_sound : (s : State) (p : Pid) (a : Advanced) → StopFits (image_of s p) a.stop → IsProcess s p → HasFrame s p → IsSound s → IsSound (run_advanced s p a).after
-run_advanced_sound s p a k m has h =
-    let t = change s p (moved_to a.store a.place) in
-    let on : Moving s t p = moved_on s p a.store a.place m has h in
-    run_on_sound t p a.place a.stop (subst (λ (i : Image). StopFits i a.stop) (sym on.image) k) on.made on.has on.sound
-
-run_frame_sound : (s : State) (p : Pid) (f : Frame) (o : Option Wait) → IsWellFormed s.system → IsProcess s p → HasFrame s p → IsSound s → IsSound (run_frame s p f o).after
-run_frame_sound s p f None w m has h =
-    let a = advanced (image_of s p) (reader p f) (process_at s p).store f.pc in
-    run_advanced_sound s p a (advanced_fits (decl_names s.system) (image_of s p) (reader p f) (process_at s p).store f.pc (image_formed s p w)) m has h
-run_frame_sound s p f (Some x) w m has h = (quiet_still s p (resumed_with x (or_normal (satisfied s p x))) (woken_quiet x _ (process_at s p)) h).sound
-
-run_sound_at : (s : State) (p : Pid) (frames : List Frame) → (process_at s p).frames ≡ frames → IsWellFormed s.system → IsProcess s p → IsSound s → IsSound (run s p frames).after
-run_sound_at s p [] e w m h = h
-run_sound_at s p (f ∷ fs) e w m h = run_frame_sound s p f f.wait w m (rw e (omega arith)) h
-
--- AST.
+pub service_sound : (s : State) (p : Pid) (c : Call) → FitsImage (image_of s p) c → IsProcess s p → HasFrame s p → IsSound s → IsSound (service s p c).after
+service_sound s p c k m f h = moved_sound s (service s p c) (service_moves s p c (record { base = sound_base s h; made = m }) (λ e. called s p c k f)) h
 
 framed_at : (s : State) (p : Pid) (frames : List Frame) (q : Queued) → (process_at s p).frames ≡ frames → deliverable_at (process_at s p) frames ≡ Some q → HasFrame s p
 framed_at s p [] q e d = cc
@@ -193,46 +139,29 @@ deliverable_framed : (s : State) (p : Pid) (q : Queued) → deliverable_ast s p 
 deliverable_framed s p q =
     either (λ (o : Option Queued). o ≡ Some q → HasFrame s p) (process_at s p).suspended _ _ (λ e. cc) (λ e. framed_at s p (process_at s p).frames q refl e)
 
-started_sound : (s : State) (p : Pid) (q : Queued) (tag : Entry) → IsProcess s p → HasFrame s p → IsSound s → IsSound (started s p q tag).after
-started_sound s p q (entry.Exit code) m has h = (exited_still s p code h).sound
-started_sound s p q (entry.Label k prm) m has h =
-    let f = new_frame s p (kind.Ast q.id) q.mode (entry.Label k prm) (r0_of s p) in
-    with_frame_sound s p f (idle_of (process_at s p).phase (process_at s p).frames (f ∷ (process_at s p).frames) has (stands_at s p h m).idle) h
-started_sound s p q (entry.Host prm) m has h =
-    let f = new_frame s p (kind.Ast q.id) q.mode (entry.Host prm) (r0_of s p) in
-    with_frame_sound s p f (idle_of (process_at s p).phase (process_at s p).frames (f ∷ (process_at s p).frames) has (stands_at s p h m).idle) h
-
-delivered_sound : (s : State) (p : Pid) (o : Option Queued) → deliverable_ast s p ≡ o → IsProcess s p → IsSound s → IsSound (delivered s p o).after
-delivered_sound s p None e m h = h
-delivered_sound s p (Some q) e m h =
+delivered_sound : (s : State) (p : Pid) (o : Option Queued) → deliverable_ast s p ≡ o → IsSound s → IsSound (delivered s p o).after
+delivered_sound s p None e h = h
+delivered_sound s p (Some q) e h =
     let t = change s p (without_ast q.id) in
-    let one : Still s t = without_ast_still s p q.id h in
-    let has : HasFrame t p = at_set (λ (x y : Process). 1 ≤ length x.frames → 1 ≤ length y.frames) (λ x k. k) s.procs (p.0 - 1) (p.0 - 1) (without_ast q.id (process_at s p)) nobody (λ k. k) (deliverable_framed s p q e) in
-    started_sound t p q q.tag (made_keeps (ground s) (ground t) one.keeps p m) has one.sound
-
--- BEG and DON.
+    let has : HasFrame t p = rw (field_same (λ (pr : Process). pr.frames) (without_ast q.id) s p p refl) (deliverable_framed s p q e) in
+    let o : Outcome Answer = delivered s p (Some q) in
+    moved_sound t o (started_moves t p q q.tag (λ y. has)) (sound_of t (without_ast_still s p q.id (firm s h)).sound (started_own s p q.id h.own_ids))
 
 front_found : (u : UnitNo) (xs : List Request) (r : Request) → front u xs ≡ Some r → find (waits_for u) xs ≡ Some r
 front_found u xs r = either (λ (o : Option Request). o ≡ Some r → find (waits_for u) xs ≡ Some r) (list_any (is_served_by u) xs) _ _ (λ e. cc) (λ e. e)
 
 beg_sound : (s : State) (u : UnitNo) (o : Option Request) → front u s.requests ≡ o → IsSound s → IsSound (beg s o).after
 beg_sound s u None e h = h
-beg_sound s u (Some r) e h = begun_sound s u r (front_found u s.requests r e) h
-
-don_sound : (s : State) (u : UnitNo) (o : Option Request) → IfSome o (RequestStands (ground s)) → IsSound s → IsSound (don s u o).after
-don_sound s u None k h = h
-don_sound s u (Some r) k h = done_sound s u r k h
-
--- Each step.
+beg_sound s u (Some r) e h = sound_of (begun s r) (begun_sound s u r (front_found u s.requests r e) (firm s h)) (begun_own s r h.own_ids)
 
 allowed_sound : (s : State) (e : Event) → Allowed s e → IsWellFormed s.system → IsSound s → IsSound (step s e).after
 unfolding Allowed
-allowed_sound s (event.Run p) m w h = run_sound_at s p (process_at s p).frames refl w m h
-allowed_sound s (event.Ast p) m w h = delivered_sound s p (deliverable_ast s p) refl m h
-allowed_sound s (event.Rdn p) m w h = rundown_sound s p m.0 m.1 h
+allowed_sound s (event.Run p) m w h = moved_sound s (step s (event.Run p)) (step_moves s (event.Run p) refl m (sound_base s h) (λ y. w)) h
+allowed_sound s (event.Ast p) m w h = delivered_sound s p (deliverable_ast s p) refl h
+allowed_sound s (event.Rdn p) m w h = moved_sound s (step s (event.Rdn p)) (step_moves s (event.Rdn p) refl m.0 (sound_base s h) (λ y. m.1)) h
 allowed_sound s (event.Beg u) m w h = beg_sound s u (front u s.requests) refl h
-allowed_sound s (event.Don u) m w h = don_sound s u (in_service u s.requests) (some_found (RequestStands (ground s)) (is_served_by u) s.requests h.requests) h
-allowed_sound s event.Tick m w h = tick_sound s h
+allowed_sound s (event.Don u) m w h = moved_sound s (step s (event.Don u)) (step_moves s (event.Don u) refl tt (sound_base s h) (λ y. tt)) h
+allowed_sound s event.Tick m w h = moved_sound s (step s event.Tick) (step_moves s event.Tick refl tt (sound_base s h) (λ y. tt)) h
 
 pub step_sound : (s : State) (e : Event) → IsWellFormed s.system → IsSound s → Contains (enabled s) e → IsSound (step s e).after
 step_sound s e w h c = allowed_sound s e (enabled_allowed s e c) w h
@@ -250,6 +179,7 @@ born_stand s place (d ∷ ds) e =
       asts = tt;
       handlers = tt;
       idle = tt;
+      waits = (tt, tt);
     } in
     either (AllByRecursion (ProcessStands (ground s))) d.start (born_of place d ∷ born_from (place + 1) ds) (born_from (place + 1) ds) (here, rest) rest
 
@@ -264,6 +194,7 @@ first_sound system = record {
   request_ids = omega arith;
   timer_ids = omega arith;
   attention_ids = omega arith;
+  own_ids = first_own system;
 }
 
 -- Along a run.

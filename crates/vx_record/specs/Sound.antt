@@ -1,6 +1,6 @@
 -- References stand: what the state names is there, and what services tested of it still holds. Services and events rely on
 -- it, and keep it.
-use Rattle.std.specs.Prelude.{◌≡◌, ℕ, ◌+◌, ◌-◌, ◌<◌, ◌≤◌, List, [], ◌∷◌, Bool, false, IsTrue, IfSome, Option, Some, None, length, is_some, slice_index_or, ⊤}
+use Rattle.std.specs.Prelude.{◌≡◌, ◌==◌, ℕ, ◌+◌, ◌-◌, ◌<◌, ◌≤◌, List, [], ◌∷◌, Bool, false, IsTrue, IfSome, Option, Some, None, length, is_some, slice_index_or, ⊤}
 use Rattle.std.specs.List.{AllByRecursion, list_all}
 use Rattle.vx_base.specs.Channels.{is_channel_number, channel_at}
 use Rattle.vx_base.specs.Clusters.{Common, stands}
@@ -11,6 +11,8 @@ use Rattle.vx_base.specs.declared.call.Call.{Call}
 use Rattle.vx_base.specs.declared.frame.Frame.{Frame}
 use Rattle.vx_base.specs.declared.frame.Phase.{Phase}
 use Rattle.vx_base.specs.declared.frame.Phase.TheVariants as phase
+use Rattle.vx_base.specs.declared.frame.Wait.{Wait}
+use Rattle.vx_base.specs.declared.frame.Wait.TheVariants as wait
 use Rattle.vx_base.specs.declared.mode.Mode.{Mode}
 use Rattle.vx_base.specs.declared.number.BoxNo.{BoxNo}
 use Rattle.vx_base.specs.declared.number.Pid.{Pid}
@@ -21,6 +23,7 @@ use Rattle.vx_base.specs.declared.routine.Entry.TheVariants as entry
 use Rattle.vx_image.specs.WellFormed.{has_its_label}
 use Rattle.vx_image.specs.declared.image.Image.{Image}
 use Rattle.vx_image.specs.declared.system.System.{System}
+use Rattle.vx_record.specs.Parts.{tally, total}
 use Rattle.vx_record.specs.State.{Process, State, IsWithin, nobody, no_decl, no_image}
 
 -- What references are to: the system, the processes, the mailboxes, and how many units there are.
@@ -129,8 +132,17 @@ abbrev pub IsIdle : Phase → List Frame → Type 0
 IsIdle (phase.Draining m) (f ∷ fs) = ⊥
 IsIdle _ _ = ⊤
 
+-- the status block that a wait names is one that a process has, or none
+abbrev pub WaitStands : Wait → Type 0
+WaitStands (wait.Flags efn mask all) = ⊤
+WaitStands (wait.Synch efn iosb) = iosb ≤ 32
+WaitStands wait.Hiber = ⊤
+
+abbrev pub WaitsStand : List Frame → Type 0
+WaitsStand frames = AllByRecursion (λ f. IfSome f.wait WaitStands) frames
+
 -- A process's declaration is the system's; it has 64 channels, whose devices stand; the routines of its queued ASTs and of
--- its exit handlers are its own.
+-- its exit handlers are its own; and so are the status blocks that its frames wait for.
 pub record ProcessStands (g : Ground) (pr : Process) : Type 0 where
   pub decl : pr.decl < length g.system.decls
   pub numbers : length pr.channels ≡ 64
@@ -138,6 +150,7 @@ pub record ProcessStands (g : Ground) (pr : Process) : Type 0 where
   pub asts : AllByRecursion (λ q. IsRoutine g.system pr.decl q.tag) pr.asts
   pub handlers : AllByRecursion (λ h. IsRoutine g.system pr.decl h.tag) pr.handlers
   pub idle : IsIdle pr.phase pr.frames
+  pub waits : WaitsStand pr.frames
 
 -- An association is a process's, and its cluster stands.
 pub record AssociationStands (procs : ℕ) (c : Common) (a : Association) : Type 0 where
@@ -158,7 +171,22 @@ timer_id t = t.id.0
 abbrev pub attention_id : Attention → ℕ
 attention_id a = a.id.0
 
--- There are the script's units; all that the state names stands; and ids rise, below the next id.
+-- What bears an id: requests, timers and attention entries, and of each process its queued ASTs and its exit handlers.
+
+abbrev pub process_bears : ℕ → Process → ℕ
+process_bears id pr = tally (λ q. q.id.0 == id) pr.asts + tally (λ h. h.id.0 == id) pr.handlers
+
+abbrev pub bearers : State → ℕ → ℕ
+bearers s id =
+    tally (λ r. request_id r == id) s.requests + (tally (λ t. timer_id t == id) s.timers + (tally (λ a. attention_id a == id) s.attention + total (process_bears id) s.procs))
+
+-- no two open things have one id, and all ids are below the next
+pub record HaveOwnIds (s : State) : Type 0 where
+  pub single : (id : ℕ) → bearers s id ≤ 1
+  pub below : (id : ℕ) → s.next ≤ id → bearers s id ≡ 0
+
+-- There are the script's units; all that the state names stands; ids rise, below the next id; and no two open things have
+-- one id.
 pub record IsSound (s : State) : Type 0 where
   pub units : length s.units ≡ length s.system.units
   pub procs : AllByRecursion (ProcessStands (ground s)) s.procs
@@ -169,6 +197,7 @@ pub record IsSound (s : State) : Type 0 where
   pub request_ids : AreOrdered request_id 0 s.next s.requests
   pub timer_ids : AreOrdered timer_id 0 s.next s.timers
   pub attention_ids : AreOrdered attention_id 0 s.next s.attention
+  pub own_ids : HaveOwnIds s
 
 -- What a caller of a service owes: the call's arguments are of the kinds that the service takes, and the labels that they
 -- name are the image's.

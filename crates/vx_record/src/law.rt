@@ -13,26 +13,25 @@ ghost use Rattle.vx_record.specs.Services.{service};
 ghost use Rattle.vx_record.specs.Sound.{FitsImage, IsSound};
 ghost use Rattle.vx_record.specs.State.{HasFrame, IsProcess, State, image_of};
 
-/// In the first state of every system what the state names is there.
-#[tactic(auto, using(crate::proofs::SoundSteps::first_sound))]
+/// In the first state of every system what the state names is there, and no two open things have one id.
 pub fn references_stand_at_first()
     ensures { (system : SystemOf) → IsSound (first system) }
 {}
 
-/// What the state names is there after a service that a process with a frame calls, where it was there before it, and where
-/// the call's labels are labels of the process's image.
+/// What the state names is there, and no two open things have one id, after a service that a process with a frame calls,
+/// where that held before it, and where the call's labels are labels of the process's image.
 pub fn references_stand_after_each_service()
     ensures { (s : State) (p : PidOf) (c : CallOf) → FitsImage (image_of s p) c → IsProcess s p → HasFrame s p → IsSound s →
         IsSound (service s p c).after }
 {}
 
-/// What the state names is there after each enabled event, where it was there before it.
+/// What the state names is there, and no two open things have one id, after each enabled event, where that held before it.
 pub fn references_stand_after_each_step()
     ensures { (s : State) (e : EventOf) → IsWellFormed s.system → IsSound s → Contains (enabled s) e →
         IsSound (step s e).after }
 {}
 
-/// What the state names is there at each moment of every run of a well formed system.
+/// What the state names is there, and no two open things have one id, at each moment of every run of a well formed system.
 #[tactic(auto, using(crate::proofs::SoundSteps::every_run_sound))]
 pub fn references_stand_in_every_run()
     ensures { (system : SystemOf) (recs : List RecOf) → IsWellFormed system → IsRun system recs →

@@ -1,0 +1,599 @@
+-- What services share, as sequences of moves: flags, clusters, ends of requests, mailboxes, and requests.
+use Rattle.std.proofs.Common.{◌≡◌, ℕ, ◌^◌, ◌%◌, List, [], ◌∷◌, Bool, true, false, cond, not, ◌==◌, ◌&&◌, ◌||◌, nat_lt, nat_le, length, Option, Some, None, Result, Ok, Err, is_some, position, is_none, refl, ◌∙◌}
+use Rattle.std.specs.List.{filter, find, list_any}
+use Rattle.vx_base.specs.Modes.{outer}
+use Rattle.vx_base.specs.Pieces.{Queued, Channel, Handler, Request, Promised, Timer, Alarm, OfTimer, OfWake, Attention, Mailbox, Status, cleared}
+use Rattle.vx_base.specs.Queues.{in_service}
+use Rattle.vx_base.specs.Serving.{serve, settled}
+use Rattle.vx_base.specs.declared.call.Args.{Args}
+use Rattle.vx_base.specs.declared.call.Call.{Call}
+use Rattle.vx_base.specs.declared.call.Target.{Target}
+use Rattle.vx_base.specs.declared.cond.Cond.{Cond}
+use Rattle.vx_base.specs.declared.cond.Cond.TheVariants.{Cancel as Cancelled, EndOfFile}
+use Rattle.vx_base.specs.declared.effects.Cell.{Cell}
+use Rattle.vx_base.specs.declared.effects.Cell.TheVariants.{Local, Common}
+use Rattle.vx_base.specs.declared.frame.Frame.{Frame}
+use Rattle.vx_base.specs.declared.frame.FrameKind.{FrameKind}
+use Rattle.vx_base.specs.declared.frame.FrameKind.TheVariants as kind
+use Rattle.vx_base.specs.declared.frame.Phase.{Phase}
+use Rattle.vx_base.specs.declared.frame.Phase.TheVariants as phase
+use Rattle.vx_base.specs.declared.frame.Wait.{Wait}
+use Rattle.vx_base.specs.declared.frame.Wait.TheVariants as wait
+use Rattle.vx_base.specs.declared.mode.Mode.{Mode}
+use Rattle.vx_base.specs.declared.number.BoxNo.{BoxNo}
+use Rattle.vx_base.specs.declared.number.Pid.{Pid}
+use Rattle.vx_base.specs.declared.number.UnitNo.{UnitNo}
+use Rattle.vx_base.specs.declared.record.Answer.{Answer}
+use Rattle.vx_base.specs.declared.record.Event.{Event}
+use Rattle.vx_base.specs.declared.record.Event.TheVariants as event
+use Rattle.vx_base.specs.declared.request.Device.{Device}
+use Rattle.vx_base.specs.declared.request.Device.TheVariants as device
+use Rattle.vx_base.specs.declared.request.Func.{Func}
+use Rattle.vx_base.specs.declared.request.Func.TheVariants.{ReadAttn, WrtAttn}
+use Rattle.vx_base.specs.declared.request.Msg.{Msg}
+use Rattle.vx_base.specs.declared.request.Req.{Req}
+use Rattle.vx_base.specs.declared.routine.Entry.{Entry}
+use Rattle.vx_base.specs.declared.routine.Entry.TheVariants as entry
+use Rattle.vx_base.specs.declared.service.Service.{Service}
+use Rattle.vx_base.specs.declared.service.Service.TheVariants.{SetEf, ClrEf, ReadEf, WaitFr, WflOr, WflAnd, AscEfc, DacEfc, DlcEfc, DclAst, SetAst, CmExec, CmKrnl, SetImr, CanTim, SchdWk, CanWak, Hiber, Wake, Suspnd, Resume, ForceX, CrePrc, DelPrc, Exit, DclExh, CanExh, Assign, Dassgn, CreMbx, DelMbx, Qio, QioW, Synch, Cancel, GetTim}
+use Rattle.vx_image.specs.Local.{Advanced, advanced}
+use Rattle.vx_image.specs.declared.stop.Stop.{Stop}
+use Rattle.vx_image.specs.declared.stop.Stop.TheVariants as stop
+use Rattle.vx_record.specs.State.{State, process_at, change, current, image_of, unit_at}
+use Rattle.vx_record.specs.Parts.{Part, Outcome, nothing, each, part_if, refused, at_tested, part_of}
+use Rattle.vx_record.specs.Charges.{moved_bytes, request_need, exceeds, ast_need, timer_need, is_direct, is_attention}
+use Rattle.vx_record.specs.Flags.{cell, flag_part, flag_where_named, at_named, at_flag, put_flag_at, refused_value, readef_at, readef, refused_wait, satisfied, awaited_at, awaited, waits_on, is_common, wants_prmceb}
+use Rattle.vx_record.specs.Asts.{is_inside}
+use Rattle.vx_record.specs.Finish.{Ending, ending, is_read, fin_part, buf_part, status_of, iosb_part, done_flag_part, done_ast_part, finish, finish_found, this_request}
+use Rattle.vx_record.specs.Mailboxes.{mailbox_at, is_waiting_func, waits_at, this_message, mput_part, mget_part, mcut_part, message_of, read_ending, write_ending, received, write_done, is_attention_at, fire_attention, call_attention, store_message, hand_over, write_box, take_message, read_box, is_answered_now, attend}
+use Rattle.vx_record.specs.Channels.{channel_test, box_named, device_named, with_channel, free_channel_of, assign_at, assign_to, assign, is_bad_box, new_box, make_box, make_box_in, find_or_create, crembx, marked_box, delmbx_on, delmbx_at, is_assigned, goes_unused, box_gone, swept_device, swept_box, free_channel}
+use Rattle.vx_record.specs.Cancel.{mark_part, withdraw, cancelled_request, cancel_request, is_request_on, is_attention_on, drop_attention, cancel_channel, cancel_at, dassgn_at}
+use Rattle.vx_record.specs.Requests.{is_bad, has_function, is_too_long, is_full, device_test, on_channel, on_cell, attention_set, Asked, request_test, new_request, opened_request, cleared_part, begun_on, transfer, new_attention, attention_opened, done_at_once, attention_on, asked_of, accepted, qio_tested, qiow_tested, unit_ending, with_unit}
+use Rattle.vx_record.specs.Control.{process_test, changed_process, with_wake, with_suspension, forced, creprc}
+use Rattle.vx_record.specs.Timers.{drop_timer, drop_timers, setimr_at, setimr, is_cancelled_timer, scheduled, is_wake_for, unscheduled, que_timer, fire_timer, fired, fire, is_due, at_time, next_time, tick}
+use Rattle.vx_record.specs.Rundown.{leave_kind, leave_frame, leave_all, exited, without_frames, is_kernel, is_handler_of, is_handler_with, drop_handlers, any_handler, cancel_found, cancel_handlers, named_for_deletion, deleted_by, cancel_one, free_one, is_timer_in, is_wake_by, cancel_modes, release, drop_all_handlers, is_busy, drain, cancelled_in, run_handlers, handling, run_down, inner_modes, rundown_from}
+use Rattle.vx_record.specs.Services.{number, place, access_mode, text, routine_or_none, decl_place, asked, valued_at, numbered_at, service_of, service}
+use Rattle.vx_record.specs.Events.{r0_of, returned_from, returned, served_call, moved_behind, moved_to, run_on, run_advanced, reader, run_frame, run, started, don, step}
+use Rattle.vx_record.specs.declared.served.Served.{Served}
+use Rattle.vx_record.specs.declared.served.Served.TheVariants.{Answered, Waits}
+use Rattle.vx_base.specs.Channels.{channel_at, channels_of}
+use Rattle.vx_record.proofs.Lists.{either}
+use Rattle.std.proofs.Common.{◌+◌, ◌-◌, ◌≤◌, ◌++◌, IfSome, sym, ap, arith, subst, append-nil, zero, suc, get_or}
+use Rattle.vx_record.specs.Requests.{promised}
+use Rattle.vx_record.specs.Rundown.{drop_asts}
+use Rattle.std.proofs.lemmas.Bool.{eq-eqb, eqb-true, and_parts, leb-true, ltb-true}
+use Rattle.std.proofs.Math.ListN.{length-set}
+use Rattle.std.specs.List.{AllByRecursion}
+use Rattle.std.specs.Prelude.{option_map}
+use Rattle.vx_base.specs.Clusters.{Common as Clusters, Change, stands, followed, joined, parted, swept_at, swept, dissociated_at, dissociated, has_already, made_where_new, associated, marked_at, marked, is_used, is_user, is_association, is_cluster}
+use Rattle.vx_base.specs.Lists.{less, amend}
+use Rattle.vx_base.specs.Pieces.{Association, Cluster}
+use Rattle.vx_base.specs.declared.effects.Effect.{Effect}
+use Rattle.vx_base.specs.declared.effects.Effect.TheVariants as effect
+use Rattle.vx_base.specs.declared.effects.Opened.TheVariants as opened
+use Rattle.vx_record.specs.Channels.{box_number, box_made}
+use Rattle.vx_record.specs.Timers.{mode_of_ast}
+use Rattle.vx_base.specs.declared.number.Id.{Id}
+use Rattle.vx_record.specs.State.{Process, IsProcess}
+use Rattle.vx_record.specs.Parts.{and_then, followed_by}
+use Rattle.vx_record.specs.Flags.{common_cell, with_wait, with_local_flag}
+use Rattle.vx_base.specs.Clusters.{cluster_number}
+use Rattle.vx_base.specs.declared.cond.Cond.TheVariants.{Normal}
+use Rattle.vx_base.specs.declared.mode.Mode.TheVariants.{User}
+use Rattle.vx_record.specs.State.{next_id, past_id}
+use Rattle.vx_record.specs.Asts.{declared_ast, charged_ast, with_frame}
+use Rattle.vx_record.specs.Cancel.{with_abort}
+use Rattle.vx_record.specs.Control.{exists_for_control, may_control, named_process, exit_ast}
+use Rattle.vx_record.specs.Mailboxes.{this_attention}
+use Rattle.vx_base.specs.Cond.{number_of}
+use Rattle.vx_base.specs.Queues.{is_served_by}
+use Rattle.vx_record.specs.Rundown.{handler_frame, in_phase, gone_part, part_with}
+use Rattle.vx_record.specs.Services.{var_part, valued, routine}
+use Rattle.vx_record.specs.Timers.{this_timer, due_again, after_wake, new_timer, new_wake, timer_set, gettim}
+use Rattle.vx_record.specs.Events.{resumed_with, uses_wake, with_r0, put_back, below_top, or_normal}
+use Rattle.vx_record.specs.Sound.{AreOrdered, request_id, timer_id, attention_id}
+use Rattle.vx_record.proofs.Lists.{either_by, all_weaker, all_both, all_append, all_filter, all_find, find_passes, all_from, ordered_more, not_holds, not_fails, some_found}
+use Rattle.std.proofs.Common.{◌<◌}
+use Rattle.std.specs.Prelude.{bytes_eq, unwrap_or}
+use Rattle.std.proofs.lemmas.Slice.Eq.{bytes_eq-Decides}
+use Rattle.std.proofs.lemmas.List.Quantifiers.{position-Some}
+use Rattle.vx_base.specs.declared.quota.Need.{Need}
+use Rattle.vx_image.specs.declared.decl.ProcDecl.{ProcDecl}
+use Rattle.vx_base.specs.Quotas.{together, is_within}
+use Rattle.vx_record.specs.State.{limits_of, no_decl}
+use Rattle.vx_record.specs.Charges.{charge}
+use Rattle.vx_record.specs.Finish.{with_stored_status}
+use Rattle.vx_record.specs.Flags.{with_cell}
+use Rattle.vx_record.proofs.Moves.{HasAstRoom, IsDeclared}
+use Rattle.vx_record.proofs.Moves.{Loose, passed, IsAt, IsIdle, IsSetWhere, promised_by, loosed, loosed_timer, fired_by, IsCellMade, IsAlarmMade, IsOfTimer, IsSilent, is_clusters, associates, dissociates, marks, IsNew, IsNewAttention, IsNewTimer, HasRequest, HasTimer, HasAttention, none, skip, both, quiet, moved, bytes, var, status, enb, channel, newly, gone, leave, flag, clusters, open_ast, open_force, que, end_asts, open_handler, end_handler, end_handlers, enter, open_request, fin, mark, unit, mput, mget, mcut, box_opens, box_ends, box_marked, open_attention, attention_fires, end_attention, open_timer, open_wake, timer_fires, wake_fires, end_timer, time, MovesBy, PartBy, OutcomeBy}
+use Rattle.vx_record.proofs.Locals.{advanced_statuses}
+use Rattle.std.proofs.Common.{◌≢◌, inl, inr}
+use Rattle.std.proofs.lemmas.Bool.{and_from, or_cases, or_left, or_right}
+use Rattle.std.specs.Prelude.{⊤}
+use Rattle.vx_base.specs.declared.call.Target.TheVariants as target
+use Rattle.vx_image.specs.WellFormed.{IsWellFormed}
+use Rattle.vx_record.specs.State.{HasFrame, top_mode}
+use Rattle.vx_record.specs.Asts.{with_queued}
+use Rattle.vx_record.specs.Channels.{is_box_of, unit_named}
+use Rattle.vx_record.specs.Finish.{with_stored_bytes}
+use Rattle.vx_record.specs.Rundown.{leaving, leaving_deleted, keeps_busy}
+use Rattle.vx_record.specs.Sound.{ground, IsRoutineOf, DeviceStands, RequestStands, AttentionStands, MayBeServed, IsIdle as Idles}
+use Rattle.vx_record.proofs.Firm.{IsFirm}
+use Rattle.vx_record.proofs.Lists.{all_less, all_amend, ordered_amend, ordered_less, removed, fails_not, false_from, apart_bools, none_passes}
+use Rattle.vx_record.proofs.Changes.{Quiet, with_wait_quiet, with_wake_quiet, with_suspension_quiet, with_variable_quiet, put_back_quiet, below_top_quiet, woken_quiet, leaving_going, deleted_going, idle_none, idle_of, firm_at}
+use Rattle.vx_record.proofs.Called.{IsCalled, declared_routine, handler_routine, third_routine, fifth_routine, IsStopped, stopped_call, moved_stopped, advanced_stopped}
+use Rattle.vx_record.proofs.Fits.{field_same, IsSeated, seated_then, cell_seated, status_seated, routine_seated, IsFit, tested_fits, fit_seated, fit_request, fit_attention}
+use Rattle.vx_record.proofs.Freeing.{IsFreeing, IsReleased, freeing_first, freeing_row, freed_on, released_frames, phase_at}
+use Rattle.vx_record.proofs.Moves.{PartMoves, Answers, IsCalm, IsTame, calm, drains, AreUnattended, IsRow}
+use Rattle.vx_record.proofs.SoundCalls.{placed}
+use Rattle.vx_record.proofs.SoundChannels.{IsClear, is_on_box, free_row, is_some_box, named_stands, made_there}
+use Rattle.vx_record.proofs.SoundFlags.{associated_stands, dissociated_stands, marked_stands}
+use Rattle.vx_record.proofs.SoundRequests.{tested_channel}
+use Rattle.vx_record.specs.Sound.{WaitStands}
+use Rattle.vx_record.proofs.Base.{Base, made_more, moves_keep}
+use Rattle.vx_record.proofs.Finds.{other_id, find_less, find_amend, all_found, ordered_filter}
+
+-- Stages.
+
+at_more : (j k : ℕ) (l : Option Loose) → j ≤ k → IsAt j l → IsAt k l
+at_more j k None h e = tt
+at_more j k (Some x) h e = omega (arith, h, e)
+
+passed_at : (k : ℕ) (l : Option Loose) → IsAt k (passed k l)
+passed_at k None = tt
+passed_at k (Some x) = omega arith
+
+pub set_where : (l : Option Loose) → IsSetWhere l true
+set_where None = tt
+set_where (Some x) = refl
+
+-- Joining moves.
+
+-- the state is in order, and the process is there
+pub record Here (s : State) (p : Pid) : Type 0 where
+  pub base : Base s
+  pub made : IsProcess s p
+
+pub here_after : {refs : Bool} (s : State) (p : Pid) (l : Option Loose) (es : List Effect) (t : State) (m : Option Loose) → MovesBy refs s l es t m → Here s p → Here t p
+here_after s p l es t m k h = let kept = moves_keep s l es t m k h.base in record { base = kept.base; made = made_more s t p kept.more h.made }
+
+-- one part and then another, on the state that it leaves
+pub part_then : {refs : Bool} (s : State) (p : Pid) (l m n : Option Loose) (a : Part) (f : State → Part) → Here s p → MovesBy refs s l a.effects a.after m → (Here a.after p → MovesBy refs a.after m (f a.after).effects (f a.after).after n) → MovesBy refs s l (and_then a f).effects (and_then a f).after n
+part_then s p l m n a f h k g = both s a.after (f a.after).after l m n a.effects (f a.after).effects k (g (here_after s p l a.effects a.after m k h))
+
+-- the same where the state alone matters
+pub based_then : {refs : Bool} (s : State) (a : Part) (f : State → Part) → Base s → PartBy refs s a → (Base a.after → PartBy refs a.after (f a.after)) → PartBy refs s (and_then a f)
+based_then s a f h k g = both s a.after (f a.after).after None None None a.effects (f a.after).effects k (g (moves_keep s None a.effects a.after None k h).base)
+
+pub outcome_then : {refs : Bool} {A : Type 0} (s : State) (a : Part) (f : State → Outcome A) → Base s → PartBy refs s a → (Base a.after → OutcomeBy refs a.after (f a.after)) → OutcomeBy refs s (followed_by a f)
+outcome_then s a f h k g = both s a.after (f a.after).after None None None a.effects (f a.after).effects k (g (moves_keep s None a.effects a.after None k h).base)
+
+-- either of two
+pub part_either : {refs : Bool} (s : State) (l m : Option Loose) (b : Bool) (x y : Part) → MovesBy refs s l x.effects x.after m → MovesBy refs s l y.effects y.after m → MovesBy refs s l (cond b x y).effects (cond b x y).after m
+part_either s l m true x y h k = h
+part_either s l m false x y h k = k
+
+pub part_by : {refs : Bool} (s : State) (l m : Option Loose) (b : Bool) (x y : Part) → (b ≡ true → MovesBy refs s l x.effects x.after m) → MovesBy refs s l y.effects y.after m → MovesBy refs s l (cond b x y).effects (cond b x y).after m
+part_by s l m true x y h k = h refl
+part_by s l m false x y h k = k
+
+above_zero : (i : ℕ) → not (i == 0) ≡ true → 1 ≤ i
+above_zero zero e = absurd (let never : false ≡ true = e in cc)
+above_zero (suc i) e = omega arith
+
+pub outcome_either : {refs : Bool} {A : Type 0} (s : State) (b : Bool) (x y : Outcome A) → OutcomeBy refs s x → OutcomeBy refs s y → OutcomeBy refs s (cond b x y)
+outcome_either s true x y h k = h
+outcome_either s false x y h k = k
+
+pub moves_if : {refs : Bool} (s : State) (l : Option Loose) (test : Bool) (part : Part) → MovesBy refs s l part.effects part.after l → MovesBy refs s l (part_if test part s).effects (part_if test part s).after l
+moves_if s l test part k = part_either s l l test part (nothing s) k (none s l)
+
+-- one for each of a list
+pub each_free : {refs : Bool} {A : Type 0} (f : State → A → Part) → ((t : State) (x : A) → PartBy refs t (f t x)) → (xs : List A) (s : State) → PartBy refs s (each f xs s)
+each_free f k [] s = none s None
+each_free f k (x ∷ xs) s = let a = f s x in both s a.after (each f xs a.after).after None None None a.effects (each f xs a.after).effects (k s x) (each_free f k xs a.after)
+
+-- where each relies on what the others leave
+pub each_moves : {refs : Bool} {A : Type 0} (key : A → ℕ) (f : State → A → Part) (P : State → A → Type 0) → ((t : State) (x : A) → Base t → P t x → PartBy refs t (f t x)) → ((t : State) (x y : A) → P t x → key x + 1 ≤ key y → P t y → P (f t x).after y) → (low high : ℕ) (xs : List A) (s : State) → AreOrdered key low high xs → AllByRecursion (P s) xs → Base s → PartBy refs s (each f xs s)
+each_moves key f P go keep low high [] s o k h = none s None
+each_moves {A} key f P go keep low high (x ∷ xs) s o k h =
+    let a = f s x in
+    let one = go s x h k.0 in
+    let rest : AllByRecursion (P a.after) xs = all_weaker (λ (y : A). (key x + 1 ≤ key y) × P s y) (P a.after) (λ y l. keep s x y k.0 l.0 l.1) xs (all_both (λ (y : A). key x + 1 ≤ key y) (P s) xs (all_from key (key x + 1) high xs o.1) k.1) in
+    both s a.after (each f xs a.after).after None None None a.effects (each f xs a.after).effects one
+    (each_moves key f P go keep (key x + 1) high xs a.after o.1 rest (moves_keep s None a.effects a.after None one h).base)
+
+-- Silent changes.
+
+-- a change of nothing that references are on is tame
+pub tamely : {refs : Bool} (s : State) (p : Pid) (f : Process → Process) → Quiet (process_at s p) (f (process_at s p)) → Answers refs s (IsTame s p f)
+tamely s p f q e h = calm f (record { going = λ m r. rw q.phase r; idle = λ r. rw q.phase (q.idle r); waits = q.waits })
+
+-- Flags.
+
+-- a cluster that somebody has associated is used
+used_by : (p : Pid) (k : ℕ) (xs : List Association) (a : Association) → find (is_association p k) xs ≡ Some a → list_any (is_user a.group a.name) xs ≡ true
+used_by p k [] a e = absurd (let never : None ≡ Some a = e in cc)
+used_by p k (x ∷ xs) a e =
+    either_by (λ (o : Option Association). o ≡ Some a → list_any (is_user a.group a.name) (x ∷ xs) ≡ true) (is_association p k x) (Some x) (find (is_association p k) xs)
+    (λ t is. let same : x ≡ a = cc in rw (same, eq-eqb a.group a.group refl, (bytes_eq-Decides a.name a.name).1 refl) refl)
+    (λ f is. or_right (is_user a.group a.name x) (list_any (is_user a.group a.name) xs) (used_by p k xs a is)) e
+  where
+    or_right : (b c : Bool) → c ≡ true → (b || c) ≡ true
+    or_right true c h = refl
+    or_right false c h = h
+
+common_made : (s : State) (n : ℕ) (p : Pid) (k : ℕ) (o : Option Association) → find (is_association p k) s.common.associations ≡ o → IfSome (common_cell n o) (IsCellMade s)
+common_made s n p k None is = tt
+common_made s n p k (Some a) is = used_by p k s.common.associations a is
+
+pub cell_made : (s : State) (p : Pid) (efn : ℕ) → IsProcess s p → IfSome (cell s p efn) (IsCellMade s)
+cell_made s p efn m =
+    either_by (λ (o : Option Cell). IfSome o (IsCellMade s)) (nat_lt efn 64) (Some (Local p efn)) (common_cell (efn % 32) (find (is_association p (cluster_number efn)) s.common.associations))
+    (λ t. (m, ltb-true efn 64 t)) (λ f. common_made s (efn % 32) p (cluster_number efn) (find (is_association p (cluster_number efn)) s.common.associations) refl)
+
+pub named_flag : {refs : Bool} (s : State) (l : Option Loose) (o : Option Cell) (on : Bool) → IfSome o (IsCellMade s) → IsAt 2 l → IsSetWhere l on → MovesBy refs s l (flag_where_named s o on).effects (flag_where_named s o on).after (passed 3 l)
+named_flag s l None on k at set_on = skip s l 3 (at_more 2 3 l (omega arith) at)
+named_flag s l (Some c) on k at set_on = flag s l c on k at set_on
+
+at_named_moves : {refs : Bool} {A : Type 0} (s : State) (refuse : Cond → Outcome A) (go : Cell → Outcome A) (o : Option Cell) → ((c : Cond) → OutcomeBy refs s (refuse c)) → ((c : Cell) → IsCellMade s c → OutcomeBy refs s (go c)) → IfSome o (IsCellMade s) → OutcomeBy refs s (at_named refuse go o)
+at_named_moves s refuse go None f g k = f _
+at_named_moves s refuse go (Some c) f g k = g c k
+
+pub at_flag_moves : {refs : Bool} {A : Type 0} (s : State) (p : Pid) (efn : ℕ) (refuse : Cond → Outcome A) (go : Cell → Outcome A) → IsProcess s p → ((c : Cond) → OutcomeBy refs s (refuse c)) → ((c : Cell) → IsCellMade s c → OutcomeBy refs s (go c)) → OutcomeBy refs s (at_flag s p efn refuse go)
+at_flag_moves s p efn refuse go m f g = outcome_either s (nat_lt 127 efn) _ _ (f _) (at_named_moves s refuse go (cell s p efn) f g (cell_made s p efn m))
+
+pub waited : {refs : Bool} (s : State) (p : Pid) (w : Option Wait) → (refs ≡ true → IfSome w WaitStands) → IsSilent refs s p (with_wait w)
+waited s p w k = record { decl = refl; enables = refl; asts = refl; channels = refl; handlers = refl; low = refl; high = refl; statuses = refl; tame = λ e h. tamely s p (with_wait w) (with_wait_quiet w (process_at s p) (k e)) e h }
+
+awaited_at_moves : {refs : Bool} (s : State) (p : Pid) (w : Wait) (o : Option Cond) → (refs ≡ true → WaitStands w) → OutcomeBy refs s (awaited_at s p w o)
+awaited_at_moves s p w None k = quiet s None p (with_wait (Some w)) (waited s p (Some w) k)
+awaited_at_moves s p w (Some c) k = none s None
+
+pub awaited_moves : {refs : Bool} (s : State) (p : Pid) (w : Wait) → (refs ≡ true → WaitStands w) → OutcomeBy refs s (awaited s p w)
+awaited_moves s p w k = awaited_at_moves s p w (satisfied s p w) k
+
+pub waits_moves : {refs : Bool} (s : State) (p : Pid) (efn : ℕ) (w : Wait) → IsProcess s p → (refs ≡ true → WaitStands w) → OutcomeBy refs s (at_flag s p efn (refused_wait s) (waits_on s p w))
+waits_moves s p efn w m is = at_flag_moves s p efn (refused_wait s) (waits_on s p w) m (λ c. none s None) (λ c k. awaited_moves s p w is)
+
+-- Common clusters.
+
+abbrev Only : Change → Type 0
+Only c = AllByRecursion (λ x. is_clusters x ≡ true) c.effects
+
+only_either : (b : Bool) (x y : Change) → Only x → Only y → Only (cond b x y)
+only_either true x y h k = h
+only_either false x y h k = k
+
+only_then : (a : Change) (f : Clusters → Change) → Only a → Only (f a.after) → Only (followed a f)
+only_then a f h k = all_append (λ (x : Effect). is_clusters x ≡ true) a.effects (f a.after).effects h k
+
+swept_at_only : (c : Clusters) (o : Option Cluster) → Only (swept_at c o)
+swept_at_only c None = tt
+swept_at_only c (Some cl) = only_either (cl.permanent && not cl.marked) _ _ tt (refl, tt)
+
+swept_only : (c : Clusters) (g : ℕ) (n : List ℕ) → Only (swept c g n)
+swept_only c g n = only_either (is_used c g n) _ _ tt (swept_at_only c (find (is_cluster g n) c.clusters))
+
+dissociated_at_only : (c : Clusters) (p : Pid) (k : ℕ) (o : Option Association) → Only (dissociated_at c p k o)
+dissociated_at_only c p k None = tt
+dissociated_at_only c p k (Some a) = only_then (parted c p k) (λ d. swept d a.group a.name) (refl, tt) (swept_only (parted c p k).after a.group a.name)
+
+pub dissociated_only : (c : Clusters) (p : Pid) (k : ℕ) → Only (dissociated c p k)
+dissociated_only c p k = dissociated_at_only c p k (find (is_association p k) c.associations)
+
+made_only : (c : Clusters) (g : ℕ) (n : List ℕ) (perm : Bool) → Only (made_where_new c g n perm)
+made_only c g n perm = only_either (stands c g n) _ _ tt (refl, tt)
+
+pub associated_only : (c : Clusters) (p : Pid) (k g : ℕ) (n : List ℕ) (perm : Bool) → Only (associated c p k g n perm)
+associated_only c p k g n perm =
+    let a = followed (dissociated c p k) (λ d. made_where_new d g n perm) in
+    only_either (has_already g n (find (is_association p k) c.associations)) _ _ tt
+    (only_then a (λ e. joined e p k g n) (only_then (dissociated c p k) (λ d. made_where_new d g n perm) (dissociated_only c p k) (made_only (dissociated c p k).after g n perm)) (refl, tt))
+
+pub marked_at_only : (c : Clusters) (o : Option Cluster) → Only (marked_at c o)
+marked_at_only c None = tt
+marked_at_only c (Some cl) = only_either (not cl.permanent) _ _ tt (only_either (is_used c cl.group cl.name) _ _ tt (refl, tt))
+
+-- Finish and mailboxes.
+
+request_made : (s : State) (r : Request) → HasRequest s r → Base s → IsProcess s r.req.p
+request_made s r has h = all_find (λ (x : Request). IsProcess s x.req.p) (this_request r.req.id) s.requests r h.request_owners has
+
+done_ast_moves : {refs : Bool} (s : State) (r : Request) (o : Option Promised) → IsProcess s r.req.p → MovesBy refs s (passed 3 (passed 2 (passed 1 (option_map (promised_by r) o)))) (done_ast_part s r.req o).effects (done_ast_part s r.req o).after None
+done_ast_moves s r None m = none s None
+done_ast_moves s r (Some ast) m = que s r.req.p (charged_ast r.req.id ast.mode ast.tag) 3 m
+
+loosed_at : (r : Request) (o : Option Promised) → IsAt 0 (option_map (promised_by r) o)
+loosed_at r None = tt
+loosed_at r (Some ast) = omega arith
+
+pub finish_moves : {refs : Bool} (s : State) (r : Request) (e : Ending) → HasRequest s r → Base s → PartBy refs s (finish s r e)
+finish_moves {refs} s r e has h =
+    let p = r.req.p in
+    let l = loosed r in
+    let l1 = passed 1 l in
+    let l2 = passed 2 l1 in
+    let l3 = passed 3 l2 in
+    let at = loosed_at r r.ast in
+    let b = λ (a : State). buf_part a r.req e in
+    let i = λ (a : State). iosb_part a p r.req.iosb (status_of e) in
+    let d = λ (a : State). done_flag_part a r.req in
+    let q = λ (a : State). done_ast_part a r.req r.ast in
+    let here : Here s p = record { base = h; made = request_made s r has h } in
+    let one = fin_part s r.req.id e.0.cond in
+    let two = and_then one b in
+    let three = and_then two i in
+    let four = and_then three d in
+    let first : MovesBy refs s None one.effects one.after l = fin s r e.0.cond has in
+    let second : MovesBy refs s None two.effects two.after l1 = part_then s p None l l1 one b here first (λ k. part_either one.after l l1 (is_read r.req.func && nat_lt 0 e.0.count) _ (nothing one.after) (bytes one.after l p r.req.buf e.0.bytes at) (skip one.after l 1 (at_more 0 1 l (omega arith) at))) in
+    let third : MovesBy refs s None three.effects three.after l2 = part_then s p None l1 l2 two i here second (λ k. part_by two.after l1 l2 (not (r.req.iosb == 0)) _ (nothing two.after) (λ t. status two.after l1 p r.req.iosb (status_of e) k.made (passed_at 1 l) (above_zero r.req.iosb t)) (skip two.after l1 2 (at_more 1 2 l1 (omega arith) (passed_at 1 l)))) in
+    let fourth : MovesBy refs s None four.effects four.after l3 = part_then s p None l2 l3 three d here third (λ k. named_flag three.after l2 (cell three.after p r.req.efn) true (cell_made three.after p r.req.efn k.made) (passed_at 2 l1) (set_where l2)) in
+    part_then s p None l3 None four q here fourth (λ k. done_ast_moves four.after r r.ast k.made)
+
+id_is : (s : State) (id : Id) (r : Request) → find (this_request id) s.requests ≡ Some r → HasRequest s r
+id_is s id r e =
+    let same : r.req.id ≡ id = ap (λ (n : ℕ). let i : Id = record { 0 = n } in i) (eqb-true r.req.id.0 id.0 (find_passes (this_request id) s.requests r e)) in
+    subst (λ (i : Id). find (this_request i) s.requests ≡ Some r) (sym same) e
+
+finish_found_moves : {refs : Bool} (s : State) (id : Id) (o : Option Request) (e : Ending) → find (this_request id) s.requests ≡ o → Base s → PartBy refs s (finish_found s o e)
+finish_found_moves s id None e k h = none s None
+finish_found_moves s id (Some r) e k h = finish_moves s r e (id_is s id r k) h
+
+write_done_moves : {refs : Bool} (s : State) (m : Msg) → Base s → PartBy refs s (write_done s m)
+write_done_moves s m h = finish_found_moves s m.id (find (this_request m.id) s.requests) (write_ending m) refl h
+
+received_moves : {refs : Bool} (s : State) (b : BoxNo) (m : Msg) (r : Request) → HasRequest s r → Base s → PartBy refs s (received s b m r)
+received_moves s b m r has h = based_then s (mget_part s b m r.req.id) (λ a. finish a r (read_ending r.req m m.body)) h (mget s b m r.req.id) (λ k. finish_moves (mget_part s b m r.req.id).after r (read_ending r.req m m.body) has k)
+
+-- an item that is found by another test is found by its id
+pub requests_found : (s : State) → Base s → AllByRecursion (HasRequest s) s.requests
+requests_found s h = all_found request_id 0 s.next s.requests h.requests
+
+pub timers_found : (s : State) → Base s → AllByRecursion (HasTimer s) s.timers
+timers_found s h = all_found timer_id 0 s.next s.timers h.timers
+
+attention_found : (s : State) → Base s → AllByRecursion (HasAttention s) s.attention
+attention_found s h = all_found attention_id 0 s.next s.attention h.attention
+
+has_found : (s : State) (p : Request → Bool) (r : Request) → find p s.requests ≡ Some r → Base s → HasRequest s r
+has_found s p r e h = all_find (HasRequest s) p s.requests r (requests_found s h) e
+
+-- Attention entries.
+
+fire_attention_moves : {refs : Bool} (s : State) (a : Attention) → Base s → HasAttention s a → PartBy refs s (fire_attention s a)
+fire_attention_moves s a h has =
+    let made : IsProcess s a.p = all_find (λ (x : Attention). IsProcess s x.p) (this_attention a.id) s.attention a h.attention_owners has in
+    let here : Here s a.p = record { base = h; made = made } in
+    let one = drop_attention s a in
+    both s one.after _ None (Some (record { p = a.p; ast = charged_ast a.id a.mode a.tag; stage = 2 })) None (effect.Fire a.id ∷ []) (effect.Que a.id ∷ []) (attention_fires s a has) (que one.after a.p (charged_ast a.id a.mode a.tag) 2 made)
+
+other_attention : (s : State) (x y : Attention) → attention_id x + 1 ≤ attention_id y → HasAttention s y → find (this_attention y.id) (less (this_attention x.id) s.attention) ≡ Some y
+other_attention s x y h e = find_less (this_attention x.id) (this_attention y.id) s.attention y (λ z. other_id z.id.0 x.id.0 y.id.0 (λ same. omega arith)) e
+
+call_attention_moves : {refs : Bool} (s : State) (b : BoxNo) (func : Func) → Base s → PartBy refs s (call_attention s b func)
+call_attention_moves s b func h =
+    each_moves attention_id fire_attention HasAttention fire_attention_moves (λ t x y hx l e. other_attention t x y l e) 0 s.next (filter (is_attention_at b func) s.attention) s
+    (ordered_filter attention_id (is_attention_at b func) 0 s.next s.attention h.attention) (all_filter (HasAttention s) (is_attention_at b func) s.attention (attention_found s h)) h
+
+pub drop_attentions_moves : {refs : Bool} (s : State) (p : Pid) (n : ℕ) → Base s → PartBy refs s (each drop_attention (filter (is_attention_on p n) s.attention) s)
+drop_attentions_moves s p n h =
+    each_moves attention_id drop_attention HasAttention (λ t a k has. end_attention t a has) (λ t x y hx l e. other_attention t x y l e) 0 s.next (filter (is_attention_on p n) s.attention) s
+    (ordered_filter attention_id (is_attention_on p n) 0 s.next s.attention h.attention) (all_filter (HasAttention s) (is_attention_on p n) s.attention (attention_found s h)) h
+
+store_message_moves : {refs : Bool} (s : State) (b : BoxNo) (m : Msg) → Base s → PartBy refs s (store_message s b m)
+store_message_moves s b m h = based_then s (part_if (not m.held) (write_done s m) s) (λ a. call_attention a b WrtAttn) h (moves_if s None (not m.held) (write_done s m) (write_done_moves s m h)) (λ k. call_attention_moves _ b WrtAttn k)
+
+hand_over_moves : {refs : Bool} (s : State) (b : BoxNo) (m : Msg) (o : Option Request) → find (waits_at b) s.requests ≡ o → Base s → PartBy refs s (hand_over s b m o)
+hand_over_moves s b m None e h = store_message_moves s b m h
+hand_over_moves s b m (Some r) e h = based_then s (received s b m r) (λ a. write_done a m) h (received_moves s b m r (has_found s (waits_at b) r e h) h) (λ k. write_done_moves (received s b m r).after m k)
+
+write_box_moves : {refs : Bool} (s : State) (b : BoxNo) (m : Msg) → Base s → PartBy refs s (write_box s b m)
+write_box_moves s b m h = let a = (mput_part s b m).after in based_then s (mput_part s b m) (λ a. hand_over a b m (find (waits_at b) a.requests)) h (mput s b m) (λ k. hand_over_moves a b m (find (waits_at b) a.requests) refl k)
+
+take_message_moves : {refs : Bool} (s : State) (b : BoxNo) (r : Request) (ms : List Msg) → HasRequest s r → Base s → PartBy refs s (take_message s b r ms)
+take_message_moves s b r [] has h =
+    let e = ending EndOfFile 0 0 [] in
+    let part = part_if (not (is_waiting_func r.req.func)) (finish s r e) s in
+    based_then s part (λ a. call_attention a b ReadAttn) h (moves_if s None (not (is_waiting_func r.req.func)) (finish s r e) (finish_moves s r e has h)) (λ k. call_attention_moves part.after b ReadAttn k)
+take_message_moves s b r (m ∷ ms) has h =
+    let a = (received s b m r).after in
+    based_then s (received s b m r) (λ a. part_if m.held (write_done a m) a) h (received_moves s b m r has h) (λ k. moves_if a None m.held (write_done a m) (write_done_moves a m k))
+
+attend_moves : {refs : Bool} (s : State) (a : Attention) → HasAttention s a → Base s → PartBy refs s (attend s a)
+attend_moves s a has h = moves_if s None (is_answered_now s a) (fire_attention s a) (fire_attention_moves s a h has)
+
+-- Requests.
+
+last_of : {A : Type 0} (P : A → Type 0) (xs : List A) (x : A) → AllByRecursion P (xs ++ x ∷ []) → P x
+last_of P [] x k = k.0
+last_of P (y ∷ ys) x k = last_of P ys x k.1
+
+-- what was appended last is found by its id, where all others have lesser ones
+newest : {A : Type 0} (key : A → ℕ) (low high : ℕ) (xs : List A) (x : A) → key x ≡ high → AreOrdered key low high xs → find (λ z. key z == key x) (xs ++ x ∷ []) ≡ Some x
+newest key low high xs x e h = last_of (λ y. find (λ z. key z == key y) (xs ++ x ∷ []) ≡ Some y) xs x (all_found key low (high + 1) (xs ++ x ∷ []) (ordered_more key low high xs x e h))
+
+promised_mode : (mode : Mode) (o : Option Entry) → mode_of_ast mode o ≡ option_map (λ a. a.mode) (promised mode o)
+promised_mode mode None = refl
+promised_mode mode (Some tag) = refl
+
+promised_some : (mode : Mode) (o : Option Entry) → is_some (promised mode o) ≡ is_some o
+promised_some mode None = refl
+promised_some mode (Some tag) = refl
+
+-- there is room for a request
+abbrev pub HasRoom : State → Pid → Asked → Channel → Type 0
+HasRoom s p q ch = exceeds s p (request_need s ch.device q.func (is_some q.ast) q.len) ≡ false
+
+new_is : (s : State) (p : Pid) (q : Asked) (ch : Channel) → IsProcess s p → is_attention q.func ≡ false → HasRoom s p q ch → IsNew s p (mode_of_ast (current s p) q.ast) (new_request s p q ch)
+new_is s p q ch m plain room = record {
+  made = m;
+  id = refl;
+  owner = refl;
+  ast = promised_mode (current s p) q.ast;
+  served = refl;
+  marked = refl;
+  plain = plain;
+  room = rw (promised_some (current s p) q.ast) room;
+}
+
+pub opened_request_moves : {refs : Bool} (s : State) (p : Pid) (q : Asked) (ch : Channel) → IsProcess s p → is_attention q.func ≡ false → HasRoom s p q ch → Answers refs s (RequestStands (ground s) (new_request s p q ch)) → PartBy refs s (opened_request s p q ch)
+opened_request_moves {refs} s p q ch m plain room ok =
+    either_by (PartBy refs s) (is_direct s ch.device) _ _
+    (λ t. open_request s opened.Dio p (mode_of_ast (current s p) q.ast) 0 (new_request s p q ch) (record { is = refl; kind_is = rw t refl; bytes_are = rw t refl }) (new_is s p q ch m plain room) ok)
+    (λ f. open_request s opened.Bio p (mode_of_ast (current s p) q.ast) (moved_bytes q.func q.len) (new_request s p q ch) (record { is = refl; kind_is = rw f refl; bytes_are = rw f refl }) (new_is s p q ch m plain room) ok)
+
+opened_requests : (s : State) (p : Pid) (q : Asked) (ch : Channel) → (opened_request s p q ch).after.requests ≡ s.requests ++ new_request s p q ch ∷ []
+opened_requests s p q ch = either (λ (x : Part). x.after.requests ≡ s.requests ++ new_request s p q ch ∷ []) (is_direct s ch.device) _ _ refl refl
+
+pub opened_has : (s : State) (p : Pid) (q : Asked) (ch : Channel) → Base s → HasRequest (opened_request s p q ch).after (new_request s p q ch)
+opened_has s p q ch h = rw (opened_requests s p q ch) (newest request_id 0 s.next s.requests (new_request s p q ch) refl h.requests)
+
+pub begun_on_moves : {refs : Bool} (s : State) (r : Request) (d : Device) → HasRequest s r → Base s → PartBy refs s (begun_on s r d)
+begun_on_moves s r (device.Unit u) has h = none s None
+begun_on_moves s r (device.Mailbox b) has h = part_either s None None (is_read r.req.func) (read_box s b r) (write_box s b (message_of r.req)) (take_message_moves s b r (mailbox_at s b).messages has h) (write_box_moves s b (message_of r.req) h)
+
+transfer_moves : {refs : Bool} (s : State) (p : Pid) (q : Asked) (ch : Channel) → IsProcess s p → Base s → is_attention q.func ≡ false → HasRoom s p q ch → (refs ≡ true → IsFit s p q ch) → PartBy refs s (transfer s p q ch)
+transfer_moves s p q ch m h plain room fit =
+    let r = new_request s p q ch in
+    based_then s (opened_request s p q ch) (λ a. begun_on a r ch.device) h (opened_request_moves s p q ch m plain room (λ e k. fit_request s p q ch m (fit e) k)) (λ k. begun_on_moves (opened_request s p q ch).after r ch.device (opened_has s p q ch h) k)
+
+status_moves : {refs : Bool} (s : State) (p : Pid) (i : ℕ) (st : Status) → IsProcess s p → PartBy refs s (iosb_part s p i st)
+status_moves s p i st m = part_by s None None (not (i == 0)) _ (nothing s) (λ t. status s None p i st m tt (above_zero i t)) (none s None)
+
+pub iosb_attention : (s : State) (p : Pid) (i : ℕ) (st : Status) → (iosb_part s p i st).after.attention ≡ s.attention
+iosb_attention s p i st = either (λ (x : Part). x.after.attention ≡ s.attention) (not (i == 0)) _ (nothing s) refl refl
+
+pub flag_attention : (s : State) (o : Option Cell) (on : Bool) → (flag_where_named s o on).after.attention ≡ s.attention
+flag_attention s None on = refl
+flag_attention s (Some (Local p n)) on = refl
+flag_attention s (Some (Common g n k)) on = refl
+
+attention_set_moves : {refs : Bool} (s : State) (p : Pid) (q : Asked) (b : BoxNo) (tag : Entry) → Here s p → exceeds s p (ast_need true) ≡ false → Answers refs s (AttentionStands (ground s) (new_attention s p q b tag)) → PartBy refs s (attention_set s p q (new_attention s p q b tag))
+attention_set_moves {refs} s p q b tag h room ok =
+    let a = new_attention s p q b tag in
+    let i = λ (x : State). iosb_part x p q.iosb done_at_once in
+    let f = λ (x : State). flag_where_named x (cell x p q.efn) true in
+    let g = λ (x : State). attend x a in
+    let one = attention_opened s p q a in
+    let two = and_then one i in
+    let t = two.after in
+    let three = f t in
+    let new : IsNewAttention s p a = record { made = h.made; id = refl; owner = refl; room = room } in
+    let first : PartBy refs s one = open_attention s p (current s p) a new refl ok in
+    let second : PartBy refs s two = part_then s p None None None one i h first (λ k. status_moves one.after p q.iosb done_at_once k.made) in
+    let there : HasAttention one.after a = newest attention_id 0 s.next s.attention a refl h.base.attention in
+    let same : three.after.attention ≡ one.after.attention = flag_attention t (cell t p q.efn) true ∙ iosb_attention one.after p q.iosb done_at_once in
+    part_then s p None None None two (λ c. and_then (f c) g) h second
+    (λ k. part_then t p None None None three g k (named_flag t None (cell t p q.efn) true (cell_made t p q.efn k.made) tt tt) (λ j. attend_moves three.after a (rw same there) j.base))
+
+pub attention_on_moves : {refs : Bool} (s : State) (p : Pid) (q : Asked) (d : Device) (o : Option Entry) → Here s p → exceeds s p (ast_need (is_some o)) ≡ false → ((b : BoxNo) (tag : Entry) → d ≡ device.Mailbox b → o ≡ Some tag → Answers refs s (AttentionStands (ground s) (new_attention s p q b tag))) → PartBy refs s (attention_on s p q d o)
+attention_on_moves s p q (device.Unit u) o h room ok = none s None
+attention_on_moves s p q (device.Mailbox b) None h room ok = none s None
+attention_on_moves s p q (device.Mailbox b) (Some tag) h room ok = attention_set_moves s p q b tag h room (ok b tag refl refl)
+
+-- the room is as it was where neither lists nor limits change
+
+abbrev pub IsChargedAs : State → State → Pid → Type 0
+IsChargedAs s t p = (t.system ≡ s.system) × (charge t p ≡ charge s p) × (limits_of t p ≡ limits_of s p)
+
+pub charged_as : (s : State) (q p : Pid) (f : Process → Process) → (f (process_at s q)).asts ≡ (process_at s q).asts → (f (process_at s q)).decl ≡ (process_at s q).decl → IsChargedAs s (change s q f) p
+charged_as s q p f qs ds = (refl, rw (field_same (λ (pr : Process). pr.asts) f s q p qs) refl, ap (λ (d : ℕ). (get_or s.system.decls d no_decl).limits) (field_same (λ (pr : Process). pr.decl) f s q p ds))
+
+pub cell_charged_as : (s : State) (p : Pid) (c : Cell) (on : Bool) → IsChargedAs s (with_cell s c on) p
+cell_charged_as s p (Local q n) on = charged_as s q p (with_local_flag n on) (either (λ (x : Process). x.asts ≡ (process_at s q).asts) (nat_lt n 32) _ _ refl refl) (either (λ (x : Process). x.decl ≡ (process_at s q).decl) (nat_lt n 32) _ _ refl refl)
+cell_charged_as s p (Common g a n) on = (refl, refl, refl)
+
+pub status_charged_as : (s : State) (p q : Pid) (i : ℕ) (st : Status) → IsChargedAs s (iosb_part s q i st).after p
+status_charged_as s p q i st = either (λ (x : Part). IsChargedAs s x.after p) (not (i == 0)) _ (nothing s) (charged_as s q p (with_stored_status i st) refl refl) (refl, refl, refl)
+
+pub both_charged_as : (s t u : State) (p : Pid) → IsChargedAs s t p → IsChargedAs t u p → IsChargedAs s u p
+both_charged_as s t u p h k = (k.0 ∙ h.0, k.1 ∙ h.1, k.2 ∙ h.2)
+
+pub room_as : (s t : State) (p : Pid) (need : Need) → IsChargedAs s t p → exceeds s p need ≡ false → exceeds t p need ≡ false
+room_as s t p need h room = ap (λ (c : Need). not (is_within (together c need) (limits_of t p))) h.1 ∙ (ap (λ (l : Need). not (is_within (together (charge s p) need) l)) h.2 ∙ room)
+
+request_room_as : (s t : State) (p : Pid) (q : Asked) (ch : Channel) → IsChargedAs s t p → HasRoom s p q ch → HasRoom t p q ch
+request_room_as s t p q ch h room = rw (same_need ch.device) (room_as s t p (request_need s ch.device q.func (is_some q.ast) q.len) h room)
+  where
+    same_need : (d : Device) → request_need t d q.func (is_some q.ast) q.len ≡ request_need s d q.func (is_some q.ast) q.len
+    same_need (device.Unit u) = rw h.0 refl
+    same_need (device.Mailbox b) = refl
+
+pub attention_room : (s : State) (p : Pid) (q : Asked) (ch : Channel) → is_attention q.func ≡ true → HasRoom s p q ch → exceeds s p (ast_need (is_some q.ast)) ≡ false
+attention_room s p q ch is room = rw is at room
+
+cleared_moves : {refs : Bool} (s : State) (p : Pid) (q : Asked) (c : Cell) → IsCellMade s c → Here s p → PartBy refs s (cleared_part s p q c)
+cleared_moves s p q c k h =
+    let one = flag_part s c false in
+    part_then s p None None None one (λ (x : State). iosb_part x p q.iosb cleared) h (flag s None c false k tt tt) (λ j. status_moves one.after p q.iosb cleared j.made)
+
+cleared_room : (s : State) (p : Pid) (q : Asked) (c : Cell) (ch : Channel) → HasRoom s p q ch → HasRoom (cleared_part s p q c).after p q ch
+cleared_room s p q c ch room =
+    let u = (flag_part s c false).after in
+    let t = (cleared_part s p q c).after in
+    request_room_as s t p q ch (both_charged_as s u t p (cell_charged_as s p c false) (status_charged_as u p p q.iosb cleared)) room
+
+cleared_seated : (s : State) (p : Pid) (q : Asked) (c : Cell) → IsSeated s (cleared_part s p q c).after p
+cleared_seated s p q c = let a = (flag_part s c false).after in seated_then s a _ p (cell_seated s p c false) (status_seated a p p q.iosb cleared)
+
+accepted_moves : {refs : Bool} (s : State) (p : Pid) (q : Asked) (c : Cell) (ch : Channel) → IsCellMade s c → HasRoom s p q ch → (refs ≡ true → IsFit s p q ch) → Here s p → PartBy refs s (accepted s p q c ch)
+accepted_moves {refs} s p q c ch k room fit h =
+    let two = cleared_part s p q c in
+    let t = two.after in
+    let second : PartBy refs s two = cleared_moves s p q c k h in
+    part_then s p None None None two (λ a. asked_of a p q ch) h second
+    (λ j.
+    let free : HasRoom t p q ch = cleared_room s p q c ch room in
+    let fits : refs ≡ true → IsFit t p q ch = λ e. fit_seated s t p q ch (cleared_seated s p q c) (fit e) in
+    either_by (PartBy refs t) (is_attention q.func) (attention_on t p q ch.device q.ast) (transfer t p q ch) (λ y. attention_on_moves t p q ch.device q.ast j (attention_room t p q ch y free) (λ b tag on is e l. fit_attention t p q ch b tag j.made on is (fits e) l)) (λ n. transfer_moves t p q ch j.made j.base n free fits))
+
+-- the cell of an accepted request is one that is there
+
+pub CellOf : State → Pid → Asked → Result (Cell × Channel) Cond → Type 0
+CellOf s p q (Err c) = Unit {0}
+CellOf s p q (Ok to) = IsCellMade s to.0 × HasRoom s p q to.1
+
+on_channel_cell : (s : State) (p : Pid) (q : Asked) (c : Cell) (r : Result Channel Cond) → IsCellMade s c → CellOf s p q (on_channel (device_test s p q c) r)
+unfolding CellOf
+on_channel_cell s p q c (Err x) k = tt
+on_channel_cell s p q c (Ok ch) k =
+    let P = CellOf s p q in
+    either P (not (has_function ch.device q.func)) _ _ tt (either P (is_too_long s ch.device q) _ _ tt (either P (is_full s ch.device q) _ _ tt (either_by P (exceeds s p (request_need s ch.device q.func (is_some q.ast) q.len)) _ _ (λ e. tt) (λ e. (k, e)))))
+
+on_cell_cell : (s : State) (p : Pid) (q : Asked) (o : Option Cell) → IfSome o (IsCellMade s) → CellOf s p q (on_cell s p q o)
+unfolding CellOf
+on_cell_cell s p q None k = tt
+on_cell_cell s p q (Some c) k = on_channel_cell s p q c (channel_test s p q.chan) k
+
+pub tested_cell : (s : State) (p : Pid) (q : Asked) → IsProcess s p → CellOf s p q (request_test s p q)
+unfolding CellOf
+tested_cell s p q m = either (CellOf s p q) (is_bad q) _ _ tt (either (CellOf s p q) (nat_lt 127 q.efn) _ _ tt (on_cell_cell s p q (cell s p q.efn) (cell_made s p q.efn m)))
+
+pub qio_moves : {refs : Bool} (s : State) (p : Pid) (q : Asked) (r : Result (Cell × Channel) Cond) → CellOf s p q r → ((to : Cell × Channel) → r ≡ Ok to → refs ≡ true → IsFit s p q to.1) → Here s p → OutcomeBy refs s (qio_tested s p q r)
+unfolding CellOf
+qio_moves s p q (Err c) k fit h = none s None
+qio_moves s p q (Ok to) k fit h = accepted_moves s p q to.0 to.1 k.0 k.1 (fit to refl) h
+
+pub qiow_moves : {refs : Bool} (s : State) (p : Pid) (q : Asked) (r : Result (Cell × Channel) Cond) → CellOf s p q r → ((to : Cell × Channel) → r ≡ Ok to → refs ≡ true → IsFit s p q to.1) → Here s p → OutcomeBy refs s (qiow_tested s p q r)
+unfolding CellOf
+qiow_moves s p q (Err c) k fit h = none s None
+qiow_moves s p q (Ok to) k fit h = outcome_then s (accepted s p q to.0 to.1) (λ a. awaited a p (wait.Synch q.efn q.iosb)) h.base (accepted_moves s p q to.0 to.1 k.0 k.1 (fit to refl) h) (λ j. awaited_moves (accepted s p q to.0 to.1).after p (wait.Synch q.efn q.iosb) (λ e. (fit to refl e).iosb))
+
+-- what a test accepted
+pub cleared_after : {refs : Bool} (s : State) (p : Pid) (q : Asked) (to : Cell × Channel) → request_test s p q ≡ Ok to → Here s p → PartBy refs s (cleared_part s p q to.0)
+unfolding CellOf
+cleared_after s p q to is h = cleared_moves s p q to.0 (subst (CellOf s p q) is (tested_cell s p q h.made)).0 h
+
+pub accepted_after : {refs : Bool} (s : State) (p : Pid) (q : Asked) (to : Cell × Channel) → request_test s p q ≡ Ok to → (refs ≡ true → IsFit s p q to.1) → Here s p → PartBy refs s (accepted s p q to.0 to.1)
+unfolding CellOf
+accepted_after s p q to is fit h =
+    let k : CellOf s p q (Ok to) = subst (CellOf s p q) is (tested_cell s p q h.made) in
+    accepted_moves s p q to.0 to.1 k.0 k.1 fit h
+
+-- there is room for it when its flag and its status block are cleared
+pub room_after : (s : State) (p : Pid) (q : Asked) (to : Cell × Channel) → request_test s p q ≡ Ok to → IsProcess s p → HasRoom (cleared_part s p q to.0).after p q to.1
+unfolding CellOf
+room_after s p q to is made =
+    let k : CellOf s p q (Ok to) = subst (CellOf s p q) is (tested_cell s p q made) in
+    cleared_room s p q to.0 to.1 k.1
