@@ -91,7 +91,7 @@ pub data IsRefused (input : List ℕ) : Command → List ℕ → Type 0 where
   no_script : (command : Command) (fault : ScriptFault) → Tells input fault → IsRefused input command (fault_line fault)
   not_built : (options : Options) (system : System) → Spells input system → is_built system ≡ false → IsRefused input (Sim options) later
 
--- The input is refused, and the text is the line of the cause.
+-- The input is refused, and the text is the line that tells why.
 pub record RefusesText (words : List (List ℕ)) (left left_after : Option (List ℕ)) (text : List ℕ) : Type 0 where
   pub command : Command
   pub input : List ℕ
@@ -124,7 +124,7 @@ pub record Shows (words : List (List ℕ)) (left left_after : Option (List ℕ))
   pub says : Spells input system
   pub spells : text ≡ script system
 
--- The words are a command's, and no memory was found for it.
+-- The words are a command's. Nothing is said of memory: the answer states no cause.
 pub record RunsOut (words : List (List ℕ)) : Type 0 where
   pub command : Command
   pub asked : command_of words ≡ Some command
@@ -141,13 +141,13 @@ pub data IsTextOf (words : List (List ℕ)) (left left_after : Option (List ℕ)
 
 -- What became of the text: the sink holds `held` before the call and `held_after` after it.
 
--- The sink holds the transcript of a run that has ended so more.
+-- The sink gained the transcript of a run that ended this way.
 pub record WritesTranscript (words : List (List ℕ)) (left left_after held held_after : Option (List ℕ)) (end : End) : Type 0 where
   pub text : List ℕ
   pub simulates : Simulates words left left_after end text
   pub written : Appends held held_after text
 
--- The sink holds the canonical script more.
+-- The sink gained the canonical script.
 pub record WritesScript (words : List (List ℕ)) (left left_after held held_after : Option (List ℕ)) : Type 0 where
   pub text : List ℕ
   pub shows : Shows words left left_after text
@@ -158,13 +158,13 @@ pub data Completes (words : List (List ℕ)) (left left_after held held_after : 
   ran : WritesTranscript words left left_after held held_after Done → Completes words left left_after held held_after
   showed : WritesScript words left left_after held held_after → Completes words left left_after held held_after
 
--- The sink holds the line more that tells why the input is refused.
+-- The sink gained the line that tells why the input is refused.
 pub record WritesFault (words : List (List ℕ)) (left left_after held held_after : Option (List ℕ)) : Type 0 where
   pub text : List ℕ
   pub refuses : RefusesText words left left_after text
   pub written : Appends held held_after text
 
--- The sink holds a front of the text of the call more.
+-- The sink gained the start of the text of the call.
 pub record Breaks (words : List (List ℕ)) (left left_after : Option (List ℕ)) (faults faults_after : ℕ) (held held_after : Option (List ℕ)) : Type 0 where
   pub text : List ℕ
   pub own : IsTextOf words left left_after faults faults_after text

@@ -38,7 +38,7 @@ fn tell<K: Sink>(sink: &mut K, text: &[u8], status: Status) -> Status
     }
 }
 
-/// Writes that no memory was found.
+/// Writes that memory ran out.
 pub fn tell_no_memory<K: Sink>(sink: &mut K) -> Status
     ensures status { (result ≡ Status.NoMemory) ⊎ (result ≡ Status.WriteFault) }
     ensures whole { result ≢ Status.WriteFault →
@@ -107,7 +107,7 @@ fn fault_line(alloc: Global, fault: ScriptFault) -> Result<Bytes, NoMemory>
     Ok(text)
 }
 
-/// Simulates an input that was read whole, and writes what it comes to.
+/// Simulates an input that was read whole, and writes its transcript or why there is none.
 fn simulate<K: Sink>(alloc: Global, options: Options, input: &Bytes, sink: &mut K) -> Status
     requires size { length input.now < 4294967295 }
     requires above { 1 ≤ options.limit }
@@ -147,7 +147,7 @@ fn simulate<K: Sink>(alloc: Global, options: Options, input: &Bytes, sink: &mut 
     }
 }
 
-/// Shows an input that was read whole, and writes what it comes to.
+/// Writes the canonical script of an input that was read whole, or why there is none.
 fn show<K: Sink>(alloc: Global, input: &Bytes, sink: &mut K) -> Status
     requires { length input.now < 4294967295 }
     ensures status { (result ≡ Status.Done) ⊎ (result ≡ Status.Form)
@@ -176,14 +176,14 @@ fn show<K: Sink>(alloc: Global, input: &Bytes, sink: &mut K) -> Status
 }
 
 /// The call that the program makes: what the words ask for, from the source to the sink. It waits for nobody, and
-/// returns where the source and the sink do. The words are those behind the program's name.
+/// returns if the source and the sink do. The words are those after the program's name.
 pub fn quiet_call<S: Source, K: Sink>(
     alloc: Global,
     words: &[Bytes],
     source: &mut S,
     sink: &mut K,
 ) -> Status
-    // The transcript of the run that the seed chooses was written, with each of its endings; or the canonical script.
+    // The transcript of the run that the seed chooses was written, one clause for each end; or the canonical script.
     ensures done { result ≡ Status.Done →
         Completes words.now (S.left source.old) (S.left source.new)
         (K.held sink.old) (K.held sink.new) }
@@ -194,7 +194,7 @@ pub fn quiet_call<S: Source, K: Sink>(
         WritesTranscript words.now (S.left source.old) (S.left source.new)
         (K.held sink.old) (K.held sink.new) End.Limit }
 
-    // Another line was written, each for its cause.
+    // A line was written, each with its cause.
     ensures words { result ≡ Status.Words →
         RefusesWords words.now (S.left source.old) (S.left source.new)
         × Appends (K.held sink.old) (K.held sink.new) usage }

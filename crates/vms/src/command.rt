@@ -6,7 +6,7 @@ ghost use Rattle.vms.specs.Words as spec;
 use crate::number::number_up_to;
 use vx_base::Bytes;
 
-/// What `sim` is to go by: the seed of the schedule, and how many records a run may have, 1 to 100,000.
+/// The options of `sim`: the seed of the schedule, and how many records a run may have, 1 to 100,000.
 #[derive(Clone, Copy, Debug, PartialEq, Eq)]
 pub struct Options {
     pub seed: u64,
@@ -22,7 +22,7 @@ pub enum Command {
     Show,
 }
 
-/// The options that the words name.
+/// The options that the words name; None for one that they leave out.
 #[derive(Clone, Copy, Debug, PartialEq, Eq)]
 pub struct Given {
     pub seed: Option<u64>,
@@ -116,7 +116,7 @@ fn options_of(given: Given) -> Options
     }
 }
 
-/// The command that the words ask for, if they are in the form of one.
+/// The command that the words ask for, if they are a command.
 pub fn command_of(words: &[Bytes]) -> Option<Command>
     ensures command { result ≡ spec.command_of words.now }
     ensures limited { IfSome result spec.HasLimit }

@@ -1,6 +1,6 @@
 //! Prints effects.
 //!
-//! Each function appends its text; where memory is wanting it may have appended a front of it.
+//! Each function appends its text. If memory runs out, it may have appended the start of it.
 
 ghost use Rattle.std.specs.Prelude.{◌≡◌, ◌++◌, ◌∷◌, [], decimal, map, OnOk};
 ghost use Rattle.vx_script.specs.Script.{ended_lines, spaced};
@@ -11,7 +11,7 @@ use vx_base::{Body, Bytes, Cell, Cond, Effect, Id, Mode, Name, NoMemory, Opened,
 use vx_table::{mode_name, print_target};
 use vx_text::{print_num, print_quote};
 
-/// Appends a text behind a space.
+/// Appends a space and a text.
 pub fn print_spaced(text: &[u8], out: &mut Bytes) -> Result<(), NoMemory>
     ensures { OnOk result (out.new ≡ out.old ++ 32 ∷ text.now) }
 {
@@ -19,7 +19,7 @@ pub fn print_spaced(text: &[u8], out: &mut Bytes) -> Result<(), NoMemory>
     out.push_all(text)
 }
 
-/// Appends a number behind a space.
+/// Appends a space and a number.
 pub fn print_spaced_num(alloc: Global, n: u32, out: &mut Bytes) -> Result<(), NoMemory>
     ensures { OnOk result (out.new ≡ out.old ++ 32 ∷ decimal n) }
 {
@@ -128,7 +128,7 @@ fn print_joined(
     }
 }
 
-// The effects of an id alone, each behind its word.
+// The effects that have an id alone: a word and the id.
 fn print_of_id(alloc: Global, word: &[u8], id: Id, out: &mut Bytes) -> Result<(), NoMemory>
     ensures { OnOk result (out.new ≡ out.old ++ spaced (word.now ∷ id_text id ∷ [])) }
 {
@@ -152,7 +152,7 @@ fn print_of_name(word: &[u8], name: &Name, out: &mut Bytes) -> Result<(), NoMemo
     print_spaced(name.text(), out)
 }
 
-// The words of an effect, each behind a space.
+// The words of an effect, each after a space.
 fn print_words(alloc: Global, effect: &Effect, out: &mut Bytes) -> Result<(), NoMemory>
     ensures { OnOk result (out.new ≡ out.old ++ spaced (effect_words effect.now)) }
 {

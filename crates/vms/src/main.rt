@@ -29,7 +29,6 @@ mod faults;
 #[cfg(test)]
 mod tests;
 
-/// The bytes of each text.
 fn bytes_of(alloc: Global, texts: &[String]) -> Result<Vec<Bytes>, NoMemory>
     ensures { IfOk result (λ words. words.items ≡ map string_bytes texts.now) }
 {
@@ -42,7 +41,7 @@ fn bytes_of(alloc: Global, texts: &[String]) -> Result<Vec<Bytes>, NoMemory>
     Ok(words)
 }
 
-/// The words behind the program's name. No word, where one of them is no text: no command has such a word.
+/// The words after the program's name. None of them if one is no text: no command has such a word.
 fn words_of(rt: &HostRuntime) -> Result<Vec<Bytes>, NoMemory> {
     match env::args(rt) {
         Ok(args) => {

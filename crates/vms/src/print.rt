@@ -1,6 +1,6 @@
 //! Prints records and the trailer.
 //!
-//! Each function appends its text; where memory is wanting it may have appended a front of it.
+//! Each function appends its text. If memory runs out, it may have appended the start of it.
 
 ghost use Rattle.std.specs.Prelude.{◌≡◌, ◌++◌, ◌∷◌, [], decimal, OnOk};
 ghost use Rattle.vx_script.specs.Script.{ended_lines};
@@ -15,7 +15,7 @@ use vx_image::UnitDecl;
 use vx_table::call_text;
 use vx_text::print_num;
 
-/// The name of a unit, empty where there is none.
+/// The name of a unit; empty if there is no such unit.
 fn unit_name(units: &[UnitDecl], u: UnitNo) -> &[u8]
     ensures { result.now ≡ unit_name units.now u }
 {
@@ -105,7 +105,7 @@ fn print_record(
     print_effects(alloc, rec.effects.as_slice(), out)
 }
 
-/// Appends records, numbered from 1; units by the names of these.
+/// Appends records, numbered from 1, with the names of these units.
 pub fn print_records(
     alloc: Global,
     units: &[UnitDecl],
@@ -151,7 +151,7 @@ fn print_standing(
     out.push_all(b"\n")
 }
 
-/// Appends how process p stands.
+/// Appends the PROCESS line of p.
 fn print_process(
     alloc: Global,
     exec: &Exec<Scripted>,
@@ -176,7 +176,7 @@ fn end_word(end: End) -> &'static [u8]
     }
 }
 
-/// Appends how each process stands.
+/// Appends the PROCESS lines.
 fn print_processes(alloc: Global, exec: &Exec<Scripted>, out: &mut Bytes) -> Result<(), NoMemory>
     ensures { OnOk result (out.new ≡ out.old
         ++ ended_lines (process_lines exec.now.state.system 1 exec.now.state.procs)) }
@@ -187,7 +187,7 @@ fn print_processes(alloc: Global, exec: &Exec<Scripted>, out: &mut Bytes) -> Res
     Ok(())
 }
 
-/// Appends the end after so many records.
+/// Appends the line `$END`.
 fn print_end(alloc: Global, end: End, taken: u32, out: &mut Bytes) -> Result<(), NoMemory>
     ensures { OnOk result (out.new ≡ out.old ++ (end_line end taken ++ 10 ∷ [])) }
 {
@@ -197,7 +197,7 @@ fn print_end(alloc: Global, end: End, taken: u32, out: &mut Bytes) -> Result<(),
     out.push_all(b"\n")
 }
 
-/// Appends the trailer: how the processes stand, and the end after the records that were taken.
+/// Appends the trailer.
 pub fn print_trailer(
     alloc: Global,
     exec: &Exec<Scripted>,

@@ -13,7 +13,7 @@ use vx_exec::{Exec, run_system};
 use vx_image::System;
 use vx_script::print_script;
 
-/// The transcript of the run of a system that the seed chooses, and how the run has ended.
+/// The transcript of the run that the seed chooses, and how the run ended.
 pub fn transcript(alloc: Global, system: System, options: Options) -> Result<(Bytes, End), NoMemory>
     requires formed { IsWellFormed system }
     requires built { IsTrue (is_built system) }

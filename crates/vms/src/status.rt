@@ -1,4 +1,4 @@
-//! What a call answers.
+//! The ways in which a call ends.
 
 ghost use Rattle.std.specs.Prelude.{◌≡◌};
 
@@ -9,17 +9,17 @@ pub enum Status {
     Done,
     /// The run ended with nothing enabled and a process that is not deleted, and its transcript was written.
     Hung,
-    /// The words are in no form of a command.
+    /// The words are no command.
     Words,
-    /// The input is no script, or one of a system that the executive does not run yet.
+    /// The input is no script, or the executive does not run its system yet.
     Form,
     /// The run reached its limit with an event enabled, and its transcript was written.
     Limit,
     /// The source failed.
     ReadFault,
-    /// The sink failed; what was written is a front of the text.
+    /// The sink failed, after the start of a text.
     WriteFault,
-    /// No memory was found.
+    /// Memory ran out.
     NoMemory,
     /// The input is longer than 67,108,864 bytes.
     TooLong,
@@ -28,7 +28,7 @@ pub enum Status {
 impl Status {
     ghost use Rattle.vms.specs.Code.{code_of};
 
-    /// The status that the program ends with.
+    /// The exit status of the program.
     pub fn code(self) -> u8
         ensures { result ≡ code_of self }
     {

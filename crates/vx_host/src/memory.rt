@@ -127,7 +127,7 @@ impl Model for MemSink {
 
 impl MemSink {
     /// A sink that holds at most `room` bytes, takes at most `piece` of them in a call, and fails at the calls of these
-    /// numbers, from 1. Refuses where no memory is found for the room.
+    /// numbers, from 1. Refuses if memory runs out for the room.
     pub fn new(alloc: Global, room: u32, piece: u32, fails: Vec<u32>) -> Result<MemSink, NoMemory>
         requires { 0 < piece }
         ensures { IfOk result (λ s. s ≡ record {
@@ -149,7 +149,7 @@ impl MemSink {
         })
     }
 
-    /// What was written.
+    /// The bytes that were written.
     pub fn held(&self) -> &[u8]
         ensures { result.now ≡ self.now.held }
     {

@@ -14,16 +14,16 @@ use vx_base::{Bytes, NoMemory};
 #[derive(Clone, Copy, Debug, PartialEq, Eq)]
 pub struct Failed;
 
-/// Why not all of a source was read.
+/// Why a source was not read to its end.
 #[derive(Debug, Drop, Error)]
 pub enum ReadFail {
     /// A read failed.
     #[error("a read failed")]
     Fault,
-    /// There are more bytes than were asked for.
+    /// There are more bytes than `max`.
     #[error("there are more bytes than are taken")]
     TooLong,
-    /// No memory was found.
+    /// Memory ran out.
     #[error("no memory was found")]
     NoMemory,
 }
@@ -50,23 +50,22 @@ impl From<NoMemory> for ReadFail {
     }
 }
 
-/// A source of bytes.
+/// Gives bytes, and counts its faults.
 pub trait Source {
-    /// The bytes that are left, where the source tells them.
+    /// The bytes that are left, if the source tells them.
     ghost left: { Self → Option (List ℕ) };
 
     /// How many reads have failed.
     ghost faults: { Self → ℕ };
 
-    /// Reads into the front of a buffer, and says how many bytes. To read nothing into a buffer that is not empty is
-    /// the end.
+    /// Reads into the start of a buffer, and says how many bytes: 0 only at the end, unless the buffer is empty.
     fn read(&mut self, buf: &mut [u8]) -> Result<usize, Failed>
         ensures bound { ReadsAtMost result buf.new }
         ensures bytes { ReadConsumes (left self.old) (left self.new) result buf.new }
         ensures cause { HasCause (faults self.old) (faults self.new) result };
 }
 
-/// All bytes up to the end, of which there may be `max`. Refuses a source with more, once it has given `max + 1`.
+/// All bytes up to the end, at most `max`. Refuses a source with more, once it has given `max + 1`.
 pub fn read_all<S: Source>(alloc: Global, source: &mut S, max: u32) -> Result<Bytes, ReadFail>
     ensures all { IfOk result (λ bytes. TakesAll max (S.left source.old) (S.left source.new) bytes) }
     ensures too_long { IsErrOf result ReadFail.TooLong →
