@@ -1,0 +1,87 @@
+//! What is proved of the agreement: after the records of every run the state is what the records leave.
+
+ghost use Rattle.std.specs.Prelude.{◌≡◌, ℕ, ◌+◌, ◌≤◌, List, map, true, Some};
+ghost use Rattle.std.specs.List.{list_any, AllByRecursion, find};
+ghost use Rattle.vx_base.specs.Clusters.{is_association, stands};
+ghost use Rattle.vx_base.specs.Pieces.{is_enabled_in};
+ghost use Rattle.vx_base.specs.Quotas.{is_within};
+ghost use Rattle.vx_base.specs.declared.effects.Cell.{Cell as CellOf};
+ghost use Rattle.vx_base.specs.declared.mode.Mode.{Mode as ModeOf};
+ghost use Rattle.vx_base.specs.declared.number.Id.{Id as IdOf};
+ghost use Rattle.vx_base.specs.declared.number.Pid.{Pid as PidOf};
+ghost use Rattle.vx_base.specs.declared.record.Rec.{Rec as RecOf};
+ghost use Rattle.vx_image.specs.Storage.{status_at};
+ghost use Rattle.vx_image.specs.declared.decl.ProcDecl.{ProcDecl as DeclOf};
+ghost use Rattle.vx_image.specs.declared.system.System.{System as SystemOf};
+ghost use Rattle.vx_laws.specs.Agrees.{AreEntries, as_waiting, entered_frames, has_kind, is_attending, is_handler_of, is_timed, cluster_of, cluster_stands, AsCalled, IsOwned};
+ghost use Rattle.vx_laws.specs.Charges.{charge_by};
+ghost use Rattle.vx_laws.specs.Frames.{enabled_by, entered, waiting};
+ghost use Rattle.vx_laws.specs.Items.{past_of};
+ghost use Rattle.vx_laws.specs.Lives.{is_outstanding, life, lives, opens};
+ghost use Rattle.vx_laws.specs.QuotaSum.{decl_by};
+ghost use Rattle.vx_laws.specs.Runs.{AfterEveryRun};
+ghost use Rattle.vx_laws.specs.Values.{cluster_by, flags_by, status_by};
+ghost use Rattle.vx_record.specs.Charges.{charge};
+ghost use Rattle.vx_record.specs.Finish.{this_request};
+ghost use Rattle.vx_record.specs.Flags.{flags_of};
+ghost use Rattle.vx_record.specs.Mailboxes.{this_attention};
+ghost use Rattle.vx_record.specs.Rundown.{this_handler};
+ghost use Rattle.vx_record.specs.Runs.{IsRun, after};
+ghost use Rattle.vx_record.specs.State.{process_at, IsProcess, decl_of};
+ghost use Rattle.vx_record.specs.Timers.{this_timer};
+
+/// After the records of every run the next id is one more than the ids that they opened. Delivery is enabled in a mode if they
+/// leave it so. A process's queued ASTs are those that they leave queued, in that order, with their modes. Its frames above the
+/// main one are the routines that they leave entered, in that order.
+#[tactic(auto, using(crate::proofs::Turns::every_next, crate::proofs::Turns::every_enable, crate::proofs::Turns::every_queue, crate::proofs::Leaves::every_frame))]
+pub fn every_moment_agrees()
+    ensures next { AfterEveryRun (λ s past. s.next ≡ opens past + 1) }
+    ensures enables { AfterEveryRun (λ s past. (p : PidOf) (m : ModeOf) → 1 ≤ p.0 → is_enabled_in (process_at s p).enables m ≡ enabled_by past p m) }
+    ensures asts { AfterEveryRun (λ s past. (p : PidOf) → 1 ≤ p.0 → map as_waiting (process_at s p).asts ≡ waiting past p) }
+    ensures frames { AfterEveryRun (λ s past. (p : PidOf) → 1 ≤ p.0 → AreEntries (entered_frames (process_at s p).frames) (entered past p)) }
+{}
+
+/// After the records of every run the requests, the timers and wakes, the attention entries, and the exit handlers of a process
+/// that stand in the state are exactly those that the records leave open.
+#[tactic(auto, using(crate::proofs::Opens::every_request, crate::proofs::Opens::every_timer, crate::proofs::Opens::every_attention, crate::proofs::Opens::every_handler))]
+pub fn every_open_id_stands()
+    ensures requests { AfterEveryRun (λ s past. (id : IdOf) → list_any (this_request id) s.requests ≡ lives is_outstanding (life past id)) }
+    ensures timers { AfterEveryRun (λ s past. (id : IdOf) → list_any (this_timer id) s.timers ≡ lives (has_kind is_timed) (life past id)) }
+    ensures attention { AfterEveryRun (λ s past. (id : IdOf) → list_any (this_attention id) s.attention ≡ lives (has_kind is_attending) (life past id)) }
+    ensures handlers { AfterEveryRun (λ s past. (p : PidOf) (id : IdOf) → 1 ≤ p.0 →
+        list_any (this_handler id) (process_at s p).handlers ≡ lives (is_handler_of p) (life past id)) }
+{}
+
+/// After the records of every run each outstanding request is as the call that opened it says: its process, its flag and status
+/// block, its channel, function, buffer and length.
+#[tactic(auto, using(crate::proofs::Asked::every_request_called))]
+pub fn every_request_agrees()
+    ensures { AfterEveryRun (λ s past. AllByRecursion (λ r. AsCalled past r.req) s.requests) }
+{}
+
+/// After the records of every run each process is charged, in each of its five accounts, what the records leave open.
+#[tactic(auto, using(crate::proofs::Sums::every_charge))]
+pub fn every_charge_agrees()
+    ensures { AfterEveryRun (λ s past. (p : PidOf) → 1 ≤ p.0 → charge s p ≡ charge_by past p) }
+{}
+
+/// After the records of every run the records tell each process's declaration, and no charge exceeds its limit.
+#[tactic(auto, using(crate::proofs::Quotas::every_decl, crate::proofs::Quotas::every_bound))]
+pub fn every_charge_is_within_its_limit()
+    ensures declarations { (system : SystemOf) (recs : List RecOf) (p : PidOf) → IsRun system recs → IsProcess (after system recs) p →
+        decl_by system (past_of recs) p ≡ Some (decl_of (after system recs) p) }
+    ensures limits { (system : SystemOf) (recs : List RecOf) (p : PidOf) (d : DeclOf) → IsRun system recs →
+        decl_by system (past_of recs) p ≡ Some d → is_within (charge_by (past_of recs) p) d.limits ≡ true }
+{}
+
+/// After the records of every run the 32 flags of each cluster, local or common, are as the last records on them say. So are each
+/// process's status blocks, what it has associated, and which common clusters stand.
+#[tactic(auto, using(crate::proofs::Holds::every_flag, crate::proofs::Holds::every_status, crate::proofs::Holds::every_association, crate::proofs::Holds::every_cluster))]
+pub fn every_value_agrees()
+    ensures flags { AfterEveryRun (λ s past. (c : CellOf) → IsOwned c → flags_of s c ≡ flags_by past c) }
+    ensures statuses { AfterEveryRun (λ s past. (p : PidOf) (i : ℕ) → 1 ≤ p.0 → 1 ≤ i → i ≤ 32 →
+        status_at (process_at s p).store i ≡ status_by past p i) }
+    ensures associations { AfterEveryRun (λ s past. (p : PidOf) (k : ℕ) →
+        cluster_of (find (is_association p k) s.common.associations) ≡ cluster_by past p k) }
+    ensures clusters { AfterEveryRun (λ s past. (group : ℕ) (name : List ℕ) → stands s.common group name ≡ cluster_stands past group name) }
+{}
