@@ -128,7 +128,7 @@ pub record ServiceWaits (s : State) (p : Pid) (a : Args) (v : Service) (x : Serv
   pub waits : (q : Pid) → 1 ≤ q.0 → frame_waits t q ≡ served_shift p a v x q (frame_waits s q)
   pub fit : ServedFits a v x
 
-either_same : {A : Type 0} (b : Bool) (x : A) → cond b x x ≡ x
+pub either_same : {A : Type 0} (b : Bool) (x : A) → cond b x x ≡ x
 either_same true x = refl
 either_same false x = refl
 
