@@ -1,6 +1,7 @@
 -- What most services and events do lies aside of mailboxes: no channel, no mailbox and no request is other than before.
-use Rattle.std.proofs.Common.{◌≡◌, ℕ, ◌%◌, ◌^◌, List, [], ◌∷◌, ◌++◌, Bool, true, false, cond, not, ◌&&◌, ◌||◌, ◌==◌, nat_lt, nat_le, length, Option, Some, None, Result, Ok, Err, position, is_none, refl, sym, ◌∙◌, ap, zero, suc, get_or, set, IfSome}
+use Rattle.std.proofs.Common.{◌≡◌, ℕ, ◌%◌, ◌^◌, List, [], ◌∷◌, ◌++◌, Bool, true, false, cond, not, ◌&&◌, ◌||◌, ◌==◌, nat_lt, nat_le, length, Option, Some, None, Result, Ok, Err, position, is_none, refl, sym, ◌∙◌, ap, zero, suc, get_or, arith, ◌≤◌, ◌+◌}
 use Rattle.std.specs.List.{AllByRecursion, filter, find, list_any}
+use Rattle.std.specs.Prelude.{⊤}
 use Rattle.vx_base.specs.Channels.{channel_at, channels_of}
 use Rattle.vx_base.specs.Clusters.{Change, cluster_number, associated, dissociated, marked, is_cluster}
 use Rattle.vx_base.specs.Modes.{outer}
@@ -80,21 +81,23 @@ use Rattle.vx_record.specs.Events.{put_back, below_top}
 abbrev pub row : State → Pid → ℕ → Option Channel
 row s p n = channel_at (process_at s p).channels n
 
-abbrev pub is_aside : Effect → Bool
-is_aside (effect.Open id k p mode n) = not (is_request k)
-is_aside (effect.Fin id c) = false
-is_aside (effect.MPut name id b) = false
-is_aside (effect.MGet name w r) = false
-is_aside (effect.MCut name w) = false
-is_aside (effect.Mbx name on) = false
-is_aside x = true
+-- an effect that tells of none of them; what is opened has the number n or a later one
+abbrev pub IsAside : ℕ → Effect → Type 0
+IsAside n (effect.Open id k p mode m) = (is_request k ≡ false) × (n ≤ id.0)
+IsAside n (effect.Fin id c) = ⊥
+IsAside n (effect.MPut name id b) = ⊥
+IsAside n (effect.MGet name w r) = ⊥
+IsAside n (effect.MCut name w) = ⊥
+IsAside n (effect.Mbx name on) = ⊥
+IsAside n x = ⊤
 
 pub record Aside (s : State) (es : List Effect) (t : State) : Type 0 where
   pub system : t.system ≡ s.system
   pub boxes : t.boxes ≡ s.boxes
   pub requests : t.requests ≡ s.requests
   pub rows : (p : Pid) (n : ℕ) → row t p n ≡ row s p n
-  pub effects : AllByRecursion (λ x. is_aside x ≡ true) es
+  pub next : s.next ≤ t.next
+  pub effects : AllByRecursion (IsAside s.next) es
 
 abbrev pub PartAside : State → Part → Type 0
 PartAside s a = Aside s a.effects a.after
@@ -102,24 +105,29 @@ PartAside s a = Aside s a.effects a.after
 abbrev pub OutAside : {A : Type 0} → State → Outcome A → Type 0
 OutAside s o = Aside s o.effects o.after
 
-abbrev Told : List Effect → Type 0
-Told es = AllByRecursion (λ x. is_aside x ≡ true) es
-
 pub idle : (s : State) → Aside s [] s
-idle s = record { system = refl; boxes = refl; requests = refl; rows = λ p n. refl; effects = tt }
+idle s = record { system = refl; boxes = refl; requests = refl; rows = λ p n. refl; next = omega arith; effects = tt }
 
--- nothing but lists that are no concern here
-same : (s t : State) (es : List Effect) → t.system ≡ s.system → t.boxes ≡ s.boxes → t.requests ≡ s.requests → t.procs ≡ s.procs → Told es → Aside s es t
-same s t es a b c d k = record { system = a; boxes = b; requests = c; rows = λ p n. ap (λ (l : List Process). channel_at (get_or l (p.0 - 1) nobody).channels n) d; effects = k }
+-- nothing changes but lists that are no concern here
+opened : (s t : State) (es : List Effect) → t.system ≡ s.system → t.boxes ≡ s.boxes → t.requests ≡ s.requests → t.procs ≡ s.procs → s.next ≤ t.next → AllByRecursion (IsAside s.next) es → Aside s es t
+opened s t es a b c d e k = record { system = a; boxes = b; requests = c; rows = λ p n. ap (λ (l : List Process). channel_at (get_or l (p.0 - 1) nobody).channels n) d; next = e; effects = k }
 
-pub changed : (s : State) (p : Pid) (f : Process → Process) (es : List Effect) → (f (process_at s p)).channels ≡ (process_at s p).channels → Told es → Aside s es (change s p f)
+same : (s t : State) (es : List Effect) → t.system ≡ s.system → t.boxes ≡ s.boxes → t.requests ≡ s.requests → t.procs ≡ s.procs → t.next ≡ s.next → AllByRecursion (IsAside s.next) es → Aside s es t
+same s t es a b c d e k = opened s t es a b c d (omega (arith, e)) k
+
+pub changed : (s : State) (p : Pid) (f : Process → Process) (es : List Effect) → (f (process_at s p)).channels ≡ (process_at s p).channels → AllByRecursion (IsAside s.next) es → Aside s es (change s p f)
 changed s p f es c k = record {
   system = refl;
   boxes = refl;
   requests = refl;
   rows = λ q n. ap (λ (l : List (Option Channel)). channel_at l n) (field_same (λ (pr : Process). pr.channels) f s p q c);
+  next = omega arith;
   effects = k;
 }
+
+lower : (n m : ℕ) → n ≤ m → (x : Effect) → IsAside m x → IsAside n x
+lower n m h (effect.Open id k p mode j) e = (e.0, omega (arith, h, e.1))
+lower n m h x e = e
 
 pub then : (s t u : State) (es fs : List Effect) → Aside s es t → Aside t fs u → Aside s (es ++ fs) u
 then s t u es fs h k = record {
@@ -127,7 +135,8 @@ then s t u es fs h k = record {
   boxes = k.boxes ∙ h.boxes;
   requests = k.requests ∙ h.requests;
   rows = λ p n. k.rows p n ∙ h.rows p n;
-  effects = all_append (λ (x : Effect). is_aside x ≡ true) es fs h.effects k.effects;
+  next = omega (arith, h.next, k.next);
+  effects = all_append (IsAside s.next) es fs h.effects (all_weaker (IsAside t.next) (IsAside s.next) (lower s.next t.next h.next) fs k.effects);
 }
 
 pub parts : (s : State) (a : Part) (f : State → Part) → PartAside s a → PartAside a.after (f a.after) → PartAside s (and_then a f)
@@ -147,8 +156,8 @@ each_aside f k (x ∷ xs) s = parts s (f s x) (each f xs) (k s x) (each_aside f 
 -- Flags and clusters.
 
 flag_aside : (s : State) (c : Cell) (on : Bool) → PartAside s (flag_part s c on)
-flag_aside s (Local p n) on = changed s p (with_local_flag n on) (effect.Flag (Local p n) on ∷ []) (either (λ (x : Process). x.channels ≡ (process_at s p).channels) (nat_lt n 32) _ _ refl refl) (refl, tt)
-flag_aside s (Shared g a n) on = same s _ _ refl refl refl refl (refl, tt)
+flag_aside s (Local p n) on = changed s p (with_local_flag n on) (effect.Flag (Local p n) on ∷ []) (either (λ (x : Process). x.channels ≡ (process_at s p).channels) (nat_lt n 32) _ _ refl refl) (tt, tt)
+flag_aside s (Shared g a n) on = same s _ _ refl refl refl refl refl (tt, tt)
 
 pub named_flag_aside : (s : State) (o : Option Cell) (on : Bool) → PartAside s (flag_where_named s o on)
 named_flag_aside s None on = idle s
@@ -168,30 +177,30 @@ awaited_aside s p w (Some c) = idle s
 waits_aside : (s : State) (p : Pid) (efn : ℕ) (w : Wait) → OutAside s (at_flag s p efn (refused_wait s) (waits_on s p w))
 waits_aside s p efn w = at_flag_aside s p efn (refused_wait s) (waits_on s p w) (λ c. idle s) (λ c. awaited_aside s p w (satisfied s p w))
 
-cluster_aside : (x : Effect) → is_clusters x ≡ true → is_aside x ≡ true
-cluster_aside (effect.Cef g a on) e = refl
-cluster_aside (effect.Clu q k c) e = refl
-cluster_aside x e = absurd (let never : false ≡ true = e in cc)
+cluster_aside : (n : ℕ) (x : Effect) → is_clusters x ≡ true → IsAside n x
+cluster_aside n (effect.Cef g a on) e = tt
+cluster_aside n (effect.Clu q k c) e = tt
+cluster_aside n x e = absurd (let never : false ≡ true = e in cc)
 
 only_aside : (s : State) (c : Change) → AllByRecursion (λ x. is_clusters x ≡ true) c.effects → PartAside s (Rattle.vx_record.specs.Parts.commonly s c)
-only_aside s c k = same s _ c.effects refl refl refl refl (all_weaker (λ (x : Effect). is_clusters x ≡ true) (λ (x : Effect). is_aside x ≡ true) cluster_aside c.effects k)
+only_aside s c k = same s _ c.effects refl refl refl refl refl (all_weaker (λ (x : Effect). is_clusters x ≡ true) (IsAside s.next) (cluster_aside s.next) c.effects k)
 
 -- Status blocks, ASTs and attention entries.
 
 pub status_aside : (s : State) (p : Pid) (i : ℕ) (st : Status) → PartAside s (iosb_part s p i st)
-status_aside s p i st = of_two s (not (i == 0)) (put_status s p i st) (nothing s) (changed s p (with_stored_status i st) _ refl (refl, tt)) (idle s)
+status_aside s p i st = of_two s (not (i == 0)) (put_status s p i st) (nothing s) (changed s p (with_stored_status i st) _ refl (tt, tt)) (idle s)
 
 pub que_aside : (s : State) (p : Pid) (q : Queued) → PartAside s (que_part s p q)
-que_aside s p q = changed s p (with_queued q) _ refl (refl, tt)
+que_aside s p q = changed s p (with_queued q) _ refl (tt, tt)
 
 pub fire_aside : (s : State) (a : Attention) → PartAside s (fire_attention s a)
-fire_aside s a = parts s _ (λ b. que_part b a.p (charged_ast a.id a.mode a.tag)) (same s _ (effect.Fire a.id ∷ []) refl refl refl refl (refl, tt)) (que_aside _ a.p (charged_ast a.id a.mode a.tag))
+fire_aside s a = parts s _ (λ b. que_part b a.p (charged_ast a.id a.mode a.tag)) (same s _ (effect.Fire a.id ∷ []) refl refl refl refl refl (tt, tt)) (que_aside _ a.p (charged_ast a.id a.mode a.tag))
 
 pub call_aside : (s : State) (b : BoxNo) (func : Func) → PartAside s (call_attention s b func)
 call_aside s b func = each_aside fire_attention fire_aside (filter (is_attention_at b func) s.attention) s
 
 pub drop_attentions_aside : (s : State) (xs : List Attention) → PartAside s (each drop_attention xs s)
-drop_attentions_aside s xs = each_aside drop_attention (λ t x. same t _ (effect.Drop x.id ∷ []) refl refl refl refl (refl, tt)) xs s
+drop_attentions_aside s xs = each_aside drop_attention (λ t x. same t _ (effect.Drop x.id ∷ []) refl refl refl refl refl (tt, tt)) xs s
 
 attend_aside : (s : State) (a : Attention) → PartAside s (attend s a)
 attend_aside s a = of_two s (is_answered_now s a) (fire_attention s a) (nothing s) (fire_aside s a) (idle s)
@@ -203,7 +212,7 @@ attention_set_aside s p q a =
     let one = attention_opened s p q a in
     let two = and_then one i in
     let t = two.after in
-    parts s two (λ c. and_then (f c) (λ d. attend d a)) (parts s one i (same s _ _ refl refl refl refl (refl, tt)) (status_aside one.after p q.iosb done_at_once))
+    parts s two (λ c. and_then (f c) (λ d. attend d a)) (parts s one i (opened s _ _ refl refl refl refl (omega arith) ((refl, omega arith), tt)) (status_aside one.after p q.iosb done_at_once))
     (parts t (f t) (λ d. attend d a) (named_flag_aside t (cell t p q.efn) true) (attend_aside (f t).after a))
 
 pub attention_on_aside : (s : State) (p : Pid) (q : Asked) (d : Device) (o : Option Rattle.vx_base.specs.declared.routine.Entry.Entry) → PartAside s (attention_on s p q d o)
@@ -221,30 +230,30 @@ tested_aside s go (Ok x) f = f x
 -- Timers.
 
 pub timers_aside : (s : State) (passes : Timer → Bool) → PartAside s (drop_timers passes s)
-timers_aside s passes = each_aside drop_timer (λ t x. same t _ (effect.Drop x.id ∷ []) refl refl refl refl (refl, tt)) (filter passes s.timers) s
+timers_aside s passes = each_aside drop_timer (λ t x. same t _ (effect.Drop x.id ∷ []) refl refl refl refl refl (tt, tt)) (filter passes s.timers) s
 
 que_timer_aside : (s : State) (t : Timer) (mode : Mode) (o : Option Rattle.vx_base.specs.declared.routine.Entry.Entry) → PartAside s (que_timer s t mode o)
 que_timer_aside s t mode None = idle s
 que_timer_aside s t mode (Some tag) = que_aside s t.p (charged_ast t.id mode tag)
 
 wake_aside : (s : State) (t : Timer) (n : ℕ) → Aside s [] (after_wake s t n)
-wake_aside s t n = either (λ (x : State). Aside s [] x) (n == 0) _ _ (same s _ [] refl refl refl refl tt) (same s _ [] refl refl refl refl tt)
+wake_aside s t n = either (λ (x : State). Aside s [] x) (n == 0) _ _ (same s _ [] refl refl refl refl refl tt) (same s _ [] refl refl refl refl refl tt)
 
 fired_aside : (s : State) (t : Timer) (a : Alarm) → PartAside s (fired s t a)
 fired_aside s t (OfTimer efn reqid mode tag) =
     let f = λ (x : State). flag_where_named x (cell x t.p efn) true in
     let a = fire_timer s t in
     let two = and_then a f in
-    parts s two (λ b. que_timer b t mode tag) (parts s a f (same s _ _ refl refl refl refl (refl, tt)) (named_flag_aside a.after (cell a.after t.p efn) true)) (que_timer_aside two.after t mode tag)
-fired_aside s t (OfWake target repeat) = then s (after_wake s t repeat) _ [] (effect.Fire t.id ∷ []) (wake_aside s t repeat) (changed (after_wake s t repeat) target (with_wake true) (effect.Fire t.id ∷ []) refl (refl, tt))
+    parts s two (λ b. que_timer b t mode tag) (parts s a f (same s _ _ refl refl refl refl refl (tt, tt)) (named_flag_aside a.after (cell a.after t.p efn) true)) (que_timer_aside two.after t mode tag)
+fired_aside s t (OfWake target repeat) = then s (after_wake s t repeat) _ [] (effect.Fire t.id ∷ []) (wake_aside s t repeat) (changed (after_wake s t repeat) target (with_wake true) (effect.Fire t.id ∷ []) refl (tt, tt))
 
 pub tick_aside : (s : State) → PartAside s (tick s)
-tick_aside s = then s (at_time s (next_time s)) _ [] _ (same s _ [] refl refl refl refl tt) (each_aside fire (λ t x. fired_aside t x x.what) (filter (is_due (next_time s)) s.timers) (at_time s (next_time s)))
+tick_aside s = then s (at_time s (next_time s)) _ [] _ (same s _ [] refl refl refl refl refl tt) (each_aside fire (λ t x. fired_aside t x x.what) (filter (is_due (next_time s)) s.timers) (at_time s (next_time s)))
 
 -- Leaving.
 
 leave_aside : (s : State) (k : FrameKind) → PartAside s (leave_kind s k)
-leave_aside s (kind.Ast id) = same s s _ refl refl refl refl (refl, tt)
+leave_aside s (kind.Ast id) = same s s _ refl refl refl refl refl (tt, tt)
 leave_aside s kind.Main = idle s
 leave_aside s kind.Change = idle s
 leave_aside s kind.Handler = idle s
@@ -253,14 +262,14 @@ leave_all_aside : (frames : List Frame) (s : State) → PartAside s (leave_all f
 leave_all_aside frames s = each_aside leave_frame (λ t f. leave_aside t f.kind) frames s
 
 pub handlers_aside : (s : State) (p : Pid) (test : Handler → Bool) → PartAside s (drop_handlers s p test)
-handlers_aside s p test = each_aside (drop_handler p) (λ t x. changed t p (without_handler x.id) _ refl (refl, tt)) (filter test (process_at s p).handlers) s
+handlers_aside s p test = each_aside (drop_handler p) (λ t x. changed t p (without_handler x.id) _ refl (tt, tt)) (filter test (process_at s p).handlers) s
 
 pub exited_aside : (s : State) (p : Pid) (code : ℕ) → PartAside s (exited s p code)
 exited_aside s p code = let a = change s p (Rattle.vx_record.specs.Rundown.without_frames code) in then s a _ [] _ (changed s p (Rattle.vx_record.specs.Rundown.without_frames code) [] refl tt) (leave_all_aside (process_at s p).frames a)
 
 found_handler_aside : (s : State) (p : Pid) (o : Option Handler) → OutAside s (cancel_found s p o)
 found_handler_aside s p None = idle s
-found_handler_aside s p (Some x) = changed s p (without_handler x.id) _ refl (refl, tt)
+found_handler_aside s p (Some x) = changed s p (without_handler x.id) _ refl (tt, tt)
 
 cancel_handlers_aside : (s : State) (p : Pid) (o : Option Rattle.vx_base.specs.declared.routine.Entry.Entry) → OutAside s (cancel_handlers s p o)
 cancel_handlers_aside s p None = handlers_aside s p (is_handler_of (current s p))
@@ -276,7 +285,7 @@ pub part_with_aside : (p : Pid) (k : ℕ) (s : State) → PartAside s (part_with
 part_with_aside p k s = only_aside s (dissociated s.common p k) (dissociated_only s.common p k)
 
 pub asts_aside : (s : State) (p : Pid) (m : Mode) → PartAside s (drop_asts p m s)
-asts_aside s p m = each_aside (drop_ast p) (λ t q. changed t p (without_ast q.id) _ refl (refl, tt)) (filter (is_ast_reached m) (process_at s p).asts) s
+asts_aside s p m = each_aside (drop_ast p) (λ t q. changed t p (without_ast q.id) _ refl (tt, tt)) (filter (is_ast_reached m) (process_at s p).asts) s
 
 -- Records but those of services.
 
@@ -286,12 +295,12 @@ returned_aside s p (f ∷ fs) = by_kind f.kind
   where
     by_kind : (k : FrameKind) → OutAside s (returned_from s p f k)
     by_kind kind.Main = exited_aside s p (Rattle.vx_record.specs.Events.r0_of s p)
-    by_kind (kind.Ast id) = changed s p (put_back f.saved_r0) _ refl (refl, tt)
+    by_kind (kind.Ast id) = changed s p (put_back f.saved_r0) _ refl (tt, tt)
     by_kind kind.Change = changed s p below_top _ refl tt
     by_kind kind.Handler = changed s p below_top _ refl tt
 
 pub started_aside : (s : State) (p : Pid) (q : Queued) (e : Rattle.vx_base.specs.declared.routine.Entry.Entry) → PartAside s (started s p q e)
-started_aside s p q (entry.Exit code) = parts s _ (λ a. exited a p code) (same s s (effect.Leave q.id ∷ []) refl refl refl refl (refl, tt)) (exited_aside s p code)
+started_aside s p q (entry.Exit code) = parts s _ (λ a. exited a p code) (same s s (effect.Leave q.id ∷ []) refl refl refl refl refl (tt, tt)) (exited_aside s p code)
 started_aside s p q (entry.Label k prm) = changed s p (with_frame (new_frame s p (kind.Ast q.id) q.mode (entry.Label k prm) (Rattle.vx_record.specs.Events.r0_of s p))) [] refl tt
 started_aside s p q (entry.Host prm) = changed s p (with_frame (new_frame s p (kind.Ast q.id) q.mode (entry.Host prm) (Rattle.vx_record.specs.Events.r0_of s p))) [] refl tt
 
@@ -309,16 +318,16 @@ made_rows x n free (y ∷ l) zero = refl
 made_rows x n free (y ∷ l) (suc i) = made_rows x n free l i
 
 new_aside : (s : State) (p : Pid) (place : ℕ) → PartAside s (new_part s p place)
-new_aside s p place = record { system = refl; boxes = refl; requests = refl; rows = λ q n. made_rows (created s p place) n (λ m. free_rows 64 (m - 1)) s.procs (q.0 - 1); effects = (refl, tt) }
+new_aside s p place = record { system = refl; boxes = refl; requests = refl; rows = λ q n. made_rows (created s p place) n (λ m. free_rows 64 (m - 1)) s.procs (q.0 - 1); next = omega arith; effects = (tt, tt) }
 
 -- Services.
 
 pub valued_aside : (s : State) (p : Pid) (t : Target) (part : Part) (r : Result (Cond × ℕ) Cond) → PartAside s part → OutAside s (valued_at p t part r)
-valued_aside s p t part (Ok read) k = parts s part (λ a. Rattle.vx_record.specs.Services.var_part a p t read.1) k (changed part.after p (with_variable t read.1) _ refl (refl, tt))
+valued_aside s p t part (Ok read) k = parts s part (λ a. Rattle.vx_record.specs.Services.var_part a p t read.1) k (changed part.after p (with_variable t read.1) _ refl (tt, tt))
 valued_aside s p t part (Err c) k = k
 
 numbered_aside : (s : State) (p : Pid) (t : Target) (part : Part) (r : Result ℕ Cond) → PartAside s part → OutAside s (numbered_at p t part r)
-numbered_aside s p t part (Ok n) k = parts s part (λ a. Rattle.vx_record.specs.Services.var_part a p t n) k (changed part.after p (with_variable t n) _ refl (refl, tt))
+numbered_aside s p t part (Ok n) k = parts s part (λ a. Rattle.vx_record.specs.Services.var_part a p t n) k (changed part.after p (with_variable t n) _ refl (tt, tt))
 numbered_aside s p t part (Err c) k = k
 
 -- the services on channels, mailboxes and requests
@@ -344,29 +353,32 @@ service_aside s p a AscEfc e =
     of_outcomes s (not (is_common (number a.a0))) _ _ (idle s) (of_outcomes s (wants_prmceb s (process_at s p) (text a.a1) (number a.a2)) _ _ (idle s) (only_aside s c (associated_only s.common p (cluster_number (number a.a0)) (process_at s p).group (text a.a1) (not (number a.a2 == 0)))))
 service_aside s p a DacEfc e = of_outcomes s (not (is_common (number a.a0))) _ _ (idle s) (only_aside s (dissociated s.common p (cluster_number (number a.a0))) (dissociated_only s.common p (cluster_number (number a.a0))))
 service_aside s p a DlcEfc e = of_outcomes s (not (process_at s p).privs.prmceb) _ _ (idle s) (only_aside s (marked s.common (process_at s p).group (text a.a0)) (marked_at_only s.common (find (is_cluster (process_at s p).group (text a.a0)) s.common.clusters)))
-service_aside s p a DclAst e = of_outcomes s (exceeds s p (ast_need true)) _ _ (idle s) (then s (Rattle.vx_record.specs.State.past_id s) _ (effect.Open (Rattle.vx_record.specs.State.next_id s) Rattle.vx_base.specs.declared.effects.Opened.TheVariants.Ast p _ 0 ∷ []) _ (same s _ _ refl refl refl refl (refl, tt)) (que_aside _ p _))
-service_aside s p a SetAst e = changed s p (with_delivery (current s p) (not (number a.a0 == 0))) _ refl (refl, tt)
+service_aside s p a DclAst e = of_outcomes s (exceeds s p (ast_need true)) _ _ (idle s) (then s (Rattle.vx_record.specs.State.past_id s) _ (effect.Open (Rattle.vx_record.specs.State.next_id s) Rattle.vx_base.specs.declared.effects.Opened.TheVariants.Ast p _ 0 ∷ []) _ (opened s _ _ refl refl refl refl (omega arith) ((refl, omega arith), tt)) (que_aside _ p _))
+service_aside s p a SetAst e = changed s p (with_delivery (current s p) (not (number a.a0 == 0))) _ refl (tt, tt)
 service_aside s p a CmExec e = of_outcomes s (is_inside (current s p) || ((process_at s p).privs.cmexec || (process_at s p).privs.cmkrnl)) _ _ (changed s p (with_frame (new_frame s p kind.Change (inner (current s p) Exec) (routine s p a.a0 (number a.a1)) 0)) [] refl tt) (idle s)
 service_aside s p a CmKrnl e = of_outcomes s (is_inside (current s p) || (process_at s p).privs.cmkrnl) _ _ (changed s p (with_frame (new_frame s p kind.Change Kernel (routine s p a.a0 (number a.a1)) 0)) [] refl tt) (idle s)
 service_aside s p a SetImr e =
     let tag = routine_or_none s p a.a2 (number a.a3) in
     at_flag_aside s p (number a.a0) (refused s) (setimr_at s p (number a.a0) (number a.a1) tag (number a.a3)) (λ c. idle s)
-    (λ c. of_outcomes s (exceeds s p (timer_need (Rattle.std.specs.Prelude.is_some tag))) _ _ (idle s) (parts s (flag_part s c false) (λ x. Rattle.vx_record.specs.Timers.open_timer x p (number a.a0) (number a.a1) tag (number a.a3)) (flag_aside s c false) (same (flag_part s c false).after _ _ refl refl refl refl (refl, tt))))
+    (λ c. of_outcomes s (exceeds s p (timer_need (Rattle.std.specs.Prelude.is_some tag))) _ _ (idle s) (parts s (flag_part s c false) (λ x. Rattle.vx_record.specs.Timers.open_timer x p (number a.a0) (number a.a1) tag (number a.a3)) (flag_aside s c false) (opened (flag_part s c false).after _ _ refl refl refl refl (omega arith) ((refl, omega arith), tt))))
 service_aside s p a CanTim e = timers_aside s _
-service_aside s p a SchdWk e = tested_aside s (scheduled s p (number a.a1) (number a.a2)) (process_test s p (number a.a0)) (λ q. of_outcomes s (exceeds s p (ast_need true)) _ _ (idle s) (same s _ _ refl refl refl refl (refl, tt)))
+service_aside s p a SchdWk e = tested_aside s (scheduled s p (number a.a1) (number a.a2)) (process_test s p (number a.a0)) (λ q. of_outcomes s (exceeds s p (ast_need true)) _ _ (idle s) (opened s _ _ refl refl refl refl (omega arith) ((refl, omega arith), tt)))
 service_aside s p a CanWak e = tested_aside s (unscheduled s) (process_test s p (number a.a0)) (λ q. timers_aside s (is_wake_for q))
 service_aside s p a Hiber e = of_outcomes s (process_at s p).wake _ _ (changed s p (with_wake false) [] refl tt) (changed s p (with_wait (Some wait.Hiber)) [] refl tt)
 service_aside s p a Wake e = tested_aside s (changed_process s (with_wake true)) (process_test s p (number a.a0)) (λ q. changed s q (with_wake true) [] refl tt)
 service_aside s p a Suspnd e = tested_aside s (changed_process s (with_suspension true)) (process_test s p (number a.a0)) (λ q. changed s q (with_suspension true) [] refl tt)
 service_aside s p a Resume e = tested_aside s (changed_process s (with_suspension false)) (process_test s p (number a.a0)) (λ q. changed s q (with_suspension false) [] refl tt)
-service_aside s p a ForceX e = tested_aside s (forced s (number a.a1)) (process_test s p (number a.a0)) (λ q. then s (Rattle.vx_record.specs.State.past_id s) _ (effect.Open (Rattle.vx_record.specs.State.next_id s) Rattle.vx_base.specs.declared.effects.Opened.TheVariants.Force q _ 0 ∷ []) _ (same s _ _ refl refl refl refl (refl, tt)) (que_aside _ q _))
+service_aside s p a ForceX e = tested_aside s (forced s (number a.a1)) (process_test s p (number a.a0)) (λ q. then s (Rattle.vx_record.specs.State.past_id s) _ (effect.Open (Rattle.vx_record.specs.State.next_id s) Rattle.vx_base.specs.declared.effects.Opened.TheVariants.Force q _ 0 ∷ []) _ (opened s _ _ refl refl refl refl (omega arith) ((refl, omega arith), tt)) (que_aside _ q _))
 service_aside s p a CrePrc e = let o = creprc s p (decl_place s (text a.a1)) in numbered_aside s p (place a.a0) (part_of o) o.answer (of_outcomes s (nat_le 1000 (length s.procs)) _ _ (idle s) (new_aside s p (decl_place s (text a.a1))))
 service_aside s p a DelPrc e = tested_aside s (deleted_by s) (process_test s p (number a.a0)) (λ q. deleted_aside s q)
 service_aside s p a Exit e = exited_aside s p (number a.a0)
-service_aside s p a DclExh e = of_outcomes s (is_kernel (current s p)) _ _ (idle s) (then s (Rattle.vx_record.specs.State.past_id s) _ [] _ (same s _ [] refl refl refl refl tt) (changed (Rattle.vx_record.specs.State.past_id s) p (Rattle.vx_record.specs.Rundown.with_handler (Rattle.vx_record.specs.Rundown.new_handler s p (routine s p a.a0 0))) _ refl (refl, tt)))
+service_aside s p a DclExh e =
+    let new = Rattle.vx_record.specs.Rundown.new_handler s p (routine s p a.a0 0) in
+    of_outcomes s (is_kernel (current s p)) _ _ (idle s)
+    (then s (Rattle.vx_record.specs.State.past_id s) _ (effect.Open new.id Rattle.vx_base.specs.declared.effects.Opened.TheVariants.Exh p _ 0 ∷ []) [] (opened s _ _ refl refl refl refl (omega arith) ((refl, omega arith), tt)) (changed (Rattle.vx_record.specs.State.past_id s) p (Rattle.vx_record.specs.Rundown.with_handler new) [] refl tt))
 service_aside s p a CanExh e = of_outcomes s (is_kernel (current s p)) _ _ (idle s) (cancel_handlers_aside s p (routine_or_none s p a.a0 0))
 service_aside s p a Synch e =
     let w = wait.Synch (number a.a0) (number a.a1) in
     of_outcomes s (nat_lt 32 (number a.a1)) (refused_wait s BadParam) (at_flag s p (number a.a0) (refused_wait s) (waits_on s p w)) (idle s) (waits_aside s p (number a.a0) w)
-service_aside s p a GetTim e = changed s p (with_variable (place a.a0) (Rattle.vx_record.specs.Timers.gettim s)) _ refl (refl, tt)
+service_aside s p a GetTim e = changed s p (with_variable (place a.a0) (Rattle.vx_record.specs.Timers.gettim s)) _ refl (tt, tt)
 service_aside s p a v e = absurd (let never : true ≡ false = e in cc)
