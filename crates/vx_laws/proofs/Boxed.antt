@@ -92,6 +92,7 @@ IsOn s p n mode (device.Mailbox b) = row s p n ≡ Some (record { device = devic
 pub record Rooted (s : State) (past : List Item) (r : Request) : Type 0 where
   pub below : r.req.id.0 < s.next
   pub above : 1 ≤ r.req.p.0
+  pub numbered : 1 ≤ r.req.chan
   pub there : IsThere s r.req.device
   pub on : IsOn s r.req.p r.req.chan r.req.chan_mode r.req.device
   pub free : MayBeServed r.served r.req.device
@@ -114,7 +115,7 @@ pub record BoxIs (s : State) (past : List Item) (b : BoxNo) (box : Mailbox) : Ty
 
 -- a channel is on a device that is there, and whose name gave the channel
 abbrev pub RowsAre : State → List Item → Type 0
-RowsAre s past = (p : Pid) (n : ℕ) (ch : Channel) → 1 ≤ p.0 → row s p n ≡ Some ch → IsThere s ch.device × (device_name past p n ≡ Some (device_title s ch.device))
+RowsAre s past = (p : Pid) (n : ℕ) (ch : Channel) → 1 ≤ p.0 → 1 ≤ n → row s p n ≡ Some ch → IsThere s ch.device × (device_name past p n ≡ Some (device_title s ch.device))
 
 pub record Boxed (s : State) (past : List Item) : Type 0 where
   pub rows : RowsAre s past
@@ -131,15 +132,16 @@ pub record Carried (s t : State) (past after : List Item) : Type 0 where
   pub origins : (id : Id) → id.0 < s.next → origin_of after id ≡ origin_of past id
   pub devices : (p : Pid) (n : ℕ) → device_name after p n ≡ device_name past p n
 
-pub rows_on : (s t : State) (past after : List Item) → Carried s t past after → ((p : Pid) (n : ℕ) (ch : Channel) → 1 ≤ p.0 → row t p n ≡ Some ch → row s p n ≡ Some ch) → RowsAre s past → RowsAre t after
-rows_on s t past after c same h p n ch above e =
-    let k = h p n ch above (same p n ch above e) in
+pub rows_on : (s t : State) (past after : List Item) → Carried s t past after → ((p : Pid) (n : ℕ) (ch : Channel) → 1 ≤ p.0 → 1 ≤ n → row t p n ≡ Some ch → row s p n ≡ Some ch) → RowsAre s past → RowsAre t after
+rows_on s t past after c same h p n ch above one e =
+    let k = h p n ch above one (same p n ch above one e) in
     (c.there ch.device k.0, c.devices p n ∙ (k.1 ∙ ap (λ (x : List ℕ). Some x) (sym (c.titles ch.device k.0))))
 
 pub rooted_on : (s t : State) (past after : List Item) → Carried s t past after → (r : Request) → IsOn t r.req.p r.req.chan r.req.chan_mode r.req.device → Rooted s past r → Rooted t after r
 rooted_on s t past after c r on k = record {
   below = omega (arith, k.below, c.next);
   above = k.above;
+  numbered = k.numbered;
   there = c.there r.req.device k.there;
   on = on;
   free = k.free;
@@ -182,7 +184,7 @@ box_on s t past after b box c same alone k = record {
 -- nothing of it changes
 pub carry : (s t : State) (past after : List Item) → Carried s t past after → t.boxes ≡ s.boxes → ((p : Pid) (n : ℕ) → row t p n ≡ row s p n) → ((name : List ℕ) → stored after name ≡ stored past name) → AllByRecursion (Rooted t after) t.requests → Boxed s past → Boxed t after
 carry s t past after c boxes rows same requests h = record {
-  rows = rows_on s t past after c (λ p n ch above e. sym (rows p n) ∙ e) h.rows;
+  rows = rows_on s t past after c (λ p n ch above one e. sym (rows p n) ∙ e) h.rows;
   requests = requests;
   boxes = λ b box e. box_on s t past after b box c (same box.name) (λ d other f. (h.boxes b box (at b e)).alone d other (at d f)) (h.boxes b box (at b e));
   others = λ name e. same name ∙ h.others name (ap (λ (l : List (Option Mailbox)). list_any (is_box_of name) l) (sym boxes) ∙ e);
@@ -273,9 +275,6 @@ any_kept p (x ∷ xs) (suc i) a d h = rw (any_kept p xs i a d h) refl
 abbrev pub name_of_box : Option Mailbox → List ℕ
 name_of_box o = (or_no_box o).name
 
-abbrev pub restocked : Mailbox → List Msg → Mailbox
-restocked box ms = record box { messages = ms }
-
 pub any_at : {A : Type 0} (p : A → Bool) (l : List A) (i : ℕ) (d : A) → i < length l → p (get_or l i d) ≡ true → list_any p l ≡ true
 any_at p [] i d k e = absurd (omega (arith, k))
 any_at p (x ∷ xs) zero d k e = rw e refl
@@ -295,55 +294,52 @@ was_there s b c o other apart e = sym (get_or-set_other s.boxes b.0 c.0 o None a
 pub put_there : (s : State) (b c : BoxNo) (o : Option Mailbox) → c.0 ≡ b.0 → b.0 < length s.boxes → box_at (with_box s b o) c ≡ o
 put_there s b c o same k = get_or-set_at s.boxes b.0 c.0 o None same k
 
-pub restock : (s : State) (b : BoxNo) (box : Mailbox) (ms : List Msg) (past after : List Item) → box_at s b ≡ Some box → ((id : Id) → origin_of after id ≡ origin_of past id) → ((p : Pid) (n : ℕ) → device_name after p n ≡ device_name past p n) →
-    map as_stored ms ≡ stored after box.name → ((name : List ℕ) → name ≢ box.name → stored after name ≡ stored past name) → AreOrdered message_id 0 s.next ms → AllByRecursion (λ m. owner_of past m.id ≡ Some m.writer) ms → Boxed s past → Boxed (with_box s b (Some (restocked box ms))) after
-restock s b box ms past after is origins devices here else ids writers h = record {
-  rows = rows_on s t past after c (λ p n ch above e. e) h.rows;
+pub restock : (s : State) (b : BoxNo) (box new : Mailbox) (past after : List Item) → box_at s b ≡ Some box → new.name ≡ box.name → ((id : Id) → origin_of after id ≡ origin_of past id) → ((p : Pid) (n : ℕ) → device_name after p n ≡ device_name past p n) →
+    map as_stored new.messages ≡ stored after box.name → ((name : List ℕ) → name ≢ box.name → stored after name ≡ stored past name) → AreOrdered message_id 0 s.next new.messages → AllByRecursion (λ m. owner_of past m.id ≡ Some m.writer) new.messages → Boxed s past → Boxed (with_box s b (Some new)) after
+restock s b box new past after is title origins devices here else ids writers h = record {
+  rows = rows_on s t past after c (λ p n ch above one e. e) h.rows;
   requests = all_rooted s t past after c (λ p n. refl) s.requests h.requests;
   boxes = λ d other e. elim (cases_eq d.0 b.0) [ inl same ↦ at_here d other same e | inr apart ↦ at_other d other apart (was_there s b d (Some new) other apart e) ];
   others = λ name e.
-      let none : list_any (is_box_of name) s.boxes ≡ false = sym (any_kept (is_box_of name) s.boxes b.0 (Some new) None (rw is refl)) ∙ e in
+      let none : list_any (is_box_of name) s.boxes ≡ false = sym (any_kept (is_box_of name) s.boxes b.0 (Some new) None (rw (is, title) refl)) ∙ e in
       else name (λ same. let yes : list_any (is_box_of name) s.boxes ≡ true = any_at (is_box_of name) s.boxes b.0 None within (rw is ((bytes_eq-Decides box.name name).1 (sym same))) in cc) ∙ h.others name none;
 }
   where
-    new : Mailbox
-    new = restocked box ms
-
     t : State
-    t = with_box s b (Some (restocked box ms))
+    t = with_box s b (Some new)
 
     within : b.0 < length s.boxes
     within = some_within s.boxes b.0 box is
 
-    there_on : (d : Device) → IsThere s d → IsThere (with_box s b (Some (restocked box ms))) d
+    there_on : (d : Device) → IsThere s d → IsThere (with_box s b (Some new)) d
     there_on (device.Unit u) k = k
-    there_on (device.Mailbox d) k = subst IsTrue (sym (kept_at is_some s.boxes b.0 d.0 (Some (restocked box ms)) None (rw is refl))) k
+    there_on (device.Mailbox d) k = subst IsTrue (sym (kept_at is_some s.boxes b.0 d.0 (Some new) None (rw is refl))) k
 
-    titled_on : (d : Device) → device_title (with_box s b (Some (restocked box ms))) d ≡ device_title s d
+    titled_on : (d : Device) → device_title (with_box s b (Some new)) d ≡ device_title s d
     titled_on (device.Unit u) = refl
-    titled_on (device.Mailbox d) = kept_at name_of_box s.boxes b.0 d.0 (Some (restocked box ms)) None (rw is refl)
+    titled_on (device.Mailbox d) = kept_at name_of_box s.boxes b.0 d.0 (Some new) None (rw (is, title) refl)
 
-    c : Carried s (with_box s b (Some (restocked box ms))) past after
+    c : Carried s (with_box s b (Some new)) past after
     c = record { system = refl; there = there_on; titles = λ d k. titled_on d; next = omega arith; origins = λ id k. origins id; devices = devices }
 
     k : BoxIs s past b box
     k = h.boxes b box is
 
-    named : (d : BoxNo) (other : Mailbox) → d.0 ≡ b.0 → box_at (with_box s b (Some (restocked box ms))) d ≡ Some other → restocked box ms ≡ other
-    named d other same e = some_same (restocked box ms) other (sym (put_there s b d (Some (restocked box ms)) same within) ∙ e)
+    named : (d : BoxNo) (other : Mailbox) → d.0 ≡ b.0 → box_at (with_box s b (Some new)) d ≡ Some other → new ≡ other
+    named d other same e = some_same (new) other (sym (put_there s b d (Some new) same within) ∙ e)
 
-    at_here : (d : BoxNo) (other : Mailbox) → d.0 ≡ b.0 → box_at (with_box s b (Some (restocked box ms))) d ≡ Some other → BoxIs (with_box s b (Some (restocked box ms))) after d other
-    at_here d other same e = subst (BoxIs (with_box s b (Some (restocked box ms))) after d) (named d other same e) (record {
-      messages = here;
+    at_here : (d : BoxNo) (other : Mailbox) → d.0 ≡ b.0 → box_at (with_box s b (Some new)) d ≡ Some other → BoxIs (with_box s b (Some new)) after d other
+    at_here d other same e = subst (BoxIs (with_box s b (Some new)) after d) (named d other same e) (record {
+      messages = rw title here;
       ids = ids;
-      writers = writers_on s.next past after (λ id below. origins id) ms ids writers;
-      unit = k.unit;
-      alone = λ a o f g. elim (cases_eq a.0 b.0) [ inl x ↦ x ∙ sym same | inr x ↦ k.alone a o (was_there s b a (Some (restocked box ms)) o x f) g ∙ sym same ];
+      writers = writers_on s.next past after (λ id below. origins id) new.messages ids writers;
+      unit = rw title k.unit;
+      alone = λ a o f g. elim (cases_eq a.0 b.0) [ inl x ↦ x ∙ sym same | inr x ↦ k.alone a o (was_there s b a (Some new) o x f) (g ∙ title) ∙ sym same ];
     })
 
-    at_other : (d : BoxNo) (other : Mailbox) → d.0 ≢ b.0 → box_at s d ≡ Some other → BoxIs (with_box s b (Some (restocked box ms))) after d other
+    at_other : (d : BoxNo) (other : Mailbox) → d.0 ≢ b.0 → box_at s d ≡ Some other → BoxIs (with_box s b (Some new)) after d other
     at_other d other apart e =
         let j = h.boxes d other e in
         let differ : other.name ≢ box.name = λ same. apart (k.alone d other e same) in
-        box_on s (with_box s b (Some (restocked box ms))) past after d other c (else other.name differ)
-        (λ a o f g. elim (cases_eq a.0 b.0) [ inl x ↦ absurd (differ (sym g ∙ sym (ap (λ (y : Mailbox). y.name) (named a o x f)))) | inr x ↦ j.alone a o (was_there s b a (Some (restocked box ms)) o x f) g ]) j
+        box_on s (with_box s b (Some new)) past after d other c (else other.name differ)
+        (λ a o f g. elim (cases_eq a.0 b.0) [ inl x ↦ absurd (differ (sym g ∙ (sym (ap (λ (y : Mailbox). y.name) (named a o x f)) ∙ title))) | inr x ↦ j.alone a o (was_there s b a (Some new) o x f) g ]) j
