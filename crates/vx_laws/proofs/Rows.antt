@@ -110,7 +110,7 @@ gone_rooted s b past name none r k =
       len = k.len;
     }
 
-not_named : (x y : List ℕ) → (x ≡ y → ⊥) → bytes_eq x y ≡ false
+pub not_named : (x y : List ℕ) → (x ≡ y → ⊥) → bytes_eq x y ≡ false
 not_named x y n = false_from _ (λ e. n ((bytes_eq-Decides x y).0 e))
 
 pub gone_boxed : (s : State) (b : BoxNo) (box : Mailbox) (past : List Item) → box_at s b ≡ Some box → is_assigned s b ≡ false → Boxed s past → Boxed (with_box s b None) (Did (effect.Mbx box.name false) ∷ past)
