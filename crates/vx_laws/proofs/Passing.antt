@@ -171,6 +171,12 @@ fin_boxed s past id c h =
     let k : Carried s t past after = record { system = refl; there = there_as s t refl refl; titles = λ d j. title_as s t refl refl d; next = omega arith; origins = λ i j. origin_on (Did (effect.Fin id c)) past i tt; devices = λ p n. refl } in
     carry s t past after k refl (λ p n. refl) (λ name. refl) (all_less (Rooted t after) (this_request id) s.requests (all_rooted s t past after k (λ p n. refl) s.requests h.requests)) h
 
+pub finish_fewer : (s : State) (r : Request) (e : Ending) → Fewer s (finish s r e).after
+finish_fewer s r e =
+    let a = (behind_fin s r e).after in
+    let k = finish_rest s r e in
+    fewer_then s a (finish s r e).after (record { reads = λ b j. any_less (waits_at b) (this_request r.req.id) s.requests j; empty = λ b j. j }) (fewer_same a (finish s r e).after k.requests k.boxes)
+
 pub finish_walk : (s : State) (past : List Item) (r : Request) (e : Ending) (more : List Effect) → IsPlainCall past → MayFin past r.req.id e.0.cond → Boxed s past → Walk s past (finish s r e) more
 finish_walk s past r e more calm may h =
     let a = (behind_fin s r e).after in
@@ -179,7 +185,7 @@ finish_walk s past r e more calm may h =
     record {
       boxed = aside_boxed a (finish s r e).after (finish_tail s r e) (Did x ∷ past) k calm (fin_boxed s past r.req.id e.0.cond h);
       lawful = (λ rest left. may, aside_lawful a.next (finish_tail s r e) (Did x ∷ past) more k.effects);
-      fewer = fewer_then s a (finish s r e).after (record { reads = λ b j. any_less (waits_at b) (this_request r.req.id) s.requests j; empty = λ b j. j }) (fewer_same a (finish s r e).after k.requests k.boxes);
+      fewer = finish_fewer s r e;
     }
 
 pub found_walk : (s : State) (past : List Item) (o : Option Request) (e : Ending) (more : List Effect) → IsPlainCall past → is_cond e.0.cond Cancelled ≡ false → Boxed s past → Walk s past (finish_found s o e) more
