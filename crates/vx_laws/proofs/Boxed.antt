@@ -90,6 +90,7 @@ IsOn s p n mode (device.Mailbox b) = row s p n ≡ Some (record { device = devic
 
 -- an outstanding request, with what its OPEN tells
 pub record Rooted (s : State) (past : List Item) (r : Request) : Type 0 where
+  pub from : 1 ≤ r.req.id.0
   pub below : r.req.id.0 < s.next
   pub above : 1 ≤ r.req.p.0
   pub numbered : 1 ≤ r.req.chan
@@ -118,6 +119,7 @@ abbrev pub RowsAre : State → List Item → Type 0
 RowsAre s past = (p : Pid) (n : ℕ) (ch : Channel) → 1 ≤ p.0 → 1 ≤ n → row s p n ≡ Some ch → IsThere s ch.device × (device_name past p n ≡ Some (device_title s ch.device))
 
 pub record Boxed (s : State) (past : List Item) : Type 0 where
+  pub counted : 1 ≤ s.next
   pub rows : RowsAre s past
   pub requests : AllByRecursion (Rooted s past) s.requests
   pub boxes : (b : BoxNo) (box : Mailbox) → box_at s b ≡ Some box → BoxIs s past b box
@@ -139,6 +141,7 @@ rows_on s t past after c same h p n ch above one e =
 
 pub rooted_on : (s t : State) (past after : List Item) → Carried s t past after → (r : Request) → IsOn t r.req.p r.req.chan r.req.chan_mode r.req.device → Rooted s past r → Rooted t after r
 rooted_on s t past after c r on k = record {
+  from = k.from;
   below = omega (arith, k.below, c.next);
   above = k.above;
   numbered = k.numbered;
@@ -184,6 +187,7 @@ box_on s t past after b box c same alone k = record {
 -- nothing of it changes
 pub carry : (s t : State) (past after : List Item) → Carried s t past after → t.boxes ≡ s.boxes → ((p : Pid) (n : ℕ) → row t p n ≡ row s p n) → ((name : List ℕ) → stored after name ≡ stored past name) → AllByRecursion (Rooted t after) t.requests → Boxed s past → Boxed t after
 carry s t past after c boxes rows same requests h = record {
+  counted = omega (arith, h.counted, c.next);
   rows = rows_on s t past after c (λ p n ch above one e. sym (rows p n) ∙ e) h.rows;
   requests = requests;
   boxes = λ b box e. box_on s t past after b box c (same box.name) (λ d other f. (h.boxes b box (at b e)).alone d other (at d f)) (h.boxes b box (at b e));
@@ -297,6 +301,7 @@ put_there s b c o same k = get_or-set_at s.boxes b.0 c.0 o None same k
 pub restock : (s : State) (b : BoxNo) (box new : Mailbox) (past after : List Item) → box_at s b ≡ Some box → new.name ≡ box.name → ((id : Id) → origin_of after id ≡ origin_of past id) → ((p : Pid) (n : ℕ) → device_name after p n ≡ device_name past p n) →
     map as_stored new.messages ≡ stored after box.name → ((name : List ℕ) → name ≢ box.name → stored after name ≡ stored past name) → AreOrdered message_id 0 s.next new.messages → AllByRecursion (λ m. owner_of past m.id ≡ Some m.writer) new.messages → Boxed s past → Boxed (with_box s b (Some new)) after
 restock s b box new past after is title origins devices here else ids writers h = record {
+  counted = h.counted;
   rows = rows_on s t past after c (λ p n ch above one e. e) h.rows;
   requests = all_rooted s t past after c (λ p n. refl) s.requests h.requests;
   boxes = λ d other e. elim (cases_eq d.0 b.0) [ inl same ↦ at_here d other same e | inr apart ↦ at_other d other apart (was_there s b d (Some new) other apart e) ];

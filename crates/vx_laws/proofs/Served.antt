@@ -244,7 +244,7 @@ waiting_reads : (f : Func) → is_waiting_func f ≡ true → is_read f ≡ true
 waiting_reads Read e = refl
 waiting_reads f e = absurd (let never : false ≡ true = e in cc)
 
-find_any : {A : Type 0} (p : A → Bool) (xs : List A) (x : A) → find p xs ≡ Some x → list_any p xs ≡ true
+pub find_any : {A : Type 0} (p : A → Bool) (xs : List A) (x : A) → find p xs ≡ Some x → list_any p xs ≡ true
 find_any p [] x e = absurd (let never : None ≡ Some x = e in cc)
 find_any p (y ∷ ys) x e = at (p y) (λ k. find_any p ys x k) e
   where
@@ -252,7 +252,7 @@ find_any p (y ∷ ys) x e = at (p y) (λ k. find_any p ys x k) e
     at true k e = refl
     at false k e = k e
 
-find_no : {A : Type 0} (p : A → Bool) (xs : List A) → find p xs ≡ None → list_any p xs ≡ false
+pub find_no : {A : Type 0} (p : A → Bool) (xs : List A) → find p xs ≡ None → list_any p xs ≡ false
 find_no p [] e = refl
 find_no p (y ∷ ys) e = at (p y) (λ k. find_no p ys k) e
   where
