@@ -149,7 +149,7 @@ hands_none name w [] h = refl
 hands_none name w (effect.MGet a b c ∷ es) h = absurd h.0
 hands_none name w (x ∷ es) h = refl
 
-taken_none : (id : Id) (es : List Effect) → AllByRecursion IsNoGet es → list_any (is_taken_by id) es ≡ false
+pub taken_none : (id : Id) (es : List Effect) → AllByRecursion IsNoGet es → list_any (is_taken_by id) es ≡ false
 taken_none id [] h = refl
 taken_none id (effect.MGet a b c ∷ es) h = absurd h.0
 taken_none id (x ∷ es) h = taken_none id es h.1
@@ -196,7 +196,7 @@ pub record Newest (s : State) (old : List Request) (r : Request) : Type 0 where
 same_box : (b c : BoxNo) → b.0 ≡ c.0 → b ≡ c
 same_box b c e = ap (λ (n : ℕ). let x : BoxNo = record { 0 = n } in x) e
 
-last_any : (p : Request → Bool) (old : List Request) (r : Request) → list_any p (old ++ r ∷ []) ≡ true → (list_any p old ≡ true) ⊎ (p r ≡ true)
+pub last_any : (p : Request → Bool) (old : List Request) (r : Request) → list_any p (old ++ r ∷ []) ≡ true → (list_any p old ≡ true) ⊎ (p r ≡ true)
 last_any p [] r e = elim (or_cases (p r) false e) [ inl x ↦ inr x | inr x ↦ absurd (let never : false ≡ true = x in cc) ]
 last_any p (y ∷ old) r e = elim (or_cases (p y) (list_any p (old ++ r ∷ [])) e) [ inl x ↦ inl (rw x refl) | inr x ↦ elim (last_any p old r x) [ inl z ↦ inl (or_second (p y) (list_any p old) z) | inr z ↦ inr z ] ]
   where
@@ -240,7 +240,7 @@ read_serving s past b box r old is on root reads calm new h =
 
 -- Writes and ends of file.
 
-waiting_reads : (f : Func) → is_waiting_func f ≡ true → is_read f ≡ true
+pub waiting_reads : (f : Func) → is_waiting_func f ≡ true → is_read f ≡ true
 waiting_reads Read e = refl
 waiting_reads f e = absurd (let never : false ≡ true = e in cc)
 
