@@ -95,8 +95,8 @@ use Rattle.vx_laws.proofs.Kept.{moves_stand}
 use Rattle.vx_laws.proofs.Listed.{Listed, moves_listed}
 use Rattle.vx_laws.proofs.Oldest.{oldest_is}
 use Rattle.vx_laws.proofs.Opens.{requests_told}
-use Rattle.vx_laws.proofs.Passing.{Right, Lawful, lawful_both, Walk, walk_then, walk_aside, IsPlainCall, plain_over, latest_over, Fewer, fewer_same, IsSingle, single_on, unit_stores, mailbox_is}
-use Rattle.vx_laws.proofs.Served.{Newest, Serving, Writes, read_serving, write_serving, wait_no_get, taken_none}
+use Rattle.vx_laws.proofs.Passing.{Right, Lawful, lawful_both, Walk, walk_then, walk_aside, IsPlainCall, plain_over, latest_over, Fewer, fewer_same, IsSingle, single_on, unit_stores, mailbox_is, Serving, serving, serving_then, serving_on, aside_lawful}
+use Rattle.vx_laws.proofs.Served.{Newest, Writes, read_serving, write_serving, wait_no_get, taken_none}
 use Rattle.vx_laws.proofs.Moves.{Moves}
 
 -- What a test accepted.
@@ -193,7 +193,7 @@ open_boxed s p q ch past k mode n g =
       origins = λ id below. origin_on x past id (λ same. omega (arith, below, same));
       devices = λ p n. refl;
     } in
-    carry s t past (x ∷ past) c refl (λ p n. refl) (λ name. refl) (all_append (Rooted t (x ∷ past)) s.requests (r ∷ []) (all_rooted s t past (x ∷ past) c (λ p n. refl) s.requests g.boxed.requests) (new_rooted s p q ch past k mode n g, tt)) g.boxed
+    carry s t past (x ∷ past) c refl (λ p n. refl) (λ name. refl) (Rattle.vx_record.proofs.Lists.ordered_more request_id 0 s.next s.requests r refl g.boxed.ordered) (all_append (Rooted t (x ∷ past)) s.requests (r ∷ []) (all_rooted s t past (x ∷ past) c (λ p n. refl) s.requests g.boxed.requests) (new_rooted s p q ch past k mode n g, tt)) g.boxed
 
 open_right : (s : State) (p : Pid) (q : Asked) (ch : Channel) (past : List Item) (k : Opened) (mode : Option Mode) (n : ℕ) (left : List Effect) → is_request k ≡ true → Ready s past p q ch → (is_read q.func ≡ true → takes_stored (next_id s) left (stored past (device_title s ch.device)) ≡ true) → Right past (effect.Open (next_id s) k p mode n) left
 open_right s p q ch past k mode n left is g takes =
@@ -297,3 +297,72 @@ box_serving s p q ch past k mode n b box on is req g moves =
           oldest = ap (λ (y : Mailbox). oldest_read after y.name) (mailbox_is t b box is) ∙ oldest_is t after b box is base (λ id. requests_told t after id stands listed) boxed;
           single = single_now writes;
         }
+
+-- A request on a unit waits there.
+unit_serving : (s : State) (p : Pid) (q : Asked) (ch : Channel) (past : List Item) (k : Opened) (mode : Option Mode) (n : ℕ) (u : UnitNo) → ch.device ≡ device.Unit u → is_request k ≡ true → Ready s past p q ch →
+    Serving past (tells (effect.Open (next_id s) k p mode n) (with_request (past_id s) (new_request s p q ch)))
+unit_serving s p q ch past k mode n u on req g =
+    let at = g.boxed.rows p q.chan ch g.above g.numbered g.row in
+    let empty : stored past (device_title s ch.device) ≡ [] = subst (λ (d : Device). IsThere s d → stored past (device_title s d) ≡ []) (sym on) (λ there. unit_stores s past u there g.boxed) at.0 in
+    record {
+      boxed = open_boxed s p q ch past k mode n g;
+      lawful = (open_right s p q ch past k mode n [] req g (λ reads. rw empty refl), tt);
+      single = λ c e.
+          elim (Rattle.vx_laws.proofs.Served.last_any (waits_at c) s.requests (new_request s p q ch) e) [
+            | Rattle.std.proofs.Common.inl x ↦ g.single c x
+            | Rattle.std.proofs.Common.inr x ↦ absurd (let never : false ≡ true = subst (λ (d : Device). is_box c d ≡ true) on (and_parts (is_box c ch.device) (is_waiting_func q.func) x).0 in cc)
+          ];
+    }
+
+some_box : (s : State) (b : BoxNo) (o : Option Mailbox) → box_at s b ≡ o → IsTrue (is_some o) → (box : Mailbox) × (box_at s b ≡ Some box)
+some_box s b None e k = absurd (let never : false ≡ true = k in cc)
+some_box s b (Some box) e k = (box, e)
+
+one_serving : (s : State) (p : Pid) (q : Asked) (ch : Channel) (past : List Item) (k : Opened) (mode : Option Mode) (n : ℕ) → is_request k ≡ true → Ready s past p q ch →
+    let t = with_request (past_id s) (new_request s p q ch) in
+    Moves s None (effect.Open (next_id s) k p mode n ∷ []) t None → Serving past (and_then (tells (effect.Open (next_id s) k p mode n) t) (λ a. begun_on a (new_request s p q ch) ch.device))
+one_serving s p q ch past k mode n req g moves = by_device ch.device refl (g.boxed.rows p q.chan ch g.above g.numbered g.row).0
+  where
+    by_device : (d : Device) → ch.device ≡ d → IsThere s d → Serving past (and_then (tells (effect.Open (next_id s) k p mode n) (with_request (past_id s) (new_request s p q ch))) (λ a. begun_on a (new_request s p q ch) d))
+    by_device (device.Unit u) on there = unit_serving s p q ch past k mode n u on req g
+    by_device (device.Mailbox b) on there = let box = some_box s b (box_at s b) refl there in box_serving s p q ch past k mode n b box.0 on box.1 req g moves
+
+pub transfer_serving : (s : State) (p : Pid) (q : Asked) (ch : Channel) (past : List Item) → is_attention q.func ≡ false → HasRoom s p q ch → Here s p → Ready s past p q ch → Serving past (transfer s p q ch)
+transfer_serving s p q ch past calm room here g =
+    either (λ (x : Part). PartMoves s x → Serving past (and_then x (λ a. begun_on a (new_request s p q ch) ch.device))) (is_direct s ch.device) _ _ (λ m. one_serving s p q ch past opened.Dio _ 0 refl g m) (λ m. one_serving s p q ch past opened.Bio _ _ refl g m)
+    (opened_request_moves s p q ch here.made calm room)
+
+-- A request that is accepted.
+pub record Going (s : State) (past : List Item) : Type 0 where
+  pub stands : Stands s None past
+  pub listed : Listed s None past
+  pub boxed : Boxed s past
+  pub single : IsSingle s
+
+pub accepted_serving : (s : State) (p : Pid) (q : Asked) (to : Cell × Channel) (past : List Item) → request_test s p q ≡ Ok to → Here s p → IsAsking past p q → Going s past → Serving past (accepted s p q to.0 to.1)
+accepted_serving s p q to past is here asks g =
+    let a = cleared_part s p q to.0 in
+    let t = a.after in
+    let k = cleared_aside s p q to.0 in
+    let m : PartMoves s a = cleared_after s p q to is here in
+    let past1 = later past (map Did a.effects) in
+    let tested = tested_channel s p q.chan to.1 (request_test_row s p q to is) in
+    let there = here_after s p None a.effects t None m here in
+    let boxed = aside_boxed s t a.effects past k asks.calm g.boxed in
+    let single = single_on s t (fewer_same s t k.requests k.boxes) g.single in
+    let ready : Ready t past1 p q to.1 = record {
+      asking = asking_over past a.effects p q asks;
+      above = here.made.above;
+      numbered = leb-true 1 q.chan (and_parts _ _ tested.0).0;
+      row = k.rows p q.chan ∙ tested.1;
+      base = there.base;
+      stands = moves_stand s None a.effects t None past m here.base g.stands;
+      listed = moves_listed s None a.effects t None past m here.base g.stands g.listed;
+      boxed = boxed;
+      single = single;
+    } in
+    let room : HasRoom t p q to.1 = room_after s p q to is here.made in
+    let asked_attention = attention_on t p q to.1.device q.ast in
+    serving_then s past a (λ x. asked_of x p q to.1) (walk_aside s past a ((asked_of t p q to.1).effects ++ []) k asks.calm g.boxed)
+    (either_by (λ (y : Part). Serving past1 y) (is_attention q.func) asked_attention (transfer t p q to.1) (λ y. serving t past1 asked_attention (walk_aside t past1 asked_attention [] (attention_on_aside t p q to.1.device q.ast) ready.asking.calm boxed) single)
+    (λ n. transfer_serving t p q to.1 past1 n room there ready))

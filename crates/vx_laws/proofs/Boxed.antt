@@ -21,7 +21,7 @@ use Rattle.vx_base.specs.declared.request.Msg.{Msg}
 use Rattle.vx_record.specs.Channels.{is_box_of, is_unit_of}
 use Rattle.vx_record.specs.Mailboxes.{mailbox_at, or_no_box, with_messages}
 use Rattle.vx_record.specs.Services.{number, function}
-use Rattle.vx_record.specs.Sound.{AreOrdered, MayBeServed}
+use Rattle.vx_record.specs.Sound.{AreOrdered, MayBeServed, request_id}
 use Rattle.vx_record.specs.State.{State, box_at, with_box}
 use Rattle.vx_record.proofs.Lists.{either, either_by, all_weaker, all_both, ordered_below}
 use Rattle.vx_laws.specs.Agrees.{as_stored, device_title}
@@ -120,6 +120,7 @@ RowsAre s past = (p : Pid) (n : ℕ) (ch : Channel) → 1 ≤ p.0 → 1 ≤ n �
 
 pub record Boxed (s : State) (past : List Item) : Type 0 where
   pub counted : 1 ≤ s.next
+  pub ordered : AreOrdered request_id 0 s.next s.requests
   pub rows : RowsAre s past
   pub requests : AllByRecursion (Rooted s past) s.requests
   pub boxes : (b : BoxNo) (box : Mailbox) → box_at s b ≡ Some box → BoxIs s past b box
@@ -185,9 +186,10 @@ box_on s t past after b box c same alone k = record {
 }
 
 -- nothing of it changes
-pub carry : (s t : State) (past after : List Item) → Carried s t past after → t.boxes ≡ s.boxes → ((p : Pid) (n : ℕ) → row t p n ≡ row s p n) → ((name : List ℕ) → stored after name ≡ stored past name) → AllByRecursion (Rooted t after) t.requests → Boxed s past → Boxed t after
-carry s t past after c boxes rows same requests h = record {
+pub carry : (s t : State) (past after : List Item) → Carried s t past after → t.boxes ≡ s.boxes → ((p : Pid) (n : ℕ) → row t p n ≡ row s p n) → ((name : List ℕ) → stored after name ≡ stored past name) → AreOrdered request_id 0 t.next t.requests → AllByRecursion (Rooted t after) t.requests → Boxed s past → Boxed t after
+carry s t past after c boxes rows same ordered requests h = record {
   counted = omega (arith, h.counted, c.next);
+  ordered = ordered;
   rows = rows_on s t past after c (λ p n ch above one e. sym (rows p n) ∙ e) h.rows;
   requests = requests;
   boxes = λ b box e. box_on s t past after b box c (same box.name) (λ d other f. (h.boxes b box (at b e)).alone d other (at d f)) (h.boxes b box (at b e));
@@ -248,14 +250,14 @@ aside_carried s t es past k calm = record {
 pub aside_boxed : (s t : State) (es : List Effect) (past : List Item) → Aside s es t → named_in (latest_call past) ≡ None → Boxed s past → Boxed t (later past (map Did es))
 aside_boxed s t es past k calm h =
     let c = aside_carried s t es past k calm in
-    carry s t past (later past (map Did es)) c k.boxes k.rows (λ name. stored_past s.next es past name k.effects)
+    carry s t past (later past (map Did es)) c k.boxes k.rows (λ name. stored_past s.next es past name k.effects) (subst (λ (l : List Request). AreOrdered request_id 0 t.next l) (sym k.requests) (ordered_below request_id 0 s.next t.next s.requests k.next h.ordered))
     (subst (λ (l : List Request). AllByRecursion (Rooted t (later past (map Did es))) l) (sym k.requests) (all_rooted s t past (later past (map Did es)) c k.rows s.requests h.requests)) h
 
 -- A head opens nothing and puts nothing.
 pub head_boxed : (s : State) (past : List Item) (e : Rattle.vx_base.specs.declared.record.Event.Event) (a : Rattle.vx_base.specs.declared.record.Answer.Answer) → Boxed s past → Boxed s (Head e a ∷ past)
 head_boxed s past e a h =
     let c : Carried s s past (Head e a ∷ past) = record { system = refl; there = λ d k. k; titles = λ d k. refl; next = omega arith; origins = λ id k. origin_on (Head e a) past id tt; devices = λ p n. refl } in
-    carry s s past (Head e a ∷ past) c refl (λ p n. refl) (λ name. refl) (all_rooted s s past (Head e a ∷ past) c (λ p n. refl) s.requests h.requests) h
+    carry s s past (Head e a ∷ past) c refl (λ p n. refl) (λ name. refl) h.ordered (all_rooted s s past (Head e a ∷ past) c (λ p n. refl) s.requests h.requests) h
 
 -- The messages of a mailbox that stands.
 
@@ -302,6 +304,7 @@ pub restock : (s : State) (b : BoxNo) (box new : Mailbox) (past after : List Ite
     map as_stored new.messages ≡ stored after box.name → ((name : List ℕ) → name ≢ box.name → stored after name ≡ stored past name) → AreOrdered message_id 0 s.next new.messages → AllByRecursion (λ m. owner_of past m.id ≡ Some m.writer) new.messages → Boxed s past → Boxed (with_box s b (Some new)) after
 restock s b box new past after is title origins devices here else ids writers h = record {
   counted = h.counted;
+  ordered = h.ordered;
   rows = rows_on s t past after c (λ p n ch above one e. e) h.rows;
   requests = all_rooted s t past after c (λ p n. refl) s.requests h.requests;
   boxes = λ d other e. elim (cases_eq d.0 b.0) [ inl same ↦ at_here d other same e | inr apart ↦ at_other d other apart (was_there s b d (Some new) other apart e) ];

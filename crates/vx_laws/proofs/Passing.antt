@@ -169,7 +169,7 @@ fin_boxed s past id c h =
     let t = (fin_part s id c).after in
     let after = Did (effect.Fin id c) ∷ past in
     let k : Carried s t past after = record { system = refl; there = there_as s t refl refl; titles = λ d j. title_as s t refl refl d; next = omega arith; origins = λ i j. origin_on (Did (effect.Fin id c)) past i tt; devices = λ p n. refl } in
-    carry s t past after k refl (λ p n. refl) (λ name. refl) (all_less (Rooted t after) (this_request id) s.requests (all_rooted s t past after k (λ p n. refl) s.requests h.requests)) h
+    carry s t past after k refl (λ p n. refl) (λ name. refl) (Rattle.vx_record.proofs.Lists.ordered_less Rattle.vx_record.specs.Sound.request_id (this_request id) 0 s.next s.requests h.ordered) (all_less (Rooted t after) (this_request id) s.requests (all_rooted s t past after k (λ p n. refl) s.requests h.requests)) h
 
 pub finish_fewer : (s : State) (r : Request) (e : Ending) → Fewer s (finish s r e).after
 finish_fewer s r e =
@@ -240,3 +240,27 @@ stored_less w (m ∷ ms) =
 
 pub mailbox_is : (s : State) (b : BoxNo) (box : Mailbox) → box_at s b ≡ Some box → mailbox_at s b ≡ box
 mailbox_is s b box is = ap (λ (o : Option Mailbox). Rattle.vx_record.specs.Mailboxes.or_no_box o) is
+
+-- one part and then another that is done to the end
+pub record Serving (past : List Item) (a : Part) : Type 0 where
+  pub boxed : Boxed a.after (later past (map Did a.effects))
+  pub lawful : Lawful past a.effects []
+  pub single : IsSingle a.after
+
+pub serving : (s : State) (past : List Item) (a : Part) → Walk s past a [] → IsSingle s → Serving past a
+serving s past a w k = record { boxed = w.boxed; lawful = w.lawful; single = single_on s a.after w.fewer k }
+
+pub serving_then : (s : State) (past : List Item) (a : Part) (f : State → Part) → Walk s past a ((f a.after).effects ++ []) → Serving (later past (map Did a.effects)) (f a.after) → Serving past (and_then a f)
+serving_then s past a f h k = record {
+  boxed = subst (λ (l : List Item). Boxed (f a.after).after l) (sym (later_both past a.effects (f a.after).effects)) k.boxed;
+  lawful = lawful_both past a.effects (f a.after).effects [] h.lawful k.lawful;
+  single = k.single;
+}
+
+-- and a change that lies aside
+pub serving_on : (past : List Item) (a : Part) (t : State) → Serving past a → Aside a.after [] t → IsPlainCall past → Serving past (record { effects = a.effects; after = t })
+serving_on past a t h k calm = record {
+  boxed = aside_boxed a.after t [] (later past (map Did a.effects)) k (plain_over past a.effects calm) h.boxed;
+  lawful = h.lawful;
+  single = single_on a.after t (fewer_same a.after t k.requests k.boxes) h.single;
+}

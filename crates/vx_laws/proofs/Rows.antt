@@ -60,6 +60,7 @@ freed_boxed s p n past above one clear h =
     let c : Carried s t past past = record { system = refl; there = there_as s t refl refl; titles = λ d k. title_as s t refl refl d; next = omega arith; origins = λ id k. refl; devices = λ p n. refl } in
     record {
       counted = h.counted;
+      ordered = h.ordered;
       rows = rows_on s t past past c (λ q m ch up low e. elim (row_written s p q n m None ch e) [ inl k ↦ absurd (let never : None ≡ Some ch = k in cc) | inr k ↦ k ]) h.rows;
       requests = all_weaker (λ (r : Request). Rooted s past r × ((is_on_box r.req.device && is_request_on p n r) ≡ false)) (Rooted t past)
           (λ r k. rooted_on s t past past c r (on_stays r.req.p r.req.chan r.req.chan_mode r.req.device k.0.above k.0.numbered k.1 k.0.on) k.0) s.requests
@@ -118,6 +119,7 @@ not_named x y n = false_from _ (λ e. n ((bytes_eq-Decides x y).0 e))
 pub gone_boxed : (s : State) (b : BoxNo) (box : Mailbox) (past : List Item) → box_at s b ≡ Some box → is_assigned s b ≡ false → Boxed s past → Boxed (with_box s b None) (Did (effect.Mbx box.name false) ∷ past)
 gone_boxed s b box past is none h = record {
   counted = h.counted;
+  ordered = h.ordered;
   rows = λ p n ch above one e.
       let k = h.rows p n ch above one e in
       let other : is_box b ch.device ≡ false = subst (λ (o : Option Channel). is_channel_to b o ≡ false) e (no_row_to s b p n none) in
@@ -164,6 +166,7 @@ made_boxed s b box past free within empty fresh unit h =
     let after = Did (effect.Mbx box.name true) ∷ past in
     record {
       counted = h.counted;
+      ordered = h.ordered;
       rows = rows_on s t past after c (λ p n ch above one e. e) h.rows;
       requests = all_rooted s t past after c (λ p n. refl) s.requests h.requests;
       boxes = λ d other e. elim (cases_eq d.0 b.0) [ inl same ↦ at_here d other same e | inr apart ↦ at_other d other apart (was_there s b d (Some box) other apart e) ];
@@ -204,6 +207,7 @@ pub assigned_boxed : (s u : State) (p : Pid) (v : Target) (n : ℕ) (ch : Channe
     1 ≤ p.0 → 1 ≤ n → row s p n ≡ None → IsThere s ch.device → named_in (latest_call past) ≡ Some (device_title s ch.device) → Boxed s past → Boxed u (Did (effect.Var p v n) ∷ past)
 assigned_boxed s u p v n ch past a b c d same above one free there named h = record {
   counted = rw d h.counted;
+  ordered = subst (λ (l : List Request). Rattle.vx_record.specs.Sound.AreOrdered Rattle.vx_record.specs.Sound.request_id 0 u.next l) (sym c) (rw d h.ordered);
   rows = λ q m x up low e.
       either_by (λ (o : Option (List ℕ)). IsThere u x.device × (o ≡ Some (device_title u x.device))) (is_same p q && (n == m)) (or_earlier (named_in (latest_call past)) (device_name past q m)) (device_name past q m)
       (λ t. at_it q m x t (sym (same q m) ∙ e)) (λ f. at_other q m x up low f (sym (same q m) ∙ e));

@@ -39,7 +39,7 @@ use Rattle.vx_laws.specs.MessageLaw.{takes_oldest, told_read, told_reader, count
 use Rattle.vx_laws.specs.StatusLaw.{to_next_fin}
 use Rattle.vx_laws.proofs.Aside.{IsAside, call_aside}
 use Rattle.vx_laws.proofs.Boxed.{Origin, origin, Rooted, BoxIs, Boxed, put_there, was_there, message_id, some_within, owner_of}
-use Rattle.vx_laws.proofs.Passing.{Right, Lawful, lawful_both, Walk, walk_then, walk_aside, walk_nothing, finish_walk, found_walk, IsPlainCall, plain_over, Fewer, fewer_then, fewer_same, IsSingle, single_on, lives_origin, lives_owner, mailbox_is, finish_tail, finish_rest, behind_fin}
+use Rattle.vx_laws.proofs.Passing.{Right, Lawful, lawful_both, Walk, walk_then, walk_aside, walk_nothing, finish_walk, found_walk, IsPlainCall, plain_over, Fewer, fewer_then, fewer_same, IsSingle, single_on, lives_origin, lives_owner, mailbox_is, finish_tail, finish_rest, behind_fin, Serving, serving}
 use Rattle.vx_laws.proofs.Handed.{got_boxed, less_fewer, put_boxed, is_quiet, BytesTold, finish_told}
 
 -- A message goes to a read.
@@ -153,15 +153,6 @@ pub taken_none : (id : Id) (es : List Effect) → AllByRecursion IsNoGet es → 
 taken_none id [] h = refl
 taken_none id (effect.MGet a b c ∷ es) h = absurd h.0
 taken_none id (x ∷ es) h = taken_none id es h.1
-
--- What is done for a request on a mailbox, to the end.
-pub record Serving (past : List Item) (a : Part) : Type 0 where
-  pub boxed : Boxed a.after (later past (map Did a.effects))
-  pub lawful : Lawful past a.effects []
-  pub single : IsSingle a.after
-
-serving : (s : State) (past : List Item) (a : Part) → Walk s past a [] → IsSingle s → Serving past a
-serving s past a w k = record { boxed = w.boxed; lawful = w.lawful; single = single_on s a.after w.fewer k }
 
 -- Reads.
 
