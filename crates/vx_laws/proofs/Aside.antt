@@ -112,7 +112,7 @@ idle s = record { system = refl; boxes = refl; requests = refl; rows = λ p n. r
 opened : (s t : State) (es : List Effect) → t.system ≡ s.system → t.boxes ≡ s.boxes → t.requests ≡ s.requests → t.procs ≡ s.procs → s.next ≤ t.next → AllByRecursion (IsAside s.next) es → Aside s es t
 opened s t es a b c d e k = record { system = a; boxes = b; requests = c; rows = λ p n. ap (λ (l : List Process). channel_at (get_or l (p.0 - 1) nobody).channels n) d; next = e; effects = k }
 
-same : (s t : State) (es : List Effect) → t.system ≡ s.system → t.boxes ≡ s.boxes → t.requests ≡ s.requests → t.procs ≡ s.procs → t.next ≡ s.next → AllByRecursion (IsAside s.next) es → Aside s es t
+pub same : (s t : State) (es : List Effect) → t.system ≡ s.system → t.boxes ≡ s.boxes → t.requests ≡ s.requests → t.procs ≡ s.procs → t.next ≡ s.next → AllByRecursion (IsAside s.next) es → Aside s es t
 same s t es a b c d e k = opened s t es a b c d (omega (arith, e)) k
 
 pub changed : (s : State) (p : Pid) (f : Process → Process) (es : List Effect) → (f (process_at s p)).channels ≡ (process_at s p).channels → AllByRecursion (IsAside s.next) es → Aside s es (change s p f)

@@ -264,3 +264,17 @@ serving_on past a t h k calm = record {
   lawful = h.lawful;
   single = single_on a.after t (fewer_same a.after t k.requests k.boxes) h.single;
 }
+
+-- a change with no effect keeps all of it, whatever was called
+pub still_boxed : (s t : State) (past : List Item) → Aside s [] t → Boxed s past → Boxed t past
+still_boxed s t past k h =
+    let c : Carried s t past past = record { system = k.system; there = there_as s t k.system k.boxes; titles = λ d j. title_as s t k.system k.boxes d; next = k.next; origins = λ id below. refl; devices = λ p n. refl } in
+    carry s t past past c k.boxes k.rows (λ name. refl) (subst (λ (l : List Request). AreOrdered Rattle.vx_record.specs.Sound.request_id 0 t.next l) (sym k.requests) (Rattle.vx_record.proofs.Lists.ordered_below Rattle.vx_record.specs.Sound.request_id 0 s.next t.next s.requests k.next h.ordered))
+    (subst (λ (l : List Request). AllByRecursion (Rooted t past) l) (sym k.requests) (all_rooted s t past past c k.rows s.requests h.requests)) h
+
+pub serving_still : (past : List Item) (a : Part) (t : State) → Serving past a → Aside a.after [] t → Serving past (record { effects = a.effects; after = t })
+serving_still past a t h k = record {
+  boxed = still_boxed a.after t (later past (map Did a.effects)) k h.boxed;
+  lawful = h.lawful;
+  single = single_on a.after t (fewer_same a.after t k.requests k.boxes) h.single;
+}
