@@ -306,7 +306,7 @@ started_aside s p q (entry.Host prm) = changed s p (with_frame (new_frame s p (k
 
 -- a new process has no channel
 
-free_rows : (k n : ℕ) → get_or (replicate k None) n None ≡ (let o : Option Channel = None in o)
+pub free_rows : (k n : ℕ) → get_or (replicate k None) n None ≡ (let o : Option Channel = None in o)
 free_rows zero n = refl
 free_rows (suc k) zero = refl
 free_rows (suc k) (suc n) = free_rows k n
