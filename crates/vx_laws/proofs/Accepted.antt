@@ -1,0 +1,368 @@
+-- Requests are opened on mailboxes and units as the law of mailboxes asks, by $QIO and $QIOW.
+use Rattle.std.proofs.Common.{◌≡◌, ℕ, ◌+◌, List, [], ◌∷◌, ◌++◌, false, not, ◌==◌, Option, Some, None, Result, Ok, Err, map, refl, sym, ap, ◌∙◌, subst}
+use Rattle.std.proofs.lemmas.Bool.{eq-eqb}
+use Rattle.std.specs.Prelude.{Contains}
+use Rattle.std.specs.List.{AllByRecursion}
+use Rattle.vx_base.specs.Pieces.{Queued, Channel, Request}
+use Rattle.vx_base.specs.Queues.{front, in_service}
+use Rattle.vx_base.specs.Serving.{serve, settled}
+use Rattle.vx_base.specs.declared.call.Args.{Args}
+use Rattle.vx_base.specs.declared.call.Call.{Call}
+use Rattle.vx_base.specs.declared.cond.Cond.{Cond}
+use Rattle.vx_base.specs.declared.effects.Cell.{Cell}
+use Rattle.vx_base.specs.declared.effects.Effect.{Effect}
+use Rattle.vx_base.specs.declared.effects.Effect.TheVariants as effect
+use Rattle.vx_base.specs.declared.effects.Opened.{Opened}
+use Rattle.vx_base.specs.declared.effects.Opened.TheVariants as opened
+use Rattle.vx_base.specs.declared.frame.Frame.{Frame}
+use Rattle.vx_base.specs.declared.frame.Wait.{Wait}
+use Rattle.vx_base.specs.declared.frame.Wait.TheVariants as wait
+use Rattle.vx_base.specs.declared.mode.Mode.{Mode}
+use Rattle.vx_base.specs.declared.number.Pid.{Pid}
+use Rattle.vx_base.specs.declared.number.UnitNo.{UnitNo}
+use Rattle.vx_base.specs.declared.record.Answer.{Answer}
+use Rattle.vx_base.specs.declared.record.Answer.TheVariants as answer
+use Rattle.vx_base.specs.declared.record.Event.{Event}
+use Rattle.vx_base.specs.declared.record.Event.TheVariants as event
+use Rattle.vx_base.specs.declared.record.Rec.{Rec}
+use Rattle.vx_base.specs.declared.request.Device.{Device}
+use Rattle.vx_base.specs.declared.request.Device.TheVariants as device
+use Rattle.vx_base.specs.declared.routine.Entry.{Entry}
+use Rattle.vx_base.specs.declared.service.Service.{Service}
+use Rattle.vx_base.specs.declared.service.Service.TheVariants as service
+use Rattle.vx_image.specs.Local.{advanced}
+use Rattle.vx_image.specs.declared.stop.Stop.{Stop}
+use Rattle.vx_image.specs.declared.stop.Stop.TheVariants as stop
+use Rattle.vx_image.specs.declared.system.System.{System}
+use Rattle.vx_record.specs.State.{State, process_at, change, image_of, unit_at, next_id}
+use Rattle.vx_record.specs.Parts.{Part, Outcome, nothing}
+use Rattle.vx_record.specs.Charges.{is_direct, is_attention}
+use Rattle.vx_record.specs.Flags.{flag_part, satisfied, awaited_at}
+use Rattle.vx_record.specs.Finish.{this_request}
+use Rattle.vx_record.specs.Requests.{Asked, new_request, new_attention, cleared_part, opened_request, begun_on, transfer, attention_on, asked_of, accepted, request_test, qio_tested, qiow_tested, taken_up, unit_ending, with_unit}
+use Rattle.vx_record.specs.Asts.{deliverable_ast}
+use Rattle.vx_record.specs.Events.{enabled, step, moved_to, moved_behind, served_call, called, returned, run_on, reader, run_frame, run, delivered, beg, don}
+use Rattle.vx_record.specs.Rundown.{without_ast}
+use Rattle.vx_record.specs.Runs.{after, after_from, first, AreSteps, IsRun}
+use Rattle.vx_record.specs.Services.{number, asked, service_of, at_once}
+use Rattle.vx_record.specs.declared.served.Served.{Served}
+use Rattle.vx_record.specs.declared.served.Served.TheVariants.{Answered, Waits}
+use Rattle.vx_record.proofs.Lists.{either, either_by, all_append, all_amend}
+use Rattle.vx_laws.specs.Items.{Item, Head, Did, flat, later, past_of, Calling, latest_call}
+use Rattle.vx_laws.specs.Agrees.{AsCalled}
+use Rattle.vx_laws.proofs.Moves.{Moves, OutcomeMoves, PartMoves, moved}
+use Rattle.vx_laws.proofs.Apart.{Here, HasRoom, here_after, cleared_after, room_after, attention_room, attention_on_moves, begun_on_moves, opened_has, opened_request_moves, awaited_moves, service_moves, returned_moves, started_moves, step_moves}
+use Rattle.vx_laws.proofs.Base.{Base, change_of, moves_keep}
+use Rattle.vx_laws.proofs.Calls.{Called, called_on, called_new, Unasked, plain_unasked, moves_called, new_else}
+use Rattle.vx_laws.proofs.Cleared.{headed, attention_first, returned_plain, started_plain}
+use Rattle.vx_laws.proofs.Kept.{later_both}
+use Rattle.vx_laws.proofs.Locals.{advanced_statuses}
+use Rattle.vx_laws.proofs.Plain.{Plain, join, nil, one, part_of_two, begun_plain, awaited_plain, tick_plain, rundown_plain, finish_plain, service_plain}
+use Rattle.vx_laws.proofs.Runs.{enabled_there, step_right, first_base, first_stands}
+use Rattle.vx_laws.proofs.Stands.{Stands}
+use Rattle.vx_laws.proofs.Turns.{later_items}
+
+use Rattle.std.proofs.Common.{◌+◌, ◌-◌, ◌<◌, ◌≤◌, arith, true, IsTrue, is_some, cond, zero, suc, append-nil, not, ◌&&◌, ◌||◌, Bool}
+use Rattle.std.specs.Prelude.{option_map}
+use Rattle.std.specs.List.{find, list_any}
+use Rattle.std.proofs.lemmas.Bool.{leb-true, and_parts, eqb-true}
+use Rattle.std.proofs.lemmas.Slice.Eq.{bytes_eq-Decides}
+use Rattle.vx_base.specs.Lists.{less}
+use Rattle.vx_base.specs.Pieces.{Mailbox}
+use Rattle.vx_base.specs.declared.number.BoxNo.{BoxNo}
+use Rattle.vx_base.specs.declared.number.Id.{Id}
+use Rattle.vx_base.specs.declared.request.Func.{Func}
+use Rattle.vx_base.specs.declared.request.Msg.{Msg}
+use Rattle.vx_record.specs.Finish.{is_read, this_request}
+use Rattle.vx_record.specs.Mailboxes.{mailbox_at, is_box, is_waiting_func, waits_at, read_box, take_message, write_box, message_of}
+use Rattle.vx_record.specs.Channels.{channel_test}
+use Rattle.vx_record.specs.Requests.{is_bad, has_function, is_too_long, is_full, device_test, on_channel, on_cell, with_request}
+use Rattle.vx_record.specs.Charges.{request_need, exceeds}
+use Rattle.vx_record.specs.Flags.{cell}
+use Rattle.vx_record.specs.Parts.{tells, and_then}
+use Rattle.vx_record.specs.Sound.{AreOrdered, MayBeServed, request_id}
+use Rattle.vx_record.specs.State.{past_id, box_at}
+use Rattle.vx_record.proofs.Lists.{all_weaker}
+use Rattle.vx_record.proofs.SoundRequests.{tested_channel}
+use Rattle.vx_laws.specs.Agrees.{as_stored, device_title}
+use Rattle.vx_laws.specs.Boxes.{Stored, stored, stored_at, asks, oldest_read}
+use Rattle.vx_laws.specs.Items.{effects_left}
+use Rattle.vx_laws.specs.Lives.{life, lives, is_request, device_name, named_in, is_outstanding}
+use Rattle.vx_laws.specs.MessageLaw.{reads_where_stored, takes_stored, is_taken_by}
+use Rattle.vx_laws.proofs.Aside.{row, Aside, attention_on_aside, cleared_aside, awaited_aside, changed}
+use Rattle.vx_laws.proofs.Boxed.{Origin, origin_of, origin_on, IsThere, IsOn, Rooted, BoxIs, Boxed, Carried, carry, all_rooted, there_as, title_as, aside_boxed, head_boxed}
+use Rattle.vx_laws.proofs.Kept.{moves_stand}
+use Rattle.vx_laws.proofs.Listed.{Listed, moves_listed}
+use Rattle.vx_laws.proofs.Oldest.{oldest_is}
+use Rattle.vx_laws.proofs.Opens.{requests_told}
+use Rattle.vx_laws.proofs.Passing.{Right, Lawful, lawful_both, Walk, walk_then, walk_aside, IsPlainCall, plain_over, latest_over, Fewer, fewer_same, IsSingle, single_on, unit_stores, mailbox_is, Serving, serving, serving_then, serving_on, aside_lawful}
+use Rattle.vx_laws.proofs.Served.{Newest, Writes, read_serving, write_serving, wait_no_get, taken_none}
+use Rattle.vx_laws.proofs.Moves.{Moves}
+
+-- What a test accepted.
+
+on_channel_row : (go : Channel → Result (Cell × Channel) Cond) (r : Result Channel Cond) (to : Cell × Channel) → ((ch : Channel) → go ch ≡ Ok to → ch ≡ to.1) → on_channel go r ≡ Ok to → r ≡ Ok to.1
+on_channel_row go (Err c) to f e = absurd (let never : Err c ≡ Ok to = e in cc)
+on_channel_row go (Ok ch) to f e = ap (λ (x : Channel). Ok x) (f ch e)
+
+device_test_row : (s : State) (p : Pid) (q : Asked) (c : Cell) (ch : Channel) (to : Cell × Channel) → device_test s p q c ch ≡ Ok to → ch ≡ to.1
+device_test_row s p q c ch to =
+    let P = λ (r : Result (Cell × Channel) Cond). r ≡ Ok to → ch ≡ to.1 in
+    either P (not (has_function ch.device q.func)) _ _ (λ e. cc)
+    (either P (is_too_long s ch.device q) _ _ (λ e. cc)
+    (either P (is_full s ch.device q) _ _ (λ e. cc)
+    (either P (exceeds s p (request_need s ch.device q.func (Rattle.std.specs.Prelude.is_some q.ast) q.len)) _ (Ok (c, ch)) (λ e. cc) (λ e. last (c, ch) to e))))
+  where
+    last : (a b : Cell × Channel) → ◌≡◌ {A = Result (Cell × Channel) Cond} (Ok a) (Ok b) → a.1 ≡ b.1
+    last a b e = let same : a ≡ b = cc in ap (λ (x : Cell × Channel). x.1) same
+
+on_cell_row : (s : State) (p : Pid) (q : Asked) (o : Option Cell) (to : Cell × Channel) → on_cell s p q o ≡ Ok to → channel_test s p q.chan ≡ Ok to.1
+on_cell_row s p q None to e = cc
+on_cell_row s p q (Some c) to e = on_channel_row (device_test s p q c) (channel_test s p q.chan) to (λ ch k. device_test_row s p q c ch to k) e
+
+request_test_row : (s : State) (p : Pid) (q : Asked) (to : Cell × Channel) → request_test s p q ≡ Ok to → channel_test s p q.chan ≡ Ok to.1
+request_test_row s p q to =
+    let P = λ (r : Result (Cell × Channel) Cond). r ≡ Ok to → channel_test s p q.chan ≡ Ok to.1 in
+    either P (is_bad q) _ _ (λ e. cc) (either P (Rattle.std.proofs.Common.nat_lt 127 q.efn) _ _ (λ e. cc) (λ e. on_cell_row s p q (cell s p q.efn) to e))
+
+-- the call that asks it
+pub record IsAsking (past : List Item) (p : Pid) (q : Asked) : Type 0 where
+  pub call : Calling
+  pub is : latest_call past ≡ Some call
+  pub caller : call.p ≡ p
+  pub chan : number call.call.args.a1 ≡ q.chan
+  pub func : Rattle.vx_record.specs.Services.function call.call.args.a2 ≡ q.func
+  pub len : number call.call.args.a7 ≡ q.len
+  pub calm : IsPlainCall past
+
+asking_over : (past : List Item) (es : List Effect) (p : Pid) (q : Asked) → IsAsking past p q → IsAsking (later past (map Did es)) p q
+asking_over past es p q k = record { call = k.call; is = latest_over past es ∙ k.is; caller = k.caller; chan = k.chan; func = k.func; len = k.len; calm = plain_over past es k.calm }
+
+-- what holds where it is opened
+pub record Ready (s : State) (past : List Item) (p : Pid) (q : Asked) (ch : Channel) : Type 0 where
+  pub asking : IsAsking past p q
+  pub above : 1 ≤ p.0
+  pub numbered : 1 ≤ q.chan
+  pub row : row s p q.chan ≡ Some ch
+  pub base : Base s
+  pub stands : Stands s None past
+  pub listed : Listed s None past
+  pub boxed : Boxed s past
+  pub single : IsSingle s
+
+on_row : (s : State) (p : Pid) (n : ℕ) (mode : Mode) (d : Device) → row s p n ≡ Some (record { device = d; mode = mode }) → IsOn s p n mode d
+on_row s p n mode (device.Unit u) e = tt
+on_row s p n mode (device.Mailbox b) e = e
+
+unserved : (d : Device) → MayBeServed false d
+unserved (device.Unit u) = tt
+unserved (device.Mailbox b) = refl
+
+new_rooted : (s : State) (p : Pid) (q : Asked) (ch : Channel) (past : List Item) (k : Opened) (mode : Option Mode) (n : ℕ) → Ready s past p q ch → Rooted (with_request (past_id s) (new_request s p q ch)) (Did (effect.Open (next_id s) k p mode n) ∷ past) (new_request s p q ch)
+new_rooted s p q ch past k mode n g =
+    let a = g.asking in
+    let t = with_request (past_id s) (new_request s p q ch) in
+    let at = g.boxed.rows p q.chan ch g.above g.numbered g.row in
+    let named : Rattle.vx_laws.specs.Lives.device_called past (latest_call past) ≡ Some (device_title s ch.device) =
+    ap (λ (o : Option Calling). Rattle.vx_laws.specs.Lives.device_called past o) a.is ∙ (ap (λ (x : Pid). device_name past x (number a.call.call.args.a1)) a.caller ∙ (ap (λ (x : ℕ). device_name past p x) a.chan ∙ at.1))
+    in
+    record {
+      from = g.boxed.counted;
+      below = omega arith;
+      above = g.above;
+      numbered = g.numbered;
+      there = there_as s t refl refl ch.device at.0;
+      on = on_row t p q.chan ch.mode ch.device g.row;
+      free = unserved ch.device;
+      call = a.call;
+      is = rw (eq-eqb s.next s.next refl) (ap (λ (x : Option Calling). let o : Origin = record { p = p; by = x; device = Rattle.vx_laws.specs.Lives.device_called past (latest_call past) } in Some o) a.is ∙ ap (λ (x : Option (List ℕ)). let o : Origin = record { p = p; by = Some a.call; device = x } in Some o) (named ∙ ap (λ (x : List ℕ). Some x) (sym (title_as s t refl refl ch.device))));
+      func = a.func;
+      len = a.len;
+    }
+
+open_boxed : (s : State) (p : Pid) (q : Asked) (ch : Channel) (past : List Item) (k : Opened) (mode : Option Mode) (n : ℕ) → Ready s past p q ch → Boxed (with_request (past_id s) (new_request s p q ch)) (Did (effect.Open (next_id s) k p mode n) ∷ past)
+open_boxed s p q ch past k mode n g =
+    let r = new_request s p q ch in
+    let t = with_request (past_id s) r in
+    let x = Did (effect.Open (next_id s) k p mode n) in
+    let c : Carried s t past (x ∷ past) = record {
+      system = refl;
+      there = there_as s t refl refl;
+      titles = λ d j. title_as s t refl refl d;
+      next = omega arith;
+      origins = λ id below. origin_on x past id (λ same. omega (arith, below, same));
+      devices = λ p n. refl;
+    } in
+    carry s t past (x ∷ past) c refl (λ p n. refl) (λ name. refl) (Rattle.vx_record.proofs.Lists.ordered_more request_id 0 s.next s.requests r refl g.boxed.ordered) (all_append (Rooted t (x ∷ past)) s.requests (r ∷ []) (all_rooted s t past (x ∷ past) c (λ p n. refl) s.requests g.boxed.requests) (new_rooted s p q ch past k mode n g, tt)) g.boxed
+
+open_right : (s : State) (p : Pid) (q : Asked) (ch : Channel) (past : List Item) (k : Opened) (mode : Option Mode) (n : ℕ) (left : List Effect) → is_request k ≡ true → Ready s past p q ch → (is_read q.func ≡ true → takes_stored (next_id s) left (stored past (device_title s ch.device)) ≡ true) → Right past (effect.Open (next_id s) k p mode n) left
+open_right s p q ch past k mode n left is g takes =
+    let a = g.asking in
+    let at = g.boxed.rows p q.chan ch g.above g.numbered g.row in
+    let named : Rattle.vx_laws.specs.Lives.device_called past (Some a.call) ≡ Some (device_title s ch.device) =
+    ap (λ (x : Pid). device_name past x (number a.call.call.args.a1)) a.caller ∙ (ap (λ (x : ℕ). device_name past p x) a.chan ∙ at.1)
+    in
+    let told : (not (is_read q.func) || takes_stored (next_id s) left (stored past (device_title s ch.device))) ≡ true = imply (is_read q.func) _ takes in
+    let one : (not (is_read q.func) || takes_stored (next_id s) left (stored_at past (Rattle.vx_laws.specs.Lives.device_called past (Some a.call)))) ≡ true = subst (λ (o : Option (List ℕ)). (not (is_read q.func) || takes_stored (next_id s) left (stored_at past o)) ≡ true) (sym named) told in
+    let two : reads_where_stored past (next_id s) left (Some a.call) ≡ true = subst (λ (f : Func). (not (is_read f) || takes_stored (next_id s) left (stored_at past (Rattle.vx_laws.specs.Lives.device_called past (Some a.call)))) ≡ true) (sym a.func) one in
+    let three : reads_where_stored past (next_id s) left (latest_call past) ≡ true = subst (λ (o : Option Calling). reads_where_stored past (next_id s) left o ≡ true) (sym a.is) two in
+    λ rest e. rw (is, e) three
+  where
+    imply : (b c : Bool) → (b ≡ true → c ≡ true) → (not b || c) ≡ true
+    imply true c f = f refl
+    imply false c f = refl
+
+-- without the new one the requests are those before it
+less_last : (n : ℕ) (low : ℕ) (xs : List Request) (r : Request) → r.req.id.0 ≡ n → AreOrdered request_id low n xs → less (this_request r.req.id) (xs ++ r ∷ []) ≡ xs
+less_last n low [] r e o = rw (eq-eqb r.req.id.0 r.req.id.0 refl) refl
+less_last n low (x ∷ xs) r e o =
+    let below = most (request_id x + 1) n xs o.1 in
+    rw (Rattle.std.proofs.lemmas.Bool.ne_eqb x.req.id.0 r.req.id.0 (λ same. omega (arith, below, same, e)), less_last n (request_id x + 1) xs r e o.1) refl
+  where
+    most : (low high : ℕ) (xs : List Request) → AreOrdered request_id low high xs → low ≤ high
+    most low high [] h = h
+    most low high (x ∷ xs) h = let k = most (request_id x + 1) high xs h.1 in omega (arith, k, h.0)
+
+-- A request on a mailbox.
+box_serving : (s : State) (p : Pid) (q : Asked) (ch : Channel) (past : List Item) (k : Opened) (mode : Option Mode) (n : ℕ) (b : BoxNo) (box : Mailbox) → ch.device ≡ device.Mailbox b → box_at s b ≡ Some box → is_request k ≡ true → Ready s past p q ch →
+    let t = with_request (past_id s) (new_request s p q ch) in
+    Moves s None (effect.Open (next_id s) k p mode n ∷ []) t None → Serving past (and_then (tells (effect.Open (next_id s) k p mode n) t) (λ a. begun_on a (new_request s p q ch) (device.Mailbox b)))
+box_serving s p q ch past k mode n b box on is req g moves =
+    either_by (λ (y : Part). Serving past (and_then (tells (effect.Open (next_id s) k p mode n) (with_request (past_id s) (new_request s p q ch))) (λ a. y))) (is_read q.func) (read_box (with_request (past_id s) (new_request s p q ch)) b (new_request s p q ch)) (write_box (with_request (past_id s) (new_request s p q ch)) b (message_of (new_request s p q ch).req))
+    (λ reads.
+    let rest = read_serving t after b box r s.requests is on root reads calm newest boxed in
+    let es = (read_box t b r).effects in
+    record { boxed = rest.boxed; lawful = (open_right s p q ch past k mode n (es ++ []) req g (λ j. takes), rest.lawful); single = rest.single })
+    (λ writes.
+    let rest = write_serving t after b box r (written writes) calm boxed in
+    let es = (write_box t b (message_of r.req)).effects in
+    record { boxed = rest.boxed; lawful = (open_right s p q ch past k mode n (es ++ []) req g (λ j. absurd (Rattle.vx_record.proofs.Lists.apart_bools (is_read q.func) j writes)), rest.lawful); single = rest.single })
+  where
+    r : Request
+    r = new_request s p q ch
+
+    t : State
+    t = with_request (past_id s) (new_request s p q ch)
+
+    after : List Item
+    after = Did (effect.Open (next_id s) k p mode n) ∷ past
+
+    boxed : Boxed (with_request (past_id s) (new_request s p q ch)) (Did (effect.Open (next_id s) k p mode n) ∷ past)
+    boxed = open_boxed s p q ch past k mode n g
+
+    root : Rooted (with_request (past_id s) (new_request s p q ch)) (Did (effect.Open (next_id s) k p mode n) ∷ past) (new_request s p q ch)
+    root = new_rooted s p q ch past k mode n g
+
+    calm : IsPlainCall (Did (effect.Open (next_id s) k p mode n) ∷ past)
+    calm = g.asking.calm
+
+    newest : Newest (with_request (past_id s) (new_request s p q ch)) s.requests (new_request s p q ch)
+    newest = record { all = refl; less = less_last s.next 0 s.requests (new_request s p q ch) refl g.base.requests; single = g.single }
+
+    title : device_title s ch.device ≡ box.name
+    title = ap (λ (d : Device). device_title s d) on ∙ ap (λ (y : Mailbox). y.name) (mailbox_is s b box is)
+
+    takes : takes_stored (next_id s) ((read_box (with_request (past_id s) (new_request s p q ch)) b (new_request s p q ch)).effects ++ []) (stored past (device_title s ch.device)) ≡ true
+    takes =
+        let kept = g.boxed.boxes b box is in
+        let st : map as_stored box.messages ≡ stored past (device_title s ch.device) = kept.messages ∙ ap (stored past) (sym title) in
+        let all = ap (λ (y : Mailbox). y.messages) (mailbox_is s b box is) in
+        subst (λ (l : List Stored). takes_stored (next_id s) ((take_message t b r (mailbox_at s b).messages).effects ++ []) l ≡ true) st
+        (subst (λ (l : List Msg). takes_stored (next_id s) ((take_message t b r l).effects ++ []) (map as_stored box.messages) ≡ true) (sym all) (at box.messages))
+      where
+        at : (ms : List Msg) → takes_stored (next_id s) ((take_message (with_request (past_id s) (new_request s p q ch)) b (new_request s p q ch) ms).effects ++ []) (map as_stored ms) ≡ true
+        at [] =
+            let es = (take_message (with_request (past_id s) (new_request s p q ch)) b (new_request s p q ch) []).effects in
+            subst (λ (l : List Effect). not (list_any (is_taken_by (next_id s)) l) ≡ true) (sym (append-nil es)) (rw (taken_none (next_id s) es (wait_no_get (with_request (past_id s) (new_request s p q ch)) b (new_request s p q ch))) refl)
+        at (m ∷ ms) = rw (eq-eqb s.next s.next refl) refl
+
+    single_now : is_read q.func ≡ false → IsSingle (with_request (past_id s) (new_request s p q ch))
+    single_now writes c e =
+        elim (Rattle.vx_laws.proofs.Served.last_any (waits_at c) s.requests (new_request s p q ch) e) [
+          | Rattle.std.proofs.Common.inl x ↦ g.single c x
+          | Rattle.std.proofs.Common.inr x ↦ absurd (Rattle.vx_record.proofs.Lists.apart_bools (is_read q.func) (Rattle.vx_laws.proofs.Served.waiting_reads q.func (and_parts (is_box c ch.device) (is_waiting_func q.func) x).1) writes)
+        ]
+
+    written : is_read q.func ≡ false → Writes (with_request (past_id s) (new_request s p q ch)) (Did (effect.Open (next_id s) k p mode n) ∷ past) b box (new_request s p q ch)
+    written writes =
+        let base = (moves_keep s None (effect.Open (next_id s) k p mode n ∷ []) t None moves g.base).base in
+        let stands = moves_stand s None (effect.Open (next_id s) k p mode n ∷ []) t None past moves g.base g.stands in
+        let listed = moves_listed s None (effect.Open (next_id s) k p mode n ∷ []) t None past moves g.base g.stands g.listed in
+        record {
+          is = is;
+          on = on;
+          root = root;
+          olds = (g.boxed.boxes b box is).ids;
+          new = refl;
+          oldest = ap (λ (y : Mailbox). oldest_read after y.name) (mailbox_is t b box is) ∙ oldest_is t after b box is base (λ id. requests_told t after id stands listed) boxed;
+          single = single_now writes;
+        }
+
+-- A request on a unit waits there.
+unit_serving : (s : State) (p : Pid) (q : Asked) (ch : Channel) (past : List Item) (k : Opened) (mode : Option Mode) (n : ℕ) (u : UnitNo) → ch.device ≡ device.Unit u → is_request k ≡ true → Ready s past p q ch →
+    Serving past (tells (effect.Open (next_id s) k p mode n) (with_request (past_id s) (new_request s p q ch)))
+unit_serving s p q ch past k mode n u on req g =
+    let at = g.boxed.rows p q.chan ch g.above g.numbered g.row in
+    let empty : stored past (device_title s ch.device) ≡ [] = subst (λ (d : Device). IsThere s d → stored past (device_title s d) ≡ []) (sym on) (λ there. unit_stores s past u there g.boxed) at.0 in
+    record {
+      boxed = open_boxed s p q ch past k mode n g;
+      lawful = (open_right s p q ch past k mode n [] req g (λ reads. rw empty refl), tt);
+      single = λ c e.
+          elim (Rattle.vx_laws.proofs.Served.last_any (waits_at c) s.requests (new_request s p q ch) e) [
+            | Rattle.std.proofs.Common.inl x ↦ g.single c x
+            | Rattle.std.proofs.Common.inr x ↦ absurd (let never : false ≡ true = subst (λ (d : Device). is_box c d ≡ true) on (and_parts (is_box c ch.device) (is_waiting_func q.func) x).0 in cc)
+          ];
+    }
+
+some_box : (s : State) (b : BoxNo) (o : Option Mailbox) → box_at s b ≡ o → IsTrue (is_some o) → (box : Mailbox) × (box_at s b ≡ Some box)
+some_box s b None e k = absurd (let never : false ≡ true = k in cc)
+some_box s b (Some box) e k = (box, e)
+
+one_serving : (s : State) (p : Pid) (q : Asked) (ch : Channel) (past : List Item) (k : Opened) (mode : Option Mode) (n : ℕ) → is_request k ≡ true → Ready s past p q ch →
+    let t = with_request (past_id s) (new_request s p q ch) in
+    Moves s None (effect.Open (next_id s) k p mode n ∷ []) t None → Serving past (and_then (tells (effect.Open (next_id s) k p mode n) t) (λ a. begun_on a (new_request s p q ch) ch.device))
+one_serving s p q ch past k mode n req g moves = by_device ch.device refl (g.boxed.rows p q.chan ch g.above g.numbered g.row).0
+  where
+    by_device : (d : Device) → ch.device ≡ d → IsThere s d → Serving past (and_then (tells (effect.Open (next_id s) k p mode n) (with_request (past_id s) (new_request s p q ch))) (λ a. begun_on a (new_request s p q ch) d))
+    by_device (device.Unit u) on there = unit_serving s p q ch past k mode n u on req g
+    by_device (device.Mailbox b) on there = let box = some_box s b (box_at s b) refl there in box_serving s p q ch past k mode n b box.0 on box.1 req g moves
+
+pub transfer_serving : (s : State) (p : Pid) (q : Asked) (ch : Channel) (past : List Item) → is_attention q.func ≡ false → HasRoom s p q ch → Here s p → Ready s past p q ch → Serving past (transfer s p q ch)
+transfer_serving s p q ch past calm room here g =
+    either (λ (x : Part). PartMoves s x → Serving past (and_then x (λ a. begun_on a (new_request s p q ch) ch.device))) (is_direct s ch.device) _ _ (λ m. one_serving s p q ch past opened.Dio _ 0 refl g m) (λ m. one_serving s p q ch past opened.Bio _ _ refl g m)
+    (opened_request_moves s p q ch here.made calm room)
+
+-- A request that is accepted.
+pub record Going (s : State) (past : List Item) : Type 0 where
+  pub stands : Stands s None past
+  pub listed : Listed s None past
+  pub boxed : Boxed s past
+  pub single : IsSingle s
+
+pub accepted_serving : (s : State) (p : Pid) (q : Asked) (to : Cell × Channel) (past : List Item) → request_test s p q ≡ Ok to → Here s p → IsAsking past p q → Going s past → Serving past (accepted s p q to.0 to.1)
+accepted_serving s p q to past is here asks g =
+    let a = cleared_part s p q to.0 in
+    let t = a.after in
+    let k = cleared_aside s p q to.0 in
+    let m : PartMoves s a = cleared_after s p q to is here in
+    let past1 = later past (map Did a.effects) in
+    let tested = tested_channel s p q.chan to.1 (request_test_row s p q to is) in
+    let there = here_after s p None a.effects t None m here in
+    let boxed = aside_boxed s t a.effects past k asks.calm g.boxed in
+    let single = single_on s t (fewer_same s t k.requests k.boxes) g.single in
+    let ready : Ready t past1 p q to.1 = record {
+      asking = asking_over past a.effects p q asks;
+      above = here.made.above;
+      numbered = leb-true 1 q.chan (and_parts _ _ tested.0).0;
+      row = k.rows p q.chan ∙ tested.1;
+      base = there.base;
+      stands = moves_stand s None a.effects t None past m here.base g.stands;
+      listed = moves_listed s None a.effects t None past m here.base g.stands g.listed;
+      boxed = boxed;
+      single = single;
+    } in
+    let room : HasRoom t p q to.1 = room_after s p q to is here.made in
+    let asked_attention = attention_on t p q to.1.device q.ast in
+    serving_then s past a (λ x. asked_of x p q to.1) (walk_aside s past a ((asked_of t p q to.1).effects ++ []) k asks.calm g.boxed)
+    (either_by (λ (y : Part). Serving past1 y) (is_attention q.func) asked_attention (transfer t p q to.1) (λ y. serving t past1 asked_attention (walk_aside t past1 asked_attention [] (attention_on_aside t p q to.1.device q.ast) ready.asking.calm boxed) single)
+    (λ n. transfer_serving t p q to.1 past1 n room there ready))
