@@ -6,18 +6,12 @@ use Rattle.vx_base.specs.Modes.{reaches}
 use Rattle.vx_base.specs.Pieces.{Queued, Enables}
 use Rattle.vx_base.specs.Queues.{is_of_mode, deliverable}
 use Rattle.vx_base.specs.declared.mode.Mode.{Mode}
-use Rattle.vx_base.specs.declared.routine.Entry.{Entry}
-use Rattle.vx_ast.specs.declared.queue.Delivery.{Delivery}
 
 -- The queued ASTs in order of queuing, which modes have delivery enabled, and how many ASTs there is room for in all.
 pub record Queue : Type 0 where
   pub items : List Queued
   pub enables : Enables
   pub capacity : ℕ
-
--- what is handed out, as plain data: the tag stands for the routine
-abbrev pub queued_of : {R : Type 0} → (R → Entry) → Delivery R → Queued
-queued_of tag d = record { id = d.id; mode = d.mode; tag = tag d.routine; charged = d.charged }
 
 -- an AST of mode m or an outer one
 abbrev pub is_within : Mode → Queued → Bool

@@ -7,9 +7,11 @@
 #![tactic(auto)]
 
 mod by_mode;
+mod delivery;
 mod queue;
 
-pub use queue::{AstQueue, Delivery};
+pub use delivery::Delivery;
+pub use queue::AstQueue;
 
 #[cfg(test)]
 mod tests;

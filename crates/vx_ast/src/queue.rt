@@ -4,28 +4,19 @@ ghost use Rattle.std.specs.Prelude.{◌≡◌, ◌<◌, ◌≤◌, ◌+◌, ◌+
 ghost use Rattle.std.specs.List.{find};
 ghost use Rattle.vx_base.specs.Lists.{less};
 ghost use Rattle.vx_base.specs.Pieces.{all_on, is_enabled_in, with_enable};
-ghost use Rattle.vx_base.specs.Queues.{may_start, deliverable};
-ghost use Rattle.vx_ast.specs.Queue.{queued_of, is_within, less_deliverable, first_in};
+ghost use Rattle.vx_base.specs.Queues.{is_of_mode, may_start, deliverable};
+ghost use Rattle.vx_ast.specs.Queue.{is_within, less_deliverable, first_in};
 
-use crate::by_mode::{first_of_mode, take_of_mode, take_within};
+use crate::by_mode::{place_of_mode, place_within};
+use crate::delivery::Delivery;
 use std::alloc::Global;
 use std::marker::Model;
-use vx_base::{Id, Mode, NoMemory, Routine};
-
-/// An AST as it is handed out: its id, its mode, whether it is charged to its process's AST limit, and its routine.
-#[derive(Drop)]
-pub struct Delivery<R> {
-    pub id: Id,
-    pub mode: Mode,
-    pub charged: bool,
-    pub routine: R,
-}
+use vx_base::{Id, Mode, NoMemory, Reserved, Routine, at_place};
 
 /// The queued ASTs of one process, and the modes that have AST delivery enabled.
 #[derive(Drop)]
 pub struct AstQueue<R: Routine> {
-    items: Vec<Delivery<R>>,
-    room: usize,
+    items: Reserved<Delivery<R>>,
     kernel: bool,
     exec: bool,
     supervisor: bool,
@@ -33,14 +24,11 @@ pub struct AstQueue<R: Routine> {
 }
 
 impl<R: Routine> Model for AstQueue<R> {
-    ghost use Rattle.std.specs.Prelude.{◌≤◌, vec_len, vec_capacity, map};
-    ghost use Rattle.vx_ast.specs.Queue.{Queue, queued_of};
+    ghost use Rattle.vx_ast.specs.Queue.{Queue};
 
     ghost Value = { Queue };
 
-    ghost view = { λ a. record { items = map (queued_of R.tagged) a.items.items; enables = record { kernel = a.kernel; exec = a.exec; supervisor = a.supervisor; user = a.user }; capacity = a.room } };
-
-    ghost invariant = { λ a. (vec_len a.items ≤ a.room) × (a.room ≤ vec_capacity a.items) };
+    ghost view = { λ a. record { items = a.items.items; enables = record { kernel = a.kernel; exec = a.exec; supervisor = a.supervisor; user = a.user }; capacity = a.items.capacity } };
 }
 
 impl<R: Routine> AstQueue<R> {
@@ -49,8 +37,7 @@ impl<R: Routine> AstQueue<R> {
         ensures { result ≡ record { items = []; enables = all_on; capacity = 0 } }
     {
         AstQueue {
-            items: Vec::new(alloc),
-            room: 0,
+            items: Reserved::new(alloc),
             kernel: true,
             exec: true,
             supervisor: true,
@@ -66,9 +53,7 @@ impl<R: Routine> AstQueue<R> {
         ensures ok { OnOk result (length self.new.items + n ≤ self.new.capacity) }
         ensures err { OnErr result (self.new ≡ self.old) }
     {
-        self.items.reserve(n as usize)?;
-        self.room = self.items.capacity();
-        Ok(())
+        self.items.reserve(n)
     }
 
     /// Queues an AST ($DCLAST, or the AST of a request, timer or attention entry). Takes no memory.
@@ -76,16 +61,8 @@ impl<R: Routine> AstQueue<R> {
         requires { length self.old.items < self.old.capacity }
         ensures { self.new ≡ record self.old { items = self.old.items ++ record { id = id; mode = mode; tag = R.tagged routine; charged = charged } ∷ [] } }
     {
-        let delivery = Delivery {
-            id,
-            mode,
-            charged,
-            routine,
-        };
-        match self.items.push(delivery) {
-            Ok(()) => (),
-            Err(_) => unreachable!(),
-        }
+        self.items
+            .put(Delivery::new(id, mode, routine, charged))
     }
 
     /// Enables or disables AST delivery in a mode ($SETAST), and tells how it was.
@@ -121,26 +98,28 @@ impl<R: Routine> AstQueue<R> {
         ensures { result ≡ option_map (λ q. q.id) (deliverable self.now.enables current active self.now.items) }
     {
         let mode = self.mode_to_start(current, active)?;
-        let first = first_of_mode(&self.items, mode)?;
-        Some(first.id)
+        let first = self.first_of_mode(mode)?;
+        Some(first.id())
     }
 
     #[tactic(auto, using(crate::proofs::Started::less_started))]
     /// Takes out the AST that may start, as `deliverable` has it.
     pub fn take(&mut self, current: Mode, active: Option<Mode>) -> Option<Delivery<R>>
-        ensures found { option_map (queued_of R.tagged) result ≡ deliverable self.old.enables current active self.old.items }
+        ensures found { result ≡ deliverable self.old.enables current active self.old.items }
         ensures after { self.new ≡ record self.old { items = less_deliverable self.old.enables current active self.old.items } }
     {
         let mode = self.mode_to_start(current, active)?;
-        take_of_mode(&mut self.items, mode)
+        let place = place_of_mode(self.items.as_slice(), mode);
+        self.items.take(place)
     }
 
     /// Takes out the first AST of a mode or an outer one, in order of queuing: rundown drops them so.
     pub fn flush_first(&mut self, mode: Mode) -> Option<Delivery<R>>
-        ensures found { option_map (queued_of R.tagged) result ≡ find (is_within mode) self.old.items }
+        ensures found { result ≡ find (is_within mode) self.old.items }
         ensures after { self.new ≡ record self.old { items = less (is_within mode) self.old.items } }
     {
-        take_within(&mut self.items, mode)
+        let place = place_within(self.items.as_slice(), mode);
+        self.items.take(place)
     }
 
     /// How many ASTs are queued.
@@ -154,7 +133,19 @@ impl<R: Routine> AstQueue<R> {
     pub fn charged(&self) -> usize
         ensures { result ≡ count_by (λ q. q.charged) self.now.items }
     {
-        self.items.iter().filter(|d| d.charged).count()
+        self.items
+            .as_slice()
+            .iter()
+            .filter(|d| d.is_charged())
+            .count()
+    }
+
+    // The first AST of a mode.
+    fn first_of_mode(&self, mode: Mode) -> Option<&Delivery<R>>
+        ensures { option_map (λ d. d.now) result ≡ find (is_of_mode mode) self.now.items }
+    {
+        let items = self.items.as_slice();
+        at_place(items, place_of_mode(items, mode))
     }
 
     // The mode of the AST that may start.
@@ -162,17 +153,17 @@ impl<R: Routine> AstQueue<R> {
         ensures { deliverable self.now.enables current active self.now.items ≡ first_in result self.now.items }
     {
         if self.may_start(Mode::Kernel, current, active)
-            && first_of_mode(&self.items, Mode::Kernel).is_some()
+            && self.first_of_mode(Mode::Kernel).is_some()
         {
             return Some(Mode::Kernel);
         }
         if self.may_start(Mode::Exec, current, active)
-            && first_of_mode(&self.items, Mode::Exec).is_some()
+            && self.first_of_mode(Mode::Exec).is_some()
         {
             return Some(Mode::Exec);
         }
         if self.may_start(Mode::Super, current, active)
-            && first_of_mode(&self.items, Mode::Super).is_some()
+            && self.first_of_mode(Mode::Super).is_some()
         {
             return Some(Mode::Super);
         }

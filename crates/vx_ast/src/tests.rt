@@ -15,7 +15,7 @@ fn queued<R: Routine>(rt: &HostRuntime, asts: [(u32, Mode, bool); 4]) -> Result<
 
 fn taken<R: Routine>(queue: &mut AstQueue<R>, current: Mode, active: Option<Mode>) -> (u32, Entry) {
     match queue.take(current, active) {
-        Some(delivery) => (delivery.id.0, delivery.routine.enter()),
+        Some(delivery) => (delivery.id().0, delivery.into_routine().enter()),
         None => (0, Entry::Exit(0)),
     }
 }
@@ -102,7 +102,7 @@ fn a_flush_goes_by_the_order_of_queuing(rt: HostRuntime) -> Result<(), Fail> {
     ];
     for (mode, id) in modes {
         let flushed = match queue.flush_first(mode) {
-            Some(delivery) => delivery.id.0,
+            Some(delivery) => delivery.id().0,
             None => 0,
         };
         assert_eq!(rt; flushed, id);

@@ -10,5 +10,6 @@ pub mod Padded
 pub mod Pieces
 pub mod Queues
 pub mod Quotas
-pub mod Serving
+pub mod Roomy
 pub mod Services
+pub mod Serving

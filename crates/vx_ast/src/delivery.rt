@@ -1,0 +1,72 @@
+//! One queued AST.
+
+ghost use Rattle.std.specs.Prelude.{◌≡◌};
+
+use std::marker::Model;
+use vx_base::{Id, Mode, Routine};
+
+/// A queued AST: its id, its mode, whether it is charged to its process's AST limit, and its routine. Contracts see the
+/// plain `Queued` of `vx_base`.
+#[derive(Drop)]
+pub struct Delivery<R: Routine> {
+    id: Id,
+    mode: Mode,
+    charged: bool,
+    routine: R,
+}
+
+impl<R: Routine> Model for Delivery<R> {
+    ghost use Rattle.vx_base.specs.Pieces.{Queued};
+
+    ghost Value = { Queued };
+
+    ghost view = { λ d. record { id = d.id; mode = d.mode; tag = R.tagged d.routine; charged = d.charged } };
+}
+
+impl<R: Routine> Delivery<R> {
+    /// An AST of a routine.
+    pub fn new(id: Id, mode: Mode, routine: R, charged: bool) -> Delivery<R>
+        ensures { result ≡ record { id = id; mode = mode; tag = R.tagged routine; charged = charged } }
+    {
+        Delivery {
+            id,
+            mode,
+            charged,
+            routine,
+        }
+    }
+
+    /// Its id.
+    pub fn id(&self) -> Id
+        ensures { result ≡ self.now.id }
+    {
+        self.id
+    }
+
+    /// Its mode.
+    pub fn mode(&self) -> Mode
+        ensures { result ≡ self.now.mode }
+    {
+        self.mode
+    }
+
+    /// Whether it is charged.
+    pub fn is_charged(&self) -> bool
+        ensures { result ≡ self.now.charged }
+    {
+        self.charged
+    }
+
+    /// Its routine.
+    pub fn into_routine(self) -> R
+        ensures { R.tagged result ≡ self.tag }
+    {
+        let Delivery {
+            id: _,
+            mode: _,
+            charged: _,
+            routine,
+        } = self;
+        routine
+    }
+}
