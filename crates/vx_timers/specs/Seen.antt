@@ -1,8 +1,7 @@
--- The entries as the code keeps them, seen as plain data.
+-- What falls due as the code keeps it, seen as plain data.
 use Rattle.std.specs.Prelude.{ℕ, Option, Some, None, option_map, nat_le, if◌then◌else◌}
-use Rattle.vx_base.specs.Pieces.{Timer, Alarm, OfTimer, OfWake}
+use Rattle.vx_base.specs.Pieces.{Alarm, OfTimer, OfWake}
 use Rattle.vx_base.specs.declared.routine.Entry.{Entry}
-use Rattle.vx_timers.specs.declared.due.Due.{Due}
 use Rattle.vx_timers.specs.declared.due.What.{What}
 use Rattle.vx_timers.specs.declared.due.What.TheVariants as what
 
@@ -10,9 +9,6 @@ use Rattle.vx_timers.specs.declared.due.What.TheVariants as what
 abbrev pub alarm_of : {R : Type 0} → (R → Entry) → What R → Alarm
 alarm_of tag (what.Timer efn reqid mode routine) = OfTimer efn reqid mode (option_map tag routine)
 alarm_of tag (what.Wake target repeat) = OfWake target repeat
-
-abbrev pub timer_of : {R : Type 0} → (R → Entry) → Due R → Timer
-timer_of tag d = record { id = d.id; p = d.p; due = d.due; what = alarm_of tag d.what }
 
 -- the lesser of two times, where each may be missing
 abbrev pub lesser_of : Option ℕ → Option ℕ → Option ℕ

@@ -2,14 +2,13 @@
 //!
 //! A timer ($SETIMR) sets an event flag and queues an AST when its time comes; a scheduled wake ($SCHDWK) wakes a process,
 //! once or again and again. Both stand here until they fall due or are cancelled ($CANTIM, $CANWAK). Contracts see one list
-//! in id order, and how many entries there is room for: `specs/Timing.antt`. Times are in ticks.
+//! in the order of opening, and how many entries there is room for. Times are in ticks.
 #![tactic(auto)]
 
 mod due;
 mod timers;
 
 pub use due::{Due, What};
-pub use timers::Timers;
-
-#[cfg(test)]
-mod tests;
+pub use timers::{
+    Timers, least, take_cancelled, take_due, take_timer_in, take_wake_by, take_wake_for,
+};

@@ -1,143 +1,123 @@
-//! The timers and scheduled wakes of all processes: one list, in id order.
+//! The timers and scheduled wakes of all processes: one list, in the order of opening, which is that of ids.
 
-ghost use Rattle.std.specs.Prelude.{◌≡◌, ◌<◌, ◌≤◌, [], false, length, OnOk, OnErr, option_map, count_by};
-ghost use Rattle.std.specs.List.{find, list_any};
+ghost use Rattle.std.specs.Prelude.{◌≡◌, ◌<◌, ◌≤◌, ◌++◌, ◌∷◌, [], IfSome, OnOk, OnErr, length, option_map, position};
+ghost use Rattle.std.specs.List.{find};
 ghost use Rattle.vx_base.specs.Lists.{less};
 ghost use Rattle.vx_base.specs.Queues.{least_due};
-ghost use Rattle.vx_timers.specs.Timing.{has_id, inserted, IsInIdOrder, first_due, less_entry, is_timer_with, is_wake, is_timer, is_charged, sets, wakes};
-ghost use Rattle.vx_timers.specs.Seen.{timer_of};
+ghost use Rattle.vx_base.specs.Roomy.{HasSpace, with_items};
+ghost use Rattle.vx_record.specs.Rundown.{is_timer_in, is_wake_by};
+ghost use Rattle.vx_record.specs.Timers.{is_cancelled_timer, is_due, is_wake_for};
+ghost use Rattle.vx_timers.specs.Seen.{lesser_of};
 
-use crate::due::{
-    Due, any_with_id, insert, is_charged_to, is_timer_of, least_time, take_due_at, take_timer_with,
-    take_wake_for, take_wake_of,
-};
+use crate::due::Due;
 use std::alloc::Global;
-use std::marker::Model;
-use vx_base::{Id, Mode, NoMemory, Pid, Routine};
+use vx_base::{Mode, NoMemory, Pid, Reserved, Routine};
 
-/// The timers and scheduled wakes of all processes. What is taken out leaves its room, so that it can be added again
-/// without memory.
-#[derive(Drop)]
-pub struct Timers<R: Routine> {
-    items: Vec<Due<R>>,
-    room: usize,
+/// The timers and scheduled wakes of all processes, in id order.
+pub type Timers<R> = Reserved<Due<R>>;
+
+fn place_due<R: Routine>(items: &[Due<R>], now: u64) -> Option<usize>
+    ensures place { result ≡ position (is_due now) items.now }
+    ensures within { IfSome result (λ i. i < length items.now) }
+{
+    items.iter().position(|d| d.is_due(now))
 }
 
-impl<R: Routine> Model for Timers<R> {
-    ghost use Rattle.std.specs.Prelude.{◌≤◌, vec_len, vec_capacity, map};
-    ghost use Rattle.vx_timers.specs.Timing.{Timing, IsInIdOrder};
-    ghost use Rattle.vx_timers.specs.Seen.{timer_of};
-
-    ghost Value = { Timing };
-
-    ghost view = { λ a. record { items = map (timer_of R.tagged) a.items.items; capacity = a.room } };
-
-    ghost invariant = { λ a. (vec_len a.items ≤ a.room) × (a.room ≤ vec_capacity a.items) × IsInIdOrder (map (timer_of R.tagged) a.items.items) };
+fn place_cancelled<R: Routine>(items: &[Due<R>], p: Pid, reqid: u32, mode: Mode) -> Option<usize>
+    ensures place { result ≡ position (is_cancelled_timer p reqid mode) items.now }
+    ensures within { IfSome result (λ i. i < length items.now) }
+{
+    items.iter().position(|d| d.is_cancelled(p, reqid, mode))
 }
 
-impl<R: Routine> Timers<R> {
-    /// No entries, and room for none. Takes no memory.
-    pub fn new(alloc: Global) -> Timers<R>
-        ensures { result ≡ record { items = []; capacity = 0 } }
-    {
-        Timers {
-            items: Vec::new(alloc),
-            room: 0,
-        }
-    }
+fn place_timer_in<R: Routine>(items: &[Due<R>], p: Pid, mode: Mode) -> Option<usize>
+    ensures place { result ≡ position (is_timer_in p mode) items.now }
+    ensures within { IfSome result (λ i. i < length items.now) }
+{
+    items.iter().position(|d| d.is_timer_in(p, mode))
+}
 
-    /// Makes room for an entry more, or changes nothing.
-    pub fn reserve(&mut self) -> Result<(), NoMemory>
-        ensures items { self.new.items ≡ self.old.items }
-        ensures kept { self.old.capacity ≤ self.new.capacity }
-        ensures ok { OnOk result (length self.new.items < self.new.capacity) }
-        ensures err { OnErr result (self.new ≡ self.old) }
-    {
-        self.items.reserve(1)?;
-        self.room = self.items.capacity();
-        Ok(())
-    }
+fn place_wake_by<R: Routine>(items: &[Due<R>], p: Pid) -> Option<usize>
+    ensures place { result ≡ position (is_wake_by p) items.now }
+    ensures within { IfSome result (λ i. i < length items.now) }
+{
+    items.iter().position(|d| d.is_wake_by(p))
+}
 
-    /// Adds a timer ($SETIMR) or a scheduled wake ($SCHDWK), in the place of its id. Takes no memory.
-    pub fn add(&mut self, due: Due<R>)
-        requires room { length self.old.items < self.old.capacity }
-        requires fresh { list_any (has_id due.id) self.old.items ≡ false }
-        ensures { self.new ≡ record self.old { items = inserted (timer_of R.tagged due) self.old.items } }
-    {
-        insert(&mut self.items, due);
-    }
+fn place_wake_for<R: Routine>(items: &[Due<R>], q: Pid) -> Option<usize>
+    ensures place { result ≡ position (is_wake_for q) items.now }
+    ensures within { IfSome result (λ i. i < length items.now) }
+{
+    items.iter().position(|d| d.is_wake_for(q))
+}
 
-    /// When the first entry falls due. None exactly where there is no entry.
-    pub fn least(&self) -> Option<u64>
-        ensures { result ≡ option_map (λ t. t.due) (least_due self.now.items) }
-    {
-        least_time(&self.items)
-    }
+/// Takes out the first entry that is due by then.
+pub fn take_due<R: Routine>(timers: &mut Timers<R>, now: u64) -> Option<Due<R>>
+    ensures found { result ≡ find (is_due now) timers.old.items }
+    ensures after { timers.new ≡ with_items timers.old (less (is_due now) timers.old.items) }
+{
+    let place = place_due(timers.as_slice(), now);
+    timers.take(place)
+}
 
-    /// Takes out the entry that falls due first, of two that are due at one time the one with the lesser id. None exactly
-    /// where none is due by `now`.
-    pub fn pop_due(&mut self, now: u64) -> Option<Due<R>>
-        ensures found { option_map (timer_of R.tagged) result ≡ first_due now self.old.items }
-        ensures after { self.new ≡ record self.old { items = less_entry (first_due now self.old.items) self.old.items } }
-    {
-        let due = self.least()?;
-        if now < due {
-            return None;
-        }
-        take_due_at(&mut self.items, due)
-    }
+/// Takes out the first timer of a process of a mode or an outer one, with an identification, 0 for any ($CANTIM).
+pub fn take_cancelled<R: Routine>(
+    timers: &mut Timers<R>,
+    p: Pid,
+    reqid: u32,
+    mode: Mode,
+) -> Option<Due<R>>
+    ensures found { result ≡ find (is_cancelled_timer p reqid mode) timers.old.items }
+    ensures after { timers.new ≡ with_items timers.old (less (is_cancelled_timer p reqid mode) timers.old.items) }
+{
+    let place = place_cancelled(timers.as_slice(), p, reqid, mode);
+    timers.take(place)
+}
 
-    /// Takes out the timer of least id that a process set in a mode or an outer one with an identification, or with any
-    /// where `reqid` is 0 ($CANTIM). None exactly where there is none.
-    pub fn cancel_timer(&mut self, p: Pid, reqid: u32, mode: Mode) -> Option<Due<R>>
-        ensures found { option_map (timer_of R.tagged) result ≡ find (sets p (is_timer_with reqid mode)) self.old.items }
-        ensures after { self.new ≡ record self.old { items = less (sets p (is_timer_with reqid mode)) self.old.items } }
-    {
-        take_timer_with(&mut self.items, p, reqid, mode)
-    }
+/// Takes out the first timer of a process of a mode or an outer one.
+pub fn take_timer_in<R: Routine>(timers: &mut Timers<R>, p: Pid, mode: Mode) -> Option<Due<R>>
+    ensures found { result ≡ find (is_timer_in p mode) timers.old.items }
+    ensures after { timers.new ≡ with_items timers.old (less (is_timer_in p mode) timers.old.items) }
+{
+    let place = place_timer_in(timers.as_slice(), p, mode);
+    timers.take(place)
+}
 
-    /// Takes out the wake of least id that a process set. None exactly where there is none.
-    pub fn cancel_wake_of(&mut self, caller: Pid) -> Option<Due<R>>
-        ensures found { option_map (timer_of R.tagged) result ≡ find (sets caller is_wake) self.old.items }
-        ensures after { self.new ≡ record self.old { items = less (sets caller is_wake) self.old.items } }
-    {
-        take_wake_of(&mut self.items, caller)
-    }
+/// Takes out the first wake that a process set.
+pub fn take_wake_by<R: Routine>(timers: &mut Timers<R>, p: Pid) -> Option<Due<R>>
+    ensures found { result ≡ find (is_wake_by p) timers.old.items }
+    ensures after { timers.new ≡ with_items timers.old (less (is_wake_by p) timers.old.items) }
+{
+    let place = place_wake_by(timers.as_slice(), p);
+    timers.take(place)
+}
 
-    /// Takes out the wake of least id for a process ($CANWAK). None exactly where there is none.
-    pub fn cancel_wake_for(&mut self, target: Pid) -> Option<Due<R>>
-        ensures found { option_map (timer_of R.tagged) result ≡ find (wakes target) self.old.items }
-        ensures after { self.new ≡ record self.old { items = less (wakes target) self.old.items } }
-    {
-        take_wake_for(&mut self.items, target)
-    }
+/// Takes out the first wake of a process ($CANWAK).
+pub fn take_wake_for<R: Routine>(timers: &mut Timers<R>, q: Pid) -> Option<Due<R>>
+    ensures found { result ≡ find (is_wake_for q) timers.old.items }
+    ensures after { timers.new ≡ with_items timers.old (less (is_wake_for q) timers.old.items) }
+{
+    let place = place_wake_for(timers.as_slice(), q);
+    timers.take(place)
+}
 
-    /// How many entries there are. They stand in id order.
-    pub fn len(&self) -> usize
-        ensures count { result ≡ length self.now.items }
-        ensures order { IsInIdOrder self.now.items }
-    {
-        self.items.len()
+// The lesser of two times, where the first may be missing.
+fn lesser_of(least: Option<u64>, time: u64) -> Option<u64>
+    ensures { result ≡ lesser_of least (Some time) }
+{
+    match least {
+        None => Some(time),
+        Some(least) => Some(if least <= time { least } else { time }),
     }
+}
 
-    /// Whether there is an entry with an id.
-    pub fn has(&self, id: Id) -> bool
-        ensures { result ≡ list_any (has_id id) self.now.items }
-    {
-        any_with_id(&self.items, id)
+/// When the first entry falls due. None exactly where there is no entry.
+pub fn least<R: Routine>(timers: &Timers<R>) -> Option<u64>
+    ensures { result ≡ option_map (λ t. t.due) (least_due timers.now.items) }
+{
+    let mut least = None;
+    for d in timers.as_slice() {
+        least = lesser_of(least, d.due());
     }
-
-    /// How many timers a process has set.
-    pub fn timers_of(&self, p: Pid) -> usize
-        ensures { result ≡ count_by (sets p is_timer) self.now.items }
-    {
-        self.items.iter().filter(|d| is_timer_of(d, p)).count()
-    }
-
-    /// How many entries of a process are charged to its AST limit: its timers with an AST, and the wakes that it set.
-    pub fn charged_of(&self, p: Pid) -> usize
-        ensures { result ≡ count_by (sets p is_charged) self.now.items }
-    {
-        self.items.iter().filter(|d| is_charged_to(d, p)).count()
-    }
+    least
 }
