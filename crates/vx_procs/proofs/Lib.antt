@@ -1,5 +1,5 @@
-pub mod Born
 pub mod Changed
-pub mod Counted
+pub mod FirstProcs
+pub mod Quiet
 pub mod Stack
 pub mod Started
