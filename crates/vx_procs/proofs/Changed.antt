@@ -1,21 +1,22 @@
 -- One process changed in the code is that process changed in the value, and what is held stays held.
-use Rattle.std.proofs.Common.{◌≡◌, ◌≢◌, ℕ, zero, suc, ◌+◌, ◌-◌, ◌<◌, ◌≤◌, length, List, [], ◌∷◌, ◌++◌, Bool, true, false, cond, not, ◌==◌, map, slice_index_or, slice_set, Option, Some, None, Result, Ok, Err, OnOk, inl, inr, get_or-set_same, get_or-set_other, length-set, arith, refl, sym, ap, subst, ◌∙◌}
+use Rattle.std.proofs.Common.{◌≡◌, ◌≢◌, ℕ, zero, suc, ◌+◌, ◌-◌, ◌<◌, ◌≤◌, length, List, [], ◌∷◌, ◌++◌, Bool, true, false, cond, not, ◌==◌, map, slice_index_or, slice_set, Option, Some, None, Result, Ok, Err, OnOk, IfSome, inl, inr, get_or-set_same, get_or-set_other, length-set, arith, refl, sym, ap, subst, ◌∙◌}
 use Rattle.std.specs.List.{AllByRecursion, find}
 use Rattle.std.proofs.lemmas.Bool.{cases_eq, eq-eqb, eqb-true}
-use Rattle.std.proofs.lemmas.List.{map-set, get_or-map, length-map}
+use Rattle.std.proofs.lemmas.List.{map-set, get_or-map, length-map, set-get_or}
 use Rattle.std.proofs.Math.Seq.{map-set_same}
 use Rattle.std.specs.Vec.{with_item}
 use Rattle.vx_base.specs.Flags.{one}
+use Rattle.vx_base.specs.Roomy.{Roomy, with_items}
 use Rattle.vx_base.specs.Pieces.{Queued, Timer}
 use Rattle.vx_base.specs.declared.number.Pid.{Pid}
 use Rattle.vx_base.specs.declared.quota.Need.{Need}
 use Rattle.vx_record.specs.State.{Process, State, IsProcess, process_at, change, nobody, no_decl}
 use Rattle.vx_record.specs.Charges.{charge, bears_ast, is_attention_of, charged_timer, is_charged}
 use Rattle.vx_record.specs.Parts.{tally}
-use Rattle.vx_record.proofs.Lists.{all_weaker, false_from}
-use Rattle.vx_record.proofs.Ground.{at_set}
+use Rattle.vx_record.proofs.Lists.{all_weaker}
+use Rattle.vx_record.proofs.Ground.{some_weaker}
 use Rattle.vx_procs.specs.Held.{AreHeld, Books, IsBooked, IsOwn, books_at, no_books, is_short, spare}
-use Rattle.vx_procs.specs.Kernel.{Kernel, Room, no_room, room_at, changed}
+use Rattle.vx_procs.specs.Kernel.{Kernel, Room, no_room, room_at, changed, with_state}
 use Rattle.vx_procs.specs.Ready.{HasSpare, HasSpares, owed}
 use Rattle.vx_procs.specs.View.{process, state, kernel, books, room_of, books_of, IsHeld}
 use Rattle.vx_procs.specs.declared.procs.Core.TheInside.{Inside}
@@ -78,8 +79,8 @@ own_set s i pr ts h =
     all_weaker (IsOwn s) (IsOwn (record s { procs = slice_set s.procs i pr; timers = ts })) (λ t o. record { made = record { above = o.made.above; within = omega (arith, o.made.within, length-set s.procs i pr) }; timer = o.timer }) ts h
 
 -- one process changed, with its books, and the timers: each other process is booked still
-pub held_by : (s : State) (bs : List Books) (before after : Option Pid) (p : Pid) (pr : Process) (b : Books) (ts : List Timer) → AreHeld s before bs → IsProcess s p → p.0 - 1 < length bs → IsBooked (record s { procs = slice_set s.procs (p.0 - 1) pr; timers = ts }) after p b → ((q : Pid) → IsProcess s q → q.0 ≢ p.0 → IsBooked s before q (books_at bs q) → IsBooked (record s { timers = ts }) after q (books_at bs q)) → AllByRecursion (IsOwn s) ts → AreHeld (record s { procs = slice_set s.procs (p.0 - 1) pr; timers = ts }) after (slice_set bs (p.0 - 1) b)
-held_by s bs before after p pr b ts h made within here others own =
+pub held_by : (s : State) (bs : List Books) (before after : Option Pid) (p : Pid) (pr : Process) (b : Books) (ts : List Timer) → AreHeld s before bs → IsProcess s p → p.0 - 1 < length bs → IsBooked (record s { procs = slice_set s.procs (p.0 - 1) pr; timers = ts }) after p b → ((q : Pid) → IsProcess s q → q.0 ≢ p.0 → IsBooked s before q (books_at bs q) → IsBooked (record s { timers = ts }) after q (books_at bs q)) → AllByRecursion (IsOwn s) ts → IfSome after (IsProcess s) → AreHeld (record s { procs = slice_set s.procs (p.0 - 1) pr; timers = ts }) after (slice_set bs (p.0 - 1) b)
+held_by s bs before after p pr b ts h made within here others own short =
     let i = p.0 - 1 in
     let t : State = record s { procs = slice_set s.procs i pr; timers = ts } in
     record {
@@ -98,15 +99,16 @@ held_by s bs before after p pr b ts h made within here others own =
             (booked_quiet u (slice_set s.procs i pr) after q (books_at bs q) (record { decl = ap (λ (x : Process). x.decl) at; asts = ap (λ (x : Process). x.asts) at; frames = omega (arith, ap (λ (x : Process). length x.frames) at) }) (others q was other (h.booked q was)))
       ];
       timers = own_set s i pr ts own;
+      marked = some_weaker (IsProcess s) (IsProcess t) (λ q m. record { above = m.above; within = omega (arith, m.within, length-set s.procs i pr) }) after short;
     }
 
 -- the same of the code
-pub held_set : {R : Type 0} (c : Inside R) (after : Option Pid) (p : Pid) (new : Proc R) (ts : List Timer) → IsHeld c → IsProcess (state c) p → IsBooked (record (state c) { procs = slice_set (state c).procs (p.0 - 1) (process new); timers = ts }) after p (books_of new) → ((q : Pid) → IsProcess (state c) q → q.0 ≢ p.0 → IsBooked (state c) c.short q (books_at (books c) q) → IsBooked (record (state c) { timers = ts }) after q (books_at (books c) q)) → AllByRecursion (IsOwn (state c)) ts → AreHeld (record (state c) { procs = map process (slice_set c.procs.items (p.0 - 1) new); timers = ts }) after (map books_of (slice_set c.procs.items (p.0 - 1) new))
-held_set c after p new ts h made here others own =
+pub held_set : {R : Type 0} (c : Inside R) (after : Option Pid) (p : Pid) (new : Proc R) (ts : List Timer) → IsHeld c → IsProcess (state c) p → IsBooked (record (state c) { procs = slice_set (state c).procs (p.0 - 1) (process new); timers = ts }) after p (books_of new) → ((q : Pid) → IsProcess (state c) q → q.0 ≢ p.0 → IsBooked (state c) c.short q (books_at (books c) q) → IsBooked (record (state c) { timers = ts }) after q (books_at (books c) q)) → AllByRecursion (IsOwn (state c)) ts → IfSome after (IsProcess (state c)) → AreHeld (record (state c) { procs = map process (slice_set c.procs.items (p.0 - 1) new); timers = ts }) after (map books_of (slice_set c.procs.items (p.0 - 1) new))
+held_set c after p new ts h made here others own short =
     let i = p.0 - 1 in
     let s = state c in
     let within : i < length (books c) = omega (arith, stands c p made, length-map c.procs.items books_of) in
-    let held = held_by s (books c) c.short after p (process new) (books_of new) ts h made within here others own in
+    let held = held_by s (books c) c.short after p (process new) (books_of new) ts h made within here others own short in
     subst (λ (ps : List Process). AreHeld (record s { procs = ps; timers = ts }) after (map books_of (slice_set c.procs.items i new))) (sym (map-set process c.procs.items i new))
     (subst (λ (bs : List Books). AreHeld (record s { procs = slice_set s.procs i (process new); timers = ts }) after bs) (sym (map-set books_of c.procs.items i new)) held)
 
@@ -129,4 +131,35 @@ held_as f c k p r new view is_made is e same quiet_by h =
     } in
     held_set c c.short p new s.timers h made
     (subst (λ (b : Books). IsBooked (record s { procs = slice_set s.procs (p.0 - 1) (process new) }) c.short p b) (sym (same ∙ seen_books c p r made is)) (booked_quiet s (slice_set s.procs (p.0 - 1) (process new)) c.short p (books_at (books c) p) here (h.booked p made)))
-    (λ q m other b. b) h.timers
+    (λ q m other b. b) h.timers h.marked
+
+-- a change that changes nothing
+pub none_changed : (s : State) (p : Pid) → change s p (λ x. x) ≡ s
+none_changed s p = ap (λ (ps : List Process). record s { procs = ps }) (set-get_or s.procs (p.0 - 1) nobody)
+
+-- the value where timers change too
+timers_here : {R : Type 0} (f : Process → Process) (xs : List Timer) (c : Inside R) (p : Pid) (r new : Proc R) (ts : Roomy Timer) → IsProcess (state c) p → r ≡ slice_index_or c.procs.items (p.0 - 1) r → process new ≡ f (process r) → room_of new ≡ room_of r → ts ≡ with_items c.timers xs → kernel (record c { procs = with_item c.procs (p.0 - 1) new; timers = ts }) ≡ with_state (kernel c) (change (record (state c) { timers = xs }) p f)
+timers_here f xs c p r new ts made is e room put =
+    ap (λ (x : Kernel). let y : Kernel = record x { state = record x.state { timers = ts.items }; timers = ts.capacity } in y) (changed_here f c p r new made is e room)
+    ∙ ap (λ (x : Roomy Timer). let y : Kernel = record (changed (kernel c) p f) { state = record (change (state c) p f) { timers = x.items }; timers = x.capacity } in y) put
+
+pub timers_as : {R : Type 0} (f : Process → Process) (F : State → List Timer) (c : Inside R) (k : Kernel) (p : Pid) (r new : Proc R) (ts : Roomy Timer) → kernel c ≡ k → IsProcess k.state p → r ≡ slice_index_or c.procs.items (p.0 - 1) r → process new ≡ f (process r) → room_of new ≡ room_of r → ts ≡ with_items c.timers (F (state c)) → kernel (record c { procs = with_item c.procs (p.0 - 1) new; timers = ts }) ≡ with_state k (change (record k.state { timers = F k.state }) p f)
+timers_as f F c k p r new ts view made is e room put =
+    timers_here f (F (state c)) c p r new ts (made_in c k p view made) is e room put ∙ ap (λ (x : Kernel). with_state x (change (record x.state { timers = F x.state }) p f)) view
+
+-- and no process
+pub timers_alone : {R : Type 0} (F : State → List Timer) (c : Inside R) (k : Kernel) (p : Pid) (r new : Proc R) (ts : Roomy Timer) → kernel c ≡ k → IsProcess k.state p → r ≡ slice_index_or c.procs.items (p.0 - 1) r → process new ≡ process r → room_of new ≡ room_of r → ts ≡ with_items c.timers (F (state c)) → kernel (record c { procs = with_item c.procs (p.0 - 1) new; timers = ts }) ≡ with_state k (record k.state { timers = F k.state })
+timers_alone F c k p r new ts view made is e room put =
+    timers_as (λ x. x) F c k p r new ts view made is e room put ∙ ap (λ (s : State). with_state k s) (none_changed (record k.state { timers = F k.state }) p)
+
+-- room alone
+pub roomier_state : {R : Type 0} (c : Inside R) (k : Kernel) (p : Pid) (r new : Proc R) → kernel c ≡ k → r ≡ slice_index_or c.procs.items (p.0 - 1) r → process new ≡ process r → state (record c { procs = with_item c.procs (p.0 - 1) new }) ≡ k.state
+roomier_state c k p r new view is e =
+    ap (λ (ps : List Process). record (state c) { procs = ps }) (map-set_same process c.procs.items (p.0 - 1) new r (e ∙ ap process is)) ∙ ap (λ (x : Kernel). x.state) view
+
+-- an entry found in the code is found in the value
+pub found_in : {R : Type 0} (test : Timer → Bool) (c : Inside R) (k : Kernel) (o : Option Timer) → kernel c ≡ k → o ≡ find test c.timers.items → o ≡ find test k.state.timers
+found_in test c k o view found = found ∙ ap (λ (x : Kernel). find test x.state.timers) view
+
+pub seen_in : {R : Type 0} (c : Inside R) (k : Kernel) (p : Pid) (r : Proc R) → kernel c ≡ k → IsProcess k.state p → r ≡ slice_index_or c.procs.items (p.0 - 1) r → process r ≡ process_at k.state p
+seen_in c k p r view made is = seen c p r (made_in c k p view made) is ∙ ap (λ (x : Kernel). process_at x.state p) view

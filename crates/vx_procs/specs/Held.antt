@@ -1,5 +1,5 @@
 -- What the executive keeps beside its state, and what is true of it.
-use Rattle.std.specs.Prelude.{◌≡◌, ℕ, ◌+◌, ◌-◌, ◌≤◌, List, Bool, true, false, ◌==◌, not, Option, Some, None, IsTrue, length, slice_index_or}
+use Rattle.std.specs.Prelude.{◌≡◌, ℕ, ◌+◌, ◌-◌, ◌≤◌, List, Bool, true, false, ◌==◌, not, Option, Some, None, IsTrue, IfSome, length, slice_index_or}
 use Rattle.std.specs.List.{AllByRecursion}
 use Rattle.vx_base.specs.Flags.{one}
 use Rattle.vx_base.specs.Pieces.{Timer}
@@ -47,3 +47,4 @@ pub record IsOwn (s : State) (t : Timer) : Type 0 where
 pub record AreHeld (s : State) (short : Option Pid) (books : List Books) : Type 0 where
   pub booked : (p : Pid) → IsProcess s p → IsBooked s short p (books_at books p)
   pub timers : AllByRecursion (IsOwn s) s.timers
+  pub marked : IfSome short (IsProcess s)

@@ -2,14 +2,14 @@
 
 ghost use Rattle.std.specs.Prelude.{◌≡◌, ◌+◌, ◌<◌, ◌≤◌, ◌∷◌, [], false, not, None, IfOk, OnOk, IsTrue, is_some, length, option_map};
 ghost use Rattle.std.specs.List.{find};
-ghost use Rattle.vx_base.specs.Flags.{with_flag};
+ghost use Rattle.vx_base.specs.Flags.{one, with_flag};
 ghost use Rattle.vx_base.specs.Pieces.{all_on};
 ghost use Rattle.vx_base.specs.Quotas.{is_within};
 ghost use Rattle.vx_base.specs.Log.{HasRoom, logged};
 ghost use Rattle.vx_base.specs.declared.frame.FrameKind.TheVariants.{Main};
 ghost use Rattle.vx_image.specs.WellFormed.{IsImage};
 ghost use Rattle.vx_record.specs.Asts.{with_queued};
-ghost use Rattle.vx_record.specs.Charges.{ast_need, is_timer, timer_need};
+ghost use Rattle.vx_record.specs.Charges.{ast_need, is_timer, takes_ast, timer_need};
 ghost use Rattle.vx_quota.specs.Account.{charged, has_left, released};
 ghost use Rattle.vx_timers.specs.Seen.{alarm_of};
 ghost use Rattle.vx_record.specs.Events.{put_back, resumed_with, uses_wake};
@@ -316,7 +316,7 @@ impl<R: Routine> Proc<R> {
     /// timer is no more.
     pub(crate) fn fire(&mut self, id: Id, what: What<R>) -> bool
         requires timer { IsTrue (is_timer (alarm_of R.tagged what)) }
-        requires free { length (process self.old).asts < (room_of self.old).asts }
+        requires free { length (process self.old).asts + one (takes_ast (alarm_of R.tagged what)) ≤ (room_of self.old).asts }
         requires charged { 1 ≤ self.old.account.used.tqe }
         ensures queued { result ≡ is_some (alarm_ast id (alarm_of R.tagged what)) }
         ensures after { process self.new ≡ with_queued_if (alarm_ast id (alarm_of R.tagged what)) (process self.old) }

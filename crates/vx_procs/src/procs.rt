@@ -1,7 +1,6 @@
 //! What the executive keeps.
 
 ghost use Rattle.std.specs.Prelude.{◌≡◌, ◌+◌, ◌≤◌, [], ◌∷◌, OnOk, length};
-ghost use Rattle.vx_record.specs.Runs.{born_from, first};
 ghost use Rattle.vx_base.specs.Log.{HasRoom};
 ghost use Rattle.vx_procs.specs.Kernel.{Fits, told};
 ghost use Rattle.vx_procs.specs.Ready.{HasSpares};
@@ -11,7 +10,7 @@ use std::alloc::Global;
 use std::marker::Model;
 use std::mem;
 use vx_base::{Effect, EffectList, Effects, NoMemory, Pid, Routine};
-use vx_image::{ProcDecl, ProcDecls, System};
+use vx_image::System;
 use vx_timers::Timers;
 
 /// What the script says, the time in ticks, the next id, the processes in the order of their numbers from 1, timers, and the
@@ -54,11 +53,22 @@ impl<R: Routine> Core<R> {
         let mut log = Effects::new(self.alloc);
         log.reserve(effects)?;
         self.timers.reserve(1)?;
-        if let Some(p) = self.short {
-            self.procs[p.0 as usize - 1].reserve()?;
-        }
-        self.short = None;
+        self.mend()?;
         self.log = log;
+        Ok(())
+    }
+
+    // Makes good what spare room the last event used.
+    fn mend(&mut self) -> Result<(), NoMemory>
+        ensures same { self.new.state ≡ self.old.state }
+        ensures timers { self.new.timers ≡ self.old.timers }
+        ensures spares { OnOk result (HasSpares self.new) }
+    {
+        let Some(p) = self.short else {
+            return Ok(());
+        };
+        self.procs[p.0 as usize - 1].reserve()?;
+        self.short = None;
         Ok(())
     }
 

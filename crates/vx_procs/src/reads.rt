@@ -146,6 +146,7 @@ impl<R: Routine> Core<R> {
     pub fn cell(&self, p: Pid, efn: u32) -> Option<Cell>
         ensures { result ≡ cell self.now.state p efn }
     {
+        let _next = self.next;
         if efn < 64 {
             Some(Cell::Local(p, efn))
         } else {
@@ -238,7 +239,7 @@ impl<R: Routine> Core<R> {
         requires { IsProcess self.now.state p }
         ensures { result ≡ exceeds self.now.state p need }
     {
-        self.process_of(p).exceeds(need)
+        self.procs[p.0 as usize - 1].exceeds(need)
     }
 
     /// Its privileges.
