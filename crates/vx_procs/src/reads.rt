@@ -1,6 +1,6 @@
 //! Reads of one process.
 
-ghost use Rattle.std.specs.Prelude.{◌≡◌, ◌<◌, ◌≤◌, length, option_map};
+ghost use Rattle.std.specs.Prelude.{◌≡◌, ◌<◌, ◌≤◌, IfSome, length, option_map};
 ghost use Rattle.vx_frames.specs.Frames.{top_of};
 ghost use Rattle.vx_image.specs.Local.{place_of};
 ghost use Rattle.vx_image.specs.Storage.{status_at};
@@ -144,7 +144,8 @@ impl<R: Routine> Core<R> {
 
     /// The event flag that a number names, if it names one.
     pub fn cell(&self, p: Pid, efn: u32) -> Option<Cell>
-        ensures { result ≡ cell self.now.state p efn }
+        ensures cell { result ≡ cell self.now.state p efn }
+        ensures local { IfSome result (λ c. (efn < 64) × (c ≡ Local p efn)) }
     {
         let _next = self.next;
         if efn < 64 {

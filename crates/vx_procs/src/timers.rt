@@ -1,6 +1,6 @@
 //! Timers.
 
-ghost use Rattle.std.specs.Prelude.{◌≡◌, ◌+◌, ◌≤◌, false, Option, is_some, length, option_map};
+ghost use Rattle.std.specs.Prelude.{◌≡◌, ◌+◌, ◌≤◌, false, IfSome, Option, is_some, length, option_map};
 ghost use Rattle.std.specs.List.{find, AllByRecursion};
 ghost use Rattle.vx_base.specs.Pieces.{OfTimer};
 ghost use Rattle.vx_base.specs.Queues.{least_due};
@@ -64,7 +64,8 @@ impl<R: Routine> Core<R> {
 
     /// The first timer that is due by then: its id, its process, and its event flag.
     pub fn due_timer(&self, now: u64) -> Option<(Id, Pid, u32)>
-        ensures { result ≡ option_map due_flag (find (is_due now) self.now.state.timers) }
+        ensures due { result ≡ option_map due_flag (find (is_due now) self.now.state.timers) }
+        ensures made { IfSome result (λ t. IsProcess self.now.state t.1) }
     {
         let due = first_due(&self.timers, now)?;
         Some((due.id(), due.p(), due.efn()))
