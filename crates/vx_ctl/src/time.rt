@@ -1,10 +1,12 @@
 //! Time.
 
 ghost use Rattle.std.specs.Prelude.{◌≡◌, true, is_some};
-ghost use Rattle.std.specs.List.{find};
+ghost use Rattle.std.specs.List.{AllByRecursion, find};
 ghost use Rattle.vx_record.specs.State.{IsProcess};
 ghost use Rattle.vx_record.specs.Flags.{cell, flag_where_named};
 ghost use Rattle.vx_record.specs.Timers.{is_due, next_time, tick};
+ghost use Rattle.vx_record.specs.Sound.{AreOrdered, timer_id};
+ghost use Rattle.vx_procs.specs.Held.{IsOwn};
 ghost use Rattle.vx_procs.specs.Kernel.{Acts, Fits};
 ghost use Rattle.vx_ctl.specs.Firing.{AreTimers, due_part, firing};
 
@@ -53,7 +55,8 @@ fn fire_due<R: Routine>(core: &mut Core<R>, now: u64)
 
 // The least due time is the one that the machine has.
 fn next_time<R: Routine>(core: &Core<R>) -> u64
-    ensures { result ≡ next_time core.now.state }
+    ensures time { result ≡ next_time core.now.state }
+    ensures own { AllByRecursion (IsOwn core.now.state) core.now.state.timers }
 {
     match core.least_due() {
         Some(due) => due,
@@ -63,7 +66,7 @@ fn next_time<R: Routine>(core: &Core<R>) -> u64
 
 /// TICK: time moves to the least due time, and what is due then fires. Takes no memory.
 pub fn tick<R: Routine>(core: &mut Core<R>) -> u64
-    requires timers { AreTimers core.old.state }
+    requires order { AreOrdered timer_id 0 core.old.state.next core.old.state.timers }
     requires room { Fits core.old (tick core.old.state).effects }
     ensures time { result ≡ next_time core.old.state }
     ensures acts { Acts (tick core.old.state) core.old core.new }
