@@ -1,13 +1,16 @@
 //! The executive, as far as it is tried here.
 
-ghost use Rattle.std.specs.Prelude.{◌≡◌, ◌≤◌, ◌*◌, Contains, IfOk, IfSome, OnErr, OnOk, length};
+ghost use Rattle.std.specs.Prelude.{◌≡◌, ◌≤◌, ◌*◌, Contains, IfOk, IfSome, OnErr, OnOk, length, option_map};
 ghost use Rattle.vx_base.specs.declared.record.Event.TheVariants.{Tick};
 ghost use Rattle.vx_record.specs.Events.{enabled, step};
 ghost use Rattle.vx_record.specs.Runs.{record_of};
+ghost use Rattle.vx_record.specs.Sound.{IsRoutineOf, ground};
+ghost use Rattle.vx_record.specs.Timers.{setimr};
+ghost use Rattle.vx_step.specs.Calls.{MayCall};
 
 use std::marker::Model;
-use vx_base::{Answer, Event, NoMemory, Rec, Routine};
-use vx_ctl::tick;
+use vx_base::{Answer, Cond, EffectList, Event, NoMemory, Pid, Rec, Routine};
+use vx_ctl::{setimr, tick};
 use vx_procs::Core;
 
 /// The executive: contracts see its plain state.
@@ -54,5 +57,29 @@ impl<R: Routine> Exec<R> {
             answer: Answer::Time(now),
             effects: self.core.take_log(),
         })
+    }
+
+    /// A process calls $SETIMR: its condition and effects. Where memory is short, nothing has changed.
+    pub fn set_timer(
+        &mut self,
+        p: Pid,
+        efn: u32,
+        delta: u32,
+        routine: Option<R>,
+        reqid: u32,
+    ) -> Result<(Cond, EffectList), NoMemory>
+        requires calls { MayCall self.old p }
+        requires own { IfSome (option_map R.tagged routine) (IsRoutineOf (ground self.old) p) }
+        ensures answer { IfOk result (λ r. r.0 ≡ (setimr self.old p efn delta (option_map R.tagged routine) reqid).answer) }
+        ensures told { IfOk result (λ r. r.1 ≡ (setimr self.old p efn delta (option_map R.tagged routine) reqid).effects) }
+        ensures after { OnOk result (self.new ≡ (setimr self.old p efn delta (option_map R.tagged routine) reqid).after) }
+        ensures err { OnErr result (self.new ≡ self.old) }
+    {
+        self.core.begin(2)?;
+        let cond = match setimr(&mut self.core, p, efn, delta, routine, reqid) {
+            Ok(cond) => cond,
+            Err(refused) => refused.cond,
+        };
+        Ok((cond, self.core.take_log()))
     }
 }

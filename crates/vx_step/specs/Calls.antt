@@ -1,0 +1,14 @@
+-- What a process that calls a service is.
+use Rattle.std.specs.Prelude.{ℕ, ◌<◌, ◌^◌}
+use Rattle.vx_base.specs.declared.number.Pid.{Pid}
+use Rattle.vx_image.specs.WellFormed.{IsWellFormed}
+use Rattle.vx_record.specs.State.{State, IsProcess, process_at}
+use Rattle.vx_procs.specs.Ready.{IsKept}
+
+-- it is there, in a well formed system, and ids and time can be counted on
+pub record MayCall (s : State) (p : Pid) : Type 0 where
+  pub made : IsProcess s p
+  pub formed : IsWellFormed s.system
+  pub kept : IsKept s.next (process_at s p)
+  pub ids : s.next < 4294967295
+  pub time : s.time < 2 ^ 63
