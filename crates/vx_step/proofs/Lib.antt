@@ -1,2 +1,4 @@
+pub mod Calls
 pub mod Few
 pub mod Ready
+pub mod Served

@@ -2,5 +2,6 @@
 #![tactic(auto)]
 
 mod exec;
+mod services;
 
 pub use exec::Exec;

@@ -1,0 +1,43 @@
+-- What of a system the executive runs so far.
+use Rattle.std.specs.Prelude.{ℕ, ◌<◌, List, [], ◌∷◌, Bool, true, false, ◌&&◌, IsTrue, length, nat_lt, ⊤}
+use Rattle.std.specs.List.{list_all}
+use Rattle.vx_base.specs.declared.service.Service.{Service}
+use Rattle.vx_base.specs.declared.service.Service.TheVariants.{SetEf, ClrEf, DclAst, SetAst, SetImr}
+use Rattle.vx_image.specs.declared.image.Image.{Image}
+use Rattle.vx_image.specs.declared.stmt.Stmt.{Stmt}
+use Rattle.vx_image.specs.declared.stmt.Stmt.TheVariants as stmt
+use Rattle.vx_image.specs.declared.stop.Stop.{Stop}
+use Rattle.vx_image.specs.declared.stop.Stop.TheVariants as stop
+use Rattle.vx_image.specs.declared.system.System.{System}
+use Rattle.vx_image.specs.declared.unit.UnitDecl.{UnitDecl}
+
+-- the services on event flags, ASTs and modes that wait for nothing, and $EXIT
+abbrev pub is_built_service : Service → Bool
+is_built_service SetEf = true
+is_built_service ClrEf = true
+is_built_service DclAst = true
+is_built_service SetAst = true
+is_built_service SetImr = true
+is_built_service _ = false
+
+-- each statement but the other services
+abbrev pub is_built_stmt : Stmt → Bool
+is_built_stmt (stmt.Service c) = is_built_service c.service
+is_built_stmt _ = true
+
+-- (labels are counted in 32 bits)
+abbrev pub is_built_image : Image → Bool
+is_built_image image = nat_lt (length image.labels) 4294967296 && list_all is_built_stmt image.stmts
+
+abbrev pub are_no_units : List UnitDecl → Bool
+are_no_units [] = true
+are_no_units (u ∷ us) = false
+
+-- no units; any images and process declarations
+abbrev pub is_built : System → Bool
+is_built system = are_no_units system.units && list_all is_built_image system.images
+
+-- a service at which local statements stop is built, and its statement is one of at most 10,000
+abbrev pub IsBuiltCall : ℕ → Stop → Type 0
+IsBuiltCall place (stop.Call c) = IsTrue (is_built_service c.service) × (place < 10000)
+IsBuiltCall place _ = ⊤

@@ -1,0 +1,136 @@
+//! Calls of services, with the values of their arguments computed.
+
+ghost use Rattle.std.specs.Prelude.{◌≡◌, ◌<◌, IfSome, IsTrue, bytes_eq, length, option_map, position};
+ghost use Rattle.vx_record.specs.Services.{access_mode, label_place, number, routine, routine_or_none, service, service_of};
+ghost use Rattle.vx_procs.specs.Kernel.{Does, Fits};
+ghost use Rattle.vx_ctl.specs.Answers.{cond_of};
+ghost use Rattle.vx_step.specs.Built.{is_built_service};
+ghost use Rattle.vx_step.specs.Calls.{IsSet};
+
+use vx_base::{Arg, Args, Call, Cond, Entry, Mode, Operand, Pid, Routine, Service};
+use vx_ctl::{Refused, clref, dclast, setast, setef, setimr};
+use vx_image::{Image, Label};
+use vx_procs::Core;
+use vx_record::Served;
+
+// The number that an argument is.
+fn number(arg: &Arg) -> u32
+    ensures { result ≡ number arg.now }
+{
+    match arg {
+        Arg::Value(Operand::Num(n)) => *n,
+        _ => 0,
+    }
+}
+
+// The access mode that an argument is.
+fn access_mode(arg: &Arg) -> Mode
+    ensures { result ≡ access_mode arg.now }
+{
+    match arg {
+        Arg::Mode(mode) => *mode,
+        _ => Mode::Kernel,
+    }
+}
+
+fn is_named(label: &Label, name: &[u8]) -> bool
+    ensures { result ≡ bytes_eq label.now.name name.now }
+{
+    label.name.text() == name
+}
+
+// Where a label of a name stands among labels.
+fn position_of(labels: &[Label], name: &[u8]) -> Option<usize>
+    ensures place { result ≡ position (λ label. bytes_eq label.name name.now) labels.now }
+    ensures within { IfSome result (λ place. place < length labels.now) }
+{
+    labels.iter().position(|label| is_named(label, name))
+}
+
+// The place of a label of a name among an image's labels, from 0; 0 where there is none.
+fn label_place(image: &Image, name: &[u8]) -> u32
+    requires { length image.now.labels < 4294967296 }
+    ensures { result ≡ label_place image.now name.now }
+{
+    match position_of(image.labels.as_slice(), name) {
+        Some(place) => place as u32,
+        None => 0,
+    }
+}
+
+// The routine at the label that an argument names, with a parameter.
+#[tactic(auto, using(crate::proofs::Served::few_labels))]
+fn routine<R: Routine>(core: &Core<R>, p: Pid, arg: &Arg, prm: u32) -> R
+    requires set { IsSet core.now p }
+    ensures { R.tagged result ≡ routine core.now.state p arg.now prm }
+{
+    let place = match arg {
+        Arg::Label(Some(name)) => label_place(core.image(p), name.text()),
+        _ => label_place(core.image(p), b"".as_slice()),
+    };
+    R::scripted(Entry::Label(place, prm))
+}
+
+// The condition of a service, refused or not. A routine that was handed back goes.
+fn cond_of<R: Routine>(answer: Result<Cond, Refused<R>>) -> Cond
+    ensures { result ≡ cond_of answer }
+{
+    match answer {
+        Ok(cond) => cond,
+        Err(refused) => refused.cond,
+    }
+}
+
+// The routine at the label that an argument names, if it names one, with a parameter.
+fn routine_or_none<R: Routine>(core: &Core<R>, p: Pid, arg: &Arg, prm: u32) -> Option<R>
+    requires set { IsSet core.now p }
+    ensures { option_map R.tagged result ≡ routine_or_none core.now.state p arg.now prm }
+{
+    match arg {
+        Arg::Label(Some(_)) => Some(routine(core, p, arg, prm)),
+        _ => None,
+    }
+}
+
+// $DCLAST of the routine at a label.
+fn declare<R: Routine>(core: &mut Core<R>, p: Pid, args: &Args) -> Served
+    requires set { IsSet core.old p }
+    requires room { Fits core.old (service_of core.old.state p args.now Service.DclAst).effects }
+    ensures { Does (service_of core.old.state p args.now Service.DclAst) result core.old core.new }
+{
+    let routine: R = routine(core, p, &args.a0, number(&args.a1));
+    let answer = dclast(core, p, routine, access_mode(&args.a2));
+    Served::Answered(cond_of(answer))
+}
+
+// $SETIMR, with the routine at a label or with none.
+fn set_timer<R: Routine>(core: &mut Core<R>, p: Pid, args: &Args) -> Served
+    requires set { IsSet core.old p }
+    requires room { Fits core.old (service_of core.old.state p args.now Service.SetImr).effects }
+    ensures { Does (service_of core.old.state p args.now Service.SetImr) result core.old core.new }
+{
+    let reqid = number(&args.a3);
+    let routine: Option<R> = routine_or_none(core, p, &args.a2, reqid);
+    let answer = setimr(core, p, number(&args.a0), number(&args.a1), routine, reqid);
+    Served::Answered(cond_of(answer))
+}
+
+/// Does the service of a call. Its place is put behind the statement before, and R0 set after it.
+#[tactic(auto, using(crate::proofs::Served::only_built))]
+pub(crate) fn serve<R: Routine>(core: &mut Core<R>, p: Pid, call: &Call) -> Served
+    requires set { IsSet core.old p }
+    requires built { IsTrue (is_built_service call.now.service) }
+    requires room { Fits core.old (service core.old.state p call.now).effects }
+    ensures { Does (service core.old.state p call.now) result core.old core.new }
+{
+    let args = &call.args;
+    let n = number(&args.a0);
+    match call.service {
+        Service::SetEf => Served::Answered(setef(core, p, n)),
+        Service::ClrEf => Served::Answered(clref(core, p, n)),
+        Service::DclAst => declare(core, p, args),
+        Service::SetAst => Served::Answered(setast(core, p, n)),
+        Service::SetImr => set_timer(core, p, args),
+        _ => unreachable!(),
+    }
+}
