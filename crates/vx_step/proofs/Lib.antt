@@ -1,4 +1,5 @@
 pub mod Calls
 pub mod Few
 pub mod Ready
+pub mod Running
 pub mod Served

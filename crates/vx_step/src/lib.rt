@@ -2,6 +2,7 @@
 #![tactic(auto)]
 
 mod exec;
+mod machine;
 mod services;
 
 pub use exec::Exec;

@@ -1,0 +1,123 @@
+//! What a RUN does.
+
+ghost use Rattle.std.specs.Prelude.{◌≡◌, ◌<◌, IsTrue};
+ghost use Rattle.vx_record.specs.State.{IsProcess, process_at};
+ghost use Rattle.vx_record.specs.Events.{or_normal, resumed, returned, run, run_advanced, run_on};
+ghost use Rattle.vx_record.specs.Flags.{satisfied};
+ghost use Rattle.vx_procs.specs.Kernel.{Does, DoesQuietly, Fits};
+ghost use Rattle.vx_procs.specs.Ready.{FitsBlock};
+ghost use Rattle.vx_procs.specs.Words.{advanced_at};
+ghost use Rattle.vx_step.specs.Built.{IsBuiltCall, is_built_service};
+ghost use Rattle.vx_step.specs.Calls.{IsSet};
+
+use crate::services::serve;
+use vx_base::{Answer, Call, Cond, Effect, FrameKind, Pid, Routine, Wait};
+use vx_ctl::satisfied;
+use vx_image::Stop;
+use vx_procs::Core;
+use vx_record::Served;
+
+fn or_normal(cond: Option<Cond>) -> Cond
+    ensures { result ≡ or_normal cond }
+{
+    match cond {
+        Some(cond) => cond,
+        None => Cond::Normal,
+    }
+}
+
+// The wait of the top frame ends.
+fn end_wait<R: Routine>(core: &mut Core<R>, p: Pid, wait: Wait) -> Answer
+    requires made { IsProcess core.old.state p }
+    requires block { FitsBlock wait }
+    ensures { DoesQuietly (resumed core.old.state p wait (or_normal (satisfied core.old.state p wait))) result core.old core.new }
+{
+    let cond = or_normal(satisfied(core, p, wait));
+    core.resume(p, wait, cond);
+    Answer::Resume(cond)
+}
+
+// A service is called by the statement at a place. R0 takes its condition last.
+fn call_service<R: Routine>(core: &mut Core<R>, p: Pid, place: u32, call: Call) -> Answer
+    requires set { IsSet core.old p }
+    requires built { IsTrue (is_built_service call.service) }
+    requires place { place < 10000 }
+    requires room { Fits core.old (run_on core.old.state p place (Stop.Call call)).effects }
+    ensures { Does (run_on core.old.state p place (Stop.Call call)) result core.old core.new }
+{
+    core.move_behind(p, place);
+    match serve(core, p, &call) {
+        Served::Answered(cond) => {
+            core.set_r0(p, cond.number());
+            Answer::Service(call, cond)
+        }
+        Served::Waits => Answer::Wait(call),
+    }
+}
+
+// The top frame ends: the main frame exits with R0 as code; any other is left, and an AST's R0 is put back.
+fn leave<R: Routine>(core: &mut Core<R>, p: Pid) -> Answer
+    requires made { IsProcess core.old.state p }
+    requires room { Fits core.old (returned core.old.state p (process_at core.old.state p).frames).effects }
+    ensures { Does (returned core.old.state p (process_at core.old.state p).frames) result core.old core.new }
+{
+    let Some(frame) = core.top(p) else {
+        return Answer::Return;
+    };
+    match frame.kind {
+        FrameKind::Main => {
+            let code = core.r0(p);
+            core.exit(p, code);
+            Answer::End
+        }
+        FrameKind::Ast(id) => {
+            core.tell(Effect::Leave(id));
+            core.return_with(p, frame.saved_r0);
+            Answer::Return
+        }
+        FrameKind::Change | FrameKind::Handler => {
+            core.pop_frame(p);
+            Answer::Return
+        }
+    }
+}
+
+// What local statements stopped at, at a place.
+fn stop_at<R: Routine>(core: &mut Core<R>, p: Pid, place: u32, stop: Stop) -> Answer
+    requires set { IsSet core.old p }
+    requires built { IsBuiltCall place stop }
+    requires room { Fits core.old (run_on core.old.state p place stop).effects }
+    ensures { Does (run_on core.old.state p place stop) result core.old core.new }
+{
+    match stop {
+        Stop::Call(call) => call_service(core, p, place, call),
+        Stop::Return | Stop::End => leave(core, p),
+        Stop::Local => Answer::Local,
+    }
+}
+
+// The top frame, which waits for nothing, goes on.
+fn go_on<R: Routine>(core: &mut Core<R>, p: Pid) -> Answer
+    requires set { IsSet core.old p }
+    requires room { Fits core.old (run_advanced core.old.state p (advanced_at core.old.state p)).effects }
+    ensures { Does (run_advanced core.old.state p (advanced_at core.old.state p)) result core.old core.new }
+{
+    let (place, stop) = core.run_local(p);
+    stop_at(core, p, place, stop)
+}
+
+/// RUN.
+#[tactic(auto, using(crate::proofs::Running::quietly))]
+pub(crate) fn run<R: Routine>(core: &mut Core<R>, p: Pid) -> Answer
+    requires set { IsSet core.old p }
+    requires room { Fits core.old (run core.old.state p (process_at core.old.state p).frames).effects }
+    ensures { Does (run core.old.state p (process_at core.old.state p).frames) result core.old core.new }
+{
+    let Some(frame) = core.top(p) else {
+        return Answer::Local;
+    };
+    match frame.wait {
+        Some(wait) => end_wait(core, p, wait),
+        None => go_on(core, p),
+    }
+}
