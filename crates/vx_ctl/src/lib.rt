@@ -12,7 +12,7 @@ mod refused;
 mod time;
 mod timers;
 
-pub use asts::{dclast, setast};
+pub use asts::{dclast, force, setast};
 pub use flags::{clref, readef, satisfied, setef};
 pub use modes::{cmexec, cmkrnl};
 pub use refused::Refused;
