@@ -24,39 +24,10 @@ use Rattle.vx_procs.specs.Words.{moved_on, timer_ast, without_timer}
 use Rattle.std.proofs.lemmas.List.{append_assoc}
 use Rattle.vx_procs.specs.Kernel.{Acts, Fits, Kernel, told, with_state}
 use Rattle.vx_procs.proofs.Booked.{length-less}
+use Rattle.vx_procs.proofs.Firsts.{filter_found, filter_none, less_same}
+use Rattle.vx_procs.proofs.Rest.{IsDoing, acted, doing_begun, doing_end, doing_on, doing_room, told_none}
 use Rattle.vx_procs.proofs.Changed.{none_changed}
 use Rattle.vx_ctl.specs.Firing.{AreTimers, due_part, fired_first, firing, told_ast}
-
-filter_first : (p : Timer → Bool) (ts : List Timer) (t : Timer) → find p ts ≡ Some t → filter p ts ≡ t ∷ filter p (less p ts)
-filter_first p [] t e = absurd (cc)
-filter_first p (u ∷ us) t e =
-    elim (p u) as (λ b. p u ≡ b → cond b (Some u) (find p us) ≡ Some t → cond b (u ∷ filter p us) (filter p us) ≡ t ∷ filter p (cond b us (u ∷ less p us))) [
-      | true ↦ λ is found. let same : u ≡ t = cc in ap (λ v. v ∷ filter p us) same
-      | false ↦ λ is found. filter_first p us t found ∙ ap (λ vs. t ∷ vs) (sym (ap (λ b. cond b (u ∷ filter p (less p us)) (filter p (less p us))) is))
-    ] refl e
-
-pub filter_none : (p : Timer → Bool) (ts : List Timer) → find p ts ≡ None → filter p ts ≡ []
-filter_none p [] e = refl
-filter_none p (u ∷ us) e =
-    elim (p u) as (λ b. cond b (Some u) (find p us) ≡ None → cond b (u ∷ filter p us) (filter p us) ≡ []) [
-      | true ↦ λ found. absurd (cc)
-      | false ↦ λ found. filter_none p us found
-    ] e
-
--- in id order, what is found is the one with its id
-less_same : (p : Timer → Bool) (low high : ℕ) (ts : List Timer) (t : Timer) → AreOrdered timer_id low high ts → find p ts ≡ Some t → less (this_timer t.id) ts ≡ less p ts
-less_same p low high [] t order e = refl
-less_same p low high (u ∷ us) t order e =
-    elim (p u) as (λ b. cond b (Some u) (find p us) ≡ Some t → cond (u.id.0 == t.id.0) us (u ∷ less (this_timer t.id) us) ≡ cond b us (u ∷ less p us)) [
-      | true ↦ λ found.
-          let same : u ≡ t = cc in
-          let is : (u.id.0 == t.id.0) ≡ true = eq-eqb u.id.0 t.id.0 (ap (λ (v : Timer). v.id.0) same) in
-          ap (λ b. cond b us (u ∷ less (this_timer t.id) us)) is
-      | false ↦ λ found.
-          let above : u.id.0 + 1 ≤ t.id.0 = all_find (λ (v : Timer). u.id.0 + 1 ≤ v.id.0) p us t (all_from timer_id (u.id.0 + 1) high us order.1) found in
-          let isnt : (u.id.0 == t.id.0) ≡ false = false_from (u.id.0 == t.id.0) (λ same. let e = eqb-true u.id.0 t.id.0 same in omega (arith, above, e)) in
-          ap (λ b. cond b us (u ∷ less (this_timer t.id) us)) isnt ∙ ap (λ vs. u ∷ vs) (less_same p (u.id.0 + 1) high us t order.1 found)
-    ] e
 
 -- One timer.
 
@@ -96,7 +67,7 @@ fired_as s now t (OfTimer efn reqid mode tag) what timer order found =
     let ts = less (this_timer t.id) s.timers in
     let o = cell s t.p efn in
     let b = (flag_where_named s o true).after in
-    let out : ts ≡ less (is_due now) b.timers = less_same (is_due now) 0 s.next s.timers t order found ∙ ap (less (is_due now)) (sym (flag_timers s o)) in
+    let out : ts ≡ less (is_due now) b.timers = less_same timer_id (is_due now) 0 s.next s.timers t order found ∙ ap (less (is_due now)) (sym (flag_timers s o)) in
     let flags = (flag_where_named s o true).effects in
     let end : Part = told_ast (timer_ast t) (moved_on b now (Some t)) in
     let number : flag_number t.what ≡ efn = ap flag_number what in
@@ -130,7 +101,7 @@ fired_more s now t h found =
     let first = fired_as s now t t.what refl (all_find (λ (u : Timer). IsTrue (is_timer u.what)) (is_due now) s.timers t h.timers found) h.order found in
     let rest = filter (is_due now) (less (is_due now) s.timers) in
     let here = fired_first s now (Some t) in
-    ap (λ xs. each fire xs s) (filter_first (is_due now) s.timers t found)
+    ap (λ xs. each fire xs s) (filter_found (is_due now) s.timers t found)
     ∙ (ap (λ (x : Part). and_then x (each fire rest)) first
     ∙ ap (λ (us : List Timer). let x : Part = and_then here (each fire (filter (is_due now) us)) in x) (sym (fired_timers s now t)))
 
@@ -146,11 +117,13 @@ timers_after s now t h =
       timers = rw left (all_less (λ (u : Timer). IsTrue (is_timer u.what)) (is_due now) s.timers h.timers);
     }
 
--- The loop: what is left to fire leaves what all of it leaves, and there is room for it.
+-- The loop: what is left to fire, of timers in id order.
 pub record IsFiring (now : ℕ) (first k : Kernel) : Type 0 where
-  pub rest : told (with_state k (due_part now k.state).after) (due_part now k.state).effects ≡ told (with_state first (due_part now first.state).after) (due_part now first.state).effects
-  pub room : Fits k (due_part now k.state).effects
+  pub doing : IsDoing (due_part now first.state) first (due_part now k.state) k
   pub timers : AreTimers k.state
+
+pub firing_begun : (now : ℕ) (k : Kernel) → AreTimers k.state → Fits k (due_part now k.state).effects → IsFiring now k k
+firing_begun now k timers room = record { doing = doing_begun (due_part now k.state) k room; timers = timers }
 
 found_some : (o : Option Timer) → true ≡ is_some o → (t : Timer) × (o ≡ Some t)
 found_some None e = absurd (cc)
@@ -163,33 +136,23 @@ found_none (Some t) e = absurd (cc)
 firing_at : (s : State) (now : ℕ) (o : Option Timer) → find (is_due now) s.timers ≡ o → firing s now ≡ fired_first s now o
 firing_at s now o found = ap (fired_first s now) found
 
-room_by : (k : Kernel) (now : ℕ) (o : Option Timer) → find (is_due now) k.state.timers ≡ o → AreTimers k.state → Fits k (due_part now k.state).effects → Fits k (fired_first k.state now o).effects
-room_by k now None found h room = omega (arith, room)
-room_by k now (Some t) found h room =
-    let e = ap (λ (x : Part). length x.effects) (fired_more k.state now t h found) in
-    let a = fired_first k.state now (Some t) in
-    omega (arith, room, e, length-append a.effects (due_part now a.after).effects)
+room_by : (k first : Kernel) (now : ℕ) (o : Option Timer) → find (is_due now) k.state.timers ≡ o → IsFiring now first k → Fits k (fired_first k.state now o).effects
+room_by k first now None found h = omega (arith, h.doing.room)
+room_by k first now (Some t) found h = doing_room (due_part now first.state) first k (due_part now k.state) (fired_first k.state now (Some t)) (due_part now) (fired_more k.state now t h.timers found) h.doing
 
 pub firing_room : (now : ℕ) (first k : Kernel) → IsFiring now first k → Fits k (firing k.state now).effects
-firing_room now first k h = room_by k now (find (is_due now) k.state.timers) refl h.timers h.room
+firing_room now first k h = room_by k first now (find (is_due now) k.state.timers) refl h
 
-firing_on : (now : ℕ) (first k l : Kernel) (t : Timer) → find (is_due now) k.state.timers ≡ Some t → IsFiring now first k → l ≡ told (with_state k (fired_first k.state now (Some t)).after) (fired_first k.state now (Some t)).effects → IsFiring now first l
-firing_on now first k l t found h did =
-    let a = fired_first k.state now (Some t) in
-    let rest = due_part now a.after in
-    let here : Kernel = told (with_state k a.after) a.effects in
-    let whole = fired_more k.state now t h.timers found in
-    let is : IsFiring now first here = record {
-      rest = ap (λ zs. let x : Kernel = record k { state = rest.after; log = record k.log { items = zs } } in x) (append_assoc k.log.items a.effects rest.effects) ∙ (ap (λ (x : Part). told (with_state k x.after) x.effects) (sym whole) ∙ h.rest);
-      room = omega (arith, h.room, ap (λ (x : Part). length x.effects) whole, length-append a.effects rest.effects, length-append k.log.items a.effects);
-      timers = timers_after k.state now t h.timers;
-    } in
-    subst (IsFiring now first) (sym did) is
+firing_on : (now : ℕ) (first k l : Kernel) (t : Timer) → find (is_due now) k.state.timers ≡ Some t → IsFiring now first k → l ≡ acted k (fired_first k.state now (Some t)) → IsFiring now first l
+firing_on now first k l t found h did = record {
+  doing = doing_on (due_part now first.state) first k l (due_part now k.state) (fired_first k.state now (Some t)) (due_part now) (fired_more k.state now t h.timers found) did h.doing;
+  timers = subst (λ (x : Kernel). AreTimers x.state) (sym did) (timers_after k.state now t h.timers);
+}
 
 pub firing_more : (now : ℕ) (first k l : Kernel) → true ≡ is_some (find (is_due now) k.state.timers) → IsFiring now first k → Acts (firing k.state now) k l → IsFiring now first l
 firing_more now first k l some h did =
     let at = found_some (find (is_due now) k.state.timers) some in
-    firing_on now first k l at.0 at.1 h (did ∙ ap (λ (x : Part). told (with_state k x.after) x.effects) (firing_at k.state now (Some at.0) at.1))
+    firing_on now first k l at.0 at.1 h (did ∙ ap (acted k) (firing_at k.state now (Some at.0) at.1))
 
 pub firing_fewer : (now : ℕ) (k l : Kernel) → true ≡ is_some (find (is_due now) k.state.timers) → Acts (firing k.state now) k l → length l.state.timers < length k.state.timers
 firing_fewer now k l some did =
@@ -201,6 +164,4 @@ firing_fewer now k l some did =
 pub firing_end : (now : ℕ) (first k l : Kernel) → false ≡ is_some (find (is_due now) k.state.timers) → IsFiring now first k → Acts (firing k.state now) k l → Acts (due_part now first.state) first l
 firing_end now first k l none h did =
     let at = found_none (find (is_due now) k.state.timers) none in
-    did
-    ∙ (ap (λ (x : Part). told (with_state k x.after) x.effects) (firing_at k.state now None at ∙ sym (fired_none k.state now at))
-    ∙ h.rest)
+    doing_end (due_part now first.state) first k l (due_part now k.state) (fired_none k.state now at) (did ∙ (ap (acted k) (firing_at k.state now None at) ∙ sym (told_none k))) h.doing

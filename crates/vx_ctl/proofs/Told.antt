@@ -10,10 +10,11 @@ use Rattle.vx_record.specs.Parts.{tally}
 use Rattle.vx_record.specs.State.{Process, State, change, limits_of, no_decl, nobody, process_at}
 use Rattle.vx_record.proofs.Ground.{at_set}
 use Rattle.vx_procs.proofs.Changed.{IsQuiet}
+use Rattle.vx_procs.proofs.Rest as rest
 use Rattle.vx_procs.specs.Kernel.{Kernel, told, with_state}
 
 pub told_none : (k : Kernel) → k ≡ told k []
-told_none k = ap (λ xs. let y : Kernel = record k { log = record k.log { items = xs } } in y) (sym (append-nil k.log.items))
+told_none k = rest.told_none k
 
 pub mapped_some : {A B : Type 0} (f : A → B) (o : Option A) → is_some (option_map f o) ≡ is_some o
 mapped_some f None = refl

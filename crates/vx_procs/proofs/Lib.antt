@@ -1,7 +1,10 @@
+pub mod Bare
 pub mod Booked
 pub mod Changed
 pub mod FirstProcs
+pub mod Firsts
 pub mod Ops
 pub mod Quiet
+pub mod Rest
 pub mod Stack
 pub mod Started

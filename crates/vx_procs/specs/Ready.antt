@@ -1,13 +1,15 @@
 -- Room that was made before, and what a call of a service relies on.
-use Rattle.std.specs.Prelude.{◌≡◌, ℕ, ◌+◌, ◌^◌, ◌<◌, ◌≤◌, List, IsTrue, IfSome, length}
+use Rattle.std.specs.Prelude.{◌≡◌, ℕ, ◌+◌, ◌^◌, ◌<◌, ◌≤◌, List, [], IsTrue, IfSome, length}
 use Rattle.std.specs.List.{AllByRecursion}
+use Rattle.vx_base.specs.Channels.{channels_of}
 use Rattle.vx_base.specs.declared.frame.Frame.{Frame}
 use Rattle.vx_base.specs.declared.frame.Wait.{Wait}
 use Rattle.vx_base.specs.declared.frame.Wait.TheVariants as wait
+use Rattle.vx_base.specs.declared.mode.Mode.{Mode}
 use Rattle.vx_base.specs.declared.number.Pid.{Pid}
 use Rattle.vx_image.specs.WellFormed.{IsImage}
 use Rattle.vx_record.specs.State.{Process, State, IsProcess, process_at, image_of}
-use Rattle.vx_record.specs.Charges.{bears_ast, is_attention_of, charged_timer}
+use Rattle.vx_record.specs.Charges.{bears_ast, is_attention_of, is_timer, charged_timer}
 use Rattle.vx_record.specs.Parts.{tally}
 use Rattle.vx_procs.specs.Kernel.{Kernel, room_at}
 use Rattle.vx_procs.specs.Words.{have_own_ids, HasDecl, HasImage}
@@ -46,7 +48,21 @@ pub record IsKept (next : ℕ) (pr : Process) : Type 0 where
   pub opened : AllByRecursion (λ q. q.id.0 < next) pr.asts
   pub waits : FitWaits pr.frames
 
--- The process is there, with its image; there is a spare of each kind, an id left, and a time that can be counted on.
+-- a process has no channel and no exit handler
+pub record IsBareProcess (pr : Process) : Type 0 where
+  pub channels : (m : Mode) → channels_of m pr.channels ≡ []
+  pub handlers : pr.handlers ≡ []
+
+-- What is not built yet is not open: channels and exit handlers, requests, associations with common clusters, and scheduled
+-- wakes.
+pub record IsBare (s : State) : Type 0 where
+  pub requests : s.requests ≡ []
+  pub associations : s.common.associations ≡ []
+  pub timers : AllByRecursion (λ t. IsTrue (is_timer t.what)) s.timers
+  pub procs : AllByRecursion IsBareProcess s.procs
+
+-- The process is there, with its image; there is a spare of each kind, an id left, and a time that can be counted on; nothing is
+-- open that is not built.
 pub record IsReady (k : Kernel) (p : Pid) : Type 0 where
   pub made : IsProcess k.state p
   pub declared : HasDecl k.state p
@@ -57,3 +73,4 @@ pub record IsReady (k : Kernel) (p : Pid) : Type 0 where
   pub timer : length k.state.timers + 1 ≤ k.timers
   pub ids : k.state.next < 4294967295
   pub time : k.state.time < 2 ^ 63
+  pub bare : IsBare k.state

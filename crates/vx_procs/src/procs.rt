@@ -1,9 +1,9 @@
 //! What the executive keeps.
 
-ghost use Rattle.std.specs.Prelude.{◌≡◌, ◌+◌, ◌≤◌, [], ◌∷◌, OnOk, length};
+ghost use Rattle.std.specs.Prelude.{◌≡◌, ◌+◌, ◌<◌, ◌≤◌, ◌^◌, [], ◌∷◌, OnOk, length};
 ghost use Rattle.vx_base.specs.Log.{HasRoom};
 ghost use Rattle.vx_procs.specs.Kernel.{Fits, told};
-ghost use Rattle.vx_procs.specs.Ready.{HasSpares};
+ghost use Rattle.vx_procs.specs.Ready.{HasSpares, IsBare};
 
 use crate::process::Proc;
 use std::alloc::Global;
@@ -12,6 +12,9 @@ use std::mem;
 use vx_base::{Effect, EffectList, Effects, NoMemory, Pid, Routine};
 use vx_image::System;
 use vx_timers::Timers;
+
+/// The time, in ticks, from which on no timer can be set: due times are counted in 64 bits.
+const LAST_TIME: u64 = 9_223_372_036_854_775_808;
 
 /// What the script says, the time in ticks, the next id, the processes in the order of their numbers from 1, timers, and the
 /// log of the event under way. Contracts see the plain state, the log, and how much there is room for: `specs/Kernel.antt`.
@@ -42,14 +45,19 @@ impl<R: Routine> Model for Core<R> {
 
 impl<R: Routine> Core<R> {
     /// Makes good what spare room the last event used, and makes room for a timer more and for as many effects as are told.
-    /// Nothing that the state says is changed, even where memory is short.
+    /// Nothing that the state says is changed, even where memory is short. (A time beyond 2^63 has no room for timers either.)
     pub fn begin(&mut self, effects: u32) -> Result<(), NoMemory>
         ensures same { self.new.state ≡ self.old.state }
         ensures spares { OnOk result (HasSpares self.new) }
         ensures timer { OnOk result (length self.new.state.timers + 1 ≤ self.new.timers) }
         ensures empty { OnOk result (self.new.log.items ≡ []) }
         ensures room { OnOk result (HasRoom self.new.log effects) }
+        ensures time { OnOk result (self.new.state.time < 2 ^ 63) }
+        ensures bare { OnOk result (IsBare self.new.state) }
     {
+        if self.time >= LAST_TIME {
+            return Err(NoMemory);
+        }
         let mut log = Effects::new(self.alloc);
         log.reserve(effects)?;
         self.timers.reserve(1)?;

