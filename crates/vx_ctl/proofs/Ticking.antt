@@ -41,7 +41,7 @@ flag_told : (s : State) (o : Option Cell) (ts : List Timer) → (flag_where_name
 flag_told s None ts = refl
 flag_told s (Some c) ts = refl
 
-flag_timers : (s : State) (o : Option Cell) → (flag_where_named s o true).after.timers ≡ s.timers
+pub flag_timers : (s : State) (o : Option Cell) → (flag_where_named s o true).after.timers ≡ s.timers
 flag_timers s None = refl
 flag_timers s (Some (Local p n)) = refl
 flag_timers s (Some (Common g n k)) = refl

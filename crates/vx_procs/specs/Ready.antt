@@ -1,7 +1,8 @@
 -- Room that was made before, and what a call of a service relies on.
-use Rattle.std.specs.Prelude.{◌≡◌, ℕ, ◌+◌, ◌^◌, ◌<◌, ◌≤◌, List, [], IsTrue, IfSome, length}
-use Rattle.std.specs.List.{AllByRecursion}
+use Rattle.std.specs.Prelude.{◌≡◌, ℕ, ◌+◌, ◌^◌, ◌<◌, ◌≤◌, List, [], false, ◌==◌, IsTrue, IfSome, length}
+use Rattle.std.specs.List.{AllByRecursion, list_any}
 use Rattle.vx_base.specs.Channels.{channels_of}
+use Rattle.vx_base.specs.Pieces.{Timer}
 use Rattle.vx_base.specs.declared.frame.Frame.{Frame}
 use Rattle.vx_base.specs.declared.frame.Wait.{Wait}
 use Rattle.vx_base.specs.declared.frame.Wait.TheVariants as wait
@@ -42,10 +43,12 @@ FitsBlock wait.Hiber = Unit {0}
 abbrev pub FitWaits : List Frame → Type 0
 FitWaits frames = AllByRecursion (λ f. IfSome f.wait FitsBlock) frames
 
--- No two queued ASTs of a process have one id, and their ids were opened; a status block that a frame waits for is there.
-pub record IsKept (next : ℕ) (pr : Process) : Type 0 where
+-- No two queued ASTs of a process have one id, their ids were opened, and none is a timer's; a status block that a frame waits for
+-- is there.
+pub record IsKept (next : ℕ) (timers : List Timer) (pr : Process) : Type 0 where
   pub ids : IsTrue (have_own_ids pr.asts)
   pub opened : AllByRecursion (λ q. q.id.0 < next) pr.asts
+  pub apart : AllByRecursion (λ t. list_any (λ q. q.id.0 == t.id.0) pr.asts ≡ false) timers
   pub waits : FitWaits pr.frames
 
 -- a process has no channel and no exit handler
@@ -68,7 +71,7 @@ pub record IsReady (k : Kernel) (p : Pid) : Type 0 where
   pub declared : HasDecl k.state p
   pub image : HasImage k.state p
   pub formed : IsImage (image_of k.state p)
-  pub kept : IsKept k.state.next (process_at k.state p)
+  pub kept : IsKept k.state.next k.state.timers (process_at k.state p)
   pub spares : HasSpares k
   pub timer : length k.state.timers + 1 ≤ k.timers
   pub ids : k.state.next < 4294967295

@@ -29,7 +29,7 @@ use Rattle.vx_rundown.proofs.Changed.{process_there, made_still}
 
 -- Ids.
 
-any_less : {A : Type 0} (g p : A → Bool) (xs : List A) → list_any g xs ≡ false → list_any g (less p xs) ≡ false
+pub any_less : {A : Type 0} (g p : A → Bool) (xs : List A) → list_any g xs ≡ false → list_any g (less p xs) ≡ false
 any_less g p [] e = refl
 any_less g p (x ∷ xs) e =
     let parts = or_parts (g x) (list_any g xs) e in
