@@ -1,1 +1,3 @@
 pub mod Inward
+pub mod Told
+pub mod Ticking

@@ -1,5 +1,5 @@
 -- What calls of services answer.
-use Rattle.std.specs.Prelude.{◌≡◌, ℕ, [], Bool, Result, Ok, Err}
+use Rattle.std.specs.Prelude.{ℕ, Bool, Result, Ok, Err}
 use Rattle.vx_base.specs.declared.cond.Cond.{Cond}
 use Rattle.vx_base.specs.declared.number.Pid.{Pid}
 use Rattle.vx_record.specs.State.{State}
@@ -11,12 +11,6 @@ use Rattle.vx_ctl.specs.declared.refused.Refused.{Refused}
 abbrev pub cond_of : {R : Type 0} → Result Cond (Refused R) → Cond
 cond_of (Ok cond) = cond
 cond_of (Err refused) = refused.cond
-
--- A call that logs nothing answered and left what an outcome says, and the outcome has no effect.
-pub record DoesQuietly {A : Type 0} (o : Outcome A) (answer : A) (state_after : State) : Type 0 where
-  pub answers : answer ≡ o.answer
-  pub quiet : o.effects ≡ []
-  pub leaves : state_after ≡ o.after
 
 -- $SETEF, or $CLREF where the flag is cleared
 abbrev pub put_flag : State → Pid → ℕ → Bool → Outcome Cond

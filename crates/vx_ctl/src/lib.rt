@@ -9,11 +9,12 @@ mod asts;
 mod flags;
 mod modes;
 mod refused;
+mod time;
+mod timers;
 
-pub use asts::{dclast, setast};
+pub use asts::{dclast, force, setast};
 pub use flags::{clref, readef, satisfied, setef};
 pub use modes::{cmexec, cmkrnl};
 pub use refused::Refused;
-
-#[cfg(test)]
-mod tests;
+pub use time::tick;
+pub use timers::setimr;

@@ -2,16 +2,16 @@
 
 ghost use Rattle.std.specs.Prelude.{◌≡◌, IfErr, IsTrue, Err, Some};
 ghost use Rattle.vx_base.specs.Modes.{inner, reaches};
-ghost use Rattle.vx_record.specs.State.{IsProcess, current};
+ghost use Rattle.vx_record.specs.State.{current};
 ghost use Rattle.vx_record.specs.Asts.{changed_mode, cmexec, cmkrnl, is_inside};
 ghost use Rattle.vx_base.specs.declared.cond.Cond.TheVariants.{NoPriv};
-ghost use Rattle.vx_procs.specs.View.{state, capacities, HasFrameRoom};
-ghost use Rattle.vx_procs.specs.Words.{HasDecl, HasImage};
-ghost use Rattle.vx_ctl.specs.Answers.{DoesQuietly, cond_of};
+ghost use Rattle.vx_procs.specs.Kernel.{DoesQuietly, with_state};
+ghost use Rattle.vx_procs.specs.Ready.{IsReady};
+ghost use Rattle.vx_ctl.specs.Answers.{cond_of};
 
 use crate::refused::Refused;
 use vx_base::{Cond, FrameKind, Mode, Pid, Routine};
-use vx_procs::{Core, current_mode, new_frame, process_of, push_frame};
+use vx_procs::Core;
 
 // The inner one of two modes.
 fn inner_of(a: Mode, b: Mode) -> Mode
@@ -30,16 +30,12 @@ fn is_inside(mode: Mode) -> bool
 // Enters a routine in a mode that is not further out than the caller's.
 #[tactic(auto, using(crate::proofs::Inward::may_stand))]
 fn enter<R: Routine>(core: &mut Core<R>, p: Pid, mode: Mode, routine: R)
-    requires made { IsProcess (state core.old) p }
-    requires declared { HasDecl (state core.old) p }
-    requires image { HasImage (state core.old) p }
-    requires free { HasFrameRoom core.old p }
-    requires inward { IsTrue (reaches (current (state core.old) p) mode) }
-    ensures after { state core.new ≡ changed_mode (state core.old) p mode (R.tagged routine) }
-    ensures room { capacities core.new ≡ capacities core.old }
+    requires ready { IsReady core.old p }
+    requires inward { IsTrue (reaches (current core.old.state p) mode) }
+    ensures { core.new ≡ with_state core.old (changed_mode core.old.state p mode (R.tagged routine)) }
 {
-    let frame = new_frame(core, p, FrameKind::Change, mode, routine.enter(), 0);
-    push_frame(core, p, frame);
+    let frame = core.new_frame(p, FrameKind::Change, mode, routine.enter(), 0);
+    core.push_frame(p, frame);
 }
 
 fn refuse<R>(routine: R) -> Result<Cond, Refused<R>>
@@ -55,16 +51,12 @@ fn refuse<R>(routine: R) -> Result<Cond, Refused<R>>
 /// further out and has neither CMEXEC nor CMKRNL. A refusal hands the routine back.
 #[tactic(auto, using(crate::proofs::Inward::inner_reached))]
 pub fn cmexec<R: Routine>(core: &mut Core<R>, p: Pid, routine: R) -> Result<Cond, Refused<R>>
-    requires made { IsProcess (state core.old) p }
-    requires declared { HasDecl (state core.old) p }
-    requires image { HasImage (state core.old) p }
-    requires free { HasFrameRoom core.old p }
-    ensures does { DoesQuietly (cmexec (state core.old) p (R.tagged routine)) (cond_of result) (state core.new) }
+    requires { IsReady core.old p }
+    ensures does { DoesQuietly (cmexec core.old.state p (R.tagged routine)) (cond_of result) core.old core.new }
     ensures handed { IfErr result (λ refused. refused.ast ≡ Some routine) }
-    ensures room { capacities core.new ≡ capacities core.old }
 {
-    let mode = current_mode(core, p);
-    let privs = process_of(core, p).privs;
+    let mode = core.current_mode(p);
+    let privs = core.privs(p);
     if !(is_inside(mode) || privs.cmexec || privs.cmkrnl) {
         return refuse(routine);
     }
@@ -76,16 +68,12 @@ pub fn cmexec<R: Routine>(core: &mut Core<R>, p: Pid, routine: R) -> Result<Cond
 /// refusal hands the routine back.
 #[tactic(auto, using(crate::proofs::Inward::kernel_reached))]
 pub fn cmkrnl<R: Routine>(core: &mut Core<R>, p: Pid, routine: R) -> Result<Cond, Refused<R>>
-    requires made { IsProcess (state core.old) p }
-    requires declared { HasDecl (state core.old) p }
-    requires image { HasImage (state core.old) p }
-    requires free { HasFrameRoom core.old p }
-    ensures does { DoesQuietly (cmkrnl (state core.old) p (R.tagged routine)) (cond_of result) (state core.new) }
+    requires { IsReady core.old p }
+    ensures does { DoesQuietly (cmkrnl core.old.state p (R.tagged routine)) (cond_of result) core.old core.new }
     ensures handed { IfErr result (λ refused. refused.ast ≡ Some routine) }
-    ensures room { capacities core.new ≡ capacities core.old }
 {
-    let mode = current_mode(core, p);
-    if !(is_inside(mode) || process_of(core, p).privs.cmkrnl) {
+    let mode = core.current_mode(p);
+    if !(is_inside(mode) || core.privs(p).cmkrnl) {
         return refuse(routine);
     }
     enter(core, p, Mode::Kernel, routine);

@@ -1,81 +1,149 @@
--- What a step of rundown does to the state: it is steady, and drops at most the queued ASTs of a process in each mode.
-use Rattle.std.proofs.Common.{◌≡◌, ℕ, ◌+◌, ◌*◌, ◌≤◌, List, [], ◌∷◌, Bool, length, length-append, refl, sym, subst, arith}
+-- What a step of rundown does to the state: no id is opened, and it drops at most the timers and queued ASTs there are in each
+-- mode.
+use Rattle.std.proofs.Common.{◌≡◌, ℕ, ◌+◌, ◌-◌, ◌*◌, ◌≤◌, List, [], ◌∷◌, ◌++◌, Bool, length, length-append, refl, sym, ap, subst, arith}
 use Rattle.std.specs.List.{filter}
 use Rattle.std.proofs.Math.Nat.{mul-le-mul_left, mul-le-mul_right}
-use Rattle.vx_base.specs.Pieces.{Queued}
+use Rattle.vx_base.specs.Lists.{less}
+use Rattle.vx_base.specs.Pieces.{Queued, Timer}
+use Rattle.vx_base.specs.declared.effects.Effect.{Effect}
 use Rattle.vx_base.specs.declared.frame.Phase.{Phase}
 use Rattle.vx_base.specs.declared.frame.Phase.TheVariants as phase
 use Rattle.vx_base.specs.declared.mode.Mode.{Mode}
 use Rattle.vx_base.specs.declared.mode.Mode.TheVariants.{Kernel, Exec, Super, User}
 use Rattle.vx_base.specs.declared.number.Pid.{Pid}
 use Rattle.vx_base.specs.declared.record.Answer.{Answer}
-use Rattle.vx_record.specs.State.{State, IsProcess, process_at, change}
-use Rattle.vx_record.specs.Parts.{Outcome, each, followed_by}
-use Rattle.vx_record.specs.Rundown.{drop_ast, drop_asts, handling, in_phase, inner_modes, is_ast_reached, rundown, rundown_from, run_down}
-use Rattle.vx_record.proofs.Lists.{either}
-use Rattle.vx_rundown.proofs.Bare.{IsBare, drained, drop_asts_bare, gone_alone, mode_done, reached, reached_bare}
-use Rattle.vx_exec.specs.Ready.{most}
-use Rattle.vx_exec.proofs.Goes.{GoesBy, Steady, steady_still, steady_then, steady_changed, made_steady, goes_still, goes_steady, without_steady}
-use Rattle.vx_exec.proofs.Kept.{kept_phase}
+use Rattle.vx_record.specs.State.{Process, State, IsProcess, process_at, change}
+use Rattle.vx_record.specs.Parts.{Outcome, Part, each, followed_by, nothing}
+use Rattle.vx_record.specs.Rundown.{draining, drop_ast, drop_asts, handling, in_phase, inner_modes, is_ast_reached, is_timer_in, rundown, rundown_from, run_down, without_ast}
+use Rattle.vx_record.specs.Sound.{timer_id}
+use Rattle.vx_record.specs.Timers.{drop_timer, drop_timers, this_timer}
+use Rattle.vx_record.proofs.Lists.{all_weaker, either, ordered_less}
+use Rattle.vx_procs.specs.Ready.{IsBare, IsKept}
+use Rattle.vx_rundown.specs.Leaving.{cancelled}
+use Rattle.vx_rundown.proofs.Bare.{cancelled_bare, cancelled_timers, drained, drop_asts_bare, gone_alone, in_phase_bare, mode_done}
+use Rattle.vx_rundown.proofs.Changed.{process_there}
+use Rattle.vx_exec.specs.Sound.{AreKept}
+use Rattle.vx_exec.proofs.Goes.{Goes, Stays, goes_stays, made_stays, stays_changed, stays_still, stays_then}
+use Rattle.vx_exec.proofs.Kept.{Keeps, kept_fewer, kept_phase, kept_without}
 
-phase_steady : (p : Pid) (s : State) (ph : Phase) → IsProcess s p → Steady p s (change s p (in_phase ph))
-phase_steady p s ph made = steady_changed p s (in_phase ph) made (kept_phase ph) (omega arith) (omega arith)
+-- the timers there are, and the ASTs queued for a process
+abbrev load : State → Pid → ℕ
+load s p = length (process_at s p).asts + length s.timers
 
-reached_steady : (p : Pid) (m : Mode) (s : State) → IsProcess s p → Steady p s (reached p m s)
-reached_steady p m s made =
-    let one = phase_steady p s (phase.Handlers m) made in
-    let t = handling p m s in
-    steady_then p s t (reached p m s) one (phase_steady p t (phase.Draining m) (made_steady p s t one made))
+-- it stays, has no more to drop, and tells at most so much
+record Falls (p : Pid) (bound : ℕ) (s t : State) (told : List Effect) : Type 0 where
+  pub stays : Stays s t
+  pub asts : length (process_at t p).asts ≤ length (process_at s p).asts
+  pub timers : length t.timers ≤ length s.timers
+  pub few : length told ≤ bound
+
+pub less_few : {A : Type 0} (p : A → Bool) (xs : List A) → length (less p xs) ≤ length xs
+less_few p [] = omega arith
+less_few p (x ∷ xs) = let rest = less_few p xs in either (λ ys. length ys ≤ length (x ∷ xs)) (p x) xs (x ∷ less p xs) (omega arith) (omega (arith, rest))
 
 filter_few : {A : Type 0} (p : A → Bool) (xs : List A) → length (filter p xs) ≤ length xs
 filter_few p [] = omega arith
 filter_few p (x ∷ xs) = let rest = filter_few p xs in either (λ ys. length ys ≤ length (x ∷ xs)) (p x) (x ∷ filter p xs) (filter p xs) (omega (arith, rest)) (omega (arith, rest))
 
-drops_steady : (p : Pid) (qs : List Queued) (s : State) → IsProcess s p → Steady p s (each (drop_ast p) qs s).after
-drops_steady p [] s made = steady_still p s
-drops_steady p (q ∷ qs) s made =
+falls_still : (p : Pid) (s : State) → Falls p 0 s s []
+falls_still p s = record { stays = stays_still s; asts = omega arith; timers = omega arith; few = omega arith }
+
+falls_then : (p : Pid) (m n : ℕ) (s t u : State) (told more : List Effect) → Falls p m s t told → Falls p n t u more → Falls p (m + n) s u (told ++ more)
+falls_then p m n s t u told more a b = record {
+  stays = stays_then s t u a.stays b.stays;
+  asts = omega (arith, a.asts, b.asts);
+  timers = omega (arith, a.timers, b.timers);
+  few = omega (arith, a.few, b.few, length-append told more);
+}
+
+falls_more : (p : Pid) (m n : ℕ) (s t : State) (told : List Effect) → m ≤ n → Falls p m s t told → Falls p n s t told
+falls_more p m n s t told more h = record { stays = h.stays; asts = h.asts; timers = h.timers; few = omega (arith, h.few, more) }
+
+falls_made : (p : Pid) (n : ℕ) (s t : State) (told : List Effect) → IsProcess s p → Falls p n s t told → IsProcess t p
+falls_made p n s t told made h = made_stays p s t h.stays made
+
+changed_falls : (p : Pid) (s : State) (f : Process → Process) → IsProcess s p → Keeps f → length (f (process_at s p)).asts ≤ length (process_at s p).asts → Falls p 0 s (change s p f) []
+changed_falls p s f made k asts = record { stays = stays_changed s p f k; asts = omega (arith, asts, ap (λ (pr : Process). length pr.asts) (process_there s p f made)); timers = omega arith; few = omega arith }
+
+phase_falls : (p : Pid) (s : State) (ph : Phase) → IsProcess s p → Falls p 0 s (change s p (in_phase ph)) []
+phase_falls p s ph made = changed_falls p s (in_phase ph) made (kept_phase ph) (omega arith)
+
+-- one AST, and one timer
+
+ast_falls : (p : Pid) (s : State) (q : Queued) → IsProcess s p → Falls p 1 s (drop_ast p s q).after (drop_ast p s q).effects
+ast_falls p s q made = let h = changed_falls p s (without_ast q.id) made (kept_without q.id) (less_few _ (process_at s p).asts) in record { stays = h.stays; asts = h.asts; timers = h.timers; few = omega arith }
+
+timer_falls : (p : Pid) (s : State) (t : Timer) → Falls p 1 s (drop_timer s t).after (drop_timer s t).effects
+timer_falls p s t = record {
+  stays = record {
+    procs = refl;
+    next = refl;
+    kept = λ h. record {
+      order = ordered_less timer_id (this_timer t.id) 0 s.next s.timers h.order;
+      procs = all_weaker (IsKept s.next s.timers) (IsKept s.next (less (this_timer t.id) s.timers)) (kept_fewer (this_timer t.id) s.next s.timers) s.procs h.procs;
+    };
+  };
+  asts = omega arith;
+  timers = less_few (this_timer t.id) s.timers;
+  few = omega arith;
+}
+
+-- all of a mode
+
+asts_each : (p : Pid) (qs : List Queued) (s : State) → IsProcess s p → Falls p (length qs) s (each (drop_ast p) qs s).after (each (drop_ast p) qs s).effects
+asts_each p [] s made = falls_still p s
+asts_each p (q ∷ qs) s made =
+    let one = ast_falls p s q made in
     let t = (drop_ast p s q).after in
-    let one = without_steady p s q.id made in
-    steady_then p s t (each (drop_ast p) qs t).after one (drops_steady p qs t (made_steady p s t one made))
+    falls_more p (1 + length qs) (length (q ∷ qs)) s _ _ (omega arith) (falls_then p 1 (length qs) s t _ _ _ one (asts_each p qs t (falls_made p 1 s t _ made one)))
 
-drops_told : (p : Pid) (qs : List Queued) (s : State) → length (each (drop_ast p) qs s).effects ≡ length qs
-drops_told p [] s = refl
-drops_told p (q ∷ qs) s = let rest = drops_told p qs (drop_ast p s q).after in omega (arith, rest)
+timers_each : (p : Pid) (ts : List Timer) (s : State) → Falls p (length ts) s (each drop_timer ts s).after (each drop_timer ts s).effects
+timers_each p [] s = falls_still p s
+timers_each p (t ∷ ts) s = falls_more p (1 + length ts) (length (t ∷ ts)) s _ _ (omega arith) (falls_then p 1 (length ts) s (drop_timer s t).after _ _ _ (timer_falls p s t) (timers_each p ts (drop_timer s t).after))
 
-drop_steady : (p : Pid) (m : Mode) (s : State) → IsProcess s p → Steady p s (drop_asts p m s).after
-drop_steady p m s made = drops_steady p (filter (is_ast_reached m) (process_at s p).asts) s made
+asts_fall : (p : Pid) (m : Mode) (s : State) → IsProcess s p → Falls p (length (process_at s p).asts) s (drop_asts p m s).after (drop_asts p m s).effects
+asts_fall p m s made = falls_more p _ _ s _ _ (filter_few (is_ast_reached m) (process_at s p).asts) (asts_each p (filter (is_ast_reached m) (process_at s p).asts) s made)
 
-drop_few : (p : Pid) (m : Mode) (s : State) → length (drop_asts p m s).effects ≤ length (process_at s p).asts
-drop_few p m s = omega (arith, drops_told p (filter (is_ast_reached m) (process_at s p).asts) s, filter_few (is_ast_reached m) (process_at s p).asts)
+timers_fall : (p : Pid) (test : Timer → Bool) (s : State) → Falls p (length s.timers) s (drop_timers test s).after (drop_timers test s).effects
+timers_fall p test s = falls_more p _ _ s _ _ (filter_few test s.timers) (timers_each p (filter test s.timers) s)
 
--- it is steady, and logs at most so much
-record Falls (p : Pid) (s : State) (o : Outcome Answer) (bound : ℕ) : Type 0 where
-  pub steady : Steady p s o.after
-  pub few : length o.effects ≤ bound
+cancelled_falls : (p : Pid) (m : Mode) (s : State) → IsBare s → IsProcess s p → Falls p (length s.timers) s (cancelled p m s).after (cancelled p m s).effects
+cancelled_falls p m s b made =
+    let t = handling p m s in
+    let one = phase_falls p s (phase.Handlers m) made in
+    let drops = drop_timers (is_timer_in p m) t in
+    let two = falls_more p (0 + length s.timers) (length s.timers) s drops.after _ (omega arith) (falls_then p 0 (length s.timers) s t drops.after _ _ one (timers_fall p (is_timer_in p m) t)) in
+    let last = phase_falls p drops.after (phase.Draining m) (falls_made p (length s.timers) s drops.after _ made two) in
+    let all = falls_more p (length s.timers + 0) (length s.timers) s _ _ (omega arith) (falls_then p (length s.timers) 0 s drops.after (draining p m drops.after) _ _ two last) in
+    subst (λ (a : Part). Falls p (length s.timers) s a.after a.effects) (sym (cancelled_timers t p m (in_phase_bare s p (phase.Handlers m) b))) all
 
-falls_more : (p : Pid) (s : State) (o : Outcome Answer) (x y : ℕ) → Falls p s o x → x ≤ y → Falls p s o y
-falls_more p s o x y h e = record { steady = h.steady; few = omega (arith, h.few, e) }
+-- mode after mode
 
--- the ASTs of a mode, and then the modes further in
-followed_falls : (p : Pid) (m : Mode) (s t : State) (ms : List Mode) → Steady p s t → IsProcess t p → Falls p (drop_asts p m t).after (run_down p ms (drop_asts p m t).after) (length ms * length (process_at (drop_asts p m t).after p).asts + 1) → Falls p s (followed_by (drop_asts p m t) (run_down p ms)) (length ms * length (process_at s p).asts + length (process_at s p).asts + 1)
-followed_falls p m s t ms first made rest =
-    let u = (drop_asts p m t).after in
-    let both = steady_then p s t u first (drop_steady p m t made) in
-    record {
-      steady = steady_then p s u (run_down p ms u).after both rest.steady;
-      few = omega (arith, length-append (drop_asts p m t).effects (run_down p ms u).effects, drop_few p m t, first.asts, rest.few, mul-le-mul_left (length ms) both.asts);
-    }
+abbrev down_most : State → Pid → List Mode → ℕ
+down_most s p ms = length ms * load s p + 1
 
-run_down_falls : (p : Pid) (ms : List Mode) (s : State) → IsBare s → IsProcess s p → Falls p s (run_down p ms s) (length ms * length (process_at s p).asts + 1)
-run_down_falls p [] s b made = rw (gone_alone s p b) (record { steady = phase_steady p s phase.Deleted made; few = omega arith })
+followed_falls : (p : Pid) (m : Mode) (n : ℕ) (s t : State) (told : List Effect) (ms : List Mode) → Falls p n s t told → IsProcess s p → (let u = (drop_asts p m t).after in Falls p (down_most u p ms) u (run_down p ms u).after (run_down p ms u).effects) → (let o = followed_by (drop_asts p m t) (run_down p ms) in Falls p (n + (length (process_at s p).asts + down_most s p ms)) s o.after (told ++ o.effects))
+followed_falls p m n s t told ms first made rest =
+    let drops = drop_asts p m t in
+    let u = drops.after in
+    let two = asts_fall p m t (falls_made p n s t told made first) in
+    let after_both = falls_then p n (length (process_at t p).asts) s t u told drops.effects first two in
+    let less_load : load u p ≤ load s p = omega (arith, after_both.asts, after_both.timers) in
+    let bound : down_most u p ms ≤ down_most s p ms = omega (arith, mul-le-mul_left (length ms) less_load) in
+    let later = falls_then p (length (process_at t p).asts) (down_most u p ms) t u (run_down p ms u).after drops.effects (run_down p ms u).effects two rest in
+    falls_more p _ _ s _ _ (omega (arith, first.asts, bound)) (falls_then p n _ s t _ told _ first later)
+
+run_down_falls : (p : Pid) (ms : List Mode) (s : State) → IsBare s → IsProcess s p → Falls p (down_most s p ms) s (run_down p ms s).after (run_down p ms s).effects
+run_down_falls p [] s b made =
+    let h = phase_falls p s phase.Deleted made in
+    subst (λ (o : Outcome Answer). Falls p (down_most s p []) s o.after o.effects) (sym (gone_alone s p b)) (record { stays = h.stays; asts = h.asts; timers = h.timers; few = omega arith })
 run_down_falls p (m ∷ ms) s b made =
-    let t = reached p m s in
-    let first = reached_steady p m s made in
-    let made_t = made_steady p s t first made in
-    let u = (drop_asts p m t).after in
-    let rest = run_down_falls p ms u (drop_asts_bare p m t (reached_bare p m s b)) (made_steady p t u (drop_steady p m t made_t) made_t) in
-    let bound = length (m ∷ ms) * length (process_at s p).asts + 1 in
-    subst (λ (o : Outcome Answer). Falls p s o bound) (sym (mode_done s p m ms b)) (falls_more p s _ _ bound (followed_falls p m s t ms first made_t rest) (omega arith))
+    let a = cancelled p m s in
+    let first = cancelled_falls p m s b made in
+    let u = (drop_asts p m a.after).after in
+    let made_a = falls_made p (length s.timers) s a.after a.effects made first in
+    let rest = run_down_falls p ms u (drop_asts_bare p m a.after (cancelled_bare p m s b)) (falls_made p _ a.after u _ made_a (asts_fall p m a.after made_a)) in
+    subst (λ (o : Outcome Answer). Falls p (down_most s p (m ∷ ms)) s o.after o.effects) (sym (mode_done s p m ms b)) (falls_more p _ (down_most s p (m ∷ ms)) s _ _ (omega arith) (followed_falls p m (length s.timers) s a.after a.effects ms first made rest))
 
 -- of four modes at most
 
@@ -91,21 +159,21 @@ inner_few Exec = omega arith
 inner_few Super = omega arith
 inner_few User = omega arith
 
-falls_goes : (p : Pid) (s : State) (o : Outcome Answer) (bound : ℕ) → Falls p s o bound → bound ≤ most s p → GoesBy p s o
-falls_goes p s o bound h e = goes_steady p s o.after o.effects h.steady (omega (arith, h.few, e))
+falls_goes : (p : Pid) (n bound : ℕ) (s : State) (o : Outcome Answer) → n ≤ bound → Falls p n s o.after o.effects → Goes bound s o.after o.effects
+falls_goes p n bound s o few h = goes_stays bound s o.after o.effects h.stays (omega (arith, h.few, few))
 
-rundown_from_goes : (p : Pid) (s : State) (ph : Phase) → IsBare s → IsProcess s p → GoesBy p s (rundown_from p ph s)
+rundown_from_goes : (p : Pid) (s : State) (ph : Phase) → IsBare s → IsProcess s p → (let o = rundown_from p ph s in Goes (4 * load s p + 1) s o.after o.effects)
 rundown_from_goes p s (phase.Handlers m) b made =
-    let few = mul-le-mul_right (length (process_at s p).asts) (modes_few m) in
-    falls_goes p s _ _ (run_down_falls p (m ∷ inner_modes m) s b made) (omega (arith, few))
+    let few = mul-le-mul_right (load s p) (modes_few m) in
+    falls_goes p (down_most s p (m ∷ inner_modes m)) (4 * load s p + 1) s (run_down p (m ∷ inner_modes m) s) (omega (arith, few)) (run_down_falls p (m ∷ inner_modes m) s b made)
 rundown_from_goes p s (phase.Draining m) b made =
-    let few = mul-le-mul_right (length (process_at s p).asts) (inner_few m) in
+    let few = mul-le-mul_right (load s p) (inner_few m) in
     let u = (drop_asts p m s).after in
-    let rest = run_down_falls p (inner_modes m) u (drop_asts_bare p m s b) (made_steady p s u (drop_steady p m s made) made) in
-    let falls = followed_falls p m s s (inner_modes m) (steady_still p s) made rest in
-    subst (λ (o : Outcome Answer). GoesBy p s o) (sym (drained s p m (run_down p (inner_modes m)) b)) (falls_goes p s _ _ falls (omega (arith, few)))
-rundown_from_goes p s phase.Alive b made = goes_still p s
-rundown_from_goes p s phase.Deleted b made = goes_still p s
+    let rest = run_down_falls p (inner_modes m) u (drop_asts_bare p m s b) (falls_made p _ s u _ made (asts_fall p m s made)) in
+    let falls = followed_falls p m 0 s s [] (inner_modes m) (falls_still p s) made rest in
+    subst (λ (o : Outcome Answer). Goes (4 * load s p + 1) s o.after o.effects) (sym (drained s p m (run_down p (inner_modes m)) b)) (falls_goes p (0 + (length (process_at s p).asts + down_most s p (inner_modes m))) (4 * load s p + 1) s (followed_by (drop_asts p m s) (run_down p (inner_modes m))) (omega (arith, few)) falls)
+rundown_from_goes p s phase.Alive b made = goes_stays (4 * load s p + 1) s s [] (stays_still s) (omega arith)
+rundown_from_goes p s phase.Deleted b made = goes_stays (4 * load s p + 1) s s [] (stays_still s) (omega arith)
 
-pub rundown_goes : (p : Pid) (s : State) → IsBare s → IsProcess s p → GoesBy p s (rundown s p)
+pub rundown_goes : (p : Pid) (s : State) → IsBare s → IsProcess s p → Goes (4 * load s p + 1) s (rundown s p).after (rundown s p).effects
 rundown_goes p s b made = rundown_from_goes p s (process_at s p).phase b made

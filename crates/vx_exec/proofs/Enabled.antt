@@ -1,69 +1,151 @@
--- What is enabled where only processes have events.
-use Rattle.std.proofs.Common.{◌≡◌, ℕ, zero, suc, ◌+◌, ◌-◌, ◌<◌, ◌≤◌, List, [], ◌∷◌, ◌++◌, length, length-append, map, drop, IsTrue, Option, Some, None, Contains, option_to_list, slice_get, slice_index_or, refl, sym, ap, subst, ◌∙◌, arith}
+-- What is enabled where only processes and time have events.
+use Rattle.std.proofs.Common.{◌≡◌, ℕ, zero, suc, ◌+◌, ◌-◌, ◌<◌, ◌≤◌, List, [], ◌∷◌, ◌++◌, length, length-append, map, drop, IsTrue, Option, Some, None, Contains, option_to_list, slice_get, slice_index_or, nat_lt, ◌⊎◌, inl, inr, Bool, false, refl, sym, ap, subst, ◌∙◌, arith}
+use Rattle.std.proofs.lemmas.Bool.{cases_eq}
+use Rattle.std.proofs.lemmas.Bool.Decides.{nat_tests}
 use Rattle.std.proofs.lemmas.List.{append-nil, drop_more}
 use Rattle.std.specs.List.{AllByRecursion}
-use Rattle.vx_base.specs.Pieces.{Queued}
+use Rattle.vx_base.specs.Pieces.{DeviceUnit, Queued, Timer}
 use Rattle.vx_base.specs.declared.frame.Frame.{Frame}
 use Rattle.vx_base.specs.declared.frame.Wait.{Wait}
 use Rattle.vx_base.specs.declared.number.Pid.{Pid}
+use Rattle.vx_base.specs.declared.number.UnitNo.{UnitNo}
 use Rattle.vx_base.specs.declared.record.Event.{Event}
+use Rattle.vx_base.specs.declared.record.Event.TheVariants as event
 use Rattle.vx_frames.specs.Frames.{top_of}
-use Rattle.vx_image.specs.declared.unit.UnitDecl.{UnitDecl}
-use Rattle.vx_image.specs.Units.{first_unit}
 use Rattle.vx_record.specs.State.{Process, State, IsProcess, process_at, nobody, pid}
 use Rattle.vx_record.specs.Asts.{deliverable_ast}
-use Rattle.vx_record.specs.Events.{ast_or_run, can_run, can_run_down, enabled, process_events, processes_from, run_events, units_from}
+use Rattle.vx_record.specs.Events.{ast_or_run, can_run, can_run_down, enabled, process_events, processes_from, run_events, tick_events, units_from}
 use Rattle.vx_record.specs.Runs.{next_seed, picked}
-use Rattle.vx_record.proofs.Lists.{either, all_append, all_at}
-use Rattle.vx_procs.specs.View.{state}
-use Rattle.vx_procs.specs.declared.procs.Core.{Core}
-use Rattle.vx_ctl.specs.Waits.{FitsBlock}
-use Rattle.vx_exec.specs.Built.{is_built}
+use Rattle.vx_record.proofs.Lists.{either, all_append, all_at, all_weaker}
+use Rattle.vx_procs.specs.Ready.{FitWaits, FitsBlock, IsKept}
 use Rattle.vx_exec.specs.Picks.{picked_event}
-use Rattle.vx_exec.specs.Ready.{owner}
-use Rattle.vx_exec.specs.Sound.{IsKept, FitWaits}
+use Rattle.vx_exec.specs.Ready.{HasOwner}
+use Rattle.vx_exec.specs.Sound.{IsWhole}
 use Rattle.vx_exec.proofs.Calls.{units_none}
 
--- Events are of processes that are there.
+-- Each event that is enabled is the one of its process, or time's.
 
-abbrev IsOwned : State → Event → Type 0
-IsOwned s e = IsProcess s (owner e)
+-- it is the event of a process that is there, or time's, where there are timers
+abbrev pub IsAbled : State → Event → Type 0
+IsAbled s (event.Run p) = IsProcess s p × (process_events s p ≡ event.Run p ∷ [])
+IsAbled s (event.Ast p) = IsProcess s p × (process_events s p ≡ event.Ast p ∷ [])
+IsAbled s (event.Rdn p) = IsProcess s p × (process_events s p ≡ event.Rdn p ∷ [])
+IsAbled s event.Tick = 0 < length s.timers
+IsAbled s (event.Beg u) = ⊥
+IsAbled s (event.Don u) = ⊥
 
-run_owned : (s : State) (p : Pid) → IsProcess s p → AllByRecursion (IsOwned s) (run_events s p)
-run_owned s p m =
-    let P = AllByRecursion (IsOwned s) in
-    either P (can_run s p (process_at s p).frames) _ _ (m, tt) (either P (can_run_down s p (process_at s p).frames) _ _ (m, tt) tt)
+-- a process has one of four lists of events
+run_shape : (P : List Event → Type 0) (s : State) (p : Pid) → P [] → P (event.Run p ∷ []) → P (event.Rdn p ∷ []) → P (run_events s p)
+run_shape P s p none runs down = either P (can_run s p (process_at s p).frames) _ _ runs (either P (can_run_down s p (process_at s p).frames) _ _ down none)
 
-ast_owned : (s : State) (p : Pid) (o : Option Queued) → IsProcess s p → AllByRecursion (IsOwned s) (ast_or_run s p o)
-ast_owned s p None m = run_owned s p m
-ast_owned s p (Some q) m = (m, tt)
+ast_shape : (P : List Event → Type 0) (s : State) (p : Pid) (o : Option Queued) → P [] → P (event.Run p ∷ []) → P (event.Rdn p ∷ []) → P (event.Ast p ∷ []) → P (ast_or_run s p o)
+ast_shape P s p None none runs down starts = run_shape P s p none runs down
+ast_shape P s p (Some q) none runs down starts = starts
 
-process_owned : (s : State) (p : Pid) → IsProcess s p → AllByRecursion (IsOwned s) (process_events s p)
-process_owned s p m = either (AllByRecursion (IsOwned s)) (process_at s p).suspended _ _ tt (ast_owned s p (deliverable_ast s p) m)
+shape : (P : List Event → Type 0) (s : State) (p : Pid) → P [] → P (event.Run p ∷ []) → P (event.Rdn p ∷ []) → P (event.Ast p ∷ []) → P (process_events s p)
+shape P s p none runs down starts = either P (process_at s p).suspended _ _ none (ast_shape P s p (deliverable_ast s p) none runs down starts)
 
-processes_owned : (s : State) (n : ℕ) (prs : List Process) → 1 ≤ n → n + length prs ≡ 1 + length s.procs → AllByRecursion (IsOwned s) (processes_from s n prs)
-processes_owned s n [] above e = tt
-processes_owned s n (pr ∷ prs) above e =
-    all_append (IsOwned s) (process_events s (pid n)) (processes_from s (n + 1) prs) (process_owned s (pid n) (record { above = above; within = omega arith })) (processes_owned s (n + 1) prs (omega arith) (omega arith))
+process_abled : (s : State) (p : Pid) → IsProcess s p → AllByRecursion (IsAbled s) (process_events s p)
+process_abled s p made =
+    shape (λ es. process_events s p ≡ es → AllByRecursion (IsAbled s) es) s p (λ e. tt) (λ e. ((made, e), tt)) (λ e. ((made, e), tt)) (λ e. ((made, e), tt)) refl
 
--- there are no units and no timers
-pub enabled_procs : {R : Type 0} (c : Core R) → IsTrue (is_built c.system) → enabled (state c) ≡ processes_from (state c) 1 (state c).procs
-enabled_procs c built =
-    let s = state c in
-    let own = processes_from s 1 s.procs in
-    let all : List UnitDecl → List Event = λ us. own ++ (units_from s 0 (map first_unit us) ++ []) in
-    ap all (units_none c.system built) ∙ append-nil own
+processes_abled : (s : State) (n : ℕ) (prs : List Process) → 1 ≤ n → n + length prs ≡ 1 + length s.procs → AllByRecursion (IsAbled s) (processes_from s n prs)
+processes_abled s n [] above e = tt
+processes_abled s n (pr ∷ prs) above e =
+    all_append (IsAbled s) (process_events s (pid n)) (processes_from s (n + 1) prs) (process_abled s (pid n) (record { above = above; within = omega arith })) (processes_abled s (n + 1) prs (omega arith) (omega arith))
 
-pub enabled_owned : {R : Type 0} (c : Core R) (e : Event) → IsTrue (is_built c.system) → Contains (enabled (state c)) e → IsProcess (state c) (owner e)
-enabled_owned c e built there =
-    let s = state c in
-    let all = subst (AllByRecursion (IsOwned s)) (sym (enabled_procs c built)) (processes_owned s 1 s.procs (omega arith) refl) in
-    subst (IsOwned s) there.2 (all_at (IsOwned s) (enabled s) there.0 e all there.1)
+tick_abled : (s : State) (ts : List Timer) → length ts ≤ length s.timers → AllByRecursion (IsAbled s) (tick_events ts)
+tick_abled s [] few = tt
+tick_abled s (t ∷ ts) few = (omega (arith, few), tt)
+
+-- there are no units
+no_units : (us : List DeviceUnit) → length us ≡ 0 → us ≡ []
+no_units [] e = refl
+no_units (u ∷ us) e = absurd (omega (arith, e))
+
+pub enabled_parts : (s : State) → IsWhole s → enabled s ≡ processes_from s 1 s.procs ++ tick_events s.timers
+enabled_parts s whole =
+    let none : s.units ≡ [] = no_units s.units (whole.sound.units ∙ ap length (units_none s.system whole.built)) in
+    ap (λ (us : List DeviceUnit). processes_from s 1 s.procs ++ (units_from s 0 us ++ tick_events s.timers)) none
+
+pub all_abled : (s : State) → IsWhole s → AllByRecursion (IsAbled s) (enabled s)
+all_abled s whole =
+    rw (enabled_parts s whole) (all_append (IsAbled s) (processes_from s 1 s.procs) (tick_events s.timers) (processes_abled s 1 s.procs (omega arith) refl) (tick_abled s s.timers (omega arith)))
+
+pub abled_of : (s : State) (e : Event) → IsWhole s → Contains (enabled s) e → IsAbled s e
+abled_of s e whole there = subst (IsAbled s) there.2 (all_at (IsAbled s) (enabled s) there.0 e (all_abled s whole) there.1)
+
+owner_of : (s : State) (e : Event) → IsAbled s e → HasOwner s e
+owner_of s (event.Run p) h = h.0
+owner_of s (event.Ast p) h = h.0
+owner_of s (event.Rdn p) h = h.0
+owner_of s event.Tick h = tt
+owner_of s (event.Beg u) h = h
+owner_of s (event.Don u) h = h
+
+pub enabled_owned : (s : State) (e : Event) → IsWhole s → Contains (enabled s) e → HasOwner s e
+enabled_owned s e whole there = owner_of s e (abled_of s e whole there)
+
+-- And the one of a process that is there is enabled.
+
+in_left : (xs ys : List Event) (e : Event) → Contains xs e → Contains (xs ++ ys) e
+in_left [] ys e h = absurd (omega (arith, h.1))
+in_left (x ∷ xs) ys e (zero, within, is) = (zero, omega arith, is)
+in_left (x ∷ xs) ys e (suc i, within, is) = let rest = in_left xs ys e (i, omega (arith, within), is) in (suc rest.0, omega (arith, rest.1), rest.2)
+
+in_right : (xs ys : List Event) (e : Event) → Contains ys e → Contains (xs ++ ys) e
+in_right [] ys e h = h
+in_right (x ∷ xs) ys e h = let rest = in_right xs ys e h in (suc rest.0, omega (arith, rest.1), rest.2)
+
+in_processes : (s : State) (n : ℕ) (prs : List Process) (p : Pid) (e : Event) → n ≤ p.0 → p.0 < n + length prs → process_events s p ≡ e ∷ [] → Contains (processes_from s n prs) e
+in_processes s n [] p e above within is = absurd (omega (arith, above, within))
+in_processes s n (pr ∷ prs) p e above within is =
+    elim (cases_eq n p.0) [
+      | inl same ↦
+          let here : process_events s (pid n) ≡ e ∷ [] = ap (λ (i : ℕ). process_events s (pid i)) same ∙ is in
+          in_left (process_events s (pid n)) (processes_from s (n + 1) prs) e (rw here (zero, omega arith, refl))
+      | inr other ↦ in_right (process_events s (pid n)) (processes_from s (n + 1) prs) e (in_processes s (n + 1) prs p e (omega (arith, above, other)) (omega (arith, within)) is)
+    ]
+
+in_tick : (ts : List Timer) → 0 < length ts → Contains (tick_events ts) event.Tick
+in_tick [] some = absurd (omega (arith, some))
+in_tick (t ∷ ts) some = (zero, omega arith, refl)
+
+pub process_enabled : (s : State) (p : Pid) (e : Event) → IsWhole s → IsProcess s p → process_events s p ≡ e ∷ [] → Contains (enabled s) e
+process_enabled s p e whole made is =
+    rw (enabled_parts s whole) (in_left (processes_from s 1 s.procs) (tick_events s.timers) e (in_processes s 1 s.procs p e made.above (omega (arith, made.within)) is))
+
+pub tick_enabled : (s : State) → IsWhole s → 0 < length s.timers → Contains (enabled s) event.Tick
+tick_enabled s whole some = rw (enabled_parts s whole) (in_right (processes_from s 1 s.procs) (tick_events s.timers) event.Tick (in_tick s.timers some))
+
+-- The test of one event.
+
+own_of : (s : State) (p : Pid) (e : Event) → (e ≡ event.Run p) ⊎ ((e ≡ event.Ast p) ⊎ (e ≡ event.Rdn p)) → IsAbled s e → IsProcess s p × (process_events s p ≡ e ∷ [])
+own_of s p e (inl is) h = let own = subst (IsAbled s) is h in (own.0, own.1 ∙ ap (λ (x : Event). x ∷ []) (sym is))
+own_of s p e (inr (inl is)) h = let own = subst (IsAbled s) is h in (own.0, own.1 ∙ ap (λ (x : Event). x ∷ []) (sym is))
+own_of s p e (inr (inr is)) h = let own = subst (IsAbled s) is h in (own.0, own.1 ∙ ap (λ (x : Event). x ∷ []) (sym is))
+
+pub own_iff : (s : State) (p : Pid) (e asked : Event) (b : Bool) → IsWhole s → (e ≡ event.Run p) ⊎ ((e ≡ event.Ast p) ⊎ (e ≡ event.Rdn p)) → asked ≡ e → (IsTrue b → IsProcess s p) → (IsTrue b → process_events s p ≡ asked ∷ []) → (IsProcess s p → process_events s p ≡ asked ∷ [] → IsTrue b) → (IsTrue b → Contains (enabled s) e) × (Contains (enabled s) e → IsTrue b)
+own_iff s p e asked b whole is same made has only =
+    let list : asked ∷ [] ≡ e ∷ [] = ap (λ (x : Event). x ∷ []) same in
+    (λ t. process_enabled s p e whole (made t) (has t ∙ list), λ there. let own = own_of s p e is (abled_of s e whole there) in only own.0 (own.1 ∙ sym list))
+
+pub tick_iff : (s : State) (e : Event) (n : ℕ) → IsWhole s → e ≡ event.Tick → n ≡ length s.timers → (IsTrue (nat_lt 0 n) → Contains (enabled s) e) × (Contains (enabled s) e → IsTrue (nat_lt 0 n))
+tick_iff s e n whole is count =
+    (λ t. let some : 0 < n = grind (arith, nat_tests, t) in rw is (tick_enabled s whole (omega (arith, some, count))),
+    λ there. let some : 0 < length s.timers = subst (IsAbled s) is (abled_of s e whole there) in let more : 0 < n = omega (arith, some, count) in grind (arith, nat_tests, more))
+
+pub units_iff : (s : State) (e : Event) → IsWhole s → ((u : UnitNo) × (e ≡ event.Beg u)) ⊎ ((u : UnitNo) × (e ≡ event.Don u)) → (IsTrue false → Contains (enabled s) e) × (Contains (enabled s) e → IsTrue false)
+units_iff s e whole is = (λ t. absurd (cc), λ there. absurd (none_of is (abled_of s e whole there)))
+  where
+    none_of : ((u : UnitNo) × (e ≡ event.Beg u)) ⊎ ((u : UnitNo) × (e ≡ event.Don u)) → IsAbled s e → ⊥
+    none_of (inl begs) h = subst (IsAbled s) begs.1 h
+    none_of (inr ends) h = subst (IsAbled s) ends.1 h
 
 -- Loops over processes.
 
-pub kept_at : (s : State) (p : Pid) → IsProcess s p → AllByRecursion (IsKept s.next) s.procs → IsKept s.next (process_at s p)
-kept_at s p made kept = all_at (IsKept s.next) s.procs (p.0 - 1) nobody kept (omega arith)
+pub kept_at : (s : State) (p : Pid) → IsProcess s p → IsWhole s → IsKept s.next s.timers (process_at s p)
+kept_at s p made whole = all_at (IsKept s.next s.timers) s.procs (p.0 - 1) nobody whole.kept.procs (omega arith)
 
 pub events_step : (s : State) (place : ℕ) (r : Option Event) → place < length s.procs → option_to_list r ≡ process_events s (pid (place + 1)) → processes_from s (place + 1) (drop place s.procs) ≡ option_to_list r ++ processes_from s (place + 1 + 1) (drop (place + 1) s.procs)
 events_step s place r within is =
@@ -108,10 +190,27 @@ past_first : (e : Event) (es : List Event) (left after : ℕ) (found : Option Ev
 past_first e es zero after found other is at = absurd (other refl)
 past_first e es (suc n) after found other is at = let same : after ≡ n = omega arith in rw same at
 
-pub some_step : (s : State) (place left after : ℕ) (event : Event) (found : Option Event) → place < length s.procs → option_to_list (Some event) ≡ process_events s (pid (place + 1)) → ¬ (left ≡ 0) → after ≡ left - 1 → slice_get (processes_from s (place + 1) (drop place s.procs)) left ≡ found → slice_get (processes_from s (place + 1 + 1) (drop (place + 1) s.procs)) after ≡ found
-some_step s place left after event found within is other one so_far =
-    past_first event (processes_from s (place + 1 + 1) (drop (place + 1) s.procs)) left after found other one (ap (λ (es : List Event). slice_get es left) (sym (events_step s place (Some event) within is)) ∙ so_far)
+-- the events of the processes from one on, with others behind
+abbrev pub later_events : State → ℕ → List Event → List Event
+later_events s place ys = processes_from s (place + 1) (drop place s.procs) ++ ys
 
-pub none_step : (s : State) (place left after : ℕ) (found : Option Event) → place < length s.procs → option_to_list None ≡ process_events s (pid (place + 1)) → after ≡ left → slice_get (processes_from s (place + 1) (drop place s.procs)) left ≡ found → slice_get (processes_from s (place + 1 + 1) (drop (place + 1) s.procs)) after ≡ found
-none_step s place left after found within is same so_far =
-    rw same (ap (λ (es : List Event). slice_get es left) (sym (events_step s place None within is)) ∙ so_far)
+pub some_step : (s : State) (ys : List Event) (place left after : ℕ) (event : Event) (found : Option Event) → place < length s.procs → option_to_list (Some event) ≡ process_events s (pid (place + 1)) → ¬ (left ≡ 0) → after ≡ left - 1 → slice_get (later_events s place ys) left ≡ found → slice_get (later_events s (place + 1) ys) after ≡ found
+some_step s ys place left after event found within is other one so_far =
+    past_first event (later_events s (place + 1) ys) left after found other one (ap (λ (es : List Event). slice_get (es ++ ys) left) (sym (events_step s place (Some event) within is)) ∙ so_far)
+
+pub some_here : (s : State) (ys : List Event) (place left : ℕ) (event : Event) (found : Option Event) → place < length s.procs → option_to_list (Some event) ≡ process_events s (pid (place + 1)) → left ≡ 0 → slice_get (later_events s place ys) left ≡ found → Some event ≡ found
+some_here s ys place left event found within is none so_far =
+    ap (λ (n : ℕ). slice_get (event ∷ later_events s (place + 1) ys) n) (sym none) ∙ (ap (λ (es : List Event). slice_get (es ++ ys) left) (sym (events_step s place (Some event) within is)) ∙ so_far)
+
+pub none_step : (s : State) (ys : List Event) (place left after : ℕ) (found : Option Event) → place < length s.procs → option_to_list None ≡ process_events s (pid (place + 1)) → after ≡ left → slice_get (later_events s place ys) left ≡ found → slice_get (later_events s (place + 1) ys) after ≡ found
+none_step s ys place left after found within is same so_far =
+    rw same (ap (λ (es : List Event). slice_get (es ++ ys) left) (sym (events_step s place None within is)) ∙ so_far)
+
+drop_end : {A : Type 0} (xs : List A) (n : ℕ) → length xs ≤ n → drop n xs ≡ []
+drop_end [] zero few = refl
+drop_end [] (suc n) few = refl
+drop_end (x ∷ xs) zero few = absurd (omega (arith, few))
+drop_end (x ∷ xs) (suc n) few = drop_end xs n (omega (arith, few))
+
+pub none_later : (s : State) (ys : List Event) (place left : ℕ) (found : Option Event) → length s.procs ≤ place → slice_get (later_events s place ys) left ≡ found → slice_get ys left ≡ found
+none_later s ys place left found past so_far = ap (λ (prs : List Process). slice_get (processes_from s (place + 1) prs ++ ys) left) (sym (drop_end s.procs place past)) ∙ so_far

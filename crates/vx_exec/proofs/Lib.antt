@@ -1,9 +1,11 @@
 pub mod Calls
 pub mod Down
 pub mod Enabled
+pub mod Few
+pub mod Fired
 pub mod Goes
 pub mod Kept
 pub mod Ready
+pub mod Running
 pub mod Runs
 pub mod Served
-pub mod Steps

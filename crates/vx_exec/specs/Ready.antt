@@ -1,43 +1,49 @@
--- What an event of a process relies on, once room was made for it.
-use Rattle.std.specs.Prelude.{ℕ, true, ◌+◌, ◌*◌, ◌<◌, IsTrue, length}
+-- What an event relies on, once room was made for it.
+use Rattle.std.specs.Prelude.{ℕ, true, ◌+◌, ◌*◌, IsTrue, length, ⊤}
 use Rattle.vx_base.specs.declared.mode.Mode.{Mode}
 use Rattle.vx_base.specs.declared.number.Id.{Id}
 use Rattle.vx_base.specs.declared.number.Pid.{Pid}
 use Rattle.vx_base.specs.declared.record.Event.{Event}
 use Rattle.vx_base.specs.declared.record.Event.TheVariants as event
 use Rattle.vx_base.specs.declared.routine.Entry.{Entry}
-use Rattle.vx_image.specs.WellFormed.{IsImage}
-use Rattle.vx_record.specs.State.{State, IsProcess, process_at, image_of, pid}
+use Rattle.vx_record.specs.State.{State, IsProcess, process_at}
 use Rattle.vx_record.specs.Events.{started}
 use Rattle.vx_record.specs.Parts.{Part}
-use Rattle.vx_procs.specs.View.{state, HasFrameRoom, HasAstRoom}
-use Rattle.vx_procs.specs.Words.{HasDecl, HasImage}
-use Rattle.vx_procs.specs.declared.procs.Core.{Core}
+use Rattle.vx_record.specs.Sound.{AreOrdered, timer_id}
+use Rattle.vx_procs.specs.Kernel.{Kernel}
+use Rattle.vx_procs.specs.Ready.{IsBare, IsReady}
 use Rattle.vx_exec.specs.Built.{is_built}
-use Rattle.vx_exec.specs.Sound.{IsKept}
 
--- The process is there, with its image; there is room for a frame and an AST, and an id left.
-pub record IsReady {R : Type 0} (c : Core R) (p : Pid) : Type 0 where
-  pub built : IsTrue (is_built (state c).system)
-  pub made : IsProcess (state c) p
-  pub declared : HasDecl (state c) p
-  pub image : HasImage (state c) p
-  pub formed : IsImage (image_of (state c) p)
-  pub kept : IsKept (state c).next (process_at (state c) p)
-  pub frame : HasFrameRoom c p
-  pub ast : HasAstRoom c p 1
-  pub ids : (state c).next < 4294967295
+-- A process is ready, in a system that the executive runs so far; timers stand in id order.
+pub record IsSet (k : Kernel) (p : Pid) : Type 0 where
+  pub ready : IsReady k p
+  pub built : IsTrue (is_built k.state.system)
+  pub order : AreOrdered timer_id 0 k.state.next k.state.timers
 
--- how many effects an event of a process has at most: its frames are left, its ASTs dropped in four modes, and two more
-abbrev pub most : State → Pid → ℕ
-most s p = length (process_at s p).frames + (4 * length (process_at s p).asts + 2)
+-- the process of an event is there; of units there are no events
+abbrev pub HasOwner : State → Event → Type 0
+HasOwner s (event.Run p) = IsProcess s p
+HasOwner s (event.Ast p) = IsProcess s p
+HasOwner s (event.Rdn p) = IsProcess s p
+HasOwner s event.Tick = ⊤
+HasOwner s other = ⊥
 
--- the process of an event, 0 where it is of none
-abbrev pub owner : Event → Pid
-owner (event.Run p) = p
-owner (event.Ast p) = p
-owner (event.Rdn p) = p
-owner _ = pid 0
+-- what it relies on
+abbrev pub IsReadyFor : Kernel → Event → Type 0
+IsReadyFor k (event.Run p) = IsSet k p
+IsReadyFor k (event.Ast p) = IsSet k p
+IsReadyFor k (event.Rdn p) = IsSet k p
+IsReadyFor k event.Tick = AreOrdered timer_id 0 k.state.next k.state.timers
+IsReadyFor k other = ⊥
+
+-- How many effects an event has at most. A process leaves its frames, and tells two effects more; in rundown it drops timers and
+-- ASTs in four modes, and is gone; a timer that is due fires, sets its flag and queues its AST.
+abbrev pub most : State → Event → ℕ
+most s (event.Run p) = length (process_at s p).frames + 2
+most s (event.Ast p) = length (process_at s p).frames + 2
+most s (event.Rdn p) = 4 * (length (process_at s p).asts + length s.timers) + 1
+most s event.Tick = 3 * length s.timers
+most s other = 0
 
 -- what an AST with this id and mode does that starts at an entry
 abbrev pub started_as : State → Pid → Id → Mode → Entry → Part

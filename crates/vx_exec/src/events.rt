@@ -1,38 +1,24 @@
 //! Which events are enabled.
 
-ghost use Rattle.std.specs.Prelude.{◌≡◌, ◌≤◌, IsTrue, length, option_to_list, slice_get};
-ghost use Rattle.std.specs.List.{AllByRecursion};
-ghost use Rattle.vx_frames.specs.Frames.{top_of};
+ghost use Rattle.std.specs.Prelude.{◌≡◌, ◌≤◌, ◌↔◌, [], ◌∷◌, Contains, IsTrue, length, option_to_list, slice_get};
 ghost use Rattle.vx_record.specs.State.{IsProcess, process_at};
-ghost use Rattle.vx_record.specs.Events.{can_run, can_run_down, enabled, process_events, processes_from};
+ghost use Rattle.vx_record.specs.Events.{can_run, can_run_down, enabled, process_events, processes_from, tick_events};
 ghost use Rattle.vx_record.specs.Runs.{are_deleted};
-ghost use Rattle.vx_procs.specs.View.{state};
-ghost use Rattle.vx_exec.specs.Built.{is_built};
-ghost use Rattle.vx_exec.specs.Sound.{IsKept};
+ghost use Rattle.vx_procs.specs.Ready.{IsKept};
+ghost use Rattle.vx_exec.specs.Sound.{IsWhole};
 
-use vx_base::{Event, Frame, Phase, Pid, Routine};
+use vx_base::{Event, Phase, Pid, Routine};
 use vx_ctl::satisfied;
-use vx_procs::{Core, deliverable, is_deleted, made, phase, process_of};
-
-/// The top frame of a process, if it has one.
-pub(crate) fn top<R: Routine>(core: &Core<R>, p: Pid) -> Option<Frame>
-    requires { IsProcess (state core.now) p }
-    ensures { result ≡ top_of (process_at (state core.now) p).frames }
-{
-    match process_of(core, p).frames.top() {
-        Some(frame) => Some(*frame),
-        None => None,
-    }
-}
+use vx_procs::Core;
 
 // Whether a process can go on: it has a frame, which waits for nothing or for what has come.
 #[tactic(auto, using(crate::proofs::Enabled::top_fits))]
 fn can_run<R: Routine>(core: &Core<R>, p: Pid) -> bool
-    requires made { IsProcess (state core.now) p }
-    requires kept { IsKept (state core.now).next (process_at (state core.now) p) }
-    ensures { result ≡ can_run (state core.now) p (process_at (state core.now) p).frames }
+    requires made { IsProcess core.now.state p }
+    requires kept { IsKept core.now.state.next core.now.state.timers (process_at core.now.state p) }
+    ensures { result ≡ can_run core.now.state p (process_at core.now.state p).frames }
 {
-    let Some(frame) = top(core, p) else {
+    let Some(frame) = core.top(p) else {
         return false;
     };
     match frame.wait {
@@ -41,24 +27,31 @@ fn can_run<R: Routine>(core: &Core<R>, p: Pid) -> bool
     }
 }
 
-// Whether a process can be run down: it has no frame, and is not deleted. Nothing is outstanding that it would wait for.
+// Whether a process can be run down: it has no frame, and is neither deleted nor waits for its requests.
 fn can_run_down<R: Routine>(core: &Core<R>, p: Pid) -> bool
-    requires { IsProcess (state core.now) p }
-    ensures { result ≡ can_run_down (state core.now) p (process_at (state core.now) p).frames }
+    requires { IsProcess core.now.state p }
+    ensures { result ≡ can_run_down core.now.state p (process_at core.now.state p).frames }
 {
-    top(core, p).is_none() && phase(core, p) != Phase::Deleted
+    if core.top(p).is_some() {
+        return false;
+    }
+    match core.phase(p) {
+        Phase::Draining(mode) => !core.is_busy(p, mode),
+        Phase::Deleted => false,
+        Phase::Alive | Phase::Handlers(_) => true,
+    }
 }
 
 // The event of a process, if it has one.
 fn event_of<R: Routine>(core: &Core<R>, p: Pid) -> Option<Event>
-    requires made { IsProcess (state core.now) p }
-    requires kept { IsKept (state core.now).next (process_at (state core.now) p) }
-    ensures { option_to_list result ≡ process_events (state core.now) p }
+    requires made { IsProcess core.now.state p }
+    requires kept { IsKept core.now.state.next core.now.state.timers (process_at core.now.state p) }
+    ensures { option_to_list result ≡ process_events core.now.state p }
 {
-    if process_of(core, p).suspended {
+    if core.is_suspended(p) {
         return None;
     }
-    if deliverable(core, p).is_some() {
+    if core.deliverable(p).is_some() {
         return Some(Event::Ast(p));
     }
     if can_run(core, p) {
@@ -73,9 +66,9 @@ fn event_of<R: Routine>(core: &Core<R>, p: Pid) -> Option<Event>
 
 // How many events a process has: one or none.
 fn events_of<R: Routine>(core: &Core<R>, p: Pid) -> u32
-    requires made { IsProcess (state core.now) p }
-    requires kept { IsKept (state core.now).next (process_at (state core.now) p) }
-    ensures count { result ≡ length (process_events (state core.now) p) }
+    requires made { IsProcess core.now.state p }
+    requires kept { IsKept core.now.state.next core.now.state.timers (process_at core.now.state p) }
+    ensures count { result ≡ length (process_events core.now.state p) }
     ensures few { result ≤ 1 }
 {
     match event_of(core, p) {
@@ -84,31 +77,53 @@ fn events_of<R: Routine>(core: &Core<R>, p: Pid) -> u32
     }
 }
 
-/// How many events are enabled.
+// How many events processes have.
 #[tactic(auto, using(crate::proofs::Enabled::kept_at))]
-pub(crate) fn count<R: Routine>(core: &Core<R>) -> u32
-    requires built { IsTrue (is_built (state core.now).system) }
-    requires few { length (state core.now).procs ≤ 1000 }
-    requires kept { AllByRecursion (IsKept (state core.now).next) (state core.now).procs }
-    ensures { result ≡ length (enabled (state core.now)) }
+fn process_count<R: Routine>(core: &Core<R>) -> u32
+    requires { IsWhole core.now.state }
+    ensures count { result ≡ length (processes_from core.now.state 1 core.now.state.procs) }
+    ensures few { result ≤ 1000 }
 {
     let mut count: u32 = 0;
-    for place in 0..made(core) as u32 {
+    for place in 0..core.made() as u32 {
         count += events_of(core, Pid(place + 1));
     }
     count
 }
 
-/// The enabled event at a place from 0: the processes in number order, each with one event or none.
+/// How many events are enabled.
+#[tactic(auto, using(crate::proofs::Enabled::enabled_parts))]
+pub(crate) fn count<R: Routine>(core: &Core<R>) -> u32
+    requires { IsWhole core.now.state }
+    ensures { result ≡ length (enabled core.now.state) }
+{
+    let count = process_count(core);
+    if core.timer_count() == 0 {
+        count
+    } else {
+        count + 1
+    }
+}
+
+// TICK, if it is enabled, where it is the event at a place.
+fn tick_at<R: Routine>(core: &Core<R>, place: u32) -> Option<Event>
+    ensures { result ≡ slice_get (tick_events core.now.state.timers) place }
+{
+    if place == 0 && core.timer_count() > 0 {
+        Some(Event::Tick)
+    } else {
+        None
+    }
+}
+
+/// The enabled event at a place from 0: the processes in number order, each with one event or none, and then time.
 #[tactic(auto, using(crate::proofs::Enabled::kept_at))]
 pub(crate) fn enabled_at<R: Routine>(core: &Core<R>, i: u32) -> Option<Event>
-    requires built { IsTrue (is_built (state core.now).system) }
-    requires few { length (state core.now).procs ≤ 1000 }
-    requires kept { AllByRecursion (IsKept (state core.now).next) (state core.now).procs }
-    ensures { result ≡ slice_get (enabled (state core.now)) i }
+    requires { IsWhole core.now.state }
+    ensures { result ≡ slice_get (enabled core.now.state) i }
 {
     let mut left = i;
-    for place in 0..made(core) as u32 {
+    for place in 0..core.made() as u32 {
         if let Some(event) = event_of(core, Pid(place + 1)) {
             if left == 0 {
                 return Some(event);
@@ -116,17 +131,45 @@ pub(crate) fn enabled_at<R: Routine>(core: &Core<R>, i: u32) -> Option<Event>
             left -= 1;
         }
     }
-    None
+    tick_at(core, left)
+}
+
+// Whether an event is the event of a process, if that is there.
+fn has_event<R: Routine>(core: &Core<R>, p: Pid, event: Event) -> bool
+    requires { IsWhole core.now.state }
+    ensures made { IsTrue result → IsProcess core.now.state p }
+    ensures has { IsTrue result → process_events core.now.state p ≡ event ∷ [] }
+    ensures only { IsProcess core.now.state p → process_events core.now.state p ≡ event ∷ [] → IsTrue result }
+{
+    if p.0 == 0 || core.made() < p.0 as usize {
+        return false;
+    }
+    match event_of(core, p) {
+        Some(own) => own == event,
+        None => false,
+    }
+}
+
+/// Whether an event is enabled. It asks of the process of that event alone.
+pub(crate) fn is_enabled<R: Routine>(core: &Core<R>, event: Event) -> bool
+    requires { IsWhole core.now.state }
+    ensures { IsTrue result ↔ Contains (enabled core.now.state) event }
+{
+    match event {
+        Event::Run(p) | Event::Ast(p) | Event::Rdn(p) => has_event(core, p, event),
+        Event::Tick => core.timer_count() > 0,
+        Event::Beg(_) | Event::Don(_) => false,
+    }
 }
 
 /// Whether every process is deleted.
 #[tactic(auto, using(crate::proofs::Enabled::procs_step))]
 pub(crate) fn are_deleted<R: Routine>(core: &Core<R>) -> bool
-    requires { length (state core.now).procs ≤ 1000 }
-    ensures { result ≡ are_deleted (state core.now) }
+    requires { IsWhole core.now.state }
+    ensures { result ≡ are_deleted core.now.state }
 {
-    for place in 0..made(core) as u32 {
-        if !is_deleted(core, Pid(place + 1)) {
+    for place in 0..core.made() as u32 {
+        if !core.is_deleted(Pid(place + 1)) {
             return false;
         }
     }

@@ -1,6 +1,6 @@
 //! The executive.
 
-ghost use Rattle.std.specs.Prelude.{◌≡◌, ◌<◌, ◌≤◌, ◌+◌, Contains, IfOk, IsTrue, None, OnErr, OnOk, length, slice_get};
+ghost use Rattle.std.specs.Prelude.{◌≡◌, ◌≤◌, ◌+◌, ◌↔◌, Contains, IfOk, IsTrue, None, OnErr, OnOk, length, slice_get};
 ghost use Rattle.vx_image.specs.WellFormed.{IsWellFormed};
 ghost use Rattle.vx_record.specs.State.{IsProcess, decl_of, process_at};
 ghost use Rattle.vx_record.specs.Events.{enabled, step};
@@ -10,16 +10,16 @@ ghost use Rattle.vx_exec.specs.Picks.{moved_seed, picked_event};
 ghost use Rattle.vx_exec.specs.Standing.{code_of, standing_of};
 ghost use Rattle.vx_exec.specs.View.{plan};
 
-use crate::events::{are_deleted, count, enabled_at};
+use crate::events::{are_deleted, count, enabled_at, is_enabled};
 use crate::machine::step;
-use crate::room::{log_for, owner};
+use crate::room::most;
 use crate::seed::Seed;
 use crate::standing::{Standing, standing_of};
 use std::alloc::Global;
 use std::marker::Model;
 use vx_base::{End, Event, Name, NoMemory, Pid, Rec, Routine};
 use vx_image::System;
-use vx_procs::{Core, declaration, made};
+use vx_procs::Core;
 
 /// The executive of one system: what it keeps, how many records its runs may have, and how many its steps have made.
 #[derive(Drop)]
@@ -27,7 +27,6 @@ pub struct Exec<R: Routine> {
     core: Core<R>,
     limit: u32,
     taken: u32,
-    alloc: Global,
 }
 
 impl<R: Routine> Model for Exec<R> {
@@ -35,12 +34,11 @@ impl<R: Routine> Model for Exec<R> {
 
     ghost Value = { Executive };
 
-    ghost use Rattle.vx_procs.specs.View.{state};
     ghost use Rattle.vx_exec.specs.Sound.{IsGoing};
 
-    ghost view = { λ e. record { state = state e.core; limit = e.limit; taken = e.taken } };
+    ghost view = { λ e. record { state = e.core.state; limit = e.limit; taken = e.taken } };
 
-    ghost invariant = { λ e. IsGoing (state e.core) e.limit e.taken };
+    ghost invariant = { λ e. IsGoing e.core.state e.limit e.taken };
 }
 
 impl<R: Routine> Exec<R> {
@@ -57,7 +55,6 @@ impl<R: Routine> Exec<R> {
             core,
             limit,
             taken: 0,
-            alloc,
         })
     }
 
@@ -68,11 +65,18 @@ impl<R: Routine> Exec<R> {
         count(&self.core)
     }
 
-    /// The enabled event at a place from 0: the processes in number order.
+    /// The enabled event at a place from 0: the processes in number order, and then time.
     pub fn enabled(&self, i: u32) -> Option<Event>
         ensures { result ≡ slice_get (enabled self.now.state) i }
     {
         enabled_at(&self.core, i)
+    }
+
+    /// Whether an event is enabled. It takes the same time however many processes there are.
+    pub fn is_enabled(&self, event: Event) -> bool
+        ensures { IsTrue result ↔ Contains (enabled self.now.state) event }
+    {
+        is_enabled(&self.core, event)
     }
 
     /// The enabled event that the seed picks, and the seed moves: where nothing is enabled there is none, and the seed
@@ -103,15 +107,17 @@ impl<R: Routine> Exec<R> {
         ensures err { OnErr result (self.new ≡ self.old) }
         ensures plan { plan self.new ≡ plan self.old }
     {
-        let p = owner(event);
-        self.core.reserve(p)?;
-        let mut log = log_for(self.alloc, &self.core, p)?;
-        let answer = step(&mut self.core, event, &mut log);
+        let effects = match most(&self.core, event) {
+            Some(effects) => effects,
+            None => return Err(NoMemory),
+        };
+        self.core.begin(effects)?;
+        let answer = step(&mut self.core, event);
         self.taken += 1;
         Ok(Rec {
             event,
             answer,
-            effects: log.done(),
+            effects: self.core.take_log(),
         })
     }
 
@@ -137,7 +143,7 @@ impl<R: Routine> Exec<R> {
     pub fn system(&self) -> &System
         ensures { result.now ≡ self.now.state.system }
     {
-        &self.core.system
+        self.core.system()
     }
 
     /// How many records its runs may have.
@@ -158,7 +164,7 @@ impl<R: Routine> Exec<R> {
     pub fn made(&self) -> u32
         ensures { result ≡ length self.now.state.procs }
     {
-        made(&self.core) as u32
+        self.core.made() as u32
     }
 
     /// The name of a process, how it stands, and its exit code, 0 unless it is gone.
@@ -168,7 +174,7 @@ impl<R: Routine> Exec<R> {
         ensures standing { result.1 ≡ standing_of (process_at self.now.state p) }
         ensures code { result.2 ≡ code_of (process_at self.now.state p) }
     {
-        let name = declaration(&self.core, p).name;
+        let name = self.core.declaration(p).name;
         let (standing, code) = standing_of(&self.core, p);
         (name, standing, code)
     }

@@ -1,49 +1,21 @@
-//! Room for what one event logs.
+//! Room for what one event tells.
 
-ghost use Rattle.std.specs.Prelude.{◌≡◌, [], IfOk};
-ghost use Rattle.vx_base.specs.Log.{HasRoom};
-ghost use Rattle.vx_record.specs.State.{IsProcess};
-ghost use Rattle.vx_procs.specs.View.{state};
-ghost use Rattle.vx_exec.specs.Ready.{most, owner};
+ghost use Rattle.std.specs.Prelude.{◌≤◌, IfSome};
+ghost use Rattle.vx_exec.specs.Ready.{HasOwner, most};
 
-use std::alloc::Global;
-use vx_base::{Effects, Event, NoMemory, Pid, Routine};
-use vx_procs::{Core, process_of};
+use vx_base::{Event, Routine};
+use vx_procs::Core;
 
-/// The process of an event, 0 where it is of none.
-pub(crate) fn owner(event: Event) -> Pid
-    ensures { result ≡ owner event }
+/// A count that an event's effects do not exceed; None where 32 bits do not count them.
+pub(crate) fn most<R: Routine>(core: &Core<R>, event: Event) -> Option<u32>
+    requires { HasOwner core.now.state event }
+    ensures { IfSome result (λ n. most core.now.state event ≤ n) }
 {
-    match event {
-        Event::Run(p) | Event::Ast(p) | Event::Rdn(p) => p,
-        Event::Beg(_) | Event::Don(_) | Event::Tick => Pid(0),
-    }
-}
-
-// How many effects an event of a process has at most.
-fn most<R: Routine>(core: &Core<R>, p: Pid) -> u128
-    requires { IsProcess (state core.now) p }
-    ensures { result ≡ most (state core.now) p }
-{
-    let proc = process_of(core, p);
-    proc.frames.len() as u128 + (4 * proc.asts.len() as u128 + 2)
-}
-
-/// An empty log with room for all that an event of a process has. Where that is more than 32 bits count there is no memory
-/// for it.
-pub(crate) fn log_for<R: Routine>(
-    alloc: Global,
-    core: &Core<R>,
-    p: Pid,
-) -> Result<Effects, NoMemory>
-    requires { IsProcess (state core.now) p }
-    ensures empty { IfOk result (λ log. log.items ≡ []) }
-    ensures room { IfOk result (λ log. HasRoom log (most (state core.now) p)) }
-{
-    let mut log = Effects::new(alloc);
-    match u32::try_from(most(core, p)) {
-        Ok(most) => log.reserve(most)?,
-        Err(_) => return Err(NoMemory),
-    }
-    Ok(log)
+    let most = match event {
+        Event::Run(p) | Event::Ast(p) => core.frame_count(p) as u128 + 2,
+        Event::Rdn(p) => 4 * (core.ast_count(p) as u128 + core.timer_count() as u128) + 1,
+        Event::Tick => 3 * core.timer_count() as u128,
+        Event::Beg(_) | Event::Don(_) => 0,
+    };
+    u32::try_from(most).ok()
 }

@@ -1,22 +1,19 @@
 //! Calls of services, with the values of their arguments computed.
 
-ghost use Rattle.std.specs.Prelude.{◌≡◌, ◌<◌, IfSome, IsTrue, bytes_eq, length, position};
-ghost use Rattle.vx_base.specs.Log.{HasRoom};
-ghost use Rattle.vx_record.specs.State.{IsProcess};
-ghost use Rattle.vx_record.specs.Parts.{Does};
+ghost use Rattle.std.specs.Prelude.{◌≡◌, ◌<◌, IfSome, IsTrue, bytes_eq, length, option_map, position};
 ghost use Rattle.vx_record.specs.Flags.{readef};
-ghost use Rattle.vx_record.specs.Services.{access_mode, label_place, number, place, routine, service, service_of, with_value};
-ghost use Rattle.vx_procs.specs.View.{state};
-ghost use Rattle.vx_ctl.specs.Answers.{DoesQuietly, cond_of};
+ghost use Rattle.vx_record.specs.Services.{access_mode, label_place, number, place, routine, routine_or_none, service, service_of, with_value};
+ghost use Rattle.vx_procs.specs.Kernel.{Does, DoesQuietly, Fits};
+ghost use Rattle.vx_ctl.specs.Answers.{cond_of};
 ghost use Rattle.vx_exec.specs.Built.{is_built_service};
-ghost use Rattle.vx_exec.specs.Ready.{IsReady};
+ghost use Rattle.vx_exec.specs.Ready.{IsSet};
 
 use vx_base::{
-    Arg, Args, Call, Cond, Effect, Effects, Entry, Mode, Operand, Pid, Routine, Service, Target,
+    Arg, Args, Call, Cond, Effect, Entry, Mode, Operand, Pid, Routine, Service, Target,
 };
-use vx_ctl::{Refused, clref, cmexec, cmkrnl, dclast, readef, setast, setef};
+use vx_ctl::{Refused, clref, cmexec, cmkrnl, dclast, readef, setast, setef, setimr};
 use vx_image::{Image, Label};
-use vx_procs::{Core, image, set_variable};
+use vx_procs::Core;
 use vx_record::Served;
 use vx_rundown::exit;
 
@@ -78,12 +75,12 @@ fn label_place(image: &Image, name: &[u8]) -> u32
 // The routine at the label that an argument names, with a parameter.
 #[tactic(auto, using(crate::proofs::Served::few_labels))]
 fn routine<R: Routine>(core: &Core<R>, p: Pid, arg: &Arg, prm: u32) -> R
-    requires ready { IsReady core.now p }
-    ensures { R.tagged result ≡ routine (state core.now) p arg.now prm }
+    requires set { IsSet core.now p }
+    ensures { R.tagged result ≡ routine core.now.state p arg.now prm }
 {
     let place = match arg {
-        Arg::Label(Some(name)) => label_place(image(core, p), name.text()),
-        _ => label_place(image(core, p), b"".as_slice()),
+        Arg::Label(Some(name)) => label_place(core.image(p), name.text()),
+        _ => label_place(core.image(p), b"".as_slice()),
     };
     R::scripted(Entry::Label(place, prm))
 }
@@ -98,22 +95,28 @@ fn cond_of<R: Routine>(answer: Result<Cond, Refused<R>>) -> Cond
     }
 }
 
+// The routine at the label that an argument names, if it names one, with a parameter.
+fn routine_or_none<R: Routine>(core: &Core<R>, p: Pid, arg: &Arg, prm: u32) -> Option<R>
+    requires set { IsSet core.now p }
+    ensures { option_map R.tagged result ≡ routine_or_none core.now.state p arg.now prm }
+{
+    match arg {
+        Arg::Label(Some(_)) => Some(routine(core, p, arg, prm)),
+        _ => None,
+    }
+}
+
 // $READEF: a variable takes the flags.
-fn read_flags<R: Routine>(
-    core: &mut Core<R>,
-    p: Pid,
-    efn: u32,
-    v: Target,
-    log: &mut Effects,
-) -> Served
-    requires made { IsProcess (state core.old) p }
-    requires room { HasRoom log.old (length (with_value p v (readef (state core.old) p efn)).effects) }
-    ensures { Does (with_value p v (readef (state core.old) p efn)) result log.old log.new (state core.new) }
+#[tactic(auto, using(crate::proofs::Running::told_none))]
+fn read_flags<R: Routine>(core: &mut Core<R>, p: Pid, efn: u32, v: Target) -> Served
+    requires set { IsSet core.old p }
+    requires room { Fits core.old (with_value p v (readef core.old.state p efn)).effects }
+    ensures { Does (with_value p v (readef core.old.state p efn)) result core.old core.new }
 {
     match readef(core, p, efn) {
         Ok((cond, n)) => {
-            log.add(Effect::Var { p, v, n });
-            set_variable(core, p, v, n);
+            core.tell(Effect::Var { p, v, n });
+            core.set_variable(p, v, n);
             Served::Answered(cond)
         }
         Err(cond) => Served::Answered(cond),
@@ -121,20 +124,32 @@ fn read_flags<R: Routine>(
 }
 
 // $DCLAST of the routine at a label.
-fn declare<R: Routine>(core: &mut Core<R>, p: Pid, args: &Args, log: &mut Effects) -> Served
-    requires ready { IsReady core.old p }
-    requires room { HasRoom log.old (length (service_of (state core.old) p args.now Service.DclAst).effects) }
-    ensures { Does (service_of (state core.old) p args.now Service.DclAst) result log.old log.new (state core.new) }
+fn declare<R: Routine>(core: &mut Core<R>, p: Pid, args: &Args) -> Served
+    requires set { IsSet core.old p }
+    requires room { Fits core.old (service_of core.old.state p args.now Service.DclAst).effects }
+    ensures { Does (service_of core.old.state p args.now Service.DclAst) result core.old core.new }
 {
     let routine: R = routine(core, p, &args.a0, number(&args.a1));
-    let answer = dclast(core, p, routine, access_mode(&args.a2), log);
+    let answer = dclast(core, p, routine, access_mode(&args.a2));
+    Served::Answered(cond_of(answer))
+}
+
+// $SETIMR, with the routine at a label or with none.
+fn set_timer<R: Routine>(core: &mut Core<R>, p: Pid, args: &Args) -> Served
+    requires set { IsSet core.old p }
+    requires room { Fits core.old (service_of core.old.state p args.now Service.SetImr).effects }
+    ensures { Does (service_of core.old.state p args.now Service.SetImr) result core.old core.new }
+{
+    let reqid = number(&args.a3);
+    let routine: Option<R> = routine_or_none(core, p, &args.a2, reqid);
+    let answer = setimr(core, p, number(&args.a0), number(&args.a1), routine, reqid);
     Served::Answered(cond_of(answer))
 }
 
 // $CMEXEC of the routine at a label.
 fn enter_exec<R: Routine>(core: &mut Core<R>, p: Pid, args: &Args) -> Served
-    requires { IsReady core.old p }
-    ensures { DoesQuietly (service_of (state core.old) p args.now Service.CmExec) result (state core.new) }
+    requires { IsSet core.old p }
+    ensures { DoesQuietly (service_of core.old.state p args.now Service.CmExec) result core.old core.new }
 {
     let routine: R = routine(core, p, &args.a0, number(&args.a1));
     let answer = cmexec(core, p, routine);
@@ -143,8 +158,8 @@ fn enter_exec<R: Routine>(core: &mut Core<R>, p: Pid, args: &Args) -> Served
 
 // $CMKRNL of the routine at a label.
 fn enter_kernel<R: Routine>(core: &mut Core<R>, p: Pid, args: &Args) -> Served
-    requires { IsReady core.old p }
-    ensures { DoesQuietly (service_of (state core.old) p args.now Service.CmKrnl) result (state core.new) }
+    requires { IsSet core.old p }
+    ensures { DoesQuietly (service_of core.old.state p args.now Service.CmKrnl) result core.old core.new }
 {
     let routine: R = routine(core, p, &args.a0, number(&args.a1));
     let answer = cmkrnl(core, p, routine);
@@ -152,29 +167,52 @@ fn enter_kernel<R: Routine>(core: &mut Core<R>, p: Pid, args: &Args) -> Served
 }
 
 /// Does the service of a call. Its place is put behind the statement before, and R0 set after it.
-#[tactic(auto, using(crate::proofs::Served::quietly, crate::proofs::Served::only_built))]
-pub(crate) fn serve<R: Routine>(
-    core: &mut Core<R>,
-    p: Pid,
-    call: &Call,
-    log: &mut Effects,
-) -> Served
-    requires ready { IsReady core.old p }
+#[tactic(auto, using(crate::proofs::Running::quietly))]
+pub(crate) fn serve<R: Routine>(core: &mut Core<R>, p: Pid, call: &Call) -> Served
+    requires set { IsSet core.old p }
     requires built { IsTrue (is_built_service call.now.service) }
-    requires room { HasRoom log.old (length (service (state core.old) p call.now).effects) }
-    ensures { Does (service (state core.old) p call.now) result log.old log.new (state core.new) }
+    requires room { Fits core.old (service core.old.state p call.now).effects }
+    ensures { Does (service core.old.state p call.now) result core.old core.new }
 {
     let args = &call.args;
     let n = number(&args.a0);
     match call.service {
-        Service::SetEf => Served::Answered(setef(core, p, n, log)),
-        Service::ClrEf => Served::Answered(clref(core, p, n, log)),
-        Service::ReadEf => read_flags(core, p, n, place(&args.a1), log),
-        Service::DclAst => declare(core, p, args, log),
-        Service::SetAst => Served::Answered(setast(core, p, n, log)),
+        Service::SetEf => Served::Answered(setef(core, p, n)),
+        Service::ClrEf => Served::Answered(clref(core, p, n)),
+        Service::ReadEf => read_flags(core, p, n, place(&args.a1)),
+        Service::DclAst => declare(core, p, args),
+        Service::SetAst => Served::Answered(setast(core, p, n)),
         Service::CmExec => enter_exec(core, p, args),
         Service::CmKrnl => enter_kernel(core, p, args),
-        Service::Exit => Served::Answered(exit(core, p, n, log)),
-        _ => unreachable!(),
+        Service::SetImr => set_timer(core, p, args),
+        Service::Exit => Served::Answered(exit(core, p, n)),
+        // these are not built yet
+        Service::WaitFr
+        | Service::WflOr
+        | Service::WflAnd
+        | Service::AscEfc
+        | Service::DacEfc
+        | Service::DlcEfc
+        | Service::CanTim
+        | Service::SchdWk
+        | Service::CanWak
+        | Service::Hiber
+        | Service::Wake
+        | Service::Suspnd
+        | Service::Resume
+        | Service::ForceX
+        | Service::CrePrc
+        | Service::DelPrc
+        | Service::DclExh
+        | Service::CanExh
+        | Service::Assign
+        | Service::Dassgn
+        | Service::CreMbx
+        | Service::DelMbx
+        | Service::Qio
+        | Service::QioW
+        | Service::Synch
+        | Service::Cancel
+        | Service::GetTim => unreachable!(),
     }
 }

@@ -2,12 +2,10 @@
 
 ghost use Rattle.std.specs.Prelude.{◌≡◌};
 ghost use Rattle.vx_record.specs.State.{IsProcess, process_at};
-ghost use Rattle.vx_procs.specs.View.{state};
 ghost use Rattle.vx_exec.specs.Standing.{code_of, framed, standing_of, waiting};
 
-use crate::events::top;
 use vx_base::{Pid, Routine, Wait};
-use vx_procs::{Core, is_deleted, process_of};
+use vx_procs::Core;
 
 /// How a process stands when a run is over: the first that fits.
 #[derive(Clone, Copy, Debug, PartialEq, Eq)]
@@ -39,10 +37,10 @@ fn waiting(wait: Option<Wait>) -> Standing
 
 // How a process stands that is neither deleted nor suspended.
 fn framed<R: Routine>(core: &Core<R>, p: Pid) -> Standing
-    requires { IsProcess (state core.now) p }
-    ensures { result ≡ framed (process_at (state core.now) p).frames }
+    requires { IsProcess core.now.state p }
+    ensures { result ≡ framed (process_at core.now.state p).frames }
 {
-    match top(core, p) {
+    match core.top(p) {
         None => Standing::Rundown,
         Some(frame) => waiting(frame.wait),
     }
@@ -50,14 +48,14 @@ fn framed<R: Routine>(core: &Core<R>, p: Pid) -> Standing
 
 /// How a process stands, and its exit code, 0 unless it is gone.
 pub(crate) fn standing_of<R: Routine>(core: &Core<R>, p: Pid) -> (Standing, u32)
-    requires { IsProcess (state core.now) p }
-    ensures standing { result.0 ≡ standing_of (process_at (state core.now) p) }
-    ensures code { result.1 ≡ code_of (process_at (state core.now) p) }
+    requires { IsProcess core.now.state p }
+    ensures standing { result.0 ≡ standing_of (process_at core.now.state p) }
+    ensures code { result.1 ≡ code_of (process_at core.now.state p) }
 {
-    if is_deleted(core, p) {
-        return (Standing::Gone, process_of(core, p).code);
+    if core.is_deleted(p) {
+        return (Standing::Gone, core.exit_code(p));
     }
-    if process_of(core, p).suspended {
+    if core.is_suspended(p) {
         return (Standing::Susp, 0);
     }
     (framed(core, p), 0)

@@ -19,6 +19,7 @@ fn is_built_service(service: Service) -> bool
             | Service::SetAst
             | Service::CmExec
             | Service::CmKrnl
+            | Service::SetImr
             | Service::Exit
     )
 }
@@ -57,7 +58,7 @@ fn are_built_images(images: &[Image]) -> bool
 }
 
 /// Whether the executive runs a system so far: it has no units, and its images call of the services those on event flags,
-/// ASTs and modes that wait for nothing, and $EXIT.
+/// ASTs and modes that wait for nothing, $SETIMR and $EXIT.
 pub fn built(system: &System) -> bool
     ensures { result ≡ is_built system.now }
 {

@@ -1,81 +1,165 @@
--- One process changed in the code is that process changed in the state.
-use Rattle.std.proofs.Common.{◌≡◌, ℕ, ◌-◌, ◌<◌, length, List, map, slice_index_or, slice_set, Result, Ok, Err, OnOk, inl, inr, get_or-set_same, get_or-set_other, length-set, arith, sym, ap, subst, ◌∙◌}
-use Rattle.std.proofs.lemmas.Bool.{cases_eq}
-use Rattle.std.proofs.lemmas.List.{map-set, get_or-map, length-map}
+-- One process changed in the code is that process changed in the value, and what is held stays held.
+use Rattle.std.proofs.Common.{◌≡◌, ◌≢◌, ℕ, zero, suc, ◌+◌, ◌-◌, ◌<◌, ◌≤◌, length, List, [], ◌∷◌, ◌++◌, Bool, true, false, cond, not, ◌==◌, map, slice_index_or, slice_set, Option, Some, None, Result, Ok, Err, OnOk, IfSome, inl, inr, get_or-set_same, get_or-set_other, length-set, arith, refl, sym, ap, subst, ◌∙◌}
+use Rattle.std.specs.List.{AllByRecursion, find}
+use Rattle.std.proofs.lemmas.Bool.{cases_eq, eq-eqb, eqb-true}
+use Rattle.std.proofs.lemmas.List.{map-set, get_or-map, length-map, set-get_or}
 use Rattle.std.proofs.Math.Seq.{map-set_same}
 use Rattle.std.specs.Vec.{with_item}
+use Rattle.vx_base.specs.Flags.{one}
+use Rattle.vx_base.specs.Roomy.{Roomy, with_items}
+use Rattle.vx_base.specs.Pieces.{Queued, Timer}
 use Rattle.vx_base.specs.declared.number.Pid.{Pid}
-use Rattle.vx_record.specs.State.{Process, IsProcess, process_at, change, nobody}
-use Rattle.vx_procs.specs.View.{process, state, Room, no_room, room_of, room_at, capacities, IsWithinRoom}
-use Rattle.vx_procs.specs.declared.procs.Core.{Core}
+use Rattle.vx_base.specs.declared.quota.Need.{Need}
+use Rattle.vx_record.specs.State.{Process, State, IsProcess, process_at, change, nobody, no_decl}
+use Rattle.vx_record.specs.Charges.{charge, bears_ast, is_attention_of, charged_timer, is_charged}
+use Rattle.vx_record.specs.Parts.{tally}
+use Rattle.vx_record.proofs.Lists.{all_weaker}
+use Rattle.vx_record.proofs.Ground.{some_weaker}
+use Rattle.vx_procs.specs.Held.{AreHeld, Books, IsBooked, IsOwn, books_at, no_books, is_short, spare}
+use Rattle.vx_procs.specs.Kernel.{Kernel, Room, no_room, room_at, changed, with_state}
+use Rattle.vx_procs.specs.Ready.{HasSpare, HasSpares, owed}
+use Rattle.vx_procs.specs.View.{process, state, kernel, books, room_of, books_of, IsHeld}
+use Rattle.vx_procs.specs.declared.procs.Core.TheInside.{Inside}
 use Rattle.vx_procs.specs.declared.process.Proc.{Proc}
 
 -- p stands in the code's list
-pub stands : {R : Type 0} (c : Core R) (p : Pid) → IsProcess (state c) p → p.0 - 1 < length c.procs.items
+pub stands : {R : Type 0} (c : Inside R) (p : Pid) → IsProcess (state c) p → p.0 - 1 < length c.procs.items
 stands c p made = omega (arith, length-map c.procs.items process)
 
 -- the process that the code reads is the one of the state
-pub seen : {R : Type 0} (c : Core R) (p : Pid) (r : Proc R) → IsProcess (state c) p → r ≡ slice_index_or c.procs.items (p.0 - 1) r → process r ≡ process_at (state c) p
+pub seen : {R : Type 0} (c : Inside R) (p : Pid) (r : Proc R) → IsProcess (state c) p → r ≡ slice_index_or c.procs.items (p.0 - 1) r → process r ≡ process_at (state c) p
 seen c p r made is = ap process is ∙ sym (get_or-map process c.procs.items (p.0 - 1) r nobody (stands c p made))
 
-pub changed : {R : Type 0} (f : Process → Process) (c : Core R) (p : Pid) (r new : Proc R) → IsProcess (state c) p → r ≡ slice_index_or c.procs.items (p.0 - 1) r → process new ≡ f (process r) → state (record c { procs = with_item c.procs (p.0 - 1) new }) ≡ change (state c) p f
-changed f c p r new made is e =
-    ap (λ (ps : List Process). record (state c) { procs = ps })
-    (map-set process c.procs.items (p.0 - 1) new
-    ∙ ap (slice_set (map process c.procs.items) (p.0 - 1)) (e ∙ ap f (seen c p r made is)))
+pub seen_books : {R : Type 0} (c : Inside R) (p : Pid) (r : Proc R) → IsProcess (state c) p → r ≡ slice_index_or c.procs.items (p.0 - 1) r → books_of r ≡ books_at (books c) p
+seen_books c p r made is = ap books_of is ∙ sym (get_or-map books_of c.procs.items (p.0 - 1) r no_books (stands c p made))
 
--- a change that keeps the room of that process keeps all room
-pub room_kept : {R : Type 0} (c : Core R) (p : Pid) (r new : Proc R) → r ≡ slice_index_or c.procs.items (p.0 - 1) r → room_of new ≡ room_of r → capacities (record c { procs = with_item c.procs (p.0 - 1) new }) ≡ capacities c
-room_kept c p r new is e = map-set_same room_of c.procs.items (p.0 - 1) new r (e ∙ ap room_of is)
+pub made_in : {R : Type 0} (c : Inside R) (k : Kernel) (p : Pid) → kernel c ≡ k → IsProcess k.state p → IsProcess (state c) p
+made_in c k p view made = subst (λ (x : Kernel). IsProcess x.state p) (sym view) made
 
--- a process that looks the same leaves the state
-pub unchanged : {R : Type 0} (c : Core R) (p : Pid) (r new : Proc R) → r ≡ slice_index_or c.procs.items (p.0 - 1) r → process new ≡ process r → state (record c { procs = with_item c.procs (p.0 - 1) new }) ≡ state c
-unchanged c p r new is e =
-    ap (λ (ps : List Process). record (state c) { procs = ps })
-    (map-set_same process c.procs.items (p.0 - 1) new r (e ∙ ap process is))
+-- the value after it
 
--- the process that was put there, and its room
+changed_here : {R : Type 0} (f : Process → Process) (c : Inside R) (p : Pid) (r new : Proc R) → IsProcess (state c) p → r ≡ slice_index_or c.procs.items (p.0 - 1) r → process new ≡ f (process r) → room_of new ≡ room_of r → kernel (record c { procs = with_item c.procs (p.0 - 1) new }) ≡ changed (kernel c) p f
+changed_here f c p r new made is e room =
+    let procs : map process (slice_set c.procs.items (p.0 - 1) new) ≡ (change (state c) p f).procs = map-set process c.procs.items (p.0 - 1) new ∙ ap (slice_set (map process c.procs.items) (p.0 - 1)) (e ∙ ap f (seen c p r made is)) in
+    let rooms : map room_of (slice_set c.procs.items (p.0 - 1) new) ≡ map room_of c.procs.items = map-set_same room_of c.procs.items (p.0 - 1) new r (room ∙ ap room_of is) in
+    ap (λ (ps : List Process). record (kernel c) { state = record (state c) { procs = ps }; rooms = map room_of (slice_set c.procs.items (p.0 - 1) new) }) procs
+    ∙ ap (λ (rs : List Room). record (kernel c) { state = change (state c) p f; rooms = rs }) rooms
 
-pub put_there : {R : Type 0} (c : Core R) (p : Pid) (new : Proc R) → IsProcess (state c) p → process_at (state (record c { procs = with_item c.procs (p.0 - 1) new })) p ≡ process new
-put_there c p new made =
-    let here = stands c p made in
-    let there : p.0 - 1 < length (slice_set c.procs.items (p.0 - 1) new) = omega (arith, length-set c.procs.items (p.0 - 1) new) in
-    get_or-map process (slice_set c.procs.items (p.0 - 1) new) (p.0 - 1) new nobody there
-    ∙ ap process (get_or-set_same c.procs.items (p.0 - 1) new new here)
+pub changed_as : {R : Type 0} (f : Process → Process) (c : Inside R) (k : Kernel) (p : Pid) (r new : Proc R) → kernel c ≡ k → IsProcess k.state p → r ≡ slice_index_or c.procs.items (p.0 - 1) r → process new ≡ f (process r) → books_of new ≡ books_of r → kernel (record c { procs = with_item c.procs (p.0 - 1) new }) ≡ changed k p f
+changed_as f c k p r new view made is e same =
+    changed_here f c p r new (made_in c k p view made) is e (ap (λ (b : Books). b.room) same) ∙ ap (λ (x : Kernel). changed x p f) view
 
-pub room_there : {R : Type 0} (c : Core R) (p : Pid) (new : Proc R) → IsProcess (state c) p → room_at (record c { procs = with_item c.procs (p.0 - 1) new }) p ≡ room_of new
-room_there c p new made =
-    let here = stands c p made in
-    let there : p.0 - 1 < length (slice_set c.procs.items (p.0 - 1) new) = omega (arith, length-set c.procs.items (p.0 - 1) new) in
-    get_or-map room_of (slice_set c.procs.items (p.0 - 1) new) (p.0 - 1) new no_room there
-    ∙ ap room_of (get_or-set_same c.procs.items (p.0 - 1) new new here)
+pub changed_room : {R : Type 0} (f : Process → Process) (c : Inside R) (k : Kernel) (p : Pid) (r new : Proc R) → kernel c ≡ k → IsProcess k.state p → r ≡ slice_index_or c.procs.items (p.0 - 1) r → process new ≡ f (process r) → room_of new ≡ room_of r → kernel (record c { procs = with_item c.procs (p.0 - 1) new }) ≡ changed k p f
+changed_room f c k p r new view made is e room = changed_here f c p r new (made_in c k p view made) is e room ∙ ap (λ (x : Kernel). changed x p f) view
 
--- the room of the process that the code reads
-room_seen : {R : Type 0} (c : Core R) (p : Pid) (r : Proc R) → IsProcess (state c) p → r ≡ slice_index_or c.procs.items (p.0 - 1) r → room_of r ≡ room_at c p
-room_seen c p r made is = ap room_of is ∙ sym (get_or-map room_of c.procs.items (p.0 - 1) r no_room (stands c p made))
+-- What is held.
 
-same_within : (a b : Room) → a ≡ b → IsWithinRoom a b
-same_within a b e = subst (λ (x : Room). IsWithinRoom a x) e (record { frames = omega arith; asts = omega arith })
+-- with nothing owed or charged that was not before, and in no more frames
+pub record IsQuiet (x y : Process) : Type 0 where
+  pub decl : y.decl ≡ x.decl
+  pub asts : y.asts ≡ x.asts
+  pub frames : length y.frames ≤ length x.frames
 
--- more room for one process is no less room for any
-pub room_grown : {R : Type 0} (c : Core R) (p : Pid) (r new : Proc R) → IsProcess (state c) p → r ≡ slice_index_or c.procs.items (p.0 - 1) r → IsWithinRoom (room_of r) (room_of new) → (q : Pid) → IsWithinRoom (room_at c q) (room_at (record c { procs = with_item c.procs (p.0 - 1) new }) q)
-room_grown c p r new made is grows q =
+quiet_same : (x : Process) → IsQuiet x x
+quiet_same x = record { decl = refl; asts = refl; frames = omega arith }
+
+pub booked_quiet : (s : State) (ps : List Process) (short : Option Pid) (q : Pid) (b : Books) → IsQuiet (process_at s q) (process_at (record s { procs = ps }) q) → IsBooked s short q b → IsBooked (record s { procs = ps }) short q b
+booked_quiet s ps short q b quiet h = record {
+  frames = omega (arith, h.frames, quiet.frames);
+  asts = omega (arith, h.asts, ap (λ (xs : List Queued). length xs) quiet.asts);
+  used = h.used ∙ ap (λ (xs : List Queued). record (charge s q) { ast = tally (bears_ast q) s.requests + (tally (is_attention_of q) s.attention + (tally (charged_timer q) s.timers + tally is_charged xs)) }) (sym quiet.asts);
+  limits = h.limits ∙ ap (λ (n : ℕ). (slice_index_or s.system.decls n no_decl).limits) (sym quiet.decl);
+}
+
+made_set : (s : State) (i : ℕ) (pr : Process) (ts : List Timer) (q : Pid) → IsProcess (record s { procs = slice_set s.procs i pr; timers = ts }) q → IsProcess s q
+made_set s i pr ts q m = record { above = m.above; within = omega (arith, m.within, length-set s.procs i pr) }
+
+own_set : (s : State) (i : ℕ) (pr : Process) (ts : List Timer) → AllByRecursion (IsOwn s) ts → AllByRecursion (IsOwn (record s { procs = slice_set s.procs i pr; timers = ts })) ts
+own_set s i pr ts h =
+    all_weaker (IsOwn s) (IsOwn (record s { procs = slice_set s.procs i pr; timers = ts })) (λ t o. record { made = record { above = o.made.above; within = omega (arith, o.made.within, length-set s.procs i pr) }; timer = o.timer }) ts h
+
+-- one process changed, with its books, and the timers: each other process is booked still
+pub held_by : (s : State) (bs : List Books) (before after : Option Pid) (p : Pid) (pr : Process) (b : Books) (ts : List Timer) → AreHeld s before bs → IsProcess s p → p.0 - 1 < length bs → IsBooked (record s { procs = slice_set s.procs (p.0 - 1) pr; timers = ts }) after p b → ((q : Pid) → IsProcess s q → q.0 ≢ p.0 → IsBooked s before q (books_at bs q) → IsBooked (record s { timers = ts }) after q (books_at bs q)) → AllByRecursion (IsOwn s) ts → IfSome after (IsProcess s) → AreHeld (record s { procs = slice_set s.procs (p.0 - 1) pr; timers = ts }) after (slice_set bs (p.0 - 1) b)
+held_by s bs before after p pr b ts h made within here others own short =
     let i = p.0 - 1 in
-    let rooms = map room_of c.procs.items in
-    let moved : room_at (record c { procs = with_item c.procs (p.0 - 1) new }) q ≡ slice_index_or (slice_set rooms i (room_of new)) (q.0 - 1) no_room = ap (λ (xs : List Room). slice_index_or xs (q.0 - 1) no_room) (map-set room_of c.procs.items (p.0 - 1) new) in
-    elim (cases_eq (q.0 - 1) (p.0 - 1)) [
-      | inl same ↦
-          let before : room_at c q ≡ room_of r = ap (λ (j : ℕ). slice_index_or rooms j no_room) same ∙ sym (room_seen c p r made is) in
-          let after : room_at (record c { procs = with_item c.procs (p.0 - 1) new }) q ≡ room_of new = ap (λ (j : ℕ). slice_index_or (capacities (record c { procs = with_item c.procs (p.0 - 1) new })) j no_room) same ∙ room_there c p new made in
-          rw (before, after) grows
-      | inr other ↦ same_within _ _ (sym (moved ∙ get_or-set_other rooms (p.0 - 1) (q.0 - 1) (room_of new) no_room other))
-    ]
+    let t : State = record s { procs = slice_set s.procs i pr; timers = ts } in
+    record {
+      booked = λ q m. elim (cases_eq q.0 p.0) [
+        | inl same ↦
+            let is : q ≡ p = ap (λ (n : ℕ). let x : Pid = record { 0 = n } in x) same in
+            let its : books_at (slice_set bs i b) p ≡ b = get_or-set_same bs i b no_books within in
+            rw is (subst (λ (x : Books). IsBooked t after p x) (sym its) here)
+        | inr other ↦
+            let was = made_set s i pr ts q m in
+            let apart : q.0 - 1 ≢ i = λ e. other (omega (arith, was.above, made.above)) in
+            let its : books_at (slice_set bs i b) q ≡ books_at bs q = get_or-set_other bs i (q.0 - 1) b no_books apart in
+            let at : process_at t q ≡ process_at s q = get_or-set_other s.procs i (q.0 - 1) pr nobody apart in
+            let u : State = record s { timers = ts } in
+            subst (λ (x : Books). IsBooked t after q x) (sym its)
+            (booked_quiet u (slice_set s.procs i pr) after q (books_at bs q) (record { decl = ap (λ (x : Process). x.decl) at; asts = ap (λ (x : Process). x.asts) at; frames = omega (arith, ap (λ (x : Process). length x.frames) at) }) (others q was other (h.booked q was)))
+      ];
+      timers = own_set s i pr ts own;
+      marked = some_weaker (IsProcess s) (IsProcess t) (λ q m. record { above = m.above; within = omega (arith, m.within, length-set s.procs i pr) }) after short;
+    }
 
--- what holds, holds on an Ok
-pub on_ok : {A E : Type 0} (r : Result A E) (P : Type 0) → P → OnOk r P
-on_ok (Ok x) P h = h
-on_ok (Err e) P h = tt
+-- the same of the code
+pub held_set : {R : Type 0} (c : Inside R) (after : Option Pid) (p : Pid) (new : Proc R) (ts : List Timer) → IsHeld c → IsProcess (state c) p → IsBooked (record (state c) { procs = slice_set (state c).procs (p.0 - 1) (process new); timers = ts }) after p (books_of new) → ((q : Pid) → IsProcess (state c) q → q.0 ≢ p.0 → IsBooked (state c) c.short q (books_at (books c) q) → IsBooked (record (state c) { timers = ts }) after q (books_at (books c) q)) → AllByRecursion (IsOwn (state c)) ts → IfSome after (IsProcess (state c)) → AreHeld (record (state c) { procs = map process (slice_set c.procs.items (p.0 - 1) new); timers = ts }) after (map books_of (slice_set c.procs.items (p.0 - 1) new))
+held_set c after p new ts h made here others own short =
+    let i = p.0 - 1 in
+    let s = state c in
+    let within : i < length (books c) = omega (arith, stands c p made, length-map c.procs.items books_of) in
+    let held = held_by s (books c) c.short after p (process new) (books_of new) ts h made within here others own short in
+    subst (λ (ps : List Process). AreHeld (record s { procs = ps; timers = ts }) after (map books_of (slice_set c.procs.items i new))) (sym (map-set process c.procs.items i new))
+    (subst (λ (bs : List Books). AreHeld (record s { procs = slice_set s.procs i (process new); timers = ts }) after bs) (sym (map-set books_of c.procs.items i new)) held)
 
-pub on_ok_more : {A E : Type 0} (r : Result A E) (P Q : Type 0) → (P → Q) → OnOk r P → OnOk r Q
-on_ok_more (Ok x) P Q f h = f h
-on_ok_more (Err e) P Q f h = tt
+-- a process as it is put there
+pub put_there : (s : State) (p : Pid) (pr : Process) (ts : List Timer) → IsProcess s p → process_at (record s { procs = slice_set s.procs (p.0 - 1) pr; timers = ts }) p ≡ pr
+put_there s p pr ts made = get_or-set_same s.procs (p.0 - 1) pr nobody (omega (arith, made.above, made.within))
+
+-- a quiet change, with the books as they were
+pub held_as : {R : Type 0} (f : Process → Process) (c : Inside R) (k : Kernel) (p : Pid) (r new : Proc R) → kernel c ≡ k → IsProcess k.state p → r ≡ slice_index_or c.procs.items (p.0 - 1) r → process new ≡ f (process r) → books_of new ≡ books_of r → IsQuiet (process r) (f (process r)) → IsHeld c → IsHeld (record c { procs = with_item c.procs (p.0 - 1) new })
+held_as f c k p r new view is_made is e same quiet_by h =
+    let quiet = subst (λ (x : Process). IsQuiet (process r) x) (sym e) quiet_by in
+    let made = made_in c k p view is_made in
+    let s = state c in
+    let at = put_there s p (process new) s.timers made in
+    let was = seen c p r made is in
+    let here : IsQuiet (process_at s p) (process_at (record s { procs = slice_set s.procs (p.0 - 1) (process new) }) p) = record {
+      decl = ap (λ (x : Process). x.decl) at ∙ (quiet.decl ∙ ap (λ (x : Process). x.decl) was);
+      asts = ap (λ (x : Process). x.asts) at ∙ (quiet.asts ∙ ap (λ (x : Process). x.asts) was);
+      frames = omega (arith, quiet.frames, ap (λ (x : Process). length x.frames) at, ap (λ (x : Process). length x.frames) was);
+    } in
+    held_set c c.short p new s.timers h made
+    (subst (λ (b : Books). IsBooked (record s { procs = slice_set s.procs (p.0 - 1) (process new) }) c.short p b) (sym (same ∙ seen_books c p r made is)) (booked_quiet s (slice_set s.procs (p.0 - 1) (process new)) c.short p (books_at (books c) p) here (h.booked p made)))
+    (λ q m other b. b) h.timers h.marked
+
+-- a change that changes nothing
+pub none_changed : (s : State) (p : Pid) → change s p (λ x. x) ≡ s
+none_changed s p = ap (λ (ps : List Process). record s { procs = ps }) (set-get_or s.procs (p.0 - 1) nobody)
+
+-- the value where timers change too
+timers_here : {R : Type 0} (f : Process → Process) (xs : List Timer) (c : Inside R) (p : Pid) (r new : Proc R) (ts : Roomy Timer) → IsProcess (state c) p → r ≡ slice_index_or c.procs.items (p.0 - 1) r → process new ≡ f (process r) → room_of new ≡ room_of r → ts ≡ with_items c.timers xs → kernel (record c { procs = with_item c.procs (p.0 - 1) new; timers = ts }) ≡ with_state (kernel c) (change (record (state c) { timers = xs }) p f)
+timers_here f xs c p r new ts made is e room put =
+    ap (λ (x : Kernel). let y : Kernel = record x { state = record x.state { timers = ts.items }; timers = ts.capacity } in y) (changed_here f c p r new made is e room)
+    ∙ ap (λ (x : Roomy Timer). let y : Kernel = record (changed (kernel c) p f) { state = record (change (state c) p f) { timers = x.items }; timers = x.capacity } in y) put
+
+pub timers_as : {R : Type 0} (f : Process → Process) (F : State → List Timer) (c : Inside R) (k : Kernel) (p : Pid) (r new : Proc R) (ts : Roomy Timer) → kernel c ≡ k → IsProcess k.state p → r ≡ slice_index_or c.procs.items (p.0 - 1) r → process new ≡ f (process r) → room_of new ≡ room_of r → ts ≡ with_items c.timers (F (state c)) → kernel (record c { procs = with_item c.procs (p.0 - 1) new; timers = ts }) ≡ with_state k (change (record k.state { timers = F k.state }) p f)
+timers_as f F c k p r new ts view made is e room put =
+    timers_here f (F (state c)) c p r new ts (made_in c k p view made) is e room put ∙ ap (λ (x : Kernel). with_state x (change (record x.state { timers = F x.state }) p f)) view
+
+-- and no process
+pub timers_alone : {R : Type 0} (F : State → List Timer) (c : Inside R) (k : Kernel) (p : Pid) (r new : Proc R) (ts : Roomy Timer) → kernel c ≡ k → IsProcess k.state p → r ≡ slice_index_or c.procs.items (p.0 - 1) r → process new ≡ process r → room_of new ≡ room_of r → ts ≡ with_items c.timers (F (state c)) → kernel (record c { procs = with_item c.procs (p.0 - 1) new; timers = ts }) ≡ with_state k (record k.state { timers = F k.state })
+timers_alone F c k p r new ts view made is e room put =
+    timers_as (λ x. x) F c k p r new ts view made is e room put ∙ ap (λ (s : State). with_state k s) (none_changed (record k.state { timers = F k.state }) p)
+
+-- room alone
+pub roomier_state : {R : Type 0} (c : Inside R) (k : Kernel) (p : Pid) (r new : Proc R) → kernel c ≡ k → r ≡ slice_index_or c.procs.items (p.0 - 1) r → process new ≡ process r → state (record c { procs = with_item c.procs (p.0 - 1) new }) ≡ k.state
+roomier_state c k p r new view is e =
+    ap (λ (ps : List Process). record (state c) { procs = ps }) (map-set_same process c.procs.items (p.0 - 1) new r (e ∙ ap process is)) ∙ ap (λ (x : Kernel). x.state) view
+
+-- an entry found in the code is found in the value
+pub found_in : {R : Type 0} (test : Timer → Bool) (c : Inside R) (k : Kernel) (o : Option Timer) → kernel c ≡ k → o ≡ find test c.timers.items → o ≡ find test k.state.timers
+found_in test c k o view found = found ∙ ap (λ (x : Kernel). find test x.state.timers) view
+
+pub seen_in : {R : Type 0} (c : Inside R) (k : Kernel) (p : Pid) (r : Proc R) → kernel c ≡ k → IsProcess k.state p → r ≡ slice_index_or c.procs.items (p.0 - 1) r → process r ≡ process_at k.state p
+seen_in c k p r view made is = seen c p r (made_in c k p view made) is ∙ ap (λ (x : Kernel). process_at x.state p) view

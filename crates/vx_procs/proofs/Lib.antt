@@ -1,5 +1,10 @@
-pub mod Born
+pub mod Bare
+pub mod Booked
 pub mod Changed
-pub mod Counted
+pub mod FirstProcs
+pub mod Firsts
+pub mod Ops
+pub mod Quiet
+pub mod Rest
 pub mod Stack
 pub mod Started

@@ -13,7 +13,7 @@ use Rattle.vx_base.specs.Frames.{active_mode}
 use Rattle.vx_ast.specs.Queue.{less_first_like}
 use Rattle.vx_base.proofs.First.{found_passes}
 use Rattle.vx_frames.specs.Frames as stack
-use Rattle.vx_record.specs.Asts.{deliverable_at}
+use Rattle.vx_record.specs.Asts.{active_mode, deliverable_at}
 use Rattle.vx_record.specs.State.{Process}
 use Rattle.vx_procs.specs.Words.{deliverable_of, have_own_ids, without_started}
 
@@ -88,3 +88,45 @@ deliverable_from pr (g ∷ fs) f active top is =
 
 pub deliverable_top : (pr : Process) (f : Frame) (active : Option Mode) → pr.suspended ≡ false → Some f ≡ stack.top_of pr.frames → active ≡ active_mode pr.frames → deliverable pr.enables f.mode active pr.asts ≡ deliverable_of pr
 deliverable_top pr f active runs top is = rw runs (deliverable_from pr pr.frames f active top is)
+
+-- and it is the first of its mode
+
+one_found : (enables : Enables) (current : Mode) (active : Option Mode) (asts : List Queued) (q : Queued) → deliverable enables current active asts ≡ Some q → (m : Mode) × (find (is_of_mode m) asts ≡ Some q)
+one_found enables current active asts q e =
+    let first : Mode → Option Queued = first_of_mode enables current active asts in
+    elim (one_of_two (first Kernel) (or_else (first Exec) (or_else (first Super) (first User))) q e) [
+      | inl is ↦ (Kernel, first_found enables current active asts Kernel q is)
+      | inr more ↦ elim (one_of_two (first Exec) (or_else (first Super) (first User)) q more) [
+        | inl is ↦ (Exec, first_found enables current active asts Exec q is)
+        | inr further ↦ elim (one_of_two (first Super) (first User) q further) [
+          | inl is ↦ (Super, first_found enables current active asts Super q is)
+          | inr last ↦ (User, first_found enables current active asts User q last)
+        ]
+      ]
+    ]
+
+found_at : (pr : Process) (fs : List Frame) (q : Queued) → deliverable_at pr fs ≡ Some q → (m : Mode) × (find (is_of_mode m) pr.asts ≡ Some q)
+found_at pr [] q e = absurd (cc)
+found_at pr (f ∷ fs) q e = one_found pr.enables f.mode (active_mode (f ∷ fs)) pr.asts q e
+
+pub started_found : (pr : Process) (q : Queued) → deliverable_of pr ≡ Some q → (m : Mode) × (find (is_of_mode m) pr.asts ≡ Some q)
+started_found pr q =
+    elim pr.suspended as (λ b. cond b None (deliverable_at pr pr.frames) ≡ Some q → (m : Mode) × (find (is_of_mode m) pr.asts ≡ Some q)) [
+      | true ↦ λ e. absurd (cc)
+      | false ↦ λ e. found_at pr pr.frames q e
+    ]
+
+-- where no two have one id, what is found is the first with its id
+pub own_found : (test : Queued → Bool) (xs : List Queued) (q : Queued) → IsTrue (have_own_ids xs) → find test xs ≡ Some q → find (λ r. r.id.0 == q.id.0) xs ≡ Some q
+own_found test [] q own e = absurd (cc)
+own_found test (x ∷ xs) q own e =
+    let parts = and_parts (not (list_any (λ r. x.id.0 == r.id.0) xs)) (have_own_ids xs) own in
+    elim (test x) as (λ b. cond b (Some x) (find test xs) ≡ Some q → cond (x.id.0 == q.id.0) (Some x) (find (λ r. r.id.0 == q.id.0) xs) ≡ Some q) [
+      | true ↦ λ is.
+          let same : x ≡ q = cc in
+          let here : (x.id.0 == q.id.0) ≡ true = eq-eqb x.id.0 q.id.0 (ap (λ (y : Queued). y.id.0) same) in
+          rw here (ap Some same)
+      | false ↦ λ more.
+          let other : (x.id.0 == q.id.0) ≡ false = none_found test (λ r. x.id.0 == r.id.0) xs q (not-true _ parts.0) more in
+          rw other (own_found test xs q parts.1 more)
+    ] e

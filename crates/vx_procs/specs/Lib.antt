@@ -1,2 +1,7 @@
+pub mod Counts
+pub mod Fresh
+pub mod Held
+pub mod Kernel
+pub mod Ready
 pub mod View
 pub mod Words

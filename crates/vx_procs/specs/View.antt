@@ -1,9 +1,10 @@
 -- What the processes of the code stand for.
-use Rattle.std.specs.Prelude.{ℕ, ◌+◌, ◌-◌, ◌<◌, ◌≤◌, List, [], None, length, map, replicate, slice_index_or}
-use Rattle.vx_image.specs.Units.{first_unit}
-use Rattle.vx_base.specs.declared.number.Pid.{Pid}
-use Rattle.vx_record.specs.State.{Process, State, process_at}
-use Rattle.vx_procs.specs.declared.procs.Core.{Core}
+use Rattle.std.specs.Prelude.{ℕ, List, [], None, map, replicate}
+use Rattle.vx_record.specs.State.{Process, State}
+use Rattle.vx_record.specs.Runs.{first_unit}
+use Rattle.vx_procs.specs.Kernel.{Kernel, Room}
+use Rattle.vx_procs.specs.Held.{Books, AreHeld}
+use Rattle.vx_procs.specs.declared.procs.Core.TheInside.{Inside}
 use Rattle.vx_procs.specs.declared.process.Proc.{Proc}
 
 -- a process, with no channels and no exit handlers
@@ -28,8 +29,14 @@ process pr = record {
   phase = pr.phase;
 }
 
--- the whole, with no clusters, requests, timers, attention entries and mailboxes, and with the units as they are at first
-abbrev pub state : {R : Type 0} → Core R → State
+abbrev pub room_of : {R : Type 0} → Proc R → Room
+room_of pr = record { frames = pr.frames.capacity; asts = pr.asts.capacity }
+
+abbrev pub books_of : {R : Type 0} → Proc R → Books
+books_of pr = record { room = room_of pr; account = pr.account }
+
+-- the whole, with no clusters, requests, attention entries and mailboxes, and with the units as they are at first
+abbrev pub state : {R : Type 0} → Inside R → State
 state c = record {
   system = c.system;
   time = c.time;
@@ -37,39 +44,17 @@ state c = record {
   procs = map process c.procs.items;
   common = record { clusters = []; associations = [] };
   requests = [];
-  timers = [];
+  timers = c.timers.items;
   attention = [];
   boxes = replicate 64 None;
   units = map first_unit c.system.units;
 }
 
--- how many frames and how many ASTs a process has room for in all
-pub record Room : Type 0 where
-  pub frames : ℕ
-  pub asts : ℕ
+abbrev pub kernel : {R : Type 0} → Inside R → Kernel
+kernel c = record { state = state c; log = c.log; rooms = map room_of c.procs.items; timers = c.timers.capacity }
 
-abbrev pub no_room : Room
-no_room = record { frames = 0; asts = 0 }
+abbrev pub books : {R : Type 0} → Inside R → List Books
+books c = map books_of c.procs.items
 
--- the one room is in the other
-pub record IsWithinRoom (a b : Room) : Type 0 where
-  pub frames : a.frames ≤ b.frames
-  pub asts : a.asts ≤ b.asts
-
-abbrev pub room_of : {R : Type 0} → Proc R → Room
-room_of pr = record { frames = pr.frames.capacity; asts = pr.asts.capacity }
-
--- the room of each process, in number order
-abbrev pub capacities : {R : Type 0} → Core R → List Room
-capacities c = map room_of c.procs.items
-
-abbrev pub room_at : {R : Type 0} → Core R → Pid → Room
-room_at c p = slice_index_or (capacities c) (p.0 - 1) no_room
-
--- there is room for one frame more of p
-abbrev pub HasFrameRoom : {R : Type 0} → Core R → Pid → Type 0
-HasFrameRoom c p = length (process_at (state c) p).frames < (room_at c p).frames
-
--- there is room for n ASTs more of p
-abbrev pub HasAstRoom : {R : Type 0} → Core R → Pid → ℕ → Type 0
-HasAstRoom c p n = length (process_at (state c) p).asts + n ≤ (room_at c p).asts
+abbrev pub IsHeld : {R : Type 0} → Inside R → Type 0
+IsHeld c = AreHeld (state c) c.short (books c)

@@ -1,14 +1,15 @@
 -- Words on one process: its declaration and image, its local statements, the ASTs that its frames leave.
-use Rattle.std.specs.Prelude.{ℕ, ◌<◌, List, [], ◌∷◌, ◌++◌, Bool, true, ◌&&◌, ◌==◌, not, if◌then◌else◌, Option, Some, None, length, slice_index_or}
+use Rattle.std.specs.Prelude.{ℕ, ◌<◌, List, [], ◌∷◌, ◌++◌, Bool, true, false, ◌&&◌, ◌==◌, not, if◌then◌else◌, Option, Some, None, is_some, option_map, length, slice_index_or}
 use Rattle.std.specs.List.{list_any}
 use Rattle.vx_base.specs.Lists.{less}
-use Rattle.vx_base.specs.Pieces.{Queued}
+use Rattle.vx_base.specs.Pieces.{Queued, Timer, Alarm, OfTimer, OfWake}
 use Rattle.vx_base.specs.declared.effects.Effect.{Effect}
 use Rattle.vx_base.specs.declared.effects.Effect.TheVariants as effect
 use Rattle.vx_base.specs.declared.frame.Frame.{Frame}
 use Rattle.vx_base.specs.declared.frame.FrameKind.{FrameKind}
 use Rattle.vx_base.specs.declared.frame.FrameKind.TheVariants as kind
 use Rattle.vx_base.specs.declared.mode.Mode.{Mode}
+use Rattle.vx_base.specs.declared.number.Id.{Id}
 use Rattle.vx_base.specs.declared.number.Pid.{Pid}
 use Rattle.vx_image.specs.Local.{Advanced, advanced, stopped}
 use Rattle.vx_image.specs.Storage.{Storage}
@@ -16,11 +17,13 @@ use Rattle.vx_image.specs.declared.decl.ProcDecl.{ProcDecl}
 use Rattle.vx_image.specs.declared.image.Image.{Image}
 use Rattle.vx_image.specs.declared.stop.Stop.TheVariants as stop
 use Rattle.vx_image.specs.declared.system.System.{System}
-use Rattle.vx_record.specs.State.{Process, State, process_at, decl_of, image_of, no_decl, no_image}
-use Rattle.vx_record.specs.Asts.{deliverable_at}
+use Rattle.vx_record.specs.State.{Process, State, process_at, change, decl_of, image_of, no_decl, no_image}
+use Rattle.vx_record.specs.Asts.{charged_ast, deliverable_at, with_queued}
+use Rattle.vx_record.specs.Timers.{is_due}
 use Rattle.vx_record.specs.Events.{reader, moved_to}
 use Rattle.vx_record.specs.Rundown.{without_ast, is_ast_reached}
 use Rattle.vx_record.specs.Runs.{born_of}
+use Rattle.vx_timers.specs.Seen.{flag_number}
 
 -- the process of a declaration at a place, where it is there from the start
 abbrev pub born_if_started : ℕ → ProcDecl → List Process
@@ -90,3 +93,33 @@ left (f ∷ fs) = left_kind f.kind ++ left fs
 abbrev pub left_top : List Frame → List Effect
 left_top [] = []
 left_top (f ∷ fs) = left_kind f.kind
+
+-- Timers.
+
+abbrev pub due_flag : Timer → Id × Pid × ℕ
+due_flag t = (t.id, t.p, flag_number t.what)
+
+-- the AST that an entry queues when it is due
+
+abbrev pub alarm_ast : Id → Alarm → Option Queued
+alarm_ast id (OfTimer efn reqid mode tag) = option_map (charged_ast id mode) tag
+alarm_ast id (OfWake target repeat) = None
+
+abbrev pub timer_ast : Timer → Option Queued
+timer_ast t = alarm_ast t.id t.what
+
+abbrev pub fired_ast : Option Timer → Bool
+fired_ast None = false
+fired_ast (Some t) = is_some (timer_ast t)
+
+abbrev pub with_queued_if : Option Queued → Process → Process
+with_queued_if None pr = pr
+with_queued_if (Some q) pr = with_queued q pr
+
+abbrev pub without_timer : (Timer → Bool) → State → State
+without_timer passes s = record s { timers = less passes s.timers }
+
+-- the first entry that is due is out, and its AST is queued
+abbrev pub moved_on : State → ℕ → Option Timer → State
+moved_on s now None = s
+moved_on s now (Some t) = change (without_timer (is_due now) s) t.p (with_queued_if (timer_ast t))

@@ -1,49 +1,61 @@
 //! One process, as it is kept.
 
-ghost use Rattle.std.specs.Prelude.{◌≡◌, ◌<◌, ◌∷◌, [], None, IfOk, IsTrue, length, option_map};
+ghost use Rattle.std.specs.Prelude.{◌≡◌, ◌+◌, ◌<◌, ◌≤◌, ◌∷◌, [], false, not, None, IfOk, OnOk, IsTrue, is_some, length, option_map};
 ghost use Rattle.std.specs.List.{find};
-ghost use Rattle.vx_base.specs.Flags.{with_flag};
+ghost use Rattle.vx_base.specs.Flags.{one, with_flag};
+ghost use Rattle.vx_base.specs.Pieces.{all_on};
+ghost use Rattle.vx_base.specs.Quotas.{is_within};
 ghost use Rattle.vx_base.specs.Log.{HasRoom, logged};
 ghost use Rattle.vx_base.specs.declared.frame.FrameKind.TheVariants.{Main};
-ghost use Rattle.vx_ast.specs.Queue.{queued_of};
 ghost use Rattle.vx_image.specs.WellFormed.{IsImage};
+ghost use Rattle.vx_record.specs.Asts.{with_queued};
+ghost use Rattle.vx_record.specs.Charges.{ast_need, is_timer, takes_ast, timer_need};
+ghost use Rattle.vx_quota.specs.Account.{charged, has_left, released};
+ghost use Rattle.vx_timers.specs.Seen.{alarm_of};
 ghost use Rattle.vx_record.specs.Events.{put_back, resumed_with, uses_wake};
 ghost use Rattle.vx_record.specs.Flags.{with_local_flag};
 ghost use Rattle.vx_record.specs.Runs.{born_of};
 ghost use Rattle.vx_record.specs.State.{top_mode};
 ghost use Rattle.vx_record.specs.Rundown.{is_ast_reached, leaving, without_frames};
-ghost use Rattle.vx_procs.specs.View.{process, room_of};
-ghost use Rattle.vx_procs.specs.Words.{advanced_of, deliverable_of, have_own_ids, left, moved_as, without_reached, without_started};
+ghost use Rattle.vx_procs.specs.View.{books_of, process, room_of};
+ghost use Rattle.vx_procs.specs.Fresh.{IsBlank};
+ghost use Rattle.vx_procs.specs.Kernel.{IsWithinRoom};
+ghost use Rattle.vx_procs.specs.Counts.{CountsAsts, freed};
+ghost use Rattle.vx_procs.specs.Words.{advanced_of, alarm_ast, deliverable_of, have_own_ids, left, moved_as, with_queued_if, without_reached, without_started};
 
 use crate::frames::{leave_all, place_top, wait_at_top};
 use std::alloc::Global;
 use vx_ast::{AstQueue, Delivery};
 use vx_base::{
-    Cond, Effects, Frame, FrameKind, Id, Mode, NoMemory, Phase, Pid, Privs, Routine, Target, Wait,
+    Cond, Effects, Frame, FrameKind, Id, Mode, Need, NoMemory, Phase, Pid, Privs, Routine, Target,
+    Wait,
 };
 use vx_flags::Flags;
 use vx_frames::Frames;
 use vx_image::{Image, ProcDecl, Stop, Store, advance};
+use vx_quota::Account;
+use vx_timers::What;
 
 /// A process: the place of its declaration, from 0; its group, member and privileges; what it stores; its frames; its AST
 /// enables and queued ASTs; its event flags 0 to 31 and 32 to 63; whether a wake pends, it is suspended, and $DELPRC named
 /// it; its exit code and its phase.
 #[derive(Drop)]
-pub struct Proc<R: Routine> {
-    pub decl: u32,
-    pub group: u32,
-    pub member: u32,
-    pub privs: Privs,
-    pub store: Store,
-    pub frames: Frames,
-    pub asts: AstQueue<R>,
-    pub low: Flags,
-    pub high: Flags,
-    pub wake: bool,
-    pub suspended: bool,
-    pub named: bool,
-    pub code: u32,
-    pub phase: Phase,
+pub(crate) struct Proc<R: Routine> {
+    pub(crate) decl: u32,
+    pub(crate) group: u32,
+    pub(crate) member: u32,
+    pub(crate) privs: Privs,
+    pub(crate) store: Store,
+    pub(crate) frames: Frames,
+    pub(crate) asts: AstQueue<R>,
+    pub(crate) low: Flags,
+    pub(crate) high: Flags,
+    pub(crate) wake: bool,
+    pub(crate) suspended: bool,
+    pub(crate) named: bool,
+    pub(crate) code: u32,
+    pub(crate) phase: Phase,
+    pub(crate) account: Account,
 }
 
 // The frame of a process before its first statement.
@@ -60,14 +72,53 @@ fn main_frame(mode: Mode) -> Frame
     }
 }
 
-// The one frame of a new process.
+// The one frame of a new process, with room for another.
 fn first_frames(alloc: Global, mode: Mode) -> Result<Frames, NoMemory>
-    ensures { IfOk result (λ frames. frames.items ≡ record { kind = Main; mode = mode; pc = 0; prm = 0; saved_r0 = 0; wait = None } ∷ []) }
+    ensures items { IfOk result (λ frames. frames.items ≡ record { kind = Main; mode = mode; pc = 0; prm = 0; saved_r0 = 0; wait = None } ∷ []) }
+    ensures spare { IfOk result (λ frames. length frames.items + 1 ≤ frames.capacity) }
 {
     let mut frames = Frames::new(alloc);
     frames.reserve()?;
     frames.push(main_frame(mode));
+    frames.reserve()?;
     Ok(frames)
+}
+
+// No queued ASTs, with room for one.
+fn first_asts<R: Routine>(alloc: Global) -> Result<AstQueue<R>, NoMemory>
+    ensures items { IfOk result (λ asts. asts.items ≡ []) }
+    ensures enables { IfOk result (λ asts. asts.enables ≡ all_on) }
+    ensures spare { IfOk result (λ asts. 1 ≤ asts.capacity) }
+{
+    let mut asts = AstQueue::new(alloc);
+    asts.reserve(1)?;
+    Ok(asts)
+}
+
+/// What a timer needs, with an AST or without.
+pub(crate) fn timer_need(with_ast: bool) -> Need
+    ensures { result ≡ timer_need with_ast }
+{
+    Need {
+        ast: if with_ast { 1 } else { 0 },
+        bio: 0,
+        dio: 0,
+        byt: 0,
+        tqe: 1,
+    }
+}
+
+/// What an AST needs, where it is charged.
+pub(crate) fn ast_need(charged: bool) -> Need
+    ensures { result ≡ ast_need charged }
+{
+    Need {
+        ast: if charged { 1 } else { 0 },
+        bio: 0,
+        dio: 0,
+        byt: 0,
+        tqe: 0,
+    }
 }
 
 fn put_flag(flags: &mut Flags, n: u8, on: bool)
@@ -84,7 +135,8 @@ fn put_flag(flags: &mut Flags, n: u8, on: bool)
 impl<R: Routine> Proc<R> {
     /// A process of the declaration at a place, before its first statement.
     pub(crate) fn born(alloc: Global, place: u32, decl: &ProcDecl) -> Result<Proc<R>, NoMemory>
-        ensures { IfOk result (λ proc. process proc ≡ born_of place decl.now) }
+        ensures process { IfOk result (λ proc. process proc ≡ born_of place decl.now) }
+        ensures fresh { IfOk result (λ proc. IsBlank decl.now.limits proc) }
     {
         Ok(Proc {
             decl: place,
@@ -93,7 +145,7 @@ impl<R: Routine> Proc<R> {
             privs: decl.privs,
             store: Store::new(alloc)?,
             frames: first_frames(alloc, decl.mode)?,
-            asts: AstQueue::new(alloc),
+            asts: first_asts(alloc)?,
             low: Flags::new(),
             high: Flags::new(),
             wake: false,
@@ -101,6 +153,7 @@ impl<R: Routine> Proc<R> {
             named: false,
             code: 0,
             phase: Phase::Alive,
+            account: Account::new(decl.limits),
         })
     }
 
@@ -128,7 +181,7 @@ impl<R: Routine> Proc<R> {
     pub(crate) fn put_flag(&mut self, n: u32, on: bool)
         requires { n < 64 }
         ensures after { process self.new ≡ with_local_flag n on (process self.old) }
-        ensures room { room_of self.new ≡ room_of self.old }
+        ensures books { books_of self.new ≡ books_of self.old }
     {
         if n < 32 {
             put_flag(&mut self.low, n as u8, on);
@@ -140,7 +193,7 @@ impl<R: Routine> Proc<R> {
     /// Leaves its top frame, if it has one, and puts R0 back to what it was.
     pub(crate) fn put_back(&mut self, r0: u32)
         ensures after { process self.new ≡ put_back r0 (process self.old) }
-        ensures room { room_of self.new ≡ room_of self.old }
+        ensures books { books_of self.new ≡ books_of self.old }
     {
         let _left = self.frames.ret();
         self.store.set(Target::R0, r0);
@@ -149,7 +202,7 @@ impl<R: Routine> Proc<R> {
     // A wake is used up where it was waited for.
     fn use_wake(&mut self, wait: Wait)
         ensures after { process self.new ≡ uses_wake wait (process self.old) }
-        ensures room { room_of self.new ≡ room_of self.old }
+        ensures books { books_of self.new ≡ books_of self.old }
     {
         match wait {
             Wait::Hiber => self.wake = false,
@@ -160,7 +213,7 @@ impl<R: Routine> Proc<R> {
     /// Its wait ends with a condition, which R0 takes; a wake is used up.
     pub(crate) fn resume(&mut self, wait: Wait, cond: Cond)
         ensures after { process self.new ≡ resumed_with wait cond (process self.old) }
-        ensures room { room_of self.new ≡ room_of self.old }
+        ensures books { books_of self.new ≡ books_of self.old }
     {
         wait_at_top(&mut self.frames, None);
         self.use_wake(wait);
@@ -169,12 +222,15 @@ impl<R: Routine> Proc<R> {
 
     /// Takes out the first of its queued ASTs that is of a mode or an outer one, if there is one, and gives its id.
     pub(crate) fn drop_ast(&mut self, mode: Mode) -> Option<Id>
+        requires { CountsAsts self.old }
         ensures id { result ≡ option_map (λ q. q.id) (find (is_ast_reached mode) (process self.old).asts) }
         ensures after { process self.new ≡ without_reached mode (process self.old) }
         ensures room { room_of self.new ≡ room_of self.old }
+        ensures account { self.new.account ≡ freed (find (is_ast_reached mode) (process self.old).asts) self.old.account }
     {
         let delivery = self.asts.flush_first(mode)?;
-        Some(delivery.id)
+        self.account.release(ast_need(delivery.is_charged()));
+        Some(delivery.id())
     }
 
     /// All its frames go, with an exit code.
@@ -182,7 +238,7 @@ impl<R: Routine> Proc<R> {
         requires { HasRoom log.old (length (left (process self.old).frames)) }
         ensures log { log.new ≡ logged log.old (left (process self.old).frames) }
         ensures after { process self.new ≡ without_frames code (process self.old) }
-        ensures room { room_of self.new ≡ room_of self.old }
+        ensures books { books_of self.new ≡ books_of self.old }
     {
         self.phase = self.phase_after_exit();
         self.code = code;
@@ -196,7 +252,7 @@ impl<R: Routine> Proc<R> {
         ensures place { result.0 ≡ (advanced_of image.now p (process self.old)).place }
         ensures stop { result.1 ≡ (advanced_of image.now p (process self.old)).stop }
         ensures after { process self.new ≡ moved_as (advanced_of image.now p (process self.old)) (process self.old) }
-        ensures room { room_of self.new ≡ room_of self.old }
+        ensures books { books_of self.new ≡ books_of self.old }
     {
         let Some(frame) = self.frames.top() else {
             return (0, Stop::Local);
@@ -209,17 +265,109 @@ impl<R: Routine> Proc<R> {
 
     /// Takes out its AST that may start, if there is one.
     pub(crate) fn take(&mut self) -> Option<Delivery<R>>
-        requires { IsTrue (have_own_ids (process self.old).asts) }
-        ensures found { option_map (queued_of R.tagged) result ≡ deliverable_of (process self.old) }
+        requires ids { IsTrue (have_own_ids (process self.old).asts) }
+        requires counts { CountsAsts self.old }
+        ensures found { result ≡ deliverable_of (process self.old) }
         ensures after { process self.new ≡ without_started (deliverable_of (process self.old)) (process self.old) }
         ensures room { room_of self.new ≡ room_of self.old }
+        ensures account { self.new.account ≡ freed (deliverable_of (process self.old)) self.old.account }
     {
         if self.suspended {
             return None;
         }
         let frame = self.frames.top()?;
         let (mode, active) = (frame.mode, self.frames.active());
-        self.asts.take(mode, active)
+        let delivery = self.asts.take(mode, active)?;
+        self.account.release(ast_need(delivery.is_charged()));
+        Some(delivery)
+    }
+
+    /// Queues an AST, and charges it where it is to be.
+    pub(crate) fn queue(&mut self, id: Id, mode: Mode, routine: R, counted: bool)
+        requires free { length (process self.old).asts < (room_of self.old).asts }
+        ensures after { process self.new ≡ with_queued (record { id = id; mode = mode; tag = R.tagged routine; charged = counted }) (process self.old) }
+        ensures room { room_of self.new ≡ room_of self.old }
+        ensures account { self.new.account ≡ charged self.old.account (ast_need counted) }
+    {
+        self.asts.put(id, mode, routine, counted);
+        let _had_left = self.account.charge(ast_need(counted));
+    }
+
+    /// Charges an amount, where so much is left.
+    pub(crate) fn charge(&mut self, need: Need)
+        ensures after { process self.new ≡ process self.old }
+        ensures room { room_of self.new ≡ room_of self.old }
+        ensures account { self.new.account ≡ charged self.old.account need }
+    {
+        let _had_left = self.account.charge(need);
+    }
+
+    /// Gives back an amount that was charged.
+    pub(crate) fn release(&mut self, need: Need)
+        requires { IsTrue (is_within need self.old.account.used) }
+        ensures after { process self.new ≡ process self.old }
+        ensures room { room_of self.new ≡ room_of self.old }
+        ensures account { self.new.account ≡ released self.old.account need }
+    {
+        self.account.release(need);
+    }
+
+    /// A timer of it with this id fires: its AST, if it has one, is queued, and tells whether it has. The AST stays charged, the
+    /// timer is no more.
+    pub(crate) fn fire(&mut self, id: Id, what: What<R>) -> bool
+        requires timer { IsTrue (is_timer (alarm_of R.tagged what)) }
+        requires free { length (process self.old).asts + one (takes_ast (alarm_of R.tagged what)) ≤ (room_of self.old).asts }
+        requires charged { 1 ≤ self.old.account.used.tqe }
+        ensures queued { result ≡ is_some (alarm_ast id (alarm_of R.tagged what)) }
+        ensures after { process self.new ≡ with_queued_if (alarm_ast id (alarm_of R.tagged what)) (process self.old) }
+        ensures room { room_of self.new ≡ room_of self.old }
+        ensures account { self.new.account ≡ released self.old.account (timer_need false) }
+    {
+        self.account.release(timer_need(false));
+        match what {
+            What::Timer {
+                efn: _,
+                reqid: _,
+                mode,
+                routine: Some(routine),
+            } => {
+                self.asts.put(id, mode, routine, true);
+                true
+            }
+            What::Timer {
+                efn: _,
+                reqid: _,
+                mode: _,
+                routine: None,
+            } => false,
+            What::Wake {
+                target: _,
+                repeat: _,
+            } => unreachable!(),
+        }
+    }
+
+    /// Makes room for one frame, and for one AST beyond what is queued and promised; it promises no more than it is charged.
+    pub(crate) fn reserve(&mut self) -> Result<(), NoMemory>
+        ensures after { process self.new ≡ process self.old }
+        ensures account { self.new.account ≡ self.old.account }
+        ensures kept { IsWithinRoom (room_of self.old) (room_of self.new) }
+        ensures frame { OnOk result (length (process self.new).frames + 1 ≤ (room_of self.new).frames) }
+        ensures ast { OnOk result (length (process self.new).asts + (self.new.account.used.ast + 1) ≤ (room_of self.new).asts) }
+    {
+        let n = match self.account.used().ast.checked_add(1) {
+            Some(n) => n,
+            None => return Err(NoMemory),
+        };
+        self.frames.reserve()?;
+        self.asts.reserve(n)
+    }
+
+    /// Whether a need more would exceed its limits.
+    pub(crate) fn exceeds(&self, need: Need) -> bool
+        ensures { result ≡ not (has_left self.now.account need) }
+    {
+        !self.account.has_left(need)
     }
 
     /// Its AST that may start: none where it is suspended or has no frame.

@@ -1,80 +1,99 @@
 //! What the executive keeps.
 
-ghost use Rattle.std.specs.Prelude.{◌≡◌, ◌≤◌, ◌++◌, IfOk, OnOk, length, map};
-ghost use Rattle.vx_base.specs.declared.number.Pid.{Pid as PidOf};
-ghost use Rattle.vx_record.specs.Runs.{born_from, first};
-ghost use Rattle.vx_record.specs.State.{IsProcess};
-ghost use Rattle.vx_procs.specs.Words.{born_if_started};
-ghost use Rattle.vx_procs.specs.View.{process, state, room_at, IsWithinRoom, HasFrameRoom, HasAstRoom};
+ghost use Rattle.std.specs.Prelude.{◌≡◌, ◌+◌, ◌<◌, ◌≤◌, ◌^◌, [], ◌∷◌, OnOk, length};
+ghost use Rattle.vx_base.specs.Log.{HasRoom};
+ghost use Rattle.vx_procs.specs.Kernel.{Fits, told};
+ghost use Rattle.vx_procs.specs.Ready.{HasSpares, IsBare};
 
 use crate::process::Proc;
 use std::alloc::Global;
-use vx_base::{NoMemory, Pid, Routine};
-use vx_image::{ProcDecl, ProcDecls, System};
+use std::marker::Model;
+use std::mem;
+use vx_base::{Effect, EffectList, Effects, NoMemory, Pid, Routine};
+use vx_image::System;
+use vx_timers::Timers;
 
-/// What the script says, the time in ticks, the next id, and the processes in the order of their numbers from 1.
+/// The time, in ticks, from which on no timer can be set: due times are counted in 64 bits.
+const LAST_TIME: u64 = 9_223_372_036_854_775_808;
+
+/// What the script says, the time in ticks, the next id, the processes in the order of their numbers from 1, timers, and the
+/// log of the event under way. Contracts see the plain state, the log, and how much there is room for: `specs/Kernel.antt`.
 #[derive(Drop)]
 pub struct Core<R: Routine> {
-    pub system: System,
-    pub time: u64,
-    pub next: u32,
-    pub procs: Vec<Proc<R>>,
+    pub(crate) system: System,
+    pub(crate) time: u64,
+    pub(crate) next: u32,
+    pub(crate) procs: Vec<Proc<R>>,
+    pub(crate) timers: Timers<R>,
+    pub(crate) log: Effects,
+    // the process whose spares may have been used since they were made
+    pub(crate) short: Option<Pid>,
+    pub(crate) alloc: Global,
 }
 
-// Adds the process of a declaration at a place, where it is there from the start.
-fn add_started<R: Routine>(
-    alloc: Global,
-    procs: &mut Vec<Proc<R>>,
-    place: u32,
-    decl: &ProcDecl,
-) -> Result<(), NoMemory>
-    ensures { OnOk result (map process procs.new.items ≡ map process procs.old.items ++ born_if_started place decl.now) }
-{
-    if decl.start {
-        procs.push(Proc::born(alloc, place, decl)?)?;
-    }
-    Ok(())
-}
+impl<R: Routine> Model for Core<R> {
+    ghost use Rattle.vx_procs.specs.Kernel.{Kernel};
 
-// The processes that are there from the start.
-fn first_procs<R: Routine>(alloc: Global, decls: &ProcDecls) -> Result<Vec<Proc<R>>, NoMemory>
-    requires { length decls.now ≤ 1000 }
-    ensures { IfOk result (λ procs. map process procs.items ≡ born_from 0 decls.now) }
-{
-    let mut procs = Vec::new(alloc);
-    for (place, decl) in decls.as_slice().iter().enumerate() {
-        add_started(alloc, &mut procs, place as u32, decl)?;
-    }
-    Ok(procs)
+    ghost Value = { Kernel };
+
+    ghost use Rattle.vx_procs.specs.View.{kernel, IsHeld};
+
+    ghost view = { kernel };
+
+    ghost invariant = { IsHeld };
 }
 
 impl<R: Routine> Core<R> {
-    /// A system before its first event: the processes that are there from the start, in the order of the script, which
-    /// declares at most 1,000.
-    pub fn new(alloc: Global, system: System) -> Result<Core<R>, NoMemory>
-        requires { length system.decls ≤ 1000 }
-        ensures { IfOk result (λ core. state core ≡ first system) }
+    /// Makes good what spare room the last event used, and makes room for a timer more and for as many effects as are told.
+    /// Nothing that the state says is changed, even where memory is short. (A time beyond 2^63 has no room for timers either.)
+    pub fn begin(&mut self, effects: u32) -> Result<(), NoMemory>
+        ensures same { self.new.state ≡ self.old.state }
+        ensures spares { OnOk result (HasSpares self.new) }
+        ensures timer { OnOk result (length self.new.state.timers + 1 ≤ self.new.timers) }
+        ensures empty { OnOk result (self.new.log.items ≡ []) }
+        ensures room { OnOk result (HasRoom self.new.log effects) }
+        ensures time { OnOk result (self.new.state.time < 2 ^ 63) }
+        ensures bare { OnOk result (IsBare self.new.state) }
     {
-        let procs = first_procs(alloc, &system.decls)?;
-        Ok(Core {
-            system,
-            time: 0,
-            next: 1,
-            procs,
-        })
+        if self.time >= LAST_TIME {
+            return Err(NoMemory);
+        }
+        let mut log = Effects::new(self.alloc);
+        log.reserve(effects)?;
+        self.timers.reserve(1)?;
+        self.mend()?;
+        self.log = log;
+        Ok(())
     }
 
-    /// Makes room for one frame and two ASTs of a process, as many as one event takes of it. Nothing that the state says is
-    /// changed, and no process has less room than before, even where memory is short.
-    pub fn reserve(&mut self, p: Pid) -> Result<(), NoMemory>
-        requires { IsProcess (state self.old) p }
-        ensures same { state self.new ≡ state self.old }
-        ensures kept { (q : PidOf) → IsWithinRoom (room_at self.old q) (room_at self.new q) }
-        ensures frame { OnOk result (HasFrameRoom self.new p) }
-        ensures asts { OnOk result (HasAstRoom self.new p 2) }
+    // Makes good what spare room the last event used.
+    fn mend(&mut self) -> Result<(), NoMemory>
+        ensures same { self.new.state ≡ self.old.state }
+        ensures timers { self.new.timers ≡ self.old.timers }
+        ensures spares { OnOk result (HasSpares self.new) }
     {
-        let proc = &mut self.procs[p.0 as usize - 1];
-        proc.frames.reserve()?;
-        proc.asts.reserve(2)
+        let Some(p) = self.short else {
+            return Ok(());
+        };
+        self.procs[p.0 as usize - 1].reserve()?;
+        self.short = None;
+        Ok(())
+    }
+
+    /// Tells an effect. Takes no memory.
+    pub fn tell(&mut self, effect: Effect)
+        requires { Fits self.old (effect ∷ []) }
+        ensures { self.new ≡ told self.old (effect ∷ []) }
+    {
+        self.log.add(effect)
+    }
+
+    /// The effects that were told. Takes no memory.
+    pub fn take_log(&mut self) -> EffectList
+        ensures effects { result ≡ self.old.log.items }
+        ensures after { self.new ≡ record self.old { log = record { items = []; capacity = 0 } } }
+    {
+        let log = mem::replace(&mut self.log, Effects::new(self.alloc));
+        log.done()
     }
 }

@@ -52,6 +52,13 @@ impl Account {
         }
     }
 
+    /// Whether an amount more is within the limits, in each account.
+    pub fn has_left(&self, need: Need) -> bool
+        ensures { result ≡ has_left self.now need }
+    {
+        sum_within(self.used, need, self.limits).is_some()
+    }
+
     /// Gives back an amount in each account.
     pub fn release(&mut self, need: Need)
         requires { IsTrue (is_within need self.old.used) }

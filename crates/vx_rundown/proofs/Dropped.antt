@@ -1,47 +1,35 @@
--- The queued ASTs of a mode and outer ones are dropped, the first of them at a time, where no two have one id.
-use Rattle.std.proofs.Common.{◌≡◌, ◌+◌, List, [], ◌∷◌, Bool, true, false, cond, not, ◌==◌, length, eq-eqb, arith, IsTrue, Option, Some, None, option_map, refl, ap, sym, subst, ◌∙◌}
-use Rattle.std.specs.List.{filter, find, list_any}
+-- Queued ASTs of a mode and outer ones are dropped, and timers, the first of them at a time.
+use Rattle.std.proofs.Common.{◌≡◌, ℕ, ◌+◌, ◌-◌, ◌<◌, List, [], ◌∷◌, Bool, true, false, cond, not, ◌==◌, length, eq-eqb, arith, IsTrue, Option, Some, None, option_map, refl, ap, sym, subst, ◌∙◌}
+use Rattle.std.specs.List.{AllByRecursion, filter, find, list_any}
 use Rattle.std.proofs.lemmas.Bool.{and_parts, and_from, not-true, or_parts}
+use Rattle.std.proofs.lemmas.List.{set-get_or}
 use Rattle.vx_base.specs.Lists.{less}
-use Rattle.vx_base.specs.Log.{Log, HasRoom, logged}
-use Rattle.vx_base.specs.Pieces.{Queued}
+use Rattle.vx_base.proofs.First.{less_none}
+use Rattle.vx_base.specs.Pieces.{Queued, Timer}
 use Rattle.vx_base.specs.declared.effects.Effect.TheVariants as effect
 use Rattle.vx_base.specs.declared.mode.Mode.{Mode}
 use Rattle.vx_base.specs.declared.number.Id.{Id}
 use Rattle.vx_base.specs.declared.number.Pid.{Pid}
-use Rattle.vx_record.proofs.Lists.{either, fails_not}
-use Rattle.vx_record.specs.State.{Process, State, IsProcess, process_at, change}
-use Rattle.vx_record.specs.Parts.{Part, Acts, nothing, tells, and_then, each}
+use Rattle.vx_record.proofs.Lists.{all_less, either, fails_not, ordered_less}
+use Rattle.vx_record.specs.Charges.{is_timer}
+use Rattle.vx_record.specs.State.{Process, State, IsProcess, process_at, change, nobody}
+use Rattle.vx_record.specs.Parts.{Part, nothing, tells, and_then, each}
 use Rattle.vx_record.specs.Rundown.{drop_ast, drop_asts, is_ast_reached, without_ast}
-use Rattle.vx_procs.specs.Words.{have_own_ids, without_reached}
-use Rattle.vx_rundown.proofs.Changed.{process_there, made_still, none_changed, logged_then, logged_none, room_first, room_after}
-
--- Lists.
-
-found_at : {A : Type 0} (p : A → Bool) (x y : A) (ys : List A) (b : Bool) → p y ≡ b → (find p ys ≡ Some x → filter p ys ≡ x ∷ filter p (less p ys)) → cond b (Some y) (find p ys) ≡ Some x → filter p (y ∷ ys) ≡ x ∷ filter p (less p (y ∷ ys))
-found_at p x y ys true is more e = let same : y ≡ x = cc in rw is (ap (λ z. z ∷ filter p ys) same)
-found_at p x y ys false is more e = rw (is, is) (more e)
-
--- the first that passes is the first of those that pass
-filter_found : {A : Type 0} (p : A → Bool) (xs : List A) (x : A) → find p xs ≡ Some x → filter p xs ≡ x ∷ filter p (less p xs)
-filter_found p [] x e = absurd (cc)
-filter_found p (y ∷ ys) x e = found_at p x y ys (p y) refl (λ more. filter_found p ys x more) e
-
-filter_none : {A : Type 0} (p : A → Bool) (xs : List A) → find p xs ≡ None → filter p xs ≡ []
-filter_none p [] e = refl
-filter_none p (y ∷ ys) e = elim (p y) as (λ b. cond b (Some y) (find p ys) ≡ None → cond b (y ∷ filter p ys) (filter p ys) ≡ []) [ true ↦ λ no. absurd (cc) | false ↦ λ more. filter_none p ys more ] e
-
-less_none : {A : Type 0} (p : A → Bool) (xs : List A) → find p xs ≡ None → less p xs ≡ xs
-less_none p [] e = refl
-less_none p (y ∷ ys) e = elim (p y) as (λ b. cond b (Some y) (find p ys) ≡ None → cond b ys (y ∷ less p ys) ≡ y ∷ ys) [ true ↦ λ no. absurd (cc) | false ↦ λ more. ap (λ zs. y ∷ zs) (less_none p ys more) ] e
-
-less_shorter : {A : Type 0} (p : A → Bool) (xs : List A) (x : A) → find p xs ≡ Some x → length (less p xs) + 1 ≡ length xs
-less_shorter p [] x e = absurd (cc)
-less_shorter p (y ∷ ys) x e = elim (p y) as (λ b. cond b (Some y) (find p ys) ≡ Some x → length (cond b ys (y ∷ less p ys)) + 1 ≡ length (y ∷ ys)) [ true ↦ λ is. omega arith | false ↦ λ more. let rest = less_shorter p ys x more in omega arith ] e
+use Rattle.vx_record.specs.Sound.{AreOrdered, timer_id}
+use Rattle.vx_record.specs.Timers.{drop_timer, drop_timers, this_timer}
+use Rattle.vx_procs.specs.Kernel.{Acts, Fits, Kernel, changed, told, with_state}
+use Rattle.vx_procs.specs.Ready.{IsBare, IsBareProcess}
+use Rattle.vx_procs.specs.Words.{have_own_ids, without_reached, without_timer}
+use Rattle.vx_procs.proofs.Booked.{length-less}
+use Rattle.vx_procs.proofs.Firsts.{filter_found, filter_none, less_same}
+use Rattle.vx_procs.proofs.Rest.{IsDoing, acted, doing_begun, doing_end, doing_on, doing_room}
+use Rattle.vx_rundown.specs.Leaving.{IsLeaving}
+use Rattle.vx_rundown.proofs.Bare.{bare_still, bare_timers}
+use Rattle.vx_rundown.proofs.Changed.{process_there, made_still}
 
 -- Ids.
 
-any_less : {A : Type 0} (g p : A → Bool) (xs : List A) → list_any g xs ≡ false → list_any g (less p xs) ≡ false
+pub any_less : {A : Type 0} (g p : A → Bool) (xs : List A) → list_any g xs ≡ false → list_any g (less p xs) ≡ false
 any_less g p [] e = refl
 any_less g p (x ∷ xs) e =
     let parts = or_parts (g x) (list_any g xs) e in
@@ -82,88 +70,135 @@ less_own p (x ∷ xs) q own found =
           rw other (ap (λ ys. x ∷ ys) (less_own p xs q parts.1 more))
     ] found
 
--- One is dropped, and then the rest.
+-- What was found, by its id.
 
-asts_of : State → Pid → List Queued
-asts_of s p = (process_at s p).asts
+found_id : {A : Type 0} (key : A → Id) (o : Option A) (id : Id) → Some id ≡ option_map key o → (x : A) × ((o ≡ Some x) × (key x ≡ id))
+found_id key None id e = absurd (cc)
+found_id key (Some x) id e = (x, (refl, let same : id ≡ key x = cc in sym same))
 
-drop_first : (s : State) (p : Pid) (m : Mode) (q : Queued) → IsProcess s p → IsTrue (have_own_ids (process_at s p).asts) → find (is_ast_reached m) (process_at s p).asts ≡ Some q → drop_asts p m s ≡ and_then (tells (effect.Drop q.id) (change s p (without_reached m))) (drop_asts p m)
-drop_first s p m q made own found =
+found_none : {A : Type 0} (key : A → Id) (o : Option A) → None ≡ option_map key o → o ≡ None
+found_none key None e = refl
+found_none key (Some x) e = absurd (cc)
+
+-- ASTs.
+
+-- without one of its ASTs
+pub ast_leaving : (s : State) (p : Pid) (test : Queued → Bool) → IsLeaving s p → IsLeaving (change s p (λ pr. record pr { asts = less test pr.asts })) p
+ast_leaving s p test h =
+    let f : Process → Process = λ pr. record pr { asts = less test pr.asts } in
+    record {
+      made = made_still s p p f h.made;
+      ids = subst (λ (pr : Process). IsTrue (have_own_ids pr.asts)) (sym (process_there s p f h.made)) (own_less test (process_at s p).asts h.ids);
+      order = h.order;
+      bare = bare_still s p f (λ e. record { channels = e.channels; handlers = e.handlers }) h.bare;
+    }
+
+drops_leaving : (p : Pid) (qs : List Queued) (s : State) → IsLeaving s p → IsLeaving (each (drop_ast p) qs s).after p
+drops_leaving p [] s h = h
+drops_leaving p (q ∷ qs) s h = drops_leaving p qs (drop_ast p s q).after (ast_leaving s p (λ r. r.id.0 == q.id.0) h)
+
+pub asts_leaving : (p : Pid) (m : Mode) (s : State) → IsLeaving s p → IsLeaving (drop_asts p m s).after p
+asts_leaving p m s h = drops_leaving p (filter (is_ast_reached m) (process_at s p).asts) s h
+
+drop_first : (s : State) (p : Pid) (m : Mode) (q : Queued) → IsLeaving s p → find (is_ast_reached m) (process_at s p).asts ≡ Some q → drop_asts p m s ≡ and_then (tells (effect.Drop q.id) (change s p (without_reached m))) (drop_asts p m)
+drop_first s p m q h found =
     let asts = (process_at s p).asts in
     let r = is_ast_reached m in
     let t = change s p (without_reached m) in
     let told : State → List Queued → Part = λ u qs. and_then (tells (effect.Drop q.id) u) (each (drop_ast p) qs) in
     let split : each (drop_ast p) (filter r asts) s ≡ each (drop_ast p) (q ∷ filter r (less r asts)) s = ap (λ qs. each (drop_ast p) qs s) (filter_found r asts q found) in
-    let here : change s p (without_ast q.id) ≡ t = ap (λ (qs : List Queued). change s p (λ pr. record pr { asts = qs })) (less_own r asts q own found) in
-    let left : filter r (less r asts) ≡ filter r (process_at t p).asts = ap (λ (pr : Process). filter r pr.asts) (sym (process_there s p (without_reached m) made)) in
+    let here : change s p (without_ast q.id) ≡ t = ap (λ (qs : List Queued). change s p (λ pr. record pr { asts = qs })) (less_own r asts q h.ids found) in
+    let left : filter r (less r asts) ≡ filter r (process_at t p).asts = ap (λ (pr : Process). filter r pr.asts) (sym (process_there s p (without_reached m) h.made)) in
     split ∙ (ap (λ u. told u (filter r (less r asts))) here ∙ ap (told t) left)
 
-drop_none : (s : State) (p : Pid) (m : Mode) → find (is_ast_reached m) (process_at s p).asts ≡ None → drop_asts p m s ≡ nothing s
-drop_none s p m none = ap (λ qs. each (drop_ast p) qs s) (filter_none (is_ast_reached m) (process_at s p).asts none)
+-- The loop: what is left to drop, of a process that is leaving.
+pub record IsDropping (p : Pid) (part : State → Part) (first k : Kernel) : Type 0 where
+  pub leaving : IsLeaving k.state p
+  pub doing : IsDoing (part first.state) first (part k.state) k
 
--- The loop.
+pub drop_begun : (p : Pid) (part : State → Part) (k : Kernel) → IsLeaving k.state p → Fits k (part k.state).effects → IsDropping p part k k
+drop_begun p part k leaving room = record { leaving = leaving; doing = doing_begun (part k.state) k room }
 
--- what is logged and left so far, with what the rest logs and leaves, is what all of them log and leave
-pub record Dropping (p : Pid) (m : Mode) (log_first log : Log) (s_first s : State) : Type 0 where
-  pub made : IsProcess s p
-  pub ids : IsTrue (have_own_ids (process_at s p).asts)
-  pub logs : logged log (drop_asts p m s).effects ≡ logged log_first (drop_asts p m s_first).effects
-  pub leaves : (drop_asts p m s).after ≡ (drop_asts p m s_first).after
-  pub room : HasRoom log (length (drop_asts p m s).effects)
+pub ast_room : (p : Pid) (m : Mode) (first k l : Kernel) (id : Id) → IsDropping p (drop_asts p m) first k → Some id ≡ option_map (λ q. q.id) (find (is_ast_reached m) (process_at k.state p).asts) → l ≡ changed k p (without_reached m) → Fits l (effect.Drop id ∷ [])
+ast_room p m first k l id h given there =
+    let found = found_id (λ (q : Queued). q.id) (find (is_ast_reached m) (process_at k.state p).asts) id given in
+    let room = doing_room (drop_asts p m first.state) first k (drop_asts p m k.state) (tells (effect.Drop found.0.id) (change k.state p (without_reached m))) (drop_asts p m) (drop_first k.state p m found.0 h.leaving found.1.0) h.doing in
+    rw there room
 
-pub drop_begun : (p : Pid) (m : Mode) (log : Log) (s : State) → IsProcess s p → IsTrue (have_own_ids (process_at s p).asts) → HasRoom log (length (drop_asts p m s).effects) → Dropping p m log log s s
-drop_begun p m log s made ids room = record { made = made; ids = ids; logs = refl; leaves = refl; room = room }
-
-pub own_there : (s t : State) (p : Pid) (m : Mode) → IsProcess s p → IsTrue (have_own_ids (process_at s p).asts) → t ≡ change s p (without_reached m) → IsProcess t p × IsTrue (have_own_ids (process_at t p).asts)
-own_there s t p m made ids e =
-    rw e (made_still s p p (without_reached m) made, subst (λ (pr : Process). IsTrue (have_own_ids pr.asts)) (sym (process_there s p (without_reached m) made)) (own_less (is_ast_reached m) (process_at s p).asts ids))
-
--- the AST whose id was given
-found_id : (o : Option Queued) (id : Id) → Some id ≡ option_map (λ q. q.id) o → (q : Queued) × ((o ≡ Some q) × (q.id ≡ id))
-found_id None id e = absurd (cc)
-found_id (Some q) id e = (q, (refl, let same : id ≡ q.id = cc in sym same))
-
-found_none : (o : Option Queued) → None ≡ option_map (λ q. q.id) o → o ≡ None
-found_none None e = refl
-found_none (Some q) e = absurd (cc)
-
-pub drop_room : (p : Pid) (m : Mode) (log_first log : Log) (s_first s : State) (id : Id) → Dropping p m log_first log s_first s → Some id ≡ option_map (λ q. q.id) (find (is_ast_reached m) (process_at s p).asts) → HasRoom log 1
-drop_room p m log_first log s_first s id so_far given =
-    let found = found_id (find (is_ast_reached m) (process_at s p).asts) id given in
-    let q = found.0 in
-    let e = drop_first s p m q so_far.made so_far.ids found.1.0 in
-    let room = subst (λ (a : Part). HasRoom log (length a.effects)) e so_far.room in
-    room_first log (effect.Drop q.id ∷ []) (drop_asts p m (change s p (without_reached m))).effects room
-
-pub drop_more : (p : Pid) (m : Mode) (log_first log after : Log) (s_first s t : State) (id : Id) → Dropping p m log_first log s_first s → Some id ≡ option_map (λ q. q.id) (find (is_ast_reached m) (process_at s p).asts) → t ≡ change s p (without_reached m) → after ≡ logged log (effect.Drop id ∷ []) → Dropping p m log_first after s_first t
-drop_more p m log_first log after s_first s t id so_far given there told =
-    let found = found_id (find (is_ast_reached m) (process_at s p).asts) id given in
-    let q = found.0 in
-    let u = change s p (without_reached m) in
-    let e = drop_first s p m q so_far.made so_far.ids found.1.0 in
-    let own = own_there s u p m so_far.made so_far.ids refl in
-    let rest = (drop_asts p m u).effects in
-    let log_then : after ≡ logged log (effect.Drop q.id ∷ []) = told ∙ ap (λ (i : Id). logged log (effect.Drop i ∷ [])) (sym found.1.1) in
-    let room = subst (λ (a : Part). HasRoom log (length a.effects)) e so_far.room in
-    rw (there, log_then) (record {
-      made = own.0;
-      ids = own.1;
-      logs = logged_then log (effect.Drop q.id ∷ []) rest ∙ (ap (λ (a : Part). logged log a.effects) (sym e) ∙ so_far.logs);
-      leaves = ap (λ (a : Part). a.after) (sym e) ∙ so_far.leaves;
-      room = room_after log (effect.Drop q.id ∷ []) rest room;
-    })
-
-pub drop_fewer : (s t : State) (p : Pid) (m : Mode) (id : Id) → IsProcess s p → Some id ≡ option_map (λ q. q.id) (find (is_ast_reached m) (process_at s p).asts) → t ≡ change s p (without_reached m) → length (process_at t p).asts + 1 ≡ length (process_at s p).asts
-drop_fewer s t p m id made given there =
-    let found = found_id (find (is_ast_reached m) (process_at s p).asts) id given in
-    rw there (ap (λ (pr : Process). length pr.asts + 1) (process_there s p (without_reached m) made) ∙ less_shorter (is_ast_reached m) (process_at s p).asts found.0 found.1.0)
-
-pub drop_end : (p : Pid) (m : Mode) (log_first log : Log) (s_first s t : State) → Dropping p m log_first log s_first s → None ≡ option_map (λ q. q.id) (find (is_ast_reached m) (process_at s p).asts) → t ≡ change s p (without_reached m) → Acts (drop_asts p m s_first) log_first log t
-drop_end p m log_first log s_first s t so_far given there =
-    let none = found_none (find (is_ast_reached m) (process_at s p).asts) given in
-    let e = drop_none s p m none in
-    let same : change s p (without_reached m) ≡ s = none_changed s p (without_reached m) (ap (λ (qs : List Queued). record (process_at s p) { asts = qs }) (less_none (is_ast_reached m) (process_at s p).asts none)) in
+pub ast_more : (p : Pid) (m : Mode) (first k l n : Kernel) (id : Id) → IsDropping p (drop_asts p m) first k → Some id ≡ option_map (λ q. q.id) (find (is_ast_reached m) (process_at k.state p).asts) → l ≡ changed k p (without_reached m) → n ≡ told l (effect.Drop id ∷ []) → IsDropping p (drop_asts p m) first n
+ast_more p m first k l n id h given there tells_it =
+    let found = found_id (λ (q : Queued). q.id) (find (is_ast_reached m) (process_at k.state p).asts) id given in
+    let a : Part = tells (effect.Drop found.0.id) (change k.state p (without_reached m)) in
+    let did : n ≡ acted k a = tells_it ∙ (ap (λ (x : Kernel). told x (effect.Drop id ∷ [])) there ∙ ap (λ (i : Id). told (changed k p (without_reached m)) (effect.Drop i ∷ [])) (sym found.1.1)) in
     record {
-      logs = sym (logged_none log) ∙ (ap (λ (a : Part). logged log a.effects) (sym e) ∙ so_far.logs);
-      leaves = there ∙ (same ∙ (ap (λ (a : Part). a.after) (sym e) ∙ so_far.leaves));
+      leaving = subst (λ (x : Kernel). IsLeaving x.state p) (sym did) (ast_leaving k.state p (is_ast_reached m) h.leaving);
+      doing = doing_on (drop_asts p m first.state) first k n (drop_asts p m k.state) a (drop_asts p m) (drop_first k.state p m found.0 h.leaving found.1.0) did h.doing;
     }
+
+pub ast_fewer : (p : Pid) (m : Mode) (k l : Kernel) (id : Id) → IsProcess k.state p → Some id ≡ option_map (λ q. q.id) (find (is_ast_reached m) (process_at k.state p).asts) → l ≡ changed k p (without_reached m) → length (process_at l.state p).asts < length (process_at k.state p).asts
+ast_fewer p m k l id made given there =
+    let found = found_id (λ (q : Queued). q.id) (find (is_ast_reached m) (process_at k.state p).asts) id given in
+    let fewer = length-less (is_ast_reached m) (process_at k.state p).asts found.0 found.1.0 in
+    rw there (omega (arith, fewer, ap (λ (pr : Process). length pr.asts) (process_there k.state p (without_reached m) made)))
+
+-- nothing is taken out where none is found
+asts_still : (s : State) (p : Pid) (m : Mode) → find (is_ast_reached m) (process_at s p).asts ≡ None → change s p (without_reached m) ≡ s
+asts_still s p m none =
+    let same : without_reached m (process_at s p) ≡ process_at s p = ap (λ (qs : List Queued). record (process_at s p) { asts = qs }) (less_none (is_ast_reached m) (process_at s p).asts none) in
+    ap (λ (pr : Process). change s p (λ _. pr)) same ∙ ap (λ (ps : List Process). record s { procs = ps }) (set-get_or s.procs (p.0 - 1) nobody)
+
+pub ast_end : (p : Pid) (m : Mode) (first k l : Kernel) → IsDropping p (drop_asts p m) first k → None ≡ option_map (λ q. q.id) (find (is_ast_reached m) (process_at k.state p).asts) → l ≡ changed k p (without_reached m) → Acts (drop_asts p m first.state) first l
+ast_end p m first k l h given there =
+    let none = found_none (λ (q : Queued). q.id) (find (is_ast_reached m) (process_at k.state p).asts) given in
+    doing_end (drop_asts p m first.state) first k l (drop_asts p m k.state) (ap (λ qs. each (drop_ast p) qs k.state) (filter_none (is_ast_reached m) (process_at k.state p).asts none)) (there ∙ ap (with_state k) (asts_still k.state p m none)) h.doing
+
+-- Timers.
+
+pub timer_leaving : (s : State) (p : Pid) (test : Timer → Bool) → IsLeaving s p → IsLeaving (without_timer test s) p
+timer_leaving s p test h = record {
+  made = record { above = h.made.above; within = h.made.within };
+  ids = h.ids;
+  order = ordered_less timer_id test 0 s.next s.timers h.order;
+  bare = bare_timers s test h.bare;
+}
+
+timers_each : (p : Pid) (ts : List Timer) (s : State) → IsLeaving s p → IsLeaving (each drop_timer ts s).after p
+timers_each p [] s h = h
+timers_each p (t ∷ ts) s h = timers_each p ts (drop_timer s t).after (timer_leaving s p (this_timer t.id) h)
+
+pub timers_leaving : (p : Pid) (test : Timer → Bool) (s : State) → IsLeaving s p → IsLeaving (drop_timers test s).after p
+timers_leaving p test s h = timers_each p (filter test s.timers) s h
+
+timer_first : (s : State) (p : Pid) (test : Timer → Bool) (t : Timer) → IsLeaving s p → find test s.timers ≡ Some t → drop_timers test s ≡ and_then (tells (effect.Drop t.id) (without_timer test s)) (drop_timers test)
+timer_first s p test t h found =
+    let rest = filter test (less test s.timers) in
+    let told : State → Part = λ u. and_then (tells (effect.Drop t.id) u) (each drop_timer rest) in
+    ap (λ ts. each drop_timer ts s) (filter_found test s.timers t found)
+    ∙ ap (λ (ts : List Timer). told (record s { timers = ts })) (less_same timer_id test 0 s.next s.timers t h.order found)
+
+pub timer_room : (p : Pid) (test : Timer → Bool) (first k l : Kernel) (id : Id) → IsDropping p (drop_timers test) first k → Some id ≡ option_map (λ t. t.id) (find test k.state.timers) → l ≡ with_state k (without_timer test k.state) → Fits l (effect.Drop id ∷ [])
+timer_room p test first k l id h given there =
+    let found = found_id (λ (t : Timer). t.id) (find test k.state.timers) id given in
+    let room = doing_room (drop_timers test first.state) first k (drop_timers test k.state) (tells (effect.Drop found.0.id) (without_timer test k.state)) (drop_timers test) (timer_first k.state p test found.0 h.leaving found.1.0) h.doing in
+    rw there room
+
+pub timer_more : (p : Pid) (test : Timer → Bool) (first k l n : Kernel) (id : Id) → IsDropping p (drop_timers test) first k → Some id ≡ option_map (λ t. t.id) (find test k.state.timers) → l ≡ with_state k (without_timer test k.state) → n ≡ told l (effect.Drop id ∷ []) → IsDropping p (drop_timers test) first n
+timer_more p test first k l n id h given there tells_it =
+    let found = found_id (λ (t : Timer). t.id) (find test k.state.timers) id given in
+    let a : Part = tells (effect.Drop found.0.id) (without_timer test k.state) in
+    let did : n ≡ acted k a = tells_it ∙ (ap (λ (x : Kernel). told x (effect.Drop id ∷ [])) there ∙ ap (λ (i : Id). told (with_state k (without_timer test k.state)) (effect.Drop i ∷ [])) (sym found.1.1)) in
+    record {
+      leaving = subst (λ (x : Kernel). IsLeaving x.state p) (sym did) (timer_leaving k.state p test h.leaving);
+      doing = doing_on (drop_timers test first.state) first k n (drop_timers test k.state) a (drop_timers test) (timer_first k.state p test found.0 h.leaving found.1.0) did h.doing;
+    }
+
+pub timer_fewer : (test : Timer → Bool) (k l : Kernel) (id : Id) → Some id ≡ option_map (λ t. t.id) (find test k.state.timers) → l ≡ with_state k (without_timer test k.state) → length l.state.timers < length k.state.timers
+timer_fewer test k l id given there =
+    let found = found_id (λ (t : Timer). t.id) (find test k.state.timers) id given in
+    let fewer = length-less test k.state.timers found.0 found.1.0 in
+    rw there (omega (arith, fewer))
+
+pub timer_end : (p : Pid) (test : Timer → Bool) (first k l : Kernel) → IsDropping p (drop_timers test) first k → None ≡ option_map (λ t. t.id) (find test k.state.timers) → l ≡ with_state k (without_timer test k.state) → Acts (drop_timers test first.state) first l
+timer_end p test first k l h given there =
+    let none = found_none (λ (t : Timer). t.id) (find test k.state.timers) given in
+    doing_end (drop_timers test first.state) first k l (drop_timers test k.state) (ap (λ ts. each drop_timer ts k.state) (filter_none test k.state.timers none)) (there ∙ ap (λ (ts : List Timer). with_state k (record k.state { timers = ts })) (less_none test k.state.timers none)) h.doing

@@ -1,3 +1,4 @@
+pub mod Bare
 pub mod Changed
 pub mod Dropped
-pub mod Bare
+pub mod Running

@@ -1,16 +1,16 @@
 //! Rundown of a process that has no frame left.
 
-ghost use Rattle.std.specs.Prelude.{◌≡◌, IsTrue, length, option_map};
-ghost use Rattle.vx_base.specs.Log.{HasRoom};
-ghost use Rattle.vx_record.specs.State.{IsProcess, process_at};
-ghost use Rattle.vx_record.specs.Parts.{Acts, Does};
-ghost use Rattle.vx_record.specs.Rundown.{drop_asts, gone, rundown, run_down};
-ghost use Rattle.vx_procs.specs.View.{state, capacities};
-ghost use Rattle.vx_procs.specs.Words.{have_own_ids};
+ghost use Rattle.std.specs.Prelude.{◌≡◌};
+ghost use Rattle.vx_record.specs.Rundown.{drop_asts, gone, is_timer_in, rundown, run_down};
+ghost use Rattle.vx_record.specs.Sound.{AreOrdered, timer_id};
+ghost use Rattle.vx_record.specs.Timers.{drop_timers};
+ghost use Rattle.vx_procs.specs.Kernel.{Acts, Does, Fits};
+ghost use Rattle.vx_procs.specs.Ready.{IsReady};
+ghost use Rattle.vx_rundown.specs.Leaving.{IsLeaving, cancelled};
 ghost use Rattle.vx_rundown.specs.Modes.{modes_from, next_inner};
 
-use vx_base::{Answer, Effect, Effects, Mode, Phase, Pid, Routine};
-use vx_procs::{Core, drop_ast, phase, set_phase};
+use vx_base::{Answer, Effect, Mode, Phase, Pid, Routine};
+use vx_procs::Core;
 
 // The mode next to a mode, further in.
 fn next_inner(mode: Mode) -> Option<Mode>
@@ -24,69 +24,78 @@ fn next_inner(mode: Mode) -> Option<Mode>
     }
 }
 
-// The queued ASTs of a mode and outer ones end, in order of queuing, and their routines are never entered.
-fn drop_asts<R: Routine>(core: &mut Core<R>, p: Pid, mode: Mode, log: &mut Effects)
-    requires made { IsProcess (state core.old) p }
-    requires ids { IsTrue (have_own_ids (process_at (state core.old) p).asts) }
-    requires room { HasRoom log.old (length (drop_asts p mode (state core.old)).effects) }
-    ensures acts { Acts (drop_asts p mode (state core.old)) log.old log.new (state core.new) }
-    ensures made { IsProcess (state core.new) p }
-    ensures ids { IsTrue (have_own_ids (process_at (state core.new) p).asts) }
-    ensures room { capacities core.new ≡ capacities core.old }
+// The timers of a process of a mode and outer ones end, in id order.
+fn drop_timers<R: Routine>(core: &mut Core<R>, p: Pid, mode: Mode)
+    requires leaving { IsLeaving core.old.state p }
+    requires room { Fits core.old (drop_timers (is_timer_in p mode) core.old.state).effects }
+    ensures { Acts (drop_timers (is_timer_in p mode) core.old.state) core.old core.new }
 {
-    'asts: while let Some(id) = drop_ast(core, p, mode) {
-        log.add(Effect::Drop(id));
+    'timers: while let Some(id) = core.drop_timer_in(p, mode) {
+        core.tell(Effect::Drop(id));
     }
+}
+
+// The queued ASTs of a mode and outer ones end, in order of queuing, and their routines are never entered.
+fn drop_asts<R: Routine>(core: &mut Core<R>, p: Pid, mode: Mode)
+    requires leaving { IsLeaving core.old.state p }
+    requires room { Fits core.old (drop_asts p mode core.old.state).effects }
+    ensures { Acts (drop_asts p mode core.old.state) core.old core.new }
+{
+    'asts: while let Some(id) = core.drop_ast(p, mode) {
+        core.tell(Effect::Drop(id));
+    }
+}
+
+// No handler is declared in a mode: what the process opened in it is cancelled.
+fn cancel<R: Routine>(core: &mut Core<R>, p: Pid, mode: Mode)
+    requires leaving { IsLeaving core.old.state p }
+    requires room { Fits core.old (cancelled p mode core.old.state).effects }
+    ensures { Acts (cancelled p mode core.old.state) core.old core.new }
+{
+    core.set_phase(p, Phase::Handlers(mode));
+    drop_timers(core, p, mode);
+    core.set_phase(p, Phase::Draining(mode));
 }
 
 // The last of a process.
-fn end<R: Routine>(core: &mut Core<R>, p: Pid, log: &mut Effects) -> Answer
-    requires made { IsProcess (state core.old) p }
-    requires room { HasRoom log.old (length (gone (state core.old) p).effects) }
-    ensures does { Does (gone (state core.old) p) result log.old log.new (state core.new) }
-    ensures room { capacities core.new ≡ capacities core.old }
+fn end<R: Routine>(core: &mut Core<R>, p: Pid) -> Answer
+    requires leaving { IsLeaving core.old.state p }
+    requires room { Fits core.old (gone core.old.state p).effects }
+    ensures { Does (gone core.old.state p) result core.old core.new }
 {
-    log.add(Effect::Gone(p));
-    set_phase(core, p, Phase::Deleted);
+    core.tell(Effect::Gone(p));
+    core.set_phase(p, Phase::Deleted);
     Answer::Gone
 }
 
-// Runs a process down, mode after mode, from a mode inward. No handler is declared, and nothing else is open but its ASTs.
-fn run_down<R: Routine>(
-    core: &mut Core<R>,
-    p: Pid,
-    outermost: Option<Mode>,
-    log: &mut Effects,
-) -> Answer
-    requires made { IsProcess (state core.old) p }
-    requires ids { IsTrue (have_own_ids (process_at (state core.old) p).asts) }
-    requires room { HasRoom log.old (length (run_down p (modes_from outermost) (state core.old)).effects) }
-    ensures does { Does (run_down p (modes_from outermost) (state core.old)) result log.old log.new (state core.new) }
-    ensures room { capacities core.new ≡ capacities core.old }
+// Runs a process down, mode after mode, from a mode inward. No handler is declared, and nothing else is open but its timers
+// and ASTs.
+fn run_down<R: Routine>(core: &mut Core<R>, p: Pid, outermost: Option<Mode>) -> Answer
+    requires leaving { IsLeaving core.old.state p }
+    requires room { Fits core.old (run_down p (modes_from outermost) core.old.state).effects }
+    ensures { Does (run_down p (modes_from outermost) core.old.state) result core.old core.new }
 {
     let mut next = outermost;
     'modes: while let Some(mode) = next {
-        set_phase(core, p, Phase::Handlers(mode));
-        set_phase(core, p, Phase::Draining(mode));
-        drop_asts(core, p, mode, log);
+        cancel(core, p, mode);
+        drop_asts(core, p, mode);
         next = next_inner(mode);
     }
-    end(core, p, log)
+    end(core, p)
 }
 
-/// One step of the rundown of a process, from where it stands to its end. No two of its queued ASTs have one id.
-pub fn rundown_step<R: Routine>(core: &mut Core<R>, p: Pid, log: &mut Effects) -> Answer
-    requires made { IsProcess (state core.old) p }
-    requires ids { IsTrue (have_own_ids (process_at (state core.old) p).asts) }
-    requires room { HasRoom log.old (length (rundown (state core.old) p).effects) }
-    ensures does { Does (rundown (state core.old) p) result log.old log.new (state core.new) }
-    ensures room { capacities core.new ≡ capacities core.old }
+/// One step of the rundown of a process, from where it stands to its end.
+pub fn rundown_step<R: Routine>(core: &mut Core<R>, p: Pid) -> Answer
+    requires ready { IsReady core.old p }
+    requires order { AreOrdered timer_id 0 core.old.state.next core.old.state.timers }
+    requires room { Fits core.old (rundown core.old.state p).effects }
+    ensures { Does (rundown core.old.state p) result core.old core.new }
 {
-    match phase(core, p) {
-        Phase::Handlers(mode) => run_down(core, p, Some(mode), log),
+    match core.phase(p) {
+        Phase::Handlers(mode) => run_down(core, p, Some(mode)),
         Phase::Draining(mode) => {
-            drop_asts(core, p, mode, log);
-            run_down(core, p, next_inner(mode), log)
+            drop_asts(core, p, mode);
+            run_down(core, p, next_inner(mode))
         }
         Phase::Alive | Phase::Deleted => Answer::Gone,
     }

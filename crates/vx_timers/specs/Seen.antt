@@ -15,3 +15,8 @@ abbrev pub lesser_of : Option ℕ → Option ℕ → Option ℕ
 lesser_of None b = b
 lesser_of (Some a) None = Some a
 lesser_of (Some a) (Some b) = if nat_le a b then Some a else Some b
+
+-- the event flag of a timer
+abbrev pub flag_number : Alarm → ℕ
+flag_number (OfTimer efn reqid mode tag) = efn
+flag_number (OfWake target repeat) = 0

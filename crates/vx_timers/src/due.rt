@@ -1,8 +1,9 @@
 //! A timer or a scheduled wake.
 
 ghost use Rattle.std.specs.Prelude.{◌≡◌, ◌+◌, ◌<◌, ◌^◌};
+ghost use Rattle.vx_record.specs.Charges.{takes_ast};
 ghost use Rattle.vx_record.specs.Rundown.{is_timer_in, is_wake_by};
-ghost use Rattle.vx_record.specs.Timers.{due_again, is_cancelled_timer, is_due, is_wake_for};
+ghost use Rattle.vx_record.specs.Timers.{is_cancelled_timer, is_due, is_wake_for};
 
 use std::marker::Model;
 use vx_base::{Id, Mode, Pid, Routine};
@@ -46,7 +47,7 @@ impl<R: Routine> Model for Due<R> {
 }
 
 impl<R: Routine> Due<R> {
-    ghost use Rattle.vx_timers.specs.Seen.{alarm_of};
+    ghost use Rattle.vx_timers.specs.Seen.{alarm_of, flag_number};
 
     /// An entry.
     pub fn new(id: Id, p: Pid, due: u64, what: What<R>) -> Due<R>
@@ -74,6 +75,42 @@ impl<R: Routine> Due<R> {
         ensures { result ≡ self.now.due }
     {
         self.due
+    }
+
+    /// Its event flag, 0 where it is a wake.
+    pub fn efn(&self) -> u32
+        ensures { result ≡ flag_number self.now.what }
+    {
+        match &self.what {
+            What::Timer {
+                efn,
+                reqid: _,
+                mode: _,
+                routine: _,
+            } => *efn,
+            What::Wake {
+                target: _,
+                repeat: _,
+            } => 0,
+        }
+    }
+
+    /// Whether it takes an AST: a timer with a routine, and each wake.
+    pub fn takes_ast(&self) -> bool
+        ensures { result ≡ takes_ast self.now.what }
+    {
+        match &self.what {
+            What::Timer {
+                efn: _,
+                reqid: _,
+                mode: _,
+                routine,
+            } => routine.is_some(),
+            What::Wake {
+                target: _,
+                repeat: _,
+            } => true,
+        }
     }
 
     /// What happens then.

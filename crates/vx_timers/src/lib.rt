@@ -10,5 +10,5 @@ mod timers;
 
 pub use due::{Due, What};
 pub use timers::{
-    Timers, least, take_cancelled, take_due, take_timer_in, take_wake_by, take_wake_for,
+    Timers, first_due, least, take_cancelled, take_due, take_timer_in, take_wake_by, take_wake_for,
 };

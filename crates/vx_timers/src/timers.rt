@@ -1,17 +1,16 @@
 //! The timers and scheduled wakes of all processes: one list, in the order of opening, which is that of ids.
 
-ghost use Rattle.std.specs.Prelude.{◌≡◌, ◌<◌, ◌≤◌, ◌++◌, ◌∷◌, [], IfSome, OnOk, OnErr, length, option_map, position};
+ghost use Rattle.std.specs.Prelude.{◌≡◌, ◌<◌, IfSome, length, option_map, position};
 ghost use Rattle.std.specs.List.{find};
 ghost use Rattle.vx_base.specs.Lists.{less};
 ghost use Rattle.vx_base.specs.Queues.{least_due};
-ghost use Rattle.vx_base.specs.Roomy.{HasSpace, with_items};
+ghost use Rattle.vx_base.specs.Roomy.{with_items};
 ghost use Rattle.vx_record.specs.Rundown.{is_timer_in, is_wake_by};
 ghost use Rattle.vx_record.specs.Timers.{is_cancelled_timer, is_due, is_wake_for};
 ghost use Rattle.vx_timers.specs.Seen.{lesser_of};
 
 use crate::due::Due;
-use std::alloc::Global;
-use vx_base::{Mode, NoMemory, Pid, Reserved, Routine};
+use vx_base::{Mode, Pid, Reserved, Routine, at_place};
 
 /// The timers and scheduled wakes of all processes, in id order.
 pub type Timers<R> = Reserved<Due<R>>;
@@ -49,6 +48,14 @@ fn place_wake_for<R: Routine>(items: &[Due<R>], q: Pid) -> Option<usize>
     ensures within { IfSome result (λ i. i < length items.now) }
 {
     items.iter().position(|d| d.is_wake_for(q))
+}
+
+/// The first entry that is due by then.
+pub fn first_due<R: Routine>(timers: &Timers<R>, now: u64) -> Option<&Due<R>>
+    ensures { option_map (λ d. d.now) result ≡ find (is_due now) timers.now.items }
+{
+    let items = timers.as_slice();
+    at_place(items, place_due(items, now))
 }
 
 /// Takes out the first entry that is due by then.

@@ -1,7 +1,7 @@
-use Rattle.std.proofs.Common.{◌≡◌, ◌+◌, drop, slice_get}
-use Rattle.vx_record.specs.Events.{processes_from}
-use Rattle.vx_procs.specs.View.{state}
+use Rattle.std.proofs.Common.{◌≡◌, slice_get}
+use Rattle.vx_record.specs.Events.{enabled, tick_events}
+use Rattle.vx_exec.proofs.Enabled.{later_events}
 use Rattle.vx_exec.proofs.events.enabled_at.Given as goal
 
 abbrev pub invariant-loop-place : goal.invariant-loop-place
-invariant-loop-place g l = slice_get (processes_from (state l.core) (l.place + 1) (drop l.place (state l.core).procs)) l.left ≡ slice_get (processes_from (state l.core) 1 (state l.core).procs) l.i
+invariant-loop-place g l = slice_get (later_events l.core.state l.place (tick_events l.core.state.timers)) l.left ≡ slice_get (enabled l.core.state) l.i

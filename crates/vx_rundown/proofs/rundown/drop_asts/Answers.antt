@@ -1,27 +1,21 @@
-use Rattle.std.proofs.Common.{arith, ◌∙◌}
-use Rattle.vx_procs.specs.View.{state}
-use Rattle.vx_rundown.proofs.Dropped.{drop_room, drop_more, drop_end, drop_fewer, own_there}
+use Rattle.vx_record.specs.Rundown.{drop_asts}
+use Rattle.vx_rundown.proofs.Dropped.{ast_end, ast_fewer, ast_more, ast_room, drop_begun}
 use Rattle.vx_rundown.proofs.rundown.drop_asts.Goals as goal
 
-pub add-requires : goal.add-requires
-add-requires g c = omega (arith, drop_room c.args.p c.args.mode _ _ _ _ c.in-Some.id c.asts.invariant.dropping c.in-Some.ensures.id)
+pub asts-init : goal.asts-init
+asts-init g c = drop_begun c.args.p (drop_asts c.args.p c.args.mode) c.args.core.now c.requires.leaving c.requires.room
+
+pub drop_ast-requires : goal.drop_ast-requires
+drop_ast-requires g c = c.asts.invariant.leaving.made
+
+pub tell-requires : goal.tell-requires
+tell-requires g c = ast_room c.args.p c.args.mode c.args.core.now c.asts.core c.drop_ast.new.self c.in-Some.id c.asts.invariant c.in-Some.ensures.id c.drop_ast.ensures.after
 
 pub asts-smaller : goal.asts-smaller
-asts-smaller g c =
-    let fewer = drop_fewer (state c.asts.core) (state c.drop_ast.new.core) c.args.p c.args.mode c.in-Some.id c.asts.invariant.dropping.made c.in-Some.ensures.id c.drop_ast.ensures.after in
-    omega (arith, fewer)
+asts-smaller g c = rw c.tell.ensures (ast_fewer c.args.p c.args.mode c.asts.core c.drop_ast.new.self c.in-Some.id c.asts.invariant.leaving.made c.in-Some.ensures.id c.drop_ast.ensures.after)
 
 pub asts-preserved : goal.asts-preserved
-asts-preserved g c = record {
-  dropping = drop_more c.args.p c.args.mode _ _ _ _ _ _ c.in-Some.id c.asts.invariant.dropping c.in-Some.ensures.id c.drop_ast.ensures.after c.add.ensures;
-  room = c.drop_ast.ensures.room ∙ c.asts.invariant.room;
-}
+asts-preserved g c = ast_more c.args.p c.args.mode c.args.core.now c.asts.core c.drop_ast.new.self c.tell.new.self c.in-Some.id c.asts.invariant c.in-Some.ensures.id c.drop_ast.ensures.after c.tell.ensures
 
-pub returns-clause-acts : goal.returns-clause-acts
-returns-clause-acts g c = drop_end c.args.p c.args.mode _ _ _ _ _ c.asts.invariant.dropping c.in_default.ensures.id c.drop_ast.ensures.after
-
-pub returns-clause-made : goal.returns-clause-made
-returns-clause-made g c = (own_there _ _ c.args.p c.args.mode c.asts.invariant.dropping.made c.asts.invariant.dropping.ids c.drop_ast.ensures.after).0
-
-pub returns-clause-ids : goal.returns-clause-ids
-returns-clause-ids g c = (own_there _ _ c.args.p c.args.mode c.asts.invariant.dropping.made c.asts.invariant.dropping.ids c.drop_ast.ensures.after).1
+pub returns : goal.returns
+returns g c = ast_end c.args.p c.args.mode c.args.core.now c.asts.core c.drop_ast.new.self c.asts.invariant c.in_default.ensures.id c.drop_ast.ensures.after

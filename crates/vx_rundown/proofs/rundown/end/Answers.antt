@@ -1,11 +1,6 @@
 use Rattle.std.proofs.Common.{refl}
-use Rattle.vx_procs.specs.View.{state}
-use Rattle.vx_rundown.proofs.Bare.{bare, gone_alone}
+use Rattle.vx_rundown.proofs.Bare.{gone_alone}
 use Rattle.vx_rundown.proofs.rundown.end.Goals as goal
 
-pub returns-clause-does : goal.returns-clause-does
-returns-clause-does g c = rw (gone_alone (state c.args.core.now) c.args.p (bare c.args.core.now)) (record {
-  answers = refl;
-  logs = c.add.ensures;
-  leaves = c.set_phase.ensures.after;
-})
+pub returns : goal.returns
+returns g c = rw (gone_alone c.args.core.now.state c.args.p c.requires.leaving.bare) (record { answers = refl; leaves = rw (c.set_phase.ensures, c.tell.ensures) refl })

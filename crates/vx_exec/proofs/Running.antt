@@ -1,0 +1,293 @@
+-- What the parts of an event come to, in the machine's words.
+use Rattle.std.proofs.Common.{◌≡◌, ℕ, ◌+◌, ◌-◌, ◌<◌, ◌≤◌, List, [], ◌∷◌, Bool, true, false, cond, ◌&&◌, nat_le, length, length-set, slice_index_or, IsTrue, Option, Some, None, refl, sym, ap, subst, ◌∙◌, ◌⊎◌, inl, inr, arith}
+use Rattle.std.proofs.lemmas.Bool.{and_parts, eqb-true, leb-true}
+use Rattle.std.specs.List.{find, list_all}
+use Rattle.vx_base.specs.Cond.{number_of}
+use Rattle.vx_base.specs.Modes.{rank, reaches}
+use Rattle.vx_base.specs.Pieces.{Enables, Queued, is_enabled_in}
+use Rattle.vx_base.specs.Queues.{deliverable, first_of_mode, is_free, is_of_mode, may_start, or_else}
+use Rattle.vx_base.specs.declared.call.Call.{Call}
+use Rattle.vx_base.specs.declared.cond.Cond.{Cond}
+use Rattle.vx_base.specs.declared.frame.Frame.{Frame}
+use Rattle.vx_base.specs.declared.frame.FrameKind.TheVariants as kind
+use Rattle.vx_base.specs.declared.frame.Wait.{Wait}
+use Rattle.vx_base.specs.declared.mode.Mode.{Mode}
+use Rattle.vx_base.specs.declared.mode.Mode.TheVariants.{Kernel as KernelMode, Exec, Super, User}
+use Rattle.vx_base.specs.declared.number.Pid.{Pid}
+use Rattle.vx_base.specs.declared.record.Answer.{Answer}
+use Rattle.vx_base.specs.declared.record.Answer.TheVariants as answer
+use Rattle.vx_base.specs.declared.routine.Entry.{Entry}
+use Rattle.vx_base.specs.declared.routine.Entry.TheVariants as entry
+use Rattle.vx_frames.specs.Frames.{top_of}
+use Rattle.vx_image.specs.Local.{Advanced}
+use Rattle.vx_image.specs.Storage.{Storage}
+use Rattle.vx_image.specs.WellFormed.{IsImage, are_distinct, falls_nowhere, is_stmt, label_names, label_places}
+use Rattle.vx_image.specs.declared.image.Image.{Image}
+use Rattle.vx_image.specs.declared.stop.Stop.{Stop}
+use Rattle.vx_image.specs.declared.stop.Stop.TheVariants as stop
+use Rattle.vx_image.specs.declared.system.System.{System}
+use Rattle.vx_record.specs.State.{Process, State, IsProcess, change, current, image_of, process_at, no_decl, no_image, nobody, top_mode}
+use Rattle.vx_record.specs.Parts.{Outcome, Part, answered, nothing}
+use Rattle.vx_record.specs.Asts.{active_mode, deliverable_ast, deliverable_at}
+use Rattle.vx_record.specs.Events.{called, delivered, moved_to, r0_of, returned, returned_from, run, run_advanced, run_frame, run_on, served_call, started, with_r0}
+use Rattle.vx_record.specs.Rundown.{exited, without_ast}
+use Rattle.vx_record.specs.Services.{at_once, service}
+use Rattle.vx_record.specs.Timers.{setimr}
+use Rattle.vx_record.specs.declared.served.Served.{Served}
+use Rattle.vx_record.specs.declared.served.Served.TheVariants.{Answered, Waits}
+use Rattle.vx_record.proofs.Lists.{either_by, find_passes}
+use Rattle.vx_record.proofs.Ground.{at_set}
+use Rattle.vx_procs.specs.Kernel.{Acts, Does, DoesQuietly, Fits, Kernel, changed, told, with_state}
+use Rattle.vx_procs.specs.Ready.{IsBareProcess, IsKept}
+use Rattle.vx_procs.specs.Words.{advanced_at, advanced_from, moved_as, without_started}
+use Rattle.vx_procs.proofs.Rest as rest
+use Rattle.vx_rundown.proofs.Bare.{bare_still}
+use Rattle.vx_rundown.proofs.Changed.{made_still, process_there}
+use Rattle.vx_exec.specs.Built.{IsBuiltCall, is_built, is_built_service}
+use Rattle.vx_exec.specs.Ready.{IsSet, started_as}
+use Rattle.vx_exec.proofs.Calls.{IsBuiltStop, advanced_built}
+use Rattle.vx_exec.proofs.Down.{less_few}
+use Rattle.vx_exec.proofs.Goes.{call_goes, top_few}
+use Rattle.vx_exec.proofs.Kept.{Keeps, kept_moved, kept_started}
+
+pub told_none : (k : Kernel) → k ≡ told k []
+told_none k = rest.told_none k
+
+pub quietly : {A : Type 0} (o : Outcome A) (a : A) (k l : Kernel) → DoesQuietly o a k l → Does o a k l
+quietly o a k l h = record { answers = h.answers; leaves = h.leaves ∙ (told_none (with_state k o.after) ∙ ap (λ es. told (with_state k o.after) es) (sym h.quiet)) }
+
+pub once : (o : Outcome Cond) (c : Cond) (k l : Kernel) → Does o c k l → Does (at_once o) (Answered c) k l
+once o c k l h = record { answers = ap Answered h.answers; leaves = h.leaves }
+
+pub timer_call : (k l : Kernel) (p : Pid) (efn efn' delta delta' : ℕ) (tag tag' : Option Entry) (reqid reqid' : ℕ) (cond : Cond) → efn ≡ efn' → delta ≡ delta' → tag ≡ tag' → reqid ≡ reqid' → Does (setimr k.state p efn delta tag reqid) cond k l → Does (at_once (setimr k.state p efn' delta' tag' reqid')) (Answered cond) k l
+timer_call k l p efn efn' delta delta' tag tag' reqid reqid' cond a b c d h = rw (← a, ← b, ← c, ← d) (once (setimr k.state p efn delta tag reqid) cond k l h)
+
+-- A call.
+
+served_effects : (p : Pid) (c : Call) (o : Outcome Served) (a : Served) → (served_call p c o a).effects ≡ o.effects
+served_effects p c o (Answered cond) = refl
+served_effects p c o Waits = refl
+
+pub called_room : (p : Pid) (c : Call) (o : Outcome Served) (k : Kernel) → Fits k (called p c o).effects → Fits k o.effects
+called_room p c o k room = omega (arith, ap length (served_effects p c o o.answer), room)
+
+pub answered_call : (p : Pid) (c : Call) (o : Outcome Served) (cond : Cond) (n : ℕ) (k l m : Kernel) → Does o (Answered cond) k l → n ≡ number_of cond → m ≡ changed l p (with_r0 n) → Does (called p c o) (answer.Service c cond) k m
+answered_call p c o cond n k l m h number leaves =
+    let e : called p c o ≡ served_call p c o (Answered cond) = ap (served_call p c o) (sym h.answers) in
+    subst (λ (x : Outcome Answer). Does x (answer.Service c cond) k m) (sym e) (record {
+      answers = refl;
+      leaves = leaves ∙ (ap (λ (i : ℕ). changed l p (with_r0 i)) number ∙ ap (λ (x : Kernel). changed x p (with_r0 (number_of cond))) h.leaves);
+    })
+
+pub waiting_call : (p : Pid) (c : Call) (o : Outcome Served) (k l : Kernel) → Does o Waits k l → Does (called p c o) (answer.Wait c) k l
+waiting_call p c o k l h =
+    let e : called p c o ≡ served_call p c o Waits = ap (served_call p c o) (sym h.answers) in
+    subst (λ (x : Outcome Answer). Does x (answer.Wait c) k l) (sym e) (record { answers = refl; leaves = h.leaves })
+
+-- Frames that end.
+
+pub main_ended : (k l : Kernel) (p : Pid) (fs : List Frame) (f : Frame) (code : ℕ) → Some f ≡ top_of fs → f.kind ≡ kind.Main → code ≡ r0_of k.state p → Acts (exited k.state p code) k l → Does (returned k.state p fs) answer.End k l
+main_ended k l p [] f code top is r0 h = absurd (cc)
+main_ended k l p (g ∷ fs) f code top is r0 h =
+    let same : f ≡ g = cc in
+    let its : g.kind ≡ kind.Main = ap (λ (x : Frame). x.kind) (sym same) ∙ is in
+    let e : returned k.state p (g ∷ fs) ≡ answered answer.End (exited k.state p (r0_of k.state p)) = ap (returned_from k.state p g) its in
+    let acts : Acts (exited k.state p (r0_of k.state p)) k l = subst (λ (n : ℕ). Acts (exited k.state p n) k l) r0 h in
+    subst (λ (x : Outcome Answer). Does x answer.End k l) (sym e) (record { answers = refl; leaves = acts })
+
+-- Local statements, and what they stop at.
+
+few_stmts : (image : Image) → IsImage image → length image.stmts ≤ 10000
+few_stmts image is =
+    let places = list_all (λ place. nat_le place (length image.stmts)) (label_places image) in
+    let rest = list_all (is_stmt is.0 image) image.stmts in
+    leb-true (length image.stmts) 10000 (and_parts (nat_le (length image.stmts) 10000) (are_distinct (label_names image) && (falls_nowhere 0 (label_places image) && (places && rest))) is.1).0
+
+built_from : (s : State) (p : Pid) (fs : List Frame) → IsTrue (is_built s.system) → IsBuiltStop (image_of s p) (advanced_from (image_of s p) p (process_at s p).store fs).place (advanced_from (image_of s p) p (process_at s p).store fs).stop
+built_from s p [] built = tt
+built_from s p (f ∷ fs) built = advanced_built s p _ (process_at s p).store f.pc built
+
+built_call : (image : Image) (n : ℕ) (x : Stop) → length image.stmts ≤ 10000 → IsBuiltStop image n x → IsBuiltCall n x
+built_call image n (stop.Call c) few h = (h.0, omega (arith, h.1))
+built_call image n stop.Return few h = tt
+built_call image n stop.End few h = tt
+built_call image n stop.Local few h = tt
+
+pub advanced_call : (k : Kernel) (p : Pid) (n : ℕ) (x : Stop) → IsSet k p → n ≡ (advanced_at k.state p).place → x ≡ (advanced_at k.state p).stop → IsBuiltCall n x
+advanced_call k p n x set place stops =
+    let s = k.state in
+    let a = advanced_at s p in
+    rw (place, stops) (built_call (image_of s p) a.place a.stop (few_stmts (image_of s p) set.ready.formed) (built_from s p (process_at s p).frames set.built))
+
+pub advanced_as : (s : State) (p : Pid) (a : Advanced) (n : ℕ) (x : Stop) → n ≡ a.place → x ≡ a.stop → run_on (change s p (moved_as a)) p n x ≡ run_advanced s p a
+advanced_as s p a n x place stops = ap (λ (m : ℕ). run_on (change s p (moved_as a)) p m x) place ∙ ap (run_on (change s p (moved_as a)) p a.place) stops
+
+-- What an event relies on, as its process changes.
+
+-- the image of the declaration at a place
+abbrev image_at : System → ℕ → Image
+image_at system n = slice_index_or system.images (slice_index_or system.decls n no_decl).image no_image
+
+pub record IsFewer (x y : Process) : Type 0 where
+  pub frames : length y.frames ≤ length x.frames
+  pub asts : length y.asts ≤ length x.asts
+
+pub set_changed : (k l : Kernel) (p : Pid) (f : Process → Process) → IsSet k p → l ≡ changed k p f → Keeps f → (IsBareProcess (process_at k.state p) → IsBareProcess (f (process_at k.state p))) → (f (process_at k.state p)).decl ≡ (process_at k.state p).decl → IsFewer (process_at k.state p) (f (process_at k.state p)) → IsSet l p
+set_changed k l p f set there keeps bare decl fewer =
+    let s = k.state in
+    let t = change s p f in
+    let ready = set.ready in
+    let at : process_at t p ≡ f (process_at s p) = process_there s p f ready.made in
+    let its : (process_at t p).decl ≡ (process_at s p).decl = ap (λ (x : Process). x.decl) at ∙ decl in
+    let image : image_of t p ≡ image_of s p = ap (image_at s.system) its in
+    let here : IsSet (changed k p f) p = record {
+      ready = record {
+        made = made_still s p p f ready.made;
+        declared = omega (arith, its, ready.declared);
+        image = omega (arith, ap (λ (n : ℕ). (slice_index_or s.system.decls n no_decl).image) its, ready.image);
+        formed = subst IsImage (sym image) ready.formed;
+        kept = subst (λ (x : Process). IsKept s.next s.timers x) (sym at) (keeps s.next s.timers (process_at s p) ready.kept);
+        spares = λ q m.
+            let was : IsProcess s q = record { above = m.above; within = omega (arith, m.within, length-set s.procs (p.0 - 1) (f (process_at s p))) } in
+            let has = ready.spares q was in
+            let few = at_set IsFewer (λ x. record { frames = omega arith; asts = omega arith }) s.procs (p.0 - 1) (q.0 - 1) (f (process_at s p)) nobody fewer in
+            record { frame = omega (arith, has.frame, few.frames); ast = omega (arith, has.ast, few.asts) };
+        timer = ready.timer;
+        ids = ready.ids;
+        time = ready.time;
+        bare = bare_still s p f bare ready.bare;
+      };
+      built = set.built;
+      order = set.order;
+    } in
+    subst (λ (x : Kernel). IsSet x p) (sym there) here
+
+pub set_moved : (k l : Kernel) (p : Pid) (store : Storage) (place : ℕ) → IsSet k p → l ≡ changed k p (moved_to store place) → IsSet l p
+set_moved k l p store place set there =
+    set_changed k l p (moved_to store place) set there (kept_moved store place) (λ e. record { channels = e.channels; handlers = e.handlers }) refl (record { frames = top_few _ (process_at k.state p).frames; asts = omega arith })
+
+pub call_made : (k l : Kernel) (p : Pid) (c : Call) (s : Served) → IsSet k p → is_built_service c.service ≡ true → Does (service k.state p c) s k l → IsProcess l.state p
+call_made k l p c s set built did =
+    let goes = call_goes p k.state c built in
+    subst (λ (x : Kernel). IsProcess x.state p) (sym did.leaves) (record { above = set.ready.made.above; within = omega (arith, set.ready.made.within, goes.procs) })
+
+-- The top frame goes on, where it waits for nothing.
+
+goes_from : (s : State) (p : Pid) (fs : List Frame) (f : Frame) → Some f ≡ top_of fs → None ≡ f.wait → run s p fs ≡ run_advanced s p (advanced_from (image_of s p) p (process_at s p).store fs)
+goes_from s p [] f top none = absurd (cc)
+goes_from s p (g ∷ fs) f top none =
+    let same : f ≡ g = cc in
+    let its : g.wait ≡ None = ap (λ (x : Frame). x.wait) (sym same) ∙ sym none in
+    ap (run_frame s p g) its
+
+pub goes_at : (s : State) (p : Pid) (f : Frame) → Some f ≡ top_of (process_at s p).frames → None ≡ f.wait → run s p (process_at s p).frames ≡ run_advanced s p (advanced_at s p)
+goes_at s p f top none = goes_from s p (process_at s p).frames f top none
+
+-- Or its wait ends.
+
+waits_from : (s : State) (p : Pid) (fs : List Frame) (f : Frame) (w : Wait) → Some f ≡ top_of fs → Some w ≡ f.wait → run s p fs ≡ run_frame s p f (Some w)
+waits_from s p [] f w top some = absurd (cc)
+waits_from s p (g ∷ fs) f w top some =
+    let same : f ≡ g = cc in
+    let its : g.wait ≡ Some w = ap (λ (x : Frame). x.wait) (sym same) ∙ sym some in
+    ap (run_frame s p g) its ∙ ap (λ (h : Frame). run_frame s p h (Some w)) (sym same)
+
+pub resumes_at : (s : State) (p : Pid) (f : Frame) (w : Wait) → Some f ≡ top_of (process_at s p).frames → Some w ≡ f.wait → run s p (process_at s p).frames ≡ run_frame s p f (Some w)
+resumes_at s p f w top some = waits_from s p (process_at s p).frames f w top some
+
+none_from : (s : State) (p : Pid) (fs : List Frame) → None ≡ top_of fs → run s p fs ≡ answered answer.Local (nothing s)
+none_from s p [] none = refl
+none_from s p (f ∷ fs) none = absurd (cc)
+
+pub none_at : (s : State) (p : Pid) → None ≡ top_of (process_at s p).frames → run s p (process_at s p).frames ≡ answered answer.Local (nothing s)
+none_at s p none = none_from s p (process_at s p).frames none
+-- An AST that starts.
+
+same_frames : (o : Option Queued) (pr : Process) → (without_started o pr).frames ≡ pr.frames
+same_frames None pr = refl
+same_frames (Some q) pr = refl
+
+same_decl : (o : Option Queued) (pr : Process) → (without_started o pr).decl ≡ pr.decl
+same_decl None pr = refl
+same_decl (Some q) pr = refl
+
+fewer_asts : (o : Option Queued) (pr : Process) → length (without_started o pr).asts ≤ length pr.asts
+fewer_asts None pr = omega arith
+fewer_asts (Some q) pr = less_few _ pr.asts
+
+bare_started : (o : Option Queued) (pr : Process) → IsBareProcess pr → IsBareProcess (without_started o pr)
+bare_started None pr e = e
+bare_started (Some q) pr e = record { channels = e.channels; handlers = e.handlers }
+
+pub set_taken : (k l : Kernel) (p : Pid) → IsSet k p → l ≡ changed k p (without_started (deliverable_ast k.state p)) → IsSet l p
+set_taken k l p set there =
+    let o = deliverable_ast k.state p in
+    let pr = process_at k.state p in
+    set_changed k l p (without_started o) set there (kept_started o) (bare_started o pr) (same_decl o pr) (record { frames = omega (arith, ap length (same_frames o pr)); asts = fewer_asts o pr })
+
+-- it is in a mode that is not further out than that of the process
+
+of_mode : (enables : Enables) (now : Mode) (active : Option Mode) (asts : List Queued) (m : Mode) (q : Queued) → first_of_mode enables now active asts m ≡ Some q → IsTrue (reaches now q.mode)
+of_mode enables now active asts m q =
+    either_by (λ (o : Option Queued). o ≡ Some q → IsTrue (reaches now q.mode)) (may_start enables now active m) (find (is_of_mode m) asts) None
+    (λ starts found.
+    let reached = (and_parts (reaches now m) (is_free active m) (and_parts (is_enabled_in enables m) (reaches now m && is_free active m) starts).1).0 in
+    let same : rank q.mode ≡ rank m = eqb-true (rank q.mode) (rank m) (find_passes (is_of_mode m) asts q found) in
+    rw same reached)
+    (λ not none. cc)
+
+one_of_two : (a b : Option Queued) (q : Queued) → or_else a b ≡ Some q → (a ≡ Some q) ⊎ (b ≡ Some q)
+one_of_two None b q e = inr e
+one_of_two (Some x) b q e = inl e
+
+reached_by : (enables : Enables) (now : Mode) (active : Option Mode) (asts : List Queued) (q : Queued) → deliverable enables now active asts ≡ Some q → IsTrue (reaches now q.mode)
+reached_by enables now active asts q e =
+    let first : Mode → Option Queued = first_of_mode enables now active asts in
+    elim (one_of_two (first KernelMode) (or_else (first Exec) (or_else (first Super) (first User))) q e) [
+      | inl is ↦ of_mode enables now active asts KernelMode q is
+      | inr more ↦ elim (one_of_two (first Exec) (or_else (first Super) (first User)) q more) [
+        | inl is ↦ of_mode enables now active asts Exec q is
+        | inr further ↦ elim (one_of_two (first Super) (first User) q further) [
+          | inl is ↦ of_mode enables now active asts Super q is
+          | inr last ↦ of_mode enables now active asts User q last
+        ]
+      ]
+    ]
+
+reached_at : (pr : Process) (fs : List Frame) (q : Queued) → deliverable_at pr fs ≡ Some q → IsTrue (reaches (top_mode fs) q.mode)
+reached_at pr [] q e = absurd (cc)
+reached_at pr (f ∷ fs) q e = reached_by pr.enables f.mode (active_mode (f ∷ fs)) pr.asts q e
+
+inward_of : (s : State) (p : Pid) (q : Queued) → deliverable_ast s p ≡ Some q → IsTrue (reaches (current s p) q.mode)
+inward_of s p q =
+    either_by (λ (o : Option Queued). o ≡ Some q → IsTrue (reaches (current s p) q.mode)) (process_at s p).suspended None (deliverable_at (process_at s p) (process_at s p).frames) (λ e none. cc) (λ e is. reached_at (process_at s p) (process_at s p).frames q is)
+
+pub inward_taken : (k l : Kernel) (p : Pid) (q : Queued) → IsProcess k.state p → Some q ≡ deliverable_ast k.state p → l ≡ changed k p (without_started (deliverable_ast k.state p)) → IsTrue (reaches (current l.state p) q.mode)
+inward_taken k l p q made is there =
+    let s = k.state in
+    let o = deliverable_ast s p in
+    let same : current l.state p ≡ current s p = ap (λ (x : Kernel). current x.state p) there ∙ (ap (λ (pr : Process). top_mode pr.frames) (process_there s p (without_started o) made) ∙ ap top_mode (same_frames o (process_at s p))) in
+    subst (λ (m : Mode). IsTrue (reaches m q.mode)) (sym same) (inward_of s p q (sym is))
+
+-- the state after it was taken, and its start
+
+started_like : (s : State) (p : Pid) (q : Queued) (tag : Entry) → started s p q tag ≡ started_as s p q.id q.mode tag
+started_like s p q (entry.Label k prm) = refl
+started_like s p q (entry.Exit code) = refl
+started_like s p q (entry.Host prm) = refl
+
+pub delivered_as : (s t : State) (p : Pid) (o : Option Queued) (q : Queued) (at : Entry) → Some q ≡ o → t ≡ change s p (without_started o) → at ≡ q.tag → delivered s p o ≡ answered (answer.Ast q.id) (started_as t p q.id q.mode at)
+delivered_as s t p None q at is there tag = absurd (cc)
+delivered_as s t p (Some r) q at is there tag =
+    let same : r ≡ q = cc in
+    let as_taken : delivered s p (Some r) ≡ delivered s p (Some q) = ap (λ (x : Queued). delivered s p (Some x)) same in
+    let here : change s p (without_ast q.id) ≡ t = sym (there ∙ ap (λ (x : Queued). change s p (without_ast x.id)) same) in
+    let told : Part → Outcome Answer = answered (answer.Ast q.id) in
+    as_taken
+    ∙ (ap told (started_like (change s p (without_ast q.id)) p q q.tag)
+    ∙ (ap (λ (u : State). told (started_as u p q.id q.mode q.tag)) here ∙ ap (λ (x : Entry). told (started_as t p q.id q.mode x)) (sym tag)))
+
+pub delivered_none : (s t : State) (p : Pid) (o : Option Queued) → None ≡ o → t ≡ change s p (without_started o) → delivered s p o ≡ answered answer.Local (nothing s)
+delivered_none s t p None none there = refl
+delivered_none s t p (Some q) none there = absurd (cc)
+

@@ -1,0 +1,65 @@
+use Rattle.std.proofs.Common.{◌≡◌, ◌-◌, ◌+◌, ◌≤◌, ◌<◌, List, Option, Some, None, IsTrue, false, length, refl, ap, arith, sym, subst, ◌∙◌}
+use Rattle.std.specs.List.{find}
+use Rattle.vx_base.specs.Flags.{one}
+use Rattle.vx_base.specs.Lists.{less}
+use Rattle.vx_base.specs.Pieces.{Timer, Alarm}
+use Rattle.vx_base.specs.Roomy.{Roomy}
+use Rattle.vx_base.specs.declared.number.Id.{Id}
+use Rattle.vx_base.specs.declared.number.Pid.{Pid}
+use Rattle.vx_record.specs.State.{Process, State, IsProcess, change}
+use Rattle.vx_record.specs.Charges.{is_timer, takes_ast}
+use Rattle.vx_record.specs.Timers.{is_due}
+use Rattle.vx_procs.specs.Kernel.{Kernel, with_state}
+use Rattle.vx_procs.specs.View.{kernel, process, room_of, state}
+use Rattle.vx_procs.specs.Words.{alarm_ast, moved_on, with_queued_if}
+use Rattle.vx_procs.specs.declared.procs.Core.TheInside.{Inside}
+use Rattle.vx_timers.specs.Seen.{alarm_of}
+use Rattle.vx_procs.proofs.Changed.{found_in, stands, timers_as}
+use Rattle.vx_procs.proofs.Ops.{charged_tqe, held_fired, own_timer, place_free, place_one, same_timers}
+use Rattle.vx_procs.proofs.procs.Core.fire.Goals as goal
+
+pub invariant_of-self : goal.invariant_of-self
+invariant_of-self g c = rw (same_timers (is_due c.args.now) c.self.inside.timers c.take_due.new.timers c.in_default.ensures.found c.in_default.ensures.after) c.self.invariant
+
+pub returns-in_default-clause-after : goal.returns-in_default-clause-after
+returns-in_default-clause-after g c =
+    let same = same_timers (is_due c.args.now) c.self.inside.timers c.take_due.new.timers c.in_default.ensures.found c.in_default.ensures.after in
+    let k = c.args.self.now in
+    ap (λ (ts : Roomy Timer). kernel (record c.self.inside { timers = ts })) same ∙ (c.self.view_is ∙ ap (λ (o : Option Timer). with_state k (moved_on k.state c.args.now o)) (found_in (is_due c.args.now) c.self.inside k None c.self.view_is c.in_default.ensures.found))
+
+pub overflow_sub-p : goal.overflow_sub-p
+overflow_sub-p g c =
+    let own = own_timer (is_due c.args.now) c.self.inside c.in-Some.due c.self.invariant c.in-Some.ensures.found in
+    omega (arith, own.made.above, ap (λ (x : Pid). x.0) c.p-p.ensures)
+
+pub index_mut-requires : goal.index_mut-requires
+index_mut-requires g c =
+    let own = own_timer (is_due c.args.now) c.self.inside c.in-Some.due c.self.invariant c.in-Some.ensures.found in
+    omega (arith, stands c.self.inside c.in-Some.due.p own.made, ap (λ (x : Pid). x.0) c.p-p.ensures)
+
+pub fire-requires-clause-timer : goal.fire-requires-clause-timer
+fire-requires-clause-timer g c = subst (λ (a : Alarm). IsTrue (is_timer a)) (sym c.into_what.ensures) (own_timer (is_due c.args.now) c.self.inside c.in-Some.due c.self.invariant c.in-Some.ensures.found).timer
+
+pub fire-requires-clause-free : goal.fire-requires-clause-free
+fire-requires-clause-free g c = subst (λ (a : Alarm). length (process c.index_mut.result.now).asts + one (takes_ast a) ≤ (room_of c.index_mut.result.now).asts) (sym c.into_what.ensures) (place_one (is_due c.args.now) c.self.inside c.p-p.result c.in-Some.due c.index_mut.result.now c.self.invariant c.in-Some.ensures.found (sym c.p-p.ensures) c.index_mut.ensures.value)
+
+pub fire-requires-clause-charged : goal.fire-requires-clause-charged
+fire-requires-clause-charged g c = charged_tqe (is_due c.args.now) c.self.inside c.p-p.result c.in-Some.due c.index_mut.result.now c.self.invariant c.in-Some.ensures.found (sym c.p-p.ensures) c.index_mut.ensures.value
+
+pub invariant_of-self-2 : goal.invariant_of-self-2
+invariant_of-self-2 g c =
+    held_fired (is_due c.args.now) c.id-id.result (alarm_of g.R.Routine.tagged c.into_what.result) c.self.inside c.p-p.result c.in-Some.due c.index_mut.result.now _ _ c.in-Some.ensures.found c.p-p.ensures c.into_what.ensures c.in-Some.ensures.after c.index_mut.ensures.value c.fire.ensures.after c.fire.ensures.room c.fire.ensures.account c.self.invariant
+
+pub returns-clause-after : goal.returns-clause-after
+returns-clause-after g c =
+    let k = c.args.self.now in
+    let t = c.in-Some.due in
+    let a = alarm_of g.R.Routine.tagged c.into_what.result in
+    let own = own_timer (is_due c.args.now) c.self.inside t c.self.invariant c.in-Some.ensures.found in
+    let made : IsProcess k.state c.p-p.result = subst (λ (x : Kernel). IsProcess x.state c.p-p.result) c.self.view_is (subst (λ (x : Pid). IsProcess (state c.self.inside) x) (sym c.p-p.ensures) own.made) in
+    let out : State = record k.state { timers = less (is_due c.args.now) k.state.timers } in
+    timers_as (with_queued_if (alarm_ast c.id-id.result a)) (λ (s : State). less (is_due c.args.now) s.timers) c.self.inside k c.p-p.result c.index_mut.result.now _ _ c.self.view_is made c.index_mut.ensures.value c.fire.ensures.after c.fire.ensures.room c.in-Some.ensures.after
+    ∙ (ap (λ (x : Pid). with_state k (change out x (with_queued_if (alarm_ast c.id-id.result a)))) c.p-p.ensures
+    ∙ (ap (λ (x : Id). with_state k (change out t.p (with_queued_if (alarm_ast x a)))) c.id-id.ensures
+    ∙ (ap (λ (x : Alarm). with_state k (change out t.p (with_queued_if (alarm_ast t.id x)))) c.into_what.ensures
+    ∙ ap (λ (o : Option Timer). with_state k (moved_on k.state c.args.now o)) (found_in (is_due c.args.now) c.self.inside k (Some t) c.self.view_is c.in-Some.ensures.found))))

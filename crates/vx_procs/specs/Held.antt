@@ -1,0 +1,50 @@
+-- What the executive keeps beside its state, and what is true of it.
+use Rattle.std.specs.Prelude.{◌≡◌, ℕ, ◌+◌, ◌-◌, ◌≤◌, List, Bool, true, false, ◌==◌, not, Option, Some, None, IsTrue, IfSome, length, slice_index_or}
+use Rattle.std.specs.List.{AllByRecursion}
+use Rattle.vx_base.specs.Flags.{one}
+use Rattle.vx_base.specs.Pieces.{Timer}
+use Rattle.vx_base.specs.Quotas.{no_need, is_within}
+use Rattle.vx_base.specs.declared.number.Pid.{Pid}
+use Rattle.vx_base.specs.declared.quota.Need.{Need}
+use Rattle.vx_record.specs.State.{State, IsProcess, process_at, limits_of}
+use Rattle.vx_record.specs.Charges.{charge, is_timer}
+use Rattle.vx_quota.specs.Account.{Quotas}
+use Rattle.vx_procs.specs.Kernel.{Room, no_room}
+use Rattle.vx_procs.specs.Ready.{owed}
+
+-- of each process its room and its account
+pub record Books : Type 0 where
+  pub room : Room
+  pub account : Quotas
+
+abbrev pub no_books : Books
+no_books = record { room = no_room; account = record { used = no_need; limits = no_need } }
+
+abbrev pub books_at : List Books → Pid → Books
+books_at bs p = slice_index_or bs (p.0 - 1) no_books
+
+-- the process is the one whose spares may have been used since they were made
+abbrev pub is_short : Option Pid → Pid → Bool
+is_short None p = false
+is_short (Some q) p = p.0 == q.0
+
+-- how many spare places a process has
+abbrev pub spare : Option Pid → Pid → ℕ
+spare short p = one (not (is_short short p))
+
+-- What is queued and promised has its places, and there are spare ones; what is charged is what the lists come to.
+pub record IsBooked (s : State) (short : Option Pid) (p : Pid) (b : Books) : Type 0 where
+  pub frames : length (process_at s p).frames + spare short p ≤ b.room.frames
+  pub asts : owed s p + spare short p ≤ b.room.asts
+  pub used : b.account.used ≡ charge s p
+  pub limits : b.account.limits ≡ limits_of s p
+
+-- an entry is a timer, and a process's
+pub record IsOwn (s : State) (t : Timer) : Type 0 where
+  pub made : IsProcess s t.p
+  pub timer : IsTrue (is_timer t.what)
+
+pub record AreHeld (s : State) (short : Option Pid) (books : List Books) : Type 0 where
+  pub booked : (p : Pid) → IsProcess s p → IsBooked s short p (books_at books p)
+  pub timers : AllByRecursion (IsOwn s) s.timers
+  pub marked : IfSome short (IsProcess s)

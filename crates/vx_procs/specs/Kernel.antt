@@ -1,0 +1,61 @@
+-- What callers see of the executive: its plain state, the log of the event under way, and how much there is room for.
+use Rattle.std.specs.Prelude.{◌≡◌, ℕ, ◌+◌, ◌-◌, ◌≤◌, List, [], ◌∷◌, length, slice_index_or}
+use Rattle.vx_base.specs.Log.{Log, HasRoom, logged}
+use Rattle.vx_base.specs.declared.effects.Effect.{Effect}
+use Rattle.vx_base.specs.declared.number.Pid.{Pid}
+use Rattle.vx_record.specs.State.{Process, State, change}
+use Rattle.vx_record.specs.Parts.{Outcome, Part}
+
+-- how many frames and how many ASTs a process has room for in all
+pub record Room : Type 0 where
+  pub frames : ℕ
+  pub asts : ℕ
+
+abbrev pub no_room : Room
+no_room = record { frames = 0; asts = 0 }
+
+-- the one room is in the other
+pub record IsWithinRoom (a b : Room) : Type 0 where
+  pub frames : a.frames ≤ b.frames
+  pub asts : a.asts ≤ b.asts
+
+-- the state; the effects so far; the room of each process, in number order; and for how many timers there is room in all
+pub record Kernel : Type 0 where
+  pub state : State
+  pub log : Log
+  pub rooms : List Room
+  pub timers : ℕ
+
+abbrev pub room_at : Kernel → Pid → Room
+room_at k p = slice_index_or k.rooms (p.0 - 1) no_room
+
+-- another state, with all else as it was
+abbrev pub with_state : Kernel → State → Kernel
+with_state k s = record k { state = s }
+
+-- process p changed by f
+abbrev pub changed : Kernel → Pid → (Process → Process) → Kernel
+changed k p f = with_state k (change k.state p f)
+
+-- effects told
+abbrev pub told : Kernel → List Effect → Kernel
+told k effects = record k { log = logged k.log effects }
+
+-- the log has room for these effects
+abbrev pub Fits : Kernel → List Effect → Type 0
+Fits k effects = HasRoom k.log (length effects)
+
+-- A call did a part: it told its effects and left its state, and no room was taken or made.
+abbrev pub Acts : Part → Kernel → Kernel → Type 0
+Acts part before after = after ≡ told (with_state before part.after) part.effects
+
+-- A call did an outcome: it answered it, and acted so.
+pub record Does {A : Type 0} (o : Outcome A) (answer : A) (before after : Kernel) : Type 0 where
+  pub answers : answer ≡ o.answer
+  pub leaves : after ≡ told (with_state before o.after) o.effects
+
+-- The outcome has no effect, and a call that tells nothing did it.
+pub record DoesQuietly {A : Type 0} (o : Outcome A) (answer : A) (before after : Kernel) : Type 0 where
+  pub answers : answer ≡ o.answer
+  pub quiet : o.effects ≡ []
+  pub leaves : after ≡ with_state before o.after
