@@ -13,9 +13,9 @@ ghost use Rattle.vx_base.specs.declared.record.Rec.{Rec as RecOf};
 ghost use Rattle.vx_image.specs.Storage.{status_at};
 ghost use Rattle.vx_image.specs.declared.decl.ProcDecl.{ProcDecl as DeclOf};
 ghost use Rattle.vx_image.specs.declared.system.System.{System as SystemOf};
-ghost use Rattle.vx_laws.specs.Agrees.{AreEntries, as_waiting, entered_frames, has_kind, is_attending, is_handler_of, is_timed, cluster_of, cluster_stands, AsCalled, IsOwned};
+ghost use Rattle.vx_laws.specs.Agrees.{AreEntries, as_waiting, entered_frames, has_kind, is_attending, is_handler_of, is_timed, cluster_of, cluster_stands, AsCalled, IsOwned, waited};
 ghost use Rattle.vx_laws.specs.Charges.{charge_by};
-ghost use Rattle.vx_laws.specs.Frames.{enabled_by, entered, waiting};
+ghost use Rattle.vx_laws.specs.Frames.{awaited, enabled_by, entered, waiting};
 ghost use Rattle.vx_laws.specs.Items.{past_of};
 ghost use Rattle.vx_laws.specs.Lives.{is_outstanding, life, lives, opens};
 ghost use Rattle.vx_laws.specs.QuotaSum.{decl_by};
@@ -84,4 +84,10 @@ pub fn every_value_agrees()
     ensures associations { AfterEveryRun (λ s past. (p : PidOf) (k : ℕ) →
         cluster_of (find (is_association p k) s.common.associations) ≡ cluster_by past p k) }
     ensures clusters { AfterEveryRun (λ s past. (group : ℕ) (name : List ℕ) → stands s.common group name ≡ cluster_stands past group name) }
+{}
+
+/// After the records of every run each frame of each process waits for what the records tell, the top one first.
+#[tactic(auto, using(crate::proofs::Resumes::every_wait))]
+pub fn every_wait_agrees()
+    ensures { AfterEveryRun (λ s past. (p : PidOf) → IsProcess s p → map (λ f. f.wait) (process_at s p).frames ≡ map waited (awaited past p)) }
 {}
