@@ -5,8 +5,8 @@ use Rattle.vx_base.specs.Pieces.{Queued}
 use Rattle.vx_base.specs.Quotas.{is_within, together}
 use Rattle.vx_base.specs.declared.number.Pid.{Pid}
 use Rattle.vx_base.specs.declared.quota.Need.{Need}
+use Rattle.vx_base.specs.Lists.{tally}
 use Rattle.vx_record.specs.Charges.{bears_ast, charge, charged_timer, exceeds, is_attention_of, is_charged}
-use Rattle.vx_record.specs.Parts.{tally}
 use Rattle.vx_record.specs.State.{Process, State, change, limits_of, no_decl, nobody, process_at}
 use Rattle.vx_record.proofs.Ground.{at_set}
 use Rattle.vx_procs.proofs.Changed.{IsQuiet}

@@ -18,6 +18,7 @@ use Rattle.vx_base.specs.declared.record.Answer.{Answer}
 use Rattle.vx_base.specs.declared.record.Answer.TheVariants as answer
 use Rattle.vx_base.specs.declared.routine.Entry.{Entry}
 use Rattle.vx_base.specs.declared.routine.Entry.TheVariants as entry
+use Rattle.vx_base.specs.Frames.{active_mode}
 use Rattle.vx_frames.specs.Frames.{top_of}
 use Rattle.vx_image.specs.Local.{Advanced}
 use Rattle.vx_image.specs.Storage.{Storage}
@@ -28,7 +29,7 @@ use Rattle.vx_image.specs.declared.stop.Stop.TheVariants as stop
 use Rattle.vx_image.specs.declared.system.System.{System}
 use Rattle.vx_record.specs.State.{Process, State, IsProcess, change, current, image_of, process_at, no_decl, no_image, nobody, top_mode}
 use Rattle.vx_record.specs.Parts.{Outcome, Part, answered, nothing}
-use Rattle.vx_record.specs.Asts.{active_mode, deliverable_ast, deliverable_at}
+use Rattle.vx_record.specs.Asts.{deliverable_ast, deliverable_at}
 use Rattle.vx_record.specs.Events.{called, delivered, moved_to, r0_of, returned, returned_from, run, run_advanced, run_frame, run_on, served_call, started, with_r0}
 use Rattle.vx_record.specs.Rundown.{exited, without_ast}
 use Rattle.vx_record.specs.Services.{at_once, service}

@@ -4,7 +4,7 @@ use Rattle.std.specs.List.{AllByRecursion, filter, find, list_any}
 use Rattle.std.specs.Prelude.{⊤}
 use Rattle.vx_base.specs.Channels.{channel_at, channels_of}
 use Rattle.vx_base.specs.Clusters.{Change, cluster_number, associated, dissociated, marked, is_cluster}
-use Rattle.vx_base.specs.Modes.{outer}
+use Rattle.vx_base.specs.Modes.{outer, is_kernel}
 use Rattle.vx_base.specs.Pieces.{Channel, Handler, Request, Promised, Timer, Alarm, OfTimer, OfWake, Attention, Mailbox}
 use Rattle.vx_base.specs.declared.call.Args.{Args}
 use Rattle.vx_base.specs.declared.call.Target.{Target}
@@ -44,12 +44,12 @@ use Rattle.vx_record.specs.Cancel.{mark_part, withdraw, cancelled_request, cance
 use Rattle.vx_record.specs.Requests.{begun_on}
 use Rattle.vx_record.specs.Control.{process_test, changed_process, with_wake, with_suspension, forced, creprc}
 use Rattle.vx_record.specs.Timers.{drop_timer, drop_timers, setimr_at, setimr, is_cancelled_timer, scheduled, is_wake_for, unscheduled, que_timer, fired, fire, is_due, at_time, next_time, tick}
-use Rattle.vx_record.specs.Rundown.{leave_kind, leave_frame, leave_all, exited, is_kernel, is_handler_of, is_handler_with, drop_handler, drop_handlers, any_handler, cancel_found, cancel_handlers, named_for_deletion, deleted_by, cancel_one, free_one, is_timer_in, is_wake_by, cancel_modes, drop_ast, drop_asts, is_ast_reached, part_with, release, is_busy, drain, cancelled_in, run_handlers, handling, run_down, inner_modes, rundown_from}
+use Rattle.vx_record.specs.Rundown.{leave_kind, leave_frame, leave_all, exited, is_handler_of, is_handler_with, drop_handler, drop_handlers, any_handler, cancel_found, cancel_handlers, named_for_deletion, deleted_by, cancel_one, free_one, is_timer_in, is_wake_by, cancel_modes, drop_ast, drop_asts, is_ast_reached, part_with, release, is_busy, drain, cancelled_in, run_handlers, handling, run_down, inner_modes, rundown_from}
 use Rattle.vx_record.specs.Services.{number, place, access_mode, text, routine_or_none, decl_place, valued_at, numbered_at, service_of}
 use Rattle.vx_record.proofs.Lists.{all_append, all_weaker}
 use Rattle.vx_laws.specs.StatusLaw.{is_asked}
-use Rattle.vx_laws.proofs.Moves.{is_clusters}
-use Rattle.vx_laws.proofs.Apart.{associated_only, dissociated_only, marked_at_only}
+use Rattle.vx_record.proofs.Moves.{is_clusters}
+use Rattle.vx_record.proofs.Apart.{associated_only, dissociated_only, marked_at_only}
 
 use Rattle.std.proofs.Common.{◌-◌, replicate}
 use Rattle.vx_base.specs.Pieces.{Queued, Status}
@@ -67,7 +67,7 @@ use Rattle.vx_laws.specs.Lives.{is_request}
 use Rattle.vx_record.specs.Timers.{timer_set, fire_timer, after_wake}
 use Rattle.vx_record.specs.Events.{returned, returned_from, started}
 use Rattle.vx_record.proofs.Lists.{either}
-use Rattle.vx_laws.proofs.Apart.{field_same}
+use Rattle.vx_record.proofs.Fits.{field_same}
 use Rattle.vx_base.specs.declared.routine.Entry.TheVariants as entry
 use Rattle.vx_base.specs.Modes.{inner}
 use Rattle.vx_base.specs.declared.mode.Mode.TheVariants.{Exec, Kernel}

@@ -1,7 +1,7 @@
 -- What the frames of each process wait for: which parts of the machine leave it as it was.
 use Rattle.std.proofs.Common.{◌∙◌, ◌≡◌, ℕ, List, [], ◌∷◌, Bool, true, false, cond, not, ◌==◌, ◌&&◌, nat_lt, nat_le, length, Option, Some, None, Result, Ok, Err, is_some, position, is_none, refl}
 use Rattle.std.specs.List.{filter, find, list_any}
-use Rattle.vx_base.specs.Modes.{outer}
+use Rattle.vx_base.specs.Modes.{outer, is_kernel}
 use Rattle.vx_base.specs.Pieces.{Queued, Channel, Handler, Request, Promised, Timer, Alarm, OfTimer, OfWake, Attention, Mailbox, Status, cleared}
 use Rattle.vx_base.specs.declared.call.Args.{Args}
 use Rattle.vx_base.specs.declared.call.Target.{Target}
@@ -37,7 +37,7 @@ use Rattle.vx_record.specs.Cancel.{mark_part, withdraw, cancelled_request, cance
 use Rattle.vx_record.specs.Requests.{attention_set, Asked, request_test, new_request, opened_request, begun_on, transfer, new_attention, attention_opened, done_at_once, attention_on, accepted, qio_tested}
 use Rattle.vx_record.specs.Control.{process_test, changed_process, with_wake, with_suspension, forced, creprc}
 use Rattle.vx_record.specs.Timers.{drop_timer, drop_timers, setimr_at, setimr, is_cancelled_timer, scheduled, is_wake_for, unscheduled, que_timer, fire_timer, fired, fire, is_due, at_time, next_time, tick}
-use Rattle.vx_record.specs.Rundown.{is_kernel, is_handler_of, is_handler_with, drop_handlers, any_handler, cancel_found, cancel_handlers, cancel_one, free_one, is_timer_in, is_wake_by, cancel_modes, release, drop_all_handlers, cancelled_in, run_down}
+use Rattle.vx_record.specs.Rundown.{is_handler_of, is_handler_with, drop_handlers, any_handler, cancel_found, cancel_handlers, cancel_one, free_one, is_timer_in, is_wake_by, cancel_modes, release, drop_all_handlers, cancelled_in, run_down}
 use Rattle.vx_record.specs.Services.{number, place, access_mode, text, routine_or_none, decl_place, asked, valued_at, numbered_at, service_of}
 use Rattle.vx_record.specs.Events.{moved_to}
 use Rattle.vx_record.specs.declared.served.Served.{Served}

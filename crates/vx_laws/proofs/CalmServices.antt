@@ -2,7 +2,7 @@
 use Rattle.std.proofs.Common.{length-append, ◌<◌, ◌≢◌}
 use Rattle.std.proofs.Common.{◌≡◌, ℕ, ◌^◌, ◌%◌, List, [], ◌∷◌, Bool, true, false, cond, not, ◌==◌, ◌||◌, nat_lt, nat_le, length, Option, Some, None, Result, Ok, Err, refl}
 use Rattle.std.specs.List.{find}
-use Rattle.vx_base.specs.Modes.{outer}
+use Rattle.vx_base.specs.Modes.{outer, is_kernel}
 use Rattle.vx_base.specs.declared.call.Args.{Args}
 use Rattle.vx_base.specs.declared.call.Target.{Target}
 use Rattle.vx_base.specs.declared.cond.Cond.{Cond}
@@ -25,7 +25,7 @@ use Rattle.vx_record.specs.Cancel.{cancel_channel, cancel_at, dassgn_at}
 use Rattle.vx_record.specs.Requests.{request_test}
 use Rattle.vx_record.specs.Control.{process_test, changed_process, with_wake, with_suspension, forced, creprc}
 use Rattle.vx_record.specs.Timers.{is_cancelled_timer, scheduled, is_wake_for, unscheduled}
-use Rattle.vx_record.specs.Rundown.{leave_kind, leave_all, exited, without_frames, is_kernel, drop_handlers, any_handler, named_for_deletion, deleted_by}
+use Rattle.vx_record.specs.Rundown.{leave_kind, leave_all, exited, without_frames, drop_handlers, any_handler, named_for_deletion, deleted_by}
 use Rattle.vx_record.specs.Services.{number, place, access_mode, text, routine_or_none, decl_place, asked, valued_at, numbered_at, service_of}
 use Rattle.vx_record.specs.declared.served.Served.{Served}
 use Rattle.vx_record.specs.declared.served.Served.TheVariants.{Answered, Waits}
@@ -60,7 +60,8 @@ use Rattle.vx_base.specs.declared.mode.Mode.TheVariants.{Kernel, Exec, Super}
 use Rattle.vx_laws.specs.Agrees.{is_exit, IsEntry, is_main, entered_frames, AreEntries}
 use Rattle.vx_laws.specs.Frames.{Entry as Entered, Turn, Enters, Clears, Stays, below, after_turn, service_turn, turned_by}
 use Rattle.vx_laws.proofs.Stands.{field_at}
-use Rattle.vx_laws.proofs.Apart.{associated_only, dissociated_only, marked_at_only, test_made}
+use Rattle.vx_record.proofs.Apart.{associated_only, dissociated_only, marked_at_only}
+use Rattle.vx_record.proofs.Steps.{test_made}
 use Rattle.vx_laws.proofs.Calm.{AreFrames, AreTagged, Calmed, Fine, IsBare, OutcomeCalm, PartCalm, Tags, Turned, assign_to_calm, at_flag_calm, at_tested_calm, by_turn, calm_none, calm_or, calm_then, cancel_channel_calm, cancel_handlers_calm, change_calm, change_tags, clusters_calm, crembx_calm, delmbx_calm, drop_handlers_calm, drop_timers_calm, flag_calm, free_channel_calm, handler_calm, held_at, is_exit_entry, is_fine, lists_calm, plain_calm, qio_calm, qiow_calm, que_calm, same, scheduled_calm, setimr_calm, still_made, waited_calm, waits_calm}
 
 -- Services that neither enter nor leave.

@@ -34,9 +34,9 @@ use Rattle.vx_image.specs.declared.stop.Stop.TheVariants as stop
 use Rattle.vx_image.specs.declared.stop.Stop.{Stop}
 use Rattle.vx_image.specs.declared.system.System.{System}
 use Rattle.vx_laws.proofs.Answers.{every_run_enables_told}
-use Rattle.vx_laws.proofs.Apart.{Here, cleared_after, here_after, opened_has}
+use Rattle.vx_record.proofs.Apart.{Here, cleared_after, here_after, opened_has}
 use Rattle.vx_laws.proofs.Asked.{calling_of, latest_headed, latest_over, opened_called, step_called}
-use Rattle.vx_laws.proofs.Base.{Base}
+use Rattle.vx_record.proofs.Base.{Base}
 use Rattle.vx_laws.proofs.Calls.{Called, Unasked, called_on, is_unasked, moves_called}
 use Rattle.vx_laws.proofs.Calm.{Fine, Tags, is_fine, leave_all_fine, moved_calm, service_calm, tick_calm}
 use Rattle.vx_laws.proofs.Cleared.{every_run_blocks_cleared, headed}
@@ -45,8 +45,8 @@ use Rattle.vx_laws.proofs.Done.{is_other}
 use Rattle.vx_laws.proofs.Drains.{DownBy, ends, enters, rundown_by}
 use Rattle.vx_laws.proofs.Events.{beg_calm, delivered_calm, some_moved}
 use Rattle.vx_laws.proofs.Holds.{Holds, first_holds, moves_hold, step_holds}
-use Rattle.vx_laws.proofs.Locals.{advanced_statuses}
-use Rattle.vx_laws.proofs.Moves.{Moves, moved}
+use Rattle.vx_record.proofs.Locals.{advanced_statuses}
+use Rattle.vx_record.proofs.Moves.{Moves, moved}
 use Rattle.vx_laws.proofs.Owes.{Tells, attend_aloof, begun_ends, channel_ends, free_aloof, ready_of, tells_drain}
 use Rattle.vx_laws.proofs.Resumes.{every_run_resumes}
 use Rattle.vx_laws.proofs.Runs.{enabled_there, first_base, first_stands, step_right}

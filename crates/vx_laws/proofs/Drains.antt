@@ -9,9 +9,11 @@ use Rattle.vx_base.specs.declared.frame.Phase.{Phase}
 use Rattle.vx_base.specs.declared.mode.Mode.{Mode}
 use Rattle.vx_base.specs.declared.number.Pid.{Pid}
 use Rattle.vx_base.specs.declared.record.Answer.{Answer}
-use Rattle.vx_laws.proofs.Apart.{Here, cancelled_in_moves, field_same, here_after, phase_silent, release_moves}
+use Rattle.vx_record.proofs.Apart.{Here, here_after}
+use Rattle.vx_record.proofs.Fits.{field_same}
+use Rattle.vx_record.proofs.Told.{cancelled_in_moves, phase_silent, release_moves}
 use Rattle.vx_laws.proofs.Calm.{Tags, cancelled_in_calm, phase_calm, release_calm}
-use Rattle.vx_laws.proofs.Moves.{Moves, both, none, quiet}
+use Rattle.vx_record.proofs.Moves.{Moves, both, none, quiet}
 use Rattle.vx_record.proofs.Lists.{either}
 use Rattle.vx_record.specs.Parts.{Outcome}
 use Rattle.vx_record.specs.Rundown.{cancelled_in, drain, entering, handler_frame, handling, in_phase, inner_modes, is_busy, is_handler_of, release, run_down, run_handlers, rundown_from}

@@ -50,13 +50,15 @@ use Rattle.vx_record.specs.declared.served.Served.TheVariants.{Answered, Waits}
 use Rattle.vx_record.proofs.Lists.{either, either_by, all_append, all_amend}
 use Rattle.vx_laws.specs.Items.{Item, Head, Did, flat, later, past_of, Calling, latest_call}
 use Rattle.vx_laws.specs.Agrees.{AsCalled}
-use Rattle.vx_laws.proofs.Moves.{Moves, OutcomeMoves, PartMoves, moved}
-use Rattle.vx_laws.proofs.Apart.{Here, HasRoom, here_after, cleared_after, room_after, attention_room, attention_on_moves, begun_on_moves, opened_has, opened_request_moves, awaited_moves, service_moves, returned_moves, started_moves, step_moves}
-use Rattle.vx_laws.proofs.Base.{Base, change_of, moves_keep}
+use Rattle.vx_record.proofs.Moves.{Moves, OutcomeMoves, PartMoves, moved}
+use Rattle.vx_record.proofs.Apart.{Here, HasRoom, here_after, cleared_after, room_after, attention_room, begun_on_moves, opened_has}
+use Rattle.vx_record.proofs.Steps.{returned_moves}
+use Rattle.vx_record.proofs.Told.{attention_on_moves, opened_request_moves, awaited_moves, service_moves, started_moves, step_moves}
+use Rattle.vx_record.proofs.Base.{Base, change_of, moves_keep}
 use Rattle.vx_laws.proofs.Calls.{Called, called_on, called_new, Unasked, plain_unasked, moves_called, new_else}
 use Rattle.vx_laws.proofs.Cleared.{headed, attention_first, returned_plain, started_plain}
 use Rattle.vx_laws.proofs.Kept.{later_both}
-use Rattle.vx_laws.proofs.Locals.{advanced_statuses}
+use Rattle.vx_record.proofs.Locals.{advanced_statuses}
 use Rattle.vx_laws.proofs.Plain.{Plain, join, nil, one, part_of_two, begun_plain, awaited_plain, tick_plain, rundown_plain, finish_plain, service_plain}
 use Rattle.vx_laws.proofs.Runs.{enabled_there, step_right, first_base, first_stands}
 use Rattle.vx_laws.proofs.Stands.{Stands}
@@ -97,7 +99,7 @@ use Rattle.vx_laws.proofs.Oldest.{oldest_is}
 use Rattle.vx_laws.proofs.Opens.{requests_told}
 use Rattle.vx_laws.proofs.Passing.{Right, Lawful, lawful_both, Walk, walk_then, walk_aside, IsPlainCall, plain_over, latest_over, Fewer, fewer_same, IsSingle, single_on, unit_stores, mailbox_is, Serving, serving, serving_then, serving_on, aside_lawful}
 use Rattle.vx_laws.proofs.Served.{Newest, Writes, read_serving, write_serving, wait_no_get, taken_none}
-use Rattle.vx_laws.proofs.Moves.{Moves}
+use Rattle.vx_record.proofs.Moves.{Moves}
 
 use Rattle.std.proofs.lemmas.List.Quantifiers.{position-Some}
 use Rattle.std.proofs.Common.{position, is_none, nat_lt, get_or, length, inl, inr}
@@ -133,7 +135,7 @@ use Rattle.vx_laws.specs.MessageLaw.{handles_messages, messages, is_stored_nowhe
 use Rattle.vx_laws.proofs.Accepted.{IsAsking, Going, accepted_serving}
 use Rattle.vx_laws.proofs.Aside.{idle, same, is_near, service_aside, returned_aside, started_aside, tick_aside}
 use Rattle.vx_laws.proofs.Boxed.{restock, put_there, was_there, some_within, any_at, kept_at, message_id}
-use Rattle.vx_laws.proofs.Finds.{all_found}
+use Rattle.vx_record.proofs.Finds.{all_found}
 use Rattle.vx_laws.proofs.Lowered.{rundown_walk}
 use Rattle.vx_laws.proofs.Newest.{Further, step_further, first_further}
 use Rattle.vx_laws.proofs.Passing.{aside_lawful, finish_walk, still_boxed, serving_still, walk_nothing, finish_fewer, MayFin}

@@ -22,7 +22,7 @@ use Rattle.vx_laws.specs.Agrees.{device_title}
 use Rattle.vx_laws.specs.Boxes.{is_at, asks, reads_at, oldest_read}
 use Rattle.vx_laws.specs.Items.{Item, Head, Did, Calling}
 use Rattle.vx_laws.specs.Lives.{Life, life, lives, highest, is_outstanding, least_id, or_this, id_of}
-use Rattle.vx_laws.proofs.Base.{Base}
+use Rattle.vx_record.proofs.Base.{Base}
 use Rattle.vx_laws.proofs.Boxed.{Origin, origin, origin_of, origin_on, IsThere, Rooted, BoxIs, Boxed, any_at}
 use Rattle.vx_laws.proofs.Passing.{mailbox_is}
 
@@ -133,7 +133,7 @@ oldest_is s past b box is base listed h = by_first (find (waits_at b) s.requests
         out (Some l) k = (and_parts (is_outstanding l) _ k).0
 
     itself : (xs : List Request) (low : ℕ) → AreOrdered request_id low s.next xs → AllByRecursion (λ r. find (this_request r.req.id) xs ≡ Some r) xs
-    itself xs low o = Rattle.vx_laws.proofs.Finds.all_found request_id low s.next xs o
+    itself xs low o = Rattle.vx_record.proofs.Finds.all_found request_id low s.next xs o
 
     all_same : AllByRecursion (SameAs s past b box) s.requests
     all_same =

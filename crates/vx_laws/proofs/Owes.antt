@@ -18,13 +18,13 @@ use Rattle.vx_base.specs.declared.request.Device.{Device}
 use Rattle.vx_base.specs.declared.request.Func.TheVariants.{ReadAttn, WrtAttn}
 use Rattle.vx_base.specs.declared.request.Func.{Func}
 use Rattle.vx_base.specs.declared.request.Msg.{Msg}
-use Rattle.vx_laws.proofs.Apart.{dissociated_only}
-use Rattle.vx_laws.proofs.Base.{Base, moves_keep}
+use Rattle.vx_record.proofs.Apart.{dissociated_only}
+use Rattle.vx_record.proofs.Base.{Base, moves_keep}
 use Rattle.vx_laws.proofs.Calls.{Called, moves_called}
 use Rattle.vx_laws.proofs.Completed.{Aloof, Ends, Leads, Ready, aloof_ends, each_aloof, ends_both, ends_then, finish_ends, finish_leads, is_aloof, join_aloof, lead_none, lead_one, leads_then, lone, no_effect, of_two_aloof}
 use Rattle.vx_laws.proofs.Drains.{IsDrain}
 use Rattle.vx_laws.proofs.Holds.{Holds, moves_hold}
-use Rattle.vx_laws.proofs.Moves.{is_clusters}
+use Rattle.vx_record.proofs.Moves.{is_clusters}
 use Rattle.vx_laws.proofs.Tells.{cell_held}
 use Rattle.vx_laws.specs.Agrees.{AsCalled}
 use Rattle.vx_laws.specs.Items.{Did, Item, later}

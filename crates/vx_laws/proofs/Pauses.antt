@@ -27,13 +27,15 @@ use Rattle.vx_base.specs.declared.service.Service.{Service}
 use Rattle.vx_image.specs.Local.{advanced}
 use Rattle.vx_image.specs.declared.stop.Stop.TheVariants as stop
 use Rattle.vx_image.specs.declared.stop.Stop.{Stop}
-use Rattle.vx_laws.proofs.Apart.{Here, accepted_after, here_after, test_made}
+use Rattle.vx_record.proofs.Apart.{Here, here_after}
+use Rattle.vx_record.proofs.Steps.{test_made}
+use Rattle.vx_record.proofs.Told.{accepted_after}
 use Rattle.vx_laws.proofs.Awaited.{Keeps, Plainly, accepted_keeps, drop_handlers_keeps, frame_waits, keep_moved, keep_none, keep_same, service_plainly, waits_in, waits_of}
 use Rattle.vx_laws.proofs.Calm.{call_turn, leave_all_state, no_turn, refusal_turn, test_is, turns}
 use Rattle.vx_laws.proofs.Events.{some_moved, start_turn, turn_is}
 use Rattle.vx_laws.proofs.Kept.{made_on}
-use Rattle.vx_laws.proofs.Locals.{advanced_statuses}
-use Rattle.vx_laws.proofs.Moves.{moved}
+use Rattle.vx_record.proofs.Locals.{advanced_statuses}
+use Rattle.vx_record.proofs.Moves.{moved}
 use Rattle.vx_laws.specs.Frames.{Clears, Enters, Returns, Stays, Turn, ast_turn, below, turn, turned, turned_by, with_first}
 use Rattle.vx_laws.specs.Items.{Item}
 use Rattle.vx_laws.specs.Lives.{life}

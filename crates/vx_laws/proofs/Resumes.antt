@@ -31,7 +31,7 @@ use Rattle.vx_image.specs.declared.stop.Stop.TheVariants as stop
 use Rattle.vx_image.specs.declared.stop.Stop.{Stop}
 use Rattle.vx_image.specs.declared.system.System.{System}
 use Rattle.vx_laws.proofs.Awaited.{Keeps, cancelled_in_keeps, finish_keeps, frame_waits, gone_keeps, keep_none, keep_procs, keep_then, newcomer, phase_keeps, release_keeps, tick_keeps, waits_of}
-use Rattle.vx_laws.proofs.Base.{Base, made_more, moves_keep}
+use Rattle.vx_record.proofs.Base.{Base, made_more, moves_keep}
 use Rattle.vx_laws.proofs.Calm.{Fine, Tags, cancelled_in_calm, gone_calm, is_fine, release_calm, tick_calm}
 use Rattle.vx_laws.proofs.Drains.{DownBy, IsDrain, ends, enters, rundown_by}
 use Rattle.vx_laws.proofs.Events.{delivered_calm, don_calm, may_finish, run_calm}

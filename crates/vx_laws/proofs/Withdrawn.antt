@@ -30,12 +30,12 @@ use Rattle.vx_laws.specs.Boxes.{Stored, this_stored, stored, stored_at}
 use Rattle.vx_laws.specs.Items.{Item, Did, later, effects_left, is_cond}
 use Rattle.vx_laws.specs.Lives.{life, lives}
 use Rattle.vx_laws.specs.MessageLaw.{is_cancelled_next, is_stored_nowhere}
-use Rattle.vx_laws.proofs.Apart.{finish_requests, withdraw_requests}
+use Rattle.vx_record.proofs.Cancelled.{finish_requests, withdraw_requests}
 use Rattle.vx_laws.proofs.Aside.{row, Aside, drop_attentions_aside}
 use Rattle.vx_laws.proofs.Boxed.{Origin, origin_on, IsThere, Rooted, BoxIs, Boxed, Carried, carry, all_rooted, there_as, title_as, put_there, some_within, message_id}
-use Rattle.vx_laws.proofs.Finds.{other_id, find_less, find_amend, all_found, ordered_filter}
+use Rattle.vx_record.proofs.Finds.{other_id, find_less, find_amend, all_found, ordered_filter}
 use Rattle.vx_laws.proofs.Handed.{cut_boxed, less_fewer}
-use Rattle.vx_laws.proofs.Moves.{HasRequest}
+use Rattle.vx_record.proofs.Moves.{HasRequest}
 use Rattle.vx_laws.proofs.Passing.{Right, Lawful, Walk, walk_then, walk_aside, walk_nothing, finish_walk, IsPlainCall, plain_over, Fewer, fewer_same, MayFin, lives_origin, unit_stores, mailbox_is}
 use Rattle.vx_laws.proofs.Rows.{IsClear, freed_boxed, gone_boxed, row_written}
 

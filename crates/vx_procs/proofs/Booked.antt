@@ -3,13 +3,12 @@ use Rattle.std.proofs.Common.{◌≡◌, ◌≢◌, ℕ, zero, suc, ◌+◌, ◌
 use Rattle.std.specs.List.{AllByRecursion, find}
 use Rattle.std.proofs.lemmas.Bool.{eq-eqb, eqb-true}
 use Rattle.vx_base.specs.Flags.{one}
-use Rattle.vx_base.specs.Lists.{less}
+use Rattle.vx_base.specs.Lists.{less, tally}
 use Rattle.vx_base.specs.Pieces.{Queued, Timer}
 use Rattle.vx_base.specs.declared.number.Pid.{Pid}
 use Rattle.vx_base.specs.declared.quota.Need.{Need}
 use Rattle.vx_record.specs.State.{Process, State, IsProcess, process_at, no_decl}
 use Rattle.vx_record.specs.Charges.{charge, bears_ast, is_attention_of, is_same, charged_timer, is_charged, is_timer_of}
-use Rattle.vx_record.specs.Parts.{tally}
 use Rattle.vx_record.proofs.Lists.{either_by, false_from}
 use Rattle.vx_procs.specs.Held.{Books, IsBooked, books_at, no_books, spare}
 use Rattle.vx_procs.specs.Kernel.{Room, no_room, room_at}

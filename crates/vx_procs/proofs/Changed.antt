@@ -10,9 +10,9 @@ use Rattle.vx_base.specs.Roomy.{Roomy, with_items}
 use Rattle.vx_base.specs.Pieces.{Queued, Timer}
 use Rattle.vx_base.specs.declared.number.Pid.{Pid}
 use Rattle.vx_base.specs.declared.quota.Need.{Need}
+use Rattle.vx_base.specs.Lists.{tally}
 use Rattle.vx_record.specs.State.{Process, State, IsProcess, process_at, change, nobody, no_decl}
 use Rattle.vx_record.specs.Charges.{charge, bears_ast, is_attention_of, charged_timer, is_charged}
-use Rattle.vx_record.specs.Parts.{tally}
 use Rattle.vx_record.proofs.Lists.{all_weaker}
 use Rattle.vx_record.proofs.Ground.{some_weaker}
 use Rattle.vx_procs.specs.Held.{AreHeld, Books, IsBooked, IsOwn, books_at, no_books, is_short, spare}

@@ -6,10 +6,10 @@ use Rattle.vx_image.specs.declared.decl.ProcDecl.{ProcDecl}
 use Rattle.std.specs.List.{AllByRecursion}
 use Rattle.vx_base.specs.Pieces.{Queued}
 use Rattle.vx_base.specs.Quotas.{no_need}
+use Rattle.vx_base.specs.Lists.{tally}
 use Rattle.vx_image.specs.declared.system.System.{System}
 use Rattle.vx_record.specs.State.{Process, State, no_decl, nobody, process_at}
 use Rattle.vx_record.specs.Charges.{charge, is_charged}
-use Rattle.vx_record.specs.Parts.{tally}
 use Rattle.vx_quota.specs.Account.{Quotas}
 use Rattle.vx_procs.specs.Fresh.{IsFresh}
 use Rattle.vx_procs.specs.Held.{AreHeld, no_books}

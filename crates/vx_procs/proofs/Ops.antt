@@ -5,7 +5,7 @@ use Rattle.std.specs.Vec.{with_item}
 use Rattle.std.proofs.lemmas.Bool.Decides.{nat_tests}
 use Rattle.std.proofs.lemmas.Bool.{and_parts, eq-eqb, eqb-true}
 use Rattle.vx_base.specs.Flags.{one}
-use Rattle.vx_base.specs.Lists.{less}
+use Rattle.vx_base.specs.Lists.{less, tally}
 use Rattle.vx_base.specs.Pieces.{Queued, Timer, Alarm, OfTimer, OfWake}
 use Rattle.vx_base.specs.Roomy.{Roomy, with_items}
 use Rattle.vx_base.proofs.First.{less_none}
@@ -19,7 +19,6 @@ use Rattle.vx_record.specs.Rundown.{is_timer_in, is_timer_reached}
 use Rattle.vx_record.specs.State.{Process, State, IsProcess, process_at, limits_of}
 use Rattle.vx_record.specs.Asts.{charged_ast, with_frame, with_queued}
 use Rattle.vx_record.specs.Charges.{ast_need, charge, charged_timer, exceeds, is_charged, is_same, is_timer, is_timer_of, takes_ast, timer_need}
-use Rattle.vx_record.specs.Parts.{tally}
 use Rattle.vx_record.proofs.Lists.{all_append, all_find, all_less, false_from, find_passes, not_fails}
 use Rattle.vx_quota.specs.Account.{Quotas, charged, has_left, released}
 use Rattle.vx_procs.specs.Counts.{CountsAsts, freed}

@@ -13,7 +13,7 @@ use Rattle.vx_base.specs.Frames.{active_mode}
 use Rattle.vx_ast.specs.Queue.{less_first_like}
 use Rattle.vx_base.proofs.First.{found_passes}
 use Rattle.vx_frames.specs.Frames as stack
-use Rattle.vx_record.specs.Asts.{active_mode, deliverable_at}
+use Rattle.vx_record.specs.Asts.{deliverable_at}
 use Rattle.vx_record.specs.State.{Process}
 use Rattle.vx_procs.specs.Words.{deliverable_of, have_own_ids, without_started}
 

@@ -1,8 +1,8 @@
 -- The running charge of a process, as its queued ASTs change.
 use Rattle.std.specs.Prelude.{ℕ, ◌≤◌, Option, Some, None}
 use Rattle.vx_base.specs.Pieces.{Queued}
+use Rattle.vx_base.specs.Lists.{tally}
 use Rattle.vx_record.specs.Charges.{ast_need, is_charged}
-use Rattle.vx_record.specs.Parts.{tally}
 use Rattle.vx_quota.specs.Account.{Quotas, released}
 use Rattle.vx_procs.specs.View.{process}
 use Rattle.vx_procs.specs.declared.process.Proc.{Proc}

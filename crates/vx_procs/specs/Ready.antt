@@ -8,10 +8,10 @@ use Rattle.vx_base.specs.declared.frame.Wait.{Wait}
 use Rattle.vx_base.specs.declared.frame.Wait.TheVariants as wait
 use Rattle.vx_base.specs.declared.mode.Mode.{Mode}
 use Rattle.vx_base.specs.declared.number.Pid.{Pid}
+use Rattle.vx_base.specs.Lists.{tally}
 use Rattle.vx_image.specs.WellFormed.{IsImage}
 use Rattle.vx_record.specs.State.{Process, State, IsProcess, process_at, image_of}
 use Rattle.vx_record.specs.Charges.{bears_ast, is_attention_of, is_timer, charged_timer}
-use Rattle.vx_record.specs.Parts.{tally}
 use Rattle.vx_procs.specs.Kernel.{Kernel, room_at}
 use Rattle.vx_procs.specs.Words.{have_own_ids, HasDecl, HasImage}
 

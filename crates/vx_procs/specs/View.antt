@@ -1,7 +1,7 @@
 -- What the processes of the code stand for.
 use Rattle.std.specs.Prelude.{ℕ, List, [], None, map, replicate}
+use Rattle.vx_image.specs.Units.{first_unit}
 use Rattle.vx_record.specs.State.{Process, State}
-use Rattle.vx_record.specs.Runs.{first_unit}
 use Rattle.vx_procs.specs.Kernel.{Kernel, Room}
 use Rattle.vx_procs.specs.Held.{Books, AreHeld}
 use Rattle.vx_procs.specs.declared.procs.Core.TheInside.{Inside}

@@ -6,8 +6,9 @@ ghost use Rattle.vx_image.specs.Local.{place_of};
 ghost use Rattle.vx_image.specs.Storage.{status_at};
 ghost use Rattle.vx_base.specs.Pieces.{is_enabled_in};
 ghost use Rattle.vx_base.specs.declared.effects.Cell.TheVariants.{Local};
+ghost use Rattle.vx_base.specs.Frames.{active_mode};
 ghost use Rattle.vx_record.specs.State.{IsProcess, process_at, decl_of, image_of, limits_of, current};
-ghost use Rattle.vx_record.specs.Asts.{active_mode, deliverable_ast, entry_place, entry_prm, new_frame};
+ghost use Rattle.vx_record.specs.Asts.{deliverable_ast, entry_place, entry_prm, new_frame};
 ghost use Rattle.vx_record.specs.Charges.{exceeds};
 ghost use Rattle.vx_record.specs.Control.{is_deleted};
 ghost use Rattle.vx_record.specs.Events.{r0_of};
@@ -111,7 +112,6 @@ impl<R: Routine> Core<R> {
     }
 
     /// The innermost mode in which a process has an active AST.
-    #[tactic(auto, using(crate::proofs::Stack::same_active))]
     pub fn active_ast_mode(&self, p: Pid) -> Option<Mode>
         requires { IsProcess self.now.state p }
         ensures { result ≡ active_mode (process_at self.now.state p).frames }

@@ -2,7 +2,7 @@
 use Rattle.std.proofs.Common.{◌≡◌, ℕ, zero, suc, ◌+◌, ◌-◌, ◌≤◌, List, [], ◌∷◌, ◌++◌, Bool, true, false, cond, ◌==◌, nat_lt, Option, Some, None, refl, ap, ◌∙◌, subst, arith, get_or, set, inl, inr}
 use Rattle.std.proofs.lemmas.Bool.{cases_eq, eq-eqb, ne_eqb}
 use Rattle.std.specs.List.{filter, find}
-use Rattle.vx_base.specs.Lists.{less, amend}
+use Rattle.vx_base.specs.Lists.{less, amend, tally}
 use Rattle.vx_base.specs.Pieces.{Queued, Handler, Request, Promised, Timer, Alarm, OfTimer, OfWake, Attention}
 use Rattle.vx_base.specs.declared.effects.Cell.{Cell}
 use Rattle.vx_base.specs.declared.effects.Cell.TheVariants.{Local, Common}
@@ -11,7 +11,7 @@ use Rattle.vx_base.specs.declared.number.Id.{Id}
 use Rattle.vx_base.specs.declared.number.Pid.{Pid}
 use Rattle.vx_record.specs.State.{Process, State, nobody, process_at, change, past_id}
 use Rattle.vx_base.specs.Flags.{one}
-use Rattle.vx_record.specs.Parts.{tally, total, each}
+use Rattle.vx_record.specs.Parts.{total, each}
 use Rattle.vx_record.specs.Asts.{charged_ast, with_queued}
 use Rattle.vx_record.specs.Cancel.{with_abort}
 use Rattle.vx_record.specs.Control.{created}

@@ -14,6 +14,7 @@ use Rattle.vx_base.specs.declared.record.Rec.{Rec}
 use Rattle.vx_image.specs.WellFormed.{IsWellFormed}
 use Rattle.vx_image.specs.declared.decl.ProcDecl.{ProcDecl}
 use Rattle.vx_image.specs.declared.system.System.{System}
+use Rattle.vx_image.specs.Units.{first_unit}
 use Rattle.vx_base.specs.Pieces.{Alarm, OfTimer, OfWake, Attention}
 use Rattle.vx_record.specs.Parts.{Outcome}
 use Rattle.vx_base.specs.declared.record.Answer.{Answer}
@@ -36,7 +37,7 @@ use Rattle.vx_record.specs.Asts.{deliverable_at, deliverable_ast}
 use Rattle.vx_record.specs.Rundown.{without_ast}
 use Rattle.vx_record.specs.Services.{service}
 use Rattle.vx_record.specs.Events.{can_run, can_run_down, run_events, ast_or_run, process_events, processes_from, beg_event, don_or_beg, unit_events, units_from, tick_events, enabled, run, delivered, beg, step}
-use Rattle.vx_record.specs.Runs.{born_of, born_from, first_unit, first, AreSteps, IsRun, after_from, after}
+use Rattle.vx_record.specs.Runs.{born_of, born_from, first, AreSteps, IsRun, after_from, after}
 use Rattle.vx_record.specs.Sound.{ground, RequestStands, ProcessStands, IsSound, FitsImage}
 use Rattle.vx_record.proofs.Lists.{either, either_by, all_append, all_at}
 use Rattle.vx_record.proofs.Changes.{without_ast_still}

@@ -20,10 +20,11 @@ use Rattle.vx_base.specs.declared.request.Device.{Device}
 use Rattle.vx_base.specs.declared.request.Device.TheVariants as device
 use Rattle.vx_base.specs.declared.routine.Entry.{Entry}
 use Rattle.vx_base.specs.declared.routine.Entry.TheVariants as entry
+use Rattle.vx_base.specs.Lists.{tally}
 use Rattle.vx_image.specs.WellFormed.{has_its_label}
 use Rattle.vx_image.specs.declared.image.Image.{Image}
 use Rattle.vx_image.specs.declared.system.System.{System}
-use Rattle.vx_record.specs.Parts.{tally, total}
+use Rattle.vx_record.specs.Parts.{total}
 use Rattle.vx_record.specs.State.{Process, State, IsWithin, nobody, no_decl, no_image}
 
 -- What references are to: the system, the processes, the mailboxes, and how many units there are.
