@@ -12,7 +12,7 @@ use crate::simulate::transcript;
 use crate::status::Status;
 use std::alloc::Global;
 use vx_base::{Bytes, End, NoMemory};
-use vx_exec::built;
+use vx_exec::is_built;
 use vx_grammar::read_script;
 use vx_host::{ReadFail, Sink, Source, read_all, write_all};
 use vx_script::{FaultKind, ScriptFail, ScriptFault, print_script};
@@ -131,7 +131,7 @@ fn simulate<K: Sink>(alloc: Global, options: Options, input: &Bytes, sink: &mut 
 {
     match read_script(alloc, input.as_slice()) {
         Ok(system) => {
-            if !built(&system) {
+            if !is_built(&system) {
                 return tell(sink, b"vms: line 1 LATER\n", Status::Form);
             }
             match transcript(alloc, system, options) {

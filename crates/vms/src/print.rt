@@ -181,7 +181,7 @@ fn print_processes(alloc: Global, exec: &Exec<Scripted>, out: &mut Bytes) -> Res
     ensures { OnOk result (out.new ≡ out.old
         ++ ended_lines (process_lines exec.now.state.system 1 exec.now.state.procs)) }
 {
-    for n in 0..exec.made() {
+    for n in 0..exec.process_count() {
         print_process(alloc, exec, Pid(n + 1), out)?;
     }
     Ok(())

@@ -70,7 +70,7 @@ impl<R: Routine> AstQueue<R> {
         ensures was { result ≡ is_enabled_in self.old.enables mode }
         ensures after { self.new ≡ record self.old { enables = with_enable self.old.enables mode on } }
     {
-        let was = self.enabled(mode);
+        let was = self.is_enabled(mode);
         match mode {
             Mode::Kernel => self.kernel = on,
             Mode::Exec => self.exec = on,
@@ -81,7 +81,7 @@ impl<R: Routine> AstQueue<R> {
     }
 
     /// Whether AST delivery is enabled in a mode.
-    pub fn enabled(&self, mode: Mode) -> bool
+    pub fn is_enabled(&self, mode: Mode) -> bool
         ensures { result ≡ is_enabled_in self.now.enables mode }
     {
         match mode {
@@ -182,6 +182,6 @@ impl<R: Routine> AstQueue<R> {
             None => true,
             Some(innermost) => mode.rank() < innermost.rank(),
         };
-        self.enabled(mode) && mode.rank() <= current.rank() && free
+        self.is_enabled(mode) && mode.rank() <= current.rank() && free
     }
 }

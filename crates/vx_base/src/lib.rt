@@ -37,7 +37,7 @@ pub use frame::{Frame, FrameKind, Phase, Wait};
 pub use mode::{Mode, outer_of};
 pub use name::{Name, is_name};
 pub use number::{BoxNo, Id, Pid, UnitNo};
-pub use place::{at_place, taken};
+pub use place::{at_place, take_out};
 pub use quota::{Need, Privs};
 pub use record::{Answer, End, Event, Rec, Recs};
 pub use request::{Body, Device, Func, Msg, Reply, Req};

@@ -16,7 +16,7 @@ pub fn at_place<T>(items: &[T], place: Option<usize>) -> Option<&T>
 }
 
 /// Takes out the item at a place, if there is one.
-pub fn taken<T>(items: &mut Vec<T>, place: Option<usize>) -> Option<T>
+pub fn take_out<T>(items: &mut Vec<T>, place: Option<usize>) -> Option<T>
     requires { IfSome place (λ i. i < vec_len items.old) }
     ensures found { (p : T → Bool) → place ≡ position p items.old.items → result ≡ find p items.old.items }
     ensures after { (p : T → Bool) → place ≡ position p items.old.items → items.new.items ≡ less p items.old.items }

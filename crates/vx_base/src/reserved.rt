@@ -7,7 +7,7 @@ ghost use Rattle.vx_base.specs.Lists.{first, less, put_before, rest};
 ghost use Rattle.vx_base.specs.Roomy.{HasSpace, with_items};
 
 use crate::bytes::NoMemory;
-use crate::place::taken;
+use crate::place::take_out;
 use std::alloc::Global;
 use std::marker::Model;
 
@@ -128,7 +128,7 @@ impl<T: Drop> Reserved<T> {
         ensures after { (p : T → Bool) → place ≡ position p self.old.items → self.new ≡ with_items self.old (less p self.old.items) }
         ensures fewer { length self.new.items ≤ length self.old.items }
     {
-        taken(&mut self.items, place)
+        take_out(&mut self.items, place)
     }
 
     /// Takes out the first item, if there is one.

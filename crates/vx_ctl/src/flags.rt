@@ -4,7 +4,7 @@ ghost use Rattle.std.specs.Prelude.{◌≡◌, ◌≤◌, if◌then◌else◌};
 ghost use Rattle.vx_base.specs.Flags.{any_set, all_set};
 ghost use Rattle.vx_base.specs.declared.effects.Cell.TheVariants.{Local};
 ghost use Rattle.vx_record.specs.State.{IsProcess};
-ghost use Rattle.vx_record.specs.Flags.{clref, how_it_was, is_synchronized, normal_if, readef, satisfied, setef};
+ghost use Rattle.vx_record.specs.Flags.{clref, how_it_was, is_synchronized, normal_if, readef, wait_condition, setef};
 ghost use Rattle.vx_procs.specs.Kernel.{Does, DoesQuietly, Fits};
 ghost use Rattle.vx_procs.specs.Ready.{FitsBlock, IsReady};
 ghost use Rattle.vx_ctl.specs.Answers.{put_flag};
@@ -101,10 +101,10 @@ fn is_synchronized<R: Routine>(core: &Core<R>, p: Pid, n: u32, iosb: u32) -> boo
 }
 
 /// The condition with which a wait of a process ends now; None where it is not satisfied.
-pub fn satisfied<R: Routine>(core: &Core<R>, p: Pid, wait: Wait) -> Option<Cond>
+pub fn wait_condition<R: Routine>(core: &Core<R>, p: Pid, wait: Wait) -> Option<Cond>
     requires made { IsProcess core.now.state p }
     requires block { FitsBlock wait }
-    ensures { result ≡ satisfied core.now.state p wait }
+    ensures { result ≡ wait_condition core.now.state p wait }
 {
     match wait {
         Wait::Flags(efn, mask, all) => {

@@ -13,7 +13,7 @@ mod time;
 mod timers;
 
 pub use asts::{dclast, force, setast};
-pub use flags::{clref, readef, satisfied, setef};
+pub use flags::{clref, readef, wait_condition, setef};
 pub use modes::{cmexec, cmkrnl};
 pub use refused::Refused;
 pub use time::tick;

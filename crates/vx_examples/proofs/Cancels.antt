@@ -52,7 +52,7 @@ pub cancel-all :
     Answers (asking (reads 1 2 1 ∷ served (reads 2 1 1) ∷ reads 3 1 1 ∷ reads 4 1 2 ∷ reads 5 1 1 ∷ []) connected)
     (call service.Cancel (value 1 ∷ [])) cond.Normal
     (mark 2 ∷ fin 3 cond.Cancel ∷ flag 1 3 true ∷ fin 5 cond.Cancel ∷ flag 1 5 true ∷ [])
-    (asking (reads 1 2 1 ∷ marked (reads 2 1 1) ∷ reads 4 1 2 ∷ []) (record connected { low = 40 }))
+    (asking (reads 1 2 1 ∷ marked (reads 2 1 1) ∷ reads 4 1 2 ∷ []) (record connected { cluster_0 = 40 }))
 cancel-all = refl
 
 pub cancel-again :
@@ -71,7 +71,7 @@ pub cancel-parts :
     (record online {
       procs =
           record (connected_with (codes "WXYZ" ∷ replicate 4 0 ∷ []) (filled cond.Cancel 0 0 ∷ cleared ∷ [])) {
-            low = 2;
+            cluster_0 = 2;
             asts = record { id = id 3; mode = mode.User; tag = entry.Label 0 0; charged = true } ∷ [];
           } ∷ [];
     })
@@ -111,7 +111,7 @@ pub cancel-mailbox :
     (call service.Cancel (value 3 ∷ [])) cond.Normal
     (mcut (codes "BOX") 2 ∷ fin 2 cond.Cancel ∷ flag 1 2 true ∷ mcut (codes "BOX") 4 ∷ fin 4 cond.Cancel ∷
     flag 1 2 true ∷ drops 1 ∷ drops 6 ∷ [])
-    (record (with_both (record connected { low = 4 }) connected) {
+    (record (with_both (record connected { cluster_0 = 4 }) connected) {
       boxes = Some (box_holding (message 3 2 ∷ [])) ∷ None ∷ [];
       requests = of_process_2 ∷ [];
       attention = entry_on 5 2 3 ∷ entry_on 8 1 2 ∷ [];
@@ -120,7 +120,7 @@ cancel-mailbox = refl
 
 pub cancel-read :
     Answers (record online { requests = on_3 2 func.Read ∷ [] }) (call service.Cancel (value 3 ∷ [])) cond.Normal
-    (fin 2 cond.Cancel ∷ flag 1 2 true ∷ []) (record online { procs = record connected { low = 4 } ∷ [] })
+    (fin 2 cond.Cancel ∷ flag 1 2 true ∷ []) (record online { procs = record connected { cluster_0 = 4 } ∷ [] })
 cancel-read = refl
 
 -- a message whose write was finished at once stays
@@ -140,7 +140,7 @@ pub dassgn-cancels :
     (call service.Dassgn (value 3 ∷ [])) cond.Normal
     (mcut (codes "BOX") 2 ∷ fin 2 cond.Cancel ∷ flag 1 2 true ∷ drops 1 ∷ mbx (codes "BOX") false ∷ [])
     (record (with (record connected
-    { low = 4; channels = Some (on_unit 0 mode.User) ∷ Some (on_unit 1 mode.User) ∷ None ∷ [] }))
+    { cluster_0 = 4; channels = Some (on_unit 0 mode.User) ∷ Some (on_unit 1 mode.User) ∷ None ∷ [] }))
     { boxes = None ∷ None ∷ [] })
 dassgn-cancels = refl
 

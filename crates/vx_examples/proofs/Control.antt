@@ -24,7 +24,7 @@ abbrev wake_other : Call
 wake_other = call service.Wake (value 2 ∷ [])
 
 abbrev woken : Process → Process
-woken pr = record pr { wake = true }
+woken pr = record pr { wake_pending = true }
 
 -- 0 is the caller, and so is its own number
 pub wake-self : Answers both (call service.Wake (value 0 ∷ [])) cond.Normal [] (with_both (woken somebody) somebody)
@@ -84,7 +84,7 @@ pub wake-deleted :
 wake-deleted = refl
 
 pub wake-named :
-    Refuses (with_both somebody (record group_2 { named = true; frames = []; phase = phase.Handlers mode.User }))
+    Refuses (with_both somebody (record group_2 { delete_pending = true; frames = []; phase = phase.Handlers mode.User }))
     wake_other cond.NonExpr
 wake-named = refl
 
@@ -92,7 +92,7 @@ wake-named = refl
 pub wake-exiting :
     Answers (with_both somebody (record somebody { frames = []; phase = phase.Handlers mode.User })) wake_other
     cond.Normal []
-    (with_both somebody (record somebody { frames = []; phase = phase.Handlers mode.User; wake = true }))
+    (with_both somebody (record somebody { frames = []; phase = phase.Handlers mode.User; wake_pending = true }))
 wake-exiting = refl
 
 -- $HIBER

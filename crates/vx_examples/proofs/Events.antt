@@ -59,8 +59,8 @@ pub enabled-waiting : enabled (with_both (waiting wait.Hiber) (waiting (wait.Fla
 enabled-waiting = refl
 
 pub enabled-satisfied :
-    enabled (with_both (record (waiting wait.Hiber) { wake = true })
-    (record (waiting (wait.Flags 5 32 false)) { low = 32 })) ≡ event.Run (process 1) ∷ event.Run (process 2) ∷ []
+    enabled (with_both (record (waiting wait.Hiber) { wake_pending = true })
+    (record (waiting (wait.Flags 5 32 false)) { cluster_0 = 32 })) ≡ event.Run (process 1) ∷ event.Run (process 2) ∷ []
 enabled-satisfied = refl
 
 -- a wait on a number that names no cell any more
@@ -124,10 +124,10 @@ abbrev with_r0 : ℕ → Process → Process
 with_r0 n pr = record pr { store = record small_store { r0 = n } }
 
 pub resume-flags :
-    step (with (record (waiting (wait.Flags 5 32 false)) { low = 32 })) (event.Run (process 1)) ≡ record {
+    step (with (record (waiting (wait.Flags 5 32 false)) { cluster_0 = 32 })) (event.Run (process 1)) ≡ record {
       answer = answer.Resume cond.Normal;
       effects = [];
-      after = with (with_r0 1 (record somebody { low = 32 }));
+      after = with (with_r0 1 (record somebody { cluster_0 = 32 }));
     }
 resume-flags = refl
 
@@ -139,7 +139,7 @@ pub resume-unnamed : step (with (waiting (wait.Flags 64 1 true))) (event.Run (pr
 resume-unnamed = refl
 
 -- a wake is used up
-pub resume-hiber : step (with (record (waiting wait.Hiber) { wake = true })) (event.Run (process 1)) ≡ record {
+pub resume-hiber : step (with (record (waiting wait.Hiber) { wake_pending = true })) (event.Run (process 1)) ≡ record {
   answer = answer.Resume cond.Normal;
   effects = [];
   after = with (with_r0 1 somebody);
@@ -148,11 +148,11 @@ resume-hiber = refl
 
 -- and by no other wait
 pub resume-flags_wake :
-    step (with (record (waiting (wait.Flags 5 32 false)) { low = 32; wake = true })) (event.Run (process 1)) ≡
+    step (with (record (waiting (wait.Flags 5 32 false)) { cluster_0 = 32; wake_pending = true })) (event.Run (process 1)) ≡
     record {
       answer = answer.Resume cond.Normal;
       effects = [];
-      after = with (with_r0 1 (record somebody { low = 32; wake = true }));
+      after = with (with_r0 1 (record somebody { cluster_0 = 32; wake_pending = true }));
     }
 resume-flags_wake = refl
 
@@ -173,7 +173,7 @@ pub run-service : step (running sets_flag (with (with_r0 9 somebody))) (event.Ru
   answer = answer.Service (call service.SetEf (value 4 ∷ [])) cond.WasClr;
   effects = flag 1 4 true ∷ [];
   after = running sets_flag (with
-      (at_place 3 (record somebody { low = 16; store = record small_store { vars = 3 ∷ 4 ∷ []; r0 = 1 } })));
+      (at_place 3 (record somebody { cluster_0 = 16; store = record small_store { vars = 3 ∷ 4 ∷ []; r0 = 1 } })));
 }
 run-service = refl
 
@@ -192,10 +192,10 @@ run-refused = refl
 abbrev reads_flags : List Stmt
 reads_flags = calls service.ReadEf (value 0 ∷ in_r0 ∷ []) ∷ []
 
-pub run-r0 : step (running reads_flags (with (record somebody { low = 5 }))) (event.Run (process 1)) ≡ record {
+pub run-r0 : step (running reads_flags (with (record somebody { cluster_0 = 5 }))) (event.Run (process 1)) ≡ record {
   answer = answer.Service (call service.ReadEf (value 0 ∷ in_r0 ∷ [])) cond.WasSet;
   effects = puts_r0 1 5 ∷ [];
-  after = running reads_flags (with (at_place 1 (with_r0 9 (record somebody { low = 5 }))));
+  after = running reads_flags (with (at_place 1 (with_r0 9 (record somebody { cluster_0 = 5 }))));
 }
 run-r0 = refl
 
@@ -238,7 +238,7 @@ pub run-delprc : step (running deletes_itself alone) (event.Run (process 1)) ≡
   answer = answer.Service (call service.DelPrc (value 0 ∷ [])) cond.Normal;
   effects = [];
   after = running deletes_itself (with
-      (with_r0 1 (record somebody { frames = []; named = true; phase = phase.Handlers mode.User })));
+      (with_r0 1 (record somebody { frames = []; delete_pending = true; phase = phase.Handlers mode.User })));
 }
 run-delprc = refl
 
@@ -288,14 +288,14 @@ return-handler = refl
 pub return-main : step (with (with_r0 5 somebody)) (event.Run (process 1)) ≡ record {
   answer = answer.End;
   effects = [];
-  after = with (with_r0 5 (record somebody { frames = []; code = 5; phase = phase.Handlers mode.User }));
+  after = with (with_r0 5 (record somebody { frames = []; exit_code = 5; phase = phase.Handlers mode.User }));
 }
 return-main = refl
 
 pub end-main : step (with (with_r0 5 (at_place 3 somebody))) (event.Run (process 1)) ≡ record {
   answer = answer.End;
   effects = [];
-  after = with (with_r0 5 (record somebody { frames = []; code = 5; phase = phase.Handlers mode.User }));
+  after = with (with_r0 5 (record somebody { frames = []; exit_code = 5; phase = phase.Handlers mode.User }));
 }
 end-main = refl
 
@@ -358,7 +358,7 @@ pub ast-forced :
     (event.Ast (process 1)) ≡ record {
       answer = answer.Ast (id 4);
       effects = leaves 4 ∷ [];
-      after = with (with_r0 5 (record somebody { frames = []; code = 44; phase = phase.Handlers mode.User }));
+      after = with (with_r0 5 (record somebody { frames = []; exit_code = 44; phase = phase.Handlers mode.User }));
     }
 ast-forced = refl
 

@@ -6,26 +6,26 @@ use Rattle.vx_base.specs.declared.frame.Wait.TheVariants as wait
 use Rattle.vx_base.specs.declared.service.Service.TheVariants as service
 use Rattle.vx_examples.specs.Script.{call, common_flag, flag, in_r0, process, puts, puts_r0, value, variable}
 use Rattle.vx_examples.specs.Small.{Answers, Refuses, Suspends, alone, association, both, cluster, sharing, small_store, somebody, waiting, with}
-use Rattle.vx_record.specs.Flags.{satisfied}
+use Rattle.vx_record.specs.Flags.{wait_condition}
 use Rattle.vx_record.specs.State.{Process, State}
 
 -- $SETEF: the answer says how the flag was.
 
 pub setef-clear :
     Answers alone (call service.SetEf (value 5 ∷ [])) cond.WasClr (flag 1 5 true ∷ [])
-    (with (record somebody { low = 32 }))
+    (with (record somebody { cluster_0 = 32 }))
 setef-clear = refl
 
 pub setef-set :
-    Answers (with (record somebody { low = 33 })) (call service.SetEf (value 5 ∷ [])) cond.WasSet
+    Answers (with (record somebody { cluster_0 = 33 })) (call service.SetEf (value 5 ∷ [])) cond.WasSet
     (flag 1 5 true ∷ [])
-    (with (record somebody { low = 33 }))
+    (with (record somebody { cluster_0 = 33 }))
 setef-set = refl
 
 -- flag 63 is the last of the process's second word
 pub setef-63 :
     Answers alone (call service.SetEf (value 63 ∷ [])) cond.WasClr (flag 1 63 true ∷ [])
-    (with (record somebody { high = 2147483648 }))
+    (with (record somebody { cluster_1 = 2147483648 }))
 setef-63 = refl
 
 -- a common flag: 70 is flag 6 of the cluster that is associated as 2
@@ -71,9 +71,9 @@ setef-other_number = refl
 -- $CLREF
 
 pub clref-set :
-    Answers (with (record somebody { low = 33 })) (call service.ClrEf (value 5 ∷ [])) cond.WasSet
+    Answers (with (record somebody { cluster_0 = 33 })) (call service.ClrEf (value 5 ∷ [])) cond.WasSet
     (flag 1 5 false ∷ [])
-    (with (record somebody { low = 1 }))
+    (with (record somebody { cluster_0 = 1 }))
 clref-set = refl
 
 pub clref-clear : Answers alone (call service.ClrEf (value 32 ∷ [])) cond.WasClr (flag 1 32 false ∷ []) alone
@@ -88,10 +88,10 @@ clref-unnamed = refl
 -- $READEF: the 32 flags of the cluster
 
 pub readef-own :
-    Answers (with (record somebody { low = 33; high = 6 }))
+    Answers (with (record somebody { cluster_0 = 33; cluster_1 = 6 }))
     (call service.ReadEf (value 33 ∷ variable (codes "B") ∷ []))
     cond.WasSet (puts 1 (codes "B") 6 ∷ [])
-    (with (record somebody { low = 33; high = 6; store = record small_store { vars = 0 ∷ 6 ∷ [] } }))
+    (with (record somebody { cluster_0 = 33; cluster_1 = 6; store = record small_store { vars = 0 ∷ 6 ∷ [] } }))
 readef-own = refl
 
 pub readef-common :
@@ -111,13 +111,13 @@ readef-unnamed = refl
 -- $WAITFR: one flag
 
 pub waitfr-set :
-    Answers (with (record somebody { low = 32 })) (call service.WaitFr (value 5 ∷ [])) cond.Normal []
-    (with (record somebody { low = 32 }))
+    Answers (with (record somebody { cluster_0 = 32 })) (call service.WaitFr (value 5 ∷ [])) cond.Normal []
+    (with (record somebody { cluster_0 = 32 }))
 waitfr-set = refl
 
 pub waitfr-clear :
-    Suspends (with (record somebody { low = 223 })) (call service.WaitFr (value 5 ∷ [])) []
-    (with (record (waiting (wait.Flags 5 32 false)) { low = 223 }))
+    Suspends (with (record somebody { cluster_0 = 223 })) (call service.WaitFr (value 5 ∷ [])) []
+    (with (record (waiting (wait.Flags 5 32 false)) { cluster_0 = 223 }))
 waitfr-clear = refl
 
 -- flag 40 is flag 8 of its word
@@ -134,13 +134,13 @@ waitfr-unnamed = refl
 -- $WFLOR: any flag of a mask
 
 pub wflor-one :
-    Answers (with (record somebody { high = 2 })) (call service.WflOr (value 40 ∷ value 3 ∷ [])) cond.Normal []
-    (with (record somebody { high = 2 }))
+    Answers (with (record somebody { cluster_1 = 2 })) (call service.WflOr (value 40 ∷ value 3 ∷ [])) cond.Normal []
+    (with (record somebody { cluster_1 = 2 }))
 wflor-one = refl
 
 pub wflor-none :
-    Suspends (with (record somebody { low = 3; high = 4 })) (call service.WflOr (value 40 ∷ value 3 ∷ [])) []
-    (with (record (waiting (wait.Flags 40 3 false)) { low = 3; high = 4 }))
+    Suspends (with (record somebody { cluster_0 = 3; cluster_1 = 4 })) (call service.WflOr (value 40 ∷ value 3 ∷ [])) []
+    (with (record (waiting (wait.Flags 40 3 false)) { cluster_0 = 3; cluster_1 = 4 }))
 wflor-none = refl
 
 pub wflor-above : Refuses alone (call service.WflOr (value 128 ∷ value 1 ∷ [])) cond.IllEfc
@@ -152,13 +152,13 @@ wflor-unnamed = refl
 -- $WFLAND: all flags of a mask
 
 pub wfland-all :
-    Answers (with (record somebody { low = 7 })) (call service.WflAnd (value 31 ∷ value 3 ∷ [])) cond.Normal []
-    (with (record somebody { low = 7 }))
+    Answers (with (record somebody { cluster_0 = 7 })) (call service.WflAnd (value 31 ∷ value 3 ∷ [])) cond.Normal []
+    (with (record somebody { cluster_0 = 7 }))
 wfland-all = refl
 
 pub wfland-one :
-    Suspends (with (record somebody { low = 5 })) (call service.WflAnd (value 31 ∷ value 3 ∷ [])) []
-    (with (record (waiting (wait.Flags 31 3 true)) { low = 5 }))
+    Suspends (with (record somebody { cluster_0 = 5 })) (call service.WflAnd (value 31 ∷ value 3 ∷ [])) []
+    (with (record (waiting (wait.Flags 31 3 true)) { cluster_0 = 5 }))
 wfland-one = refl
 
 pub wfland-above : Refuses alone (call service.WflAnd (value 128 ∷ value 1 ∷ [])) cond.IllEfc
@@ -169,37 +169,37 @@ wfland-unnamed = refl
 
 -- When a wait ends, and with which condition.
 
-pub satisfied-set :
-    satisfied (with (record somebody { low = 32 })) (process 1) (wait.Flags 5 32 false) ≡ Some cond.Normal
-satisfied-set = refl
+pub wait_condition-set :
+    wait_condition (with (record somebody { cluster_0 = 32 })) (process 1) (wait.Flags 5 32 false) ≡ Some cond.Normal
+wait_condition-set = refl
 
-pub satisfied-clear : satisfied alone (process 1) (wait.Flags 5 32 false) ≡ None
-satisfied-clear = refl
+pub wait_condition-clear : wait_condition alone (process 1) (wait.Flags 5 32 false) ≡ None
+wait_condition-clear = refl
 
-pub satisfied-all :
-    satisfied (with (record somebody { low = 3 })) (process 1) (wait.Flags 5 3 true) ≡ Some cond.Normal
-satisfied-all = refl
+pub wait_condition-all :
+    wait_condition (with (record somebody { cluster_0 = 3 })) (process 1) (wait.Flags 5 3 true) ≡ Some cond.Normal
+wait_condition-all = refl
 
-pub satisfied-not_all : satisfied (with (record somebody { low = 2 })) (process 1) (wait.Flags 5 3 true) ≡ None
-satisfied-not_all = refl
+pub wait_condition-not_all : wait_condition (with (record somebody { cluster_0 = 2 })) (process 1) (wait.Flags 5 3 true) ≡ None
+wait_condition-not_all = refl
 
 -- the number names no cell any more
-pub satisfied-unnamed : satisfied alone (process 1) (wait.Flags 64 1 true) ≡ Some cond.UnasEfc
-satisfied-unnamed = refl
+pub wait_condition-unnamed : wait_condition alone (process 1) (wait.Flags 64 1 true) ≡ Some cond.UnasEfc
+wait_condition-unnamed = refl
 
-pub synchronized-unnamed : satisfied alone (process 1) (wait.Synch 64 1) ≡ Some cond.UnasEfc
+pub synchronized-unnamed : wait_condition alone (process 1) (wait.Synch 64 1) ≡ Some cond.UnasEfc
 synchronized-unnamed = refl
 
 -- a flag alone, where no status block is named
 pub synchronized-flag :
-    satisfied (with (record somebody { low = 32 })) (process 1) (wait.Synch 5 0) ≡ Some cond.Normal
+    wait_condition (with (record somebody { cluster_0 = 32 })) (process 1) (wait.Synch 5 0) ≡ Some cond.Normal
 synchronized-flag = refl
 
-pub synchronized-clear : satisfied alone (process 1) (wait.Synch 5 0) ≡ None
+pub synchronized-clear : wait_condition alone (process 1) (wait.Synch 5 0) ≡ None
 synchronized-clear = refl
 
 -- the flag is set, and the status block is cleared: set by another request
-pub synchronized-status : satisfied (with (record somebody { low = 32 })) (process 1) (wait.Synch 5 1) ≡ None
+pub synchronized-status : wait_condition (with (record somebody { cluster_0 = 32 })) (process 1) (wait.Synch 5 1) ≡ None
 synchronized-status = refl
 
 abbrev filled : Process
@@ -209,15 +209,15 @@ filled = record somebody {
 }
 
 pub synchronized-both :
-    satisfied (with (record filled { low = 32 })) (process 1) (wait.Synch 5 2) ≡ Some cond.Normal
+    wait_condition (with (record filled { cluster_0 = 32 })) (process 1) (wait.Synch 5 2) ≡ Some cond.Normal
 synchronized-both = refl
 
 -- the status block is filled, and the flag is clear
-pub synchronized-no_flag : satisfied (with filled) (process 1) (wait.Synch 5 2) ≡ None
+pub synchronized-no_flag : wait_condition (with filled) (process 1) (wait.Synch 5 2) ≡ None
 synchronized-no_flag = refl
 
-pub satisfied-wake : satisfied (with (record somebody { wake = true })) (process 1) wait.Hiber ≡ Some cond.Normal
-satisfied-wake = refl
+pub wait_condition-wake : wait_condition (with (record somebody { wake_pending = true })) (process 1) wait.Hiber ≡ Some cond.Normal
+wait_condition-wake = refl
 
-pub satisfied-no_wake : satisfied alone (process 1) wait.Hiber ≡ None
-satisfied-no_wake = refl
+pub wait_condition-no_wake : wait_condition alone (process 1) wait.Hiber ≡ None
+wait_condition-no_wake = refl

@@ -27,21 +27,21 @@ busy_frames = ast_frame 6 mode.Exec ∷ frame_of kind.Change mode.Exec ∷ ast_f
 
 pub exit-user :
     Answers alone (call service.Exit (value 44 ∷ [])) cond.Normal []
-    (with (record somebody { frames = []; code = 44; phase = phase.Handlers mode.User }))
+    (with (record somebody { frames = []; exit_code = 44; phase = phase.Handlers mode.User }))
 exit-user = refl
 
 pub exit-within :
     Answers (with (record somebody { frames = busy_frames })) (call service.Exit (value 44 ∷ [])) cond.Normal
     (leaves 6 ∷ leaves 5 ∷ [])
-    (with (record somebody { frames = []; code = 44; phase = phase.Handlers mode.Exec }))
+    (with (record somebody { frames = []; exit_code = 44; phase = phase.Handlers mode.Exec }))
 exit-within = refl
 
 -- within a handler the phase stays
 pub exit-handler :
     Answers (with (record somebody
-    { frames = frame_of kind.Handler mode.User ∷ []; code = 44; phase = phase.Handlers mode.User }))
+    { frames = frame_of kind.Handler mode.User ∷ []; exit_code = 44; phase = phase.Handlers mode.User }))
     (call service.Exit (value 45 ∷ [])) cond.Normal []
-    (with (record somebody { frames = []; code = 45; phase = phase.Handlers mode.User }))
+    (with (record somebody { frames = []; exit_code = 45; phase = phase.Handlers mode.User }))
 exit-handler = refl
 
 -- $DELPRC: ASTs are left, frames go, handlers are dropped, newest first, and the suspended mark goes
@@ -54,29 +54,29 @@ victim = record somebody {
   frames = busy_frames;
   handlers = handler 4 mode.Super 0 ∷ handler 3 mode.User 1 ∷ [];
   suspended = true;
-  code = 9;
+  exit_code = 9;
 }
 
 pub delprc-other :
     Answers (with_both somebody victim) (call service.DelPrc (value 2 ∷ [])) cond.Normal
     (leaves 6 ∷ leaves 5 ∷ drops 4 ∷ drops 3 ∷ [])
-    (with_both somebody (record somebody { frames = []; code = 9; named = true; phase = phase.Handlers mode.User }))
+    (with_both somebody (record somebody { frames = []; exit_code = 9; delete_pending = true; phase = phase.Handlers mode.User }))
 delprc-other = refl
 
 -- one that exits already keeps its phase
 pub delprc-exiting :
     Answers (with_both somebody (record somebody { frames = []; phase = phase.Draining mode.User }))
     (call service.DelPrc (value 2 ∷ [])) cond.Normal []
-    (with_both somebody (record somebody { frames = []; phase = phase.Draining mode.User; named = true }))
+    (with_both somebody (record somebody { frames = []; phase = phase.Draining mode.User; delete_pending = true }))
 delprc-exiting = refl
 
 pub delprc-self :
     Answers alone (call service.DelPrc (value 0 ∷ [])) cond.Normal []
-    (with (record somebody { frames = []; named = true; phase = phase.Handlers mode.User }))
+    (with (record somebody { frames = []; delete_pending = true; phase = phase.Handlers mode.User }))
 delprc-self = refl
 
 pub delprc-named :
-    Refuses (with_both somebody (record somebody { frames = []; named = true; phase = phase.Handlers mode.User }))
+    Refuses (with_both somebody (record somebody { frames = []; delete_pending = true; phase = phase.Handlers mode.User }))
     (call service.DelPrc (value 2 ∷ [])) cond.NonExpr
 delprc-named = refl
 

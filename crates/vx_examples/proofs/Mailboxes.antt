@@ -67,7 +67,7 @@ pub write_now-stored :
     (past (holding (message 3 (codes "A") false ∷ own_message false ∷ []) [] []
     (record online {
       procs = record
-          (connected_with (codes "WXYZ" ∷ replicate 4 0 ∷ []) (filled cond.Normal 2 0 ∷ cleared ∷ [])) { low = 2 } ∷
+          (connected_with (codes "WXYZ" ∷ replicate 4 0 ∷ []) (filled cond.Normal 2 0 ∷ cleared ∷ [])) { cluster_0 = 2 } ∷
           [];
     })))
 write_now-stored = refl
@@ -112,9 +112,9 @@ pub write-taken :
     (past (holding [] (of_other 3 func.Read ∷ []) (entry_for 4 1 func.WrtAttn ∷ [])
     (two_of
     (record (connected_with (codes "WXYZ" ∷ replicate 4 0 ∷ []) (filled cond.Normal 2 0 ∷ cleared ∷ []))
-    { low = 2 })
+    { cluster_0 = 2 })
     (record (connected_with (codes "WXYZ" ∷ (codes "WX" ++ 0 ∷ 0 ∷ []) ∷ [])
-    (filled cond.Normal 2 1 ∷ cleared ∷ [])) { low = 2 }))))
+    (filled cond.Normal 2 1 ∷ cleared ∷ [])) { cluster_0 = 2 }))))
 write-taken = refl
 
 -- a write with NOW that is taken: its request, which is outstanding, does not finish a second time
@@ -171,9 +171,9 @@ pub read-held :
     (past (holding (message 3 (codes "C") true ∷ []) (of_other 3 func.Write ∷ []) (entry_for 4 1 func.ReadAttn ∷ [])
     (two_of
     (record (connected_with (codes "WXYZ" ∷ (codes "AB" ++ 0 ∷ 0 ∷ []) ∷ [])
-    (filled cond.Normal 2 2 ∷ cleared ∷ [])) { low = 2 })
+    (filled cond.Normal 2 2 ∷ cleared ∷ [])) { cluster_0 = 2 })
     (record (connected_with (codes "WXYZ" ∷ replicate 4 0 ∷ []) (filled cond.Normal 2 0 ∷ cleared ∷ []))
-    { low = 2 }))))
+    { cluster_0 = 2 }))))
 read-held = refl
 
 -- one whose write was finished at once; READNOW takes it as READ does
@@ -240,7 +240,7 @@ pub read_now-nothing :
     (record online {
       procs = record
           (connected_with (codes "WXYZ" ∷ replicate 4 0 ∷ []) (filled cond.EndOfFile 0 0 ∷ cleared ∷ []))
-          { low = 2; asts = ast_of 2 ∷ [] } ∷ [];
+          { cluster_0 = 2; asts = ast_of 2 ∷ [] } ∷ [];
     })))
 read_now-nothing = refl
 
@@ -251,7 +251,7 @@ attention_on func = call service.Qio (request 1 (value 3) func 1 (routine (codes
 
 abbrev granted : Process
 granted = record (connected_with (codes "WXYZ" ∷ replicate 4 0 ∷ []) (filled cond.Normal 0 0 ∷ cleared ∷ []))
-    { low = 2 }
+    { cluster_0 = 2 }
 
 -- it stands, with its status block filled and its flag set
 pub attention-stands :
@@ -294,5 +294,5 @@ pub attention-exec :
     (call service.Qio (request 1 (value 3) func.WrtAttn 0 (routine (codes "T")) 7 0 0 0)) cond.Normal
     (flag 1 1 false ∷ opens 7 opened.Attn 1 (Some mode.Exec) 0 ∷ flag 1 1 true ∷ [])
     (past (holding [] [] (record (entry_for 7 1 func.WrtAttn) { mode = mode.Exec } ∷ [])
-    (record online { procs = record connected { frames = frame_of kind.Main mode.Exec ∷ []; low = 2 } ∷ [] })))
+    (record online { procs = record connected { frames = frame_of kind.Main mode.Exec ∷ []; cluster_0 = 2 } ∷ [] })))
 attention-exec = refl

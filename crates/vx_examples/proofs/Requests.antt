@@ -216,10 +216,10 @@ qio-eof_bytes = refl
 
 abbrev before : Process
 before = record (connected_with (codes "WXYZ" ∷ replicate 4 0 ∷ []) (cleared ∷ filled cond.Abort 4 2 ∷ []))
-    { low = 3 }
+    { cluster_0 = 3 }
 
 abbrev after : Process
-after = record connected { low = 1 }
+after = record connected { cluster_0 = 1 }
 
 pub qio-read :
     Answers (with before) (call service.Qio (request 1 (value 1) func.Read 2 no_routine 0 1 4 0)) cond.Normal
@@ -281,7 +281,7 @@ pub qiow-at_once :
     Answers online (call service.QioW (request 1 (value 3) func.EofNow 0 no_routine 0 0 0 0)) cond.Normal
     (flag 1 1 false ∷ opens 7 opened.Bio 1 None 0 ∷ mput (codes "BOX") 7 body.Eof ∷ fin 7 cond.Normal ∷ flag 1 1
     true ∷ [])
-    (record (with (record connected { low = 2 })) {
+    (record (with (record connected { cluster_0 = 2 })) {
       next = 8;
       boxes = Some (box_holding (record { id = id 7; writer = process 1; body = body.Eof; held = false } ∷ [])) ∷
           None ∷ [];
@@ -300,14 +300,14 @@ pub synch-unnamed : Refuses alone (call service.Synch (value 64 ∷ value 0 ∷ 
 synch-unnamed = refl
 
 pub synch-set :
-    Answers (with (record somebody { low = 2 })) (call service.Synch (value 1 ∷ value 0 ∷ [])) cond.Normal []
-    (with (record somebody { low = 2 }))
+    Answers (with (record somebody { cluster_0 = 2 })) (call service.Synch (value 1 ∷ value 0 ∷ [])) cond.Normal []
+    (with (record somebody { cluster_0 = 2 }))
 synch-set = refl
 
 -- the flag is set, but the status block is cleared
 pub synch-cleared :
-    Suspends (with (record somebody { low = 2 })) (call service.Synch (value 1 ∷ value 1 ∷ [])) []
-    (with (record (waiting (wait.Synch 1 1)) { low = 2 }))
+    Suspends (with (record somebody { cluster_0 = 2 })) (call service.Synch (value 1 ∷ value 1 ∷ [])) []
+    (with (record (waiting (wait.Synch 1 1)) { cluster_0 = 2 }))
 synch-cleared = refl
 
 -- $QIOW is refused as $QIO is
@@ -337,6 +337,6 @@ qiow-full = refl
 
 -- the flag of another request is set already, and its status block is filled: the call clears both, and waits
 pub qiow-clears :
-    (service (with (record before { low = 2 })) (process 1)
+    (service (with (record before { cluster_0 = 2 })) (process 1)
     (call service.QioW (request 1 (value 1) func.Read 2 no_routine 0 1 4 0))).answer ≡ Waits
 qiow-clears = refl

@@ -35,14 +35,14 @@ handling mode place = record (frame_of kind.Handler mode) { pc = place; prm = 44
 pub rundown-handler :
     step (with (leaving (phase.Handlers mode.User)
     (record somebody {
-      code = 44;
+      exit_code = 44;
       handlers = handler 5 mode.Super 0 ∷ handler 4 mode.User 1 ∷ handler 3 mode.User 0 ∷
           [];
     }))) (event.Rdn (process 1)) ≡ record {
       answer = answer.Handler;
       effects = enters 4 ∷ [];
       after = with (record somebody {
-        code = 44;
+        exit_code = 44;
         phase = phase.Handlers mode.User;
         frames = handling mode.User 2 ∷ [];
         handlers = handler 5 mode.Super 0 ∷ handler 3 mode.User 0 ∷ [];
@@ -89,7 +89,7 @@ rich pr = sharing
 pub rundown-next_mode :
     step (rich (leaving (phase.Handlers mode.User)
     (record with_channels {
-      code = 44;
+      exit_code = 44;
       handlers = handler 5 mode.Super 0 ∷ [];
       asts = ast 7 mode.User ∷ ast 8
           mode.Super ∷ ast 9 mode.User ∷ [];
@@ -103,8 +103,8 @@ pub rundown-next_mode :
           (record
           (with_both
           (record somebody {
-            code = 44;
-            low = 2;
+            exit_code = 44;
+            cluster_0 = 2;
             phase = phase.Handlers mode.Super;
             frames = handling mode.Super 1 ∷ [];
             channels = None ∷ None ∷ Some (on_unit 1 mode.Super) ∷ [];
@@ -167,7 +167,7 @@ pub rundown-gone :
     step (record (with_both
     (leaving (phase.Handlers mode.Exec)
     (record with_channels {
-      code = 44;
+      exit_code = 44;
       handlers = handler 5 mode.User 0 ∷ handler 4 mode.User 1 ∷ [];
       asts = ast 7
           mode.User ∷ [];
@@ -180,7 +180,7 @@ pub rundown-gone :
       effects = drops 12 ∷ drops 15 ∷ mbx (codes "BOX") false ∷ drops 7 ∷ drops 13 ∷ drops 5 ∷ drops 4 ∷ drops
           16 ∷ gone
           1 ∷ [];
-      after = record (with_both (leaving phase.Deleted (record somebody { code = 44 })) somebody)
+      after = record (with_both (leaving phase.Deleted (record somebody { exit_code = 44 })) somebody)
           { timers = wakes_up 17 2 2 ∷ [] };
     }
 rundown-gone = refl
@@ -189,7 +189,7 @@ rundown-gone = refl
 pub rundown-after_handler :
     step (with (record somebody {
       frames = handling mode.User 1 ∷ [];
-      code = 44;
+      exit_code = 44;
       phase = phase.Handlers mode.User;
       handlers = handler 3 mode.User
           0 ∷ [];
@@ -197,19 +197,19 @@ pub rundown-after_handler :
       answer = answer.Return;
       effects = [];
       after = with (record somebody
-          { frames = []; code = 44; phase = phase.Handlers mode.User; handlers = handler 3 mode.User 0 ∷ [] });
+          { frames = []; exit_code = 44; phase = phase.Handlers mode.User; handlers = handler 3 mode.User 0 ∷ [] });
     }
 rundown-after_handler = refl
 
 pub rundown-second_handler :
     step (with (record somebody
-    { frames = []; code = 45; phase = phase.Handlers mode.User; handlers = handler 3 mode.User 0 ∷ [] }))
+    { frames = []; exit_code = 45; phase = phase.Handlers mode.User; handlers = handler 3 mode.User 0 ∷ [] }))
     (event.Rdn (process 1)) ≡ record {
       answer = answer.Handler;
       effects = enters 3 ∷ [];
       after = with (record somebody {
         frames = record (handling mode.User 1) { prm = 45 } ∷ [];
-        code = 45;
+        exit_code = 45;
         phase = phase.Handlers
             mode.User;
       });
@@ -220,14 +220,14 @@ rundown-second_handler = refl
 
 abbrev handlers_left : List Handler → Outcome Answer
 handlers_left handlers = step (with
-    (leaving (phase.Handlers mode.User) (record somebody { code = 44; handlers = handlers })))
+    (leaving (phase.Handlers mode.User) (record somebody { exit_code = 44; handlers = handlers })))
     (event.Rdn (process 1))
 
 pub rundown-super_first : handlers_left (handler 4 mode.Exec 0 ∷ handler 3 mode.Super 0 ∷ []) ≡ record {
   answer = answer.Handler;
   effects = enters 3 ∷ [];
   after = with (record somebody {
-    code = 44;
+    exit_code = 44;
     phase = phase.Handlers mode.Super;
     frames = handling mode.Super 1 ∷ [];
     handlers = handler 4
@@ -240,7 +240,7 @@ pub rundown-exec : handlers_left (handler 4 mode.Exec 0 ∷ []) ≡ record {
   answer = answer.Handler;
   effects = enters 4 ∷ [];
   after = with (record somebody
-      { code = 44; phase = phase.Handlers mode.Exec; frames = handling mode.Exec 1 ∷ [] });
+      { exit_code = 44; phase = phase.Handlers mode.Exec; frames = handling mode.Exec 1 ∷ [] });
 }
 rundown-exec = refl
 

@@ -30,11 +30,11 @@ timed s timers = record s { timers = timers }
 -- $SETIMR: due at now and the ticks
 
 pub setimr-plain :
-    Answers (with (record somebody { low = 33 }))
+    Answers (with (record somebody { cluster_0 = 33 }))
     (call service.SetImr (value 5 ∷ value 10 ∷ no_routine ∷ value 4 ∷ []))
     cond.Normal
     (flag 1 5 false ∷ opens 7 opened.Timer 1 None 0 ∷ [])
-    (record (timed (with (record somebody { low = 1 })) (timer 7 110 5 4 mode.User None ∷ [])) { next = 8 })
+    (record (timed (with (record somebody { cluster_0 = 1 })) (timer 7 110 5 4 mode.User None ∷ [])) { next = 8 })
 setimr-plain = refl
 
 -- the identification is the parameter of its AST
@@ -173,12 +173,12 @@ pub tick-together :
           record (timed
           (with_both
           (record somebody {
-            low = 32;
-            wake = true;
+            cluster_0 = 32;
+            wake_pending = true;
             asts = record
                 { id = id 4; mode = mode.User; tag = entry.Label 0 9; charged = true } ∷ [];
           })
-          (record somebody { wake = true }))
+          (record somebody { wake_pending = true }))
           (wakes_up 2 1 135 2 15 ∷ timer 3 130 1 0 mode.User None ∷ [])) { time = 120 };
     }
 tick-together = refl
@@ -188,6 +188,6 @@ pub tick-now :
     step (timed alone (timer 3 100 1 0 mode.User None ∷ timer 4 101 2 0 mode.User None ∷ [])) event.Tick ≡ record {
       answer = answer.Time 100;
       effects = fires 3 ∷ flag 1 1 true ∷ [];
-      after = timed (with (record somebody { low = 2 })) (timer 4 101 2 0 mode.User None ∷ []);
+      after = timed (with (record somebody { cluster_0 = 2 })) (timer 4 101 2 0 mode.User None ∷ []);
     }
 tick-now = refl

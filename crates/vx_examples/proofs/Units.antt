@@ -50,7 +50,7 @@ at_lines inputs outputs services s =
 abbrev done_with : List ℕ → Cond → ℕ → Process
 done_with bytes cond count = record (connected_with (codes "WXYZ" ∷ bytes ∷ [])
     (filled cond count 0 ∷ cleared ∷ []))
-    { low = 2 }
+    { cluster_0 = 2 }
 
 abbrev online_with : Process → State
 online_with pr = record online { procs = pr ∷ [] }

@@ -31,7 +31,7 @@ are_enabled s (e ∷ es) = list_any (is_event e) (enabled s) && are_enabled (ste
 
 -- the exit codes of the processes after records
 abbrev pub exit_codes : System → List Rec → List ℕ
-exit_codes system recs = map (λ pr. pr.code) (after system recs).procs
+exit_codes system recs = map (λ pr. pr.exit_code) (after system recs).procs
 
 abbrev pub written_to : Contents → List (List ℕ)
 written_to (Lines inputs outputs) = outputs

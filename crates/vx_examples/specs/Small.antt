@@ -72,12 +72,12 @@ somebody = record {
   asts = [];
   channels = None ∷ None ∷ None ∷ [];
   handlers = [];
-  low = 0;
-  high = 0;
-  wake = false;
+  cluster_0 = 0;
+  cluster_1 = 0;
+  wake_pending = false;
   suspended = false;
-  named = false;
-  code = 0;
+  delete_pending = false;
+  exit_code = 0;
   phase = phase.Alive;
 }
 

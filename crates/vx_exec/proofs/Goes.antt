@@ -34,7 +34,7 @@ use Rattle.vx_record.specs.Parts.{Outcome, answered, refused, part_of}
 use Rattle.vx_record.specs.Asts.{charged_ast, declared_ast, with_delivery, with_frame, with_queued, new_frame}
 use Rattle.vx_record.specs.Charges.{exceeds, ast_need, timer_need}
 use Rattle.vx_record.specs.Events.{below_top, delivered, moved_behind, moved_to, or_normal, put_back, r0_of, reader, resumed_with, returned, returned_from, run, run_frame, run_on, served_call, started}
-use Rattle.vx_record.specs.Flags.{at_flag, at_named, cell, flag_part, put_flag_at, readef, readef_at, refused_value, satisfied, with_local_flag}
+use Rattle.vx_record.specs.Flags.{at_flag, at_named, cell, flag_part, put_flag_at, readef, readef_at, refused_value, wait_condition, with_local_flag}
 use Rattle.vx_record.specs.Rundown.{exited, without_ast, without_frames}
 use Rattle.vx_record.specs.Services.{number, place, routine, routine_or_none, access_mode, service, service_of, valued_at, with_variable}
 use Rattle.vx_record.specs.declared.served.Served.{Served}
@@ -283,7 +283,7 @@ run_frame_goes p s f None built made =
     let t = change s p (moved_to a.store a.place) in
     let moved = stays_changed s p (moved_to a.store a.place) (kept_moved a.store a.place) in
     goes_after p s t _ _ moved (top_frames p s (moved_to a.store a.place) made (top_few _ (process_at s p).frames)) (run_on_goes p s t a.place a.stop (advanced_built s p (reader p f) (process_at s p).store f.pc built) (made_stays p s t moved made))
-run_frame_goes p s f (Some w) built made = goes_changed p p s (resumed_with w (or_normal (satisfied s p w))) [] (kept_resumed w _) (omega arith)
+run_frame_goes p s f (Some w) built made = goes_changed p p s (resumed_with w (or_normal (wait_condition s p w))) [] (kept_resumed w _) (omega arith)
 
 pub run_goes : (p : Pid) (s : State) (fs : List Frame) → IsTrue (is_built s.system) → IsProcess s p → GoesBy p s (run s p fs)
 run_goes p s [] built made = goes_still p s

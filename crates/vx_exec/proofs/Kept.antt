@@ -48,7 +48,7 @@ kept_variable t value n ts pr h = record { ids = h.ids; opened = h.opened; apart
 
 pub kept_flag : (flag : ℕ) (on : Bool) → Keeps (with_local_flag flag on)
 kept_flag flag on n ts pr h =
-    either (IsKept n ts) (nat_lt flag 32) (record pr { low = with_flag pr.low flag on }) (record pr { high = with_flag pr.high (flag - 32) on })
+    either (IsKept n ts) (nat_lt flag 32) (record pr { cluster_0 = with_flag pr.cluster_0 flag on }) (record pr { cluster_1 = with_flag pr.cluster_1 (flag - 32) on })
     (record { ids = h.ids; opened = h.opened; apart = h.apart; waits = h.waits }) (record { ids = h.ids; opened = h.opened; apart = h.apart; waits = h.waits })
 
 pub kept_delivery : (m : Mode) (on : Bool) → Keeps (with_delivery m on)

@@ -24,4 +24,4 @@ standing_of pr = if is_deleted pr then Gone else (if pr.suspended then Susp else
 
 -- the exit code of a process that is gone, else 0
 abbrev pub code_of : Process → ℕ
-code_of pr = if is_deleted pr then pr.code else 0
+code_of pr = if is_deleted pr then pr.exit_code else 0

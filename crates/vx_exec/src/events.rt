@@ -8,7 +8,7 @@ ghost use Rattle.vx_procs.specs.Ready.{IsKept};
 ghost use Rattle.vx_exec.specs.Sound.{IsWhole};
 
 use vx_base::{Event, Phase, Pid, Routine};
-use vx_ctl::satisfied;
+use vx_ctl::wait_condition;
 use vx_procs::Core;
 
 // Whether a process can go on: it has a frame, which waits for nothing or for what has come.
@@ -22,7 +22,7 @@ fn can_run<R: Routine>(core: &Core<R>, p: Pid) -> bool
         return false;
     };
     match frame.wait {
-        Some(wait) => satisfied(core, p, wait).is_some(),
+        Some(wait) => wait_condition(core, p, wait).is_some(),
         None => true,
     }
 }
@@ -85,7 +85,7 @@ fn process_count<R: Routine>(core: &Core<R>) -> u32
     ensures few { result ≤ 1000 }
 {
     let mut count: u32 = 0;
-    for place in 0..core.made() as u32 {
+    for place in 0..core.process_count() as u32 {
         count += events_of(core, Pid(place + 1));
     }
     count
@@ -123,7 +123,7 @@ pub(crate) fn enabled_at<R: Routine>(core: &Core<R>, i: u32) -> Option<Event>
     ensures { result ≡ slice_get (enabled core.now.state) i }
 {
     let mut left = i;
-    for place in 0..core.made() as u32 {
+    for place in 0..core.process_count() as u32 {
         if let Some(event) = event_of(core, Pid(place + 1)) {
             if left == 0 {
                 return Some(event);
@@ -141,7 +141,7 @@ fn has_event<R: Routine>(core: &Core<R>, p: Pid, event: Event) -> bool
     ensures has { IsTrue result → process_events core.now.state p ≡ event ∷ [] }
     ensures only { IsProcess core.now.state p → process_events core.now.state p ≡ event ∷ [] → IsTrue result }
 {
-    if p.0 == 0 || core.made() < p.0 as usize {
+    if p.0 == 0 || core.process_count() < p.0 as usize {
         return false;
     }
     match event_of(core, p) {
@@ -168,7 +168,7 @@ pub(crate) fn are_deleted<R: Routine>(core: &Core<R>) -> bool
     requires { IsWhole core.now.state }
     ensures { result ≡ are_deleted core.now.state }
 {
-    for place in 0..core.made() as u32 {
+    for place in 0..core.process_count() as u32 {
         if !core.is_deleted(Pid(place + 1)) {
             return false;
         }

@@ -161,10 +161,10 @@ impl<R: Routine> Exec<R> {
     }
 
     /// How many processes have been made, which is the number of the last.
-    pub fn made(&self) -> u32
+    pub fn process_count(&self) -> u32
         ensures { result ≡ length self.now.state.procs }
     {
-        self.core.made() as u32
+        self.core.process_count() as u32
     }
 
     /// The name of a process, how it stands, and its exit code, 0 unless it is gone.

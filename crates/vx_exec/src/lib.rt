@@ -22,7 +22,7 @@ pub use exec::Exec;
 pub use run::{run_system, take_run};
 pub use seed::Seed;
 pub use standing::Standing;
-pub use subset::built;
+pub use subset::is_built;
 pub use vx_base::End;
 
 #[cfg(test)]

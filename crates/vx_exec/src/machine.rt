@@ -5,7 +5,7 @@ ghost use Rattle.vx_base.specs.Modes.{reaches};
 ghost use Rattle.vx_record.specs.State.{IsProcess, current, process_at};
 ghost use Rattle.vx_record.specs.Asts.{deliverable_ast};
 ghost use Rattle.vx_record.specs.Events.{delivered, or_normal, resumed, returned, run, run_advanced, run_on, step};
-ghost use Rattle.vx_record.specs.Flags.{satisfied};
+ghost use Rattle.vx_record.specs.Flags.{wait_condition};
 ghost use Rattle.vx_procs.specs.Kernel.{Acts, Does, DoesQuietly, Fits};
 ghost use Rattle.vx_procs.specs.Ready.{FitsBlock};
 ghost use Rattle.vx_procs.specs.Words.{advanced_at};
@@ -16,7 +16,7 @@ use crate::services::serve;
 use vx_base::{
     Answer, Call, Cond, Effect, Entry, Event, FrameKind, Id, Mode, Pid, Routine, Wait,
 };
-use vx_ctl::{satisfied, tick};
+use vx_ctl::{wait_condition, tick};
 use vx_image::Stop;
 use vx_procs::Core;
 use vx_record::Served;
@@ -35,9 +35,9 @@ fn or_normal(cond: Option<Cond>) -> Cond
 fn end_wait<R: Routine>(core: &mut Core<R>, p: Pid, wait: Wait) -> Answer
     requires made { IsProcess core.old.state p }
     requires block { FitsBlock wait }
-    ensures { DoesQuietly (resumed core.old.state p wait (or_normal (satisfied core.old.state p wait))) result core.old core.new }
+    ensures { DoesQuietly (resumed core.old.state p wait (or_normal (wait_condition core.old.state p wait))) result core.old core.new }
 {
-    let cond = or_normal(satisfied(core, p, wait));
+    let cond = or_normal(wait_condition(core, p, wait));
     core.resume(p, wait, cond);
     Answer::Resume(cond)
 }

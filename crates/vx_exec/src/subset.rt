@@ -59,7 +59,7 @@ fn are_built_images(images: &[Image]) -> bool
 
 /// Whether the executive runs a system so far: it has no units, and its images call of the services those on event flags,
 /// ASTs and modes that wait for nothing, $SETIMR and $EXIT.
-pub fn built(system: &System) -> bool
+pub fn is_built(system: &System) -> bool
     ensures { result ≡ is_built system.now }
 {
     are_no_units(system.units.as_slice()) && are_built_images(system.images.as_slice())

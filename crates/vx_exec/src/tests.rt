@@ -290,7 +290,7 @@ fn says(rt: &impl Abort, alloc: Global, recs: &[Rec], lines: &[&str]) -> Result<
 
 // How a process stands.
 fn stands(rt: &impl Abort, exec: &Exec<Scripted>, n: u32, want: (&[u8], Standing, u32)) {
-    assert!(rt; 1 <= n && n <= exec.made());
+    assert!(rt; 1 <= n && n <= exec.process_count());
     let (name, standing, code) = exec.standing(Pid(n));
     assert_eq!(rt; name.text(), want.0);
     assert_eq!(rt; (standing, code), (want.1, want.2));

@@ -75,7 +75,7 @@ impl Frames {
     }
 
     /// Takes the top frame off, if there is one.
-    pub fn ret(&mut self) -> Option<Frame>
+    pub fn pop(&mut self) -> Option<Frame>
         ensures top { result ≡ top_of self.old.items }
         ensures after { self.new ≡ record self.old { items = below_top self.old.items } }
     {
@@ -84,7 +84,7 @@ impl Frames {
 
     /// The mode of the innermost active AST: None where no frame is an AST's.
     #[tactic(auto, using(crate::proofs::Active::active_find, crate::proofs::Active::inmost_active))]
-    pub fn active(&self) -> Option<Mode>
+    pub fn active_ast_mode(&self) -> Option<Mode>
         ensures mode { result ≡ active_mode self.now.items }
         ensures inmost { IfSome result (λ mode. IsTrue (is_inmost mode self.now.items)) }
     {

@@ -11,7 +11,7 @@ use Rattle.vx_text.specs.declared.token.Tok.{Tok}
 use Rattle.vx_text.specs.declared.token.Tok.TheVariants as tok
 use Rattle.vx_text.proofs.Runs.{by_test}
 use Rattle.vx_script.specs.Fields.{begins_with_sign, end_at, room_for}
-use Rattle.vx_script.specs.Declarations.{fresh, unit_line, input_line, fault_line, image_line, process_line}
+use Rattle.vx_script.specs.Declarations.{unused_name, unit_line, input_line, fault_line, image_line, process_line}
 use Rattle.vx_script.specs.Places.{label_place}
 use Rattle.vx_script.specs.Reading.{with_stmt, with_label, labelled, goes_on, going_on, word_line, inside, between_images, outer_line, outside, by_place, accepted}
 use Rattle.vx_script.specs.Resolving.{names_no_label, settled, image_of, with_image}
@@ -153,7 +153,7 @@ behind_label s all parts line image more name (t ∷ ts) tss h i =
 label_spelled : (s : System) (all parts : Parts) (line : ℕ) (image more : DraftImage) (name : List ℕ) (ts : List Tok) (tss : List (List Tok)) → labelled line image name ts ≡ Ok more
     → Inner s all parts more tss → Inner s all parts image ((tok.Word name ∷ colon ∷ ts) ∷ tss)
 label_spelled s all parts line image more name ts tss h i =
-    let f = bind_ok (fresh (label_place name image.labels) name) _ more h in
+    let f = bind_ok (unused_name (label_place name image.labels) name) _ more h in
     behind_label s all parts line image more name ts tss f.2 i
 
 -- END

@@ -2,12 +2,12 @@
 use Rattle.std.proofs.Common.{◌≡◌, ◌⊎◌, inl, inr, ◌||◌, ℕ, ◌≤◌, Bool, true, false, cond, nat_le, List, [], ◌∷◌, Option, Some, None, refl, ap, ◌∙◌, arith}
 use Rattle.std.specs.List.{AllByRecursion, list_any}
 use Rattle.std.proofs.lemmas.Bool.{leb-true, le-leb, or_parts}
-use Rattle.vx_script.specs.Resolving.{earlier}
+use Rattle.vx_script.specs.Resolving.{least_line}
 
 abbrev pub least : List (Option ℕ) → Option ℕ
 least [] = None
 least (o ∷ []) = o
-least (o ∷ p ∷ os) = earlier o (least (p ∷ os))
+least (o ∷ p ∷ os) = least_line o (least (p ∷ os))
 
 abbrev pub Nothing : List (Option ℕ) → Type 0
 Nothing os = AllByRecursion (λ (o : Option ℕ). o ≡ None) os
@@ -24,7 +24,7 @@ Has k (o ∷ os) = (o ≡ Some k) ⊎ Has k os
 abbrev pub Sees : ℕ → List (Option ℕ) → Type 0
 Sees k os = Has k os × AllByRecursion (From k) os
 
-from_earlier : (k : ℕ) (a b : Option ℕ) → From k a → From k b → From k (earlier a b)
+from_earlier : (k : ℕ) (a b : Option ℕ) → From k a → From k b → From k (least_line a b)
 from_earlier k None b h l = l
 from_earlier k (Some i) None h l = h
 from_earlier k (Some i) (Some j) h l = by (nat_le i j)
@@ -33,7 +33,7 @@ from_earlier k (Some i) (Some j) h l = by (nat_le i j)
     by true = h
     by false = l
 
-first_least : (k : ℕ) (b : Option ℕ) → From k b → earlier (Some k) b ≡ Some k
+first_least : (k : ℕ) (b : Option ℕ) → From k b → least_line (Some k) b ≡ Some k
 first_least k None h = refl
 first_least k (Some j) h = by (nat_le k j) refl
   where
@@ -41,7 +41,7 @@ first_least k (Some j) h = by (nat_le k j) refl
     by true e = refl
     by false e = absurd (let low : nat_le k j ≡ true = le-leb k j h in cc)
 
-second_least : (k : ℕ) (a : Option ℕ) → From k a → earlier a (Some k) ≡ Some k
+second_least : (k : ℕ) (a : Option ℕ) → From k a → least_line a (Some k) ≡ Some k
 second_least k None h = refl
 second_least k (Some i) h = by (nat_le i k) refl
   where
@@ -58,14 +58,14 @@ pub least_is : (k : ℕ) (os : List (Option ℕ)) → Sees k os → least os ≡
 least_is k [] s = absurd s.0
 least_is k (o ∷ []) s = elim s.0 [ inl e ↦ e | inr e ↦ absurd e ]
 least_is k (o ∷ p ∷ os) s = elim s.0 [
-  | inl e ↦ ap (λ (x : Option ℕ). earlier x (least (p ∷ os))) e ∙ first_least k (least (p ∷ os)) (from_least k (p ∷ os) s.1.1)
-  | inr e ↦ ap (λ (x : Option ℕ). earlier o x) (least_is k (p ∷ os) (e, s.1.1)) ∙ second_least k o s.1.0
+  | inl e ↦ ap (λ (x : Option ℕ). least_line x (least (p ∷ os))) e ∙ first_least k (least (p ∷ os)) (from_least k (p ∷ os) s.1.1)
+  | inr e ↦ ap (λ (x : Option ℕ). least_line o x) (least_is k (p ∷ os) (e, s.1.1)) ∙ second_least k o s.1.0
 ]
 
 pub least_none : (os : List (Option ℕ)) → Nothing os → least os ≡ None
 least_none [] h = refl
 least_none (o ∷ []) h = h.0
-least_none (o ∷ p ∷ os) h = ap (λ (x : Option ℕ). earlier x (least (p ∷ os))) h.0 ∙ least_none (p ∷ os) h.1
+least_none (o ∷ p ∷ os) h = ap (λ (x : Option ℕ). least_line x (least (p ∷ os))) h.0 ∙ least_none (p ∷ os) h.1
 
 -- Lists in which a line is marked.
 
@@ -91,7 +91,7 @@ Fills (t ∷ ts) (o ∷ os) = Fills ts os
 -- what a line does to them: it is marked in some, or an image is ended
 pub data Moves (line : ℕ) : Bool → List (Option ℕ) → List (Option ℕ) → Type 0 where
   marks : (ts : List Bool) (os : List (Option ℕ)) → Fills ts os → Moves line (any_of ts) os (marked line ts os)
-  ends : (a b : Option ℕ) (os : List (Option ℕ)) → Moves line false (a ∷ b ∷ os) (earlier a b ∷ None ∷ os)
+  ends : (a b : Option ℕ) (os : List (Option ℕ)) → Moves line false (a ∷ b ∷ os) (least_line a b ∷ None ∷ os)
 
 -- as long as nothing is marked
 mark_none : (line : ℕ) (t : Bool) (o : Option ℕ) → t ≡ false → o ≡ None → mark line t o ≡ None
@@ -107,7 +107,7 @@ none_marked line (t ∷ ts) (o ∷ os) e h =
 
 pub none_moves : (line : ℕ) (t : Bool) (os ps : List (Option ℕ)) → Moves line t os ps → t ≡ false → Nothing os → Nothing ps
 none_moves line _ _ _ (marks ts os fills) e h = none_marked line ts os e h
-none_moves line _ _ _ (ends a b os) e h = (ap (λ (x : Option ℕ). earlier x b) h.0 ∙ h.1.0, (refl, h.1.1))
+none_moves line _ _ _ (ends a b os) e h = (ap (λ (x : Option ℕ). least_line x b) h.0 ∙ h.1.0, (refl, h.1.1))
 
 -- where the line is marked
 from_mark : (line : ℕ) (t : Bool) (o : Option ℕ) → o ≡ None → From line (mark line t o)
@@ -161,10 +161,10 @@ has_stays k line [] os h = h
 has_stays k line (t ∷ ts) [] h = absurd h
 has_stays k line (t ∷ ts) (o ∷ os) h = elim h [ inl e ↦ inl (stays_marked k line t o e) | inr e ↦ inr (has_stays k line ts os e) ]
 
-ended_has : (k : ℕ) (a b : Option ℕ) (os : List (Option ℕ)) → From k a → From k b → Has k (a ∷ b ∷ os) → Has k (earlier a b ∷ None ∷ os)
+ended_has : (k : ℕ) (a b : Option ℕ) (os : List (Option ℕ)) → From k a → From k b → Has k (a ∷ b ∷ os) → Has k (least_line a b ∷ None ∷ os)
 ended_has k a b os f g h = elim h [
-  | inl e ↦ inl (ap (λ (x : Option ℕ). earlier x b) e ∙ first_least k b g)
-  | inr m ↦ elim m [ inl e ↦ inl (ap (λ (x : Option ℕ). earlier a x) e ∙ second_least k a f) | inr more ↦ inr (inr more) ]
+  | inl e ↦ inl (ap (λ (x : Option ℕ). least_line x b) e ∙ first_least k b g)
+  | inr m ↦ elim m [ inl e ↦ inl (ap (λ (x : Option ℕ). least_line a x) e ∙ second_least k a f) | inr more ↦ inr (inr more) ]
 ]
 
 pub stay_moves : (k line : ℕ) (t : Bool) (os ps : List (Option ℕ)) → Moves line t os ps → k ≤ line → Sees k os → Sees k ps

@@ -9,7 +9,7 @@ use Rattle.vx_text.specs.Lex.{lex}
 use Rattle.vx_text.specs.declared.token.Tok.{Tok}
 use Rattle.vx_text.specs.declared.token.Tok.TheVariants as tok
 use Rattle.vx_text.proofs.Runs.{by_test}
-use Rattle.vx_script.specs.Declarations.{decl_place, fresh, is_fault_of, fresh_fault, unit_line, input_line, fault_line, image_line, process_line}
+use Rattle.vx_script.specs.Declarations.{decl_place, unused_name, is_fault_of, fresh_fault, unit_line, input_line, fault_line, image_line, process_line}
 use Rattle.vx_script.specs.Fields.{begins_with_sign, end_at, when, name_at, number_at, text_at, device_at, blocks_of, room_for, with_kind}
 use Rattle.vx_script.specs.Keys.{no_keys, keys_from}
 use Rattle.vx_script.specs.Places.{unit_place, image_place, label_place}
@@ -52,12 +52,12 @@ last (Err kind) y = refl
 
 -- a name that is new has no place
 new_by : {B : Type 0} (o : Option ℕ) (t : Bool) (name : List ℕ) (f : List ℕ → Result B FaultKind) (g : Verdict) → is_some o ≡ t → verdict (f name) ≡ g
-    → verdict (fresh o name >>= f) ≡ (when (not t) kind.Twice >>= λ _. g)
+    → verdict (unused_name o name >>= f) ≡ (when (not t) kind.Twice >>= λ _. g)
 new_by None t name f g e h = rw (← e) h
 new_by (Some k) t name f g e h = rw (← e) refl
 
 new_name : {A B : Type 0} (name : A → List ℕ) (n : List ℕ) (xs : List A) (f : List ℕ → Result B FaultKind) (g : Verdict) (o : Option ℕ) → is_some o ≡ list_any (λ x. bytes_eq n (name x)) xs → verdict (f n) ≡ g
-    → verdict (fresh o n >>= f) ≡ (new_among (map name xs) n >>= λ _. g)
+    → verdict (unused_name o n >>= f) ≡ (new_among (map name xs) n >>= λ _. g)
 new_name name n xs f g o e h = new_by o (is_among n (map name xs)) n f g (e ∙ sym (any_map (bytes_eq n) name xs)) h
 
 room_by : {A B : Type 0} (most : ℕ) (name : A → List ℕ) (xs : List A) (y : B) → verdict (room_for most (length xs) >>= λ _. Ok y) ≡ room_for most (length (map name xs))

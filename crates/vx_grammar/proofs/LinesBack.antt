@@ -15,7 +15,7 @@ use Rattle.vx_text.specs.declared.token.Tok.{Tok}
 use Rattle.vx_text.specs.declared.token.Tok.TheVariants as tok
 use Rattle.vx_script.specs.Results.{◌>>=◌}
 use Rattle.vx_script.specs.Keys.{no_keys}
-use Rattle.vx_script.specs.Declarations.{decl_place, fresh, unit_line, input_line, is_fault_of, fault_line, image_line, process_line}
+use Rattle.vx_script.specs.Declarations.{decl_place, unused_name, unit_line, input_line, is_fault_of, fault_line, image_line, process_line}
 use Rattle.vx_script.specs.Places.{unit_place, image_place, label_place}
 use Rattle.vx_script.specs.Reading.{with_stmt, with_label, goes_on, going_on, inside, between_images, outside}
 use Rattle.vx_script.specs.Resolving.{names_no_label, first_unlabelled, place_or_zero, settled, image_of, with_image, creation_of, creations_of, decl_of}
@@ -229,7 +229,7 @@ label_new image name said r = no_place (λ (l : Label). l.name) name image.label
 
 pub label_taken : (line : ℕ) (parts : Parts) (image : DraftImage) (name : List ℕ) (ts : List Tok) (m : Result DraftImage FaultKind) → label_place name image.labels ≡ None → with_stmt line (with_label image name) ts ≡ m
     → inside line parts image (tok.Word name ∷ colon ∷ ts) ≡ going_on parts m
-label_taken line parts image name ts m new h = ap (λ (o : Option ℕ). going_on parts (fresh o name >>= λ _. with_stmt line (with_label image name) ts)) new ∙ ap (going_on parts) h
+label_taken line parts image name ts m new h = ap (λ (o : Option ℕ). going_on parts (unused_name o name >>= λ _. with_stmt line (with_label image name) ts)) new ∙ ap (going_on parts) h
 
 labelled_read : (decls : List (List ℕ)) (i : Image) (line : ℕ) (parts : Parts) (image : DraftImage) (name : List ℕ) (ts : List Tok) (s : Stmt) → ReadsAs decls i ts s → Grown decls i image
     → HasRoom image (Names name ∷ Does s ∷ []) → LineRead decls i line parts image (tok.Word name ∷ colon ∷ ts) (Names name ∷ Does s ∷ [])

@@ -14,7 +14,7 @@ use Rattle.vx_text.specs.declared.token.Tok.TheVariants as tok
 use Rattle.vx_text.proofs.Runs.{by_test}
 use Rattle.vx_script.specs.Fields.{begins_with_sign, end_at, room_for}
 use Rattle.vx_script.specs.Keys.{no_keys}
-use Rattle.vx_script.specs.Declarations.{fresh, unit_line, input_line, fault_line, image_line, process_line}
+use Rattle.vx_script.specs.Declarations.{unused_name, unit_line, input_line, fault_line, image_line, process_line}
 use Rattle.vx_script.specs.Places.{image_place, label_place}
 use Rattle.vx_script.specs.Reading.{with_stmt, with_label, labelled, goes_on, going_on, word_line, inside, between_images, outer_line, outside, by_place}
 use Rattle.vx_script.specs.Resolving.{settled, image_of, with_image}
@@ -407,7 +407,7 @@ going_fits parts image ts (Err kind) r h is k = absurd (cc)
 
 label_fits : (line : ℕ) (parts : Parts) (image more : DraftImage) (name : List ℕ) (ts : List Tok) → labelled line image name ts ≡ Ok more → IsOpen parts.images more
     → FitsTo parts (Some image) (tok.Word name ∷ colon ∷ ts) (goes_on parts more)
-label_fits line parts image more name ts h o = let f = bind_ok (fresh (label_place name image.labels) name) _ more h in behind_label line parts image more name ts f.2 o
+label_fits line parts image more name ts h o = let f = bind_ok (unused_name (label_place name image.labels) name) _ more h in behind_label line parts image more name ts f.2 o
 
 tokens_as : (parts : Parts) (current : Option DraftImage) (ts us : List Tok) (r : Reading) → us ≡ ts → FitsTo parts current us r → FitsTo parts current ts r
 tokens_as parts current ts us r e h = subst (λ (vs : List Tok). FitsTo parts current vs r) e h

@@ -8,7 +8,7 @@ use Rattle.vx_image.specs.declared.unit.UnitDecl.{UnitDecl}
 use Rattle.vx_image.specs.WellFormed.{is_among, are_distinct, decl_names}
 use Rattle.vx_script.specs.Declarations.{decl_place, is_fault_of}
 use Rattle.vx_script.specs.Places.{unit_place, image_place, is_line_unit, rising}
-use Rattle.vx_script.specs.Resolving.{names_no_decl, unknown_creation, names_no_image, unknown_image, names_no_line_unit, unknown_input, names_no_unit, unknown_fault, first_unknown, earlier, unit_of, decl_of, inputs_of, numbers_of}
+use Rattle.vx_script.specs.Resolving.{names_no_decl, unknown_creation, names_no_image, unknown_image, names_no_line_unit, unknown_input, names_no_unit, unknown_fault, first_unknown, least_line, unit_of, decl_of, inputs_of, numbers_of}
 use Rattle.vx_script.specs.Resolving as resolving
 use Rattle.vx_script.specs.Reading.{nothing_read}
 use Rattle.vx_script.specs.declared.lines.Creation.{Creation}
@@ -67,9 +67,9 @@ all_same p q h (x ∷ xs) = ap (λ b. b && list_all p xs) (h x) ∙ ap (λ b. q 
 pub all_known : (all : Parts) → first_unknown all ≡ None → Known (resolving.system_of all) all
 all_known all e =
     let s = resolving.system_of all in
-    let labels = neither all.unlabelled (earlier (unknown_creation all) (earlier (unknown_image all) (earlier (unknown_input all) (unknown_fault all)))) e in
-    let made = neither (unknown_creation all) (earlier (unknown_image all) (earlier (unknown_input all) (unknown_fault all))) labels.1 in
-    let run = neither (unknown_image all) (earlier (unknown_input all) (unknown_fault all)) made.1 in
+    let labels = neither all.unlabelled (least_line (unknown_creation all) (least_line (unknown_image all) (least_line (unknown_input all) (unknown_fault all)))) e in
+    let made = neither (unknown_creation all) (least_line (unknown_image all) (least_line (unknown_input all) (unknown_fault all))) labels.1 in
+    let run = neither (unknown_image all) (least_line (unknown_input all) (unknown_fault all)) made.1 in
     let fed = neither (unknown_input all) (unknown_fault all) run.1 in
     record {
       labels = labels.0;
@@ -94,10 +94,10 @@ known_all all k =
     let images : unknown_image all ≡ None = none_line (λ (d : DeclLine). d.line) (names_no_image all.images) all.decls (all_same (λ d. not (names_no_image all.images d)) (has_image s) (image_same all) all.decls ∙ k.images) in
     let inputs : unknown_input all ≡ None = none_line (λ (i : InputLine). i.line) (names_no_line_unit all.units) all.inputs (all_same (λ i. not (names_no_line_unit all.units i)) (has_line_unit s) (input_same all) all.inputs ∙ k.inputs) in
     let faults : unknown_fault all ≡ None = none_line (λ (f : FaultLine). f.line) (names_no_unit all.units) all.faults (all_same (λ f. not (names_no_unit all.units f)) (has_unit s) (fault_same all) all.faults ∙ k.faults) in
-    ap (λ o. earlier o (earlier (unknown_creation all) (earlier (unknown_image all) (earlier (unknown_input all) (unknown_fault all))))) k.labels
-    ∙ ap (λ o. earlier o (earlier (unknown_image all) (earlier (unknown_input all) (unknown_fault all)))) creations
-    ∙ ap (λ o. earlier o (earlier (unknown_input all) (unknown_fault all))) images
-    ∙ ap (λ o. earlier o (unknown_fault all)) inputs ∙ faults
+    ap (λ o. least_line o (least_line (unknown_creation all) (least_line (unknown_image all) (least_line (unknown_input all) (unknown_fault all))))) k.labels
+    ∙ ap (λ o. least_line o (least_line (unknown_image all) (least_line (unknown_input all) (unknown_fault all)))) creations
+    ∙ ap (λ o. least_line o (least_line (unknown_input all) (unknown_fault all))) images
+    ∙ ap (λ o. least_line o (unknown_fault all)) inputs ∙ faults
 
 -- The system.
 

@@ -10,7 +10,7 @@ use Rattle.vx_text.specs.declared.token.Tok.TheVariants as tok
 use Rattle.vx_text.proofs.Runs.{by_test}
 use Rattle.vx_script.specs.Fields.{end_at, name_at, number_at, text_at, room_for, device_name, device_in, device_at, blocks_of}
 use Rattle.vx_script.specs.Keys.{no_keys, keys_from}
-use Rattle.vx_script.specs.Declarations.{decl_place, fresh, unit_line, input_line, is_fault_of, fresh_fault, fault_line, image_line, process_line}
+use Rattle.vx_script.specs.Declarations.{decl_place, unused_name, unit_line, input_line, is_fault_of, fresh_fault, fault_line, image_line, process_line}
 use Rattle.vx_script.specs.Places.{unit_place, image_place}
 use Rattle.vx_script.specs.Resolving.{place_or_zero, decl_of}
 use Rattle.vx_script.specs.declared.declaration.Device.{Device}
@@ -27,7 +27,7 @@ use Rattle.vx_grammar.proofs.Fields.{bind_ok, found_name, end_is, name_found, nu
 use Rattle.vx_grammar.proofs.ProcessKeys.{KeysStand, keys_stand}
 use Rattle.vx_grammar.proofs.SaidSoFar.{bare_unit, has_image, has_line_unit, has_unit}
 
-fresh_ok : (o : Option ℕ) (word name : List ℕ) → fresh o word ≡ Ok name → word ≡ name
+fresh_ok : (o : Option ℕ) (word name : List ℕ) → unused_name o word ≡ Ok name → word ≡ name
 fresh_ok None word name h = cc
 fresh_ok (Some k) word name h = absurd (cc)
 
@@ -71,7 +71,7 @@ pub unit_spelled : (units : List UnitDecl) (ts : List Tok) (u : UnitDecl) → un
 unfolding unit_line
 unit_spelled units ts u h =
     let w = bind_ok (name_at ts) _ u h in
-    let n = bind_ok (fresh (unit_place w.0 units) w.0) _ u w.2 in
+    let n = bind_ok (unused_name (unit_place w.0 units) w.0) _ u w.2 in
     let d = bind_ok (device_at (drop 1 ts)) _ u n.2 in
     let b = bind_ok (blocks_of d.0 (drop 2 ts)) _ u d.2 in
     let r = bind_ok (room_for 32 (length units)) _ u b.2 in
@@ -127,7 +127,7 @@ pub image_spelled : (images : List Image) (ts : List Tok) (image : DraftImage) �
 unfolding image_line
 image_spelled images ts image h =
     let w = bind_ok (name_at ts) _ image h in
-    let n = bind_ok (fresh (image_place w.0 images) w.0) _ image w.2 in
+    let n = bind_ok (unused_name (image_place w.0 images) w.0) _ image w.2 in
     let end = bind_ok (end_at (drop 1 ts)) _ image n.2 in
     let r = bind_ok (room_for 256 (length images)) _ image end.2 in
     let e0 = name_found 0 ts w.0 w.1 in
@@ -162,7 +162,7 @@ pub process_spelled : (line : ℕ) (decls : List DeclLine) (ts : List Tok) (d : 
 unfolding process_line
 process_spelled line decls ts d h s known =
     let w = bind_ok (name_at ts) _ d h in
-    let n = bind_ok (fresh (decl_place w.0 decls) w.0) _ d w.2 in
+    let n = bind_ok (unused_name (decl_place w.0 decls) w.0) _ d w.2 in
     let i = bind_ok (name_at (drop 1 ts)) _ d n.2 in
     let k = bind_ok (keys_from 0 no_keys (drop 2 ts)) _ d i.2 in
     let r = bind_ok (room_for 1000 (length decls)) _ d k.2 in

@@ -9,7 +9,7 @@ use Rattle.vx_image.specs.declared.system.System.{System}
 use Rattle.vx_image.specs.declared.unit.UnitDecl.{UnitDecl}
 use Rattle.vx_image.specs.WellFormed.{is_among, decl_names}
 use Rattle.vx_script.specs.Places.{image_place, is_line_unit}
-use Rattle.vx_script.specs.Resolving.{input_if, inputs_of, fault_if, numbers_of, decl_of, image_of, with_image, first_unlabelled, earlier, creations_of}
+use Rattle.vx_script.specs.Resolving.{input_if, inputs_of, fault_if, numbers_of, decl_of, image_of, with_image, first_unlabelled, least_line, creations_of}
 use Rattle.vx_script.specs.declared.draft.DraftImage.{DraftImage}
 use Rattle.vx_script.specs.declared.lines.DeclLine.{DeclLine}
 use Rattle.vx_script.specs.declared.lines.FaultLine.{FaultLine}
@@ -191,7 +191,7 @@ known_image s parts image k =
 pub with_known_image : (s : System) (parts : Parts) (image : DraftImage) → Known s parts → first_unlabelled image ≡ None → list_all (is_known (decl_names s)) (creations_of image.lines) ≡ true
     → Known s (with_image parts image)
 with_known_image s parts image k h c = record {
-  labels = ap (λ (o : Option ℕ). earlier o (first_unlabelled image)) k.labels ∙ h;
+  labels = ap (λ (o : Option ℕ). least_line o (first_unlabelled image)) k.labels ∙ h;
   creations = list_all-append (is_known (decl_names s)) parts.creations (creations_of image.lines) ∙ and_from (list_all (is_known (decl_names s)) parts.creations) _ k.creations c;
   images = k.images;
   inputs = k.inputs;

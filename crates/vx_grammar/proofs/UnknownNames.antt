@@ -17,12 +17,12 @@ use Rattle.vx_image.specs.declared.unit.UnitDecl.{UnitDecl}
 use Rattle.vx_text.specs.declared.token.Tok.{Tok}
 use Rattle.vx_text.specs.declared.token.Tok.TheVariants as tok
 use Rattle.vx_text.proofs.Runs.{by_test}
-use Rattle.vx_script.specs.Declarations.{decl_place, fresh, fresh_fault, unit_line, input_line, fault_line, image_line, process_line}
+use Rattle.vx_script.specs.Declarations.{decl_place, unused_name, fresh_fault, unit_line, input_line, fault_line, image_line, process_line}
 use Rattle.vx_script.specs.Fields.{begins_with_sign, end_at, name_at, number_at, text_at, room_for}
 use Rattle.vx_script.specs.Keys.{no_keys, keys_from}
 use Rattle.vx_script.specs.Places.{unit_place, image_place, label_place, is_line_unit}
 use Rattle.vx_script.specs.Reading.{with_stmt, with_label, labelled, goes_on, going_on, word_line, inside, between_images, outer_line, outside, by_place}
-use Rattle.vx_script.specs.Resolving.{is_label, arg_names_none, call_names_none, draft_names_none, names_no_label, image_of, created_by, created_in, creation_of, creations_of, earlier, with_image, names_no_decl, names_no_image, names_no_line_unit, names_no_unit, first_unlabelled, first_unknown}
+use Rattle.vx_script.specs.Resolving.{is_label, arg_names_none, call_names_none, draft_names_none, names_no_label, image_of, created_by, created_in, creation_of, creations_of, least_line, with_image, names_no_decl, names_no_image, names_no_line_unit, names_no_unit, first_unlabelled, first_unknown}
 use Rattle.vx_script.specs.Results.{◌>>=◌}
 use Rattle.vx_script.specs.Statements.{stmt_of, local_stmt}
 use Rattle.vx_script.specs.declared.draft.Draft.{Draft}
@@ -232,7 +232,7 @@ process_is : (line : ℕ) (ds : List DeclLine) (ts : List Tok) (d : DeclLine) �
 unfolding process_line
 process_is line ds ts d h =
     let word = bind_ok (name_at ts) _ d h in
-    let name = bind_ok (fresh (decl_place word.0 ds) word.0) _ d word.2 in
+    let name = bind_ok (unused_name (decl_place word.0 ds) word.0) _ d word.2 in
     let image = bind_ok (name_at (drop 1 ts)) _ d name.2 in
     let keys = bind_ok (keys_from 0 no_keys (drop 2 ts)) _ d image.2 in
     let room = bind_ok (room_for 1000 (length ds)) _ d keys.2 in
@@ -266,7 +266,7 @@ opened_is : (images : List Image) (ts : List Tok) (image : DraftImage) → image
 unfolding image_line
 opened_is images ts image h =
     let word = bind_ok (name_at ts) _ image h in
-    let name = bind_ok (fresh (image_place word.0 images) word.0) _ image word.2 in
+    let name = bind_ok (unused_name (image_place word.0 images) word.0) _ image word.2 in
     let end = bind_ok (end_at (drop 1 ts)) _ image name.2 in
     let room = bind_ok (room_for 256 (length images)) _ image end.2 in
     let is : record { name = name.0; labels = []; lines = [] } ≡ image = cc (room.2) in
@@ -446,7 +446,7 @@ statement_stepped fin line p image more (t ∷ ts) h =
 behind_label : (fin : Parts) (line : ℕ) (p : Parts) (image more : DraftImage) (name : List ℕ) (ts : List Tok) → labelled line image name ts ≡ Ok more
     → Stepped fin line p (Some image) (goes_on p more) (statement_unknown (all_of fin) (open_of image) ts)
 behind_label fin line p image more name ts h =
-    let f = bind_ok (fresh (label_place name image.labels) name) _ more h in
+    let f = bind_ok (unused_name (label_place name image.labels) name) _ more h in
     let st = statement_stepped fin line p (with_label image name) more ts f.2 in
     record { images = st.images; moves = st.moves }
 
@@ -471,7 +471,7 @@ end_stepped fin line p image o = record {
   moves = λ rest all.
       let labels : final fin.images image.name ≡ image.labels = ap (λ (is : List Image). final is image.name) all ∙ final_is p.images (image_of image) rest o.new in
       let lines = made_at fin (p.creations ++ creations_of image.lines) ∷ run_at fin p.decls ∷ fed_at fin p.inputs ∷ failed_at fin p.faults ∷ [] in
-      subst (λ (ls : List Label). Moves line false (firsts fin p (Some image)) (earlier p.unlabelled (gone_to ls image.lines) ∷ None ∷ lines)) labels
+      subst (λ (ls : List Label). Moves line false (firsts fin p (Some image)) (least_line p.unlabelled (gone_to ls image.lines) ∷ None ∷ lines)) labels
       (ends p.unlabelled (gone_to (final fin.images image.name) image.lines) lines);
 }
 

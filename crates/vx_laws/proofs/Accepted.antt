@@ -37,7 +37,7 @@ use Rattle.vx_image.specs.declared.system.System.{System}
 use Rattle.vx_record.specs.State.{State, process_at, change, image_of, unit_at, next_id}
 use Rattle.vx_record.specs.Parts.{Part, Outcome, nothing}
 use Rattle.vx_record.specs.Charges.{is_direct, is_attention}
-use Rattle.vx_record.specs.Flags.{flag_part, satisfied, awaited_at}
+use Rattle.vx_record.specs.Flags.{flag_part, wait_condition, awaited_at}
 use Rattle.vx_record.specs.Finish.{this_request}
 use Rattle.vx_record.specs.Requests.{Asked, new_request, new_attention, cleared_part, opened_request, begun_on, transfer, attention_on, asked_of, accepted, request_test, qio_tested, qiow_tested, taken_up, unit_ending, with_unit}
 use Rattle.vx_record.specs.Asts.{deliverable_ast}

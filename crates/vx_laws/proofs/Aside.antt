@@ -34,7 +34,7 @@ use Rattle.vx_base.specs.declared.service.Service.{Service}
 use Rattle.vx_base.specs.declared.service.Service.TheVariants.{SetEf, ClrEf, ReadEf, WaitFr, WflOr, WflAnd, AscEfc, DacEfc, DlcEfc, DclAst, SetAst, CmExec, CmKrnl, SetImr, CanTim, SchdWk, CanWak, Hiber, Wake, Suspnd, Resume, ForceX, CrePrc, DelPrc, Exit, DclExh, CanExh, Assign, Dassgn, CreMbx, DelMbx, Qio, QioW, Synch, Cancel, GetTim}
 use Rattle.vx_record.specs.State.{State, process_at, change, current}
 use Rattle.vx_record.specs.Parts.{Part, Outcome, nothing, each, refused, at_tested, part_of}
-use Rattle.vx_record.specs.Flags.{cell, flag_where_named, at_named, at_flag, put_flag_at, refused_value, readef_at, readef, refused_wait, satisfied, awaited_at, waits_on, is_common, wants_prmceb}
+use Rattle.vx_record.specs.Flags.{cell, flag_where_named, at_named, at_flag, put_flag_at, refused_value, readef_at, readef, refused_wait, wait_condition, awaited_at, waits_on, is_common, wants_prmceb}
 use Rattle.vx_record.specs.Asts.{is_inside}
 use Rattle.vx_record.specs.Charges.{exceeds, ast_need, timer_need}
 use Rattle.vx_record.specs.Finish.{Ending, ending, is_read, fin_part, buf_part, status_of, iosb_part, done_flag_part, done_ast_part, finish, finish_found, this_request}
@@ -175,7 +175,7 @@ awaited_aside s p w None = changed s p (with_wait (Some w)) [] refl tt
 awaited_aside s p w (Some c) = idle s
 
 waits_aside : (s : State) (p : Pid) (efn : ℕ) (w : Wait) → OutAside s (at_flag s p efn (refused_wait s) (waits_on s p w))
-waits_aside s p efn w = at_flag_aside s p efn (refused_wait s) (waits_on s p w) (λ c. idle s) (λ c. awaited_aside s p w (satisfied s p w))
+waits_aside s p efn w = at_flag_aside s p efn (refused_wait s) (waits_on s p w) (λ c. idle s) (λ c. awaited_aside s p w (wait_condition s p w))
 
 cluster_aside : (n : ℕ) (x : Effect) → is_clusters x ≡ true → IsAside n x
 cluster_aside n (effect.Cef g a on) e = tt
@@ -364,7 +364,7 @@ service_aside s p a SetImr e =
 service_aside s p a CanTim e = timers_aside s _
 service_aside s p a SchdWk e = tested_aside s (scheduled s p (number a.a1) (number a.a2)) (process_test s p (number a.a0)) (λ q. of_outcomes s (exceeds s p (ast_need true)) _ _ (idle s) (opened s _ _ refl refl refl refl (omega arith) ((refl, omega arith), tt)))
 service_aside s p a CanWak e = tested_aside s (unscheduled s) (process_test s p (number a.a0)) (λ q. timers_aside s (is_wake_for q))
-service_aside s p a Hiber e = of_outcomes s (process_at s p).wake _ _ (changed s p (with_wake false) [] refl tt) (changed s p (with_wait (Some wait.Hiber)) [] refl tt)
+service_aside s p a Hiber e = of_outcomes s (process_at s p).wake_pending _ _ (changed s p (with_wake false) [] refl tt) (changed s p (with_wait (Some wait.Hiber)) [] refl tt)
 service_aside s p a Wake e = tested_aside s (changed_process s (with_wake true)) (process_test s p (number a.a0)) (λ q. changed s q (with_wake true) [] refl tt)
 service_aside s p a Suspnd e = tested_aside s (changed_process s (with_suspension true)) (process_test s p (number a.a0)) (λ q. changed s q (with_suspension true) [] refl tt)
 service_aside s p a Resume e = tested_aside s (changed_process s (with_suspension false)) (process_test s p (number a.a0)) (λ q. changed s q (with_suspension false) [] refl tt)

@@ -65,7 +65,7 @@ use Rattle.vx_record.specs.Channels.{channel_test, free_channel}
 use Rattle.vx_record.specs.Charges.{is_attention, is_direct}
 use Rattle.vx_record.specs.Events.{called, delivered, don, enabled, moved_behind, moved_to, reader, returned, returned_from, run, run_frame, run_on, served_call, step}
 use Rattle.vx_record.specs.Finish.{iosb_part, put_status, this_request}
-use Rattle.vx_record.specs.Flags.{awaited_at, cell, flag_part, flag_where_named, satisfied}
+use Rattle.vx_record.specs.Flags.{awaited_at, cell, flag_part, flag_where_named, wait_condition}
 use Rattle.vx_record.specs.Mailboxes.{attend}
 use Rattle.vx_record.specs.Parts.{Outcome, Part, at_tested, nothing}
 use Rattle.vx_record.specs.Requests.{Asked, accepted, asked_of, attention_on, attention_opened, attention_set, begun_on, cleared_part, done_at_once, new_attention, new_request, opened_request, qio_tested, qiow_tested, request_test, transfer, unit_ending, with_unit}
@@ -207,7 +207,7 @@ call_told t past p a service.QioW here some tags h k = by_test (request_test t p
         let w = wait.Synch (number a.a0) (number a.a3) in
         let first_told = accepted_told t p a service.QioW to o.answer o past is here h k in
         served_told past p c o o.answer
-        (subst (λ (es : List Effect). Told (headed p c o o.answer past) (one_part.effects ++ es)) (sym (waits_none u p w (satisfied u p w)))
+        (subst (λ (es : List Effect). Told (headed p c o o.answer past) (one_part.effects ++ es)) (sym (waits_none u p w (wait_condition u p w)))
         (subst (Told (headed p c o o.answer past)) (sym (append-nil one_part.effects)) first_told))
 call_told t past p a service.Cancel here some tags h k =
     tested_told t past p (record { service = service.Cancel; args = a }) (cancel_at t p (number a.a0)) (channel_test t p (number a.a0)) (λ ch now r. (channel_ends t p (number a.a0) now r).told) h k

@@ -37,7 +37,7 @@ use Rattle.vx_image.specs.declared.system.System.{System}
 use Rattle.vx_record.specs.State.{State, process_at, change, image_of, unit_at, next_id}
 use Rattle.vx_record.specs.Parts.{Part, Outcome, nothing}
 use Rattle.vx_record.specs.Charges.{is_direct, is_attention}
-use Rattle.vx_record.specs.Flags.{flag_part, satisfied, awaited_at}
+use Rattle.vx_record.specs.Flags.{flag_part, wait_condition, awaited_at}
 use Rattle.vx_record.specs.Finish.{this_request}
 use Rattle.vx_record.specs.Requests.{Asked, new_request, new_attention, cleared_part, opened_request, begun_on, transfer, attention_on, asked_of, accepted, request_test, qio_tested, qiow_tested, taken_up, unit_ending, with_unit}
 use Rattle.vx_record.specs.Asts.{deliverable_ast}
@@ -119,7 +119,7 @@ use Rattle.vx_record.specs.Runs.{born_of, born_from}
 use Rattle.vx_image.specs.declared.decl.ProcDecl.{ProcDecl}
 use Rattle.vx_record.proofs.Lists.{all_get}
 use Rattle.vx_base.specs.Cond.{number_of}
-use Rattle.vx_record.specs.Flags.{satisfied, awaited_at}
+use Rattle.vx_record.specs.Flags.{wait_condition, awaited_at}
 use Rattle.vx_record.specs.Finish.{finish}
 use Rattle.vx_record.specs.Mailboxes.{or_no_box}
 use Rattle.vx_record.specs.Parts.{at_tested, answered, refused, part_of}
@@ -383,7 +383,7 @@ call_serving t past p a service.QioW here g = by_test (request_test t p (asked t
         let y = accepted t p (asked t p a) to.0 to.1 in
         let w = wait.Synch (number a.a0) (number a.a3) in
         served_serving past p c o o.answer
-        (waited_serving (headed p c o o.answer past) y p w (satisfied y.after p w) (accepted_serving t p (asked t p a) to (headed p c o o.answer past) is here (asking_headed t p a service.QioW o o.answer past refl) (headed_going t p c o o.answer past g)))
+        (waited_serving (headed p c o o.answer past) y p w (wait_condition y.after p w) (accepted_serving t p (asked t p a) to (headed p c o o.answer past) is here (asking_headed t p a service.QioW o o.answer past refl) (headed_going t p c o o.answer past g)))
 call_serving t past p a service.Assign here g =
     let c : Call = record { service = service.Assign; args = a } in
     let name = text a.a1 in
@@ -468,7 +468,7 @@ frame_serving s past p f None here g =
     let m : Moves s None [] t None = moved s None p a.store a.place (advanced_statuses (image_of s p) (reader p f) (process_at s p).store f.pc) in
     on_serving t past p a.place a.stop (here_after s p None [] t None m here) (moved_going s t past m (changed s p (moved_to a.store a.place) [] refl tt) here.base g)
 frame_serving s past p f (Some w) here g =
-    let c = Rattle.vx_record.specs.Events.or_normal (satisfied s p w) in
+    let c = Rattle.vx_record.specs.Events.or_normal (wait_condition s p w) in
     let t = change s p (resumed_with w c) in
     let x = Head (event.Run p) (answer.Resume c) in
     let k = changed s p (resumed_with w c) [] (used_channels w (Rattle.vx_record.specs.Flags.with_wait None (process_at s p))) tt in

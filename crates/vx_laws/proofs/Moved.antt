@@ -20,7 +20,7 @@ use Rattle.vx_base.specs.declared.routine.Entry.{Entry}
 use Rattle.vx_record.specs.State.{State}
 use Rattle.vx_record.specs.Parts.{Part, each, part_if}
 use Rattle.vx_record.specs.Charges.{is_direct, is_attention}
-use Rattle.vx_record.specs.Flags.{cell, flag_part, flag_where_named, satisfied, awaited_at}
+use Rattle.vx_record.specs.Flags.{cell, flag_part, flag_where_named, wait_condition, awaited_at}
 use Rattle.vx_record.specs.Finish.{Ending, ending, is_read, fin_part, buf_part, status_of, iosb_part, done_flag_part, done_ast_part, finish, finish_found, this_request}
 use Rattle.vx_record.specs.Mailboxes.{mailbox_at, is_waiting_func, waits_at, mput_part, mget_part, message_of, read_ending, write_ending, received, write_done, is_attention_at, fire_attention, call_attention, store_message, hand_over, write_box, take_message, is_answered_now, attend}
 use Rattle.vx_record.specs.Requests.{Asked, new_request, opened_request, begun_on, transfer, new_attention, attention_opened, done_at_once, attention_on, asked_of, accepted, qio_tested, qiow_tested}
@@ -41,7 +41,7 @@ use Rattle.std.proofs.lemmas.Bool.{eqb-true}
 use Rattle.vx_record.proofs.Lists.{all_append}
 use Rattle.std.proofs.Common.{◌≡◌, ℕ, List, [], ◌∷◌, Bool, true, false, ◌==◌, Option, Some, None, refl}
 use Rattle.vx_base.specs.Pieces.{Request}
-use Rattle.vx_record.specs.Flags.{satisfied}
+use Rattle.vx_record.specs.Flags.{wait_condition}
 use Rattle.vx_record.specs.Finish.{finish, this_request}
 use Rattle.std.proofs.Common.{ap}
 use Rattle.std.proofs.Common.{ap}
@@ -289,5 +289,5 @@ qiow_moved before s p q (Err c) = tt
 qiow_moved before s p q (Ok to) =
     let a = accepted s p q to.0 to.1 in
     let w = wait.Synch q.efn q.iosb in
-    subst (λ (l : List Effect). AllMoved before (a.effects ++ l)) (sym (awaited_none a.after p w (satisfied a.after p w)))
+    subst (λ (l : List Effect). AllMoved before (a.effects ++ l)) (sym (awaited_none a.after p w (wait_condition a.after p w)))
     (subst (λ (l : List Effect). AllMoved before l) (sym (append-nil a.effects)) (accepted_moved before s p q to.0 to.1))

@@ -45,7 +45,7 @@ use Rattle.vx_record.specs.Asts.{is_inside, new_frame, with_frame}
 use Rattle.vx_record.specs.Charges.{is_same}
 use Rattle.vx_record.specs.Control.{named_process, process_test, with_wake}
 use Rattle.vx_record.specs.Events.{below_top, delivered, moved_behind, moved_to, or_normal, put_back, r0_of, reader, resumed_with, returned, returned_from, run, run_frame, run_on, served_call, started, with_r0, without_top}
-use Rattle.vx_record.specs.Flags.{at_flag, at_named, awaited_at, cell, refused_wait, satisfied, waits_on, with_wait}
+use Rattle.vx_record.specs.Flags.{at_flag, at_named, awaited_at, cell, refused_wait, wait_condition, waits_on, with_wait}
 use Rattle.vx_record.specs.Parts.{Outcome, at_tested}
 use Rattle.vx_record.specs.Requests.{Asked, accepted, is_bad, qiow_tested, request_test}
 use Rattle.vx_record.specs.Rundown.{any_handler, deleted_by, exited, leave_all, named_for_deletion, without_ast, without_frames}
@@ -159,7 +159,7 @@ waiting_waits s p a v efn w n made is fit =
   where
     named : (o : Option Cell) → let x = at_named (refused_wait s) (waits_on s p w) o in ServiceWaits s p a v x.answer x.after
     named None = answered_waits s p a v UnasEfc s (no_turn v UnasEfc n) (keep_none s)
-    named (Some c) = tried_waits s s p a v w (satisfied s p w) n made is fit (keep_none s)
+    named (Some c) = tried_waits s s p a v w (wait_condition s p w) n made is fit (keep_none s)
 
 abbrev ServesWaits : State → Pid → Args → Service → Outcome Served → Type 0
 ServesWaits s p a v o = ServiceWaits s p a v o.answer o.after
@@ -201,7 +201,7 @@ qiow_waits s p a (Ok to) is here =
     let u = (accepted s p (asked s p a) to.0 to.1).after in
     let w = wait.Synch (number a.a0) (number a.a3) in
     let made = (here_after s p None (accepted s p (asked s p a) to.0 to.1).effects u None (accepted_after s p (asked s p a) to is here) here).made in
-    tried_waits s u p a service.QioW w (satisfied u p w) refl made refl (test_fits s p (asked s p a) to is) (accepted_keeps s p (asked s p a) to.0 to.1)
+    tried_waits s u p a service.QioW w (wait_condition u p w) refl made refl (test_fits s p (asked s p a) to is) (accepted_keeps s p (asked s p a) to.0 to.1)
 
 pub service_waits : (s : State) (p : Pid) (a : Args) (v : Service) → Here s p → ServesWaits s p a v (service_of s p a v)
 service_waits s p a service.CmExec here =
@@ -222,7 +222,7 @@ service_waits s p a service.Synch here =
     (λ y. answered_waits s p a service.Synch BadParam s refl (keep_none s)) (λ f. waiting_waits s p a service.Synch (number a.a0) (wait.Synch (number a.a0) (number a.a1)) refl here.made refl (ltb-false 32 (number a.a1) f))
 service_waits s p a service.QioW here = qiow_waits s p a (request_test s p (asked s p a)) refl here
 service_waits s p a service.Hiber here =
-    either (λ (o : Outcome Served). ServesWaits s p a service.Hiber o) (process_at s p).wake _ _ (answered_waits s p a service.Hiber Normal (change s p (with_wake false)) refl (keep_same s p (with_wake false) refl)) (paused_waits s s p a service.Hiber wait.Hiber here.made refl tt (keep_none s))
+    either (λ (o : Outcome Served). ServesWaits s p a service.Hiber o) (process_at s p).wake_pending _ _ (answered_waits s p a service.Hiber Normal (change s p (with_wake false)) refl (keep_same s p (with_wake false) refl)) (paused_waits s s p a service.Hiber wait.Hiber here.made refl tt (keep_none s))
 service_waits s p a v here = plain_waits s p a v (service_of s p a v) refl (service_plainly s p a v refl)
 
 -- RUN.
@@ -284,7 +284,7 @@ frame_pauses past s p f None here some =
     let two = run_on t p a.place a.stop in
     let move = moved s None p a.store a.place (advanced_statuses (image_of s p) (reader p f) (process_at s p).store f.pc) in
     before_keeps past s t (event.Run p) two.answer two.after (keep_moved s p a.store a.place) (on_waits past t p a.place a.stop (here_after s p None [] t None move here) (some_moved s p a.store a.place here.made some))
-frame_pauses past s p f (Some w) here some = let c = or_normal (satisfied s p w) in run_turned past s p (answer.Resume c) (resumed_with w c) (with_first None) refl (λ ws. refl) tt here.made (resumed_frames w c (process_at s p))
+frame_pauses past s p f (Some w) here some = let c = or_normal (wait_condition s p w) in run_turned past s p (answer.Resume c) (resumed_with w c) (with_first None) refl (λ ws. refl) tt here.made (resumed_frames w c (process_at s p))
 
 pub run_waits : (past : List Item) (s : State) (p : Pid) (frames : List Frame) → (process_at s p).frames ≡ frames → Here s p → RunWaits past s p (run s p frames)
 run_waits past s p [] is here = local_waits past s p

@@ -58,7 +58,7 @@ use Rattle.vx_record.specs.Asts.{deliverable_ast}
 use Rattle.vx_record.specs.Charges.{is_same}
 use Rattle.vx_record.specs.Events.{ast_or_run, beg, beg_event, can_run, can_run_down, delivered, don, don_or_beg, enabled, is_satisfied, moved_behind, moved_to, or_normal, process_events, processes_from, reader, returned, returned_from, run, run_events, run_frame, run_on, served_call, step, tick_events, unit_events, units_from}
 use Rattle.vx_record.specs.Finish.{finish}
-use Rattle.vx_record.specs.Flags.{normal_if, satisfied}
+use Rattle.vx_record.specs.Flags.{normal_if, wait_condition}
 use Rattle.vx_record.specs.Parts.{Outcome}
 use Rattle.vx_record.specs.Requests.{begun, unit_ending, with_unit}
 use Rattle.vx_record.specs.Rundown.{entering, handler_frame, is_handler_of}
@@ -283,10 +283,10 @@ woken_right : (b : Bool) → is_some (normal_if b) ≡ true → is_cond (or_norm
 woken_right true k = refl
 woken_right false k = absurd (let never : false ≡ true = k in cc)
 
-wait_right : (s : State) (past : List Item) (p : Pid) (w : Wait) → 1 ≤ p.0 → Holds s past → IsFit (Some w) → is_some (satisfied s p w) ≡ true → resumes_wait past p (or_normal (satisfied s p w)) (Some w) ≡ true
-wait_right s past p (wait.Flags efn mask all) above h fit k = told_right (satisfied s p (wait.Flags efn mask all)) (satisfied_by past p (wait.Flags efn mask all)) (satisfied_held s past p (wait.Flags efn mask all) above tt h) k
-wait_right s past p (wait.Synch efn iosb) above h fit k = told_right (satisfied s p (wait.Synch efn iosb)) (satisfied_by past p (wait.Synch efn iosb)) (satisfied_held s past p (wait.Synch efn iosb) above fit h) k
-wait_right s past p wait.Hiber above h fit k = woken_right (process_at s p).wake k
+wait_right : (s : State) (past : List Item) (p : Pid) (w : Wait) → 1 ≤ p.0 → Holds s past → IsFit (Some w) → is_some (wait_condition s p w) ≡ true → resumes_wait past p (or_normal (wait_condition s p w)) (Some w) ≡ true
+wait_right s past p (wait.Flags efn mask all) above h fit k = told_right (wait_condition s p (wait.Flags efn mask all)) (satisfied_by past p (wait.Flags efn mask all)) (satisfied_held s past p (wait.Flags efn mask all) above tt h) k
+wait_right s past p (wait.Synch efn iosb) above h fit k = told_right (wait_condition s p (wait.Synch efn iosb)) (satisfied_by past p (wait.Synch efn iosb)) (satisfied_held s past p (wait.Synch efn iosb) above fit h) k
+wait_right s past p wait.Hiber above h fit k = woken_right (process_at s p).wake_pending k
 
 top_right : (past : List Item) (p : Pid) (c : Cond) (ws : List (Option Call)) (w : Wait) (rest : List (Option Wait)) → map waited ws ≡ Some w ∷ rest → resumes_wait past p c (Some w) ≡ true → resumes_right past p c ws ≡ true
 top_right past p c [] w rest e k = absurd (let never : [] ≡ Some w ∷ rest = e in cc)
@@ -323,7 +323,7 @@ frame_right past s p f fs None waits is made k h g =
 frame_right past s p f fs (Some w) waits is made k h g =
     let top : frame_waits s p ≡ Some w ∷ waits_of fs = made_waits s p made ∙ rw (is, waits) refl in
     let fits : AllByRecursion IsFit (Some w ∷ waits_of fs) = subst (AllByRecursion IsFit) top (g.fit p made.above) in
-    λ more. top_right past p (or_normal (satisfied s p w)) (awaited past p) w (waits_of fs) (g.told p made.above ∙ top) (wait_right s past p w made.above h fits.0 k)
+    λ more. top_right past p (or_normal (wait_condition s p w)) (awaited past p) w (waits_of fs) (g.told p made.above ∙ top) (wait_right s past p w made.above h fits.0 k)
 
 run_right : (past : List Item) (s : State) (p : Pid) (frames : List Frame) → (process_at s p).frames ≡ frames → IsProcess s p → can_run s p frames ≡ true → Holds s past → Awaits s past → ResumesRight past (event.Run p) (run s p frames).answer
 run_right past s p [] is made k h g = λ more. refl

@@ -23,7 +23,7 @@ below_few (x ∷ xs) = omega arith
 
 pub flag_quiet : (n : ℕ) (on : Bool) (pr : Process) → IsQuiet pr (with_local_flag n on pr)
 flag_quiet n on pr =
-    either (IsQuiet pr) (nat_lt n 32) (record pr { low = with_flag pr.low n on }) (record pr { high = with_flag pr.high (n - 32) on })
+    either (IsQuiet pr) (nat_lt n 32) (record pr { cluster_0 = with_flag pr.cluster_0 n on }) (record pr { cluster_1 = with_flag pr.cluster_1 (n - 32) on })
     (record { decl = refl; asts = refl; frames = omega arith }) (record { decl = refl; asts = refl; frames = omega arith })
 
 pub below_quiet : (pr : Process) → IsQuiet pr (below_top pr)

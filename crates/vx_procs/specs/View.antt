@@ -20,12 +20,12 @@ process pr = record {
   asts = pr.asts.items;
   channels = replicate 64 None;
   handlers = [];
-  low = pr.low;
-  high = pr.high;
-  wake = pr.wake;
+  cluster_0 = pr.cluster_0;
+  cluster_1 = pr.cluster_1;
+  wake_pending = pr.wake_pending;
   suspended = pr.suspended;
-  named = pr.named;
-  code = pr.code;
+  delete_pending = pr.delete_pending;
+  exit_code = pr.exit_code;
   phase = pr.phase;
 }
 

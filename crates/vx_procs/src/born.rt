@@ -26,7 +26,7 @@ fn add_started<R: Routine>(
     ensures fresh { OnOk result ((decls : List ProcDeclOf) → slice_index_or decls place no_decl ≡ decl.now → AllByRecursion (IsFresh decls) procs.old.items → AllByRecursion (IsFresh decls) procs.new.items) }
 {
     if decl.start {
-        procs.push(Proc::born(alloc, place, decl)?)?;
+        procs.push(Proc::created(alloc, place, decl)?)?;
     }
     Ok(())
 }

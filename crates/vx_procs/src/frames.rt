@@ -49,7 +49,7 @@ fn leave_top(frames: &mut Frames, log: &mut Effects)
     ensures frames { frames.new ≡ record frames.old { items = below_top frames.old.items } }
     ensures log { log.new ≡ logged log.old (left_top frames.old.items) }
 {
-    match frames.ret() {
+    match frames.pop() {
         Some(frame) => log_left(frame.kind, log),
         None => (),
     }

@@ -48,12 +48,12 @@ pub(crate) struct Proc<R: Routine> {
     pub(crate) store: Store,
     pub(crate) frames: Frames,
     pub(crate) asts: AstQueue<R>,
-    pub(crate) low: Flags,
-    pub(crate) high: Flags,
-    pub(crate) wake: bool,
+    pub(crate) cluster_0: Flags,
+    pub(crate) cluster_1: Flags,
+    pub(crate) wake_pending: bool,
     pub(crate) suspended: bool,
-    pub(crate) named: bool,
-    pub(crate) code: u32,
+    pub(crate) delete_pending: bool,
+    pub(crate) exit_code: u32,
     pub(crate) phase: Phase,
     pub(crate) account: Account,
 }
@@ -134,7 +134,7 @@ fn put_flag(flags: &mut Flags, n: u8, on: bool)
 
 impl<R: Routine> Proc<R> {
     /// A process of the declaration at a place, before its first statement.
-    pub(crate) fn born(alloc: Global, place: u32, decl: &ProcDecl) -> Result<Proc<R>, NoMemory>
+    pub(crate) fn created(alloc: Global, place: u32, decl: &ProcDecl) -> Result<Proc<R>, NoMemory>
         ensures process { IfOk result (λ proc. process proc ≡ born_of place decl.now) }
         ensures fresh { IfOk result (λ proc. IsBlank decl.now.limits proc) }
     {
@@ -146,12 +146,12 @@ impl<R: Routine> Proc<R> {
             store: Store::new(alloc)?,
             frames: first_frames(alloc, decl.mode)?,
             asts: first_asts(alloc)?,
-            low: Flags::new(),
-            high: Flags::new(),
-            wake: false,
+            cluster_0: Flags::new(),
+            cluster_1: Flags::new(),
+            wake_pending: false,
             suspended: false,
-            named: false,
-            code: 0,
+            delete_pending: false,
+            exit_code: 0,
             phase: Phase::Alive,
             account: Account::new(decl.limits),
         })
@@ -184,9 +184,9 @@ impl<R: Routine> Proc<R> {
         ensures books { books_of self.new ≡ books_of self.old }
     {
         if n < 32 {
-            put_flag(&mut self.low, n as u8, on);
+            put_flag(&mut self.cluster_0, n as u8, on);
         } else {
-            put_flag(&mut self.high, (n - 32) as u8, on);
+            put_flag(&mut self.cluster_1, (n - 32) as u8, on);
         }
     }
 
@@ -195,7 +195,7 @@ impl<R: Routine> Proc<R> {
         ensures after { process self.new ≡ put_back r0 (process self.old) }
         ensures books { books_of self.new ≡ books_of self.old }
     {
-        let _left = self.frames.ret();
+        let _left = self.frames.pop();
         self.store.set(Target::R0, r0);
     }
 
@@ -205,7 +205,7 @@ impl<R: Routine> Proc<R> {
         ensures books { books_of self.new ≡ books_of self.old }
     {
         match wait {
-            Wait::Hiber => self.wake = false,
+            Wait::Hiber => self.wake_pending = false,
             Wait::Flags(..) | Wait::Synch(..) => (),
         }
     }
@@ -241,7 +241,7 @@ impl<R: Routine> Proc<R> {
         ensures books { books_of self.new ≡ books_of self.old }
     {
         self.phase = self.phase_after_exit();
-        self.code = code;
+        self.exit_code = code;
         leave_all(&mut self.frames, log);
     }
 
@@ -276,7 +276,7 @@ impl<R: Routine> Proc<R> {
             return None;
         }
         let frame = self.frames.top()?;
-        let (mode, active) = (frame.mode, self.frames.active());
+        let (mode, active) = (frame.mode, self.frames.active_ast_mode());
         let delivery = self.asts.take(mode, active)?;
         self.account.release(ast_need(delivery.is_charged()));
         Some(delivery)
@@ -378,6 +378,6 @@ impl<R: Routine> Proc<R> {
             return None;
         }
         let frame = self.frames.top()?;
-        self.asts.deliverable(frame.mode, self.frames.active())
+        self.asts.deliverable(frame.mode, self.frames.active_ast_mode())
     }
 }

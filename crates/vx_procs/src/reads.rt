@@ -61,7 +61,7 @@ fn entry_prm(entry: Entry) -> u32
 
 impl<R: Routine> Core<R> {
     /// How many processes have been made, which is the number of the last.
-    pub fn made(&self) -> usize
+    pub fn process_count(&self) -> usize
         ensures { result ≡ length self.now.state.procs }
     {
         self.procs.len()
@@ -116,7 +116,7 @@ impl<R: Routine> Core<R> {
         requires { IsProcess self.now.state p }
         ensures { result ≡ active_mode (process_at self.now.state p).frames }
     {
-        self.process_of(p).frames.active()
+        self.process_of(p).frames.active_ast_mode()
     }
 
     /// How far a process is on its way out.
@@ -163,9 +163,9 @@ impl<R: Routine> Core<R> {
     {
         let proc = self.process_of(p);
         if n < 32 {
-            proc.low.bits()
+            proc.cluster_0.bits()
         } else {
-            proc.high.bits()
+            proc.cluster_1.bits()
         }
     }
 
@@ -177,9 +177,9 @@ impl<R: Routine> Core<R> {
         let proc = self.process_of(p);
         let place = (n % 32) as u8;
         if n < 32 {
-            proc.low.test(place)
+            proc.cluster_0.test(place)
         } else {
-            proc.high.test(place)
+            proc.cluster_1.test(place)
         }
     }
 
@@ -188,7 +188,7 @@ impl<R: Routine> Core<R> {
         requires { IsProcess self.now.state p }
         ensures { result ≡ is_enabled_in (process_at self.now.state p).enables mode }
     {
-        self.process_of(p).asts.enabled(mode)
+        self.process_of(p).asts.is_enabled(mode)
     }
 
     /// The AST of a process that may start, if there is one; none where it is suspended or has no frame.
@@ -255,9 +255,9 @@ impl<R: Routine> Core<R> {
     /// Whether a wake pends for it.
     pub fn has_wake(&self, p: Pid) -> bool
         requires { IsProcess self.now.state p }
-        ensures { result ≡ (process_at self.now.state p).wake }
+        ensures { result ≡ (process_at self.now.state p).wake_pending }
     {
-        self.process_of(p).wake
+        self.process_of(p).wake_pending
     }
 
     /// Whether it is suspended.
@@ -271,9 +271,9 @@ impl<R: Routine> Core<R> {
     /// Its exit code.
     pub fn exit_code(&self, p: Pid) -> u32
         requires { IsProcess self.now.state p }
-        ensures { result ≡ (process_at self.now.state p).code }
+        ensures { result ≡ (process_at self.now.state p).exit_code }
     {
-        self.process_of(p).code
+        self.process_of(p).exit_code
     }
 
     /// Its top frame, if it has one.

@@ -41,7 +41,7 @@ impl<R: Routine> Core<R> {
         requires { IsProcess self.old.state p }
         ensures { self.new ≡ changed self.old p (with_wake on) }
     {
-        self.procs[p.0 as usize - 1].wake = on;
+        self.procs[p.0 as usize - 1].wake_pending = on;
     }
 
     /// A process is suspended, or it is not ($SUSPND, $RESUME).
@@ -142,7 +142,7 @@ impl<R: Routine> Core<R> {
         ensures top { result ≡ top_of (process_at self.old.state p).frames }
         ensures after { self.new ≡ changed self.old p below_top }
     {
-        self.procs[p.0 as usize - 1].frames.ret()
+        self.procs[p.0 as usize - 1].frames.pop()
     }
 
     /// Leaves the frame of an AST, if there is one, and puts R0 back to what it was before the AST.

@@ -42,7 +42,7 @@ use Rattle.vx_image.specs.declared.stop.Stop.TheVariants as stop
 use Rattle.vx_record.specs.State.{State, process_at, change, current, image_of, unit_at}
 use Rattle.vx_record.specs.Parts.{Part, Outcome, nothing, each, part_if, refused, at_tested, part_of}
 use Rattle.vx_record.specs.Charges.{moved_bytes, request_need, exceeds, ast_need, timer_need, is_direct, is_attention}
-use Rattle.vx_record.specs.Flags.{cell, flag_part, flag_where_named, at_named, at_flag, put_flag_at, refused_value, readef_at, readef, refused_wait, satisfied, awaited_at, awaited, waits_on, is_common, wants_prmceb}
+use Rattle.vx_record.specs.Flags.{cell, flag_part, flag_where_named, at_named, at_flag, put_flag_at, refused_value, readef_at, readef, refused_wait, wait_condition, awaited_at, awaited, waits_on, is_common, wants_prmceb}
 use Rattle.vx_record.specs.Asts.{is_inside}
 use Rattle.vx_record.specs.Finish.{Ending, ending, is_read, fin_part, buf_part, status_of, iosb_part, done_flag_part, done_ast_part, finish, finish_found, this_request}
 use Rattle.vx_record.specs.Mailboxes.{mailbox_at, is_waiting_func, waits_at, this_message, mput_part, mget_part, mcut_part, message_of, read_ending, write_ending, received, write_done, is_attention_at, fire_attention, call_attention, store_message, hand_over, write_box, take_message, read_box, is_answered_now, attend}
@@ -244,14 +244,14 @@ pub at_flag_moves : {refs : Bool} {A : Type 0} (s : State) (p : Pid) (efn : ℕ)
 at_flag_moves s p efn refuse go m f g = outcome_either s (nat_lt 127 efn) _ _ (f _) (at_named_moves s refuse go (cell s p efn) f g (cell_made s p efn m))
 
 pub waited : {refs : Bool} (s : State) (p : Pid) (w : Option Wait) → (refs ≡ true → IfSome w WaitStands) → IsSilent refs s p (with_wait w)
-waited s p w k = record { decl = refl; enables = refl; asts = refl; channels = refl; handlers = refl; low = refl; high = refl; statuses = refl; tame = λ e h. tamely s p (with_wait w) (with_wait_quiet w (process_at s p) (k e)) e h }
+waited s p w k = record { decl = refl; enables = refl; asts = refl; channels = refl; handlers = refl; cluster_0 = refl; cluster_1 = refl; statuses = refl; tame = λ e h. tamely s p (with_wait w) (with_wait_quiet w (process_at s p) (k e)) e h }
 
 awaited_at_moves : {refs : Bool} (s : State) (p : Pid) (w : Wait) (o : Option Cond) → (refs ≡ true → WaitStands w) → OutcomeBy refs s (awaited_at s p w o)
 awaited_at_moves s p w None k = quiet s None p (with_wait (Some w)) (waited s p (Some w) k)
 awaited_at_moves s p w (Some c) k = none s None
 
 pub awaited_moves : {refs : Bool} (s : State) (p : Pid) (w : Wait) → (refs ≡ true → WaitStands w) → OutcomeBy refs s (awaited s p w)
-awaited_moves s p w k = awaited_at_moves s p w (satisfied s p w) k
+awaited_moves s p w k = awaited_at_moves s p w (wait_condition s p w) k
 
 pub waits_moves : {refs : Bool} (s : State) (p : Pid) (efn : ℕ) (w : Wait) → IsProcess s p → (refs ≡ true → WaitStands w) → OutcomeBy refs s (at_flag s p efn (refused_wait s) (waits_on s p w))
 waits_moves s p efn w m is = at_flag_moves s p efn (refused_wait s) (waits_on s p w) m (λ c. none s None) (λ c k. awaited_moves s p w is)

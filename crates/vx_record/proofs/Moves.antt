@@ -135,8 +135,8 @@ pub record IsSilent (refs : Bool) (s : State) (p : Pid) (f : Process → Process
   pub asts : (f (process_at s p)).asts ≡ (process_at s p).asts
   pub channels : (f (process_at s p)).channels ≡ (process_at s p).channels
   pub handlers : (f (process_at s p)).handlers ≡ (process_at s p).handlers
-  pub low : (f (process_at s p)).low ≡ (process_at s p).low
-  pub high : (f (process_at s p)).high ≡ (process_at s p).high
+  pub cluster_0 : (f (process_at s p)).cluster_0 ≡ (process_at s p).cluster_0
+  pub cluster_1 : (f (process_at s p)).cluster_1 ≡ (process_at s p).cluster_1
   pub statuses : (f (process_at s p)).store.statuses ≡ (process_at s p).store.statuses
   pub tame : Answers refs s (IsTame s p f)
 

@@ -20,7 +20,7 @@ use Rattle.std.specs.List.{AllByRecursion}
 use Rattle.vx_base.specs.declared.mode.Mode.{Mode}
 use Rattle.vx_base.specs.declared.number.Pid.{Pid}
 use Rattle.vx_record.specs.Parts.{each}
-use Rattle.vx_record.specs.Control.{born}
+use Rattle.vx_record.specs.Control.{new_process}
 use Rattle.vx_record.specs.Rundown.{drop_handler, drop_ast}
 use Rattle.vx_record.proofs.Changes.{without_handler_still, without_ast_still}
 
@@ -118,7 +118,7 @@ more_keeps s pr =
       going = λ q mode m e. rw (same q m) e;
     }
 
-pub born_stands : (s : State) (place group member : ℕ) (privs : Privs) (mode : Mode) → place < length s.system.decls → ProcessStands (ground s) (born place group member privs mode)
+pub born_stands : (s : State) (place group member : ℕ) (privs : Privs) (mode : Mode) → place < length s.system.decls → ProcessStands (ground s) (new_process place group member privs mode)
 born_stands s place group member privs mode k = record {
   decl = k;
   numbers = refl;

@@ -42,7 +42,7 @@ use Rattle.vx_image.specs.declared.stop.Stop.TheVariants as stop
 use Rattle.vx_record.specs.State.{State, process_at, change, current, image_of, unit_at}
 use Rattle.vx_record.specs.Parts.{Part, Outcome, nothing, each, part_if, refused, at_tested, part_of}
 use Rattle.vx_record.specs.Charges.{moved_bytes, request_need, exceeds, ast_need, timer_need, is_direct, is_attention}
-use Rattle.vx_record.specs.Flags.{cell, flag_part, flag_where_named, at_named, at_flag, put_flag_at, refused_value, readef_at, readef, refused_wait, satisfied, awaited_at, awaited, waits_on, is_common, wants_prmceb}
+use Rattle.vx_record.specs.Flags.{cell, flag_part, flag_where_named, at_named, at_flag, put_flag_at, refused_value, readef_at, readef, refused_wait, wait_condition, awaited_at, awaited, waits_on, is_common, wants_prmceb}
 use Rattle.vx_record.specs.Asts.{is_inside}
 use Rattle.vx_record.specs.Finish.{Ending, ending, is_read, fin_part, buf_part, status_of, iosb_part, done_flag_part, done_ast_part, finish, finish_found, this_request}
 use Rattle.vx_record.specs.Mailboxes.{mailbox_at, is_waiting_func, waits_at, this_message, mput_part, mget_part, mcut_part, message_of, read_ending, write_ending, received, write_done, is_attention_at, fire_attention, call_attention, store_message, hand_over, write_box, take_message, read_box, is_answered_now, attend}
@@ -152,7 +152,7 @@ exited_moves s p code =
     let a = change s p (without_frames code) in
     let b = leave_all (process_at s p).frames a in
     both s a b.after None None None [] b.effects
-    (quiet s None p (without_frames code) (record { decl = refl; enables = refl; asts = refl; channels = refl; handlers = refl; low = refl; high = refl; statuses = refl; tame = λ e h. calm (without_frames code) (record { going = leaving_going (process_at s p).phase (top_mode (process_at s p).frames); idle = λ i. idle_none (leaving (process_at s p).phase (top_mode (process_at s p).frames)); waits = λ w. tt }) }))
+    (quiet s None p (without_frames code) (record { decl = refl; enables = refl; asts = refl; channels = refl; handlers = refl; cluster_0 = refl; cluster_1 = refl; statuses = refl; tame = λ e h. calm (without_frames code) (record { going = leaving_going (process_at s p).phase (top_mode (process_at s p).frames); idle = λ i. idle_none (leaving (process_at s p).phase (top_mode (process_at s p).frames)); waits = λ w. tt }) }))
     (leave_all_moves (process_at s p).frames a)
 
 cancel_found_moves : {refs : Bool} (s : State) (p : Pid) (test : Handler → Bool) (o : Option Handler) → find test (process_at s p).handlers ≡ o → IsProcess s p → OutcomeBy refs s (cancel_found s p o)
@@ -169,7 +169,7 @@ deleted_by_moves {refs} s q h =
     let b = leave_all (process_at s q).frames a in
     let c = drop_handlers b.after q any_handler in
     let first : MovesBy refs s None b.effects b.after None = both s a b.after None None None [] b.effects
-    (quiet s None q named_for_deletion (record { decl = refl; enables = refl; asts = refl; channels = refl; handlers = refl; low = refl; high = refl; statuses = refl; tame = λ e h. calm named_for_deletion (record { going = deleted_going (process_at s q).phase; idle = λ i. idle_none (leaving_deleted (process_at s q).phase); waits = λ w. tt }) }))
+    (quiet s None q named_for_deletion (record { decl = refl; enables = refl; asts = refl; channels = refl; handlers = refl; cluster_0 = refl; cluster_1 = refl; statuses = refl; tame = λ e h. calm named_for_deletion (record { going = deleted_going (process_at s q).phase; idle = λ i. idle_none (leaving_deleted (process_at s q).phase); waits = λ w. tt }) }))
     (leave_all_moves (process_at s q).frames a) in
     both s b.after c.after None None None b.effects c.effects first (end_handlers b.after q any_handler (here_after s q None b.effects b.after None first h).made)
 
@@ -193,7 +193,7 @@ quiet_wake : {refs : Bool} (s : State) (q : Pid) (on : Bool) → OutcomeBy refs 
 quiet_wake s q on = quiet s None q (with_wake on) (woken s q on)
 
 quiet_suspension : {refs : Bool} (s : State) (q : Pid) (on : Bool) → OutcomeBy refs s (changed_process s (with_suspension on) q)
-quiet_suspension s q on = quiet s None q (with_suspension on) (record { decl = refl; enables = refl; asts = refl; channels = refl; handlers = refl; low = refl; high = refl; statuses = refl; tame = tamely s q (with_suspension on) (with_suspension_quiet on (process_at s q)) })
+quiet_suspension s q on = quiet s None q (with_suspension on) (record { decl = refl; enables = refl; asts = refl; channels = refl; handlers = refl; cluster_0 = refl; cluster_1 = refl; statuses = refl; tame = tamely s q (with_suspension on) (with_suspension_quiet on (process_at s q)) })
 
 declared_moves : {refs : Bool} (s : State) (p : Pid) (mode : Mode) (tag : Entry) → IsProcess s p → exceeds s p (ast_need true) ≡ false → Answers refs s (IsRoutineOf (ground s) p tag) → PartBy refs s (declared_ast s p mode tag)
 declared_moves s p mode tag m room ok =
@@ -220,7 +220,7 @@ frame_quiet : {refs : Bool} (s : State) (p : Pid) (f : Frame) → IfSome f.wait 
 frame_quiet s p f k has =
     let pr = process_at s p in
     quiet s None p (with_frame f)
-    (record { decl = refl; enables = refl; asts = refl; channels = refl; handlers = refl; low = refl; high = refl; statuses = refl; tame = λ e h. calm (with_frame f) (record { going = λ n r. r; idle = λ i. idle_of pr.phase pr.frames (f ∷ pr.frames) (has e) i; waits = λ w. (k, w) }) })
+    (record { decl = refl; enables = refl; asts = refl; channels = refl; handlers = refl; cluster_0 = refl; cluster_1 = refl; statuses = refl; tame = λ e h. calm (with_frame f) (record { going = λ n r. r; idle = λ i. idle_of pr.phase pr.frames (f ∷ pr.frames) (has e) i; waits = λ w. (k, w) }) })
 
 -- the declaration that a name has is the first of its name
 
@@ -266,7 +266,7 @@ service_of_moves s p a CanTim h fits = drop_timers_moves s (is_cancelled_timer p
 service_of_moves s p a SchdWk h fits =
     at_tested_moves s (scheduled s p (number a.a1) (number a.a2)) (process_test s p (number a.a0)) (λ q e. scheduled_moves s p (number a.a1) (number a.a2) q h.made (test_made s p (number a.a0) q e))
 service_of_moves s p a CanWak h fits = at_tested_moves s (unscheduled s) (process_test s p (number a.a0)) (λ q e. drop_timers_moves s (is_wake_for q) h.base)
-service_of_moves s p a Hiber h fits = outcome_either s (process_at s p).wake _ _ (quiet s None p (with_wake false) (woken s p false)) (quiet s None p (with_wait (Some wait.Hiber)) (waited s p (Some wait.Hiber) (λ e. tt)))
+service_of_moves s p a Hiber h fits = outcome_either s (process_at s p).wake_pending _ _ (quiet s None p (with_wake false) (woken s p false)) (quiet s None p (with_wait (Some wait.Hiber)) (waited s p (Some wait.Hiber) (λ e. tt)))
 service_of_moves s p a Wake h fits = at_tested_moves s (changed_process s (with_wake true)) (process_test s p (number a.a0)) (λ q e. quiet_wake s q true)
 service_of_moves s p a Suspnd h fits = at_tested_moves s (changed_process s (with_suspension true)) (process_test s p (number a.a0)) (λ q e. quiet_suspension s q true)
 service_of_moves s p a Resume h fits = at_tested_moves s (changed_process s (with_suspension false)) (process_test s p (number a.a0)) (λ q e. quiet_suspension s q false)
@@ -410,7 +410,7 @@ here_then : {refs : Bool} (s : State) (p : Pid) (a : Part) (f : State → Part) 
 here_then s p a f h k g = part_then s p None None None a f h k g
 
 pub phase_silent : {refs : Bool} (s : State) (p : Pid) (ph : Phase) → Answers refs s (IsTame s p (in_phase ph)) → IsSilent refs s p (in_phase ph)
-phase_silent s p ph k = record { decl = refl; enables = refl; asts = refl; channels = refl; handlers = refl; low = refl; high = refl; statuses = refl; tame = k }
+phase_silent s p ph k = record { decl = refl; enables = refl; asts = refl; channels = refl; handlers = refl; cluster_0 = refl; cluster_1 = refl; statuses = refl; tame = k }
 
 pub handling_silent : {refs : Bool} (s : State) (p : Pid) (m : Mode) → IsSilent refs s p (in_phase (phase.Handlers m))
 handling_silent s p m = phase_silent s p (phase.Handlers m) (λ e h. calm (in_phase (phase.Handlers m)) (record { going = λ n r. refl; idle = λ i. tt; waits = λ w. w }))
@@ -512,22 +512,22 @@ rundown_moves s p phase.Deleted at h d = none s None
 -- Steps.
 
 served_call_moves : {refs : Bool} (s : State) (p : Pid) (c : Call) (o : Outcome Served) (answer : Served) → OutcomeBy refs s o → OutcomeBy refs s (served_call p c o answer)
-served_call_moves {refs} s p c o (Answered x) k = moves_end s o.effects o.after (change o.after p (with_r0 (number_of x))) k (quiet o.after None p (with_r0 (number_of x)) (record { decl = refl; enables = refl; asts = refl; channels = refl; handlers = refl; low = refl; high = refl; statuses = refl; tame = tamely o.after p (with_r0 (number_of x)) (with_variable_quiet target.R0 (number_of x) (process_at o.after p)) }))
+served_call_moves {refs} s p c o (Answered x) k = moves_end s o.effects o.after (change o.after p (with_r0 (number_of x))) k (quiet o.after None p (with_r0 (number_of x)) (record { decl = refl; enables = refl; asts = refl; channels = refl; handlers = refl; cluster_0 = refl; cluster_1 = refl; statuses = refl; tame = tamely o.after p (with_r0 (number_of x)) (with_variable_quiet target.R0 (number_of x) (process_at o.after p)) }))
   where
     moves_end : (s : State) (es : List Effect) (t u : State) → MovesBy refs s None es t None → MovesBy refs t None [] u None → MovesBy refs s None es u None
     moves_end s es t u k j = subst (λ (fs : List Effect). MovesBy refs s None fs u None) (append-nil es) (both s t u None None None es [] k j)
 served_call_moves s p c o Waits k = k
 
 frames_silent : {refs : Bool} (s : State) (p : Pid) (r0 : ℕ) → IsSilent refs s p (put_back r0)
-frames_silent s p r0 = record { decl = refl; enables = refl; asts = refl; channels = refl; handlers = refl; low = refl; high = refl; statuses = refl; tame = tamely s p (put_back r0) (put_back_quiet r0 (process_at s p)) }
+frames_silent s p r0 = record { decl = refl; enables = refl; asts = refl; channels = refl; handlers = refl; cluster_0 = refl; cluster_1 = refl; statuses = refl; tame = tamely s p (put_back r0) (put_back_quiet r0 (process_at s p)) }
 
 returned_from_moves : {refs : Bool} (s : State) (p : Pid) (f : Frame) (k : FrameKind) → OutcomeBy refs s (returned_from s p f k)
 returned_from_moves s p f kind.Main = exited_moves s p (r0_of s p)
 returned_from_moves s p f (kind.Ast id) =
     let a = change s p (put_back f.saved_r0) in
     both s a a None None None [] (effect.Leave id ∷ []) (quiet s None p (put_back f.saved_r0) (frames_silent s p f.saved_r0)) (leave a None id tt)
-returned_from_moves s p f kind.Change = quiet s None p below_top (record { decl = refl; enables = refl; asts = refl; channels = refl; handlers = refl; low = refl; high = refl; statuses = refl; tame = tamely s p below_top (below_top_quiet (process_at s p)) })
-returned_from_moves s p f kind.Handler = quiet s None p below_top (record { decl = refl; enables = refl; asts = refl; channels = refl; handlers = refl; low = refl; high = refl; statuses = refl; tame = tamely s p below_top (below_top_quiet (process_at s p)) })
+returned_from_moves s p f kind.Change = quiet s None p below_top (record { decl = refl; enables = refl; asts = refl; channels = refl; handlers = refl; cluster_0 = refl; cluster_1 = refl; statuses = refl; tame = tamely s p below_top (below_top_quiet (process_at s p)) })
+returned_from_moves s p f kind.Handler = quiet s None p below_top (record { decl = refl; enables = refl; asts = refl; channels = refl; handlers = refl; cluster_0 = refl; cluster_1 = refl; statuses = refl; tame = tamely s p below_top (below_top_quiet (process_at s p)) })
 
 pub returned_moves : {refs : Bool} (s : State) (p : Pid) (frames : List Frame) → OutcomeBy refs s (returned s p frames)
 returned_moves s p [] = none s None
@@ -553,13 +553,13 @@ run_advanced_moves {refs} s p a same h fits =
     both s t two.after None None None [] two.effects first (run_on_moves t p a.place a.stop (here_after s p None [] t None first h) (λ e. moved_stopped s p a.store a.place a.stop (fits e)))
 
 uses_silent : {refs : Bool} (w : Wait) (n : ℕ) (s : State) (p : Pid) → IsSilent refs s p (λ pr. with_r0 n (uses_wake w (with_wait None pr)))
-uses_silent (wait.Flags a b c) n s p = record { decl = refl; enables = refl; asts = refl; channels = refl; handlers = refl; low = refl; high = refl; statuses = refl; tame = tamely s p _ (woken_quiet (wait.Flags a b c) n (process_at s p)) }
-uses_silent (wait.Synch a b) n s p = record { decl = refl; enables = refl; asts = refl; channels = refl; handlers = refl; low = refl; high = refl; statuses = refl; tame = tamely s p _ (woken_quiet (wait.Synch a b) n (process_at s p)) }
-uses_silent wait.Hiber n s p = record { decl = refl; enables = refl; asts = refl; channels = refl; handlers = refl; low = refl; high = refl; statuses = refl; tame = tamely s p _ (woken_quiet wait.Hiber n (process_at s p)) }
+uses_silent (wait.Flags a b c) n s p = record { decl = refl; enables = refl; asts = refl; channels = refl; handlers = refl; cluster_0 = refl; cluster_1 = refl; statuses = refl; tame = tamely s p _ (woken_quiet (wait.Flags a b c) n (process_at s p)) }
+uses_silent (wait.Synch a b) n s p = record { decl = refl; enables = refl; asts = refl; channels = refl; handlers = refl; cluster_0 = refl; cluster_1 = refl; statuses = refl; tame = tamely s p _ (woken_quiet (wait.Synch a b) n (process_at s p)) }
+uses_silent wait.Hiber n s p = record { decl = refl; enables = refl; asts = refl; channels = refl; handlers = refl; cluster_0 = refl; cluster_1 = refl; statuses = refl; tame = tamely s p _ (woken_quiet wait.Hiber n (process_at s p)) }
 
 run_frame_moves : {refs : Bool} (s : State) (p : Pid) (f : Frame) (o : Option Wait) → Here s p → (refs ≡ true → IsWellFormed s.system × HasFrame s p) → OutcomeBy refs s (run_frame s p f o)
 run_frame_moves s p f None h fits = run_advanced_moves s p (advanced (image_of s p) (reader p f) (process_at s p).store f.pc) (advanced_statuses (image_of s p) (reader p f) (process_at s p).store f.pc) h (λ e. advanced_stopped s p f (fits e).0 (fits e).1)
-run_frame_moves s p f (Some w) h fits = quiet s None p (resumed_with w (or_normal (satisfied s p w))) (uses_silent w (number_of (or_normal (satisfied s p w))) s p)
+run_frame_moves s p f (Some w) h fits = quiet s None p (resumed_with w (or_normal (wait_condition s p w))) (uses_silent w (number_of (or_normal (wait_condition s p w))) s p)
 
 run_moves : {refs : Bool} (s : State) (p : Pid) (frames : List Frame) → (process_at s p).frames ≡ frames → Here s p → (refs ≡ true → IsWellFormed s.system) → OutcomeBy refs s (run s p frames)
 run_moves s p [] at h formed = none s None

@@ -42,7 +42,7 @@ use Rattle.vx_image.specs.declared.stop.Stop.TheVariants as stop
 use Rattle.vx_record.specs.State.{State, process_at, change, current, image_of, unit_at}
 use Rattle.vx_record.specs.Parts.{Part, Outcome, nothing, each, part_if, refused, at_tested, part_of}
 use Rattle.vx_record.specs.Charges.{exceeds, ast_need, timer_need, is_direct, is_attention}
-use Rattle.vx_record.specs.Flags.{cell, with_cell, flag_part, flag_where_named, at_named, at_flag, put_flag_at, refused_value, readef_at, readef, refused_wait, satisfied, awaited_at, awaited, waits_on, is_common, wants_prmceb}
+use Rattle.vx_record.specs.Flags.{cell, with_cell, flag_part, flag_where_named, at_named, at_flag, put_flag_at, refused_value, readef_at, readef, refused_wait, wait_condition, awaited_at, awaited, waits_on, is_common, wants_prmceb}
 use Rattle.vx_record.specs.Asts.{is_inside, deliverable_ast}
 use Rattle.vx_record.specs.Finish.{Ending, ending, is_read, fin_part, buf_part, status_of, iosb_part, done_flag_part, done_ast_part, finish, finish_found, this_request}
 use Rattle.vx_record.specs.Mailboxes.{mailbox_at, is_waiting_func, waits_at, this_message, mput_part, mget_part, mcut_part, message_of, read_ending, write_ending, received, write_done, is_attention_at, fire_attention, call_attention, store_message, hand_over, write_box, take_message, read_box, is_answered_now, attend}
@@ -94,7 +94,7 @@ awaited_at_kept s p w None = refl
 awaited_at_kept s p w (Some c) = refl
 
 awaited_kept : (s : State) (p : Pid) (w : Wait) → (awaited s p w).after.system ≡ s.system
-awaited_kept s p w = awaited_at_kept s p w (satisfied s p w)
+awaited_kept s p w = awaited_at_kept s p w (wait_condition s p w)
 
 waits_kept : (s : State) (p : Pid) (efn : ℕ) (w : Wait) → (at_flag s p efn (refused_wait s) (waits_on s p w)).after.system ≡ s.system
 waits_kept s p efn w = at_flag_kept s p efn (refused_wait s) (waits_on s p w) (λ c. refl) (λ c. awaited_kept s p w)
@@ -333,7 +333,7 @@ service_of_kept s p a CanTim = drop_timers_kept s (is_cancelled_timer p (number 
 service_of_kept s p a SchdWk =
     at_tested_kept s (scheduled s p (number a.a1) (number a.a2)) (process_test s p (number a.a0)) (λ q. both s (exceeds s p (ast_need true)) _ _ refl refl)
 service_of_kept s p a CanWak = at_tested_kept s (unscheduled s) (process_test s p (number a.a0)) (λ q. drop_timers_kept s (is_wake_for q))
-service_of_kept s p a Hiber = both s (process_at s p).wake _ _ refl refl
+service_of_kept s p a Hiber = both s (process_at s p).wake_pending _ _ refl refl
 service_of_kept s p a Wake = at_tested_kept s (changed_process s (with_wake true)) (process_test s p (number a.a0)) (λ q. refl)
 service_of_kept s p a Suspnd = at_tested_kept s (changed_process s (with_suspension true)) (process_test s p (number a.a0)) (λ q. refl)
 service_of_kept s p a Resume = at_tested_kept s (changed_process s (with_suspension false)) (process_test s p (number a.a0)) (λ q. refl)

@@ -37,7 +37,7 @@ is_deleted pr = is_deleted_phase pr.phase
 
 -- it was made, is not deleted, and is not being deleted
 abbrev pub exists_for_control : State → ℕ → Bool
-exists_for_control s n = nat_le 1 n && (nat_le n (length s.procs) && not (is_deleted (process_at s (pid n)) || (process_at s (pid n)).named))
+exists_for_control s n = nat_le 1 n && (nat_le n (length s.procs) && not (is_deleted (process_at s (pid n)) || (process_at s (pid n)).delete_pending))
 
 abbrev pub same_group : Process → Process → Bool
 same_group a b = a.group == b.group
@@ -69,7 +69,7 @@ changed_process s f q = answered Normal (nothing (change s q f))
 -- Hibernation and suspension.
 
 abbrev pub with_wake : Bool → Process → Process
-with_wake on pr = record pr { wake = on }
+with_wake on pr = record pr { wake_pending = on }
 
 abbrev pub with_suspension : Bool → Process → Process
 with_suspension on pr = record pr { suspended = on }
@@ -77,7 +77,7 @@ with_suspension on pr = record pr { suspended = on }
 -- $HIBER: a pending wake is used up; where none pends it waits
 abbrev pub hiber : State → Pid → Outcome Served
 hiber s p =
-    if (process_at s p).wake then answered (Answered Normal) (nothing (change s p (with_wake false))) else
+    if (process_at s p).wake_pending then answered (Answered Normal) (nothing (change s p (with_wake false))) else
     answered Waits (nothing (change s p (with_wait (Some wait.Hiber))))
 
 -- $WAKE: at most one wake pends
@@ -106,8 +106,8 @@ forcex s p n code = at_process s p n (forced s code)
 -- Creation.
 
 -- a process of the declaration at a place, before its first statement
-abbrev pub born : ℕ → ℕ → ℕ → Privs → Mode → Process
-born place group member privs mode = record {
+abbrev pub new_process : ℕ → ℕ → ℕ → Privs → Mode → Process
+new_process place group member privs mode = record {
   decl = place;
   group = group;
   member = member;
@@ -118,12 +118,12 @@ born place group member privs mode = record {
   asts = [];
   channels = replicate 64 None;
   handlers = [];
-  low = 0;
-  high = 0;
-  wake = false;
+  cluster_0 = 0;
+  cluster_1 = 0;
+  wake_pending = false;
   suspended = false;
-  named = false;
-  code = 0;
+  delete_pending = false;
+  exit_code = 0;
   phase = phase.Alive;
 }
 
@@ -148,7 +148,7 @@ next_pid s = pid (length s.procs + 1)
 -- a created process has its creator's group and member, no privilege that its creator lacks, and no inner mode
 abbrev pub created : State → Pid → ℕ → Process
 created s p place =
-    born place (process_at s p).group (process_at s p).member (held_by_both (process_at s p).privs (decl_at s place).privs) (outer (decl_at s place).mode (current s p))
+    new_process place (process_at s p).group (process_at s p).member (held_by_both (process_at s p).privs (decl_at s place).privs) (outer (decl_at s place).mode (current s p))
 
 abbrev pub new_part : State → Pid → ℕ → Part
 new_part s p place = tells (effect.New (next_pid s) (decl_at s place).name) (record s { procs = s.procs ++ created s p place ∷ [] })

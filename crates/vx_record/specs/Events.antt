@@ -29,7 +29,7 @@ use Rattle.vx_image.specs.declared.stop.Stop.{Stop}
 use Rattle.vx_image.specs.declared.stop.Stop.TheVariants as stop
 use Rattle.vx_record.specs.State.{Process, State, process_at, change, image_of, pid, with_top}
 use Rattle.vx_record.specs.Parts.{Part, Outcome, nothing, tells, and_then, answered}
-use Rattle.vx_record.specs.Flags.{satisfied, with_wait}
+use Rattle.vx_record.specs.Flags.{wait_condition, with_wait}
 use Rattle.vx_record.specs.Asts.{deliverable_ast, with_frame, new_frame}
 use Rattle.vx_record.specs.Timers.{tick, next_time}
 use Rattle.vx_record.specs.Control.{with_wake}
@@ -43,7 +43,7 @@ use Rattle.vx_record.specs.declared.served.Served.TheVariants.{Answered, Waits}
 
 abbrev pub is_satisfied : State → Pid → Option Wait → Bool
 is_satisfied s p None = true
-is_satisfied s p (Some w) = is_some (satisfied s p w)
+is_satisfied s p (Some w) = is_some (wait_condition s p w)
 
 -- it has a frame, which waits for nothing or for what has come
 abbrev pub can_run : State → Pid → List Frame → Bool
@@ -174,7 +174,7 @@ reader p f = record { prm = f.prm; p = p }
 
 abbrev pub run_frame : State → Pid → Frame → Option Wait → Outcome Answer
 run_frame s p f None = run_advanced s p (advanced (image_of s p) (reader p f) (process_at s p).store f.pc)
-run_frame s p f (Some w) = resumed s p w (or_normal (satisfied s p w))
+run_frame s p f (Some w) = resumed s p w (or_normal (wait_condition s p w))
 
 abbrev pub run : State → Pid → List Frame → Outcome Answer
 run s p [] = answered answer.Local (nothing s)

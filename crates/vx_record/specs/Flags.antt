@@ -34,7 +34,7 @@ cluster_flags None = 0
 cluster_flags (Some cl) = cl.flags
 
 abbrev pub local_flags : Process → ℕ → ℕ
-local_flags pr n = if nat_lt n 32 then pr.low else pr.high
+local_flags pr n = if nat_lt n 32 then pr.cluster_0 else pr.cluster_1
 
 -- the 32 flags of a cell's cluster
 abbrev pub flags_of : State → Cell → ℕ
@@ -50,7 +50,7 @@ abbrev pub is_set_in : State → Cell → Bool
 is_set_in s c = is_set (flags_of s c) (place_in c)
 
 abbrev pub with_local_flag : ℕ → Bool → Process → Process
-with_local_flag n on pr = if nat_lt n 32 then record pr { low = with_flag pr.low n on } else record pr { high = with_flag pr.high (n - 32) on }
+with_local_flag n on pr = if nat_lt n 32 then record pr { cluster_0 = with_flag pr.cluster_0 n on } else record pr { cluster_1 = with_flag pr.cluster_1 (n - 32) on }
 
 abbrev pub with_cluster_flag : ℕ → Bool → Cluster → Cluster
 with_cluster_flag n on cl = record cl { flags = with_flag cl.flags n on }
@@ -123,10 +123,10 @@ abbrev pub is_synchronized : State → Pid → ℕ → Cell → Bool
 is_synchronized s p iosb c = is_set_in s c && ((iosb == 0) || is_filled (status_at (process_at s p).store iosb))
 
 -- the condition with which a wait ends now, None where it is not satisfied
-abbrev pub satisfied : State → Pid → Wait → Option Cond
-satisfied s p (wait.Flags efn mask all) = where_named (flags_hold s mask all) (cell s p efn)
-satisfied s p (wait.Synch efn iosb) = where_named (is_synchronized s p iosb) (cell s p efn)
-satisfied s p wait.Hiber = normal_if (process_at s p).wake
+abbrev pub wait_condition : State → Pid → Wait → Option Cond
+wait_condition s p (wait.Flags efn mask all) = where_named (flags_hold s mask all) (cell s p efn)
+wait_condition s p (wait.Synch efn iosb) = where_named (is_synchronized s p iosb) (cell s p efn)
+wait_condition s p wait.Hiber = normal_if (process_at s p).wake_pending
 
 abbrev pub with_wait : Option Wait → Process → Process
 with_wait w pr = record pr { frames = with_top (λ f. record f { wait = w }) pr.frames }
@@ -140,7 +140,7 @@ awaited_at s p w None = answered Waits (nothing (change s p (with_wait (Some w))
 awaited_at s p w (Some c) = answered (Answered c) (nothing s)
 
 abbrev pub awaited : State → Pid → Wait → Outcome Served
-awaited s p w = awaited_at s p w (satisfied s p w)
+awaited s p w = awaited_at s p w (wait_condition s p w)
 
 abbrev pub waits_on : State → Pid → Wait → Cell → Outcome Served
 waits_on s p w c = awaited s p w

@@ -41,7 +41,7 @@ leaving other m = other
 
 -- all frames go; an alive process goes on to the exit handlers of its mode, and any other keeps its phase
 abbrev pub without_frames : ℕ → Process → Process
-without_frames code pr = record pr { frames = []; code = code; phase = leaving pr.phase (top_mode pr.frames) }
+without_frames code pr = record pr { frames = []; exit_code = code; phase = leaving pr.phase (top_mode pr.frames) }
 
 abbrev pub leave_kind : State → FrameKind → Part
 leave_kind s (kind.Ast id) = tells (effect.Leave id) s
@@ -117,7 +117,7 @@ leaving_deleted phase.Alive = phase.Handlers User
 leaving_deleted other = other
 
 abbrev pub named_for_deletion : Process → Process
-named_for_deletion pr = record pr { frames = []; suspended = false; named = true; phase = leaving_deleted pr.phase }
+named_for_deletion pr = record pr { frames = []; suspended = false; delete_pending = true; phase = leaving_deleted pr.phase }
 
 abbrev pub deleted_by : State → Pid → Outcome Cond
 deleted_by s q =
@@ -191,7 +191,7 @@ abbrev pub entering : Frame → Id → Process → Process
 entering f id pr = record pr { handlers = less (this_handler id) pr.handlers; frames = f ∷ pr.frames }
 
 abbrev pub handler_frame : State → Pid → Handler → Frame
-handler_frame s p h = record (new_frame s p kind.Handler h.mode h.tag 0) { prm = (process_at s p).code }
+handler_frame s p h = record (new_frame s p kind.Handler h.mode h.tag 0) { prm = (process_at s p).exit_code }
 
 abbrev pub entered : State → Pid → Handler → Outcome Answer
 entered s p h = answered answer.Handler (tells (effect.Enter h.id) (change s p (entering (handler_frame s p h) h.id)))

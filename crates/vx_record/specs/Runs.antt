@@ -11,13 +11,13 @@ use Rattle.vx_image.specs.declared.system.System.{System}
 use Rattle.vx_image.specs.declared.unit.UnitDecl.{UnitDecl}
 use Rattle.vx_image.specs.Units.{first_unit}
 use Rattle.vx_record.specs.State.{Process, State}
-use Rattle.vx_record.specs.Control.{born, is_deleted}
+use Rattle.vx_record.specs.Control.{new_process, is_deleted}
 use Rattle.vx_record.specs.Events.{enabled, step}
 
 -- The first state: the processes that are there from the start, in script order; nothing opened; time 0.
 
 abbrev pub born_of : ℕ → ProcDecl → Process
-born_of place d = born place d.group d.member d.privs d.mode
+born_of place d = new_process place d.group d.member d.privs d.mode
 
 -- those of the declarations from this place on
 abbrev pub born_from : ℕ → List ProcDecl → List Process

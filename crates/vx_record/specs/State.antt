@@ -35,12 +35,12 @@ pub record Process : Type 0 where
   pub asts : List Queued
   pub channels : List (Option Channel)
   pub handlers : List Handler
-  pub low : ℕ
-  pub high : ℕ
-  pub wake : Bool
+  pub cluster_0 : ℕ
+  pub cluster_1 : ℕ
+  pub wake_pending : Bool
   pub suspended : Bool
-  pub named : Bool
-  pub code : ℕ
+  pub delete_pending : Bool
+  pub exit_code : ℕ
   pub phase : Phase
 
 -- The whole: what the script says; the time, in ticks, and the next id; the processes in number order; the common event
@@ -78,12 +78,12 @@ nobody = record {
   asts = [];
   channels = [];
   handlers = [];
-  low = 0;
-  high = 0;
-  wake = false;
+  cluster_0 = 0;
+  cluster_1 = 0;
+  wake_pending = false;
   suspended = false;
-  named = false;
-  code = 0;
+  delete_pending = false;
+  exit_code = 0;
   phase = Deleted;
 }
 

@@ -4,7 +4,7 @@ use Rattle.std.specs.List.{list_all}
 use Rattle.vx_image.specs.WellFormed.{is_among, are_distinct}
 use Rattle.vx_text.specs.declared.token.Tok.{Tok}
 use Rattle.vx_script.specs.Fields.{name_at, room_for}
-use Rattle.vx_script.specs.Declarations.{decl_place, fresh, process_line}
+use Rattle.vx_script.specs.Declarations.{decl_place, unused_name, process_line}
 use Rattle.vx_script.specs.Keys.{no_keys, keys_from}
 use Rattle.vx_script.specs.declared.lines.DeclLine.{DeclLine}
 use Rattle.vx_script.proofs.Appended.{all_push, map_push, few_push, distinct_push}
@@ -38,7 +38,7 @@ pub decl_read : (line : ℕ) (decls : List DeclLine) (tokens : List Tok) → Are
 unfolding process_line
 decl_read line decls tokens h =
     after (name_at tokens) _ (WithDecl decls) λ word _.
-    after_by (fresh (decl_place word decls) word) _ (IsFresh (decl_place word decls) word) (WithDecl decls) (is_fresh (decl_place word decls) word) λ name new.
+    after_by (unused_name (decl_place word decls) word) _ (IsFresh (decl_place word decls) word) (WithDecl decls) (is_fresh (decl_place word decls) word) λ name new.
     after (name_at (drop 1 tokens)) _ (WithDecl decls) λ image _.
     after_by (keys_from 0 no_keys (drop 2 tokens)) _ AreKeys (WithDecl decls) (keys 0 no_keys (drop 2 tokens) none_taken) λ taken k.
     after_by (room_for 1000 (length decls)) _ (λ _. nat_lt (length decls) 1000 ≡ true) (WithDecl decls) (has_room 1000 (length decls)) λ _ room.

@@ -13,7 +13,7 @@ use Rattle.vx_image.specs.declared.image.Label.{Label}
 use Rattle.vx_image.specs.declared.stmt.Stmt.{Stmt}
 use Rattle.vx_image.specs.declared.stmt.Stmt.TheVariants as stmt
 use Rattle.vx_image.specs.WellFormed.{is_among, are_distinct, falls_nowhere, label_names, label_places, has_its_label, has_its_decl, is_call_of, is_stmt}
-use Rattle.vx_script.specs.Resolving.{earlier, is_label, arg_names_none, call_names_none, draft_names_none, names_no_label, first_unlabelled, place_or_zero, settled, image_of, created_by, created_in, creation_of, creations_of}
+use Rattle.vx_script.specs.Resolving.{least_line, is_label, arg_names_none, call_names_none, draft_names_none, names_no_label, first_unlabelled, place_or_zero, settled, image_of, created_by, created_in, creation_of, creations_of}
 use Rattle.vx_script.specs.Places.{label_place}
 use Rattle.vx_script.specs.declared.draft.Draft.{Draft}
 use Rattle.vx_script.specs.declared.draft.Draft.TheVariants as draft
@@ -126,7 +126,7 @@ image_is decls images image h labels known =
 
 -- What has ended.
 
-pub neither : (a b : Option ℕ) → earlier a b ≡ None → (a ≡ None) × (b ≡ None)
+pub neither : (a b : Option ℕ) → least_line a b ≡ None → (a ≡ None) × (b ≡ None)
 neither None b h = (refl, h)
 neither (Some a) None h = absurd (cc h)
 neither (Some a) (Some b) h = absurd (cc h)
@@ -139,7 +139,7 @@ pub record AreImages (images : List Image) (creations : List Creation) (unlabell
 
 pub image_ended : (images : List Image) (creations : List Creation) (unlabelled : Option ℕ) (image : DraftImage)
     → AreImages images creations unlabelled → IsOpen images image
-    → AreImages (images ++ image_of image ∷ []) (creations ++ creations_of image.lines) (earlier unlabelled (first_unlabelled image))
+    → AreImages (images ++ image_of image ∷ []) (creations ++ creations_of image.lines) (least_line unlabelled (first_unlabelled image))
 image_ended images creations unlabelled image h o =
     let name = λ (i : Image). i.name in
     record {

@@ -7,7 +7,7 @@ use Rattle.vx_image.specs.declared.image.Label.{Label}
 use Rattle.vx_image.specs.WellFormed.{is_among, are_distinct, falls_nowhere}
 use Rattle.vx_text.specs.declared.token.Tok.{Tok}
 use Rattle.vx_script.specs.Fields.{name_at, end_at, when, room_for}
-use Rattle.vx_script.specs.Declarations.{fresh, image_line}
+use Rattle.vx_script.specs.Declarations.{unused_name, image_line}
 use Rattle.vx_script.specs.Places.{image_place, label_place}
 use Rattle.vx_script.specs.Statements.{stmt_of}
 use Rattle.vx_script.specs.Reading.{with_stmt, with_label, labelled}
@@ -34,7 +34,7 @@ pub record IsOpen (images : List Image) (image : DraftImage) : Type 0 where
 abbrev pub IsFresh : Option ℕ → List ℕ → List ℕ → Type 0
 IsFresh place word name = (name ≡ word) × (place ≡ None)
 
-pub is_fresh : (place : Option ℕ) (word : List ℕ) → IfOk (fresh place word) (IsFresh place word)
+pub is_fresh : (place : Option ℕ) (word : List ℕ) → IfOk (unused_name place word) (IsFresh place word)
 is_fresh None word = (refl, refl)
 is_fresh (Some k) word = tt
 
@@ -102,7 +102,7 @@ one_label_more images image name h new =
 pub label_read : (images : List Image) (line : ℕ) (image : DraftImage) (name : List ℕ) (tokens : List Tok) → IsOpen images image
     → IfOk (labelled line image name tokens) (IsOpen images)
 label_read images line image name tokens h =
-    after_by (fresh (label_place name image.labels) name) _ (IsFresh (label_place name image.labels) name) (IsOpen images)
+    after_by (unused_name (label_place name image.labels) name) _ (IsFresh (label_place name image.labels) name) (IsOpen images)
     (is_fresh (label_place name image.labels) name) λ _ k.
     stmt_read images line (with_label image name) tokens (one_label_more images image name h k.1)
 
@@ -124,7 +124,7 @@ pub image_read : (images : List Image) (tokens : List Tok) → IfOk (image_line 
 unfolding image_line
 image_read images tokens =
     after (name_at tokens) _ (IsOpen images) λ word _.
-    after_by (fresh (image_place word images) word) _ (IsFresh (image_place word images) word) (IsOpen images)
+    after_by (unused_name (image_place word images) word) _ (IsFresh (image_place word images) word) (IsOpen images)
     (is_fresh (image_place word images) word) λ name k.
     after (end_at (drop 1 tokens)) _ (IsOpen images) λ _ _.
     after_by (room_for 256 (length images)) _ (λ _. nat_lt (length images) 256 ≡ true) (IsOpen images) (has_room 256 (length images)) λ _ room.

@@ -9,7 +9,7 @@ use Rattle.vx_image.specs.declared.system.System.{System}
 use Rattle.vx_image.specs.WellFormed.{are_distinct, rises_above, is_unit, is_decl, decl_names}
 use Rattle.vx_script.specs.Declarations.{decl_place}
 use Rattle.vx_script.specs.Places.{image_place, rising}
-use Rattle.vx_script.specs.Resolving.{names_no_decl, unknown_creation, names_no_image, unknown_image, names_no_line_unit, unknown_input, unknown_fault, first_unknown, earlier, place_or_zero, inputs_of, numbers_of, unit_of, decl_of, system_of}
+use Rattle.vx_script.specs.Resolving.{names_no_decl, unknown_creation, names_no_image, unknown_image, names_no_line_unit, unknown_input, unknown_fault, first_unknown, least_line, place_or_zero, inputs_of, numbers_of, unit_of, decl_of, system_of}
 use Rattle.vx_script.specs.declared.lines.Creation.{Creation}
 use Rattle.vx_script.specs.declared.lines.DeclLine.{DeclLine}
 use Rattle.vx_script.specs.declared.lines.InputLine.{InputLine}
@@ -91,9 +91,9 @@ pub record IsFormed (s : System) : Type 0 where
 
 pub well_formed : (p : Parts) → AreParts p → first_unknown p ≡ None → IsFormed (system_of p)
 well_formed p h e =
-    let labels = neither p.unlabelled (earlier (unknown_creation p) (earlier (unknown_image p) (earlier (unknown_input p) (unknown_fault p)))) e in
-    let made = neither (unknown_creation p) (earlier (unknown_image p) (earlier (unknown_input p) (unknown_fault p))) labels.1 in
-    let run = neither (unknown_image p) (earlier (unknown_input p) (unknown_fault p)) made.1 in
+    let labels = neither p.unlabelled (least_line (unknown_creation p) (least_line (unknown_image p) (least_line (unknown_input p) (unknown_fault p)))) e in
+    let made = neither (unknown_creation p) (least_line (unknown_image p) (least_line (unknown_input p) (unknown_fault p))) labels.1 in
+    let run = neither (unknown_image p) (least_line (unknown_input p) (unknown_fault p)) made.1 in
     let fed = neither (unknown_input p) (unknown_fault p) run.1 in
     let names : decl_names (system_of p) ≡ map (λ (d : DeclLine). d.name) p.decls = map_twice (decl_of p.images) (λ (d : ProcDecl). d.name) p.decls in
     let creations = unfound (names_no_decl p.decls) p.creations (none_from (λ (c : Creation). c.line) (find (names_no_decl p.decls) p.creations) made.0) in

@@ -6,7 +6,7 @@ use Rattle.vx_image.specs.declared.unit.UnitDecl.{UnitDecl}
 use Rattle.vx_image.specs.WellFormed.{is_among, are_distinct}
 use Rattle.vx_text.specs.declared.token.Tok.{Tok}
 use Rattle.vx_script.specs.Fields.{end_at, name_at, number_at, room_for, device_at, blocks_of}
-use Rattle.vx_script.specs.Declarations.{fresh, unit_line}
+use Rattle.vx_script.specs.Declarations.{unused_name, unit_line}
 use Rattle.vx_script.specs.Places.{unit_place}
 use Rattle.vx_script.specs.declared.declaration.Device.{Device}
 use Rattle.vx_script.specs.declared.declaration.Device.TheVariants as device
@@ -50,7 +50,7 @@ pub unit_read : (units : List UnitDecl) (tokens : List Tok) → AreUnits units �
 unfolding unit_line
 unit_read units tokens h =
     after (name_at tokens) _ (WithUnit units) λ word _.
-    after_by (fresh (unit_place word units) word) _ (IsFresh (unit_place word units) word) (WithUnit units) (is_fresh (unit_place word units) word) λ name new.
+    after_by (unused_name (unit_place word units) word) _ (IsFresh (unit_place word units) word) (WithUnit units) (is_fresh (unit_place word units) word) λ name new.
     after (device_at (drop 1 tokens)) _ (WithUnit units) λ d _.
     after_by (blocks_of d (drop 2 tokens)) _ IsBlocks (WithUnit units) (blocks_are d (drop 2 tokens)) λ blocks k.
     after_by (room_for 32 (length units)) _ (λ _. nat_lt (length units) 32 ≡ true) (WithUnit units) (has_room 32 (length units)) λ _ room.

@@ -19,16 +19,16 @@ abbrev pub decl_place : List ℕ → List DeclLine → Option ℕ
 decl_place name decls = position (λ d. bytes_eq name d.name) decls
 
 -- a name that stands nowhere yet
-abbrev pub fresh : Option ℕ → List ℕ → Result (List ℕ) FaultKind
-fresh None name = Ok name
-fresh (Some place) name = Err kind.Twice
+abbrev pub unused_name : Option ℕ → List ℕ → Result (List ℕ) FaultKind
+unused_name None name = Ok name
+unused_name (Some place) name = Err kind.Twice
 
 -- UNIT name LINE, and UNIT name BLOCK n
 
 unfoldable pub unit_line : List UnitDecl → List Tok → Result UnitDecl FaultKind
 unit_line units tokens = do
   word ← name_at tokens
-  name ← fresh (unit_place word units) word
+  name ← unused_name (unit_place word units) word
   device ← device_at (drop 1 tokens)
   blocks ← blocks_of device (drop 2 tokens)
   _ ← room_for 32 (length units)
@@ -62,7 +62,7 @@ fault_line line faults tokens = do
 unfoldable pub image_line : List Image → List Tok → Result DraftImage FaultKind
 image_line images tokens = do
   word ← name_at tokens
-  name ← fresh (image_place word images) word
+  name ← unused_name (image_place word images) word
   _ ← end_at (drop 1 tokens)
   _ ← room_for 256 (length images)
   Ok (record { name = name; labels = []; lines = [] })
@@ -71,7 +71,7 @@ image_line images tokens = do
 unfoldable pub process_line : ℕ → List DeclLine → List Tok → Result DeclLine FaultKind
 process_line line decls tokens = do
   word ← name_at tokens
-  name ← fresh (decl_place word decls) word
+  name ← unused_name (decl_place word decls) word
   image ← name_at (drop 1 tokens)
   keys ← keys_from 0 no_keys (drop 2 tokens)
   _ ← room_for 1000 (length decls)

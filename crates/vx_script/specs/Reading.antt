@@ -8,7 +8,7 @@ use Rattle.vx_script.specs.Results.{◌>>=◌, at_line}
 use Rattle.vx_script.specs.Lines.{lines_of}
 use Rattle.vx_script.specs.Fields.{begins_with_sign, end_at, room_for, with_kind}
 use Rattle.vx_script.specs.Statements.{stmt_of}
-use Rattle.vx_script.specs.Declarations.{fresh, unit_line, input_line, fault_line, image_line, process_line}
+use Rattle.vx_script.specs.Declarations.{unused_name, unit_line, input_line, fault_line, image_line, process_line}
 use Rattle.vx_script.specs.Places.{label_place}
 use Rattle.vx_script.specs.Resolving.{with_image, resolve}
 use Rattle.vx_script.specs.declared.draft.DraftImage.{DraftImage}
@@ -31,7 +31,7 @@ with_label image name = record image { labels = image.labels ++ record { name = 
 
 -- a label, and the statement behind it if any
 abbrev pub labelled : ℕ → DraftImage → List ℕ → List Tok → Result DraftImage FaultKind
-labelled line image name tokens = fresh (label_place name image.labels) name >>= λ _. with_stmt line (with_label image name) tokens
+labelled line image name tokens = unused_name (label_place name image.labels) name >>= λ _. with_stmt line (with_label image name) tokens
 
 -- the image goes on
 abbrev pub goes_on : Parts → DraftImage → Reading

@@ -89,17 +89,17 @@ abbrev pub creations_of : List DraftLine → List Creation
 creations_of lines = flat_map creation_of lines
 
 -- the earlier of two lines
-abbrev pub earlier : Option ℕ → Option ℕ → Option ℕ
-earlier None b = b
-earlier (Some a) None = Some a
-earlier (Some a) (Some b) = Some (if nat_le a b then a else b)
+abbrev pub least_line : Option ℕ → Option ℕ → Option ℕ
+least_line None b = b
+least_line (Some a) None = Some a
+least_line (Some a) (Some b) = Some (if nat_le a b then a else b)
 
 -- an image is ended
 abbrev pub with_image : Parts → DraftImage → Parts
 with_image parts image = record parts {
   images = parts.images ++ image_of image ∷ [];
   creations = parts.creations ++ creations_of image.lines;
-  unlabelled = earlier parts.unlabelled (first_unlabelled image);
+  unlabelled = least_line parts.unlabelled (first_unlabelled image);
 }
 
 -- What the other lines name.
@@ -130,7 +130,7 @@ unknown_fault parts = option_map (λ f. f.line) (find (names_no_unit parts.units
 
 -- the first line that names what is not there
 abbrev pub first_unknown : Parts → Option ℕ
-first_unknown parts = earlier parts.unlabelled (earlier (unknown_creation parts) (earlier (unknown_image parts) (earlier (unknown_input parts) (unknown_fault parts))))
+first_unknown parts = least_line parts.unlabelled (least_line (unknown_creation parts) (least_line (unknown_image parts) (least_line (unknown_input parts) (unknown_fault parts))))
 
 -- The system.
 

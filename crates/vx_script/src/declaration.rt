@@ -14,7 +14,7 @@ use crate::lines::{DeclLine, FaultLine, InputLine};
 use std::alloc::Global;
 use vx_base::{Name, Sequence};
 use vx_image::{Image, UnitDecl};
-use vx_register::{NumberedRegister, Register};
+use vx_names::{NumberedRegister, Register};
 use vx_text::{Tok, Token};
 
 /// What a unit is.
@@ -31,8 +31,8 @@ const MOST_IMAGES: usize = 256;
 const MOST_DECLS: usize = 1000;
 
 /// A name that stands nowhere yet.
-pub fn fresh(place: Option<u32>, name: Name) -> Result<Name, FaultKind>
-    ensures { result ≡ spec.fresh place name }
+pub fn unused_name(place: Option<u32>, name: Name) -> Result<Name, FaultKind>
+    ensures { result ≡ spec.unused_name place name }
 {
     match place {
         None => Ok(name),
@@ -112,7 +112,7 @@ pub fn unit_line(
     ensures { result ≡ spec.unit_line units.now (toks tokens.now) }
 {
     let name = name_at(tokens)?;
-    let name = fresh(units.place(name), name)?;
+    let name = unused_name(units.place(name), name)?;
     let device = device_at(behind(tokens, 1))?;
     let blocks = blocks_of(device, behind(tokens, 2))?;
     room_for(MOST_UNITS, units.len())?;
@@ -172,7 +172,7 @@ pub fn image_line(
     ensures { result ≡ spec.image_line images.now (toks tokens.now) }
 {
     let name = name_at(tokens)?;
-    let name = fresh(images.place(name), name)?;
+    let name = unused_name(images.place(name), name)?;
     end_at(behind(tokens, 1))?;
     room_for(MOST_IMAGES, images.len())?;
     Ok(DraftImage {
@@ -192,7 +192,7 @@ pub fn process_line(
     ensures { result ≡ spec.process_line line decls.now (toks tokens.now) }
 {
     let name = name_at(tokens)?;
-    let name = fresh(decls.place(name), name)?;
+    let name = unused_name(decls.place(name), name)?;
     let image = name_at(behind(tokens, 1))?;
     let keys = keys_at(NO_KEYS, behind(tokens, 2))?;
     room_for(MOST_DECLS, decls.len())?;

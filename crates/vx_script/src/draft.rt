@@ -6,7 +6,7 @@ use std::alloc::Global;
 use std::marker::Model;
 use vx_base::{Name, NoMemory, Operand};
 use vx_image::{Label, Rel, Stmt};
-use vx_register::{Named, Register};
+use vx_names::{Named, Register};
 
 /// A statement, in which a label stands by its name.
 #[derive(Debug, Drop)]

@@ -12,11 +12,11 @@ use crate::parts::Parts;
 use std::alloc::Global;
 use vx_base::{Arg, Args, Call, Name, NoMemory, Sequence, Service};
 use vx_image::{Image, Label, Labels, Stmt, Stmts};
-use vx_register::Register;
+use vx_names::Register;
 
 /// The earlier of two lines.
-pub fn earlier(a: Option<u32>, b: Option<u32>) -> Option<u32>
-    ensures { result ≡ spec.earlier a b }
+pub fn least_line(a: Option<u32>, b: Option<u32>) -> Option<u32>
+    ensures { result ≡ spec.least_line a b }
 {
     match (a, b) {
         (None, b) => b,
@@ -166,7 +166,7 @@ pub fn with_image(alloc: Global, mut parts: Parts, image: DraftImage) -> Result<
     ensures { IfOk result (λ p. p ≡ spec.with_image parts image) }
 {
     push_creations(image.lines.as_slice(), &mut parts.creations)?;
-    parts.unlabelled = earlier(parts.unlabelled, first_unlabelled(&image));
+    parts.unlabelled = least_line(parts.unlabelled, first_unlabelled(&image));
     parts.images.push(image_of(alloc, image)?)?;
     Ok(parts)
 }

@@ -5,7 +5,7 @@ ghost use Rattle.vx_table.specs.Reading.{toks};
 ghost use Rattle.vx_script.specs.Reading as spec;
 ghost use Rattle.vx_script.specs.Steps.{ReadsLine};
 
-use crate::declaration::{fresh, room_for};
+use crate::declaration::{unused_name, room_for};
 use crate::draft::{DraftImage, DraftLine, MOST_STMTS};
 use crate::ending::with_image;
 use crate::fault::LineFail;
@@ -48,7 +48,7 @@ fn labelled(
 ) -> Result<DraftImage, LineFail>
     ensures { ReadsLine result (spec.labelled line image name (toks tokens.now)) }
 {
-    fresh(image.labels.place(name), name)?;
+    unused_name(image.labels.place(name), name)?;
     let image = with_label(image, name)?;
     with_stmt(line, image, tokens)
 }

@@ -2,7 +2,7 @@
 
 use crate::lines::{DeclLine, FaultLine};
 use vx_base::Name;
-use vx_register::{Named, Numbered};
+use vx_names::{Named, Numbered};
 
 impl Named for DeclLine {
     ghost name_of = { λ d. d.name };

@@ -4,7 +4,7 @@ use crate::draft::DraftImage;
 use crate::lines::{Creation, DeclLine, FaultLine, InputLine};
 use vx_base::Sequence;
 use vx_image::{Image, UnitDecl};
-use vx_register::{NumberedRegister, Register};
+use vx_names::{NumberedRegister, Register};
 
 /// What the lines say that were read, without an image that is not ended. The units have neither input lines nor faults yet.
 #[derive(Drop)]

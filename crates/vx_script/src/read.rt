@@ -14,7 +14,7 @@ use crate::resolve::resolve;
 use std::alloc::Global;
 use vx_base::{Name, Sequence};
 use vx_image::System;
-use vx_register::{NumberedRegister, Register};
+use vx_names::{NumberedRegister, Register};
 use vx_text::{LexFail, Tok, Token, tokens};
 
 // Nothing stands open.

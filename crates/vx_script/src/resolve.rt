@@ -7,7 +7,7 @@ ghost use Rattle.vx_script.specs.Keys as setting;
 ghost use Rattle.vx_script.specs.Places.{image_place, is_line_unit, rising};
 ghost use Rattle.vx_script.specs.Results.{ReadsScript};
 
-use crate::ending::earlier;
+use crate::ending::least_line;
 use crate::fault::{FaultKind, ScriptFail, ScriptFault};
 use crate::keys::{Keys, Uic};
 use crate::lines::{DeclLine, FaultLine, InputLine};
@@ -16,7 +16,7 @@ use crate::privileges::NO_PRIVS;
 use std::alloc::Global;
 use vx_base::{Mode, Name, Need, NoMemory};
 use vx_image::{Image, Images, Lines, Numbers, ProcDecl, ProcDecls, System, UnitDecl, UnitDecls};
-use vx_register::Register;
+use vx_names::Register;
 
 // The first $CREPRC of a process declaration that is not there.
 fn unknown_creation(parts: &Parts) -> Option<u32>
@@ -88,9 +88,9 @@ fn unknown_fault(parts: &Parts) -> Option<u32>
 fn first_unknown(parts: &Parts) -> Option<u32>
     ensures { result ≡ spec.first_unknown parts.now }
 {
-    let units = earlier(unknown_input(parts), unknown_fault(parts));
-    let rest = earlier(unknown_image(parts), units);
-    earlier(parts.unlabelled, earlier(unknown_creation(parts), rest))
+    let units = least_line(unknown_input(parts), unknown_fault(parts));
+    let rest = least_line(unknown_image(parts), units);
+    least_line(parts.unlabelled, least_line(unknown_creation(parts), rest))
 }
 
 // Appends the text of an INPUT line, where it is one of the unit.

@@ -13,7 +13,7 @@ use Rattle.vx_base.specs.Name.{is_name, is_capital, is_name_byte}
 use Rattle.vx_text.specs.declared.token.Tok.{Tok}
 use Rattle.vx_text.specs.declared.token.Tok.TheVariants as tok
 use Rattle.vx_text.specs.declared.first.First.TheVariants.{Found}
-use Rattle.vx_text.specs.Bytes.{upper, is_letter, is_word_byte, is_service_byte}
+use Rattle.vx_text.specs.Bytes.{to_upper, is_letter, is_word_byte, is_service_byte}
 use Rattle.vx_text.specs.First.{first, word, word_of, service}
 use Rattle.vx_text.specs.Lex.{lex_from, with_front, token_at}
 use Rattle.vx_text.proofs.Runs.{and_parts, and_false, stops, run_of}
@@ -22,13 +22,13 @@ use Rattle.vx_text.proofs.Leading.{first-cons, letter_leads}
 capital_letter : (b : ℕ) → is_capital b ≡ true → is_letter b ≡ true
 capital_letter b h = rw h refl
 
-name_byte_upper : (b : ℕ) → is_name_byte b ≡ true → upper b ≡ b
+name_byte_upper : (b : ℕ) → is_name_byte b ≡ true → to_upper b ≡ b
 name_byte_upper b h = grind (arith, nat_tests, h)
 
 name_byte_word : (b : ℕ) → is_name_byte b ≡ true → is_word_byte b ≡ true
 name_byte_word b h = grind (arith, nat_tests, h)
 
-names_upper : (bs : List ℕ) → list_all is_name_byte bs ≡ true → map upper bs ≡ bs
+names_upper : (bs : List ℕ) → list_all is_name_byte bs ≡ true → map to_upper bs ≡ bs
 names_upper [] h = refl
 names_upper (b ∷ bs) h =
     let parts = and_parts (is_name_byte b) (list_all is_name_byte bs) h in
@@ -75,7 +75,7 @@ word_of-name name h =
     rw (short, no_cond name n.bytes, h) refl
 
 -- a run of a word's bytes stands first where it does
-word-run : (run rest : List ℕ) (t : Tok) → list_all is_word_byte run ≡ true → stops is_word_byte rest → map upper run ≡ run → word_of run ≡ Some t → word (run ++ rest) ≡ Found t (length run)
+word-run : (run rest : List ℕ) (t : Tok) → list_all is_word_byte run ≡ true → stops is_word_byte rest → map to_upper run ≡ run → word_of run ≡ Some t → word (run ++ rest) ≡ Found t (length run)
 word-run run rest t bytes s capitals is =
     let cut : take_while is_word_byte (run ++ rest) ≡ run = run_of is_word_byte run rest bytes s in
     rw (cut, capitals, is) refl
@@ -92,7 +92,7 @@ cond_bytes : (c : Cond) → list_all is_word_byte (cond_text c) ≡ true
 cond_bytes Normal = refl
 cond_bytes _ = refl
 
-cond_capitals : (c : Cond) → map upper (cond_text c) ≡ cond_text c
+cond_capitals : (c : Cond) → map to_upper (cond_text c) ≡ cond_text c
 cond_capitals Normal = refl
 cond_capitals _ = refl
 

@@ -16,7 +16,7 @@ use Rattle.vx_text.specs.declared.quoted.Place.TheVariants.{Plain}
 use Rattle.vx_text.specs.declared.quoted.Step.{Step}
 use Rattle.vx_text.specs.declared.quoted.Step.TheVariants.{Close, Byte, Into, Fault}
 use Rattle.vx_text.specs.declared.quoted.Text.{Text}
-use Rattle.vx_text.specs.Bytes.{upper, is_letter, is_digit, is_hex_digit, is_alphanumeric, is_word_byte, is_service_byte, is_gap, is_sign, decimal_of, hex_of}
+use Rattle.vx_text.specs.Bytes.{to_upper, is_letter, is_digit, is_hex_digit, is_alphanumeric, is_word_byte, is_service_byte, is_gap, is_sign, decimal_of, hex_of}
 use Rattle.vx_text.specs.Quoted.{step_of, behind, by_step, quoted, quoted_text}
 use Rattle.vx_text.specs.First.{first, first_by, found_or, word_of, word, service_of, service, number, hex_number, quote, text_found}
 use Rattle.vx_text.specs.Lex.{IsReading}
@@ -59,7 +59,7 @@ run_reading p read kind b bs h leads =
     found_or-reading (b ∷ bs) kind _ _ some (within p (b ∷ bs)) (ap first cut ∙ read_again)
 
 word_reading : (b : ℕ) (bs : List ℕ) → is_letter b ≡ true → IsReading (b ∷ bs) (word (b ∷ bs))
-word_reading b bs h = run_reading is_word_byte (λ run. word_of (map upper run)) fail.Name b bs (word_byte b h) (λ bytes. letter_leads b bytes h)
+word_reading b bs h = run_reading is_word_byte (λ run. word_of (map to_upper run)) fail.Name b bs (word_byte b h) (λ bytes. letter_leads b bytes h)
 
 number_reading : (b : ℕ) (bs : List ℕ) → is_digit b ≡ true → IsReading (b ∷ bs) (number (b ∷ bs))
 number_reading b bs h = run_reading is_alphanumeric (λ run. option_map tok.Num (decimal_of run)) fail.Number b bs (alphanumeric b h) (λ bytes. digit_leads b bytes h)
@@ -67,7 +67,7 @@ number_reading b bs h = run_reading is_alphanumeric (λ run. option_map tok.Num 
 service_reading : (bs : List ℕ) → IsReading (36 ∷ bs) (service (36 ∷ bs))
 service_reading bs =
     let cut : take (1 + length (take_while is_service_byte bs)) (36 ∷ bs) ≡ 36 ∷ take_while is_service_byte bs = take-1 _ 36 bs ∙ ap (λ run. 36 ∷ run) (own is_service_byte bs) in
-    let again : first (36 ∷ take_while is_service_byte bs) ≡ service (36 ∷ bs) = first-cons 36 (take_while is_service_byte bs) ∙ ap (λ run. found_or fail.Name (service_of (map upper run)) (1 + length run)) (run_twice is_service_byte bs) in
+    let again : first (36 ∷ take_while is_service_byte bs) ≡ service (36 ∷ bs) = first-cons 36 (take_while is_service_byte bs) ∙ ap (λ run. found_or fail.Name (service_of (map to_upper run)) (1 + length run)) (run_twice is_service_byte bs) in
     found_or-reading (36 ∷ bs) fail.Name _ _ (omega arith) (omega (arith, within is_service_byte bs)) (ap first cut ∙ again)
 
 take-2 : (n b x : ℕ) (bs : List ℕ) → take (2 + n) (b ∷ x ∷ bs) ≡ b ∷ x ∷ take n bs
@@ -78,7 +78,7 @@ take-2 n b x bs =
 hex_reading : (bs : List ℕ) → IsReading (37 ∷ bs) (hex_number (37 ∷ bs))
 hex_reading [] = tt
 hex_reading (x ∷ bs) =
-    by_test (IsReading (37 ∷ x ∷ bs)) (upper x == 88) _ _
+    by_test (IsReading (37 ∷ x ∷ bs)) (to_upper x == 88) _ _
     (λ h.
     let cut : take (2 + length (take_while is_hex_digit bs)) (37 ∷ x ∷ bs) ≡ 37 ∷ x ∷ take_while is_hex_digit bs = take-2 _ 37 x bs ∙ ap (λ run. 37 ∷ x ∷ run) (own is_hex_digit bs) in
     let leads : (run : List ℕ) → hex_number (37 ∷ x ∷ run) ≡ found_or fail.Number (option_map tok.Num (hex_of (take_while is_hex_digit run))) (2 + length (take_while is_hex_digit run)) = λ run. rw h refl in

@@ -6,8 +6,8 @@ abbrev pub is_lower : ℕ → Bool
 is_lower b = nat_le 97 b && nat_le b 122
 
 -- letters as capitals
-abbrev pub upper : ℕ → ℕ
-upper b = if is_lower b then b - 32 else b
+abbrev pub to_upper : ℕ → ℕ
+to_upper b = if is_lower b then b - 32 else b
 
 abbrev pub is_letter : ℕ → Bool
 is_letter b = (nat_le 65 b && nat_le b 90) || is_lower b
@@ -17,7 +17,7 @@ is_digit b = nat_le 48 b && nat_le b 57
 
 -- 0 to 9, and A to F of either case
 abbrev pub is_hex_digit : ℕ → Bool
-is_hex_digit b = is_digit b || (nat_le 65 (upper b) && nat_le (upper b) 70)
+is_hex_digit b = is_digit b || (nat_le 65 (to_upper b) && nat_le (to_upper b) 70)
 
 abbrev pub is_alphanumeric : ℕ → Bool
 is_alphanumeric b = is_letter b || is_digit b
@@ -42,7 +42,7 @@ abbrev pub is_plain : ℕ → Bool
 is_plain b = nat_le 32 b && (nat_le b 126 && (not (b == 34) && not (b == 92)))
 
 abbrev pub hex_value : ℕ → ℕ
-hex_value b = if is_digit b then b - 48 else upper b - 55
+hex_value b = if is_digit b then b - 48 else to_upper b - 55
 
 abbrev pub with_digit : ℕ → ℕ → ℕ
 with_digit n d = n * 10 + (d - 48)

@@ -10,7 +10,7 @@ use Rattle.vx_text.specs.declared.token.LexFail.{LexFail}
 use Rattle.vx_text.specs.declared.token.LexFail.TheVariants as fail
 use Rattle.vx_text.specs.declared.first.First.{First}
 use Rattle.vx_text.specs.declared.first.First.TheVariants.{End, Gap, Found, Bad}
-use Rattle.vx_text.specs.Bytes.{upper, is_letter, is_digit, is_hex_digit, is_alphanumeric, is_word_byte, is_service_byte, is_gap, is_sign, decimal_of, hex_of}
+use Rattle.vx_text.specs.Bytes.{to_upper, is_letter, is_digit, is_hex_digit, is_alphanumeric, is_word_byte, is_service_byte, is_gap, is_sign, decimal_of, hex_of}
 use Rattle.vx_text.specs.declared.quoted.Text.{Text}
 use Rattle.vx_text.specs.Quoted.{quoted_text}
 
@@ -34,7 +34,7 @@ found_or kind None len = Bad kind
 found_or kind (Some t) len = Found t len
 
 abbrev pub word : List ℕ → First
-word bytes = found_or fail.Name (word_of (map upper (take_while is_word_byte bytes))) (length (take_while is_word_byte bytes))
+word bytes = found_or fail.Name (word_of (map to_upper (take_while is_word_byte bytes))) (length (take_while is_word_byte bytes))
 
 -- a name of at most 30 behind a '$'
 abbrev pub service_of : List ℕ → Option Tok
@@ -42,7 +42,7 @@ service_of text = if nat_lt 30 (length text) then None else (if is_name text the
 
 -- '$' and the name of a service
 abbrev pub service : List ℕ → First
-service bytes = found_or fail.Name (service_of (map upper (take_while is_service_byte (drop 1 bytes)))) (1 + length (take_while is_service_byte (drop 1 bytes)))
+service bytes = found_or fail.Name (service_of (map to_upper (take_while is_service_byte (drop 1 bytes)))) (1 + length (take_while is_service_byte (drop 1 bytes)))
 
 -- a run of letters and digits that is a decimal number
 abbrev pub number : List ℕ → First
@@ -50,7 +50,7 @@ number bytes = found_or fail.Number (option_map tok.Num (decimal_of (take_while 
 
 -- '%X' and hexadecimal digits
 abbrev pub hex_number : List ℕ → First
-hex_number bytes = if upper (slice_index bytes 1) == 88 then found_or fail.Number (option_map tok.Num (hex_of (take_while is_hex_digit (drop 2 bytes)))) (2 + length (take_while is_hex_digit (drop 2 bytes))) else Bad fail.Number
+hex_number bytes = if to_upper (slice_index bytes 1) == 88 then found_or fail.Number (option_map tok.Num (hex_of (take_while is_hex_digit (drop 2 bytes)))) (2 + length (take_while is_hex_digit (drop 2 bytes))) else Bad fail.Number
 
 abbrev pub text_found : Option Text → First
 text_found None = Bad fail.Quote

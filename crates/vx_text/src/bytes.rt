@@ -5,8 +5,8 @@ ghost use Rattle.std.specs.List.{prefix_len};
 ghost use Rattle.vx_text.specs.Bytes as classes;
 
 /// A letter in capitals; any other byte as it is.
-pub fn upper(b: u8) -> u8
-    ensures { result ≡ classes.upper b }
+pub fn to_upper(b: u8) -> u8
+    ensures { result ≡ classes.to_upper b }
 {
     if 97 <= b && b <= 122 { b - 32 } else { b }
 }
@@ -29,7 +29,7 @@ pub fn is_digit(b: u8) -> bool
 pub fn is_hex_digit(b: u8) -> bool
     ensures { result ≡ classes.is_hex_digit b }
 {
-    is_digit(b) || 65 <= upper(b) && upper(b) <= 70
+    is_digit(b) || 65 <= to_upper(b) && to_upper(b) <= 70
 }
 
 /// Whether a byte is a letter or a decimal digit.
@@ -108,7 +108,7 @@ pub fn hex_value(b: u8) -> u8
     ensures value { result ≡ classes.hex_value b }
     ensures small { result < 16 }
 {
-    if is_digit(b) { b - 48 } else { upper(b) - 55 }
+    if is_digit(b) { b - 48 } else { to_upper(b) - 55 }
 }
 
 /// The number that a run of decimal digits spells, if it is one of at most 4294967295.
@@ -151,11 +151,11 @@ pub fn hex_of(run: &[u8]) -> Option<u32>
 /// A text in capitals, in front of zeros.
 pub fn capitals(text: &[u8]) -> [u8; 31]
     requires { length text.now ≤ 31 }
-    ensures { take (length text.now) result ≡ map classes.upper text.now }
+    ensures { take (length text.now) result ≡ map classes.to_upper text.now }
 {
     let mut capitals = [0; 31];
     for i in 0..text.len() {
-        capitals[i] = upper(text[i]);
+        capitals[i] = to_upper(text[i]);
     }
     capitals
 }

@@ -1,13 +1,13 @@
 //! What stands first in bytes.
 
 ghost use Rattle.std.specs.Prelude.{◌≡◌, ◌≤◌, ◌<◌, length, map, IfOk};
-ghost use Rattle.vx_text.specs.Bytes.{upper};
+ghost use Rattle.vx_text.specs.Bytes.{to_upper};
 ghost use Rattle.vx_text.specs.First as spec;
 ghost use Rattle.vx_text.specs.Lex.{IsReading};
 
 use crate::bytes::{
     alphanumeric_len, capitals, decimal_of, hex_len, hex_of, is_digit, is_letter, is_sign,
-    service_len, upper, word_len,
+    service_len, to_upper, word_len,
 };
 use crate::quoted::{Text, quoted_text};
 use crate::token::{LexFail, Tok};
@@ -46,7 +46,7 @@ fn word_named(text: &[u8]) -> Option<Tok>
 }
 
 fn word_of(run: &[u8]) -> Option<Tok>
-    ensures { result ≡ spec.word_of (map upper run.now) }
+    ensures { result ≡ spec.word_of (map to_upper run.now) }
 {
     if 31 < run.len() {
         return None;
@@ -76,7 +76,7 @@ fn word(bytes: &[u8]) -> First
 }
 
 fn service_of(run: &[u8]) -> Option<Tok>
-    ensures { result ≡ spec.service_of (map upper run.now) }
+    ensures { result ≡ spec.service_of (map to_upper run.now) }
 {
     if 30 < run.len() {
         return None;
@@ -108,7 +108,7 @@ fn number(bytes: &[u8]) -> First
 fn hex_number(bytes: &[u8]) -> First
     ensures { result ≡ spec.hex_number bytes.now }
 {
-    if bytes.len() < 2 || upper(bytes[1]) != b'X' {
+    if bytes.len() < 2 || to_upper(bytes[1]) != b'X' {
         return First::Bad(LexFail::Number);
     }
     let digits = &bytes[2..];

@@ -22,8 +22,8 @@ fn an_ast_stands_on_the_image(rt: HostRuntime) -> Result<(), Fail> {
         kind: FrameKind::Ast(Id(1)),
         ..main
     });
-    assert_eq!(rt; frames.active(), Some(Mode::User));
-    assert!(rt; frames.ret().is_some());
-    assert_eq!(rt; frames.ret(), Some(main));
+    assert_eq!(rt; frames.active_ast_mode(), Some(Mode::User));
+    assert!(rt; frames.pop().is_some());
+    assert_eq!(rt; frames.pop(), Some(main));
     Ok(())
 }

@@ -2,7 +2,7 @@
 
 use std::test::*;
 use vx_base::Name;
-use vx_register::{Named, Register};
+use vx_names::{Named, Register};
 
 #[derive(Drop)]
 struct Label {

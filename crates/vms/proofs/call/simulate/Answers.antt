@@ -6,11 +6,11 @@ use Rattle.vms.specs.Top.{later, fault_line, no_script, not_built}
 use Rattle.vms.proofs.Simulating.{writes_run, writes_fault, writes_later}
 use Rattle.vms.proofs.call.simulate.Goals as goal
 
-pub returns-then-not-built-clause-form : goal.returns-then-not-built-clause-form
-returns-then-not-built-clause-form g c = λ e. writes_later c.args.input.now c.args.options _ _ c.in-Ok.system (rw c.as_slice.ensures at c.in-Ok.ensures.spelled) (search rules) (c.tell.ensures.whole (λ k. cc))
+pub returns-then-not-is_built-clause-form : goal.returns-then-not-is_built-clause-form
+returns-then-not-is_built-clause-form g c = λ e. writes_later c.args.input.now c.args.options _ _ c.in-Ok.system (rw c.as_slice.ensures at c.in-Ok.ensures.spelled) (search rules) (c.tell.ensures.whole (λ k. cc))
 
-pub returns-then-not-built-clause-front : goal.returns-then-not-built-clause-front
-returns-then-not-built-clause-front g c = λ e. in_refusal later (not_built c.args.options c.in-Ok.system (rw c.as_slice.ensures at c.in-Ok.ensures.spelled) (search rules)) (c.tell.ensures.front e)
+pub returns-then-not-is_built-clause-front : goal.returns-then-not-is_built-clause-front
+returns-then-not-is_built-clause-front g c = λ e. in_refusal later (not_built c.args.options c.in-Ok.system (rw c.as_slice.ensures at c.in-Ok.ensures.spelled) (search rules)) (c.tell.ensures.front e)
 
 pub returns-in-Ok-transcript-clause-done : goal.returns-in-Ok-transcript-clause-done
 returns-in-Ok-transcript-clause-done g c = λ e. writes_run c.args.input.now c.args.options _ _ c.in-Ok.system c.in-Ok-transcript.text c.in-Ok-transcript.end Done (rw c.as_slice.ensures at c.in-Ok.ensures.spelled) (search rules) c.in-Ok-transcript.ensures (rw c.as_slice-in-Ok-transcript.ensures at (c.tell_transcript.ensures.done e))

@@ -13,7 +13,7 @@ pub release-requires : goal.release-requires
 release-requires g c =
     let pr = process c.args.self.now in
     let q = c.in_ok-delivery.delivery in
-    let e = deliverable_top pr c.in_ok-frame.frame.now c.active-active.result c.if-self.false c.in_ok-frame.ensures c.active-active.ensures.mode in
+    let e = deliverable_top pr c.in_ok-frame.frame.now c.active_ast_mode-active.result c.if-self.false c.in_ok-frame.ensures c.active_ast_mode-active.ensures.mode in
     let found = started_found pr q (sym (c.in_ok-delivery.ensures.found ∙ e)) in
     let counted = tally-less is_charged _ pr.asts q found.1 in
     rw (c.ast_need.ensures, c.is_charged.ensures) (within_by q c.args.self.now.account.used (omega (arith, c.requires.counts, counted)))
@@ -22,6 +22,6 @@ pub returns-clause-after : goal.returns-clause-after
 returns-clause-after g c =
     let pr = process c.args.self.now in
     let frame = c.in_ok-frame.frame.now in
-    let active = c.active-active.result in
-    let e = deliverable_top pr frame active c.if-self.false c.in_ok-frame.ensures c.active-active.ensures.mode in
+    let active = c.active_ast_mode-active.result in
+    let e = deliverable_top pr frame active c.if-self.false c.in_ok-frame.ensures c.active_ast_mode-active.ensures.mode in
     rw c.take.ensures.after (ap (λ (r : Option Queued). record pr { asts = less_first_like r pr.asts }) e ∙ taken_started pr frame.mode active (deliverable_of pr) c.requires.ids e)
