@@ -27,9 +27,6 @@ fn the_first_of_a_name_is_found(rt: HostRuntime) -> Result<(), Fail> {
         labels.push(Label { name, number }).ok().ok_or("memory")?;
     }
     assert_eq!(rt; labels.place(alpha), Some(1));
-    assert_eq!(rt;
-        labels.into_vec().last().map(|label| label.number),
-        Some(3)
-    );
+    assert_eq!(rt; labels.into_vec().last().map(|label| label.number), Some(3));
     Ok(())
 }
