@@ -13,13 +13,8 @@ use Rattle.vx_base.specs.declared.number.Id.{Id}
 use Rattle.vx_base.specs.declared.number.Pid.{Pid}
 use Rattle.vx_record.specs.State.{Process, State, nobody, process_at, change, past_id}
 use Rattle.vx_base.specs.Flags.{one}
-<<<<<<< ours
-use Rattle.vx_record.specs.Parts.{total, each}
-use Rattle.vx_record.specs.Asts.{charged_ast, with_queued}
-=======
 use Rattle.vx_record.specs.Parts.{total, each}
 use Rattle.vx_record.specs.Asts.{with_queued}
->>>>>>> theirs
 use Rattle.vx_record.specs.Cancel.{with_abort}
 use Rattle.vx_record.specs.Control.{created}
 use Rattle.vx_record.specs.Finish.{this_request}

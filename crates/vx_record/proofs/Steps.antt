@@ -1,13 +1,8 @@
 -- Each service and each event is a sequence of moves.
 use Rattle.std.proofs.Common.{◌≡◌, ℕ, ◌^◌, ◌%◌, List, [], ◌∷◌, Bool, true, false, not, ◌==◌, ◌&&◌, ◌||◌, nat_lt, nat_le, length, Option, Some, None, Result, Ok, Err, position, refl, ◌∙◌}
 use Rattle.std.specs.List.{filter, find, list_any}
-<<<<<<< ours
 use Rattle.vx_base.specs.Modes.{outer, is_kernel}
-use Rattle.vx_base.specs.Pieces.{Queued, Channel, Handler, Request, Promised, Timer, Alarm, OfTimer, OfWake, Attention, Mailbox, Status, cleared}
-=======
-use Rattle.vx_base.specs.Modes.{outer}
 use Rattle.vx_base.specs.Pieces.{Queued, Channel, Handler, Request, Promised, Timer, Attention}
->>>>>>> theirs
 use Rattle.vx_base.specs.Queues.{in_service}
 use Rattle.vx_base.specs.Serving.{serve, settled}
 use Rattle.vx_base.specs.declared.call.Args.{Args}
@@ -41,15 +36,9 @@ use Rattle.vx_image.specs.Local.{Advanced, advanced}
 use Rattle.vx_image.specs.declared.stop.Stop.{Stop}
 use Rattle.vx_image.specs.declared.stop.Stop.TheVariants as stop
 use Rattle.vx_record.specs.State.{State, process_at, change, current, image_of, unit_at}
-<<<<<<< ours
-use Rattle.vx_record.specs.Parts.{Part, Outcome, nothing, each, part_if, refused, at_tested, part_of}
-use Rattle.vx_record.specs.Charges.{moved_bytes, request_need, exceeds, ast_need, timer_need, is_direct, is_attention}
-use Rattle.vx_record.specs.Flags.{cell, flag_part, flag_where_named, at_named, at_flag, put_flag_at, refused_value, readef_at, readef, refused_wait, wait_condition, awaited_at, awaited, waits_on, is_common, wants_prmceb}
-=======
 use Rattle.vx_record.specs.Parts.{Part, Outcome, nothing, each, refused, part_of}
 use Rattle.vx_record.specs.Charges.{exceeds, ast_need}
 use Rattle.vx_record.specs.Flags.{cell, flag_where_named, put_flag_at, refused_value, readef_at, readef, wait_condition, is_common, wants_prmceb}
->>>>>>> theirs
 use Rattle.vx_record.specs.Asts.{is_inside}
 use Rattle.vx_record.specs.Finish.{Ending, ending, is_read, fin_part, buf_part, status_of, iosb_part, done_flag_part, done_ast_part, finish}
 use Rattle.vx_record.specs.Mailboxes.{mailbox_at, this_message, mcut_part}
@@ -57,13 +46,8 @@ use Rattle.vx_record.specs.Channels.{channel_test, box_named, device_named, assi
 use Rattle.vx_record.specs.Cancel.{mark_part, withdraw, cancelled_request, cancel_request, is_request_on, is_attention_on, drop_attention, cancel_channel, cancel_at, dassgn_at}
 use Rattle.vx_record.specs.Requests.{request_test, unit_ending, with_unit}
 use Rattle.vx_record.specs.Control.{process_test, changed_process, with_wake, with_suspension, forced, creprc}
-<<<<<<< ours
-use Rattle.vx_record.specs.Timers.{drop_timer, drop_timers, setimr_at, setimr, is_cancelled_timer, scheduled, is_wake_for, unscheduled, que_timer, fire_timer, fired, fire, is_due, at_time, next_time, tick}
-use Rattle.vx_record.specs.Rundown.{leave_kind, leave_frame, leave_all, exited, without_frames, is_handler_of, is_handler_with, drop_handlers, any_handler, cancel_found, cancel_handlers, named_for_deletion, deleted_by, cancel_one, free_one, is_timer_in, is_wake_by, cancel_modes, release, drop_all_handlers, is_busy, drain, cancelled_in, run_handlers, handling, run_down, inner_modes, rundown_from}
-=======
 use Rattle.vx_record.specs.Timers.{drop_timer, drop_timers, is_cancelled_timer, scheduled, is_wake_for, unscheduled}
 use Rattle.vx_record.specs.Rundown.{leave_kind, leave_frame, leave_all, exited, without_frames, is_handler_of, is_handler_with, drop_handlers, any_handler, cancel_found, cancel_handlers, named_for_deletion, deleted_by, cancel_one, free_one, is_timer_in, is_wake_by, cancel_modes, release, drop_all_handlers, is_busy, drain, cancelled_in, run_handlers, handling, run_down, inner_modes, rundown_from}
->>>>>>> theirs
 use Rattle.vx_record.specs.Services.{number, place, access_mode, text, routine_or_none, decl_place, asked, valued_at, numbered_at, service_of, service}
 use Rattle.vx_record.specs.Events.{r0_of, returned_from, returned, served_call, moved_behind, moved_to, run_on, run_advanced, reader, run_frame, run, started, don, step}
 use Rattle.vx_record.specs.declared.served.Served.{Served}
