@@ -1,7 +1,6 @@
 //! Services on ASTs.
 
-ghost use Rattle.std.specs.Prelude.{◌≡◌, true, IfErr, Some};
-ghost use Rattle.vx_record.specs.Charges.{ast_need};
+ghost use Rattle.std.specs.Prelude.{◌≡◌, IfErr, Some};
 ghost use Rattle.vx_record.specs.Control.{forced};
 ghost use Rattle.vx_record.specs.State.{IsProcess};
 ghost use Rattle.vx_record.specs.Asts.{dclast, setast};
@@ -11,8 +10,8 @@ ghost use Rattle.vx_ctl.specs.Answers.{cond_of};
 
 use crate::flags::how_it_was;
 use crate::refused::Refused;
-use vx_base::{Cond, Effect, Entry, Mode, Need, Opened, Pid, Routine, outer_of};
-use vx_procs::Core;
+use vx_base::{Cond, Effect, Entry, Mode, Opened, Pid, Routine, outer_of};
+use vx_procs::{Core, ast_need};
 
 /// $SETAST: enables AST delivery in the caller's mode, or disables it where the number is 0. Its condition tells how it was.
 pub fn setast<R: Routine>(core: &mut Core<R>, p: Pid, enb: u32) -> Cond
@@ -25,19 +24,6 @@ pub fn setast<R: Routine>(core: &mut Core<R>, p: Pid, enb: u32) -> Cond
     core.tell(Effect::Enb { p, mode, bit: on });
     let was = core.set_delivery(p, mode, on);
     how_it_was(was)
-}
-
-// What one AST needs.
-fn ast_need() -> Need
-    ensures { result ≡ ast_need true }
-{
-    Need {
-        ast: 1,
-        bio: 0,
-        dio: 0,
-        byt: 0,
-        tqe: 0,
-    }
 }
 
 /// $DCLAST: queues a routine as an AST of the caller, in a mode that is not further in than the caller's: EXQUOTA beyond the
@@ -53,7 +39,7 @@ pub fn dclast<R: Routine>(
     ensures does { Does (dclast core.old.state p (R.tagged routine) mode) (cond_of result) core.old core.new }
     ensures handed { IfErr result (λ refused. refused.ast ≡ Some routine) }
 {
-    if core.exceeds(p, ast_need()) {
+    if core.exceeds(p, ast_need(true)) {
         return Err(Refused {
             cond: Cond::ExQuota,
             ast: Some(routine),
