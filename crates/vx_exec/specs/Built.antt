@@ -30,9 +30,8 @@ abbrev pub is_built_stmt : Stmt → Bool
 is_built_stmt (stmt.Service c) = is_built_service c.service
 is_built_stmt _ = true
 
--- (labels are counted in 32 bits)
 abbrev pub is_built_image : Image → Bool
-is_built_image image = nat_lt (length image.labels) 4294967296 && list_all is_built_stmt image.stmts
+is_built_image image = list_all is_built_stmt image.stmts
 
 abbrev pub are_no_units : List UnitDecl → Bool
 are_no_units [] = true

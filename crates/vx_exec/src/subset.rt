@@ -43,7 +43,7 @@ fn are_built_stmts(stmts: &[Stmt]) -> bool
 fn is_built_image(image: &Image) -> bool
     ensures { result ≡ is_built_image image.now }
 {
-    image.labels.as_slice().len() < 4_294_967_296 && are_built_stmts(image.stmts.as_slice())
+    are_built_stmts(image.stmts.as_slice())
 }
 
 fn are_no_units(units: &[UnitDecl]) -> bool
