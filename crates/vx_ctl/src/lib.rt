@@ -14,7 +14,7 @@ mod time;
 mod timers;
 
 pub use asts::{dclast, force, setast};
-pub use flags::{clref, readef, wait_condition, setef};
+pub use flags::{clref, readef, setef, wait_condition};
 pub use modes::{cmexec, cmkrnl};
 pub use refused::Refused;
 pub use time::{gettim, tick};

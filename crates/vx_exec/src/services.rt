@@ -10,9 +10,7 @@ ghost use Rattle.vx_ctl.specs.Answers.{cond_of};
 ghost use Rattle.vx_exec.specs.Built.{is_built_service};
 ghost use Rattle.vx_exec.specs.Ready.{IsSet};
 
-use vx_base::{
-    Arg, Args, Call, Cond, Effect, Entry, Mode, Operand, Pid, Routine, Service, Target,
-};
+use vx_base::{Arg, Args, Call, Cond, Effect, Entry, Mode, Operand, Pid, Routine, Service, Target};
 use vx_ctl::{Refused, clref, cmexec, cmkrnl, dclast, gettim, readef, setast, setef, setimr};
 use vx_image::{Image, Label};
 use vx_procs::Core;
