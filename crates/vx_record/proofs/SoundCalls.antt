@@ -161,7 +161,8 @@ image_stmts : (names : List (List ℕ)) (image : Image) → is_image names image
 image_stmts names image h =
     let places = list_all (λ place. nat_le place (length image.stmts)) (label_places image) in
     let rest = list_all (is_stmt names image) image.stmts in
-    let one = and_parts (nat_le (length image.stmts) 10000) (are_distinct (label_names image) && (falls_nowhere 0 (label_places image) && (places && rest))) h in
+    let few = and_parts (nat_lt (length image.labels) 4294967296) (nat_le (length image.stmts) 10000 && (are_distinct (label_names image) && (falls_nowhere 0 (label_places image) && (places && rest)))) h in
+    let one = and_parts (nat_le (length image.stmts) 10000) (are_distinct (label_names image) && (falls_nowhere 0 (label_places image) && (places && rest))) few.1 in
     let two = and_parts (are_distinct (label_names image)) (falls_nowhere 0 (label_places image) && (places && rest)) one.1 in
     let three = and_parts (falls_nowhere 0 (label_places image)) (places && rest) two.1 in
     all_from_list (is_stmt names image) image.stmts (and_parts places rest three.1).1
