@@ -1,8 +1,6 @@
 //! Services on ASTs.
 
 ghost use Rattle.std.specs.Prelude.{◌≡◌, IfErr, Some};
-ghost use Rattle.vx_record.specs.Control.{forced};
-ghost use Rattle.vx_record.specs.State.{IsProcess};
 ghost use Rattle.vx_record.specs.Asts.{dclast, setast};
 ghost use Rattle.vx_procs.specs.Kernel.{Does, Fits};
 ghost use Rattle.vx_procs.specs.Ready.{IsReady};
@@ -10,7 +8,7 @@ ghost use Rattle.vx_ctl.specs.Answers.{cond_of};
 
 use crate::flags::how_it_was;
 use crate::refused::Refused;
-use vx_base::{Cond, Effect, Entry, Mode, Opened, Pid, Routine, outer_of};
+use vx_base::{Cond, Effect, Mode, Opened, Pid, Routine, outer_of};
 use vx_procs::{Core, ast_need};
 
 /// $SETAST: enables AST delivery in the caller's mode, or disables it where the number is 0. Its condition tells how it was.
@@ -57,24 +55,4 @@ pub fn dclast<R: Routine>(
     core.tell(Effect::Que(id));
     core.queue_ast(p, id, mode, routine, true);
     Ok(Cond::Normal)
-}
-
-/// $FORCEX, where its tests are passed: the exit of a process q is queued in the spare place that q has.
-pub fn force<R: Routine>(core: &mut Core<R>, p: Pid, q: Pid, code: u32) -> Cond
-    requires ready { IsReady core.old p }
-    requires target { IsProcess core.old.state q }
-    requires room { Fits core.old (forced core.old.state code q).effects }
-    ensures { Does (forced core.old.state code q) result core.old core.new }
-{
-    let id = core.new_id();
-    core.tell(Effect::Open {
-        id,
-        kind: Opened::Force,
-        p: q,
-        mode: Some(Mode::User),
-        n: 0,
-    });
-    core.tell(Effect::Que(id));
-    core.queue_ast(q, id, Mode::User, R::scripted(Entry::Exit(code)), false);
-    Cond::Normal
 }

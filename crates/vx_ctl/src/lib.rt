@@ -1,4 +1,4 @@
-//! The services on event flags, ASTs, access modes and timers, each by its entry in the "OpenVMS System Services Reference
+//! The services on event flags, ASTs, access modes, timers and processes, each by its entry in the "OpenVMS System Services Reference
 //! Manual".
 //!
 //! Each call does the row of its service in the machine's definitions: it tests in the row's order, logs the row's effects,
@@ -7,15 +7,19 @@
 #![tactic(auto)]
 
 mod asts;
+mod control;
 mod flags;
 mod modes;
 mod refused;
 mod time;
 mod timers;
+mod waits;
 
-pub use asts::{dclast, force, setast};
-pub use flags::{clref, readef, setef, wait_condition};
+pub use asts::{dclast, setast};
+pub use control::{forcex, resume, suspnd, wake};
+pub use flags::{clref, readef, setef};
 pub use modes::{cmexec, cmkrnl};
 pub use refused::Refused;
 pub use time::{gettim, tick};
 pub use timers::setimr;
+pub use waits::{hiber, wait_condition, waitfr, wfland, wflor};

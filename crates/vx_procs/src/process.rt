@@ -378,6 +378,7 @@ impl<R: Routine> Proc<R> {
             return None;
         }
         let frame = self.frames.top()?;
-        self.asts.deliverable(frame.mode, self.frames.active_ast_mode())
+        self.asts
+            .deliverable(frame.mode, self.frames.active_ast_mode())
     }
 }

@@ -252,6 +252,30 @@ impl<R: Routine> Core<R> {
         self.process_of(p).privs
     }
 
+    /// The group of its UIC.
+    pub fn group(&self, p: Pid) -> u32
+        requires { IsProcess self.now.state p }
+        ensures { result ≡ (process_at self.now.state p).group }
+    {
+        self.process_of(p).group
+    }
+
+    /// The member of its UIC.
+    pub fn member(&self, p: Pid) -> u32
+        requires { IsProcess self.now.state p }
+        ensures { result ≡ (process_at self.now.state p).member }
+    {
+        self.process_of(p).member
+    }
+
+    /// Whether it is to be deleted ($DELPRC).
+    pub fn is_delete_pending(&self, p: Pid) -> bool
+        requires { IsProcess self.now.state p }
+        ensures { result ≡ (process_at self.now.state p).delete_pending }
+    {
+        self.process_of(p).delete_pending
+    }
+
     /// Whether a wake pends for it.
     pub fn has_wake(&self, p: Pid) -> bool
         requires { IsProcess self.now.state p }
