@@ -31,7 +31,7 @@ use Rattle.vx_record.proofs.Apart.{Here, here_after}
 use Rattle.vx_record.proofs.Steps.{test_made}
 use Rattle.vx_record.proofs.Told.{accepted_after}
 use Rattle.vx_laws.proofs.Awaited.{Keeps, Plainly, accepted_keeps, drop_handlers_keeps, frame_waits, keep_moved, keep_none, keep_same, service_plainly, waits_in, waits_of}
-use Rattle.vx_laws.proofs.Calm.{call_turn, leave_all_state, no_turn, refusal_turn, test_is, turns}
+use Rattle.vx_laws.proofs.CalmServices.{call_turn, leave_all_state, no_turn, refusal_turn, test_is, turns}
 use Rattle.vx_laws.proofs.Events.{some_moved, start_turn, turn_is}
 use Rattle.vx_laws.proofs.Kept.{made_on}
 use Rattle.vx_record.proofs.Locals.{advanced_statuses}
