@@ -35,7 +35,7 @@ use Rattle.vx_laws.proofs.CalmServices.{call_turn, leave_all_state, no_turn, ref
 use Rattle.vx_laws.proofs.Events.{some_moved, start_turn, turn_is}
 use Rattle.vx_laws.proofs.Kept.{made_on}
 use Rattle.vx_record.proofs.Locals.{advanced_statuses}
-use Rattle.vx_record.proofs.Moves.{moved}
+use Rattle.vx_record.proofs.Moves.{Moves, moved}
 use Rattle.vx_laws.specs.Frames.{Clears, Enters, Returns, Stays, Turn, ast_turn, below, turn, turned, turned_by, with_first}
 use Rattle.vx_laws.specs.Items.{Item}
 use Rattle.vx_laws.specs.Lives.{life}
