@@ -1,8 +1,8 @@
 -- What is enabled where only processes and time have events.
-use Rattle.std.proofs.Common.{◌≡◌, ℕ, zero, suc, ◌+◌, ◌-◌, ◌<◌, ◌≤◌, List, [], ◌∷◌, ◌++◌, length, length-append, map, drop, IsTrue, Option, Some, None, Contains, option_to_list, slice_get, slice_index_or, nat_lt, ◌⊎◌, inl, inr, Bool, false, refl, sym, ap, subst, ◌∙◌, arith}
+use Rattle.std.proofs.Common.{◌≡◌, ℕ, zero, suc, ◌+◌, ◌-◌, ◌<◌, ◌≤◌, List, [], ◌∷◌, ◌++◌, length, length-append, drop, IsTrue, Option, Some, None, Contains, option_to_list, slice_get, slice_index_or, nat_lt, ◌⊎◌, inl, inr, Bool, false, refl, sym, ap, subst, ◌∙◌, arith}
 use Rattle.std.proofs.lemmas.Bool.{cases_eq}
 use Rattle.std.proofs.lemmas.Bool.Decides.{nat_tests}
-use Rattle.std.proofs.lemmas.List.{append-nil, drop_more}
+use Rattle.std.proofs.lemmas.List.{drop_more}
 use Rattle.std.specs.List.{AllByRecursion}
 use Rattle.vx_base.specs.Pieces.{DeviceUnit, Queued, Timer}
 use Rattle.vx_base.specs.declared.frame.Frame.{Frame}
@@ -16,7 +16,7 @@ use Rattle.vx_record.specs.State.{Process, State, IsProcess, process_at, nobody,
 use Rattle.vx_record.specs.Asts.{deliverable_ast}
 use Rattle.vx_record.specs.Events.{ast_or_run, can_run, can_run_down, enabled, process_events, processes_from, run_events, tick_events, units_from}
 use Rattle.vx_record.specs.Runs.{next_seed, picked}
-use Rattle.vx_record.proofs.Lists.{either, all_append, all_at, all_weaker}
+use Rattle.vx_record.proofs.Lists.{either, all_append, all_at}
 use Rattle.vx_procs.specs.Ready.{FitWaits, FitsBlock, IsKept}
 use Rattle.vx_exec.specs.Picks.{picked_event}
 use Rattle.vx_exec.specs.Ready.{HasOwner}
@@ -131,9 +131,10 @@ own_iff s p e asked b whole is same made has only =
     (λ t. process_enabled s p e whole (made t) (has t ∙ list), λ there. let own = own_of s p e is (abled_of s e whole there) in only own.0 (own.1 ∙ sym list))
 
 pub tick_iff : (s : State) (e : Event) (n : ℕ) → IsWhole s → e ≡ event.Tick → n ≡ length s.timers → (IsTrue (nat_lt 0 n) → Contains (enabled s) e) × (Contains (enabled s) e → IsTrue (nat_lt 0 n))
-tick_iff s e n whole is count =
-    (λ t. let some : 0 < n = grind (arith, nat_tests, t) in rw is (tick_enabled s whole (omega (arith, some, count))),
-    λ there. let some : 0 < length s.timers = subst (IsAbled s) is (abled_of s e whole there) in let more : 0 < n = omega (arith, some, count) in grind (arith, nat_tests, more))
+tick_iff s e n whole is count = (
+  λ t. let some : 0 < n = grind (arith, nat_tests, t) in rw is (tick_enabled s whole (omega (arith, some, count))),
+  λ there. let some : 0 < length s.timers = subst (IsAbled s) is (abled_of s e whole there) in let more : 0 < n = omega (arith, some, count) in grind (arith, nat_tests, more),
+)
 
 pub units_iff : (s : State) (e : Event) → IsWhole s → ((u : UnitNo) × (e ≡ event.Beg u)) ⊎ ((u : UnitNo) × (e ≡ event.Don u)) → (IsTrue false → Contains (enabled s) e) × (Contains (enabled s) e → IsTrue false)
 units_iff s e whole is = (λ t. absurd (cc), λ there. absurd (none_of is (abled_of s e whole there)))
