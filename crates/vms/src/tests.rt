@@ -245,6 +245,26 @@ fn a_limit_that_is_reached(rt: HostRuntime) -> Result<(), Fail> {
     Ok(())
 }
 
+// A wait for a flag that nobody sets.
+const HANG_TRANSCRIPT: &[u8] = b"IMAGE A
+  $WAITFR 1
+END
+PROCESS P A UIC=1:1 MODE=USER ASTLM=24 BIOLM=18 DIOLM=18 BYTLM=8192 TQELM=10 PRIV=NONE START=1
+$JOURNAL 1
+1 RUN 1 $WAITFR 1 WAIT
+PROCESS 1 P FLAG 0
+$END HUNG 1
+";
+
+#[test]
+fn a_run_that_hangs(rt: HostRuntime) -> Result<(), Fail> {
+    let text = b"IMAGE A\n$WAITFR 1\nEND\nPROCESS P A\n".to_vec(rt.alloc())?;
+    let (status, held) = tried(&rt, PLAIN, text)?;
+    assert_eq!(rt; status, Status::Hung);
+    assert!(rt; held.as_slice() == HANG_TRANSCRIPT);
+    Ok(())
+}
+
 // Two processes with images of their own: $READEF into R0, and an exit code from a variable.
 const TWO_SCRIPT: &[u8] = b"IMAGE A
 $SETEF 1
@@ -381,7 +401,12 @@ fn tells(rt: &HostRuntime, text: &[u8], line: &[u8]) -> Result<bool, Fail> {
     let (status, held) = tried(rt, PLAIN, text.to_vec(rt.alloc())?)?;
     let told = held.as_slice();
     if line.is_empty() {
-        return Ok(told == LATER || status == Status::Done || status == Status::Limit);
+        return Ok(
+            told == LATER
+                || status == Status::Done
+                || status == Status::Hung
+                || status == Status::Limit,
+        );
     }
     let mut expected = line.to_vec(rt.alloc())?;
     expected.push(b'\n')?;
@@ -428,8 +453,8 @@ fn ends_and_several_faults(rt: HostRuntime) -> Result<(), Fail> {
     Ok(())
 }
 
-// What an image may do for its system to be built: each local statement, and ten services.
-const BUILT: [&[u8]; 11] = [
+// What an image may do for its system to be built: each local statement, and eighteen services.
+const BUILT: [&[u8]; 19] = [
     b"LET A = 1\nLET A = A + 1\nLET B = A - 1\nGOTO L\nIF A EQ 1 GOTO L\nPUT 0 \"x\"\nBYTE A 0 1\nIOSB A 1 COUNT\nRETURN",
     b"$SETEF A",
     b"$CLREF SS$_NORMAL",
@@ -440,25 +465,25 @@ const BUILT: [&[u8]; 11] = [
     b"$CMKRNL L",
     b"$SETIMR ,1",
     b"$GETTIM A",
+    b"$WAITFR 1",
+    b"$WFLOR 1,1",
+    b"$WFLAND 1,1",
+    b"$HIBER",
+    b"$WAKE",
+    b"$SUSPND",
+    b"$RESUME",
+    b"$FORCEX",
     b"$EXIT",
 ];
 
 // The other services.
-const UNBUILT: [&[u8]; 26] = [
-    b"$WAITFR 1",
-    b"$WFLOR 1,1",
-    b"$WFLAND 1,1",
+const UNBUILT: [&[u8]; 18] = [
     b"$ASCEFC 64,N",
     b"$DACEFC 64",
     b"$DLCEFC N",
     b"$CANTIM",
     b"$SCHDWK ,1",
     b"$CANWAK",
-    b"$HIBER",
-    b"$WAKE",
-    b"$SUSPND",
-    b"$RESUME",
-    b"$FORCEX",
     b"$CREPRC A,P",
     b"$DELPRC",
     b"$DCLEXH L",

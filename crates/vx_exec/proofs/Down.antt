@@ -1,6 +1,6 @@
 -- What a step of rundown does to the state: no id is opened, and it drops at most the timers and queued ASTs there are in each
 -- mode.
-use Rattle.std.proofs.Common.{◌≡◌, ℕ, ◌+◌, ◌-◌, ◌*◌, ◌≤◌, List, [], ◌∷◌, ◌++◌, Bool, length, length-append, refl, sym, ap, subst, arith}
+use Rattle.std.proofs.Common.{ℕ, ◌+◌, ◌*◌, ◌≤◌, List, [], ◌∷◌, ◌++◌, Bool, length, length-append, refl, sym, ap, subst, arith}
 use Rattle.std.specs.List.{filter}
 use Rattle.std.proofs.Math.Nat.{mul-le-mul_left, mul-le-mul_right}
 use Rattle.vx_base.specs.Lists.{less}
@@ -13,7 +13,7 @@ use Rattle.vx_base.specs.declared.mode.Mode.TheVariants.{Kernel, Exec, Super, Us
 use Rattle.vx_base.specs.declared.number.Pid.{Pid}
 use Rattle.vx_base.specs.declared.record.Answer.{Answer}
 use Rattle.vx_record.specs.State.{Process, State, IsProcess, process_at, change}
-use Rattle.vx_record.specs.Parts.{Outcome, Part, each, followed_by, nothing}
+use Rattle.vx_record.specs.Parts.{Outcome, Part, each, followed_by}
 use Rattle.vx_record.specs.Rundown.{draining, drop_ast, drop_asts, handling, in_phase, inner_modes, is_ast_reached, is_timer_in, rundown, rundown_from, run_down, without_ast}
 use Rattle.vx_record.specs.Sound.{timer_id}
 use Rattle.vx_record.specs.Timers.{drop_timer, drop_timers, this_timer}
@@ -22,7 +22,6 @@ use Rattle.vx_procs.specs.Ready.{IsBare, IsKept}
 use Rattle.vx_rundown.specs.Leaving.{cancelled}
 use Rattle.vx_rundown.proofs.Bare.{cancelled_bare, cancelled_timers, drained, drop_asts_bare, gone_alone, in_phase_bare, mode_done}
 use Rattle.vx_rundown.proofs.Changed.{process_there}
-use Rattle.vx_exec.specs.Sound.{AreKept}
 use Rattle.vx_exec.proofs.Goes.{Goes, Stays, goes_stays, made_stays, stays_changed, stays_still, stays_then}
 use Rattle.vx_exec.proofs.Kept.{Keeps, kept_fewer, kept_phase, kept_without}
 

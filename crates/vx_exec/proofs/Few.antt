@@ -1,5 +1,5 @@
 -- How much a tick tells.
-use Rattle.std.proofs.Common.{◌≡◌, ℕ, ◌+◌, ◌*◌, ◌≤◌, List, [], ◌∷◌, ◌++◌, Bool, true, false, cond, length, length-append, Option, Some, None, ap, arith, refl}
+use Rattle.std.proofs.Common.{◌*◌, ◌≤◌, List, [], ◌∷◌, ◌++◌, Bool, true, length, length-append, Option, Some, None, arith}
 use Rattle.std.specs.List.{filter}
 use Rattle.vx_base.specs.Pieces.{Timer, Alarm, OfTimer, OfWake}
 use Rattle.vx_base.specs.declared.effects.Cell.{Cell}

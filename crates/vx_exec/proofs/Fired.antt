@@ -1,17 +1,17 @@
 -- TICK: no process comes or goes, no id is opened, and what is kept stays kept.
-use Rattle.std.proofs.Common.{◌≡◌, ◌≢◌, ℕ, zero, suc, ◌+◌, ◌-◌, ◌*◌, ◌<◌, ◌≤◌, List, Bool, true, false, length, length-set, Option, Some, None, refl, ap, sym, subst, ◌∙◌, arith}
-use Rattle.std.specs.List.{AllByRecursion, find, list_any}
+use Rattle.std.proofs.Common.{◌≡◌, ◌≢◌, ℕ, zero, suc, ◌-◌, ◌*◌, ◌<◌, ◌≤◌, List, Bool, true, length, length-set, Option, Some, None, refl, ap, sym, subst, ◌∙◌, arith}
+use Rattle.std.specs.List.{AllByRecursion, find}
 use Rattle.vx_base.specs.Lists.{less}
 use Rattle.vx_base.specs.Pieces.{Alarm, OfTimer, OfWake, Queued, Timer}
 use Rattle.vx_base.specs.declared.effects.Cell.{Cell}
 use Rattle.vx_base.specs.declared.effects.Cell.TheVariants.{Common, Local}
 use Rattle.vx_base.specs.declared.number.Id.{Id}
-use Rattle.vx_record.specs.State.{Process, State, change, process_at}
+use Rattle.vx_record.specs.State.{State, change, process_at}
 use Rattle.vx_record.specs.Asts.{with_queued}
 use Rattle.vx_record.specs.Flags.{cell, flag_where_named, with_local_flag}
 use Rattle.vx_record.specs.Parts.{Part}
-use Rattle.vx_record.specs.Sound.{AreOrdered, timer_id}
-use Rattle.vx_record.specs.Timers.{at_time, is_due, next_time, this_timer, tick}
+use Rattle.vx_record.specs.Sound.{timer_id}
+use Rattle.vx_record.specs.Timers.{at_time, is_due, next_time, tick}
 use Rattle.vx_record.proofs.Lists.{all_find, all_less, all_weaker, ordered_less, removed}
 use Rattle.vx_procs.specs.Ready.{IsKept}
 use Rattle.vx_procs.specs.Words.{alarm_ast, moved_on, timer_ast, with_queued_if, without_timer}
@@ -20,7 +20,6 @@ use Rattle.vx_procs.proofs.Firsts.{less_same}
 use Rattle.vx_timers.specs.Seen.{flag_number}
 use Rattle.vx_ctl.specs.Firing.{AreTimers, due_part, fired_first, told_ast}
 use Rattle.vx_ctl.proofs.Ticking.{fired_more, fired_none, fired_timers, flag_timers, timers_after}
-use Rattle.vx_exec.specs.Sound.{AreKept}
 use Rattle.vx_exec.proofs.Few.{few_ticked}
 use Rattle.vx_exec.proofs.Goes.{Goes, Stays, all_one, goes_stays, stays_changed, stays_common, stays_still, stays_then}
 use Rattle.vx_exec.proofs.Kept.{IsApart, kept_fewer, kept_flag, kept_queued, ordered_high}

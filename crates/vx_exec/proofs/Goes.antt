@@ -1,5 +1,5 @@
 -- What events of a process do to the state: how many ids they open, what stays kept, and how much they tell.
-use Rattle.std.proofs.Common.{◌≡◌, ℕ, zero, suc, ◌≢◌, ◌<◌, ◌++◌, is_some, slice_index_or, slice_set, ◌+◌, ◌-◌, ◌≤◌, List, [], ◌∷◌, Bool, true, false, not, ◌==◌, length, length-set, length-append, IsTrue, Option, Some, None, Result, Ok, Err, refl, ap, ◌∙◌, arith, nat_lt}
+use Rattle.std.proofs.Common.{◌≡◌, ℕ, zero, suc, ◌≢◌, ◌<◌, ◌++◌, is_some, slice_index_or, slice_set, ◌+◌, ◌-◌, ◌%◌, ◌^◌, ◌≤◌, List, [], ◌∷◌, Bool, true, false, not, ◌==◌, length, length-set, length-append, IsTrue, Option, Some, None, Result, Ok, Err, refl, ap, ◌∙◌, arith, nat_lt}
 use Rattle.std.specs.List.{AllByRecursion}
 use Rattle.vx_base.specs.Clusters.{Common as CommonClusters}
 use Rattle.vx_base.specs.Pieces.{Queued, Timer}
@@ -17,24 +17,25 @@ use Rattle.vx_base.specs.declared.frame.Frame.{Frame}
 use Rattle.vx_base.specs.declared.frame.FrameKind.{FrameKind}
 use Rattle.vx_base.specs.declared.frame.FrameKind.TheVariants as kind
 use Rattle.vx_base.specs.declared.frame.Wait.{Wait}
+use Rattle.vx_base.specs.declared.frame.Wait.TheVariants as wait
 use Rattle.vx_base.specs.declared.mode.Mode.{Mode}
 use Rattle.vx_base.specs.declared.mode.Mode.TheVariants.{Kernel, Exec}
-use Rattle.vx_base.specs.declared.number.Id.{Id}
 use Rattle.vx_base.specs.declared.number.Pid.{Pid}
 use Rattle.vx_base.specs.declared.routine.Entry.{Entry}
 use Rattle.vx_base.specs.declared.routine.Entry.TheVariants as entry
 use Rattle.vx_base.specs.declared.service.Service.{Service}
-use Rattle.vx_base.specs.declared.service.Service.TheVariants.{SetEf, ClrEf, ReadEf, DclAst, SetAst, CmExec, CmKrnl, SetImr, GetTim, Exit}
+use Rattle.vx_base.specs.declared.service.Service.TheVariants.{SetEf, ClrEf, ReadEf, WaitFr, WflOr, WflAnd, DclAst, SetAst, CmExec, CmKrnl, SetImr, Hiber, Wake, Suspnd, Resume, ForceX, Exit, GetTim}
 use Rattle.vx_base.specs.Modes.{inner, outer}
-use Rattle.vx_image.specs.Local.{Advanced, advanced}
+use Rattle.vx_image.specs.Local.{advanced}
 use Rattle.vx_image.specs.declared.stop.Stop.{Stop}
 use Rattle.vx_image.specs.declared.stop.Stop.TheVariants as stop
 use Rattle.vx_record.specs.State.{Process, State, IsProcess, process_at, change, image_of, current, nobody, next_id, past_id, with_top}
-use Rattle.vx_record.specs.Parts.{Outcome, answered, refused, part_of}
+use Rattle.vx_record.specs.Parts.{Outcome, answered, at_tested, nothing, refused, part_of}
 use Rattle.vx_record.specs.Asts.{charged_ast, declared_ast, with_delivery, with_frame, with_queued, new_frame}
 use Rattle.vx_record.specs.Charges.{exceeds, ast_need, timer_need}
+use Rattle.vx_record.specs.Control.{changed_process, exit_ast, forced, process_test, with_suspension, with_wake}
 use Rattle.vx_record.specs.Events.{below_top, delivered, moved_behind, moved_to, or_normal, put_back, r0_of, reader, resumed_with, returned, returned_from, run, run_frame, run_on, served_call, started}
-use Rattle.vx_record.specs.Flags.{at_flag, at_named, cell, flag_part, put_flag_at, readef, readef_at, refused_value, wait_condition, with_local_flag}
+use Rattle.vx_record.specs.Flags.{at_flag, at_named, awaited_at, cell, flag_part, put_flag_at, readef, readef_at, refused_value, refused_wait, wait_condition, waits_on, with_local_flag, with_wait}
 use Rattle.vx_record.specs.Rundown.{exited, without_ast, without_frames}
 use Rattle.vx_record.specs.Services.{number, place, routine, routine_or_none, access_mode, service, service_of, valued_at, with_variable}
 use Rattle.vx_record.specs.declared.served.Served.{Served}
@@ -43,14 +44,14 @@ use Rattle.vx_record.proofs.Lists.{either, all_set, all_weaker}
 use Rattle.vx_record.specs.Sound.{timer_id}
 use Rattle.vx_record.specs.Timers.{gettim, new_timer, open_timer, setimr_at, timer_set, with_timer}
 use Rattle.vx_record.proofs.Lists.{ordered_below, ordered_more}
-use Rattle.vx_procs.specs.Ready.{IsKept}
+use Rattle.vx_procs.specs.Ready.{FitsBlock, IsKept}
 use Rattle.vx_procs.specs.Words.{left, left_kind}
 use Rattle.vx_procs.proofs.Stack.{left_after, left_effects}
 use Rattle.vx_rundown.proofs.Changed.{process_there}
 use Rattle.vx_exec.specs.Built.{is_built_service, is_built}
 use Rattle.vx_exec.specs.Sound.{AreKept}
 use Rattle.vx_exec.proofs.Calls.{IsBuiltStop, advanced_built}
-use Rattle.vx_exec.proofs.Kept.{Keeps, kept_variable, kept_flag, kept_delivery, kept_moved, kept_behind, kept_resumed, kept_below, kept_back, kept_exit, kept_frame, kept_without, kept_later, kept_queued, kept_timed, none_new, ordered_high}
+use Rattle.vx_exec.proofs.Kept.{Keeps, kept_variable, kept_flag, kept_delivery, kept_moved, kept_behind, kept_resumed, kept_suspended, kept_wait, kept_waking, kept_below, kept_back, kept_exit, kept_frame, kept_without, kept_later, kept_queued, kept_timed, none_new, ordered_high}
 
 -- from s to t: no process comes or goes, no id is opened, and what is kept stays kept
 pub record Stays (s t : State) : Type 0 where
@@ -219,10 +220,43 @@ set_goes p s efn delta tag reqid (Common g name n) =
     either (λ (o : Outcome Cond). GoesBy p s o) (exceeds s p (timer_need (is_some tag))) (refused s ExQuota) (answered Normal (timer_set s p efn delta tag reqid (Common g name n))) (goes_still p s)
     (timer_goes p s (flag_part s (Common g name n) false).after efn delta tag reqid (effect.Flag (Common g name n) false ∷ []) (stays_common s _) (omega arith))
 
+-- a wait goes into the top frame, where it is not satisfied
+awaited_goes : (p : Pid) (s : State) (w : Wait) (o : Option Cond) → FitsBlock w → GoesBy p s (awaited_at s p w o)
+awaited_goes p s w None fits = goes_changed p p s (with_wait (Some w)) [] (kept_wait w fits) (omega arith)
+awaited_goes p s w (Some c) fits = goes_still p s
+
+-- a wait for flags by a mask
+masked_goes : (p : Pid) (s : State) (efn mask : ℕ) (all : Bool) → GoesBy p s (at_flag s p efn (refused_wait s) (waits_on s p (wait.Flags efn mask all)))
+masked_goes p s efn mask all = let w = wait.Flags efn mask all in flag_goes p s efn (refused_wait s) (waits_on s p w) (λ c. goes_still p s) (λ c. awaited_goes p s w (wait_condition s p w) tt)
+
+-- what is done to a process that a test found
+tested_goes : (p : Pid) (s : State) (go : Pid → Outcome Cond) (r : Result Pid Cond) → ((q : Pid) → GoesBy p s (go q)) → GoesBy p s (at_tested s go r)
+tested_goes p s go (Ok q) g = g q
+tested_goes p s go (Err c) g = goes_still p s
+
+-- a process that a number names is changed
+control_goes : (p : Pid) (s : State) (f : Process → Process) (r : Result Pid Cond) → Keeps f → GoesBy p s (at_tested s (changed_process s f) r)
+control_goes p s f r k = tested_goes p s (changed_process s f) r (λ q. goes_changed p q s f [] k (omega arith))
+
+-- a process is to exit
+forced_goes : (p : Pid) (s : State) (code : ℕ) (q : Pid) → GoesBy p s (forced s code q)
+forced_goes p s code q =
+    let ast = exit_ast (next_id s) code in
+    record {
+      procs = length-set s.procs (q.0 - 1) (with_queued ast (process_at s q));
+      later = omega arith;
+      soon = omega arith;
+      kept = λ h. record { order = ordered_below timer_id 0 s.next (s.next + 1) s.timers (omega arith) h.order; procs = queued_kept s q ast refl h };
+      few = omega arith;
+    }
+
 service_goes : (p : Pid) (s : State) (a : Args) (v : Service) → is_built_service v ≡ true → GoesBy p s (service_of s p a v)
 service_goes p s a SetEf built = flag_goes p s (number a.a0) (refused s) (put_flag_at s true) (λ c. goes_still p s) (put_goes p s true)
 service_goes p s a ClrEf built = flag_goes p s (number a.a0) (refused s) (put_flag_at s false) (λ c. goes_still p s) (put_goes p s false)
 service_goes p s a ReadEf built = let quiet = quiet_read s p (number a.a0) in read_goes p s (place a.a1) (readef s p (number a.a0)) (readef s p (number a.a0)).answer quiet.0 quiet.1
+service_goes p s a WaitFr built = masked_goes p s (number a.a0) (2 ^ (number a.a0 % 32)) false
+service_goes p s a WflOr built = masked_goes p s (number a.a0) (number a.a1) false
+service_goes p s a WflAnd built = masked_goes p s (number a.a0) (number a.a1) true
 service_goes p s a DclAst built =
     let mode = outer (access_mode a.a2) (current s p) in
     let tag = routine s p a.a0 (number a.a1) in
@@ -240,6 +274,13 @@ service_goes p s a CmKrnl built =
 service_goes p s a SetImr built =
     flag_goes p s (number a.a0) (refused s) (setimr_at s p (number a.a0) (number a.a1) (routine_or_none s p a.a2 (number a.a3)) (number a.a3)) (λ c. goes_still p s) (set_goes p s (number a.a0) (number a.a1) (routine_or_none s p a.a2 (number a.a3)) (number a.a3))
 service_goes p s a GetTim built = goes_changed p p s (with_variable (place a.a0) (gettim s)) (effect.Var p (place a.a0) (gettim s) ∷ []) (kept_variable (place a.a0) (gettim s)) (omega arith)
+service_goes p s a Hiber built =
+    either (λ (o : Outcome Served). GoesBy p s o) (process_at s p).wake_pending (answered (Answered Normal) (nothing (change s p (with_wake false)))) (answered Waits (nothing (change s p (with_wait (Some wait.Hiber)))))
+    (goes_changed p p s (with_wake false) [] (kept_waking false) (omega arith)) (goes_changed p p s (with_wait (Some wait.Hiber)) [] (kept_wait wait.Hiber tt) (omega arith))
+service_goes p s a Wake built = control_goes p s (with_wake true) (process_test s p (number a.a0)) (kept_waking true)
+service_goes p s a Suspnd built = control_goes p s (with_suspension true) (process_test s p (number a.a0)) (kept_suspended true)
+service_goes p s a Resume built = control_goes p s (with_suspension false) (process_test s p (number a.a0)) (kept_suspended false)
+service_goes p s a ForceX built = tested_goes p s (forced s (number a.a1)) (process_test s p (number a.a0)) (forced_goes p s (number a.a1))
 service_goes p s a Exit built =
     let few = exited_few s p (number a.a0) in exited_goes p s (number a.a0) (exited s p (number a.a0)).effects (omega (arith, few))
 service_goes p s a _ built = absurd (cc)

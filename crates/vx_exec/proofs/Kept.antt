@@ -1,5 +1,5 @@
 -- What changes of a process keep of it.
-use Rattle.std.proofs.Common.{◌≡◌, ◌≢◌, ℕ, ◌+◌, ◌-◌, ◌<◌, ◌≤◌, List, [], ◌∷◌, ◌++◌, Bool, false, not, nat_lt, ◌==◌, IsTrue, Option, Some, None, IfSome, refl, sym, ◌∙◌, arith}
+use Rattle.std.proofs.Common.{◌≡◌, ◌≢◌, ℕ, ◌+◌, ◌-◌, ◌<◌, ◌≤◌, List, [], ◌∷◌, ◌++◌, Bool, false, not, nat_lt, ◌==◌, IsTrue, Option, Some, None, IfSome, refl, sym, arith}
 use Rattle.std.specs.List.{AllByRecursion, list_any}
 use Rattle.std.proofs.lemmas.Bool.{and_parts, and_from, not-true, eqb-true, or_parts}
 use Rattle.vx_base.specs.Flags.{with_flag}
@@ -18,11 +18,12 @@ use Rattle.vx_base.specs.declared.number.Id.{Id}
 use Rattle.vx_image.specs.Storage.{Storage}
 use Rattle.vx_record.specs.State.{Process, with_top}
 use Rattle.vx_record.specs.Asts.{with_delivery, with_frame, with_queued}
+use Rattle.vx_record.specs.Control.{with_suspension, with_wake}
 use Rattle.vx_record.specs.Events.{without_top, below_top, put_back, moved_to, moved_behind, uses_wake, resumed_with}
 use Rattle.vx_record.specs.Flags.{with_local_flag, with_wait}
 use Rattle.vx_record.specs.Rundown.{in_phase, without_ast, without_frames}
 use Rattle.vx_record.specs.Services.{with_variable}
-use Rattle.vx_record.specs.Sound.{AreOrdered, timer_id}
+use Rattle.vx_record.specs.Sound.{AreOrdered}
 use Rattle.vx_record.proofs.Lists.{either, all_append, all_both, all_less, all_weaker, fails_not, false_from}
 use Rattle.vx_procs.specs.Ready.{FitsBlock, IsKept}
 use Rattle.vx_procs.specs.Words.{have_own_ids, without_started}
@@ -65,6 +66,15 @@ kept_behind place n ts pr h = kept_moved pr.store (place + 1) n ts pr h
 
 kept_unwaiting : Keeps (with_wait None)
 kept_unwaiting n ts pr h = record { ids = h.ids; opened = h.opened; apart = h.apart; waits = all_top FitsWait (λ f. record f { wait = None }) (λ x w. tt) pr.frames h.waits }
+
+pub kept_wait : (w : Wait) → FitsBlock w → Keeps (with_wait (Some w))
+kept_wait w fits n ts pr h = record { ids = h.ids; opened = h.opened; apart = h.apart; waits = all_top FitsWait (λ f. record f { wait = Some w }) (λ x k. fits) pr.frames h.waits }
+
+pub kept_waking : (on : Bool) → Keeps (with_wake on)
+kept_waking on n ts pr h = record { ids = h.ids; opened = h.opened; apart = h.apart; waits = h.waits }
+
+pub kept_suspended : (on : Bool) → Keeps (with_suspension on)
+kept_suspended on n ts pr h = record { ids = h.ids; opened = h.opened; apart = h.apart; waits = h.waits }
 
 kept_wake : (w : Wait) → Keeps (uses_wake w)
 kept_wake wait.Hiber n ts pr h = record { ids = h.ids; opened = h.opened; apart = h.apart; waits = h.waits }

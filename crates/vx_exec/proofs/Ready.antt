@@ -1,5 +1,5 @@
 -- What an event relies on, once room was made; and what the executive keeps.
-use Rattle.std.proofs.Common.{◌≡◌, ℕ, ◌+◌, ◌-◌, ◌*◌, ◌^◌, ◌<◌, ◌≤◌, List, [], ◌∷◌, Bool, true, ◌&&◌, nat_lt, nat_le, length, IsTrue, None, Contains, slice_index_or, refl, sym, ap, subst, ◌∙◌, arith}
+use Rattle.std.proofs.Common.{◌≡◌, ℕ, ◌+◌, ◌^◌, ◌<◌, ◌≤◌, List, [], ◌∷◌, Bool, true, ◌&&◌, nat_lt, nat_le, length, IsTrue, None, Contains, refl, sym, subst, arith}
 use Rattle.std.proofs.lemmas.Bool.{and_parts, leb-true, ltb-true}
 use Rattle.std.proofs.lemmas.Bool.Decides.{nat_tests}
 use Rattle.std.specs.List.{AllByRecursion}
@@ -14,7 +14,7 @@ use Rattle.vx_image.specs.declared.system.System.{System}
 use Rattle.vx_record.specs.Asts.{deliverable_ast}
 use Rattle.vx_record.specs.Events.{enabled, step}
 use Rattle.vx_record.specs.Runs.{are_deleted, born_from, born_of, end_of, end_with, first}
-use Rattle.vx_record.specs.State.{Process, State, IsProcess, decl_of, image_of, process_at, no_image, no_decl}
+use Rattle.vx_record.specs.State.{State, IsProcess, decl_of, image_of, process_at, no_image, no_decl}
 use Rattle.vx_record.proofs.Changes.{stands_at}
 use Rattle.vx_record.proofs.Lists.{all_at, all_get, either}
 use Rattle.vx_record.proofs.SoundCalls.{all_from_list}
@@ -24,7 +24,7 @@ use Rattle.vx_procs.specs.Kernel.{Fits, Kernel}
 use Rattle.vx_procs.specs.Ready.{HasSpares, IsBare, IsKept}
 use Rattle.vx_exec.specs.Built.{is_built}
 use Rattle.vx_exec.specs.Ready.{HasOwner, IsReadyFor, IsSet, most}
-use Rattle.vx_exec.specs.Sound.{AreKept, IsGoing, IsWhole}
+use Rattle.vx_exec.specs.Sound.{IsGoing, IsWhole}
 use Rattle.vx_exec.proofs.Down.{rundown_goes}
 use Rattle.vx_exec.proofs.Enabled.{enabled_owned, kept_at}
 use Rattle.vx_exec.proofs.Fired.{tick_goes}

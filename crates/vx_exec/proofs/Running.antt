@@ -1,5 +1,5 @@
 -- What the parts of an event come to, in the machine's words.
-use Rattle.std.proofs.Common.{◌≡◌, ℕ, ◌+◌, ◌-◌, ◌<◌, ◌≤◌, List, [], ◌∷◌, Bool, true, false, cond, ◌&&◌, nat_le, length, length-set, slice_index_or, IsTrue, Option, Some, None, refl, sym, ap, subst, ◌∙◌, ◌⊎◌, inl, inr, arith}
+use Rattle.std.proofs.Common.{◌≡◌, ℕ, ◌-◌, ◌≤◌, List, [], ◌∷◌, true, cond, ◌&&◌, nat_lt, nat_le, length, length-set, slice_index_or, IsTrue, Option, Some, None, refl, sym, ap, subst, ◌∙◌, ◌⊎◌, inl, inr, arith}
 use Rattle.std.proofs.lemmas.Bool.{and_parts, eqb-true, leb-true}
 use Rattle.std.specs.List.{find, list_all}
 use Rattle.vx_base.specs.Cond.{number_of}
@@ -102,7 +102,8 @@ few_stmts : (image : Image) → IsImage image → length image.stmts ≤ 10000
 few_stmts image is =
     let places = list_all (λ place. nat_le place (length image.stmts)) (label_places image) in
     let rest = list_all (is_stmt is.0 image) image.stmts in
-    leb-true (length image.stmts) 10000 (and_parts (nat_le (length image.stmts) 10000) (are_distinct (label_names image) && (falls_nowhere 0 (label_places image) && (places && rest))) is.1).0
+    let labels = and_parts (nat_lt (length image.labels) 4294967296) (nat_le (length image.stmts) 10000 && (are_distinct (label_names image) && (falls_nowhere 0 (label_places image) && (places && rest)))) is.1 in
+    leb-true (length image.stmts) 10000 (and_parts (nat_le (length image.stmts) 10000) (are_distinct (label_names image) && (falls_nowhere 0 (label_places image) && (places && rest))) labels.1).0
 
 built_from : (s : State) (p : Pid) (fs : List Frame) → IsTrue (is_built s.system) → IsBuiltStop (image_of s p) (advanced_from (image_of s p) p (process_at s p).store fs).place (advanced_from (image_of s p) p (process_at s p).store fs).stop
 built_from s p [] built = tt

@@ -1,8 +1,8 @@
 -- What of a system the executive runs so far.
-use Rattle.std.specs.Prelude.{ℕ, ◌<◌, List, [], ◌∷◌, Bool, true, false, ◌&&◌, IsTrue, length, nat_lt, ⊤}
+use Rattle.std.specs.Prelude.{ℕ, ◌<◌, List, [], ◌∷◌, Bool, true, false, ◌&&◌, IsTrue, ⊤}
 use Rattle.std.specs.List.{list_all}
 use Rattle.vx_base.specs.declared.service.Service.{Service}
-use Rattle.vx_base.specs.declared.service.Service.TheVariants.{SetEf, ClrEf, ReadEf, DclAst, SetAst, CmExec, CmKrnl, SetImr, GetTim, Exit}
+use Rattle.vx_base.specs.declared.service.Service.TheVariants.{SetEf, ClrEf, ReadEf, WaitFr, WflOr, WflAnd, DclAst, SetAst, CmExec, CmKrnl, SetImr, Hiber, Wake, Suspnd, Resume, ForceX, Exit, GetTim}
 use Rattle.vx_image.specs.declared.image.Image.{Image}
 use Rattle.vx_image.specs.declared.stmt.Stmt.{Stmt}
 use Rattle.vx_image.specs.declared.stmt.Stmt.TheVariants as stmt
@@ -11,18 +11,27 @@ use Rattle.vx_image.specs.declared.stop.Stop.TheVariants as stop
 use Rattle.vx_image.specs.declared.system.System.{System}
 use Rattle.vx_image.specs.declared.unit.UnitDecl.{UnitDecl}
 
--- the services on event flags, ASTs and modes that wait for nothing, $SETIMR, $GETTIM and $EXIT
+-- the services on local event flags and waits, ASTs and modes, $SETIMR, $GETTIM, and those that control processes but $CREPRC and
+-- $DELPRC
 abbrev pub is_built_service : Service → Bool
 is_built_service SetEf = true
 is_built_service ClrEf = true
 is_built_service ReadEf = true
+is_built_service WaitFr = true
+is_built_service WflOr = true
+is_built_service WflAnd = true
 is_built_service DclAst = true
 is_built_service SetAst = true
 is_built_service CmExec = true
 is_built_service CmKrnl = true
 is_built_service SetImr = true
-is_built_service GetTim = true
+is_built_service Hiber = true
+is_built_service Wake = true
+is_built_service Suspnd = true
+is_built_service Resume = true
+is_built_service ForceX = true
 is_built_service Exit = true
+is_built_service GetTim = true
 is_built_service _ = false
 
 -- each statement but the other services

@@ -11,7 +11,7 @@ use Rattle.vx_record.specs.Events.{started}
 use Rattle.vx_record.specs.Parts.{Part}
 use Rattle.vx_record.specs.Sound.{AreOrdered, timer_id}
 use Rattle.vx_procs.specs.Kernel.{Kernel}
-use Rattle.vx_procs.specs.Ready.{IsBare, IsReady}
+use Rattle.vx_procs.specs.Ready.{IsReady}
 use Rattle.vx_exec.specs.Built.{is_built}
 
 -- A process is ready, in a system that the executive runs so far; timers stand in id order.

@@ -4,14 +4,18 @@ ghost use Rattle.std.specs.Prelude.{◌≡◌, ◌<◌, IfSome, IsTrue, bytes_eq
 ghost use Rattle.vx_record.specs.Flags.{readef};
 ghost use Rattle.vx_record.specs.Parts.{nothing};
 ghost use Rattle.vx_record.specs.Timers.{gettim};
-ghost use Rattle.vx_record.specs.Services.{access_mode, label_place, number, place, routine, routine_or_none, service, service_of, valued, with_value};
+ghost use Rattle.vx_record.specs.Control.{resume, suspnd, wake};
+ghost use Rattle.vx_record.specs.Services.{access_mode, at_once, label_place, number, place, routine, routine_or_none, service, service_of, valued, with_value};
 ghost use Rattle.vx_procs.specs.Kernel.{Does, DoesQuietly, Fits};
 ghost use Rattle.vx_ctl.specs.Answers.{cond_of};
 ghost use Rattle.vx_exec.specs.Built.{is_built_service};
 ghost use Rattle.vx_exec.specs.Ready.{IsSet};
 
 use vx_base::{Arg, Args, Call, Cond, Effect, Entry, Mode, Operand, Pid, Routine, Service, Target};
-use vx_ctl::{Refused, clref, cmexec, cmkrnl, dclast, gettim, readef, setast, setef, setimr};
+use vx_ctl::{
+    Refused, clref, cmexec, cmkrnl, dclast, forcex, gettim, hiber, readef, resume, setast, setef,
+    setimr, suspnd, waitfr, wake, wfland, wflor,
+};
 use vx_image::{Image, Label};
 use vx_procs::Core;
 use vx_record::Served;
@@ -178,6 +182,30 @@ fn enter_kernel<R: Routine>(core: &mut Core<R>, p: Pid, args: &Args) -> Served
     Served::Answered(cond_of(answer))
 }
 
+// $WAKE of the process that a number names.
+fn wake_named<R: Routine>(core: &mut Core<R>, p: Pid, n: u32) -> Served
+    requires { IsSet core.old p }
+    ensures { DoesQuietly (at_once (wake core.old.state p n)) result core.old core.new }
+{
+    Served::Answered(wake(core, p, n))
+}
+
+// $SUSPND of the process that a number names.
+fn suspend_named<R: Routine>(core: &mut Core<R>, p: Pid, n: u32) -> Served
+    requires { IsSet core.old p }
+    ensures { DoesQuietly (at_once (suspnd core.old.state p n)) result core.old core.new }
+{
+    Served::Answered(suspnd(core, p, n))
+}
+
+// $RESUME of the process that a number names.
+fn resume_named<R: Routine>(core: &mut Core<R>, p: Pid, n: u32) -> Served
+    requires { IsSet core.old p }
+    ensures { DoesQuietly (at_once (resume core.old.state p n)) result core.old core.new }
+{
+    Served::Answered(resume(core, p, n))
+}
+
 /// Does the service of a call. Its place is put behind the statement before, and R0 set after it.
 #[tactic(auto, using(crate::proofs::Running::quietly))]
 pub(crate) fn serve<R: Routine>(core: &mut Core<R>, p: Pid, call: &Call) -> Served
@@ -192,28 +220,28 @@ pub(crate) fn serve<R: Routine>(core: &mut Core<R>, p: Pid, call: &Call) -> Serv
         Service::SetEf => Served::Answered(setef(core, p, n)),
         Service::ClrEf => Served::Answered(clref(core, p, n)),
         Service::ReadEf => read_flags(core, p, n, place(&args.a1)),
+        Service::WaitFr => waitfr(core, p, n),
+        Service::WflOr => wflor(core, p, n, number(&args.a1)),
+        Service::WflAnd => wfland(core, p, n, number(&args.a1)),
         Service::DclAst => declare(core, p, args),
         Service::SetAst => Served::Answered(setast(core, p, n)),
         Service::CmExec => enter_exec(core, p, args),
         Service::CmKrnl => enter_kernel(core, p, args),
         Service::SetImr => set_timer(core, p, args),
         Service::GetTim => read_time(core, p, place(&args.a0)),
+        Service::Hiber => hiber(core, p),
+        Service::Wake => wake_named(core, p, n),
+        Service::Suspnd => suspend_named(core, p, n),
+        Service::Resume => resume_named(core, p, n),
+        Service::ForceX => Served::Answered(forcex(core, p, n, number(&args.a1))),
         Service::Exit => Served::Answered(exit(core, p, n)),
         // these are not built yet
-        Service::WaitFr
-        | Service::WflOr
-        | Service::WflAnd
-        | Service::AscEfc
+        Service::AscEfc
         | Service::DacEfc
         | Service::DlcEfc
         | Service::CanTim
         | Service::SchdWk
         | Service::CanWak
-        | Service::Hiber
-        | Service::Wake
-        | Service::Suspnd
-        | Service::Resume
-        | Service::ForceX
         | Service::CrePrc
         | Service::DelPrc
         | Service::DclExh

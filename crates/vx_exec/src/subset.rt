@@ -15,13 +15,21 @@ fn is_built_service(service: Service) -> bool
         Service::SetEf
             | Service::ClrEf
             | Service::ReadEf
+            | Service::WaitFr
+            | Service::WflOr
+            | Service::WflAnd
             | Service::DclAst
             | Service::SetAst
             | Service::CmExec
             | Service::CmKrnl
             | Service::SetImr
-            | Service::GetTim
+            | Service::Hiber
+            | Service::Wake
+            | Service::Suspnd
+            | Service::Resume
+            | Service::ForceX
             | Service::Exit
+            | Service::GetTim
     )
 }
 
@@ -58,8 +66,8 @@ fn are_built_images(images: &[Image]) -> bool
     images.iter().all(|image| is_built_image(image))
 }
 
-/// Whether the executive runs a system so far: it has no units, and its images call of the services those on event flags,
-/// ASTs and modes that wait for nothing, $SETIMR, $GETTIM and $EXIT.
+/// Whether the executive runs a system so far: it has no units, and its images call of the services those on local event
+/// flags and waits, ASTs and modes, $SETIMR, $GETTIM, $EXIT, and those that control processes but $CREPRC and $DELPRC.
 pub fn is_built(system: &System) -> bool
     ensures { result ≡ is_built system.now }
 {

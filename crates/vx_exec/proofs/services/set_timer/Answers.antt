@@ -1,6 +1,6 @@
 use Rattle.std.proofs.Common.{ap, ◌∙◌}
-use Rattle.vx_record.specs.Services.{number, routine_or_none}
-use Rattle.vx_exec.proofs.Running.{once, timer_call}
+use Rattle.vx_record.specs.Services.{routine_or_none}
+use Rattle.vx_exec.proofs.Running.{timer_call}
 use Rattle.vx_exec.proofs.services.set_timer.Goals as goal
 
 pub returns : goal.returns

@@ -1,7 +1,7 @@
 use Rattle.std.proofs.Common.{◌≡◌, ◌≤◌, Contains, None, ap, sym, subst, ◌∙◌}
 use Rattle.vx_image.specs.declared.system.System.{System}
 use Rattle.vx_record.specs.State.{State}
-use Rattle.vx_record.specs.Events.{enabled, step}
+use Rattle.vx_record.specs.Events.{enabled}
 use Rattle.vx_record.specs.Runs.{end_of}
 use Rattle.vx_record.proofs.SystemKept.{step_keeps_system}
 use Rattle.vx_procs.specs.Kernel.{Kernel}
