@@ -1,4 +1,4 @@
--- The phases of processes: what leaves them as they were, and how they go on.
+-- The phases of processes and their channels: what leaves them as they were, and how phases go on.
 use Rattle.std.proofs.Common.{◌∙◌, ◌≡◌, ℕ, List, [], ◌∷◌, Bool, true, false, cond, not, ◌==◌, ◌&&◌, nat_lt, nat_le, length, Option, Some, None, Result, Ok, Err, is_some, position, is_none, refl}
 use Rattle.std.specs.List.{filter, find, list_any}
 use Rattle.vx_base.specs.Modes.{outer, is_kernel}
@@ -70,7 +70,7 @@ use Rattle.vx_record.specs.Requests.{with_request}
 use Rattle.vx_record.specs.Timers.{with_timer}
 use Rattle.vx_record.specs.Services.{with_variable, at_once}
 use Rattle.vx_image.specs.Storage.{Storage}
-use Rattle.std.proofs.Common.{◌%◌, ◌^◌, ◌||◌, sym, subst}
+use Rattle.std.proofs.Common.{◌%◌, ◌^◌, ◌||◌, sym, subst, replicate}
 use Rattle.vx_base.specs.Cond.{number_of}
 use Rattle.vx_base.specs.Modes.{inner}
 use Rattle.vx_base.specs.declared.cond.Cond.TheVariants.{BadParam}
@@ -96,24 +96,53 @@ use Rattle.vx_record.specs.declared.served.Served.TheVariants.{Waits}
 
 -- a process that is not made yet
 abbrev pub newcomer : Process
-newcomer = record nobody { phase = phase.Alive }
+newcomer = record nobody { phase = phase.Alive; channels = replicate 64 None }
+
+-- the phase of a process, and its channels
+abbrev pub seat_of : Process → Phase × List (Option Channel)
+seat_of pr = (pr.phase, pr.channels)
+
+abbrev pub seat_in : List Process → ℕ → Phase × List (Option Channel)
+seat_in prs i = seat_of (get_or prs i newcomer)
 
 abbrev pub phase_in : List Process → ℕ → Phase
 phase_in prs i = (get_or prs i newcomer).phase
 
--- all processes are in the phases that they were in
+-- all processes are in the phases that they were in, with the channels that they had
 pub record Keeps (s t : State) : Type 0 where
-  pub phases : (i : ℕ) → phase_in t.procs i ≡ phase_in s.procs i
+  pub seats : (i : ℕ) → seat_in t.procs i ≡ seat_in s.procs i
+
+pub keep_phases : (s t : State) → Keeps s t → (i : ℕ) → phase_in t.procs i ≡ phase_in s.procs i
+keep_phases s t k i = ap (λ (x : Phase × List (Option Channel)). x.0) (k.seats i)
 
 pub keep_none : (s : State) → Keeps s s
-keep_none s = record { phases = λ i. refl }
+keep_none s = record { seats = λ i. refl }
 
 pub keep_then : {s t u : State} → Keeps s t → Keeps t u → Keeps s u
-keep_then h k = record { phases = λ i. k.phases i ∙ h.phases i }
+keep_then h k = record { seats = λ i. k.seats i ∙ h.seats i }
 
 -- the processes are the same
 pub keep_procs : (s t : State) → t.procs ≡ s.procs → Keeps s t
-keep_procs s t e = record { phases = λ i. ap (λ (prs : List Process). phase_in prs i) e }
+keep_procs s t e = record { seats = λ i. ap (λ (prs : List Process). seat_in prs i) e }
+
+-- process p may have other channels
+pub record Shifts (p : Pid) (s t : State) : Type 0 where
+  pub seats : (i : ℕ) → (p.0 - 1 ≡ i → ⊥) → seat_in t.procs i ≡ seat_in s.procs i
+  pub phases : (i : ℕ) → phase_in t.procs i ≡ phase_in s.procs i
+
+pub shift_of : {p : Pid} {s t : State} → Keeps s t → Shifts p s t
+shift_of {p} {s} {t} k = record { seats = λ i n. k.seats i; phases = keep_phases s t k }
+
+pub shift_then : {p : Pid} {s t u : State} → Shifts p s t → Shifts p t u → Shifts p s u
+shift_then h k = record { seats = λ i n. k.seats i n ∙ h.seats i n; phases = λ i. k.phases i ∙ h.phases i }
+
+pub shift_or : {A : Type 0} {p : Pid} (s : State) (b : Bool) (x y : Outcome A) → Shifts p s x.after → Shifts p s y.after → Shifts p s (cond b x y).after
+shift_or s true x y h k = h
+shift_or s false x y h k = k
+
+pub shift_each : {A : Type 0} {p : Pid} (f : State → A → Part) → ((t : State) (x : A) → Shifts p t (f t x).after) → (xs : List A) (s : State) → Shifts p s (each f xs s).after
+shift_each f k [] s = shift_of (keep_none s)
+shift_each f k (x ∷ xs) s = shift_then (k s x) (shift_each f k xs (f s x).after)
 
 abbrev pub PartKeeps : State → Part → Type 0
 PartKeeps s a = Keeps s a.after
@@ -136,21 +165,28 @@ pub keep_each : {A : Type 0} (f : State → A → Part) → ((t : State) (x : A)
 keep_each f k [] s = keep_none s
 keep_each f k (x ∷ xs) s = keep_then (k s x) (keep_each f k xs (f s x).after)
 
-set_phases : (l : List Process) (i j : ℕ) (a : Process) → a.phase ≡ (get_or l i nobody).phase → phase_in (set l i a) j ≡ phase_in l j
-set_phases [] i j a h = refl
-set_phases (x ∷ xs) zero zero a h = h
-set_phases (x ∷ xs) zero (suc j) a h = refl
-set_phases (x ∷ xs) (suc i) zero a h = refl
-set_phases (x ∷ xs) (suc i) (suc j) a h = set_phases xs i j a h
+set_phases : {T : Type 0} (g : Process → T) (l : List Process) (i j : ℕ) (a : Process) → g a ≡ g (get_or l i nobody) → g (get_or (set l i a) j newcomer) ≡ g (get_or l j newcomer)
+set_phases g [] i j a h = refl
+set_phases g (x ∷ xs) zero zero a h = h
+set_phases g (x ∷ xs) zero (suc j) a h = refl
+set_phases g (x ∷ xs) (suc i) zero a h = refl
+set_phases g (x ∷ xs) (suc i) (suc j) a h = set_phases g xs i j a h
 
--- a process is changed, and not its phase
-pub keep_same : (s : State) (p : Pid) (f : Process → Process) → (f (process_at s p)).phase ≡ (process_at s p).phase → Keeps s (change s p f)
-keep_same s p f e = record { phases = λ i. set_phases s.procs (p.0 - 1) i (f (process_at s p)) e }
+-- a process is changed, and neither its phase nor its channels
+pub keep_same : (s : State) (p : Pid) (f : Process → Process) → seat_of (f (process_at s p)) ≡ seat_of (process_at s p) → Keeps s (change s p f)
+keep_same s p f e = record { seats = λ i. set_phases seat_of s.procs (p.0 - 1) i (f (process_at s p)) e }
+
+pub set_apart : (l : List Process) (i j : ℕ) (a : Process) → (i ≡ j → ⊥) → seat_in (set l i a) j ≡ seat_in l j
+set_apart [] i j a n = refl
+set_apart (x ∷ xs) zero zero a n = absurd (n refl)
+set_apart (x ∷ xs) zero (suc j) a n = refl
+set_apart (x ∷ xs) (suc i) zero a n = refl
+set_apart (x ∷ xs) (suc i) (suc j) a n = set_apart xs i j a (λ e. n (ap suc e))
 
 -- Flags.
 
 flag_keeps : (s : State) (c : Cell) (on : Bool) → PartKeeps s (flag_part s c on)
-flag_keeps s (Local p n) on = keep_same s p (with_local_flag n on) (either (λ (x : Process). x.phase ≡ (process_at s p).phase) (nat_lt n 32) _ _ refl refl)
+flag_keeps s (Local p n) on = keep_same s p (with_local_flag n on) (either (λ (x : Process). seat_of x ≡ seat_of (process_at s p)) (nat_lt n 32) _ _ refl refl)
 flag_keeps s (Common g a n) on = keep_procs s _ refl
 
 named_keeps : (s : State) (o : Option Cell) (on : Bool) → PartKeeps s (flag_where_named s o on)
@@ -265,33 +301,36 @@ tested_keeps : {A : Type 0} (s : State) (go : A → Outcome Cond) (r : Result A 
 tested_keeps s go (Err c) f = keep_none s
 tested_keeps s go (Ok x) f = f x
 
-channel_keeps : (s : State) (p : Pid) (n : ℕ) (ch : Option Channel) → Keeps s (change s p (with_channel n ch))
-channel_keeps s p n ch = keep_same s p (with_channel n ch) refl
+channel_shifts : (s : State) (p : Pid) (n : ℕ) (ch : Option Channel) → Shifts p s (change s p (with_channel n ch))
+channel_shifts s p n ch = record {
+  seats = λ i e. set_apart s.procs (p.0 - 1) i (with_channel n ch (process_at s p)) e;
+  phases = λ i. set_phases (λ pr. pr.phase) s.procs (p.0 - 1) i (with_channel n ch (process_at s p)) refl;
+}
 
-assign_at_keeps : (s : State) (p : Pid) (d : Device) (mode : Mode) (o : Option ℕ) → OutcomeKeeps s (assign_at s p d mode o)
-assign_at_keeps s p d mode None = keep_none s
-assign_at_keeps s p d mode (Some n) = channel_keeps s p n (Some (record { device = d; mode = mode }))
+assign_at_shifts : (s : State) (p : Pid) (d : Device) (mode : Mode) (o : Option ℕ) → Shifts p s (assign_at s p d mode o).after
+assign_at_shifts s p d mode None = shift_of (keep_none s)
+assign_at_shifts s p d mode (Some n) = channel_shifts s p n (Some (record { device = d; mode = mode }))
 
-assign_to_keeps : (s : State) (p : Pid) (mode : Mode) (o : Option Device) → OutcomeKeeps s (assign_to s p mode o)
-assign_to_keeps s p mode None = keep_none s
-assign_to_keeps s p mode (Some d) = assign_at_keeps s p d mode (free_channel_of s p)
+assign_to_shifts : (s : State) (p : Pid) (mode : Mode) (o : Option Device) → Shifts p s (assign_to s p mode o).after
+assign_to_shifts s p mode None = shift_of (keep_none s)
+assign_to_shifts s p mode (Some d) = assign_at_shifts s p d mode (free_channel_of s p)
 
-make_box_keeps : (s : State) (p : Pid) (mode : Mode) (box : Mailbox) (n : ℕ) (o : Option ℕ) → OutcomeKeeps s (make_box s p mode box n o)
-make_box_keeps s p mode box n None = keep_none s
-make_box_keeps s p mode box n (Some c) =
+make_box_shifts : (s : State) (p : Pid) (mode : Mode) (box : Mailbox) (n : ℕ) (o : Option ℕ) → Shifts p s (make_box s p mode box n o).after
+make_box_shifts s p mode box n None = shift_of (keep_none s)
+make_box_shifts s p mode box n (Some c) =
     let a = (box_made s n box).after in
-    keep_then (keep_procs s a refl) (channel_keeps a p c (Some (record { device = device.Mailbox (box_number n); mode = mode })))
+    shift_then (shift_of (keep_procs s a refl)) (channel_shifts a p c (Some (record { device = device.Mailbox (box_number n); mode = mode })))
 
-make_box_in_keeps : (s : State) (p : Pid) (mode : Mode) (box : Mailbox) (o : Option ℕ) → OutcomeKeeps s (make_box_in s p mode box o)
-make_box_in_keeps s p mode box None = keep_none s
-make_box_in_keeps s p mode box (Some n) = make_box_keeps s p mode box n (free_channel_of s p)
+make_box_in_shifts : (s : State) (p : Pid) (mode : Mode) (box : Mailbox) (o : Option ℕ) → Shifts p s (make_box_in s p mode box o).after
+make_box_in_shifts s p mode box None = shift_of (keep_none s)
+make_box_in_shifts s p mode box (Some n) = make_box_shifts s p mode box n (free_channel_of s p)
 
-find_or_create_keeps : (s : State) (p : Pid) (mode : Mode) (box : Mailbox) (o : Option ℕ) → OutcomeKeeps s (find_or_create s p mode box o)
-find_or_create_keeps s p mode box None = keep_or s (box.permanent && not (process_at s p).privs.prmmbx) _ _ (keep_none s) (make_box_in_keeps s p mode box (position is_none s.boxes))
-find_or_create_keeps s p mode box (Some n) = assign_at_keeps s p _ mode (free_channel_of s p)
+find_or_create_shifts : (s : State) (p : Pid) (mode : Mode) (box : Mailbox) (o : Option ℕ) → Shifts p s (find_or_create s p mode box o).after
+find_or_create_shifts s p mode box None = shift_or s (box.permanent && not (process_at s p).privs.prmmbx) _ _ (shift_of (keep_none s)) (make_box_in_shifts s p mode box (position is_none s.boxes))
+find_or_create_shifts s p mode box (Some n) = assign_at_shifts s p _ mode (free_channel_of s p)
 
-crembx_keeps : (s : State) (p : Pid) (name : List ℕ) (perm maxmsg bufquo : ℕ) (mode : Mode) → OutcomeKeeps s (crembx s p name perm maxmsg bufquo mode)
-crembx_keeps s p name perm maxmsg bufquo mode = keep_or s (is_bad_box s name maxmsg bufquo) _ _ (keep_none s) (find_or_create_keeps s p (outer mode (current s p)) (new_box name perm maxmsg bufquo) (box_named s name))
+crembx_shifts : (s : State) (p : Pid) (name : List ℕ) (perm maxmsg bufquo : ℕ) (mode : Mode) → Shifts p s (crembx s p name perm maxmsg bufquo mode).after
+crembx_shifts s p name perm maxmsg bufquo mode = shift_or s (is_bad_box s name maxmsg bufquo) _ _ (shift_of (keep_none s)) (find_or_create_shifts s p (outer mode (current s p)) (new_box name perm maxmsg bufquo) (box_named s name))
 
 delmbx_keeps : (s : State) (p : Pid) (d : Device) → OutcomeKeeps s (delmbx_on s p d)
 delmbx_keeps s p (device.Unit u) = keep_none s
@@ -307,8 +346,8 @@ swept_keeps : (s : State) (o : Option Channel) → PartKeeps s (swept_box s o)
 swept_keeps s None = keep_none s
 swept_keeps s (Some ch) = swept_device_keeps s ch.device
 
-free_keeps : (s : State) (p : Pid) (n : ℕ) → PartKeeps s (free_channel s p n)
-free_keeps s p n = keep_then (channel_keeps s p n None) (swept_keeps (change s p (with_channel n None)) (channel_at (process_at s p).channels n))
+pub free_shifts : (s : State) (p : Pid) (n : ℕ) → Shifts p s (free_channel s p n).after
+free_shifts s p n = shift_then (channel_shifts s p n None) (shift_of (swept_keeps (change s p (with_channel n None)) (channel_at (process_at s p).channels n)))
 
 -- Cancelling.
 
@@ -373,15 +412,15 @@ cancel_handlers_keeps : (s : State) (p : Pid) (o : Option Entry) → OutcomeKeep
 cancel_handlers_keeps s p None = drop_handlers_keeps s p (is_handler_of (current s p))
 cancel_handlers_keeps s p (Some tag) = cancel_found_keeps s p (find (is_handler_with (current s p) tag) (process_at s p).handlers)
 
-pub release_keeps : (s : State) (p : Pid) (m : Mode) → PartKeeps s (release s p m)
-release_keeps s p m =
+pub release_shifts : (s : State) (p : Pid) (m : Mode) → Shifts p s (release s p m).after
+release_shifts s p m =
     let ns = channels_of m (process_at s p).channels in
     let one = (each (free_one p) ns s).after in
     let two = (drop_asts p m one).after in
     let three = (part_with p 2 two).after in
-    keep_then (keep_each (free_one p) (λ t n. free_keeps t p n) ns s)
-    (keep_then (keep_each (drop_ast p) (λ t q. keep_same t p (without_ast q.id) refl) (filter (is_ast_reached m) (process_at one p).asts) one)
-    (keep_then (keep_procs two three refl) (keep_procs three (part_with p 3 three).after refl)))
+    shift_then (shift_each (free_one p) (λ t n. free_shifts t p n) ns s)
+    (shift_of (keep_then (keep_each (drop_ast p) (λ t q. keep_same t p (without_ast q.id) refl) (filter (is_ast_reached m) (process_at one p).asts) one)
+    (keep_then (keep_procs two three refl) (keep_procs three (part_with p 3 three).after refl))))
 
 pub cancel_modes_keeps : (s : State) (p : Pid) (m : Mode) → PartKeeps s (cancel_modes s p m)
 cancel_modes_keeps s p m =
@@ -403,14 +442,18 @@ numbered_keeps : (s : State) (p : Pid) (t : Target) (part : Part) (r : Result �
 numbered_keeps s p t part (Ok n) k = keep_then k (var_keeps part.after p t n)
 numbered_keeps s p t part (Err c) k = k
 
-new_phases : (prs : List Process) (pr : Process) (i : ℕ) → pr.phase ≡ phase.Alive → phase_in (prs ++ pr ∷ []) i ≡ phase_in prs i
+new_phases : (prs : List Process) (pr : Process) (i : ℕ) → seat_of pr ≡ seat_of newcomer → seat_in (prs ++ pr ∷ []) i ≡ seat_in prs i
 new_phases [] pr zero e = e
 new_phases [] pr (suc i) e = refl
 new_phases (x ∷ xs) pr zero e = refl
 new_phases (x ∷ xs) pr (suc i) e = new_phases xs pr i e
 
+numbered_shifts : (s : State) (p : Pid) (t : Target) (part : Part) (r : Result ℕ Cond) → Shifts p s part.after → Shifts p s (numbered_at p t part r).after
+numbered_shifts s p t part (Ok n) k = shift_then k (shift_of (var_keeps part.after p t n))
+numbered_shifts s p t part (Err c) k = k
+
 newly_keeps : (s : State) (p : Pid) (place : ℕ) → PartKeeps s (new_part s p place)
-newly_keeps s p place = record { phases = λ i. new_phases s.procs (created s p place) i refl }
+newly_keeps s p place = record { seats = λ i. new_phases s.procs (created s p place) i refl }
 
 declared_keeps : (s : State) (p : Pid) (mode : Mode) (tag : Entry) → PartKeeps s (declared_ast s p mode tag)
 declared_keeps s p mode tag = keep_then (keep_procs s (past_id s) refl) (que_keeps (past_id s) p (charged_ast (next_id s) mode tag))
@@ -418,7 +461,7 @@ declared_keeps s p mode tag = keep_then (keep_procs s (past_id s) refl) (que_kee
 forced_keeps : (s : State) (code : ℕ) (p : Pid) → OutcomeKeeps s (forced s code p)
 forced_keeps s code p = keep_then (keep_procs s (past_id s) refl) (que_keeps (past_id s) p (exit_ast (next_id s) code))
 
-changed_keeps : (s : State) (q : Pid) (f : Process → Process) → (f (process_at s q)).phase ≡ (process_at s q).phase → OutcomeKeeps s (changed_process s f q)
+changed_keeps : (s : State) (q : Pid) (f : Process → Process) → seat_of (f (process_at s q)) ≡ seat_of (process_at s q) → OutcomeKeeps s (changed_process s f q)
 changed_keeps s q f e = keep_same s q f e
 
 awaited_keeps : (s : State) (p : Pid) (w : Wait) (o : Option Cond) → OutcomeKeeps s (awaited_at s p w o)
@@ -435,10 +478,13 @@ qiow_keeps s p q (Ok to) =
     let w = wait.Synch q.efn q.iosb in
     keep_then (accepted_keeps s p q to.0 to.1) (awaited_keeps u p w (wait_condition u p w))
 
--- services by which a process leaves its phase
+-- services by which a process leaves its phase, or its channels change
 abbrev pub is_leaving : Service → Bool
 is_leaving Exit = true
 is_leaving DelPrc = true
+is_leaving Assign = true
+is_leaving Dassgn = true
+is_leaving CreMbx = true
 is_leaving v = false
 
 pub service_keeps : (s : State) (p : Pid) (a : Args) (v : Service) → is_leaving v ≡ false → OutcomeKeeps s (service_of s p a v)
@@ -463,14 +509,6 @@ service_keeps s p a CrePrc n =
     numbered_keeps s p (place a.a0) (part_of o) o.answer (keep_or s (nat_le 1000 (length s.procs)) _ _ (keep_none s) (newly_keeps s p (decl_place s (text a.a1))))
 service_keeps s p a DclExh n = (keep_or s (is_kernel (current s p)) _ _ (keep_none s) (keep_then (keep_procs s (past_id s) refl) (keep_same (past_id s) p (with_handler (new_handler s p (routine s p a.a0 0))) refl)))
 service_keeps s p a CanExh n = (keep_or s (is_kernel (current s p)) _ _ (keep_none s) (cancel_handlers_keeps s p (routine_or_none s p a.a0 0)))
-service_keeps s p a Assign n =
-    let o = assign s p (text a.a1) (access_mode a.a2) in
-    numbered_keeps s p (place a.a0) (part_of o) o.answer (assign_to_keeps s p (outer (access_mode a.a2) (current s p)) (device_named s (text a.a1)))
-service_keeps s p a Dassgn n =
-    (tested_keeps s (dassgn_at s p (number a.a0)) (channel_test s p (number a.a0)) (λ ch. keep_then (cancel_channel_keeps s p (number a.a0)) (free_keeps (cancel_channel s p (number a.a0)).after p (number a.a0))))
-service_keeps s p a CreMbx n =
-    let o = crembx s p (text a.a1) (number a.a2) (number a.a3) (number a.a4) (access_mode a.a5) in
-    numbered_keeps s p (place a.a0) (part_of o) o.answer (crembx_keeps s p (text a.a1) (number a.a2) (number a.a3) (number a.a4) (access_mode a.a5))
 service_keeps s p a DelMbx n = (tested_keeps s (delmbx_at s p) (channel_test s p (number a.a0)) (λ ch. delmbx_keeps s p ch.device))
 service_keeps s p a Qio n = (qio_keeps s p (asked s p a) (request_test s p (asked s p a)))
 service_keeps s p a Cancel n = (tested_keeps s (cancel_at s p (number a.a0)) (channel_test s p (number a.a0)) (λ ch. cancel_channel_keeps s p (number a.a0)))
@@ -522,7 +560,7 @@ pub record Ages (s t : State) : Type 0 where
   pub phases : (i : ℕ) → Passes (phase_in s.procs i) (phase_in t.procs i)
 
 pub ages_of : (s t : State) → Keeps s t → Ages s t
-ages_of s t k = record { phases = λ i. subst (λ (x : Phase). Passes (phase_in s.procs i) x) (sym (k.phases i)) (passes_same (phase_in s.procs i)) }
+ages_of s t k = record { phases = λ i. subst (λ (x : Phase). Passes (phase_in s.procs i) x) (sym (keep_phases s t k i)) (passes_same (phase_in s.procs i)) }
 
 pub ages_then : (s t u : State) → Ages s t → Ages t u → Ages s u
 ages_then s t u h k = record { phases = λ i. passes_then (phase_in s.procs i) (phase_in t.procs i) (phase_in u.procs i) (h.phases i) (k.phases i) }
@@ -576,9 +614,27 @@ tested_ages : (s : State) (r : Result Pid Cond) → Ages s (at_tested s (deleted
 tested_ages s (Err c) = ages_of s s (keep_none s)
 tested_ages s (Ok q) = deleted_ages s q
 
+pub assign_shifts : (s : State) (p : Pid) (a : Args) → Shifts p s (service_of s p a Assign).after
+assign_shifts s p a = numbered_shifts s p (place a.a0) (part_of (assign s p (text a.a1) (access_mode a.a2))) (assign s p (text a.a1) (access_mode a.a2)).answer (assign_to_shifts s p (outer (access_mode a.a2) (current s p)) (device_named s (text a.a1)))
+
+pub crembx_service_shifts : (s : State) (p : Pid) (a : Args) → Shifts p s (service_of s p a CreMbx).after
+crembx_service_shifts s p a =
+    let o = crembx s p (text a.a1) (number a.a2) (number a.a3) (number a.a4) (access_mode a.a5) in
+    numbered_shifts s p (place a.a0) (part_of o) o.answer (crembx_shifts s p (text a.a1) (number a.a2) (number a.a3) (number a.a4) (access_mode a.a5))
+
+pub dassgn_shifts : (s : State) (p : Pid) (n : ℕ) (r : Result Channel Cond) → Shifts p s (at_tested s (dassgn_at s p n) r).after
+dassgn_shifts s p n (Err c) = shift_of (keep_none s)
+dassgn_shifts s p n (Ok ch) = shift_then (shift_of (cancel_channel_keeps s p n)) (free_shifts (cancel_channel s p n).after p n)
+
+pub ages_shift : (p : Pid) (s t : State) → Shifts p s t → Ages s t
+ages_shift p s t k = record { phases = λ i. subst (λ (x : Phase). Passes (phase_in s.procs i) x) (sym (k.phases i)) (passes_same (phase_in s.procs i)) }
+
 service_ages : (s : State) (p : Pid) (a : Args) (v : Service) → Ages s (service_of s p a v).after
 service_ages s p a Exit = exited_ages s p (number a.a0)
 service_ages s p a DelPrc = tested_ages s (process_test s p (number a.a0))
+service_ages s p a Assign = ages_shift p s (service_of s p a Assign).after (assign_shifts s p a)
+service_ages s p a CreMbx = ages_shift p s (service_of s p a CreMbx).after (crembx_service_shifts s p a)
+service_ages s p a Dassgn = ages_shift p s (service_of s p a Dassgn).after (dassgn_shifts s p (number a.a0) (channel_test s p (number a.a0)))
 service_ages s p a v = ages_of s (service_of s p a v).after (service_keeps s p a v refl)
 
 served_ages : (s : State) (p : Pid) (c : Call) (o : Outcome Served) (x : Served) → Ages s o.after → Ages s (served_call p c o x).after
@@ -604,7 +660,7 @@ on_ages s p place stop.Return = returned_ages s p (process_at s p).frames
 on_ages s p place stop.End = returned_ages s p (process_at s p).frames
 on_ages s p place stop.Local = ages_of s s (keep_none s)
 
-uses_phase : (w : Wait) (x : Process) → (uses_wake w x).phase ≡ x.phase
+uses_phase : (w : Wait) (x : Process) → seat_of (uses_wake w x) ≡ seat_of x
 uses_phase (wait.Flags a b c) x = refl
 uses_phase (wait.Synch a b) x = refl
 uses_phase wait.Hiber x = refl
