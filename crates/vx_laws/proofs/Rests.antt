@@ -49,6 +49,7 @@ use Rattle.vx_record.proofs.Lists.{either, either_by, all_append, all_at, not_fa
 use Rattle.vx_laws.specs.Items.{Item, Head, Did, flat, later, at_each, latest_call, calling}
 use Rattle.vx_laws.specs.Lives.{is_wake, new_life}
 use Rattle.vx_laws.specs.RundownLaw.{is_gone, woken, is_of_nobody_gone}
+use Rattle.vx_laws.specs.RundownParts.{stays, gone_rest}
 use Rattle.vx_laws.proofs.Allowed.{Test, is_allowed, Allowed, MayOpen, nil, one, join, exited_allowed, finish_allowed, tick_allowed, service_allowed}
 use Rattle.vx_laws.proofs.Calm.{Tags, IsBare, Still, still_made, held_at}
 use Rattle.vx_laws.proofs.Lowers.{IsLowering, Low, Lowers, Others, Settled, closed, stops, goes, rundown_lowers}
@@ -149,13 +150,6 @@ down_gone : (s : State) (past : List Item) (p : Pid) → can_step_down s p (proc
 down_gone s past p can h = false_by (is_gone past p) (λ k. let no : can_step_down s p phase.Deleted ≡ true = subst (λ (x : Phase). can_step_down s p x ≡ true) (h p k).deleted can in let never : false ≡ true = no in cc)
 
 -- What is asked of an item here.
-
-abbrev pub stays : List Item → Item → List Item → Bool
-stays past (Did (effect.Open id kind p mode n)) rest = is_of_nobody_gone past (new_life past kind p mode n)
-stays past (Head (event.Run p) a) rest = not (is_gone past p)
-stays past (Head (event.Ast p) a) rest = not (is_gone past p)
-stays past (Head (event.Rdn p) a) rest = not (is_gone past p)
-stays past x rest = true
 
 abbrev pub may_open : List Item → Test
 may_open past k p = not (is_gone past p || (is_wake k && is_gone past (woken (latest_call past) p)))
@@ -307,3 +301,125 @@ step_ages s (event.Rdn p) other = absurd (let never : true ≡ false = other in 
 step_ages s (event.Beg u) other = beg_ages s (front u s.requests)
 step_ages s (event.Don u) other = don_ages s u (in_service u s.requests)
 step_ages s event.Tick other = tick_ages s
+
+-- A step of rundown, of which nothing is asked on the way.
+
+abbrev Any : State → Type 0
+Any s = Unit {0}
+
+any_lowering : (p : Pid) → IsLowering p Any (λ m. Any) Any Any
+any_lowering p = record {
+  handles = λ s m h j. tt;
+  cancels = λ s m h j. tt;
+  enters = λ s d j. tt;
+  cancelled = λ s m h j. tt;
+  releases = λ s m h j r. tt;
+  released = λ s h j r f. tt;
+  clears = λ s h j d. tt;
+}
+
+pub others_deleted : (s t : State) (p q : Pid) → Others p s t → (p.0 ≡ q.0 → ⊥) → 1 ≤ p.0 → IsProcess s q → IsProcess t q → (process_at s q).phase ≡ phase.Deleted → (process_at t q).phase ≡ phase.Deleted
+others_deleted s t p q h apart above made there e =
+    let k = h.seats (q.0 - 1) (λ same. let low = made.above in apart (omega (arith, same, low, above))) in
+    sym (phase_made t q there) ∙ (ap (λ (x : Phase × List (Option Rattle.vx_base.specs.Pieces.Channel)). x.0) k ∙ (phase_made s q made ∙ e))
+
+both_later : (past : List Item) (es : List Effect) (p q : Pid) → AllByRecursion (λ x. is_allowed closed x ≡ true) es → is_gone (later past (map Did (es ++ effect.Gone p ∷ []))) q ≡ (is_same p q || is_gone past q)
+both_later past [] p q h = refl
+both_later past (x ∷ xs) p q h = both_later (Did x ∷ past) xs p q h.1 ∙ ap (λ (b : Bool). is_same p q || b) (gone_one closed x past q h.0)
+
+by_owner : (P : Type 0) (a b : Bool) → (a || b) ≡ true → (a ≡ true → P) → (a ≡ false → b ≡ true → P) → P
+by_owner P true b h f g = f refl
+by_owner P false b h f g = g refl h
+
+pub closed_all : (ok : Test) (es : List Effect) → AllByRecursion (λ x. is_allowed closed x ≡ true) es → AllByRecursion (λ x. is_allowed ok x ≡ true) es
+closed_all ok [] h = tt
+closed_all ok (x ∷ xs) h = (closed_wider ok x h.0, closed_all ok xs h.1)
+
+-- What a record leaves: its effects stay, and who is gone then is gone in the state.
+record RecordRests (past : List Item) (e : Event) (o : Outcome Answer) : Type 0 where
+  pub effects : AllStay (Head e o.answer ∷ past) o.effects
+  pub gone : AllGone o.after (later (Head e o.answer ∷ past) (map Did o.effects))
+
+stay_both : (past : List Item) (es fs : List Effect) → AllStay past es → AllStay (later past (map Did es)) fs → AllStay past (es ++ fs)
+stay_both past [] fs h k = k
+stay_both past (x ∷ xs) fs h k = (h.0, stay_both (Did x ∷ past) xs fs h.1 k)
+
+lowers_rests : (J : State → Type 0) (R : Rattle.vx_base.specs.declared.mode.Mode.Mode → State → Type 0) (C : State → Type 0) (s : State) (past : List Item) (p : Pid) (a : Answer) (es : List Effect) (t : State) → Lowers J R C p s es t → IsProcess s p → is_gone past p ≡ false → AllGone s past → ((q : Pid) → Still s q → Still t q) →
+    AllStay (Head (event.Rdn p) a ∷ past) es × AllGone t (later (Head (event.Rdn p) a ∷ past) (map Did es))
+lowers_rests J R C s past p a es t (stops gs u b o m j q) made free h k =
+    let head = Head (event.Rdn p) a ∷ past in
+    (all_stay head head gs (λ r. refl) refl (closed_all (may_open head) gs b.all),
+    λ r y.
+    let old : is_gone past r ≡ true = sym (gone_later closed gs head r b.all) ∙ y in
+    let g = h r old in
+    let still = k r g.still in
+    record { still = still; deleted = others_deleted s u p r o (λ same. let is : p ≡ r = ap (λ (n : ℕ). pid n) same in let never : false ≡ true = sym free ∙ (ap (is_gone past) is ∙ old) in cc) made.above g.still.0 still.0 g.deleted })
+lowers_rests J R C s past p a es t (goes gs u b o m w c) made free h k =
+    let head = Head (event.Rdn p) a ∷ past in
+    let v = (gone_part p u).after in
+    (stay_both head gs (effect.Gone p ∷ []) (all_stay head head gs (λ r. refl) refl (closed_all (may_open head) gs b.all)) ((λ rest. refl), tt),
+    λ r y.
+    let two : (is_same p r || is_gone past r) ≡ true = sym (both_later head gs p r b.all) ∙ y in
+    by_owner (IsGone v r) (is_same p r) (is_gone past r) two
+    (λ same. let is : p ≡ r = ap (λ (n : ℕ). pid n) (eqb-true p.0 r.0 same) in subst (IsGone v) is (record { still = (still_made u p (in_phase phase.Deleted) p w.0, held_at IsBare (in_phase phase.Deleted) u p p (λ x. x) w.1); deleted = phase_at u p phase.Deleted w.0 }))
+    (λ apart z.
+    let g = h r z in
+    let still = k r g.still in
+    let made_u : IsProcess u r = record { above = still.0.above; within = let size = Rattle.std.proofs.Math.ListN.length-set u.procs (p.0 - 1) (in_phase phase.Deleted (process_at u p)) in let x = still.0.within in omega (arith, size, x) } in
+    let deleted : (process_at u r).phase ≡ phase.Deleted = others_deleted s u p r o (λ same. let yes : is_same p r ≡ true = eq-eqb p.0 r.0 same in let never : true ≡ false = sym yes ∙ apart in cc) made.above g.still.0 made_u g.deleted in
+    record { still = still; deleted = held_at (λ (x : Process). x.phase ≡ phase.Deleted) (in_phase phase.Deleted) u p r (λ x. refl) deleted }))
+
+rdn_rests : (s : State) (past : List Item) (p : Pid) → Contains (enabled s) (event.Rdn p) → Base s → Tags s → AllGone s past → RecordRests past (event.Rdn p) (step s (event.Rdn p))
+rdn_rests s past p c b g h =
+    let awake = enabled_awake s (event.Rdn p) c in
+    let made = enabled_there s (event.Rdn p) c in
+    let o = step s (event.Rdn p) in
+    let low : Low s p = record { here = record { base = b; made = made }; tags = g; none = awake.0 } in
+    let l = rundown_lowers Any (λ m. Any) Any Any s p (process_at s p).phase refl (any_lowering p) low tt (λ m e. tt) in
+    let x = lowers_rests Any (λ m. Any) Any s past p o.answer o.effects o.after l made (down_gone s past p awake.1 h) h (λ q k. step_still s past (event.Rdn p) c b g q k) in
+    record { effects = x.0; gone = x.1 }
+
+other_rests : (s : State) (past : List Item) (e : Event) → is_rundown e ≡ false → Contains (enabled s) e → Base s → Tags s → AllGone s past → RecordRests past e (step s e)
+other_rests s past e other c b g h =
+    let o = step s e in
+    let head = Head e o.answer ∷ past in
+    let a = step_allowed s past e other (enabled_awake s e c) h in
+    record {
+      effects = all_stay head head o.effects (λ q. refl) refl a.all;
+      gone = λ q k.
+          let old : is_gone past q ≡ true = sym (gone_later (may_open head) o.effects head q a.all) ∙ k in
+          let was = h q old in
+          let still = step_still s past e c b g q was.still in
+          record { still = still; deleted = deleted_on s o.after q (step_ages s e other) was.still.0 still.0 was.deleted };
+    }
+
+step_rests : (s : State) (past : List Item) (e : Event) → Contains (enabled s) e → Base s → Tags s → AllGone s past → RecordRests past e (step s e)
+step_rests s past (event.Rdn p) c b g h = rdn_rests s past p c b g h
+step_rests s past e c b g h = other_rests s past e refl c b g h
+
+-- heads, and runs
+head_rests : (s : State) (past : List Item) (e : Event) (a : Answer) (rest : List Item) → IsAwake s e → AllGone s past → stays past (Head e a) rest ≡ true
+head_rests s past (event.Run p) a rest k h = rw (awake_gone s past p k h) refl
+head_rests s past (event.Ast p) a rest k h = rw (awake_gone s past p k h) refl
+head_rests s past (event.Rdn p) a rest k h = rw (down_gone s past p k.1 h) refl
+head_rests s past e a rest k h = refl
+
+effects_rest : (past : List Item) (es : List Effect) (more : List Item) → AllStay past es → at_each stays (later past (map Did es)) more ≡ true → at_each stays past (map Did es ++ more) ≡ true
+effects_rest past [] more h k = k
+effects_rest past (x ∷ xs) more h k = and_from _ _ (h.0 (map Did xs ++ more)) (effects_rest (Did x ∷ past) xs more h.1 k)
+
+run_rests : (s : State) (past : List Item) (rs : List Rec) → AreSteps s rs → Base s → Stands s None past → Tags s → AllGone s past → at_each stays past (flat rs) ≡ true
+run_rests s past [] j b g tags h = refl
+run_rests s past (r ∷ rs) j b g tags h =
+    let e = r.event in
+    let c = j.0.enabled in
+    let one = step_right s past e c b g in
+    let two = step_rests s past e c b tags h in
+    let head = Head e (step s e).answer ∷ past in
+    rw (j.0.answer, j.0.effects)
+    (and_from _ _ (head_rests s past e (step s e).answer (map Did (step s e).effects ++ flat rs) (enabled_awake s e c) h)
+    (effects_rest head (step s e).effects (flat rs) two.effects
+    (run_rests (step s e).after (later head (map Did (step s e).effects)) rs j.1 one.base one.stands (step_tags s past e (enabled_there s e c) b tags) two.gone)))
+
+pub every_run_rests : (system : System) (recs : List Rec) → IsRun system recs → gone_rest recs ≡ true
+every_run_rests system recs run = run_rests (first system) [] recs run.steps (first_base system) (first_stands system) (first_tags system) (λ p k. absurd (let never : false ≡ true = k in cc))
