@@ -342,7 +342,7 @@ swept_device_keeps : (s : State) (d : Device) → PartKeeps s (swept_device s d)
 swept_device_keeps s (device.Unit u) = keep_none s
 swept_device_keeps s (device.Mailbox n) = keep_if s (not (is_assigned s n) && goes_unused (mailbox_at s n)) (box_gone s n) (keep_procs s (box_gone s n).after refl)
 
-swept_keeps : (s : State) (o : Option Channel) → PartKeeps s (swept_box s o)
+pub swept_keeps : (s : State) (o : Option Channel) → PartKeeps s (swept_box s o)
 swept_keeps s None = keep_none s
 swept_keeps s (Some ch) = swept_device_keeps s ch.device
 
