@@ -61,7 +61,8 @@ use Rattle.vx_record.specs.Parts.{and_then}
 use Rattle.vx_record.specs.Requests.{Asked, new_request, cleared_part, transfer, new_attention, attention_opened, attention_set, attention_on, accepted, done_at_once, request_test, qio_tested, qiow_tested, unit_ending, with_unit}
 use Rattle.vx_record.specs.Services.{asked}
 use Rattle.vx_record.specs.State.{next_id}
-use Rattle.vx_record.proofs.Lists.{either}
+use Rattle.vx_record.proofs.Lists.{either, either_by}
+use Rattle.std.proofs.Common.{sym, ◌∙◌}
 
 -- which openings a test allows, by kind and process
 abbrev pub Test : Type 0
@@ -342,6 +343,15 @@ accepted_allowed {ok} s p q cl ch own =
     let iosb : Allowed ok (iosb_part b p q.iosb cleared).effects = part_of_two (not (q.iosb == 0)) _ (nothing b) (one (effect.Iosb p q.iosb None 0 0) refl) nil in
     join (join (one (effect.Flag cl false) refl) iosb)
     (part_of_two (is_attention q.func) (attention_on t p q ch.device q.ast) (transfer t p q ch) (attention_on_allowed t p q ch.device q.ast (own opened.Attn refl)) (transfer_allowed t p q ch (own opened.Dio refl) (own opened.Bio refl)))
+
+-- of a request that is none for attention
+pub transferred_allowed : {ok : Test} (s : State) (p : Pid) (q : Asked) (cl : Cell) (ch : Channel) → is_attention q.func ≡ false → ok opened.Dio p ≡ true → ok opened.Bio p ≡ true → Allowed ok (accepted s p q cl ch).effects
+transferred_allowed {ok} s p q cl ch plain dio bio =
+    let b = (flag_part s cl false).after in
+    let t = (cleared_part s p q cl).after in
+    let iosb : Allowed ok (iosb_part b p q.iosb cleared).effects = part_of_two (not (q.iosb == 0)) _ (nothing b) (one (effect.Iosb p q.iosb None 0 0) refl) nil in
+    join (join (one (effect.Flag cl false) refl) iosb)
+    (either_by (λ (x : Part). Allowed ok x.effects) (is_attention q.func) (attention_on t p q ch.device q.ast) (transfer t p q ch) (λ e. absurd (let never : true ≡ false = sym e ∙ plain in cc)) (λ n. transfer_allowed t p q ch dio bio))
 
 qio_allowed : {ok : Test} (s : State) (p : Pid) (q : Asked) (r : Result (Cell × Channel) Cond) → ((k : Opened) → is_wake k ≡ false → ok k p ≡ true) → Allowed ok (qio_tested s p q r).effects
 qio_allowed s p q (Err c) own = nil

@@ -77,7 +77,7 @@ each_free_walk [] s past p m more above k quiet calm h = walk_nothing s past mor
 each_free_walk (n ∷ ns) s past p m more above k quiet calm h =
     let a = free_channel s p n in
     let clear : IsClear s p n = all_weaker (λ (r : Request). Rooted s past r × (keeps_busy p m r ≡ false)) (λ (r : Request). (is_on_box r.req.device && is_request_on p n r) ≡ false) (λ r j. clear_one s past p m n r k.0 j.0 j.1) s.requests
-        (all_both (Rooted s past) (λ (r : Request). keeps_busy p m r ≡ false) s.requests h.requests quiet) in
+    (all_both (Rooted s past) (λ (r : Request). keeps_busy p m r ≡ false) s.requests h.requests quiet) in
     let one = free_walk s past p n ((each (free_one p) ns a.after).effects ++ more) above k.0.0 clear h in
     let rest : AllByRecursion (IsFreed a.after p m) ns = all_weaker (IsFreed s p m) (IsFreed a.after p m) (λ i j. (j.0, λ c e. j.1 c (free_rows s p p n i c e))) ns k.1 in
     let still : IsQuiet a.after p m = subst (AllByRecursion (λ (r : Request). keeps_busy p m r ≡ false)) (sym (free_requests s p n)) quiet in

@@ -361,7 +361,7 @@ cancel_request_keeps s r =
     keep_either s r.served _ (cancelled_request s r) (keep_if s (not r.marked) (mark_part s r) (keep_procs s (mark_part s r).after refl))
     (keep_then (withdraw_keeps s r r.req.device) (finish_keeps w.after r (ending Cancelled 0 0 [])))
 
-cancel_channel_keeps : (s : State) (p : Pid) (n : ℕ) → PartKeeps s (cancel_channel s p n)
+pub cancel_channel_keeps : (s : State) (p : Pid) (n : ℕ) → PartKeeps s (cancel_channel s p n)
 cancel_channel_keeps s p n =
     let one = each cancel_request (filter (is_request_on p n) s.requests) s in
     keep_then (keep_each cancel_request cancel_request_keeps (filter (is_request_on p n) s.requests) s)

@@ -347,27 +347,29 @@ stay_both past (x ∷ xs) fs h k = (h.0, stay_both (Did x ∷ past) xs fs h.1 k)
 lowers_rests : (J : State → Type 0) (R : Rattle.vx_base.specs.declared.mode.Mode.Mode → State → Type 0) (C : State → Type 0) (s : State) (past : List Item) (p : Pid) (a : Answer) (es : List Effect) (t : State) → Lowers J R C p s es t → IsProcess s p → is_gone past p ≡ false → AllGone s past → ((q : Pid) → Still s q → Still t q) →
     AllStay (Head (event.Rdn p) a ∷ past) es × AllGone t (later (Head (event.Rdn p) a ∷ past) (map Did es))
 lowers_rests J R C s past p a es t (stops gs u b o m j q) made free h k =
-    let head = Head (event.Rdn p) a ∷ past in
-    (all_stay head head gs (λ r. refl) refl (closed_all (may_open head) gs b.all),
-    λ r y.
-    let old : is_gone past r ≡ true = sym (gone_later closed gs head r b.all) ∙ y in
-    let g = h r old in
-    let still = k r g.still in
-    record { still = still; deleted = others_deleted s u p r o (λ same. let is : p ≡ r = ap (λ (n : ℕ). pid n) same in let never : false ≡ true = sym free ∙ (ap (is_gone past) is ∙ old) in cc) made.above g.still.0 still.0 g.deleted })
+    let head = Head (event.Rdn p) a ∷ past in (
+      all_stay head head gs (λ r. refl) refl (closed_all (may_open head) gs b.all),
+      λ r y.
+          let old : is_gone past r ≡ true = sym (gone_later closed gs head r b.all) ∙ y in
+          let g = h r old in
+          let still = k r g.still in
+          record { still = still; deleted = others_deleted s u p r o (λ same. let is : p ≡ r = ap (λ (n : ℕ). pid n) same in let never : false ≡ true = sym free ∙ (ap (is_gone past) is ∙ old) in cc) made.above g.still.0 still.0 g.deleted },
+    )
 lowers_rests J R C s past p a es t (goes gs u b o m w c) made free h k =
     let head = Head (event.Rdn p) a ∷ past in
-    let v = (gone_part p u).after in
-    (stay_both head gs (effect.Gone p ∷ []) (all_stay head head gs (λ r. refl) refl (closed_all (may_open head) gs b.all)) ((λ rest. refl), tt),
-    λ r y.
-    let two : (is_same p r || is_gone past r) ≡ true = sym (both_later head gs p r b.all) ∙ y in
-    by_owner (IsGone v r) (is_same p r) (is_gone past r) two
-    (λ same. let is : p ≡ r = ap (λ (n : ℕ). pid n) (eqb-true p.0 r.0 same) in subst (IsGone v) is (record { still = (still_made u p (in_phase phase.Deleted) p w.0, held_at IsBare (in_phase phase.Deleted) u p p (λ x. x) w.1); deleted = phase_at u p phase.Deleted w.0 }))
-    (λ apart z.
-    let g = h r z in
-    let still = k r g.still in
-    let made_u : IsProcess u r = record { above = still.0.above; within = let size = Rattle.std.proofs.Math.ListN.length-set u.procs (p.0 - 1) (in_phase phase.Deleted (process_at u p)) in let x = still.0.within in omega (arith, size, x) } in
-    let deleted : (process_at u r).phase ≡ phase.Deleted = others_deleted s u p r o (λ same. let yes : is_same p r ≡ true = eq-eqb p.0 r.0 same in let never : true ≡ false = sym yes ∙ apart in cc) made.above g.still.0 made_u g.deleted in
-    record { still = still; deleted = held_at (λ (x : Process). x.phase ≡ phase.Deleted) (in_phase phase.Deleted) u p r (λ x. refl) deleted }))
+    let v = (gone_part p u).after in (
+      stay_both head gs (effect.Gone p ∷ []) (all_stay head head gs (λ r. refl) refl (closed_all (may_open head) gs b.all)) ((λ rest. refl), tt),
+      λ r y.
+          let two : (is_same p r || is_gone past r) ≡ true = sym (both_later head gs p r b.all) ∙ y in
+          by_owner (IsGone v r) (is_same p r) (is_gone past r) two
+          (λ same. let is : p ≡ r = ap (λ (n : ℕ). pid n) (eqb-true p.0 r.0 same) in subst (IsGone v) is (record { still = (still_made u p (in_phase phase.Deleted) p w.0, held_at IsBare (in_phase phase.Deleted) u p p (λ x. x) w.1); deleted = phase_at u p phase.Deleted w.0 }))
+          (λ apart z.
+          let g = h r z in
+          let still = k r g.still in
+          let made_u : IsProcess u r = record { above = still.0.above; within = let size = Rattle.std.proofs.Math.ListN.length-set u.procs (p.0 - 1) (in_phase phase.Deleted (process_at u p)) in let x = still.0.within in omega (arith, size, x) } in
+          let deleted : (process_at u r).phase ≡ phase.Deleted = others_deleted s u p r o (λ same. let yes : is_same p r ≡ true = eq-eqb p.0 r.0 same in let never : true ≡ false = sym yes ∙ apart in cc) made.above g.still.0 made_u g.deleted in
+          record { still = still; deleted = held_at (λ (x : Process). x.phase ≡ phase.Deleted) (in_phase phase.Deleted) u p r (λ x. refl) deleted }),
+    )
 
 rdn_rests : (s : State) (past : List Item) (p : Pid) → Contains (enabled s) (event.Rdn p) → Base s → Tags s → AllGone s past → RecordRests past (event.Rdn p) (step s (event.Rdn p))
 rdn_rests s past p c b g h =
