@@ -63,6 +63,7 @@ use Rattle.vx_laws.proofs.Plain.{Plain, join, nil, one, part_of_two, begun_plain
 use Rattle.vx_laws.proofs.Runs.{enabled_there, step_right, first_base, first_stands}
 use Rattle.vx_laws.proofs.Stands.{Stands}
 use Rattle.vx_laws.proofs.Turns.{later_items}
+
 use Rattle.std.proofs.Common.{◌+◌, ◌-◌, ◌<◌, ◌≤◌, arith, true, IsTrue, is_some, cond, zero, suc, append-nil, not, ◌&&◌, ◌||◌, Bool}
 use Rattle.std.specs.Prelude.{option_map}
 use Rattle.std.specs.List.{find, list_any}

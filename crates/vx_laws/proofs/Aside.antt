@@ -50,6 +50,7 @@ use Rattle.vx_record.proofs.Lists.{all_append, all_weaker}
 use Rattle.vx_laws.specs.StatusLaw.{is_asked}
 use Rattle.vx_record.proofs.Moves.{is_clusters}
 use Rattle.vx_record.proofs.Apart.{associated_only, dissociated_only, marked_at_only}
+
 use Rattle.std.proofs.Common.{◌-◌, replicate}
 use Rattle.vx_base.specs.Pieces.{Queued, Status}
 use Rattle.vx_record.specs.Asts.{que_part, declared_ast, charged_ast}

@@ -63,6 +63,7 @@ use Rattle.vx_laws.proofs.Plain.{Plain, join, nil, one, part_of_two, begun_plain
 use Rattle.vx_laws.proofs.Runs.{enabled_there, step_right, first_base, first_stands}
 use Rattle.vx_laws.proofs.Stands.{Stands}
 use Rattle.vx_laws.proofs.Turns.{later_items}
+
 use Rattle.std.proofs.Common.{◌+◌, ◌-◌, ◌<◌, ◌≤◌, arith, true, IsTrue, is_some, cond, zero, suc, append-nil, not, ◌&&◌, ◌||◌, Bool}
 use Rattle.std.specs.Prelude.{option_map}
 use Rattle.std.specs.List.{find, list_any}
@@ -99,6 +100,7 @@ use Rattle.vx_laws.proofs.Opens.{requests_told}
 use Rattle.vx_laws.proofs.Passing.{Right, Lawful, lawful_both, Walk, walk_then, walk_aside, IsPlainCall, plain_over, latest_over, Fewer, fewer_same, IsSingle, single_on, unit_stores, mailbox_is, Serving, serving, serving_then, serving_on, aside_lawful}
 use Rattle.vx_laws.proofs.Served.{Newest, Writes, read_serving, write_serving, wait_no_get, taken_none}
 use Rattle.vx_record.proofs.Moves.{Moves}
+
 use Rattle.std.proofs.lemmas.List.Quantifiers.{position-Some}
 use Rattle.std.proofs.Common.{position, is_none, nat_lt, get_or, length, inl, inr}
 use Rattle.std.proofs.lemmas.Bool.{and_from, cases_eq}

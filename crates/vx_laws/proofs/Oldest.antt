@@ -110,10 +110,9 @@ first_of_all p low high (x ∷ xs) r o e = at (p x) refl (λ k. first_of_all p (
   where
     at : (b : Bool) → p x ≡ b → (find p xs ≡ Some r → AllByRecursion (λ x. p x ≡ true → r.req.id.0 ≤ x.req.id.0) xs) → cond b (Some x) (find p xs) ≡ Some r → (p x ≡ true → r.req.id.0 ≤ x.req.id.0) × AllByRecursion (λ x. p x ≡ true → r.req.id.0 ≤ x.req.id.0) xs
     at true is f k =
-        let same : x ≡ r = cc in (
-          (λ t. let e : x.req.id.0 ≡ r.req.id.0 = ap (λ (y : Request). y.req.id.0) same in omega (arith, e)),
-          all_weaker (λ (y : Request). request_id x + 1 ≤ y.req.id.0) (λ (y : Request). p y ≡ true → r.req.id.0 ≤ y.req.id.0) (λ y low t. let e : x.req.id.0 ≡ r.req.id.0 = ap (λ (y : Request). y.req.id.0) same in omega (arith, e, low)) xs (all_from request_id (request_id x + 1) high xs o.1),
-        )
+        let same : x ≡ r = cc in
+        ((λ t. let e : x.req.id.0 ≡ r.req.id.0 = ap (λ (y : Request). y.req.id.0) same in omega (arith, e)),
+        all_weaker (λ (y : Request). request_id x + 1 ≤ y.req.id.0) (λ (y : Request). p y ≡ true → r.req.id.0 ≤ y.req.id.0) (λ y low t. let e : x.req.id.0 ≡ r.req.id.0 = ap (λ (y : Request). y.req.id.0) same in omega (arith, e, low)) xs (all_from request_id (request_id x + 1) high xs o.1))
     at false is f k = ((λ t. absurd (apart_bools (p x) t is)), f k)
 
 abbrev test_of : List Item → Mailbox → Id → Bool
