@@ -428,8 +428,8 @@ fn ends_and_several_faults(rt: HostRuntime) -> Result<(), Fail> {
     Ok(())
 }
 
-// What an image may do for its system to be built: each local statement, and eight services.
-const BUILT: [&[u8]; 9] = [
+// What an image may do for its system to be built: each local statement, and ten services.
+const BUILT: [&[u8]; 11] = [
     b"LET A = 1\nLET A = A + 1\nLET B = A - 1\nGOTO L\nIF A EQ 1 GOTO L\nPUT 0 \"x\"\nBYTE A 0 1\nIOSB A 1 COUNT\nRETURN",
     b"$SETEF A",
     b"$CLREF SS$_NORMAL",
@@ -438,18 +438,19 @@ const BUILT: [&[u8]; 9] = [
     b"$SETAST 1",
     b"$CMEXEC L",
     b"$CMKRNL L",
+    b"$SETIMR ,1",
+    b"$GETTIM A",
     b"$EXIT",
 ];
 
 // The other services.
-const UNBUILT: [&[u8]; 28] = [
+const UNBUILT: [&[u8]; 26] = [
     b"$WAITFR 1",
     b"$WFLOR 1,1",
     b"$WFLAND 1,1",
     b"$ASCEFC 64,N",
     b"$DACEFC 64",
     b"$DLCEFC N",
-    b"$SETIMR ,1",
     b"$CANTIM",
     b"$SCHDWK ,1",
     b"$CANWAK",
@@ -470,7 +471,6 @@ const UNBUILT: [&[u8]; 28] = [
     b"$QIOW ,1,READ",
     b"$SYNCH",
     b"$CANCEL 1",
-    b"$GETTIM A",
 ];
 
 // Two images with the label L, the second of which does this, and two processes that are not there at the start.

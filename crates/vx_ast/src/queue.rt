@@ -61,8 +61,7 @@ impl<R: Routine> AstQueue<R> {
         requires { length self.old.items < self.old.capacity }
         ensures { self.new ≡ record self.old { items = self.old.items ++ record { id = id; mode = mode; tag = R.tagged routine; charged = charged } ∷ [] } }
     {
-        self.items
-            .put(Delivery::new(id, mode, routine, charged))
+        self.items.put(Delivery::new(id, mode, routine, charged))
     }
 
     /// Enables or disables AST delivery in a mode ($SETAST), and tells how it was.
@@ -157,9 +156,7 @@ impl<R: Routine> AstQueue<R> {
         {
             return Some(Mode::Kernel);
         }
-        if self.may_start(Mode::Exec, current, active)
-            && self.first_of_mode(Mode::Exec).is_some()
-        {
+        if self.may_start(Mode::Exec, current, active) && self.first_of_mode(Mode::Exec).is_some() {
             return Some(Mode::Exec);
         }
         if self.may_start(Mode::Super, current, active)

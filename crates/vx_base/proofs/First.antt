@@ -1,5 +1,5 @@
 -- The first item that passes a test: found, taken out, changed, and another put before it.
-use Rattle.std.proofs.Common.{◌≡◌, ℕ, ◌+◌, ◌<◌, ◌≤◌, List, [], ◌∷◌, ◌++◌, Bool, true, false, cond, not, Option, Some, None, length, remove, position, slice_index_or, slice_set, refl, ap, sym, ◌∙◌, arith, suc, nat_lt}
+use Rattle.std.proofs.Common.{◌≡◌, ℕ, ◌+◌, ◌<◌, ◌≤◌, List, [], ◌∷◌, ◌++◌, Bool, true, false, cond, not, Some, None, length, remove, position, slice_index_or, slice_set, refl, ap, sym, ◌∙◌, arith, suc, nat_lt}
 use Rattle.std.specs.List.{find, position_or_len, insert}
 use Rattle.std.proofs.lemmas.Bool.{ltb-true, ltb-false}
 use Rattle.vx_base.specs.Lists.{less, amend, put_before}

@@ -1,5 +1,5 @@
 -- Entries of routines.
-use Rattle.std.specs.Prelude.{Bool, true, false, ◌&&◌, ◌==◌}
+use Rattle.std.specs.Prelude.{Bool, false, ◌&&◌, ◌==◌}
 use Rattle.vx_base.specs.declared.routine.Entry.{Entry}
 use Rattle.vx_base.specs.declared.routine.Entry.TheVariants.{Label, Exit, Host}
 

@@ -1,5 +1,5 @@
 -- Lists without one item, with one more, and with no two items that are the same.
-use Rattle.std.proofs.Common.{◌≡◌, List, [], ◌∷◌, ◌++◌, Bool, false, ◌||◌, not, IsTrue, Some, None, inl, inr, refl, subst}
+use Rattle.std.proofs.Common.{◌≡◌, List, [], ◌∷◌, ◌++◌, Bool, false, ◌||◌, not, IsTrue, Some, None, inl, inr, refl}
 use Rattle.std.specs.List.{find, list_any, list_all}
 use Rattle.std.proofs.lemmas.Bool.{cases_Bool, and_parts, and_from, or_cases, or_left, or_right, or_parts, or_from, not-true, not_from_false, false_from_ne_true, both_ways}
 use Rattle.vx_base.specs.Lists.{less}

@@ -91,7 +91,10 @@ impl Table {
     pub(crate) fn stands(&self, group: u32, name: Name) -> bool
         ensures { result ≡ stands self.now.common group name }
     {
-        self.clusters.as_slice().iter().any(|cluster| cluster.is(group, name))
+        self.clusters
+            .as_slice()
+            .iter()
+            .any(|cluster| cluster.is(group, name))
     }
 
     /// Whether somebody has the cluster of a group and name associated.
@@ -115,7 +118,10 @@ impl Table {
     fn cluster(&self, group: u32, name: Name) -> Option<&FlagCluster>
         ensures { option_map (λ cluster. cluster.now) result ≡ find (is_cluster group name) self.now.common.clusters }
     {
-        self.clusters.as_slice().iter().find(|cluster| cluster.is(group, name))
+        self.clusters
+            .as_slice()
+            .iter()
+            .find(|cluster| cluster.is(group, name))
     }
 
     /// A cluster is gone.
@@ -189,8 +195,7 @@ impl Table {
         if self.stands(group, name) {
             return;
         }
-        self.clusters
-            .put(FlagCluster::new(group, name, permanent));
+        self.clusters.put(FlagCluster::new(group, name, permanent));
         log.add(Effect::Cef {
             group,
             name,
@@ -204,8 +209,7 @@ impl Table {
         requires log { HasRoom log.old 1 }
         ensures { Does (joined self.old.common p k group name) self.old self.new log.old log.new }
     {
-        self.associations
-            .put(Association::new(p, k, group, name));
+        self.associations.put(Association::new(p, k, group, name));
         log.add(Effect::Clu {
             p,
             k,

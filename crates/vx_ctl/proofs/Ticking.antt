@@ -1,28 +1,24 @@
 -- Timers that fire: one after another, as the machine has them and as the code takes them.
-use Rattle.std.proofs.Common.{◌≡◌, ℕ, ◌+◌, ◌-◌, ◌<◌, ◌≤◌, List, [], ◌∷◌, ◌++◌, Bool, true, false, cond, ◌==◌, length, length-append, Option, Some, None, IsTrue, is_some, refl, ap, sym, subst, ◌∙◌, arith}
-use Rattle.std.specs.List.{AllByRecursion, filter, find}
-use Rattle.std.proofs.lemmas.Bool.{eq-eqb, eqb-true}
+use Rattle.std.proofs.Common.{◌≡◌, ℕ, ◌<◌, List, ◌∷◌, ◌++◌, true, false, length, Option, Some, None, IsTrue, is_some, refl, ap, sym, subst, ◌∙◌, arith}
+use Rattle.std.specs.List.{filter, find}
 use Rattle.vx_base.specs.Lists.{less}
 use Rattle.vx_base.specs.Pieces.{Queued, Timer, Alarm, OfTimer, OfWake}
 use Rattle.vx_base.specs.declared.effects.Cell.{Cell}
 use Rattle.vx_base.specs.declared.effects.Cell.TheVariants.{Local, Common}
 use Rattle.vx_base.specs.declared.effects.Effect.{Effect}
 use Rattle.vx_base.specs.declared.effects.Effect.TheVariants as effect
-use Rattle.vx_base.specs.declared.number.Id.{Id}
-use Rattle.vx_base.specs.declared.number.Pid.{Pid}
 use Rattle.vx_base.specs.declared.routine.Entry.{Entry}
 use Rattle.vx_base.specs.declared.mode.Mode.{Mode}
 use Rattle.vx_record.specs.State.{State, change}
 use Rattle.vx_record.specs.Charges.{is_timer}
-use Rattle.vx_record.specs.Flags.{cell, flag_part, flag_where_named}
+use Rattle.vx_record.specs.Flags.{cell, flag_where_named}
 use Rattle.vx_record.specs.Parts.{Part, and_then, each, nothing, tells}
 use Rattle.vx_record.specs.Sound.{AreOrdered, timer_id}
-use Rattle.vx_record.specs.Timers.{fire, fired, fire_timer, is_due, que_timer, this_timer}
-use Rattle.vx_record.proofs.Lists.{all_find, all_from, all_less, false_from, ordered_less}
+use Rattle.vx_record.specs.Timers.{fire, fired, is_due, que_timer, this_timer}
+use Rattle.vx_record.proofs.Lists.{all_find, all_less, ordered_less}
 use Rattle.vx_timers.specs.Seen.{flag_number}
 use Rattle.vx_procs.specs.Words.{moved_on, timer_ast, without_timer}
-use Rattle.std.proofs.lemmas.List.{append_assoc}
-use Rattle.vx_procs.specs.Kernel.{Acts, Fits, Kernel, told, with_state}
+use Rattle.vx_procs.specs.Kernel.{Acts, Fits, Kernel}
 use Rattle.vx_procs.proofs.Booked.{length-less}
 use Rattle.vx_procs.proofs.Firsts.{filter_found, filter_none, less_same}
 use Rattle.vx_procs.proofs.Rest.{IsDoing, acted, doing_begun, doing_end, doing_on, doing_room, told_none}

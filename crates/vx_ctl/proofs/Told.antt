@@ -1,6 +1,5 @@
 -- The value where nothing was told.
-use Rattle.std.proofs.Common.{◌≡◌, ℕ, ◌+◌, ◌-◌, List, [], Bool, not, Option, Some, None, is_some, option_map, slice_index_or, refl, ap, sym, ◌∙◌}
-use Rattle.std.proofs.lemmas.List.{append-nil}
+use Rattle.std.proofs.Common.{◌≡◌, ℕ, ◌+◌, ◌-◌, List, [], not, Option, Some, None, is_some, option_map, slice_index_or, refl, ap, ◌∙◌}
 use Rattle.vx_base.specs.Pieces.{Queued}
 use Rattle.vx_base.specs.Quotas.{is_within, together}
 use Rattle.vx_base.specs.declared.number.Pid.{Pid}
@@ -11,7 +10,7 @@ use Rattle.vx_record.specs.State.{Process, State, change, limits_of, no_decl, no
 use Rattle.vx_record.proofs.Ground.{at_set}
 use Rattle.vx_procs.proofs.Changed.{IsQuiet}
 use Rattle.vx_procs.proofs.Rest as rest
-use Rattle.vx_procs.specs.Kernel.{Kernel, told, with_state}
+use Rattle.vx_procs.specs.Kernel.{Kernel, told}
 
 pub told_none : (k : Kernel) → k ≡ told k []
 told_none k = rest.told_none k

@@ -1,5 +1,5 @@
 -- Timers that fire, as the code takes them: the first that is due, again and again.
-use Rattle.std.specs.Prelude.{ℕ, [], ◌∷◌, true, IsTrue, Option, Some, None}
+use Rattle.std.specs.Prelude.{ℕ, true, IsTrue, Option, Some, None}
 use Rattle.std.specs.List.{AllByRecursion, filter, find}
 use Rattle.vx_base.specs.Pieces.{Queued, Timer}
 use Rattle.vx_base.specs.declared.effects.Effect.TheVariants as effect

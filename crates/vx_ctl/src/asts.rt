@@ -1,9 +1,6 @@
 //! Services on ASTs.
 
-ghost use Rattle.std.specs.Prelude.{◌≡◌, true, IfErr, Some};
-ghost use Rattle.vx_record.specs.Charges.{ast_need};
-ghost use Rattle.vx_record.specs.Control.{forced};
-ghost use Rattle.vx_record.specs.State.{IsProcess};
+ghost use Rattle.std.specs.Prelude.{◌≡◌, IfErr, Some};
 ghost use Rattle.vx_record.specs.Asts.{dclast, setast};
 ghost use Rattle.vx_procs.specs.Kernel.{Does, Fits};
 ghost use Rattle.vx_procs.specs.Ready.{IsReady};
@@ -11,8 +8,8 @@ ghost use Rattle.vx_ctl.specs.Answers.{cond_of};
 
 use crate::flags::how_it_was;
 use crate::refused::Refused;
-use vx_base::{Cond, Effect, Entry, Mode, Need, Opened, Pid, Routine, outer_of};
-use vx_procs::Core;
+use vx_base::{Cond, Effect, Mode, Opened, Pid, Routine, outer_of};
+use vx_procs::{Core, ast_need};
 
 /// $SETAST: enables AST delivery in the caller's mode, or disables it where the number is 0. Its condition tells how it was.
 pub fn setast<R: Routine>(core: &mut Core<R>, p: Pid, enb: u32) -> Cond
@@ -25,19 +22,6 @@ pub fn setast<R: Routine>(core: &mut Core<R>, p: Pid, enb: u32) -> Cond
     core.tell(Effect::Enb { p, mode, bit: on });
     let was = core.set_delivery(p, mode, on);
     how_it_was(was)
-}
-
-// What one AST needs.
-fn ast_need() -> Need
-    ensures { result ≡ ast_need true }
-{
-    Need {
-        ast: 1,
-        bio: 0,
-        dio: 0,
-        byt: 0,
-        tqe: 0,
-    }
 }
 
 /// $DCLAST: queues a routine as an AST of the caller, in a mode that is not further in than the caller's: EXQUOTA beyond the
@@ -53,7 +37,7 @@ pub fn dclast<R: Routine>(
     ensures does { Does (dclast core.old.state p (R.tagged routine) mode) (cond_of result) core.old core.new }
     ensures handed { IfErr result (λ refused. refused.ast ≡ Some routine) }
 {
-    if core.exceeds(p, ast_need()) {
+    if core.exceeds(p, ast_need(true)) {
         return Err(Refused {
             cond: Cond::ExQuota,
             ast: Some(routine),
@@ -71,24 +55,4 @@ pub fn dclast<R: Routine>(
     core.tell(Effect::Que(id));
     core.queue_ast(p, id, mode, routine, true);
     Ok(Cond::Normal)
-}
-
-/// $FORCEX, where its tests are passed: the exit of a process q is queued in the spare place that q has.
-pub fn force<R: Routine>(core: &mut Core<R>, p: Pid, q: Pid, code: u32) -> Cond
-    requires ready { IsReady core.old p }
-    requires target { IsProcess core.old.state q }
-    requires room { Fits core.old (forced core.old.state code q).effects }
-    ensures { Does (forced core.old.state code q) result core.old core.new }
-{
-    let id = core.new_id();
-    core.tell(Effect::Open {
-        id,
-        kind: Opened::Force,
-        p: q,
-        mode: Some(Mode::User),
-        n: 0,
-    });
-    core.tell(Effect::Que(id));
-    core.queue_ast(q, id, Mode::User, R::scripted(Entry::Exit(code)), false);
-    Cond::Normal
 }

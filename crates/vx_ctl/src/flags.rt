@@ -1,19 +1,17 @@
-//! Services on event flags, and waits for them.
+//! Services on event flags.
 
-ghost use Rattle.std.specs.Prelude.{◌≡◌, ◌≤◌, if◌then◌else◌};
-ghost use Rattle.vx_base.specs.Flags.{any_set, all_set};
-ghost use Rattle.vx_base.specs.declared.effects.Cell.TheVariants.{Local};
+ghost use Rattle.std.specs.Prelude.{◌≡◌};
 ghost use Rattle.vx_record.specs.State.{IsProcess};
-ghost use Rattle.vx_record.specs.Flags.{clref, how_it_was, is_synchronized, normal_if, readef, wait_condition, setef};
+ghost use Rattle.vx_record.specs.Flags.{clref, how_it_was, readef, setef};
 ghost use Rattle.vx_procs.specs.Kernel.{Does, DoesQuietly, Fits};
-ghost use Rattle.vx_procs.specs.Ready.{FitsBlock, IsReady};
+ghost use Rattle.vx_procs.specs.Ready.{IsReady};
 ghost use Rattle.vx_ctl.specs.Answers.{put_flag};
 
-use vx_base::{Cond, Effect, Pid, Routine, Wait};
+use vx_base::{Cond, Effect, Pid, Routine};
 use vx_procs::Core;
 
 /// The last number that an event flag may have.
-const LAST_FLAG: u32 = 127;
+pub(crate) const LAST_FLAG: u32 = 127;
 
 /// The condition that tells how a flag, or an enable, was.
 pub(crate) fn how_it_was(on: bool) -> Cond
@@ -72,53 +70,4 @@ pub fn readef<R: Routine>(core: &Core<R>, p: Pid, efn: u32) -> Result<(Cond, u32
     }
     let cond = how_it_was(core.is_set(p, efn));
     Ok((cond, core.flags_of(p, efn)))
-}
-
-fn normal_if(holds: bool) -> Option<Cond>
-    ensures { result ≡ normal_if holds }
-{
-    if holds { Some(Cond::Normal) } else { None }
-}
-
-// Whether flags hold what a mask asks: all of them, or any.
-fn hold(flags: u32, mask: u32, all: bool) -> bool
-    ensures { result ≡ (if all then all_set flags mask else any_set flags mask) }
-{
-    if all {
-        flags & mask == mask
-    } else {
-        flags & mask != 0
-    }
-}
-
-// Whether a process's flag n, 0 to 63, is set, and its status block, if one is named, filled.
-fn is_synchronized<R: Routine>(core: &Core<R>, p: Pid, n: u32, iosb: u32) -> bool
-    requires made { IsProcess core.now.state p }
-    requires block { iosb ≤ 32 }
-    ensures { result ≡ is_synchronized core.now.state p iosb (Local p n) }
-{
-    core.is_set(p, n) && (iosb == 0 || core.is_filled(p, iosb))
-}
-
-/// The condition with which a wait of a process ends now; None where it is not satisfied.
-pub fn wait_condition<R: Routine>(core: &Core<R>, p: Pid, wait: Wait) -> Option<Cond>
-    requires made { IsProcess core.now.state p }
-    requires block { FitsBlock wait }
-    ensures { result ≡ wait_condition core.now.state p wait }
-{
-    match wait {
-        Wait::Flags(efn, mask, all) => {
-            if core.cell(p, efn).is_none() {
-                return Some(Cond::UnasEfc);
-            }
-            normal_if(hold(core.flags_of(p, efn), mask, all))
-        }
-        Wait::Synch(efn, iosb) => {
-            if core.cell(p, efn).is_none() {
-                return Some(Cond::UnasEfc);
-            }
-            normal_if(is_synchronized(core, p, efn, iosb))
-        }
-        Wait::Hiber => normal_if(core.has_wake(p)),
-    }
 }

@@ -1,20 +1,25 @@
-//! The services on event flags, ASTs and access modes, each by its entry in the "OpenVMS System Services Reference Manual".
+//! The services on event flags, ASTs, access modes, timers and processes, each by its entry in the "OpenVMS System Services Reference
+//! Manual".
 //!
 //! Each call does the row of its service in the machine's definitions: it tests in the row's order, logs the row's effects,
 //! and leaves the row's state. The caller puts the place behind the statement before it, and R0 and an answer's variable
-//! after it. No call takes memory: `Core::reserve` makes the room before.
+//! after it. No call takes memory: `Core::begin` makes the room before.
 #![tactic(auto)]
 
 mod asts;
+mod control;
 mod flags;
 mod modes;
 mod refused;
 mod time;
 mod timers;
+mod waits;
 
-pub use asts::{dclast, force, setast};
-pub use flags::{clref, readef, wait_condition, setef};
+pub use asts::{dclast, setast};
+pub use control::{forcex, resume, suspnd, wake};
+pub use flags::{clref, readef, setef};
 pub use modes::{cmexec, cmkrnl};
 pub use refused::Refused;
-pub use time::tick;
+pub use time::{gettim, tick};
 pub use timers::setimr;
+pub use waits::{hiber, wait_condition, waitfr, wfland, wflor};

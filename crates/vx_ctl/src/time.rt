@@ -4,7 +4,7 @@ ghost use Rattle.std.specs.Prelude.{◌≡◌, true, is_some};
 ghost use Rattle.std.specs.List.{AllByRecursion, find};
 ghost use Rattle.vx_record.specs.State.{IsProcess};
 ghost use Rattle.vx_record.specs.Flags.{cell, flag_where_named};
-ghost use Rattle.vx_record.specs.Timers.{is_due, next_time, tick};
+ghost use Rattle.vx_record.specs.Timers.{gettim, is_due, next_time, tick};
 ghost use Rattle.vx_record.specs.Sound.{AreOrdered, timer_id};
 ghost use Rattle.vx_procs.specs.Held.{IsOwn};
 ghost use Rattle.vx_procs.specs.Kernel.{Acts, Fits};
@@ -62,6 +62,13 @@ fn next_time<R: Routine>(core: &Core<R>) -> u64
         Some(due) => due,
         None => core.time(),
     }
+}
+
+/// $GETTIM: the low 32 bits of the time, in ticks.
+pub fn gettim<R: Routine>(core: &Core<R>) -> u32
+    ensures { result ≡ gettim core.now.state }
+{
+    (core.time() % 4_294_967_296) as u32
 }
 
 /// TICK: time moves to the least due time, and what is due then fires. Takes no memory.

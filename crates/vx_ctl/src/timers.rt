@@ -1,28 +1,14 @@
 //! Services on timers, and time.
 
 ghost use Rattle.std.specs.Prelude.{◌≡◌, ◌≤◌, ◌+◌, IfErr, Some, Option, option_map, length};
-ghost use Rattle.vx_record.specs.Charges.{timer_need};
 ghost use Rattle.vx_record.specs.Timers.{mode_of_ast, setimr};
 ghost use Rattle.vx_procs.specs.Kernel.{Does, Fits};
 ghost use Rattle.vx_procs.specs.Ready.{IsReady};
 ghost use Rattle.vx_ctl.specs.Answers.{cond_of};
 
 use crate::refused::Refused;
-use vx_base::{Cond, Effect, Mode, Need, Opened, Pid, Routine};
-use vx_procs::Core;
-
-// What a timer needs, with an AST or without.
-fn timer_need(with_ast: bool) -> Need
-    ensures { result ≡ timer_need with_ast }
-{
-    Need {
-        ast: if with_ast { 1 } else { 0 },
-        bio: 0,
-        dio: 0,
-        byt: 0,
-        tqe: 1,
-    }
-}
+use vx_base::{Cond, Effect, Mode, Opened, Pid, Routine};
+use vx_procs::{Core, timer_need};
 
 // The mode of an AST, if there is one.
 fn mode_of_ast<R: Routine>(mode: Mode, routine: &Option<R>) -> Option<Mode>

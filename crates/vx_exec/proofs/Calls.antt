@@ -65,11 +65,8 @@ image_built s p built =
     let parts = and_parts (are_no_units s.system.units) (list_all is_built_image s.system.images) built in
     all_get (λ (i : Image). is_built_image i ≡ true) s.system.images (decl_of s p).image no_image refl (all_from_list is_built_image s.system.images parts.1)
 
-pub image_parts : (image : Image) → is_built_image image ≡ true → (nat_lt (length image.labels) 4294967296 ≡ true) × (list_all is_built_stmt image.stmts ≡ true)
-image_parts image built = and_parts (nat_lt (length image.labels) 4294967296) (list_all is_built_stmt image.stmts) built
-
 pub advanced_built : (s : State) (p : Pid) (who : Reader) (store : Storage) (place : ℕ) → IsTrue (is_built s.system) → IsBuiltAt (image_of s p) (advanced (image_of s p) who store place)
-advanced_built s p who store place built = run_built 1000 (image_of s p) who store place (all_from_list is_built_stmt (image_of s p).stmts (image_parts (image_of s p) (image_built s p built)).1)
+advanced_built s p who store place built = run_built 1000 (image_of s p) who store place (all_from_list is_built_stmt (image_of s p).stmts (image_built s p built))
 
 no_units : (us : List UnitDecl) → are_no_units us ≡ true → us ≡ []
 no_units [] e = refl

@@ -131,9 +131,10 @@ own_iff s p e asked b whole is same made has only =
     (λ t. process_enabled s p e whole (made t) (has t ∙ list), λ there. let own = own_of s p e is (abled_of s e whole there) in only own.0 (own.1 ∙ sym list))
 
 pub tick_iff : (s : State) (e : Event) (n : ℕ) → IsWhole s → e ≡ event.Tick → n ≡ length s.timers → (IsTrue (nat_lt 0 n) → Contains (enabled s) e) × (Contains (enabled s) e → IsTrue (nat_lt 0 n))
-tick_iff s e n whole is count =
-    (λ t. let some : 0 < n = grind (arith, nat_tests, t) in rw is (tick_enabled s whole (omega (arith, some, count))),
-    λ there. let some : 0 < length s.timers = subst (IsAbled s) is (abled_of s e whole there) in let more : 0 < n = omega (arith, some, count) in grind (arith, nat_tests, more))
+tick_iff s e n whole is count = (
+  λ t. let some : 0 < n = grind (arith, nat_tests, t) in rw is (tick_enabled s whole (omega (arith, some, count))),
+  λ there. let some : 0 < length s.timers = subst (IsAbled s) is (abled_of s e whole there) in let more : 0 < n = omega (arith, some, count) in grind (arith, nat_tests, more),
+)
 
 pub units_iff : (s : State) (e : Event) → IsWhole s → ((u : UnitNo) × (e ≡ event.Beg u)) ⊎ ((u : UnitNo) × (e ≡ event.Don u)) → (IsTrue false → Contains (enabled s) e) × (Contains (enabled s) e → IsTrue false)
 units_iff s e whole is = (λ t. absurd (cc), λ there. absurd (none_of is (abled_of s e whole there)))

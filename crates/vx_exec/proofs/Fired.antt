@@ -60,8 +60,8 @@ queued_stays s now t q found is = record {
       record {
         order = ordered_less timer_id (is_due now) 0 n s.timers h.order;
         procs = all_one n n s.timers us (with_queued q)
-        (λ pr k. kept_queued n n s.timers us pr q (omega arith) (omega (arith, below, same)) (rw same (all_find (IsApart pr.asts) (is_due now) s.timers t k.apart found)) (all_less (IsApart pr.asts) (is_due now) s.timers k.apart) (rw same apart) k)
-        (kept_fewer (is_due now) n s.timers) s.procs (t.p.0 - 1) h.procs;
+            (λ pr k. kept_queued n n s.timers us pr q (omega arith) (omega (arith, below, same)) (rw same (all_find (IsApart pr.asts) (is_due now) s.timers t k.apart found)) (all_less (IsApart pr.asts) (is_due now) s.timers k.apart) (rw same apart) k)
+            (kept_fewer (is_due now) n s.timers) s.procs (t.p.0 - 1) h.procs;
       };
 }
 

@@ -24,7 +24,7 @@ use Rattle.vx_base.specs.declared.number.Pid.{Pid}
 use Rattle.vx_base.specs.declared.routine.Entry.{Entry}
 use Rattle.vx_base.specs.declared.routine.Entry.TheVariants as entry
 use Rattle.vx_base.specs.declared.service.Service.{Service}
-use Rattle.vx_base.specs.declared.service.Service.TheVariants.{SetEf, ClrEf, ReadEf, DclAst, SetAst, CmExec, CmKrnl, SetImr, Exit}
+use Rattle.vx_base.specs.declared.service.Service.TheVariants.{SetEf, ClrEf, ReadEf, DclAst, SetAst, CmExec, CmKrnl, SetImr, GetTim, Exit}
 use Rattle.vx_base.specs.Modes.{inner, outer}
 use Rattle.vx_image.specs.Local.{Advanced, advanced}
 use Rattle.vx_image.specs.declared.stop.Stop.{Stop}
@@ -41,7 +41,7 @@ use Rattle.vx_record.specs.declared.served.Served.{Served}
 use Rattle.vx_record.specs.declared.served.Served.TheVariants.{Answered, Waits}
 use Rattle.vx_record.proofs.Lists.{either, all_set, all_weaker}
 use Rattle.vx_record.specs.Sound.{timer_id}
-use Rattle.vx_record.specs.Timers.{new_timer, open_timer, setimr_at, timer_set, with_timer}
+use Rattle.vx_record.specs.Timers.{gettim, new_timer, open_timer, setimr_at, timer_set, with_timer}
 use Rattle.vx_record.proofs.Lists.{ordered_below, ordered_more}
 use Rattle.vx_procs.specs.Ready.{IsKept}
 use Rattle.vx_procs.specs.Words.{left, left_kind}
@@ -239,6 +239,7 @@ service_goes p s a CmKrnl built =
     either (λ (o : Outcome Cond). GoesBy p s o) _ _ _ (goes_changed p p s (with_frame (new_frame s p kind.Change Kernel tag 0)) [] (kept_frame _ tt) (omega arith)) (goes_still p s)
 service_goes p s a SetImr built =
     flag_goes p s (number a.a0) (refused s) (setimr_at s p (number a.a0) (number a.a1) (routine_or_none s p a.a2 (number a.a3)) (number a.a3)) (λ c. goes_still p s) (set_goes p s (number a.a0) (number a.a1) (routine_or_none s p a.a2 (number a.a3)) (number a.a3))
+service_goes p s a GetTim built = goes_changed p p s (with_variable (place a.a0) (gettim s)) (effect.Var p (place a.a0) (gettim s) ∷ []) (kept_variable (place a.a0) (gettim s)) (omega arith)
 service_goes p s a Exit built =
     let few = exited_few s p (number a.a0) in exited_goes p s (number a.a0) (exited s p (number a.a0)).effects (omega (arith, few))
 service_goes p s a _ built = absurd (cc)

@@ -143,6 +143,7 @@ ordered_high key low high (x ∷ xs) h = (top_high x xs h.1, ordered_high key (k
     low_high : (l : ℕ) (ys : List _) → AreOrdered key l high ys → l ≤ high
     low_high l [] k = k
     low_high l (y ∷ ys) k = let rest = low_high (key y + 1) ys k.1 in omega (arith, k.0, rest)
+
     top_high : (y : _) (ys : List _) → AreOrdered key (key y + 1) high ys → key y < high
     top_high y ys k = let above = low_high (key y + 1) ys k in omega (arith, above)
 

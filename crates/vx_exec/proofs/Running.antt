@@ -202,6 +202,7 @@ none_from s p (f ∷ fs) none = absurd (cc)
 
 pub none_at : (s : State) (p : Pid) → None ≡ top_of (process_at s p).frames → run s p (process_at s p).frames ≡ answered answer.Local (nothing s)
 none_at s p none = none_from s p (process_at s p).frames none
+
 -- An AST that starts.
 
 same_frames : (o : Option Queued) (pr : Process) → (without_started o pr).frames ≡ pr.frames
@@ -291,4 +292,3 @@ delivered_as s t p (Some r) q at is there tag =
 pub delivered_none : (s t : State) (p : Pid) (o : Option Queued) → None ≡ o → t ≡ change s p (without_started o) → delivered s p o ≡ answered answer.Local (nothing s)
 delivered_none s t p None none there = refl
 delivered_none s t p (Some q) none there = absurd (cc)
-

@@ -2,7 +2,7 @@
 use Rattle.std.specs.Prelude.{ℕ, ◌<◌, List, [], ◌∷◌, Bool, true, false, ◌&&◌, IsTrue, length, nat_lt, ⊤}
 use Rattle.std.specs.List.{list_all}
 use Rattle.vx_base.specs.declared.service.Service.{Service}
-use Rattle.vx_base.specs.declared.service.Service.TheVariants.{SetEf, ClrEf, ReadEf, DclAst, SetAst, CmExec, CmKrnl, SetImr, Exit}
+use Rattle.vx_base.specs.declared.service.Service.TheVariants.{SetEf, ClrEf, ReadEf, DclAst, SetAst, CmExec, CmKrnl, SetImr, GetTim, Exit}
 use Rattle.vx_image.specs.declared.image.Image.{Image}
 use Rattle.vx_image.specs.declared.stmt.Stmt.{Stmt}
 use Rattle.vx_image.specs.declared.stmt.Stmt.TheVariants as stmt
@@ -11,7 +11,7 @@ use Rattle.vx_image.specs.declared.stop.Stop.TheVariants as stop
 use Rattle.vx_image.specs.declared.system.System.{System}
 use Rattle.vx_image.specs.declared.unit.UnitDecl.{UnitDecl}
 
--- the services on event flags, ASTs and modes that wait for nothing, $SETIMR and $EXIT
+-- the services on event flags, ASTs and modes that wait for nothing, $SETIMR, $GETTIM and $EXIT
 abbrev pub is_built_service : Service → Bool
 is_built_service SetEf = true
 is_built_service ClrEf = true
@@ -21,6 +21,7 @@ is_built_service SetAst = true
 is_built_service CmExec = true
 is_built_service CmKrnl = true
 is_built_service SetImr = true
+is_built_service GetTim = true
 is_built_service Exit = true
 is_built_service _ = false
 
@@ -29,9 +30,8 @@ abbrev pub is_built_stmt : Stmt → Bool
 is_built_stmt (stmt.Service c) = is_built_service c.service
 is_built_stmt _ = true
 
--- (labels are counted in 32 bits)
 abbrev pub is_built_image : Image → Bool
-is_built_image image = nat_lt (length image.labels) 4294967296 && list_all is_built_stmt image.stmts
+is_built_image image = list_all is_built_stmt image.stmts
 
 abbrev pub are_no_units : List UnitDecl → Bool
 are_no_units [] = true

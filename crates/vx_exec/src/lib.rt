@@ -24,6 +24,3 @@ pub use seed::Seed;
 pub use standing::Standing;
 pub use subset::is_built;
 pub use vx_base::End;
-
-#[cfg(test)]
-mod tests;

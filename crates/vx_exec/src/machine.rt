@@ -13,10 +13,8 @@ ghost use Rattle.vx_exec.specs.Built.{IsBuiltCall, is_built_service};
 ghost use Rattle.vx_exec.specs.Ready.{IsReadyFor, IsSet, started_as};
 
 use crate::services::serve;
-use vx_base::{
-    Answer, Call, Cond, Effect, Entry, Event, FrameKind, Id, Mode, Pid, Routine, Wait,
-};
-use vx_ctl::{wait_condition, tick};
+use vx_base::{Answer, Call, Cond, Effect, Entry, Event, FrameKind, Id, Mode, Pid, Routine, Wait};
+use vx_ctl::{tick, wait_condition};
 use vx_image::Stop;
 use vx_procs::Core;
 use vx_record::Served;

@@ -2,16 +2,16 @@
 
 ghost use Rattle.std.specs.Prelude.{◌≡◌, ◌<◌, IfSome, IsTrue, bytes_eq, length, option_map, position};
 ghost use Rattle.vx_record.specs.Flags.{readef};
-ghost use Rattle.vx_record.specs.Services.{access_mode, label_place, number, place, routine, routine_or_none, service, service_of, with_value};
+ghost use Rattle.vx_record.specs.Parts.{nothing};
+ghost use Rattle.vx_record.specs.Timers.{gettim};
+ghost use Rattle.vx_record.specs.Services.{access_mode, label_place, number, place, routine, routine_or_none, service, service_of, valued, with_value};
 ghost use Rattle.vx_procs.specs.Kernel.{Does, DoesQuietly, Fits};
 ghost use Rattle.vx_ctl.specs.Answers.{cond_of};
 ghost use Rattle.vx_exec.specs.Built.{is_built_service};
 ghost use Rattle.vx_exec.specs.Ready.{IsSet};
 
-use vx_base::{
-    Arg, Args, Call, Cond, Effect, Entry, Mode, Operand, Pid, Routine, Service, Target,
-};
-use vx_ctl::{Refused, clref, cmexec, cmkrnl, dclast, readef, setast, setef, setimr};
+use vx_base::{Arg, Args, Call, Cond, Effect, Entry, Mode, Operand, Pid, Routine, Service, Target};
+use vx_ctl::{Refused, clref, cmexec, cmkrnl, dclast, gettim, readef, setast, setef, setimr};
 use vx_image::{Image, Label};
 use vx_procs::Core;
 use vx_record::Served;
@@ -123,6 +123,18 @@ fn read_flags<R: Routine>(core: &mut Core<R>, p: Pid, efn: u32, v: Target) -> Se
     }
 }
 
+// $GETTIM: a variable takes the time.
+fn read_time<R: Routine>(core: &mut Core<R>, p: Pid, v: Target) -> Served
+    requires set { IsSet core.old p }
+    requires room { Fits core.old (valued p v (nothing core.old.state) Cond.Normal (gettim core.old.state)).effects }
+    ensures { Does (valued p v (nothing core.old.state) Cond.Normal (gettim core.old.state)) result core.old core.new }
+{
+    let n = gettim(core);
+    core.tell(Effect::Var { p, v, n });
+    core.set_variable(p, v, n);
+    Served::Answered(Cond::Normal)
+}
+
 // $DCLAST of the routine at a label.
 fn declare<R: Routine>(core: &mut Core<R>, p: Pid, args: &Args) -> Served
     requires set { IsSet core.old p }
@@ -185,6 +197,7 @@ pub(crate) fn serve<R: Routine>(core: &mut Core<R>, p: Pid, call: &Call) -> Serv
         Service::CmExec => enter_exec(core, p, args),
         Service::CmKrnl => enter_kernel(core, p, args),
         Service::SetImr => set_timer(core, p, args),
+        Service::GetTim => read_time(core, p, place(&args.a0)),
         Service::Exit => Served::Answered(exit(core, p, n)),
         // these are not built yet
         Service::WaitFr
@@ -212,7 +225,6 @@ pub(crate) fn serve<R: Routine>(core: &mut Core<R>, p: Pid, call: &Call) -> Serv
         | Service::Qio
         | Service::QioW
         | Service::Synch
-        | Service::Cancel
-        | Service::GetTim => unreachable!(),
+        | Service::Cancel => unreachable!(),
     }
 }

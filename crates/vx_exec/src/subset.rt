@@ -20,6 +20,7 @@ fn is_built_service(service: Service) -> bool
             | Service::CmExec
             | Service::CmKrnl
             | Service::SetImr
+            | Service::GetTim
             | Service::Exit
     )
 }
@@ -42,7 +43,7 @@ fn are_built_stmts(stmts: &[Stmt]) -> bool
 fn is_built_image(image: &Image) -> bool
     ensures { result ≡ is_built_image image.now }
 {
-    image.labels.as_slice().len() < 4_294_967_296 && are_built_stmts(image.stmts.as_slice())
+    are_built_stmts(image.stmts.as_slice())
 }
 
 fn are_no_units(units: &[UnitDecl]) -> bool
@@ -58,7 +59,7 @@ fn are_built_images(images: &[Image]) -> bool
 }
 
 /// Whether the executive runs a system so far: it has no units, and its images call of the services those on event flags,
-/// ASTs and modes that wait for nothing, $SETIMR and $EXIT.
+/// ASTs and modes that wait for nothing, $SETIMR, $GETTIM and $EXIT.
 pub fn is_built(system: &System) -> bool
     ensures { result ≡ is_built system.now }
 {

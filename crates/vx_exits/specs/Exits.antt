@@ -1,13 +1,11 @@
 -- The exit handlers of a process, the newest first.
-use Rattle.std.specs.Prelude.{ℕ, List, ◌∷◌, Bool, true, false, ◌&&◌, ◌==◌, if◌then◌else◌, Option, Some, None, Result, Ok, Err}
+use Rattle.std.specs.Prelude.{◌∷◌, Bool, true, ◌&&◌, ◌==◌, if◌then◌else◌, Option, Some, None, Result, Ok, Err}
 use Rattle.vx_base.specs.Modes.{rank, is_kernel}
 use Rattle.vx_base.specs.Pieces.{Handler}
 use Rattle.vx_base.specs.Roomy.{Roomy, with_items}
 use Rattle.vx_base.specs.declared.mode.Mode.{Mode}
-use Rattle.vx_base.specs.declared.mode.Mode.TheVariants.{Kernel}
 use Rattle.vx_base.specs.declared.number.Id.{Id}
 use Rattle.vx_base.specs.declared.routine.Entry.{Entry}
-use Rattle.vx_base.specs.declared.routine.Entry.TheVariants.{Label, Exit, Host}
 use Rattle.vx_base.specs.Entries.{is_same_entry}
 use Rattle.vx_exits.specs.declared.exits.ExitFail.{ExitFail}
 use Rattle.vx_exits.specs.declared.exits.ExitFail.TheVariants.{NoHandler}

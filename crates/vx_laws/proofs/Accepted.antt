@@ -1,105 +1,53 @@
 -- Requests are opened on mailboxes and units as the law of mailboxes asks, by $QIO and $QIOW.
-use Rattle.std.proofs.Common.{◌≡◌, ℕ, ◌+◌, List, [], ◌∷◌, ◌++◌, false, not, ◌==◌, Option, Some, None, Result, Ok, Err, map, refl, sym, ap, ◌∙◌, subst}
-use Rattle.std.proofs.lemmas.Bool.{eq-eqb}
-use Rattle.std.specs.Prelude.{Contains}
-use Rattle.std.specs.List.{AllByRecursion}
-use Rattle.vx_base.specs.Pieces.{Queued, Channel, Request}
-use Rattle.vx_base.specs.Queues.{front, in_service}
-use Rattle.vx_base.specs.Serving.{serve, settled}
-use Rattle.vx_base.specs.declared.call.Args.{Args}
-use Rattle.vx_base.specs.declared.call.Call.{Call}
+use Rattle.std.proofs.Common.{◌≡◌, ℕ, ◌+◌, List, [], ◌∷◌, ◌++◌, false, not, Option, Some, None, Result, Ok, Err, map, refl, sym, ap, ◌∙◌, subst, inl, inr, nat_lt, ◌≤◌, arith, true, IsTrue, is_some, append-nil, ◌||◌, Bool}
+use Rattle.std.proofs.lemmas.Bool.{eq-eqb, ne_eqb, leb-true, and_parts}
+use Rattle.std.specs.List.{list_any}
+use Rattle.vx_base.specs.Lists.{less}
+use Rattle.vx_base.specs.Pieces.{Channel, Request, Mailbox}
 use Rattle.vx_base.specs.declared.cond.Cond.{Cond}
 use Rattle.vx_base.specs.declared.effects.Cell.{Cell}
-use Rattle.vx_base.specs.declared.effects.Effect.{Effect}
 use Rattle.vx_base.specs.declared.effects.Effect.TheVariants as effect
-use Rattle.vx_base.specs.declared.effects.Opened.{Opened}
+use Rattle.vx_base.specs.declared.effects.Effect.{Effect}
 use Rattle.vx_base.specs.declared.effects.Opened.TheVariants as opened
-use Rattle.vx_base.specs.declared.frame.Frame.{Frame}
-use Rattle.vx_base.specs.declared.frame.Wait.{Wait}
-use Rattle.vx_base.specs.declared.frame.Wait.TheVariants as wait
+use Rattle.vx_base.specs.declared.effects.Opened.{Opened}
 use Rattle.vx_base.specs.declared.mode.Mode.{Mode}
+use Rattle.vx_base.specs.declared.number.BoxNo.{BoxNo}
 use Rattle.vx_base.specs.declared.number.Pid.{Pid}
 use Rattle.vx_base.specs.declared.number.UnitNo.{UnitNo}
-use Rattle.vx_base.specs.declared.record.Answer.{Answer}
-use Rattle.vx_base.specs.declared.record.Answer.TheVariants as answer
-use Rattle.vx_base.specs.declared.record.Event.{Event}
-use Rattle.vx_base.specs.declared.record.Event.TheVariants as event
-use Rattle.vx_base.specs.declared.record.Rec.{Rec}
-use Rattle.vx_base.specs.declared.request.Device.{Device}
 use Rattle.vx_base.specs.declared.request.Device.TheVariants as device
-use Rattle.vx_base.specs.declared.routine.Entry.{Entry}
-use Rattle.vx_base.specs.declared.service.Service.{Service}
-use Rattle.vx_base.specs.declared.service.Service.TheVariants as service
-use Rattle.vx_image.specs.Local.{advanced}
-use Rattle.vx_image.specs.declared.stop.Stop.{Stop}
-use Rattle.vx_image.specs.declared.stop.Stop.TheVariants as stop
-use Rattle.vx_image.specs.declared.system.System.{System}
-use Rattle.vx_record.specs.State.{State, process_at, change, image_of, unit_at, next_id}
-use Rattle.vx_record.specs.Parts.{Part, Outcome, nothing}
-use Rattle.vx_record.specs.Charges.{is_direct, is_attention}
-use Rattle.vx_record.specs.Flags.{flag_part, wait_condition, awaited_at}
-use Rattle.vx_record.specs.Finish.{this_request}
-use Rattle.vx_record.specs.Requests.{Asked, new_request, new_attention, cleared_part, opened_request, begun_on, transfer, attention_on, asked_of, accepted, request_test, qio_tested, qiow_tested, taken_up, unit_ending, with_unit}
-use Rattle.vx_record.specs.Asts.{deliverable_ast}
-use Rattle.vx_record.specs.Events.{enabled, step, moved_to, moved_behind, served_call, called, returned, run_on, reader, run_frame, run, delivered, beg, don}
-use Rattle.vx_record.specs.Rundown.{without_ast}
-use Rattle.vx_record.specs.Runs.{after, after_from, first, AreSteps, IsRun}
-use Rattle.vx_record.specs.Services.{number, asked, service_of, at_once}
-use Rattle.vx_record.specs.declared.served.Served.{Served}
-use Rattle.vx_record.specs.declared.served.Served.TheVariants.{Answered, Waits}
-use Rattle.vx_record.proofs.Lists.{either, either_by, all_append, all_amend}
-use Rattle.vx_laws.specs.Items.{Item, Head, Did, flat, later, past_of, Calling, latest_call}
-use Rattle.vx_laws.specs.Agrees.{AsCalled}
-use Rattle.vx_record.proofs.Moves.{Moves, OutcomeMoves, PartMoves, moved}
-use Rattle.vx_record.proofs.Apart.{Here, HasRoom, here_after, cleared_after, room_after, attention_room, begun_on_moves, opened_has}
-use Rattle.vx_record.proofs.Steps.{returned_moves}
-use Rattle.vx_record.proofs.Told.{attention_on_moves, opened_request_moves, awaited_moves, service_moves, started_moves, step_moves}
-use Rattle.vx_record.proofs.Base.{Base, change_of, moves_keep}
-use Rattle.vx_laws.proofs.Calls.{Called, called_on, called_new, Unasked, plain_unasked, moves_called, new_else}
-use Rattle.vx_laws.proofs.Cleared.{headed, attention_first, returned_plain, started_plain}
-use Rattle.vx_laws.proofs.Kept.{later_both}
-use Rattle.vx_record.proofs.Locals.{advanced_statuses}
-use Rattle.vx_laws.proofs.Plain.{Plain, join, nil, one, part_of_two, begun_plain, awaited_plain, tick_plain, rundown_plain, finish_plain, service_plain}
-use Rattle.vx_laws.proofs.Runs.{enabled_there, step_right, first_base, first_stands}
-use Rattle.vx_laws.proofs.Stands.{Stands}
-use Rattle.vx_laws.proofs.Turns.{later_items}
-
-use Rattle.std.proofs.Common.{◌+◌, ◌-◌, ◌<◌, ◌≤◌, arith, true, IsTrue, is_some, cond, zero, suc, append-nil, not, ◌&&◌, ◌||◌, Bool}
-use Rattle.std.specs.Prelude.{option_map}
-use Rattle.std.specs.List.{find, list_any}
-use Rattle.std.proofs.lemmas.Bool.{leb-true, and_parts, eqb-true}
-use Rattle.std.proofs.lemmas.Slice.Eq.{bytes_eq-Decides}
-use Rattle.vx_base.specs.Lists.{less}
-use Rattle.vx_base.specs.Pieces.{Mailbox}
-use Rattle.vx_base.specs.declared.number.BoxNo.{BoxNo}
-use Rattle.vx_base.specs.declared.number.Id.{Id}
+use Rattle.vx_base.specs.declared.request.Device.{Device}
 use Rattle.vx_base.specs.declared.request.Func.{Func}
 use Rattle.vx_base.specs.declared.request.Msg.{Msg}
-use Rattle.vx_record.specs.Finish.{is_read, this_request}
-use Rattle.vx_record.specs.Mailboxes.{mailbox_at, is_box, is_waiting_func, waits_at, read_box, take_message, write_box, message_of}
-use Rattle.vx_record.specs.Channels.{channel_test}
-use Rattle.vx_record.specs.Requests.{is_bad, has_function, is_too_long, is_full, device_test, on_channel, on_cell, with_request}
-use Rattle.vx_record.specs.Charges.{request_need, exceeds}
-use Rattle.vx_record.specs.Flags.{cell}
-use Rattle.vx_record.specs.Parts.{tells, and_then}
-use Rattle.vx_record.specs.Sound.{AreOrdered, MayBeServed, request_id}
-use Rattle.vx_record.specs.State.{past_id, box_at}
-use Rattle.vx_record.proofs.Lists.{all_weaker}
+use Rattle.vx_record.proofs.Lists.{either, either_by, all_append, apart_bools, ordered_more}
 use Rattle.vx_record.proofs.SoundRequests.{tested_channel}
-use Rattle.vx_laws.specs.Agrees.{as_stored, device_title}
-use Rattle.vx_laws.specs.Boxes.{Stored, stored, stored_at, asks, oldest_read}
-use Rattle.vx_laws.specs.Items.{effects_left}
-use Rattle.vx_laws.specs.Lives.{life, lives, is_request, device_name, named_in, is_outstanding}
-use Rattle.vx_laws.specs.MessageLaw.{reads_where_stored, takes_stored, is_taken_by}
-use Rattle.vx_laws.proofs.Aside.{row, Aside, attention_on_aside, cleared_aside, awaited_aside, changed}
-use Rattle.vx_laws.proofs.Boxed.{Origin, origin_of, origin_on, IsThere, IsOn, Rooted, BoxIs, Boxed, Carried, carry, all_rooted, there_as, title_as, aside_boxed, head_boxed}
+use Rattle.vx_record.specs.Channels.{channel_test}
+use Rattle.vx_record.specs.Charges.{is_direct, is_attention, request_need, exceeds}
+use Rattle.vx_record.specs.Finish.{this_request, is_read}
+use Rattle.vx_record.specs.Flags.{cell}
+use Rattle.vx_record.specs.Mailboxes.{mailbox_at, is_box, is_waiting_func, waits_at, read_box, take_message, write_box, message_of}
+use Rattle.vx_record.specs.Parts.{Part, tells, and_then}
+use Rattle.vx_record.specs.Requests.{Asked, new_request, cleared_part, begun_on, transfer, attention_on, asked_of, accepted, request_test, is_bad, has_function, is_too_long, is_full, device_test, on_channel, on_cell, with_request}
+use Rattle.vx_record.specs.Services.{number, function}
+use Rattle.vx_record.specs.Sound.{AreOrdered, MayBeServed, request_id}
+use Rattle.vx_record.specs.State.{State, next_id, past_id, box_at}
+use Rattle.vx_record.proofs.Apart.{Here, HasRoom, here_after, cleared_after, room_after}
+use Rattle.vx_record.proofs.Told.{opened_request_moves}
+use Rattle.vx_laws.proofs.Aside.{row, attention_on_aside, cleared_aside}
+use Rattle.vx_record.proofs.Base.{Base, moves_keep}
+use Rattle.vx_laws.proofs.Boxed.{Origin, origin_on, IsThere, IsOn, Rooted, Boxed, Carried, carry, all_rooted, there_as, title_as, aside_boxed}
 use Rattle.vx_laws.proofs.Kept.{moves_stand}
 use Rattle.vx_laws.proofs.Listed.{Listed, moves_listed}
+use Rattle.vx_record.proofs.Moves.{Moves, PartMoves}
 use Rattle.vx_laws.proofs.Oldest.{oldest_is}
 use Rattle.vx_laws.proofs.Opens.{requests_told}
-use Rattle.vx_laws.proofs.Passing.{Right, Lawful, lawful_both, Walk, walk_then, walk_aside, IsPlainCall, plain_over, latest_over, Fewer, fewer_same, IsSingle, single_on, unit_stores, mailbox_is, Serving, serving, serving_then, serving_on, aside_lawful}
-use Rattle.vx_laws.proofs.Served.{Newest, Writes, read_serving, write_serving, wait_no_get, taken_none}
-use Rattle.vx_record.proofs.Moves.{Moves}
+use Rattle.vx_laws.proofs.Passing.{Right, walk_aside, IsPlainCall, plain_over, latest_over, fewer_same, IsSingle, single_on, unit_stores, mailbox_is, Serving, serving, serving_then}
+use Rattle.vx_laws.proofs.Served.{Newest, Writes, read_serving, write_serving, wait_no_get, taken_none, last_any, waiting_reads}
+use Rattle.vx_laws.proofs.Stands.{Stands}
+use Rattle.vx_laws.specs.Agrees.{as_stored, device_title}
+use Rattle.vx_laws.specs.Boxes.{Stored, stored, stored_at, asks, oldest_read}
+use Rattle.vx_laws.specs.Items.{Item, Did, later, Calling, latest_call}
+use Rattle.vx_laws.specs.Lives.{is_request, device_name, device_called}
+use Rattle.vx_laws.specs.MessageLaw.{reads_where_stored, takes_stored, is_taken_by}
 
 -- What a test accepted.
 
@@ -113,7 +61,7 @@ device_test_row s p q c ch to =
     either P (not (has_function ch.device q.func)) _ _ (λ e. cc)
     (either P (is_too_long s ch.device q) _ _ (λ e. cc)
     (either P (is_full s ch.device q) _ _ (λ e. cc)
-    (either P (exceeds s p (request_need s ch.device q.func (Rattle.std.specs.Prelude.is_some q.ast) q.len)) _ (Ok (c, ch)) (λ e. cc) (λ e. last (c, ch) to e))))
+    (either P (exceeds s p (request_need s ch.device q.func (is_some q.ast) q.len)) _ (Ok (c, ch)) (λ e. cc) (λ e. last (c, ch) to e))))
   where
     last : (a b : Cell × Channel) → ◌≡◌ {A = Result (Cell × Channel) Cond} (Ok a) (Ok b) → a.1 ≡ b.1
     last a b e = let same : a ≡ b = cc in ap (λ (x : Cell × Channel). x.1) same
@@ -125,7 +73,7 @@ on_cell_row s p q (Some c) to e = on_channel_row (device_test s p q c) (channel_
 request_test_row : (s : State) (p : Pid) (q : Asked) (to : Cell × Channel) → request_test s p q ≡ Ok to → channel_test s p q.chan ≡ Ok to.1
 request_test_row s p q to =
     let P = λ (r : Result (Cell × Channel) Cond). r ≡ Ok to → channel_test s p q.chan ≡ Ok to.1 in
-    either P (is_bad q) _ _ (λ e. cc) (either P (Rattle.std.proofs.Common.nat_lt 127 q.efn) _ _ (λ e. cc) (λ e. on_cell_row s p q (cell s p q.efn) to e))
+    either P (is_bad q) _ _ (λ e. cc) (either P (nat_lt 127 q.efn) _ _ (λ e. cc) (λ e. on_cell_row s p q (cell s p q.efn) to e))
 
 -- the call that asks it
 pub record IsAsking (past : List Item) (p : Pid) (q : Asked) : Type 0 where
@@ -133,7 +81,7 @@ pub record IsAsking (past : List Item) (p : Pid) (q : Asked) : Type 0 where
   pub is : latest_call past ≡ Some call
   pub caller : call.p ≡ p
   pub chan : number call.call.args.a1 ≡ q.chan
-  pub func : Rattle.vx_record.specs.Services.function call.call.args.a2 ≡ q.func
+  pub func : function call.call.args.a2 ≡ q.func
   pub len : number call.call.args.a7 ≡ q.len
   pub calm : IsPlainCall past
 
@@ -165,8 +113,8 @@ new_rooted s p q ch past k mode n g =
     let a = g.asking in
     let t = with_request (past_id s) (new_request s p q ch) in
     let at = g.boxed.rows p q.chan ch g.above g.numbered g.row in
-    let named : Rattle.vx_laws.specs.Lives.device_called past (latest_call past) ≡ Some (device_title s ch.device) =
-    ap (λ (o : Option Calling). Rattle.vx_laws.specs.Lives.device_called past o) a.is ∙ (ap (λ (x : Pid). device_name past x (number a.call.call.args.a1)) a.caller ∙ (ap (λ (x : ℕ). device_name past p x) a.chan ∙ at.1))
+    let named : device_called past (latest_call past) ≡ Some (device_title s ch.device) =
+    ap (λ (o : Option Calling). device_called past o) a.is ∙ (ap (λ (x : Pid). device_name past x (number a.call.call.args.a1)) a.caller ∙ (ap (λ (x : ℕ). device_name past p x) a.chan ∙ at.1))
     in
     record {
       from = g.boxed.counted;
@@ -177,7 +125,7 @@ new_rooted s p q ch past k mode n g =
       on = on_row t p q.chan ch.mode ch.device g.row;
       free = unserved ch.device;
       call = a.call;
-      is = rw (eq-eqb s.next s.next refl) (ap (λ (x : Option Calling). let o : Origin = record { p = p; by = x; device = Rattle.vx_laws.specs.Lives.device_called past (latest_call past) } in Some o) a.is ∙ ap (λ (x : Option (List ℕ)). let o : Origin = record { p = p; by = Some a.call; device = x } in Some o) (named ∙ ap (λ (x : List ℕ). Some x) (sym (title_as s t refl refl ch.device))));
+      is = rw (eq-eqb s.next s.next refl) (ap (λ (x : Option Calling). let o : Origin = record { p = p; by = x; device = device_called past (latest_call past) } in Some o) a.is ∙ ap (λ (x : Option (List ℕ)). let o : Origin = record { p = p; by = Some a.call; device = x } in Some o) (named ∙ ap (λ (x : List ℕ). Some x) (sym (title_as s t refl refl ch.device))));
       func = a.func;
       len = a.len;
     }
@@ -195,18 +143,18 @@ open_boxed s p q ch past k mode n g =
       origins = λ id below. origin_on x past id (λ same. omega (arith, below, same));
       devices = λ p n. refl;
     } in
-    carry s t past (x ∷ past) c refl (λ p n. refl) (λ name. refl) (Rattle.vx_record.proofs.Lists.ordered_more request_id 0 s.next s.requests r refl g.boxed.ordered) (all_append (Rooted t (x ∷ past)) s.requests (r ∷ []) (all_rooted s t past (x ∷ past) c (λ p n. refl) s.requests g.boxed.requests) (new_rooted s p q ch past k mode n g, tt)) g.boxed
+    carry s t past (x ∷ past) c refl (λ p n. refl) (λ name. refl) (λ name. refl) (ordered_more request_id 0 s.next s.requests r refl g.boxed.ordered) (all_append (Rooted t (x ∷ past)) s.requests (r ∷ []) (all_rooted s t past (x ∷ past) c (λ p n. refl) s.requests g.boxed.requests) (new_rooted s p q ch past k mode n g, tt)) g.boxed
 
 open_right : (s : State) (p : Pid) (q : Asked) (ch : Channel) (past : List Item) (k : Opened) (mode : Option Mode) (n : ℕ) (left : List Effect) → is_request k ≡ true → Ready s past p q ch → (is_read q.func ≡ true → takes_stored (next_id s) left (stored past (device_title s ch.device)) ≡ true) → Right past (effect.Open (next_id s) k p mode n) left
 open_right s p q ch past k mode n left is g takes =
     let a = g.asking in
     let at = g.boxed.rows p q.chan ch g.above g.numbered g.row in
-    let named : Rattle.vx_laws.specs.Lives.device_called past (Some a.call) ≡ Some (device_title s ch.device) =
+    let named : device_called past (Some a.call) ≡ Some (device_title s ch.device) =
     ap (λ (x : Pid). device_name past x (number a.call.call.args.a1)) a.caller ∙ (ap (λ (x : ℕ). device_name past p x) a.chan ∙ at.1)
     in
     let told : (not (is_read q.func) || takes_stored (next_id s) left (stored past (device_title s ch.device))) ≡ true = imply (is_read q.func) _ takes in
-    let one : (not (is_read q.func) || takes_stored (next_id s) left (stored_at past (Rattle.vx_laws.specs.Lives.device_called past (Some a.call)))) ≡ true = subst (λ (o : Option (List ℕ)). (not (is_read q.func) || takes_stored (next_id s) left (stored_at past o)) ≡ true) (sym named) told in
-    let two : reads_where_stored past (next_id s) left (Some a.call) ≡ true = subst (λ (f : Func). (not (is_read f) || takes_stored (next_id s) left (stored_at past (Rattle.vx_laws.specs.Lives.device_called past (Some a.call)))) ≡ true) (sym a.func) one in
+    let one : (not (is_read q.func) || takes_stored (next_id s) left (stored_at past (device_called past (Some a.call)))) ≡ true = subst (λ (o : Option (List ℕ)). (not (is_read q.func) || takes_stored (next_id s) left (stored_at past o)) ≡ true) (sym named) told in
+    let two : reads_where_stored past (next_id s) left (Some a.call) ≡ true = subst (λ (f : Func). (not (is_read f) || takes_stored (next_id s) left (stored_at past (device_called past (Some a.call)))) ≡ true) (sym a.func) one in
     let three : reads_where_stored past (next_id s) left (latest_call past) ≡ true = subst (λ (o : Option Calling). reads_where_stored past (next_id s) left o ≡ true) (sym a.is) two in
     λ rest e. rw (is, e) three
   where
@@ -219,7 +167,7 @@ less_last : (n : ℕ) (low : ℕ) (xs : List Request) (r : Request) → r.req.id
 less_last n low [] r e o = rw (eq-eqb r.req.id.0 r.req.id.0 refl) refl
 less_last n low (x ∷ xs) r e o =
     let below = most (request_id x + 1) n xs o.1 in
-    rw (Rattle.std.proofs.lemmas.Bool.ne_eqb x.req.id.0 r.req.id.0 (λ same. omega (arith, below, same, e)), less_last n (request_id x + 1) xs r e o.1) refl
+    rw (ne_eqb x.req.id.0 r.req.id.0 (λ same. omega (arith, below, same, e)), less_last n (request_id x + 1) xs r e o.1) refl
   where
     most : (low high : ℕ) (xs : List Request) → AreOrdered request_id low high xs → low ≤ high
     most low high [] h = h
@@ -238,7 +186,7 @@ box_serving s p q ch past k mode n b box on is req g moves =
     (λ writes.
     let rest = write_serving t after b box r (written writes) calm boxed in
     let es = (write_box t b (message_of r.req)).effects in
-    record { boxed = rest.boxed; lawful = (open_right s p q ch past k mode n (es ++ []) req g (λ j. absurd (Rattle.vx_record.proofs.Lists.apart_bools (is_read q.func) j writes)), rest.lawful); single = rest.single })
+    record { boxed = rest.boxed; lawful = (open_right s p q ch past k mode n (es ++ []) req g (λ j. absurd (apart_bools (is_read q.func) j writes)), rest.lawful); single = rest.single })
   where
     r : Request
     r = new_request s p q ch
@@ -280,9 +228,9 @@ box_serving s p q ch past k mode n b box on is req g moves =
 
     single_now : is_read q.func ≡ false → IsSingle (with_request (past_id s) (new_request s p q ch))
     single_now writes c e =
-        elim (Rattle.vx_laws.proofs.Served.last_any (waits_at c) s.requests (new_request s p q ch) e) [
-          | Rattle.std.proofs.Common.inl x ↦ g.single c x
-          | Rattle.std.proofs.Common.inr x ↦ absurd (Rattle.vx_record.proofs.Lists.apart_bools (is_read q.func) (Rattle.vx_laws.proofs.Served.waiting_reads q.func (and_parts (is_box c ch.device) (is_waiting_func q.func) x).1) writes)
+        elim (last_any (waits_at c) s.requests (new_request s p q ch) e) [
+          | inl x ↦ g.single c x
+          | inr x ↦ absurd (apart_bools (is_read q.func) (waiting_reads q.func (and_parts (is_box c ch.device) (is_waiting_func q.func) x).1) writes)
         ]
 
     written : is_read q.func ≡ false → Writes (with_request (past_id s) (new_request s p q ch)) (Did (effect.Open (next_id s) k p mode n) ∷ past) b box (new_request s p q ch)
@@ -310,9 +258,9 @@ unit_serving s p q ch past k mode n u on req g =
       boxed = open_boxed s p q ch past k mode n g;
       lawful = (open_right s p q ch past k mode n [] req g (λ reads. rw empty refl), tt);
       single = λ c e.
-          elim (Rattle.vx_laws.proofs.Served.last_any (waits_at c) s.requests (new_request s p q ch) e) [
-            | Rattle.std.proofs.Common.inl x ↦ g.single c x
-            | Rattle.std.proofs.Common.inr x ↦ absurd (let never : false ≡ true = subst (λ (d : Device). is_box c d ≡ true) on (and_parts (is_box c ch.device) (is_waiting_func q.func) x).0 in cc)
+          elim (last_any (waits_at c) s.requests (new_request s p q ch) e) [
+            | inl x ↦ g.single c x
+            | inr x ↦ absurd (let never : false ≡ true = subst (λ (d : Device). is_box c d ≡ true) on (and_parts (is_box c ch.device) (is_waiting_func q.func) x).0 in cc)
           ];
     }
 

@@ -1,81 +1,55 @@
 -- What most services and events do lies aside of mailboxes: no channel, no mailbox and no request is other than before.
-use Rattle.std.proofs.Common.{◌≡◌, ℕ, ◌%◌, ◌^◌, List, [], ◌∷◌, ◌++◌, Bool, true, false, cond, not, ◌&&◌, ◌||◌, ◌==◌, nat_lt, nat_le, length, Option, Some, None, Result, Ok, Err, position, is_none, refl, sym, ◌∙◌, ap, zero, suc, get_or, arith, ◌≤◌, ◌+◌}
-use Rattle.std.specs.List.{AllByRecursion, filter, find, list_any}
-use Rattle.std.specs.Prelude.{⊤}
-use Rattle.vx_base.specs.Channels.{channel_at, channels_of}
+use Rattle.std.proofs.Common.{◌≡◌, ℕ, ◌%◌, ◌^◌, List, [], ◌∷◌, ◌++◌, Bool, true, false, cond, not, ◌||◌, ◌==◌, nat_lt, nat_le, length, Option, Some, None, Result, Ok, Err, refl, ◌∙◌, ap, zero, suc, get_or, arith, ◌≤◌, ◌-◌, replicate}
+use Rattle.std.specs.List.{AllByRecursion, filter, find}
+use Rattle.std.specs.Prelude.{⊤, is_some}
+use Rattle.vx_base.specs.Channels.{channel_at}
 use Rattle.vx_base.specs.Clusters.{Change, cluster_number, associated, dissociated, marked, is_cluster}
-use Rattle.vx_base.specs.Modes.{outer, is_kernel}
-use Rattle.vx_base.specs.Pieces.{Channel, Handler, Request, Promised, Timer, Alarm, OfTimer, OfWake, Attention, Mailbox}
+use Rattle.vx_base.specs.Modes.{inner, is_kernel}
+use Rattle.vx_base.specs.Pieces.{Channel, Handler, Timer, Alarm, OfTimer, OfWake, Attention, Queued, Status, cleared}
 use Rattle.vx_base.specs.declared.call.Args.{Args}
 use Rattle.vx_base.specs.declared.call.Target.{Target}
+use Rattle.vx_base.specs.declared.cond.Cond.TheVariants.{BadParam}
 use Rattle.vx_base.specs.declared.cond.Cond.{Cond}
-use Rattle.vx_base.specs.declared.cond.Cond.TheVariants.{BadParam, Cancel as Cancelled, EndOfFile}
+use Rattle.vx_base.specs.declared.effects.Cell.TheVariants.{Local, Common as Shared}
 use Rattle.vx_base.specs.declared.effects.Cell.{Cell}
-use Rattle.vx_base.specs.declared.effects.Effect.{Effect}
 use Rattle.vx_base.specs.declared.effects.Effect.TheVariants as effect
+use Rattle.vx_base.specs.declared.effects.Opened.TheVariants as opened
+use Rattle.vx_base.specs.declared.effects.Effect.{Effect}
 use Rattle.vx_base.specs.declared.frame.Frame.{Frame}
-use Rattle.vx_base.specs.declared.frame.FrameKind.{FrameKind}
 use Rattle.vx_base.specs.declared.frame.FrameKind.TheVariants as kind
-use Rattle.vx_base.specs.declared.frame.Phase.{Phase}
-use Rattle.vx_base.specs.declared.frame.Phase.TheVariants as phase
-use Rattle.vx_base.specs.declared.frame.Wait.{Wait}
+use Rattle.vx_base.specs.declared.frame.FrameKind.{FrameKind}
 use Rattle.vx_base.specs.declared.frame.Wait.TheVariants as wait
+use Rattle.vx_base.specs.declared.frame.Wait.{Wait}
+use Rattle.vx_base.specs.declared.mode.Mode.TheVariants.{Exec, Kernel}
 use Rattle.vx_base.specs.declared.mode.Mode.{Mode}
 use Rattle.vx_base.specs.declared.number.BoxNo.{BoxNo}
 use Rattle.vx_base.specs.declared.number.Pid.{Pid}
-use Rattle.vx_base.specs.declared.record.Answer.{Answer}
-use Rattle.vx_base.specs.declared.request.Device.{Device}
 use Rattle.vx_base.specs.declared.request.Device.TheVariants as device
+use Rattle.vx_base.specs.declared.request.Device.{Device}
 use Rattle.vx_base.specs.declared.request.Func.{Func}
-use Rattle.vx_base.specs.declared.request.Func.TheVariants.{ReadAttn, WrtAttn}
-use Rattle.vx_base.specs.declared.request.Msg.{Msg}
-use Rattle.vx_base.specs.declared.routine.Entry.{Entry}
-use Rattle.vx_base.specs.declared.service.Service.{Service}
-use Rattle.vx_base.specs.declared.service.Service.TheVariants.{SetEf, ClrEf, ReadEf, WaitFr, WflOr, WflAnd, AscEfc, DacEfc, DlcEfc, DclAst, SetAst, CmExec, CmKrnl, SetImr, CanTim, SchdWk, CanWak, Hiber, Wake, Suspnd, Resume, ForceX, CrePrc, DelPrc, Exit, DclExh, CanExh, Assign, Dassgn, CreMbx, DelMbx, Qio, QioW, Synch, Cancel, GetTim}
-use Rattle.vx_record.specs.State.{State, process_at, change, current}
-use Rattle.vx_record.specs.Parts.{Part, Outcome, nothing, each, refused, at_tested, part_of}
-use Rattle.vx_record.specs.Flags.{cell, flag_where_named, at_named, at_flag, put_flag_at, refused_value, readef_at, readef, refused_wait, wait_condition, awaited_at, waits_on, is_common, wants_prmceb}
-use Rattle.vx_record.specs.Asts.{is_inside}
-use Rattle.vx_record.specs.Charges.{exceeds, ast_need, timer_need}
-use Rattle.vx_record.specs.Finish.{Ending, ending, is_read, fin_part, buf_part, status_of, iosb_part, done_flag_part, done_ast_part, finish, finish_found, this_request}
-use Rattle.vx_record.specs.Mailboxes.{mailbox_at, is_waiting_func, waits_at, this_message, mput_part, mget_part, mcut_part, read_ending, write_ending, received, write_done, is_attention_at, fire_attention, call_attention, store_message, hand_over, write_box, take_message, read_box, is_answered_now, attend, message_of}
-use Rattle.vx_record.specs.Channels.{channel_test, device_named, with_channel, free_channel_of, assign_at, assign_to, assign, is_bad_box, new_box, box_named, make_box, make_box_in, find_or_create, crembx, marked_box, delmbx_on, delmbx_at, is_assigned, goes_unused, box_gone, swept_device, swept_box, free_channel}
-use Rattle.vx_record.specs.Cancel.{mark_part, withdraw, cancelled_request, cancel_request, is_request_on, is_attention_on, drop_attention, cancel_channel, cancel_at, dassgn_at}
-use Rattle.vx_record.specs.Requests.{begun_on}
-use Rattle.vx_record.specs.Control.{process_test, changed_process, with_wake, with_suspension, forced, creprc}
-use Rattle.vx_record.specs.Timers.{drop_timer, drop_timers, setimr_at, setimr, is_cancelled_timer, scheduled, is_wake_for, unscheduled, que_timer, fired, fire, is_due, at_time, next_time, tick}
-use Rattle.vx_record.specs.Rundown.{leave_kind, leave_frame, leave_all, exited, is_handler_of, is_handler_with, drop_handler, drop_handlers, any_handler, cancel_found, cancel_handlers, named_for_deletion, deleted_by, cancel_one, free_one, is_timer_in, is_wake_by, cancel_modes, drop_ast, drop_asts, is_ast_reached, part_with, release, is_busy, drain, cancelled_in, run_handlers, handling, run_down, inner_modes, rundown_from}
-use Rattle.vx_record.specs.Services.{number, place, access_mode, text, routine_or_none, decl_place, valued_at, numbered_at, service_of}
-use Rattle.vx_record.proofs.Lists.{all_append, all_weaker}
-use Rattle.vx_laws.specs.StatusLaw.{is_asked}
-use Rattle.vx_record.proofs.Moves.{is_clusters}
-use Rattle.vx_record.proofs.Apart.{associated_only, dissociated_only, marked_at_only}
-
-use Rattle.std.proofs.Common.{◌-◌, replicate}
-use Rattle.vx_base.specs.Pieces.{Queued, Status}
-use Rattle.vx_record.specs.Asts.{que_part, declared_ast, charged_ast}
-use Rattle.vx_record.specs.Finish.{put_status}
-use Rattle.vx_record.specs.Requests.{Asked, new_attention, attention_set, attention_opened, attention_on, done_at_once, cleared_part}
-use Rattle.vx_base.specs.Pieces.{cleared}
-use Rattle.vx_record.specs.State.{Process, nobody, image_of}
-use Rattle.vx_record.specs.Parts.{and_then, tells, followed_by}
-use Rattle.vx_record.specs.Rundown.{exit}
-use Rattle.vx_record.specs.Control.{created, new_part}
-use Rattle.vx_record.specs.Flags.{flag_part, with_local_flag, with_wait, awaited}
-use Rattle.vx_base.specs.declared.effects.Cell.TheVariants.{Local, Common as Shared}
-use Rattle.vx_laws.specs.Lives.{is_request}
-use Rattle.vx_record.specs.Timers.{timer_set, fire_timer, after_wake}
-use Rattle.vx_record.specs.Events.{returned, returned_from, started}
-use Rattle.vx_record.proofs.Lists.{either}
-use Rattle.vx_record.proofs.Fits.{field_same}
 use Rattle.vx_base.specs.declared.routine.Entry.TheVariants as entry
-use Rattle.vx_base.specs.Modes.{inner}
-use Rattle.vx_base.specs.declared.mode.Mode.TheVariants.{Exec, Kernel}
-use Rattle.vx_record.specs.Asts.{with_queued, with_delivery, with_frame, new_frame}
-use Rattle.vx_record.specs.Finish.{with_stored_status}
-use Rattle.vx_record.specs.Rundown.{without_handler, without_ast}
-use Rattle.vx_record.specs.Services.{with_variable, routine}
-use Rattle.vx_record.specs.Events.{put_back, below_top}
+use Rattle.vx_base.specs.declared.routine.Entry.{Entry}
+use Rattle.vx_base.specs.declared.service.Service.TheVariants.{SetEf, ClrEf, ReadEf, WaitFr, WflOr, WflAnd, AscEfc, DacEfc, DlcEfc, DclAst, SetAst, CmExec, CmKrnl, SetImr, CanTim, SchdWk, CanWak, Hiber, Wake, Suspnd, Resume, ForceX, CrePrc, DelPrc, Exit, DclExh, CanExh, Assign, Dassgn, CreMbx, DelMbx, Qio, QioW, Synch, Cancel, GetTim}
+use Rattle.vx_base.specs.declared.service.Service.{Service}
+use Rattle.vx_record.proofs.Lists.{all_append, all_weaker, either}
+use Rattle.vx_record.specs.Asts.{is_inside, que_part, charged_ast, with_queued, with_delivery, with_frame, new_frame}
+use Rattle.vx_record.specs.Cancel.{drop_attention}
+use Rattle.vx_record.specs.Charges.{exceeds, ast_need, timer_need}
+use Rattle.vx_record.specs.Control.{process_test, changed_process, with_wake, with_suspension, forced, creprc, created, new_part}
+use Rattle.vx_record.specs.Events.{returned, returned_from, started, r0_of, put_back, below_top}
+use Rattle.vx_record.specs.Finish.{iosb_part, put_status, with_stored_status}
+use Rattle.vx_record.specs.Flags.{cell, flag_where_named, at_named, at_flag, put_flag_at, refused_value, readef_at, readef, refused_wait, wait_condition, awaited_at, waits_on, is_common, wants_prmceb, flag_part, with_local_flag, with_wait}
+use Rattle.vx_record.specs.Mailboxes.{is_attention_at, fire_attention, call_attention, is_answered_now, attend}
+use Rattle.vx_record.specs.Parts.{Part, Outcome, nothing, each, refused, at_tested, part_of, commonly, and_then}
+use Rattle.vx_record.specs.Requests.{Asked, new_attention, attention_set, attention_opened, attention_on, done_at_once, cleared_part}
+use Rattle.vx_record.specs.Rundown.{leave_kind, leave_frame, leave_all, exited, is_handler_of, is_handler_with, drop_handler, drop_handlers, any_handler, cancel_found, cancel_handlers, named_for_deletion, deleted_by, drop_ast, drop_asts, is_ast_reached, part_with, new_handler, with_handler, without_frames, without_handler, without_ast}
+use Rattle.vx_record.specs.Services.{number, place, text, routine_or_none, decl_place, valued_at, numbered_at, service_of, var_part, with_variable, routine}
+use Rattle.vx_record.specs.State.{State, process_at, change, current, next_id, past_id, Process, nobody}
+use Rattle.vx_record.specs.Timers.{drop_timer, drop_timers, setimr_at, scheduled, is_wake_for, unscheduled, que_timer, fired, fire, is_due, at_time, next_time, tick, gettim, open_timer, fire_timer, after_wake}
+use Rattle.vx_record.proofs.Apart.{associated_only, dissociated_only, marked_at_only}
+use Rattle.vx_record.proofs.Fits.{field_same}
+use Rattle.vx_record.proofs.Moves.{is_clusters}
+use Rattle.vx_laws.specs.Lives.{is_request}
 
 -- channel n of a process
 abbrev pub row : State → Pid → ℕ → Option Channel
@@ -109,11 +83,11 @@ pub idle : (s : State) → Aside s [] s
 idle s = record { system = refl; boxes = refl; requests = refl; rows = λ p n. refl; next = omega arith; effects = tt }
 
 -- nothing changes but lists that are no concern here
-opened : (s t : State) (es : List Effect) → t.system ≡ s.system → t.boxes ≡ s.boxes → t.requests ≡ s.requests → t.procs ≡ s.procs → s.next ≤ t.next → AllByRecursion (IsAside s.next) es → Aside s es t
-opened s t es a b c d e k = record { system = a; boxes = b; requests = c; rows = λ p n. ap (λ (l : List Process). channel_at (get_or l (p.0 - 1) nobody).channels n) d; next = e; effects = k }
+with_opened : (s t : State) (es : List Effect) → t.system ≡ s.system → t.boxes ≡ s.boxes → t.requests ≡ s.requests → t.procs ≡ s.procs → s.next ≤ t.next → AllByRecursion (IsAside s.next) es → Aside s es t
+with_opened s t es a b c d e k = record { system = a; boxes = b; requests = c; rows = λ p n. ap (λ (l : List Process). channel_at (get_or l (p.0 - 1) nobody).channels n) d; next = e; effects = k }
 
 pub same : (s t : State) (es : List Effect) → t.system ≡ s.system → t.boxes ≡ s.boxes → t.requests ≡ s.requests → t.procs ≡ s.procs → t.next ≡ s.next → AllByRecursion (IsAside s.next) es → Aside s es t
-same s t es a b c d e k = opened s t es a b c d (omega (arith, e)) k
+same s t es a b c d e k = with_opened s t es a b c d (omega (arith, e)) k
 
 pub changed : (s : State) (p : Pid) (f : Process → Process) (es : List Effect) → (f (process_at s p)).channels ≡ (process_at s p).channels → AllByRecursion (IsAside s.next) es → Aside s es (change s p f)
 changed s p f es c k = record {
@@ -182,7 +156,7 @@ cluster_aside n (effect.Cef g a on) e = tt
 cluster_aside n (effect.Clu q k c) e = tt
 cluster_aside n x e = absurd (let never : false ≡ true = e in cc)
 
-only_aside : (s : State) (c : Change) → AllByRecursion (λ x. is_clusters x ≡ true) c.effects → PartAside s (Rattle.vx_record.specs.Parts.commonly s c)
+only_aside : (s : State) (c : Change) → AllByRecursion (λ x. is_clusters x ≡ true) c.effects → PartAside s (commonly s c)
 only_aside s c k = same s _ c.effects refl refl refl refl refl (all_weaker (λ (x : Effect). is_clusters x ≡ true) (IsAside s.next) (cluster_aside s.next) c.effects k)
 
 -- Status blocks, ASTs and attention entries.
@@ -212,10 +186,10 @@ attention_set_aside s p q a =
     let one = attention_opened s p q a in
     let two = and_then one i in
     let t = two.after in
-    parts s two (λ c. and_then (f c) (λ d. attend d a)) (parts s one i (opened s _ _ refl refl refl refl (omega arith) ((refl, omega arith), tt)) (status_aside one.after p q.iosb done_at_once))
+    parts s two (λ c. and_then (f c) (λ d. attend d a)) (parts s one i (with_opened s _ _ refl refl refl refl (omega arith) ((refl, omega arith), tt)) (status_aside one.after p q.iosb done_at_once))
     (parts t (f t) (λ d. attend d a) (named_flag_aside t (cell t p q.efn) true) (attend_aside (f t).after a))
 
-pub attention_on_aside : (s : State) (p : Pid) (q : Asked) (d : Device) (o : Option Rattle.vx_base.specs.declared.routine.Entry.Entry) → PartAside s (attention_on s p q d o)
+pub attention_on_aside : (s : State) (p : Pid) (q : Asked) (d : Device) (o : Option Entry) → PartAside s (attention_on s p q d o)
 attention_on_aside s p q (device.Unit u) o = idle s
 attention_on_aside s p q (device.Mailbox b) None = idle s
 attention_on_aside s p q (device.Mailbox b) (Some tag) = attention_set_aside s p q (new_attention s p q b tag)
@@ -232,7 +206,7 @@ tested_aside s go (Ok x) f = f x
 pub timers_aside : (s : State) (passes : Timer → Bool) → PartAside s (drop_timers passes s)
 timers_aside s passes = each_aside drop_timer (λ t x. same t _ (effect.Drop x.id ∷ []) refl refl refl refl refl (tt, tt)) (filter passes s.timers) s
 
-que_timer_aside : (s : State) (t : Timer) (mode : Mode) (o : Option Rattle.vx_base.specs.declared.routine.Entry.Entry) → PartAside s (que_timer s t mode o)
+que_timer_aside : (s : State) (t : Timer) (mode : Mode) (o : Option Entry) → PartAside s (que_timer s t mode o)
 que_timer_aside s t mode None = idle s
 que_timer_aside s t mode (Some tag) = que_aside s t.p (charged_ast t.id mode tag)
 
@@ -265,13 +239,13 @@ pub handlers_aside : (s : State) (p : Pid) (test : Handler → Bool) → PartAsi
 handlers_aside s p test = each_aside (drop_handler p) (λ t x. changed t p (without_handler x.id) _ refl (tt, tt)) (filter test (process_at s p).handlers) s
 
 pub exited_aside : (s : State) (p : Pid) (code : ℕ) → PartAside s (exited s p code)
-exited_aside s p code = let a = change s p (Rattle.vx_record.specs.Rundown.without_frames code) in then s a _ [] _ (changed s p (Rattle.vx_record.specs.Rundown.without_frames code) [] refl tt) (leave_all_aside (process_at s p).frames a)
+exited_aside s p code = let a = change s p (without_frames code) in then s a _ [] _ (changed s p (without_frames code) [] refl tt) (leave_all_aside (process_at s p).frames a)
 
 found_handler_aside : (s : State) (p : Pid) (o : Option Handler) → OutAside s (cancel_found s p o)
 found_handler_aside s p None = idle s
 found_handler_aside s p (Some x) = changed s p (without_handler x.id) _ refl (tt, tt)
 
-cancel_handlers_aside : (s : State) (p : Pid) (o : Option Rattle.vx_base.specs.declared.routine.Entry.Entry) → OutAside s (cancel_handlers s p o)
+cancel_handlers_aside : (s : State) (p : Pid) (o : Option Entry) → OutAside s (cancel_handlers s p o)
 cancel_handlers_aside s p None = handlers_aside s p (is_handler_of (current s p))
 cancel_handlers_aside s p (Some tag) = found_handler_aside s p (find (is_handler_with (current s p) tag) (process_at s p).handlers)
 
@@ -294,15 +268,15 @@ returned_aside s p [] = idle s
 returned_aside s p (f ∷ fs) = by_kind f.kind
   where
     by_kind : (k : FrameKind) → OutAside s (returned_from s p f k)
-    by_kind kind.Main = exited_aside s p (Rattle.vx_record.specs.Events.r0_of s p)
+    by_kind kind.Main = exited_aside s p (r0_of s p)
     by_kind (kind.Ast id) = changed s p (put_back f.saved_r0) _ refl (tt, tt)
     by_kind kind.Change = changed s p below_top _ refl tt
     by_kind kind.Handler = changed s p below_top _ refl tt
 
-pub started_aside : (s : State) (p : Pid) (q : Queued) (e : Rattle.vx_base.specs.declared.routine.Entry.Entry) → PartAside s (started s p q e)
+pub started_aside : (s : State) (p : Pid) (q : Queued) (e : Entry) → PartAside s (started s p q e)
 started_aside s p q (entry.Exit code) = parts s _ (λ a. exited a p code) (same s s (effect.Leave q.id ∷ []) refl refl refl refl refl (tt, tt)) (exited_aside s p code)
-started_aside s p q (entry.Label k prm) = changed s p (with_frame (new_frame s p (kind.Ast q.id) q.mode (entry.Label k prm) (Rattle.vx_record.specs.Events.r0_of s p))) [] refl tt
-started_aside s p q (entry.Host prm) = changed s p (with_frame (new_frame s p (kind.Ast q.id) q.mode (entry.Host prm) (Rattle.vx_record.specs.Events.r0_of s p))) [] refl tt
+started_aside s p q (entry.Label k prm) = changed s p (with_frame (new_frame s p (kind.Ast q.id) q.mode (entry.Label k prm) (r0_of s p))) [] refl tt
+started_aside s p q (entry.Host prm) = changed s p (with_frame (new_frame s p (kind.Ast q.id) q.mode (entry.Host prm) (r0_of s p))) [] refl tt
 
 -- a new process has no channel
 
@@ -323,11 +297,11 @@ new_aside s p place = record { system = refl; boxes = refl; requests = refl; row
 -- Services.
 
 pub valued_aside : (s : State) (p : Pid) (t : Target) (part : Part) (r : Result (Cond × ℕ) Cond) → PartAside s part → OutAside s (valued_at p t part r)
-valued_aside s p t part (Ok read) k = parts s part (λ a. Rattle.vx_record.specs.Services.var_part a p t read.1) k (changed part.after p (with_variable t read.1) _ refl (tt, tt))
+valued_aside s p t part (Ok read) k = parts s part (λ a. var_part a p t read.1) k (changed part.after p (with_variable t read.1) _ refl (tt, tt))
 valued_aside s p t part (Err c) k = k
 
 numbered_aside : (s : State) (p : Pid) (t : Target) (part : Part) (r : Result ℕ Cond) → PartAside s part → OutAside s (numbered_at p t part r)
-numbered_aside s p t part (Ok n) k = parts s part (λ a. Rattle.vx_record.specs.Services.var_part a p t n) k (changed part.after p (with_variable t n) _ refl (tt, tt))
+numbered_aside s p t part (Ok n) k = parts s part (λ a. var_part a p t n) k (changed part.after p (with_variable t n) _ refl (tt, tt))
 numbered_aside s p t part (Err c) k = k
 
 -- the services on channels, mailboxes and requests
@@ -353,32 +327,32 @@ service_aside s p a AscEfc e =
     of_outcomes s (not (is_common (number a.a0))) _ _ (idle s) (of_outcomes s (wants_prmceb s (process_at s p) (text a.a1) (number a.a2)) _ _ (idle s) (only_aside s c (associated_only s.common p (cluster_number (number a.a0)) (process_at s p).group (text a.a1) (not (number a.a2 == 0)))))
 service_aside s p a DacEfc e = of_outcomes s (not (is_common (number a.a0))) _ _ (idle s) (only_aside s (dissociated s.common p (cluster_number (number a.a0))) (dissociated_only s.common p (cluster_number (number a.a0))))
 service_aside s p a DlcEfc e = of_outcomes s (not (process_at s p).privs.prmceb) _ _ (idle s) (only_aside s (marked s.common (process_at s p).group (text a.a0)) (marked_at_only s.common (find (is_cluster (process_at s p).group (text a.a0)) s.common.clusters)))
-service_aside s p a DclAst e = of_outcomes s (exceeds s p (ast_need true)) _ _ (idle s) (then s (Rattle.vx_record.specs.State.past_id s) _ (effect.Open (Rattle.vx_record.specs.State.next_id s) Rattle.vx_base.specs.declared.effects.Opened.TheVariants.Ast p _ 0 ∷ []) _ (opened s _ _ refl refl refl refl (omega arith) ((refl, omega arith), tt)) (que_aside _ p _))
+service_aside s p a DclAst e = of_outcomes s (exceeds s p (ast_need true)) _ _ (idle s) (then s (past_id s) _ (effect.Open (next_id s) opened.Ast p _ 0 ∷ []) _ (with_opened s _ _ refl refl refl refl (omega arith) ((refl, omega arith), tt)) (que_aside _ p _))
 service_aside s p a SetAst e = changed s p (with_delivery (current s p) (not (number a.a0 == 0))) _ refl (tt, tt)
 service_aside s p a CmExec e = of_outcomes s (is_inside (current s p) || ((process_at s p).privs.cmexec || (process_at s p).privs.cmkrnl)) _ _ (changed s p (with_frame (new_frame s p kind.Change (inner (current s p) Exec) (routine s p a.a0 (number a.a1)) 0)) [] refl tt) (idle s)
 service_aside s p a CmKrnl e = of_outcomes s (is_inside (current s p) || (process_at s p).privs.cmkrnl) _ _ (changed s p (with_frame (new_frame s p kind.Change Kernel (routine s p a.a0 (number a.a1)) 0)) [] refl tt) (idle s)
 service_aside s p a SetImr e =
     let tag = routine_or_none s p a.a2 (number a.a3) in
     at_flag_aside s p (number a.a0) (refused s) (setimr_at s p (number a.a0) (number a.a1) tag (number a.a3)) (λ c. idle s)
-    (λ c. of_outcomes s (exceeds s p (timer_need (Rattle.std.specs.Prelude.is_some tag))) _ _ (idle s) (parts s (flag_part s c false) (λ x. Rattle.vx_record.specs.Timers.open_timer x p (number a.a0) (number a.a1) tag (number a.a3)) (flag_aside s c false) (opened (flag_part s c false).after _ _ refl refl refl refl (omega arith) ((refl, omega arith), tt))))
+    (λ c. of_outcomes s (exceeds s p (timer_need (is_some tag))) _ _ (idle s) (parts s (flag_part s c false) (λ x. open_timer x p (number a.a0) (number a.a1) tag (number a.a3)) (flag_aside s c false) (with_opened (flag_part s c false).after _ _ refl refl refl refl (omega arith) ((refl, omega arith), tt))))
 service_aside s p a CanTim e = timers_aside s _
-service_aside s p a SchdWk e = tested_aside s (scheduled s p (number a.a1) (number a.a2)) (process_test s p (number a.a0)) (λ q. of_outcomes s (exceeds s p (ast_need true)) _ _ (idle s) (opened s _ _ refl refl refl refl (omega arith) ((refl, omega arith), tt)))
+service_aside s p a SchdWk e = tested_aside s (scheduled s p (number a.a1) (number a.a2)) (process_test s p (number a.a0)) (λ q. of_outcomes s (exceeds s p (ast_need true)) _ _ (idle s) (with_opened s _ _ refl refl refl refl (omega arith) ((refl, omega arith), tt)))
 service_aside s p a CanWak e = tested_aside s (unscheduled s) (process_test s p (number a.a0)) (λ q. timers_aside s (is_wake_for q))
 service_aside s p a Hiber e = of_outcomes s (process_at s p).wake_pending _ _ (changed s p (with_wake false) [] refl tt) (changed s p (with_wait (Some wait.Hiber)) [] refl tt)
 service_aside s p a Wake e = tested_aside s (changed_process s (with_wake true)) (process_test s p (number a.a0)) (λ q. changed s q (with_wake true) [] refl tt)
 service_aside s p a Suspnd e = tested_aside s (changed_process s (with_suspension true)) (process_test s p (number a.a0)) (λ q. changed s q (with_suspension true) [] refl tt)
 service_aside s p a Resume e = tested_aside s (changed_process s (with_suspension false)) (process_test s p (number a.a0)) (λ q. changed s q (with_suspension false) [] refl tt)
-service_aside s p a ForceX e = tested_aside s (forced s (number a.a1)) (process_test s p (number a.a0)) (λ q. then s (Rattle.vx_record.specs.State.past_id s) _ (effect.Open (Rattle.vx_record.specs.State.next_id s) Rattle.vx_base.specs.declared.effects.Opened.TheVariants.Force q _ 0 ∷ []) _ (opened s _ _ refl refl refl refl (omega arith) ((refl, omega arith), tt)) (que_aside _ q _))
+service_aside s p a ForceX e = tested_aside s (forced s (number a.a1)) (process_test s p (number a.a0)) (λ q. then s (past_id s) _ (effect.Open (next_id s) opened.Force q _ 0 ∷ []) _ (with_opened s _ _ refl refl refl refl (omega arith) ((refl, omega arith), tt)) (que_aside _ q _))
 service_aside s p a CrePrc e = let o = creprc s p (decl_place s (text a.a1)) in numbered_aside s p (place a.a0) (part_of o) o.answer (of_outcomes s (nat_le 1000 (length s.procs)) _ _ (idle s) (new_aside s p (decl_place s (text a.a1))))
 service_aside s p a DelPrc e = tested_aside s (deleted_by s) (process_test s p (number a.a0)) (λ q. deleted_aside s q)
 service_aside s p a Exit e = exited_aside s p (number a.a0)
 service_aside s p a DclExh e =
-    let new = Rattle.vx_record.specs.Rundown.new_handler s p (routine s p a.a0 0) in
+    let new = new_handler s p (routine s p a.a0 0) in
     of_outcomes s (is_kernel (current s p)) _ _ (idle s)
-    (then s (Rattle.vx_record.specs.State.past_id s) _ (effect.Open new.id Rattle.vx_base.specs.declared.effects.Opened.TheVariants.Exh p _ 0 ∷ []) [] (opened s _ _ refl refl refl refl (omega arith) ((refl, omega arith), tt)) (changed (Rattle.vx_record.specs.State.past_id s) p (Rattle.vx_record.specs.Rundown.with_handler new) [] refl tt))
+    (then s (past_id s) _ (effect.Open new.id opened.Exh p _ 0 ∷ []) [] (with_opened s _ _ refl refl refl refl (omega arith) ((refl, omega arith), tt)) (changed (past_id s) p (with_handler new) [] refl tt))
 service_aside s p a CanExh e = of_outcomes s (is_kernel (current s p)) _ _ (idle s) (cancel_handlers_aside s p (routine_or_none s p a.a0 0))
 service_aside s p a Synch e =
     let w = wait.Synch (number a.a0) (number a.a1) in
     of_outcomes s (nat_lt 32 (number a.a1)) (refused_wait s BadParam) (at_flag s p (number a.a0) (refused_wait s) (waits_on s p w)) (idle s) (waits_aside s p (number a.a0) w)
-service_aside s p a GetTim e = changed s p (with_variable (place a.a0) (Rattle.vx_record.specs.Timers.gettim s)) _ refl (tt, tt)
+service_aside s p a GetTim e = changed s p (with_variable (place a.a0) (gettim s)) _ refl (tt, tt)
 service_aside s p a v e = absurd (let never : true ≡ false = e in cc)

@@ -1,34 +1,36 @@
 -- Mailboxes, channels and requests, in the state and in the records: what agrees, and what keeps it.
-use Rattle.std.proofs.Common.{◌⊎◌, inl, inr, ◌≡◌, ◌≢◌, ℕ, zero, suc, ◌+◌, ◌-◌, ◌<◌, ◌≤◌, List, [], ◌∷◌, ◌++◌, Bool, true, false, cond, not, ◌==◌, ◌&&◌, ◌||◌, length, Option, Some, None, map, refl, sym, ap, ◌∙◌, subst, arith, get_or, set, is_some, IsTrue}
-use Rattle.std.proofs.lemmas.Bool.{eq-eqb, eqb-true, ne_eqb, cases_eq}
-use Rattle.std.proofs.lemmas.List.{get_or-set_same, get_or-set_other}
+use Rattle.std.proofs.Common.{inl, inr, ◌≡◌, ◌≢◌, ℕ, zero, suc, ◌+◌, ◌<◌, ◌≤◌, List, [], ◌∷◌, Bool, true, false, ◌==◌, ◌&&◌, ◌||◌, length, Option, Some, None, map, refl, sym, ap, ◌∙◌, subst, arith, get_or, set, is_some, IsTrue}
+use Rattle.std.proofs.lemmas.Bool.{ne_eqb, cases_eq}
 use Rattle.std.proofs.lemmas.Grind.{get_or-set_at}
+use Rattle.std.proofs.lemmas.List.{get_or-set_other}
 use Rattle.std.proofs.lemmas.Slice.Eq.{bytes_eq-Decides}
-use Rattle.std.proofs.Math.ListN.{length-set}
-use Rattle.std.specs.Prelude.{option_map, bytes_eq, ⊤}
 use Rattle.std.specs.List.{AllByRecursion, list_any}
+use Rattle.std.specs.Prelude.{option_map, ⊤}
 use Rattle.vx_base.specs.Pieces.{Channel, Request, Mailbox}
-use Rattle.vx_base.specs.declared.effects.Effect.{Effect}
 use Rattle.vx_base.specs.declared.effects.Effect.TheVariants as effect
+use Rattle.vx_base.specs.declared.effects.Effect.{Effect}
 use Rattle.vx_base.specs.declared.mode.Mode.{Mode}
 use Rattle.vx_base.specs.declared.number.BoxNo.{BoxNo}
 use Rattle.vx_base.specs.declared.number.Id.{Id}
 use Rattle.vx_base.specs.declared.number.Pid.{Pid}
+use Rattle.vx_base.specs.declared.record.Answer.{Answer}
 use Rattle.vx_base.specs.declared.record.Event.TheVariants as event
-use Rattle.vx_base.specs.declared.request.Device.{Device}
+use Rattle.vx_base.specs.declared.record.Event.{Event}
 use Rattle.vx_base.specs.declared.request.Device.TheVariants as device
+use Rattle.vx_base.specs.declared.request.Device.{Device}
 use Rattle.vx_base.specs.declared.request.Msg.{Msg}
+use Rattle.vx_record.proofs.Lists.{either, either_by, all_weaker, all_both, ordered_below}
 use Rattle.vx_record.specs.Channels.{is_box_of, is_unit_of}
-use Rattle.vx_record.specs.Mailboxes.{mailbox_at, or_no_box, with_messages}
+use Rattle.vx_record.specs.Charges.{is_same}
+use Rattle.vx_record.specs.Mailboxes.{or_no_box}
 use Rattle.vx_record.specs.Services.{number, function}
 use Rattle.vx_record.specs.Sound.{AreOrdered, MayBeServed, request_id}
 use Rattle.vx_record.specs.State.{State, box_at, with_box}
-use Rattle.vx_record.proofs.Lists.{either, either_by, all_weaker, all_both, ordered_below}
-use Rattle.vx_laws.specs.Agrees.{as_stored, device_title}
+use Rattle.vx_laws.proofs.Aside.{row, IsAside, Aside}
+use Rattle.vx_laws.specs.Agrees.{as_stored, box_stands, device_title}
 use Rattle.vx_laws.specs.Boxes.{stored}
 use Rattle.vx_laws.specs.Items.{Item, Head, Did, Calling, later, latest_call}
-use Rattle.vx_laws.specs.Lives.{Life, life, lived, subject, is_about, device_name, named_in, or_earlier, is_request}
-use Rattle.vx_laws.proofs.Aside.{row, IsAside, Aside}
+use Rattle.vx_laws.specs.Lives.{Life, life, lived, subject, is_about, device_name, named_in, or_earlier}
 
 -- How an id was opened: by which process and call, and on which device.
 pub record Origin : Type 0 where
@@ -125,6 +127,7 @@ pub record Boxed (s : State) (past : List Item) : Type 0 where
   pub requests : AllByRecursion (Rooted s past) s.requests
   pub boxes : (b : BoxNo) (box : Mailbox) → box_at s b ≡ Some box → BoxIs s past b box
   pub others : (name : List ℕ) → list_any (is_box_of name) s.boxes ≡ false → stored past name ≡ []
+  pub stands : (name : List ℕ) → list_any (is_box_of name) s.boxes ≡ box_stands past name
 
 -- From one state and past to another, where devices that are there stay.
 pub record Carried (s t : State) (past after : List Item) : Type 0 where
@@ -186,14 +189,15 @@ box_on s t past after b box c same alone k = record {
 }
 
 -- nothing of it changes
-pub carry : (s t : State) (past after : List Item) → Carried s t past after → t.boxes ≡ s.boxes → ((p : Pid) (n : ℕ) → row t p n ≡ row s p n) → ((name : List ℕ) → stored after name ≡ stored past name) → AreOrdered request_id 0 t.next t.requests → AllByRecursion (Rooted t after) t.requests → Boxed s past → Boxed t after
-carry s t past after c boxes rows same ordered requests h = record {
+pub carry : (s t : State) (past after : List Item) → Carried s t past after → t.boxes ≡ s.boxes → ((p : Pid) (n : ℕ) → row t p n ≡ row s p n) → ((name : List ℕ) → stored after name ≡ stored past name) → ((name : List ℕ) → box_stands after name ≡ box_stands past name) → AreOrdered request_id 0 t.next t.requests → AllByRecursion (Rooted t after) t.requests → Boxed s past → Boxed t after
+carry s t past after c boxes rows same bits ordered requests h = record {
   counted = omega (arith, h.counted, c.next);
   ordered = ordered;
   rows = rows_on s t past after c (λ p n ch above one e. sym (rows p n) ∙ e) h.rows;
   requests = requests;
   boxes = λ b box e. box_on s t past after b box c (same box.name) (λ d other f. (h.boxes b box (at b e)).alone d other (at d f)) (h.boxes b box (at b e));
   others = λ name e. same name ∙ h.others name (ap (λ (l : List (Option Mailbox)). list_any (is_box_of name) l) (sym boxes) ∙ e);
+  stands = λ name. ap (λ (l : List (Option Mailbox)). list_any (is_box_of name) l) boxes ∙ (h.stands name ∙ sym (bits name));
 }
   where
     at : {o : Option Mailbox} (b : BoxNo) → box_at t b ≡ o → box_at s b ≡ o
@@ -228,13 +232,21 @@ stored_past n (x ∷ xs) past name h = stored_past n xs (Did x ∷ past) name h.
     at (effect.Mbx a b) e = absurd e
     at x e = refl
 
+pub bits_past : (n : ℕ) (es : List Effect) (past : List Item) (name : List ℕ) → AllByRecursion (IsAside n) es → box_stands (later past (map Did es)) name ≡ box_stands past name
+bits_past n [] past name h = refl
+bits_past n (x ∷ xs) past name h = bits_past n xs (Did x ∷ past) name h.1 ∙ at x h.0
+  where
+    at : (x : Effect) → IsAside n x → box_stands (Did x ∷ past) name ≡ box_stands past name
+    at (effect.Mbx a b) e = absurd e
+    at x e = refl
+
 -- in the record of a call that names no device
 pub devices_past : (es : List Effect) (past : List Item) (p : Pid) (n : ℕ) → named_in (latest_call past) ≡ None → device_name (later past (map Did es)) p n ≡ device_name past p n
 devices_past [] past p n calm = refl
 devices_past (x ∷ xs) past p n calm = devices_past xs (Did x ∷ past) p n calm ∙ at x
   where
     at : (x : Effect) → device_name (Did x ∷ past) p n ≡ device_name past p n
-    at (effect.Var q v m) = either (λ (o : Option (List ℕ)). o ≡ device_name past p n) (Rattle.vx_record.specs.Charges.is_same q p && (m == n)) _ _ (ap (λ (o : Option (List ℕ)). or_earlier o (device_name past p n)) calm) refl
+    at (effect.Var q v m) = either (λ (o : Option (List ℕ)). o ≡ device_name past p n) (is_same q p && (m == n)) _ _ (ap (λ (o : Option (List ℕ)). or_earlier o (device_name past p n)) calm) refl
     at x = refl
 
 pub aside_carried : (s t : State) (es : List Effect) (past : List Item) → Aside s es t → named_in (latest_call past) ≡ None → Carried s t past (later past (map Did es))
@@ -250,14 +262,14 @@ aside_carried s t es past k calm = record {
 pub aside_boxed : (s t : State) (es : List Effect) (past : List Item) → Aside s es t → named_in (latest_call past) ≡ None → Boxed s past → Boxed t (later past (map Did es))
 aside_boxed s t es past k calm h =
     let c = aside_carried s t es past k calm in
-    carry s t past (later past (map Did es)) c k.boxes k.rows (λ name. stored_past s.next es past name k.effects) (subst (λ (l : List Request). AreOrdered request_id 0 t.next l) (sym k.requests) (ordered_below request_id 0 s.next t.next s.requests k.next h.ordered))
+    carry s t past (later past (map Did es)) c k.boxes k.rows (λ name. stored_past s.next es past name k.effects) (λ name. bits_past s.next es past name k.effects) (subst (λ (l : List Request). AreOrdered request_id 0 t.next l) (sym k.requests) (ordered_below request_id 0 s.next t.next s.requests k.next h.ordered))
     (subst (λ (l : List Request). AllByRecursion (Rooted t (later past (map Did es))) l) (sym k.requests) (all_rooted s t past (later past (map Did es)) c k.rows s.requests h.requests)) h
 
 -- A head opens nothing and puts nothing.
-pub head_boxed : (s : State) (past : List Item) (e : Rattle.vx_base.specs.declared.record.Event.Event) (a : Rattle.vx_base.specs.declared.record.Answer.Answer) → Boxed s past → Boxed s (Head e a ∷ past)
+pub head_boxed : (s : State) (past : List Item) (e : Event) (a : Answer) → Boxed s past → Boxed s (Head e a ∷ past)
 head_boxed s past e a h =
     let c : Carried s s past (Head e a ∷ past) = record { system = refl; there = λ d k. k; titles = λ d k. refl; next = omega arith; origins = λ id k. origin_on (Head e a) past id tt; devices = λ p n. refl } in
-    carry s s past (Head e a ∷ past) c refl (λ p n. refl) (λ name. refl) h.ordered (all_rooted s s past (Head e a ∷ past) c (λ p n. refl) s.requests h.requests) h
+    carry s s past (Head e a ∷ past) c refl (λ p n. refl) (λ name. refl) (λ name. refl) h.ordered (all_rooted s s past (Head e a ∷ past) c (λ p n. refl) s.requests h.requests) h
 
 -- The messages of a mailbox that stands.
 
@@ -290,6 +302,14 @@ any_at p (x ∷ xs) (suc i) d k e = or_second (p x) (list_any p xs) (any_at p xs
     or_second true b h = refl
     or_second false b h = h
 
+pub any_index : {A : Type 0} (p : A → Bool) (xs : List A) (d : A) → list_any p xs ≡ true → (i : ℕ) × (p (get_or xs i d) ≡ true)
+any_index p [] d e = absurd (let never : false ≡ true = e in cc)
+any_index p (x ∷ xs) d e = at (p x) refl (any_index p xs d) e
+  where
+    at : (b : Bool) → p x ≡ b → (list_any p xs ≡ true → (i : ℕ) × (p (get_or xs i d) ≡ true)) → (b || list_any p xs) ≡ true → (i : ℕ) × (p (get_or (x ∷ xs) i d) ≡ true)
+    at true is rest k = (zero, is)
+    at false is rest k = let found = rest k in (suc found.0, found.1)
+
 some_same : {A : Type 0} (x y : A) → Some x ≡ Some y → x ≡ y
 some_same x y e = cc
 
@@ -301,8 +321,8 @@ pub put_there : (s : State) (b c : BoxNo) (o : Option Mailbox) → c.0 ≡ b.0 �
 put_there s b c o same k = get_or-set_at s.boxes b.0 c.0 o None same k
 
 pub restock : (s : State) (b : BoxNo) (box new : Mailbox) (past after : List Item) → box_at s b ≡ Some box → new.name ≡ box.name → ((id : Id) → origin_of after id ≡ origin_of past id) → ((p : Pid) (n : ℕ) → device_name after p n ≡ device_name past p n) →
-    map as_stored new.messages ≡ stored after box.name → ((name : List ℕ) → name ≢ box.name → stored after name ≡ stored past name) → AreOrdered message_id 0 s.next new.messages → AllByRecursion (λ m. owner_of past m.id ≡ Some m.writer) new.messages → Boxed s past → Boxed (with_box s b (Some new)) after
-restock s b box new past after is title origins devices here else ids writers h = record {
+    map as_stored new.messages ≡ stored after box.name → ((name : List ℕ) → name ≢ box.name → stored after name ≡ stored past name) → ((name : List ℕ) → box_stands after name ≡ box_stands past name) → AreOrdered message_id 0 s.next new.messages → AllByRecursion (λ m. owner_of past m.id ≡ Some m.writer) new.messages → Boxed s past → Boxed (with_box s b (Some new)) after
+restock s b box new past after is title origins devices here else bits ids writers h = record {
   counted = h.counted;
   ordered = h.ordered;
   rows = rows_on s t past after c (λ p n ch above one e. e) h.rows;
@@ -311,6 +331,7 @@ restock s b box new past after is title origins devices here else ids writers h 
   others = λ name e.
       let none : list_any (is_box_of name) s.boxes ≡ false = sym (any_kept (is_box_of name) s.boxes b.0 (Some new) None (rw (is, title) refl)) ∙ e in
       else name (λ same. let yes : list_any (is_box_of name) s.boxes ≡ true = any_at (is_box_of name) s.boxes b.0 None within (rw is ((bytes_eq-Decides box.name name).1 (sym same))) in cc) ∙ h.others name none;
+  stands = λ name. any_kept (is_box_of name) s.boxes b.0 (Some new) None (rw (is, title) refl) ∙ (h.stands name ∙ sym (bits name));
 }
   where
     t : State

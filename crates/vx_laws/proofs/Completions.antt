@@ -38,7 +38,8 @@ use Rattle.vx_record.proofs.Apart.{Here, cleared_after, here_after, opened_has}
 use Rattle.vx_laws.proofs.Asked.{calling_of, latest_headed, latest_over, opened_called, step_called}
 use Rattle.vx_record.proofs.Base.{Base}
 use Rattle.vx_laws.proofs.Calls.{Called, Unasked, called_on, is_unasked, moves_called}
-use Rattle.vx_laws.proofs.Calm.{Fine, Tags, is_fine, leave_all_fine, moved_calm, service_calm, tick_calm}
+use Rattle.vx_laws.proofs.Calm.{Fine, Tags, is_fine, moved_calm, tick_calm}
+use Rattle.vx_laws.proofs.CalmServices.{leave_all_fine, service_calm}
 use Rattle.vx_laws.proofs.Cleared.{every_run_blocks_cleared, headed}
 use Rattle.vx_laws.proofs.Completed.{Ready, Still, Told, aloof_ends, aloof_others, ends_both, ends_then, finish_ends, lone, others_told, told_after}
 use Rattle.vx_laws.proofs.Done.{is_other}

@@ -1,64 +1,58 @@
 -- Messages are put, handed out and withdrawn as the law of mailboxes asks.
-use Rattle.std.proofs.Common.{◌⊎◌, inl, inr, ◌≡◌, ◌≢◌, ℕ, zero, suc, ◌+◌, ◌-◌, ◌<◌, ◌≤◌, List, [], ◌∷◌, ◌++◌, Bool, true, false, cond, not, ◌==◌, ◌&&◌, ◌||◌, nat_lt, length, take, Option, Some, None, map, refl, sym, ap, ◌∙◌, subst, arith, get_or, is_some, IsTrue}
-use Rattle.std.proofs.lemmas.Bool.{eq-eqb, eqb-true, and_parts, and_from, cases_eq, lt-ltb}
-use Rattle.std.proofs.lemmas.List.{append_assoc, map-append}
+use Rattle.std.proofs.Common.{◌≡◌, ℕ, ◌+◌, List, [], ◌∷◌, ◌++◌, Bool, true, false, cond, not, ◌==◌, ◌&&◌, nat_lt, length, Option, Some, None, map, refl, sym, ap, ◌∙◌, subst, arith}
+use Rattle.std.proofs.lemmas.Bool.{eq-eqb, and_from, lt-ltb}
+use Rattle.std.proofs.lemmas.List.{map-append}
 use Rattle.std.proofs.lemmas.Slice.Eq.{bytes_eq-Decides}
-use Rattle.std.specs.Prelude.{option_map, bytes_eq, ⊤}
-use Rattle.std.specs.List.{AllByRecursion, find, list_any, list_all}
+use Rattle.std.specs.List.{AllByRecursion, list_all}
+use Rattle.std.specs.Prelude.{bytes_eq, ⊤}
 use Rattle.vx_base.specs.Lists.{less}
-use Rattle.vx_base.specs.Pieces.{Request, Mailbox, Status}
-use Rattle.vx_base.specs.Cond.{name_of}
-use Rattle.vx_base.specs.Queues.{body_bytes}
-use Rattle.vx_base.specs.declared.cond.Cond.{Cond}
-use Rattle.vx_base.specs.declared.cond.Cond.TheVariants.{Cancel as Cancelled}
-use Rattle.vx_base.specs.declared.effects.Effect.{Effect}
+use Rattle.vx_base.specs.Pieces.{Request, Mailbox, Status, Promised}
+use Rattle.vx_base.specs.declared.effects.Cell.{Cell}
 use Rattle.vx_base.specs.declared.effects.Effect.TheVariants as effect
+use Rattle.vx_base.specs.declared.effects.Effect.{Effect}
 use Rattle.vx_base.specs.declared.number.BoxNo.{BoxNo}
 use Rattle.vx_base.specs.declared.number.Id.{Id}
 use Rattle.vx_base.specs.declared.number.Pid.{Pid}
-use Rattle.vx_base.specs.declared.request.Body.{Body}
-use Rattle.vx_base.specs.declared.request.Body.TheVariants as body
-use Rattle.vx_base.specs.declared.request.Func.{Func}
 use Rattle.vx_base.specs.declared.request.Msg.{Msg}
-use Rattle.vx_record.specs.Charges.{is_same}
-use Rattle.vx_record.specs.Finish.{Ending, is_read, this_request, status_of, finish, finish_found, buf_part}
+use Rattle.vx_record.proofs.Ground.{at_set}
+use Rattle.vx_record.proofs.Lists.{either, all_append, all_less, ordered_less, ordered_more}
+use Rattle.vx_record.specs.Finish.{Ending, is_read, status_of, done_ast_part, iosb_part, with_stored_bytes}
 use Rattle.vx_record.specs.Flags.{cell, flag_where_named}
-use Rattle.vx_record.specs.Mailboxes.{mailbox_at, waits_at, this_message, mput_part, mget_part, mcut_part, read_ending, received, write_done, write_ending}
-use Rattle.vx_record.specs.Parts.{Part, nothing, tells, and_then}
-use Rattle.vx_record.specs.State.{State, process_at, change, box_at, with_box}
+use Rattle.vx_record.specs.Mailboxes.{mailbox_at, this_message, mput_part, mget_part, mcut_part, or_no_box}
+use Rattle.vx_record.specs.Parts.{Part, nothing, tells}
 use Rattle.vx_record.specs.Sound.{AreOrdered}
-use Rattle.vx_record.proofs.Lists.{either, either_by, all_weaker, all_append, all_less, all_find, ordered_less, ordered_more, false_from, apart_bools}
-use Rattle.vx_laws.specs.Agrees.{as_stored, device_title}
-use Rattle.vx_laws.specs.Boxes.{Stored, this_stored, stored, stored_at}
-use Rattle.vx_laws.specs.Items.{Item, Did, Calling, later, latest_call, effects_left, is_cond, is_id}
-use Rattle.vx_laws.specs.Lives.{Life, life, lives}
-use Rattle.vx_laws.specs.MessageLaw.{handles_messages, takes_oldest, told_reader, counts_right, puts_bytes, read_bytes, read_cond}
-use Rattle.vx_laws.specs.StatusLaw.{to_next_fin}
-use Rattle.vx_laws.proofs.Boxed.{origin_on, Rooted, BoxIs, Boxed, restock, put_there, message_id, some_within}
+use Rattle.vx_record.specs.State.{State, change, box_at, with_box}
+use Rattle.vx_laws.proofs.Boxed.{origin_on, Boxed, restock, message_id, origin_of, owner_of}
+use Rattle.vx_laws.proofs.Passing.{Fewer, stored_less, mailbox_is, behind_fin, behind_buf, behind_iosb, behind_flag, behind_ast, finish_tail}
 use Rattle.vx_laws.proofs.Rows.{not_named}
-use Rattle.vx_laws.proofs.Passing.{Right, Lawful, Walk, walk_then, finish_walk, found_walk, IsPlainCall, Fewer, lives_origin, lives_owner, stored_less, mailbox_is, behind_fin, behind_buf, behind_iosb, behind_flag, behind_ast, finish_tail}
+use Rattle.vx_laws.specs.Agrees.{as_stored, box_stands}
+use Rattle.vx_laws.specs.Boxes.{Stored, this_stored, stored}
+use Rattle.vx_laws.specs.Items.{Item, Did}
+use Rattle.vx_laws.specs.Lives.{device_name}
+use Rattle.vx_laws.specs.MessageLaw.{counts_right, puts_bytes}
+use Rattle.vx_laws.specs.StatusLaw.{to_next_fin}
 
 -- A message is taken out.
 
-pub less_boxed : (s : State) (b : BoxNo) (box : Mailbox) (w : Id) (past after : List Item) → box_at s b ≡ Some box → ((id : Id) → Rattle.vx_laws.proofs.Boxed.origin_of after id ≡ Rattle.vx_laws.proofs.Boxed.origin_of past id) →
-    ((p : Pid) (n : ℕ) → Rattle.vx_laws.specs.Lives.device_name after p n ≡ Rattle.vx_laws.specs.Lives.device_name past p n) → ((name : List ℕ) → stored after name ≡ cond (bytes_eq box.name name) (less (this_stored w) (stored past name)) (stored past name)) → Boxed s past →
+pub less_boxed : (s : State) (b : BoxNo) (box : Mailbox) (w : Id) (past after : List Item) → box_at s b ≡ Some box → ((id : Id) → origin_of after id ≡ origin_of past id) →
+    ((p : Pid) (n : ℕ) → device_name after p n ≡ device_name past p n) → ((name : List ℕ) → stored after name ≡ cond (bytes_eq box.name name) (less (this_stored w) (stored past name)) (stored past name)) → ((name : List ℕ) → box_stands after name ≡ box_stands past name) → Boxed s past →
     Boxed (with_box s b (Some (record (mailbox_at s b) { messages = less (this_message w) (mailbox_at s b).messages }))) after
-less_boxed s b box w past after is origins devices puts h =
+less_boxed s b box w past after is origins devices puts bits h =
     let k = h.boxes b box is in
     let m = mailbox_is s b box is in
     let new : Mailbox = record (mailbox_at s b) { messages = less (this_message w) (mailbox_at s b).messages } in
     restock s b box new past after is (ap (λ (x : Mailbox). x.name) m) origins devices
     (rw m (stored_less w box.messages ∙ (ap (less (this_stored w)) k.messages ∙ sym (puts box.name ∙ rw ((bytes_eq-Decides box.name box.name).1 refl) refl))))
-    (λ name differ. puts name ∙ rw (not_named box.name name (λ same. differ (sym same))) refl)
-    (rw m (ordered_less message_id (this_message w) 0 s.next box.messages k.ids)) (rw m (all_less (λ (x : Msg). Rattle.vx_laws.proofs.Boxed.owner_of past x.id ≡ Some x.writer) (this_message w) box.messages k.writers)) h
+    (λ name differ. puts name ∙ rw (not_named box.name name (λ same. differ (sym same))) refl) bits
+    (rw m (ordered_less message_id (this_message w) 0 s.next box.messages k.ids)) (rw m (all_less (λ (x : Msg). owner_of past x.id ≡ Some x.writer) (this_message w) box.messages k.writers)) h
 
 pub got_boxed : (s : State) (b : BoxNo) (box : Mailbox) (m : Msg) (r : Id) (past : List Item) → box_at s b ≡ Some box → Boxed s past → Boxed (mget_part s b m r).after (Did (effect.MGet (mailbox_at s b).name m.id r) ∷ past)
 got_boxed s b box m r past is h =
-    less_boxed s b box m.id past _ is (λ id. origin_on (Did (effect.MGet (mailbox_at s b).name m.id r)) past id tt) (λ p n. refl) (λ name. ap (λ (x : Mailbox). cond (bytes_eq x.name name) (less (this_stored m.id) (stored past name)) (stored past name)) (mailbox_is s b box is)) h
+    less_boxed s b box m.id past _ is (λ id. origin_on (Did (effect.MGet (mailbox_at s b).name m.id r)) past id tt) (λ p n. refl) (λ name. ap (λ (x : Mailbox). cond (bytes_eq x.name name) (less (this_stored m.id) (stored past name)) (stored past name)) (mailbox_is s b box is)) (λ name. refl) h
 
 pub cut_boxed : (s : State) (b : BoxNo) (box : Mailbox) (w : Id) (past : List Item) → box_at s b ≡ Some box → Boxed s past → Boxed (mcut_part s b w).after (Did (effect.MCut (mailbox_at s b).name w) ∷ past)
 cut_boxed s b box w past is h =
-    less_boxed s b box w past _ is (λ id. origin_on (Did (effect.MCut (mailbox_at s b).name w)) past id tt) (λ p n. refl) (λ name. ap (λ (x : Mailbox). cond (bytes_eq x.name name) (less (this_stored w) (stored past name)) (stored past name)) (mailbox_is s b box is)) h
+    less_boxed s b box w past _ is (λ id. origin_on (Did (effect.MCut (mailbox_at s b).name w)) past id tt) (λ p n. refl) (λ name. ap (λ (x : Mailbox). cond (bytes_eq x.name name) (less (this_stored w) (stored past name)) (stored past name)) (mailbox_is s b box is)) (λ name. refl) h
 
 less_empty : {A : Type 0} (p : A → Bool) (xs : List A) → xs ≡ [] → less p xs ≡ []
 less_empty p xs e = ap (less p) e
@@ -67,12 +61,12 @@ pub less_fewer : (s : State) (b : BoxNo) (w : Id) → Fewer s (with_box s b (Som
 less_fewer s b w = record { reads = λ c e. e; empty = λ c e. at c e }
   where
     at : (c : BoxNo) → (mailbox_at s c).messages ≡ [] → (mailbox_at (with_box s b (Some (record (mailbox_at s b) { messages = less (this_message w) (mailbox_at s b).messages }))) c).messages ≡ []
-    at c e = Rattle.vx_record.proofs.Ground.at_set (λ (x y : Option Mailbox). (Rattle.vx_record.specs.Mailboxes.or_no_box x).messages ≡ [] → (Rattle.vx_record.specs.Mailboxes.or_no_box y).messages ≡ []) (λ x k. k) s.boxes b.0 c.0 (Some (record (mailbox_at s b) { messages = less (this_message w) (mailbox_at s b).messages })) None
+    at c e = at_set (λ (x y : Option Mailbox). (or_no_box x).messages ≡ [] → (or_no_box y).messages ≡ []) (λ x k. k) s.boxes b.0 c.0 (Some (record (mailbox_at s b) { messages = less (this_message w) (mailbox_at s b).messages })) None
         (λ k. ap (less (this_message w)) k) e
 
 -- A message is put.
 
-pub put_boxed : (s : State) (b : BoxNo) (box : Mailbox) (m : Msg) (past : List Item) → box_at s b ≡ Some box → AreOrdered message_id 0 m.id.0 box.messages → m.id.0 + 1 ≡ s.next → Rattle.vx_laws.proofs.Boxed.owner_of past m.id ≡ Some m.writer → Boxed s past →
+pub put_boxed : (s : State) (b : BoxNo) (box : Mailbox) (m : Msg) (past : List Item) → box_at s b ≡ Some box → AreOrdered message_id 0 m.id.0 box.messages → m.id.0 + 1 ≡ s.next → owner_of past m.id ≡ Some m.writer → Boxed s past →
     Boxed (mput_part s b m).after (Did (effect.MPut (mailbox_at s b).name m.id m.body) ∷ past)
 put_boxed s b box m past is olds new_id writer h =
     let k = h.boxes b box is in
@@ -84,9 +78,9 @@ put_boxed s b box m past is olds new_id writer h =
     let here : map as_stored (box.messages ++ m ∷ []) ≡ stored (x ∷ past) box.name = map-append as_stored box.messages (m ∷ []) ∙ (ap (λ (l : List Stored). l ++ as_stored m ∷ []) k.messages ∙ sym (puts box.name ∙ mine)) in
     restock s b box new past (x ∷ past) is (ap (λ (y : Mailbox). y.name) same) (λ id. origin_on x past id tt) (λ p n. refl)
     (subst (λ (y : Mailbox). map as_stored (y.messages ++ m ∷ []) ≡ stored (x ∷ past) box.name) (sym same) here)
-    (λ name differ. puts name ∙ rw (not_named box.name name (λ e. differ (sym e))) refl)
+    (λ name differ. puts name ∙ rw (not_named box.name name (λ e. differ (sym e))) refl) (λ name. refl)
     (rw same (subst (λ (n : ℕ). AreOrdered message_id 0 n (box.messages ++ m ∷ [])) new_id (ordered_more message_id 0 m.id.0 box.messages m refl olds)))
-    (rw same (all_append (λ (y : Msg). Rattle.vx_laws.proofs.Boxed.owner_of past y.id ≡ Some y.writer) box.messages (m ∷ []) k.writers (writer, tt))) h
+    (rw same (all_append (λ (y : Msg). owner_of past y.id ≡ Some y.writer) box.messages (m ∷ []) k.writers (writer, tt))) h
 
 -- A read takes a message: what stands behind its FIN.
 
@@ -142,27 +136,27 @@ bytes_told n w p k bytes a b true rest more is h quiet = at bytes is
     at [] is = absurd (let never : true ≡ false = is in cc)
     at (y ∷ ys) is = let z = tells (effect.Buf p k (y ∷ ys)) b in record { puts = and_from _ _ (eq-eqb p.0 p.0 refl) ((bytes_eq-Decides (y ∷ ys) (y ∷ ys)).1 refl); counts = counts_all n w (rest z) more (h z) quiet }
 
-iosb_rest : (n : ℕ) (w : Pid) (s : State) (p : Pid) (i : ℕ) (st : Status) → st.count ≡ n → st.info ≡ w.0 → AllByRecursion (IsRest n w) (Rattle.vx_record.specs.Finish.iosb_part s p i st).effects
+iosb_rest : (n : ℕ) (w : Pid) (s : State) (p : Pid) (i : ℕ) (st : Status) → st.count ≡ n → st.info ≡ w.0 → AllByRecursion (IsRest n w) (iosb_part s p i st).effects
 iosb_rest n w s p i st c f = either (λ (x : Part). AllByRecursion (IsRest n w) x.effects) (not (i == 0)) _ (nothing s) (and_from (st.count == n) (st.info == w.0) (eq-eqb st.count n c) (eq-eqb st.info w.0 f), tt) tt
 
-flag_rest : (n : ℕ) (w : Pid) (s : State) (o : Option Rattle.vx_base.specs.declared.effects.Cell.Cell) → AllByRecursion (IsRest n w) (flag_where_named s o true).effects
+flag_rest : (n : ℕ) (w : Pid) (s : State) (o : Option Cell) → AllByRecursion (IsRest n w) (flag_where_named s o true).effects
 flag_rest n w s None = tt
 flag_rest n w s (Some c) = (tt, tt)
 
-ast_rest : (n : ℕ) (w : Pid) (s : State) (r : Request) (o : Option Rattle.vx_base.specs.Pieces.Promised) → AllByRecursion (IsRest n w) (Rattle.vx_record.specs.Finish.done_ast_part s r.req o).effects
+ast_rest : (n : ℕ) (w : Pid) (s : State) (r : Request) (o : Option Promised) → AllByRecursion (IsRest n w) (done_ast_part s r.req o).effects
 ast_rest n w s r None = tt
 ast_rest n w s r (Some a) = (tt, tt)
 
 -- what a finish tells behind the place of its bytes
 abbrev rest_of : Request → Ending → Part → List Effect
 rest_of r e x =
-    let y = Rattle.vx_record.specs.Finish.iosb_part x.after r.req.p r.req.iosb (status_of e) in
+    let y = iosb_part x.after r.req.p r.req.iosb (status_of e) in
     let z = flag_where_named y.after (cell y.after r.req.p r.req.efn) true in
-    (y.effects ++ z.effects) ++ (Rattle.vx_record.specs.Finish.done_ast_part z.after r.req r.ast).effects
+    (y.effects ++ z.effects) ++ (done_ast_part z.after r.req r.ast).effects
 
 rest_is : (n : ℕ) (w : Pid) (r : Request) (e : Ending) → e.0.count ≡ n → e.1 ≡ w.0 → (x : Part) → AllByRecursion (IsRest n w) (rest_of r e x)
 rest_is n w r e c f x =
-    let y = Rattle.vx_record.specs.Finish.iosb_part x.after r.req.p r.req.iosb (status_of e) in
+    let y = iosb_part x.after r.req.p r.req.iosb (status_of e) in
     let z = flag_where_named y.after (cell y.after r.req.p r.req.efn) true in
     all_append (IsRest n w) (y.effects ++ z.effects) _ (all_append (IsRest n w) y.effects z.effects (iosb_rest n w x.after r.req.p r.req.iosb (status_of e) c f) (flag_rest n w y.after (cell y.after r.req.p r.req.efn))) (ast_rest n w z.after r r.ast)
 
@@ -176,6 +170,6 @@ shift (x ∷ a) b c d m = ap (λ (l : List Effect). x ∷ l) (shift a b c d m)
 pub finish_told : (s : State) (r : Request) (e : Ending) (w : Pid) (more : List Effect) → is_read r.req.func ≡ true → e.0.count ≡ length e.0.bytes → e.1 ≡ w.0 → is_quiet more ≡ true → BytesTold (length e.0.bytes) w r.req.p e.0.bytes (finish_tail s r e ++ more)
 finish_told s r e w more reads count info quiet =
     let a = (behind_fin s r e).after in
-    let told = bytes_told (length e.0.bytes) w r.req.p r.req.buf e.0.bytes a (change a r.req.p (Rattle.vx_record.specs.Finish.with_stored_bytes r.req.buf e.0.bytes)) (is_read r.req.func && nat_lt 0 e.0.count) (rest_of r e) more
+    let told = bytes_told (length e.0.bytes) w r.req.p r.req.buf e.0.bytes a (change a r.req.p (with_stored_bytes r.req.buf e.0.bytes)) (is_read r.req.func && nat_lt 0 e.0.count) (rest_of r e) more
     (reads_where (is_read r.req.func) e.0.count (length e.0.bytes) reads count) (rest_is (length e.0.bytes) w r e count info) quiet in
     subst (λ (l : List Effect). BytesTold (length e.0.bytes) w r.req.p e.0.bytes l) (sym (shift (behind_buf s r e).effects (behind_iosb s r e).effects (behind_flag s r e).effects (behind_ast s r e).effects more)) told

@@ -1,34 +1,34 @@
 -- Rundown, as the law of mailboxes asks.
-use Rattle.std.proofs.Common.{◌≡◌, ℕ, zero, suc, ◌+◌, ◌-◌, ◌<◌, ◌≤◌, List, [], ◌∷◌, ◌++◌, Bool, true, false, cond, not, ◌==◌, ◌&&◌, length, Option, Some, None, map, refl, sym, ap, ◌∙◌, subst, arith, get_or}
-use Rattle.std.proofs.lemmas.Bool.{eq-eqb, eqb-true, and_parts, and_from}
-use Rattle.std.specs.List.{AllByRecursion, find, list_any}
+use Rattle.std.proofs.Common.{◌≡◌, ℕ, zero, suc, ◌+◌, ◌-◌, ◌≤◌, List, [], ◌∷◌, ◌++◌, true, false, ◌==◌, ◌&&◌, Option, Some, None, map, refl, sym, ap, ◌∙◌, subst, arith, get_or}
+use Rattle.std.proofs.lemmas.Bool.{eqb-true, and_parts, and_from}
+use Rattle.std.specs.List.{AllByRecursion, find}
 use Rattle.vx_base.specs.Channels.{channel_at, is_reached, reached_from, channels_of}
 use Rattle.vx_base.specs.Modes.{reaches}
 use Rattle.vx_base.specs.Pieces.{Channel, Handler, Request}
-use Rattle.vx_base.specs.declared.effects.Effect.{Effect}
 use Rattle.vx_base.specs.declared.effects.Effect.TheVariants as effect
-use Rattle.vx_base.specs.declared.frame.Phase.{Phase}
+use Rattle.vx_base.specs.declared.effects.Effect.{Effect}
 use Rattle.vx_base.specs.declared.frame.Phase.TheVariants as phase
+use Rattle.vx_base.specs.declared.frame.Phase.{Phase}
 use Rattle.vx_base.specs.declared.mode.Mode.{Mode}
 use Rattle.vx_base.specs.declared.number.Pid.{Pid}
 use Rattle.vx_base.specs.declared.record.Answer.{Answer}
-use Rattle.vx_base.specs.declared.request.Device.{Device}
 use Rattle.vx_base.specs.declared.request.Device.TheVariants as device
+use Rattle.vx_base.specs.declared.request.Device.{Device}
+use Rattle.vx_record.proofs.Lists.{either_by, all_weaker, all_both, none_passes, false_from, apart_bools}
+use Rattle.vx_record.proofs.SoundChannels.{is_on_box}
 use Rattle.vx_record.specs.Cancel.{is_request_on}
 use Rattle.vx_record.specs.Channels.{free_channel}
 use Rattle.vx_record.specs.Charges.{is_same}
-use Rattle.vx_record.specs.Parts.{Part, Outcome, nothing, and_then, each, part_of, followed_by}
-use Rattle.vx_record.specs.Rundown.{cancel_one, free_one, is_timer_in, is_wake_by, cancel_modes, drop_asts, part_with, release, keeps_busy, is_busy, drain, draining, cancelled_in, run_handlers, handling, run_down, inner_modes, rundown_from, gone, drop_all_handlers, gone_part, any_handler, is_handler_of, in_phase, entering, handler_frame}
-use Rattle.vx_record.specs.State.{Process, State, nobody, process_at, change}
+use Rattle.vx_record.specs.Parts.{Part, Outcome, nothing, and_then, each, part_of}
+use Rattle.vx_record.specs.Rundown.{cancel_one, free_one, is_timer_in, is_wake_by, cancel_modes, drop_asts, part_with, release, keeps_busy, is_busy, drain, draining, cancelled_in, run_handlers, handling, run_down, inner_modes, rundown_from, gone, drop_all_handlers, gone_part, any_handler, is_handler_of, in_phase, entering, handler_frame, entered}
+use Rattle.vx_record.specs.State.{State, nobody, process_at}
 use Rattle.vx_record.specs.Timers.{drop_timers, is_wake_for}
-use Rattle.vx_record.proofs.Lists.{either, either_by, all_weaker, all_both, none_passes, false_from, apart_bools}
-use Rattle.vx_record.proofs.SoundChannels.{is_on_box}
-use Rattle.vx_laws.specs.Items.{Item, Did, later}
-use Rattle.vx_laws.proofs.Aside.{row, Aside, PartAside, idle, changed, timers_aside, handlers_aside, part_with_aside, asts_aside}
+use Rattle.vx_laws.proofs.Aside.{row, PartAside, changed, timers_aside, handlers_aside, part_with_aside, asts_aside}
 use Rattle.vx_laws.proofs.Boxed.{IsOn, Rooted, Boxed}
 use Rattle.vx_laws.proofs.Passing.{Walk, walk_then, walk_aside, walk_nothing, IsPlainCall, plain_over, still_boxed, fewer_then, fewer_same}
 use Rattle.vx_laws.proofs.Rows.{IsClear}
 use Rattle.vx_laws.proofs.Withdrawn.{cancel_channel_walk, free_walk, free_rows, free_requests}
+use Rattle.vx_laws.specs.Items.{Item, Did, later}
 
 -- The numbers of the channels of a mode and outer ones.
 
@@ -134,7 +134,7 @@ run_handlers_walk s past p m next None more above k calm h =
     let a = cancelled_in s p m in
     let one = cancelled_in_walk s past p m ((drain p m next a.after).effects ++ more) calm h in
     walk_then s past a (λ t. part_of (drain p m next t)) more one (drain_walk a.after (later past (map Did a.effects)) p m next more above k (plain_over past a.effects calm) one.boxed)
-run_handlers_walk s past p m next (Some d) more above k calm h = walk_aside s past (part_of (Rattle.vx_record.specs.Rundown.entered s p d)) more (changed s p (entering (handler_frame s p d) d.id) (effect.Enter d.id ∷ []) refl (tt, tt)) calm h
+run_handlers_walk s past p m next (Some d) more above k calm h = walk_aside s past (part_of (entered s p d)) more (changed s p (entering (handler_frame s p d) d.id) (effect.Enter d.id ∷ []) refl (tt, tt)) calm h
 
 gone_walk : (s : State) (past : List Item) (p : Pid) (more : List Effect) → IsPlainCall past → Boxed s past → Walk s past (part_of (gone s p)) more
 gone_walk s past p more calm h =

@@ -1,155 +1,101 @@
 -- In every run messages are put, handed out and withdrawn as the law of mailboxes asks.
-use Rattle.std.proofs.Common.{◌≡◌, ℕ, ◌+◌, List, [], ◌∷◌, ◌++◌, false, not, ◌==◌, Option, Some, None, Result, Ok, Err, map, refl, sym, ap, ◌∙◌, subst}
-use Rattle.std.proofs.lemmas.Bool.{eq-eqb}
-use Rattle.std.specs.Prelude.{Contains}
-use Rattle.std.specs.List.{AllByRecursion}
-use Rattle.vx_base.specs.Pieces.{Queued, Channel, Request}
-use Rattle.vx_base.specs.Queues.{front, in_service}
+use Rattle.std.proofs.Common.{◌≡◌, ℕ, ◌+◌, List, [], ◌∷◌, ◌++◌, false, not, Option, Some, None, Result, Ok, Err, map, refl, sym, ap, ◌∙◌, subst, replicate, ◌-◌, ◌≤◌, arith, true, IsTrue, is_some, cond, zero, suc, append-nil, ◌&&◌, ◌||◌, Bool, position, is_none, get_or}
+use Rattle.std.proofs.lemmas.Bool.{or_right, leb-true, and_parts, and_from}
+use Rattle.std.proofs.lemmas.List.Quantifiers.{position-Some}
+use Rattle.std.proofs.lemmas.Slice.Eq.{bytes_eq-Decides}
+use Rattle.std.specs.List.{AllByRecursion, find, list_any}
+use Rattle.std.specs.Prelude.{Contains, option_map, bytes_eq}
+use Rattle.vx_base.proofs.First.{none_at}
+use Rattle.vx_base.specs.Channels.{channel_at, free_from}
+use Rattle.vx_base.specs.Cond.{number_of}
+use Rattle.vx_base.specs.Lists.{amend}
+use Rattle.vx_base.specs.Modes.{outer}
+use Rattle.vx_base.specs.Pieces.{Queued, Channel, Request, Mailbox}
+use Rattle.vx_base.specs.Queues.{front, in_service, is_served_by, waits_for, is_unit}
 use Rattle.vx_base.specs.Serving.{serve, settled}
 use Rattle.vx_base.specs.declared.call.Args.{Args}
 use Rattle.vx_base.specs.declared.call.Call.{Call}
+use Rattle.vx_base.specs.declared.call.Target.{Target}
 use Rattle.vx_base.specs.declared.cond.Cond.{Cond}
 use Rattle.vx_base.specs.declared.effects.Cell.{Cell}
-use Rattle.vx_base.specs.declared.effects.Effect.{Effect}
 use Rattle.vx_base.specs.declared.effects.Effect.TheVariants as effect
-use Rattle.vx_base.specs.declared.effects.Opened.{Opened}
-use Rattle.vx_base.specs.declared.effects.Opened.TheVariants as opened
+use Rattle.vx_base.specs.declared.effects.Effect.{Effect}
 use Rattle.vx_base.specs.declared.frame.Frame.{Frame}
-use Rattle.vx_base.specs.declared.frame.Wait.{Wait}
+use Rattle.vx_base.specs.declared.frame.FrameKind.{FrameKind}
+use Rattle.vx_base.specs.declared.frame.FrameKind.TheVariants as kind
 use Rattle.vx_base.specs.declared.frame.Wait.TheVariants as wait
+use Rattle.vx_base.specs.declared.frame.Wait.{Wait}
 use Rattle.vx_base.specs.declared.mode.Mode.{Mode}
+use Rattle.vx_base.specs.declared.number.BoxNo.{BoxNo}
 use Rattle.vx_base.specs.declared.number.Pid.{Pid}
 use Rattle.vx_base.specs.declared.number.UnitNo.{UnitNo}
-use Rattle.vx_base.specs.declared.record.Answer.{Answer}
 use Rattle.vx_base.specs.declared.record.Answer.TheVariants as answer
-use Rattle.vx_base.specs.declared.record.Event.{Event}
+use Rattle.vx_base.specs.declared.record.Answer.{Answer}
 use Rattle.vx_base.specs.declared.record.Event.TheVariants as event
+use Rattle.vx_base.specs.declared.record.Event.{Event}
 use Rattle.vx_base.specs.declared.record.Rec.{Rec}
-use Rattle.vx_base.specs.declared.request.Device.{Device}
 use Rattle.vx_base.specs.declared.request.Device.TheVariants as device
-use Rattle.vx_base.specs.declared.routine.Entry.{Entry}
-use Rattle.vx_base.specs.declared.service.Service.{Service}
-use Rattle.vx_base.specs.declared.service.Service.TheVariants as service
-use Rattle.vx_image.specs.Local.{advanced}
-use Rattle.vx_image.specs.declared.stop.Stop.{Stop}
-use Rattle.vx_image.specs.declared.stop.Stop.TheVariants as stop
-use Rattle.vx_image.specs.declared.system.System.{System}
-use Rattle.vx_record.specs.State.{State, process_at, change, image_of, unit_at, next_id}
-use Rattle.vx_record.specs.Parts.{Part, Outcome, nothing}
-use Rattle.vx_record.specs.Charges.{is_direct, is_attention}
-use Rattle.vx_record.specs.Flags.{flag_part, wait_condition, awaited_at}
-use Rattle.vx_record.specs.Finish.{this_request}
-use Rattle.vx_record.specs.Requests.{Asked, new_request, new_attention, cleared_part, opened_request, begun_on, transfer, attention_on, asked_of, accepted, request_test, qio_tested, qiow_tested, taken_up, unit_ending, with_unit}
-use Rattle.vx_record.specs.Asts.{deliverable_ast}
-use Rattle.vx_record.specs.Events.{enabled, step, moved_to, moved_behind, served_call, called, returned, run_on, reader, run_frame, run, delivered, beg, don}
-use Rattle.vx_record.specs.Rundown.{without_ast}
-use Rattle.vx_record.specs.Runs.{after, after_from, first, AreSteps, IsRun}
-use Rattle.vx_record.specs.Services.{number, asked, service_of, at_once}
-use Rattle.vx_record.specs.declared.served.Served.{Served}
-use Rattle.vx_record.specs.declared.served.Served.TheVariants.{Answered, Waits}
-use Rattle.vx_record.proofs.Lists.{either, either_by, all_append, all_amend}
-use Rattle.vx_laws.specs.Items.{Item, Head, Did, flat, later, past_of, Calling, latest_call}
-use Rattle.vx_laws.specs.Agrees.{AsCalled}
-use Rattle.vx_record.proofs.Moves.{Moves, OutcomeMoves, PartMoves, moved}
-use Rattle.vx_record.proofs.Apart.{Here, HasRoom, here_after, cleared_after, room_after, attention_room, begun_on_moves, opened_has}
-use Rattle.vx_record.proofs.Steps.{returned_moves}
-use Rattle.vx_record.proofs.Told.{attention_on_moves, opened_request_moves, awaited_moves, service_moves, started_moves, step_moves}
-use Rattle.vx_record.proofs.Base.{Base, change_of, moves_keep}
-use Rattle.vx_laws.proofs.Calls.{Called, called_on, called_new, Unasked, plain_unasked, moves_called, new_else}
-use Rattle.vx_laws.proofs.Cleared.{headed, attention_first, returned_plain, started_plain}
-use Rattle.vx_laws.proofs.Kept.{later_both}
-use Rattle.vx_record.proofs.Locals.{advanced_statuses}
-use Rattle.vx_laws.proofs.Plain.{Plain, join, nil, one, part_of_two, begun_plain, awaited_plain, tick_plain, rundown_plain, finish_plain, service_plain}
-use Rattle.vx_laws.proofs.Runs.{enabled_there, step_right, first_base, first_stands}
-use Rattle.vx_laws.proofs.Stands.{Stands}
-use Rattle.vx_laws.proofs.Turns.{later_items}
-
-use Rattle.std.proofs.Common.{◌+◌, ◌-◌, ◌<◌, ◌≤◌, arith, true, IsTrue, is_some, cond, zero, suc, append-nil, not, ◌&&◌, ◌||◌, Bool}
-use Rattle.std.specs.Prelude.{option_map}
-use Rattle.std.specs.List.{find, list_any}
-use Rattle.std.proofs.lemmas.Bool.{leb-true, and_parts, eqb-true}
-use Rattle.std.proofs.lemmas.Slice.Eq.{bytes_eq-Decides}
-use Rattle.vx_base.specs.Lists.{less}
-use Rattle.vx_base.specs.Pieces.{Mailbox}
-use Rattle.vx_base.specs.declared.number.BoxNo.{BoxNo}
-use Rattle.vx_base.specs.declared.number.Id.{Id}
-use Rattle.vx_base.specs.declared.request.Func.{Func}
+use Rattle.vx_base.specs.declared.request.Device.{Device}
 use Rattle.vx_base.specs.declared.request.Msg.{Msg}
-use Rattle.vx_record.specs.Finish.{is_read, this_request}
-use Rattle.vx_record.specs.Mailboxes.{mailbox_at, is_box, is_waiting_func, waits_at, read_box, take_message, write_box, message_of}
-use Rattle.vx_record.specs.Channels.{channel_test}
-use Rattle.vx_record.specs.Requests.{is_bad, has_function, is_too_long, is_full, device_test, on_channel, on_cell, with_request}
-use Rattle.vx_record.specs.Charges.{request_need, exceeds}
-use Rattle.vx_record.specs.Flags.{cell}
-use Rattle.vx_record.specs.Parts.{tells, and_then}
-use Rattle.vx_record.specs.Sound.{AreOrdered, MayBeServed, request_id}
-use Rattle.vx_record.specs.State.{past_id, box_at}
-use Rattle.vx_record.proofs.Lists.{all_weaker}
-use Rattle.vx_record.proofs.SoundRequests.{tested_channel}
-use Rattle.vx_laws.specs.Agrees.{as_stored, device_title}
-use Rattle.vx_laws.specs.Boxes.{Stored, stored, stored_at, asks, oldest_read}
-use Rattle.vx_laws.specs.Items.{effects_left}
-use Rattle.vx_laws.specs.Lives.{life, lives, is_request, device_name, named_in, is_outstanding}
-use Rattle.vx_laws.specs.MessageLaw.{reads_where_stored, takes_stored, is_taken_by}
-use Rattle.vx_laws.proofs.Aside.{row, Aside, attention_on_aside, cleared_aside, awaited_aside, changed}
-use Rattle.vx_laws.proofs.Boxed.{Origin, origin_of, origin_on, IsThere, IsOn, Rooted, BoxIs, Boxed, Carried, carry, all_rooted, there_as, title_as, aside_boxed, head_boxed}
-use Rattle.vx_laws.proofs.Kept.{moves_stand}
-use Rattle.vx_laws.proofs.Listed.{Listed, moves_listed}
-use Rattle.vx_laws.proofs.Oldest.{oldest_is}
-use Rattle.vx_laws.proofs.Opens.{requests_told}
-use Rattle.vx_laws.proofs.Passing.{Right, Lawful, lawful_both, Walk, walk_then, walk_aside, IsPlainCall, plain_over, latest_over, Fewer, fewer_same, IsSingle, single_on, unit_stores, mailbox_is, Serving, serving, serving_then, serving_on, aside_lawful}
-use Rattle.vx_laws.proofs.Served.{Newest, Writes, read_serving, write_serving, wait_no_get, taken_none}
-use Rattle.vx_record.proofs.Moves.{Moves}
-
-use Rattle.std.proofs.lemmas.List.Quantifiers.{position-Some}
-use Rattle.std.proofs.Common.{position, is_none, nat_lt, get_or, length, inl, inr}
-use Rattle.std.proofs.lemmas.Bool.{and_from, cases_eq}
-use Rattle.std.specs.Prelude.{bytes_eq, ⊤}
-use Rattle.vx_base.specs.Channels.{channel_at, free_from}
-use Rattle.vx_base.specs.Modes.{outer}
-use Rattle.vx_base.specs.declared.call.Target.{Target}
-use Rattle.vx_base.specs.declared.cond.Cond.TheVariants.{Normal, Cancel as Cancelled}
-use Rattle.vx_base.proofs.First.{none_at}
-use Rattle.vx_base.specs.Lists.{amend}
-use Rattle.vx_base.specs.Queues.{is_served_by, waits_for, is_on, is_unit}
-use Rattle.vx_record.specs.Cancel.{cancel_channel, cancel_at, dassgn_at}
-use Rattle.vx_record.specs.Channels.{is_unit_of, is_box_of, unit_named, box_named, unit_or_box, unit_number, box_number, device_named, with_channel, assigned, free_channel_of, assign_at, assign_to, assign, is_bad_box, new_box, box_made, make_box, make_box_in, create_box, find_or_create, crembx, marked_box, delete_box, delmbx_on, delmbx_at, free_channel}
-use Rattle.vx_record.specs.Events.{with_r0, resumed_with, uses_wake, started}
-use Rattle.vx_record.specs.Runs.{born_of, born_from}
+use Rattle.vx_base.specs.declared.service.Service.TheVariants as service
+use Rattle.vx_base.specs.declared.service.Service.{Service}
+use Rattle.vx_image.specs.Local.{advanced}
 use Rattle.vx_image.specs.declared.decl.ProcDecl.{ProcDecl}
-use Rattle.vx_record.proofs.Lists.{all_get}
-use Rattle.vx_base.specs.Cond.{number_of}
-use Rattle.vx_record.specs.Flags.{wait_condition, awaited_at}
-use Rattle.vx_record.specs.Finish.{finish}
-use Rattle.vx_record.specs.Mailboxes.{or_no_box}
-use Rattle.vx_record.specs.Parts.{at_tested, answered, refused, part_of}
-use Rattle.vx_record.specs.Requests.{begun}
-use Rattle.vx_record.specs.Services.{var_part, valued, numbered_at, place, text, access_mode, with_variable}
-use Rattle.vx_record.specs.State.{Process, nobody, with_box, no_unit_decl, current}
-use Rattle.vx_record.specs.Timers.{tick}
+use Rattle.vx_image.specs.declared.stop.Stop.TheVariants as stop
+use Rattle.vx_image.specs.declared.stop.Stop.{Stop}
+use Rattle.vx_image.specs.declared.system.System.{System}
 use Rattle.vx_record.proofs.Ground.{at_set}
-use Rattle.vx_record.proofs.Lists.{none_passes, find_passes, all_set}
-use Rattle.vx_laws.specs.Items.{at_each, flat}
-use Rattle.vx_laws.specs.Lives.{names_device}
-use Rattle.vx_laws.specs.MessageLaw.{handles_messages, messages, is_stored_nowhere}
+use Rattle.vx_record.proofs.Lists.{either, either_by, all_find, or_none, ordered_amend, all_weaker, all_get, find_passes}
+use Rattle.vx_record.proofs.SoundRequests.{tested_channel}
+use Rattle.vx_record.specs.Asts.{deliverable_ast}
+use Rattle.vx_record.specs.Cancel.{cancel_channel, cancel_at, dassgn_at}
+use Rattle.vx_record.specs.Channels.{channel_test, is_unit_of, is_box_of, unit_named, box_named, unit_or_box, unit_number, box_number, device_named, assigned, free_channel_of, assign_at, assign_to, is_bad_box, new_box, make_box, make_box_in, find_or_create, crembx, marked_box, delmbx_on, delmbx_at, free_channel}
+use Rattle.vx_record.specs.Events.{enabled, step, moved_to, moved_behind, served_call, called, returned, run_on, reader, run_frame, run, delivered, beg, don, or_normal, returned_from, with_r0, resumed_with, uses_wake, started}
+use Rattle.vx_record.specs.Finish.{this_request, finish}
+use Rattle.vx_record.specs.Flags.{wait_condition, awaited_at, with_wait}
+use Rattle.vx_record.specs.Mailboxes.{mailbox_at, waits_at, or_no_box}
+use Rattle.vx_record.specs.Parts.{Part, Outcome, nothing, and_then, at_tested, answered, part_of}
+use Rattle.vx_record.specs.Requests.{accepted, request_test, qio_tested, qiow_tested, taken_up, unit_ending, with_unit, begun}
+use Rattle.vx_record.specs.Rundown.{without_ast}
+use Rattle.vx_record.specs.Runs.{after, after_from, first, AreSteps, IsRun, born_of, born_from}
+use Rattle.vx_record.specs.Services.{number, asked, service_of, at_once, numbered_at, place, text, access_mode, with_variable}
+use Rattle.vx_record.specs.Sound.{AreOrdered, MayBeServed, request_id}
+use Rattle.vx_record.specs.State.{State, process_at, change, image_of, unit_at, box_at, Process, nobody, with_box, no_unit_decl, current}
+use Rattle.vx_record.specs.Timers.{tick}
+use Rattle.vx_record.specs.declared.served.Served.TheVariants.{Answered, Waits}
+use Rattle.vx_record.specs.declared.served.Served.{Served}
 use Rattle.vx_laws.proofs.Accepted.{IsAsking, Going, accepted_serving}
-use Rattle.vx_laws.proofs.Aside.{idle, same, is_near, service_aside, returned_aside, started_aside, tick_aside}
-use Rattle.vx_laws.proofs.Boxed.{restock, put_there, was_there, some_within, any_at, kept_at, message_id}
+use Rattle.vx_record.proofs.Apart.{Here, here_after}
+use Rattle.vx_laws.proofs.Aside.{row, Aside, awaited_aside, changed, PartAside, free_rows, then, same, is_near, service_aside, returned_aside, started_aside, tick_aside}
+use Rattle.vx_record.proofs.Base.{Base}
+use Rattle.vx_laws.proofs.Boxed.{Origin, IsThere, Rooted, Boxed, Carried, carry, all_rooted, there_as, title_as, head_boxed, origin, owner_of, restock, put_there, kept_at, message_id}
+use Rattle.vx_laws.proofs.Cleared.{headed}
 use Rattle.vx_record.proofs.Finds.{all_found}
+use Rattle.vx_laws.proofs.Kept.{moves_stand}
+use Rattle.vx_laws.proofs.Listed.{moves_listed}
+use Rattle.vx_record.proofs.Locals.{advanced_statuses}
 use Rattle.vx_laws.proofs.Lowered.{rundown_walk}
+use Rattle.vx_record.proofs.Moves.{Moves, moved}
 use Rattle.vx_laws.proofs.Newest.{Further, step_further, first_further}
-use Rattle.vx_laws.proofs.Passing.{aside_lawful, finish_walk, still_boxed, serving_still, walk_nothing, finish_fewer, MayFin}
+use Rattle.vx_laws.proofs.Passing.{Lawful, walk_then, walk_aside, IsPlainCall, fewer_same, IsSingle, single_on, mailbox_is, Serving, serving, finish_walk, still_boxed, serving_still, MayFin}
+use Rattle.vx_laws.proofs.Plain.{one}
 use Rattle.vx_laws.proofs.Rows.{made_boxed, assigned_boxed}
+use Rattle.vx_laws.proofs.Runs.{enabled_there, step_right, first_base, first_stands, front_found}
 use Rattle.vx_laws.proofs.Served.{find_no}
+use Rattle.vx_laws.proofs.Turns.{later_items}
 use Rattle.vx_laws.proofs.Withdrawn.{cancel_channel_walk, cancel_channel_clear, free_walk, unit_nowhere}
-use Rattle.vx_laws.specs.Agrees.{cluster_of}
+use Rattle.vx_laws.specs.Agrees.{as_stored, device_title, OfChannelCall, is_box_named, box_stands}
+use Rattle.vx_laws.specs.Boxes.{stored}
+use Rattle.vx_laws.specs.Items.{Item, Head, Did, flat, later, past_of, Calling, latest_call, effects_left, at_each}
+use Rattle.vx_laws.specs.Lives.{life, lives, named_in, Life, names_device}
+use Rattle.vx_laws.specs.MessageLaw.{handles_messages, messages, is_stored_nowhere}
 
 -- Records: after each of them mailboxes, channels and requests agree, and no mailbox has both a message and a read.
 
 abbrev RecordServing : List Item → Event → Outcome Answer → Type 0
 RecordServing past e o = Serving (Head e o.answer ∷ past) (part_of o)
 
-aside_serving : (s : State) (past : List Item) (a : Part) → Rattle.vx_laws.proofs.Aside.PartAside s a → IsPlainCall past → Boxed s past → IsSingle s → Serving past a
+aside_serving : (s : State) (past : List Item) (a : Part) → PartAside s a → IsPlainCall past → Boxed s past → IsSingle s → Serving past a
 aside_serving s past a k calm h single = serving s past a (walk_aside s past a [] k calm h) single
 
 -- what an answered service leaves in R0
@@ -307,10 +253,10 @@ crembx_serving s p a past above h single =
     let name = text a.a1 in
     either_by (Numbered s p (place a.a0) c past) (is_bad_box s name (number a.a3) (number a.a4)) _ _ (λ e. refused_numbered s p (place a.a0) c past _ h single)
     (λ e.
-    let unit = (Rattle.vx_record.proofs.Lists.or_none (Rattle.std.specs.Prelude.is_some (unit_named s name)) _ e).0 in
+    let unit = (or_none (is_some (unit_named s name)) _ e).0 in
     find_or_create_serving s p (outer (access_mode a.a5) (current s p)) (new_box name (number a.a2) (number a.a3) (number a.a4)) (box_named s name) (place a.a0) c past refl refl (no_position (is_unit_of name) s.system.units (none_of (unit_named s name) unit)) refl refl above h single)
   where
-    none_of : (o : Option ℕ) → Rattle.std.specs.Prelude.is_some o ≡ false → o ≡ None
+    none_of : (o : Option ℕ) → is_some o ≡ false → o ≡ None
     none_of None e = refl
     none_of (Some n) e = absurd (let never : true ≡ false = e in cc)
 
@@ -325,8 +271,8 @@ marked_serving s past b (Some box) is k h single =
     let name : new.name ≡ box.name = ap (λ (y : Mailbox). y.name) m in
     let same_messages : new.messages ≡ box.messages = ap (λ (y : Mailbox). y.messages) m in
     record {
-      boxed = restock s b box new past past is name (λ id. refl) (λ p n. refl) (ap (map as_stored) same_messages ∙ j.messages) (λ n d. refl) (subst (AreOrdered message_id 0 s.next) (sym same_messages) j.ids)
-          (subst (AllByRecursion (λ (y : Msg). Rattle.vx_laws.proofs.Boxed.owner_of past y.id ≡ Some y.writer)) (sym same_messages) j.writers) h;
+      boxed = restock s b box new past past is name (λ id. refl) (λ p n. refl) (ap (map as_stored) same_messages ∙ j.messages) (λ n d. refl) (λ n. refl) (subst (AreOrdered message_id 0 s.next) (sym same_messages) j.ids)
+          (subst (AllByRecursion (λ (y : Msg). owner_of past y.id ≡ Some y.writer)) (sym same_messages) j.writers) h;
       lawful = tt;
       single = λ c e. kept_at (λ (y : Option Mailbox). (or_no_box y).messages) s.boxes b.0 c.0 (Some new) None refl ∙ single c e;
     }
@@ -436,11 +382,11 @@ returned_plain_call : (s : State) (past : List Item) (p : Pid) (frames : List Fr
 returned_plain_call s past p [] = refl
 returned_plain_call s past p (f ∷ fs) = by_kind f.kind
   where
-    by_kind : (k : Rattle.vx_base.specs.declared.frame.FrameKind.FrameKind) → IsPlainCall (Head (event.Run p) (Rattle.vx_record.specs.Events.returned_from s p f k).answer ∷ past)
-    by_kind Rattle.vx_base.specs.declared.frame.FrameKind.TheVariants.Main = refl
-    by_kind (Rattle.vx_base.specs.declared.frame.FrameKind.TheVariants.Ast id) = refl
-    by_kind Rattle.vx_base.specs.declared.frame.FrameKind.TheVariants.Change = refl
-    by_kind Rattle.vx_base.specs.declared.frame.FrameKind.TheVariants.Handler = refl
+    by_kind : (k : FrameKind) → IsPlainCall (Head (event.Run p) (returned_from s p f k).answer ∷ past)
+    by_kind kind.Main = refl
+    by_kind (kind.Ast id) = refl
+    by_kind kind.Change = refl
+    by_kind kind.Handler = refl
 
 returned_serving : (s : State) (past : List Item) (p : Pid) → Going s past → RecordServing past (event.Run p) (returned s p (process_at s p).frames)
 returned_serving s past p g =
@@ -468,10 +414,10 @@ frame_serving s past p f None here g =
     let m : Moves s None [] t None = moved s None p a.store a.place (advanced_statuses (image_of s p) (reader p f) (process_at s p).store f.pc) in
     on_serving t past p a.place a.stop (here_after s p None [] t None m here) (moved_going s t past m (changed s p (moved_to a.store a.place) [] refl tt) here.base g)
 frame_serving s past p f (Some w) here g =
-    let c = Rattle.vx_record.specs.Events.or_normal (wait_condition s p w) in
+    let c = or_normal (wait_condition s p w) in
     let t = change s p (resumed_with w c) in
     let x = Head (event.Run p) (answer.Resume c) in
-    let k = changed s p (resumed_with w c) [] (used_channels w (Rattle.vx_record.specs.Flags.with_wait None (process_at s p))) tt in
+    let k = changed s p (resumed_with w c) [] (used_channels w (with_wait None (process_at s p))) tt in
     serving_still (x ∷ past) (nothing s) t (nothing_serving s (x ∷ past) (head_boxed s past (event.Run p) (answer.Resume c) g.boxed) g.single) k
 
 run_serving : (s : State) (past : List Item) (p : Pid) (frames : List Frame) → Here s p → Going s past → RecordServing past (event.Run p) (run s p frames)
@@ -493,8 +439,8 @@ don_serving s past u (Some r) is g =
     let k = same s t [] refl refl refl refl refl tt in
     let h = still_boxed s t (x ∷ past) k (head_boxed s past (event.Don u) (answer.Unit r.req.id) g.boxed) in
     let unit = on_unit u r.req.device (and_parts (is_unit u r.req.device) r.served (find_passes (is_served_by u) s.requests r is)).0 in
-    let root = Rattle.vx_record.proofs.Lists.all_find (Rooted t (x ∷ past)) (is_served_by u) s.requests r h.requests is in
-    let may : MayFin (x ∷ past) r.req.id e.0.cond = Rattle.std.proofs.lemmas.Bool.or_right _ (lives (is_stored_nowhere (x ∷ past) r.req.id) (life (x ∷ past) r.req.id)) (unit_nowhere t (x ∷ past) r unit.0 unit.1 root h) in
+    let root = all_find (Rooted t (x ∷ past)) (is_served_by u) s.requests r h.requests is in
+    let may : MayFin (x ∷ past) r.req.id e.0.cond = or_right _ (lives (is_stored_nowhere (x ∷ past) r.req.id) (life (x ∷ past) r.req.id)) (unit_nowhere t (x ∷ past) r unit.0 unit.1 root h) in
     let w = finish_walk t (x ∷ past) r e [] refl may h in
     record { boxed = w.boxed; lawful = w.lawful; single = single_on t (finish t r e).after w.fewer g.single }
 
@@ -502,7 +448,7 @@ amend_found : (P : Request → Type 0) (p : Request → Bool) (f : Request → R
 amend_found P p f [] r e h k = tt
 amend_found P p f (x ∷ xs) r e h k = at (p x) e (λ j. amend_found P p f xs r j h.1 k)
   where
-    at : (b : Bool) → Rattle.std.proofs.Common.cond b (Some x) (find p xs) ≡ Some r → (find p xs ≡ Some r → AllByRecursion P (amend p f xs)) → AllByRecursion P (Rattle.std.proofs.Common.cond b (f x ∷ xs) (x ∷ amend p f xs))
+    at : (b : Bool) → cond b (Some x) (find p xs) ≡ Some r → (find p xs ≡ Some r → AllByRecursion P (amend p f xs)) → AllByRecursion P (cond b (f x ∷ xs) (x ∷ amend p f xs))
     at true j g = let it : x ≡ r = cc in (subst (λ (y : Request). P (f y)) (sym it) k, h.1)
     at false j g = (h.0, g j)
 
@@ -516,15 +462,15 @@ beg_serving s past u (Some r) is g =
     let x = Head (event.Beg u) (answer.Unit r.req.id) in
     let t = begun s r in
     let h = head_boxed s past (event.Beg u) (answer.Unit r.req.id) g.boxed in
-    let there = Rattle.vx_laws.proofs.Runs.front_found u s.requests r is in
+    let there = front_found u s.requests r is in
     let unit = on_unit u r.req.device (and_parts (is_unit u r.req.device) (not r.served) (find_passes (waits_for u) s.requests r there)).0 in
     let c : Carried s t (x ∷ past) (x ∷ past) = record { system = refl; there = there_as s t refl refl; titles = λ d k. title_as s t refl refl d; next = omega arith; origins = λ id k. refl; devices = λ p n. refl } in
     let all = all_rooted s t (x ∷ past) (x ∷ past) c (λ p n. refl) s.requests h.requests in
-    let k = Rattle.vx_record.proofs.Lists.all_find (Rooted t (x ∷ past)) (waits_for u) s.requests r all there in
-    let found = Rattle.vx_record.proofs.Lists.all_find (λ (y : Request). find (this_request y.req.id) s.requests ≡ Some y) (waits_for u) s.requests r (all_found request_id 0 s.next s.requests h.ordered) there in
+    let k = all_find (Rooted t (x ∷ past)) (waits_for u) s.requests r all there in
+    let found = all_find (λ (y : Request). find (this_request y.req.id) s.requests ≡ Some y) (waits_for u) s.requests r (all_found request_id 0 s.next s.requests h.ordered) there in
     let new : Rooted t (x ∷ past) (taken_up r) = record { from = k.from; below = k.below; above = k.above; numbered = k.numbered; there = k.there; on = k.on; free = subst (λ (d : Device). MayBeServed true d) (sym unit.1) tt; call = k.call; is = k.is; func = k.func; len = k.len } in
     record {
-      boxed = carry s t (x ∷ past) (x ∷ past) c refl (λ p n. refl) (λ name. refl) (Rattle.vx_record.proofs.Lists.ordered_amend request_id (this_request r.req.id) taken_up (λ y. refl) 0 s.next s.requests h.ordered)
+      boxed = carry s t (x ∷ past) (x ∷ past) c refl (λ p n. refl) (λ name. refl) (λ name. refl) (ordered_amend request_id (this_request r.req.id) taken_up (λ y. refl) 0 s.next s.requests h.ordered)
           (amend_found (Rooted t (x ∷ past)) (this_request r.req.id) taken_up s.requests r found all new) h;
       lawful = tt;
       single = λ b e. g.single b (sym (any_taken b (this_request r.req.id) s.requests) ∙ e);
@@ -538,7 +484,7 @@ step_serving s past (event.Ast p) c b g = by_queue (deliverable_ast s p)
     by_queue None = nothing_serving s _ (head_boxed s past (event.Ast p) answer.Local g.boxed) g.single
     by_queue (Some q) =
         let t = change s p (without_ast q.id) in
-        let k = Rattle.vx_laws.proofs.Aside.then s t (started t p q q.tag).after [] (started t p q q.tag).effects (changed s p (without_ast q.id) [] refl tt) (started_aside t p q q.tag) in
+        let k = then s t (started t p q q.tag).after [] (started t p q q.tag).effects (changed s p (without_ast q.id) [] refl tt) (started_aside t p q q.tag) in
         aside_serving s (Head (event.Ast p) (answer.Ast q.id) ∷ past) (started t p q q.tag) k refl (head_boxed s past (event.Ast p) (answer.Ast q.id) g.boxed) g.single
 step_serving s past (event.Rdn p) c b g =
     let o = step s (event.Rdn p) in
@@ -575,17 +521,21 @@ run_messages s past (r ∷ rs) k b f g =
 
 -- before the first record there is nothing
 
-no_box_at : (k i : ℕ) → get_or (Rattle.std.proofs.Common.replicate k None) i None ≡ (let o : Option Mailbox = None in o)
+no_box_at : (k i : ℕ) → get_or (replicate k None) i None ≡ (let o : Option Mailbox = None in o)
 no_box_at zero i = refl
 no_box_at (suc k) zero = refl
 no_box_at (suc k) (suc i) = no_box_at k i
+
+no_box_named : (k : ℕ) (name : List ℕ) → list_any (is_box_of name) (replicate k None) ≡ false
+no_box_named zero name = refl
+no_box_named (suc k) name = no_box_named k name
 
 abbrev HasNone : Process → Type 0
 HasNone x = (n : ℕ) → channel_at x.channels n ≡ None
 
 born_free : (at : ℕ) (ds : List ProcDecl) → AllByRecursion HasNone (born_from at ds)
 born_free at [] = tt
-born_free at (d ∷ ds) = either (AllByRecursion HasNone) d.start (born_of at d ∷ born_from (at + 1) ds) (born_from (at + 1) ds) ((λ n. Rattle.vx_laws.proofs.Aside.free_rows 64 (n - 1)), born_free (at + 1) ds) (born_free (at + 1) ds)
+born_free at (d ∷ ds) = either (AllByRecursion HasNone) d.start (born_of at d ∷ born_from (at + 1) ds) (born_from (at + 1) ds) ((λ n. free_rows 64 (n - 1)), born_free (at + 1) ds) (born_free (at + 1) ds)
 
 first_row : (system : System) (p : Pid) (n : ℕ) → row (first system) p n ≡ None
 first_row system p n = all_get HasNone (born_from 0 system.decls) (p.0 - 1) nobody (λ n. refl) (born_free 0 system.decls) n
@@ -601,9 +551,87 @@ first_going system = record {
     requests = tt;
     boxes = λ b box e. absurd (let never : None ≡ Some box = sym (no_box_at 64 b.0) ∙ e in cc);
     others = λ name e. refl;
+    stands = no_box_named 64;
   };
   single = λ b e. absurd (let never : false ≡ true = e in cc);
 }
 
 pub every_run_messages : (system : System) (recs : List Rec) → IsRun system recs → messages recs ≡ true
 every_run_messages system recs run = run_messages (first system) [] recs run.steps (first_base system) (first_further system) (first_going system)
+
+-- After the records of every run.
+
+run_going : (s : State) (past : List Item) (rs : List Rec) → AreSteps s rs → Base s → Further s past → Going s past → Going (after_from s rs) (later past (flat rs))
+run_going s past [] k b f g = g
+run_going s past (r ∷ rs) k b f g =
+    let e = r.event in
+    let one = step_right s past e k.0.enabled b g.stands in
+    let x = Head e (step s e).answer in
+    let es = (step s e).effects in
+    rw (k.0.answer, k.0.effects, later_items (x ∷ past) (map Did es) (flat rs))
+    (run_going (step s e).after (later (x ∷ past) (map Did es)) rs k.1 one.base (step_further s past e k.0.enabled b g.stands f) (going_on s past e k.0.enabled b f g))
+
+every_going : (system : System) (recs : List Rec) → IsRun system recs → Going (after system recs) (past_of recs)
+every_going system recs run = run_going (first system) [] recs run.steps (first_base system) (first_further system) (first_going system)
+
+pub every_box_stands : (system : System) (recs : List Rec) (name : List ℕ) → IsRun system recs → list_any (is_box_named name) (after system recs).boxes ≡ box_stands (past_of recs) name
+every_box_stands system recs name run = same_any (after system recs).boxes ∙ (every_going system recs run).boxed.stands name
+  where
+    same_any : (l : List (Option Mailbox)) → list_any (is_box_named name) l ≡ list_any (is_box_of name) l
+    same_any [] = refl
+    same_any (None ∷ l) = same_any l
+    same_any (Some box ∷ l) = ap (λ (b : Bool). bytes_eq box.name name || b) (same_any l)
+
+pub every_box_stores : (system : System) (recs : List Rec) (b : BoxNo) → IsRun system recs → IsTrue (is_some (box_at (after system recs) b)) → map as_stored (mailbox_at (after system recs) b).messages ≡ stored (past_of recs) (mailbox_at (after system recs) b).name
+every_box_stores system recs b run there = by_box (box_at (after system recs) b) refl there
+  where
+    by_box : (o : Option Mailbox) → box_at (after system recs) b ≡ o → IsTrue (is_some o) → map as_stored (or_no_box o).messages ≡ stored (past_of recs) (or_no_box o).name
+    by_box None e k = absurd (let never : false ≡ true = k in cc)
+    by_box (Some box) e k = ((every_going system recs run).boxed.boxes b box e).messages
+
+pub every_box_writers : (system : System) (recs : List Rec) (b : BoxNo) → IsRun system recs → IsTrue (is_some (box_at (after system recs) b)) → AllByRecursion (λ m. option_map (λ l. l.p) (life (past_of recs) m.id) ≡ Some m.writer) (mailbox_at (after system recs) b).messages
+every_box_writers system recs b run there = by_box (box_at (after system recs) b) refl there
+  where
+    at : (o : Option Life) (p : Pid) → option_map (λ x. x.p) (option_map origin o) ≡ Some p → option_map (λ l. l.p) o ≡ Some p
+    at None p e = absurd (let never : None ≡ Some p = e in cc)
+    at (Some l) p e = e
+
+    by_box : (o : Option Mailbox) → box_at (after system recs) b ≡ o → IsTrue (is_some o) → AllByRecursion (λ m. option_map (λ l. l.p) (life (past_of recs) m.id) ≡ Some m.writer) (or_no_box o).messages
+    by_box None e k = absurd (let never : false ≡ true = k in cc)
+    by_box (Some box) e k =
+        all_weaker (λ (m : Msg). owner_of (past_of recs) m.id ≡ Some m.writer) (λ (m : Msg). option_map (λ l. l.p) (life (past_of recs) m.id) ≡ Some m.writer) (λ m j. at (life (past_of recs) m.id) m.writer j) box.messages
+        ((every_going system recs run).boxed.boxes b box e).writers
+
+pub every_box_apart : (system : System) (recs : List Rec) (b c : BoxNo) → IsRun system recs → IsTrue (is_some (box_at (after system recs) b)) → IsTrue (is_some (box_at (after system recs) c)) → (mailbox_at (after system recs) c).name ≡ (mailbox_at (after system recs) b).name → c ≡ b
+every_box_apart system recs b c run one two = by_boxes (box_at (after system recs) b) (box_at (after system recs) c) refl refl one two
+  where
+    by_boxes : (o u : Option Mailbox) → box_at (after system recs) b ≡ o → box_at (after system recs) c ≡ u → IsTrue (is_some o) → IsTrue (is_some u) → (or_no_box u).name ≡ (or_no_box o).name → c ≡ b
+    by_boxes None u e f j k same = absurd (let never : false ≡ true = j in cc)
+    by_boxes (Some box) None e f j k same = absurd (let never : false ≡ true = k in cc)
+    by_boxes (Some box) (Some other) e f j k same = ap (λ (n : ℕ). let x : BoxNo = record { 0 = n } in x) (((every_going system recs run).boxed.boxes b box e).alone c other f same)
+
+pub every_box_named : (system : System) (recs : List Rec) (b : BoxNo) → IsRun system recs → IsTrue (is_some (box_at (after system recs) b)) → list_any (is_unit_of (mailbox_at (after system recs) b).name) (after system recs).system.units ≡ false
+every_box_named system recs b run there = by_box (box_at (after system recs) b) refl there
+  where
+    by_box : (o : Option Mailbox) → box_at (after system recs) b ≡ o → IsTrue (is_some o) → list_any (is_unit_of (or_no_box o).name) (after system recs).system.units ≡ false
+    by_box None e k = absurd (let never : false ≡ true = k in cc)
+    by_box (Some box) e k = ((every_going system recs run).boxed.boxes b box e).unit
+
+pub every_box_single : (system : System) (recs : List Rec) (b : BoxNo) → IsRun system recs → list_any (waits_at b) (after system recs).requests ≡ true → (mailbox_at (after system recs) b).messages ≡ []
+every_box_single system recs b run e = (every_going system recs run).single b e
+
+pub every_channel : (system : System) (recs : List Rec) (p : Pid) (n : ℕ) → IsRun system recs → 1 ≤ p.0 → 1 ≤ n → OfChannelCall (after system recs) (past_of recs) p n (channel_at (process_at (after system recs) p).channels n)
+every_channel system recs p n run above one = by_row (row (after system recs) p n) refl
+  where
+    by_row : (o : Option Channel) → row (after system recs) p n ≡ o → OfChannelCall (after system recs) (past_of recs) p n o
+    by_row None e = tt
+    by_row (Some ch) e = ((every_going system recs run).boxed.rows p n ch above one e).1
+
+pub every_request_device : (system : System) (recs : List Rec) → IsRun system recs → AllByRecursion (λ r. option_map (λ l. l.device) (life (past_of recs) r.req.id) ≡ Some (Some (device_title (after system recs) r.req.device))) (after system recs).requests
+every_request_device system recs run =
+    all_weaker (Rooted (after system recs) (past_of recs)) (λ (r : Request). option_map (λ l. l.device) (life (past_of recs) r.req.id) ≡ Some (Some (device_title (after system recs) r.req.device)))
+    (λ r k. at (life (past_of recs) r.req.id) _ k.is) (after system recs).requests (every_going system recs run).boxed.requests
+  where
+    at : (o : Option Life) (g : Origin) → option_map origin o ≡ Some g → option_map (λ l. l.device) o ≡ Some g.device
+    at None g e = absurd (let never : None ≡ Some g = e in cc)
+    at (Some l) g e = let same : Some l.device ≡ Some g.device = ap (option_map (λ (x : Origin). x.device)) e in same

@@ -1,30 +1,30 @@
 -- The oldest read that waits at a mailbox is the first in the machine's list.
-use Rattle.std.proofs.Common.{◌≡◌, ◌≢◌, ℕ, zero, suc, ◌+◌, ◌<◌, ◌≤◌, List, [], ◌∷◌, Bool, true, false, cond, ◌==◌, ◌&&◌, ◌||◌, nat_lt, Option, Some, None, refl, sym, ap, ◌∙◌, subst, arith, inl, inr}
-use Rattle.std.proofs.lemmas.Bool.{eq-eqb, eqb-true, and_parts, cases_eq, or_cases}
+use Rattle.std.proofs.Common.{◌≡◌, ℕ, zero, suc, ◌+◌, ◌<◌, ◌≤◌, List, [], ◌∷◌, Bool, true, false, cond, ◌==◌, ◌&&◌, ◌||◌, nat_lt, Option, Some, None, refl, sym, ap, ◌∙◌, subst, arith, inl, inr, IsTrue, get_or, is_some}
+use Rattle.std.proofs.lemmas.Bool.{eq-eqb, eqb-true, and_parts, cases_eq, ltb-true, ltb-false}
 use Rattle.std.proofs.lemmas.Slice.Eq.{bytes_eq-Decides}
-use Rattle.std.specs.Prelude.{option_map, bytes_eq}
 use Rattle.std.specs.List.{AllByRecursion, find, list_any}
+use Rattle.std.specs.Prelude.{option_map, bytes_eq}
 use Rattle.vx_base.specs.Pieces.{Request, Mailbox}
 use Rattle.vx_base.specs.declared.effects.Effect.TheVariants as effect
 use Rattle.vx_base.specs.declared.number.BoxNo.{BoxNo}
 use Rattle.vx_base.specs.declared.number.Id.{Id}
-use Rattle.vx_base.specs.declared.request.Device.{Device}
 use Rattle.vx_base.specs.declared.request.Device.TheVariants as device
-use Rattle.vx_base.specs.declared.request.Func.{Func}
-use Rattle.vx_record.specs.Finish.{this_request}
+use Rattle.vx_base.specs.declared.request.Device.{Device}
+use Rattle.vx_record.proofs.Lists.{either_by, all_weaker, all_from, all_find, false_from, apart_bools, none_passes, all_both, find_passes}
 use Rattle.vx_record.specs.Channels.{is_unit_of}
-use Rattle.vx_record.specs.Mailboxes.{mailbox_at, or_no_box, is_box, is_waiting_func, waits_at}
-use Rattle.vx_record.specs.Services.{function}
-use Rattle.vx_record.specs.State.{State, box_at, no_unit_decl}
+use Rattle.vx_record.specs.Finish.{this_request}
+use Rattle.vx_record.specs.Mailboxes.{mailbox_at, is_box, is_waiting_func, waits_at}
 use Rattle.vx_record.specs.Sound.{AreOrdered, request_id}
-use Rattle.vx_record.proofs.Lists.{either_by, all_weaker, all_from, all_find, false_from, apart_bools, none_passes}
+use Rattle.vx_record.specs.State.{State, box_at, no_unit_decl}
+use Rattle.vx_record.proofs.Base.{Base}
+use Rattle.vx_laws.proofs.Boxed.{Origin, origin, origin_of, origin_on, IsThere, Rooted, Boxed, any_at}
+use Rattle.vx_record.proofs.Finds.{all_found}
+use Rattle.vx_laws.proofs.Passing.{mailbox_is}
+use Rattle.vx_laws.proofs.Served.{find_any, find_no}
 use Rattle.vx_laws.specs.Agrees.{device_title}
 use Rattle.vx_laws.specs.Boxes.{is_at, asks, reads_at, oldest_read}
-use Rattle.vx_laws.specs.Items.{Item, Head, Did, Calling}
-use Rattle.vx_laws.specs.Lives.{Life, life, lives, highest, is_outstanding, least_id, or_this, id_of}
-use Rattle.vx_record.proofs.Base.{Base}
-use Rattle.vx_laws.proofs.Boxed.{Origin, origin, origin_of, origin_on, IsThere, Rooted, BoxIs, Boxed, any_at}
-use Rattle.vx_laws.proofs.Passing.{mailbox_is}
+use Rattle.vx_laws.specs.Items.{Item, Head, Did}
+use Rattle.vx_laws.specs.Lives.{Life, life, lives, highest, is_outstanding, least_id, id_of}
 
 -- The least id that passes.
 
@@ -43,10 +43,10 @@ least_some test (suc n) k a b t h =
 -- An id that was opened is not above the highest.
 
 at_least : (a b : ℕ) → a ≤ cond (nat_lt a b) b a
-at_least a b = either_by (λ (n : ℕ). a ≤ n) (nat_lt a b) b a (λ t. let k = Rattle.std.proofs.lemmas.Bool.ltb-true a b t in omega (arith, k)) (λ f. omega arith)
+at_least a b = either_by (λ (n : ℕ). a ≤ n) (nat_lt a b) b a (λ t. let k = ltb-true a b t in omega (arith, k)) (λ f. omega arith)
 
 at_least_this : (a b : ℕ) → b ≤ cond (nat_lt a b) b a
-at_least_this a b = either_by (λ (n : ℕ). b ≤ n) (nat_lt a b) b a (λ t. omega arith) (λ f. let k = Rattle.std.proofs.lemmas.Bool.ltb-false a b f in omega (arith, k))
+at_least_this a b = either_by (λ (n : ℕ). b ≤ n) (nat_lt a b) b a (λ t. omega arith) (λ f. let k = ltb-false a b f in omega (arith, k))
 
 pub not_above : (past : List Item) (id : Id) (g : Origin) → origin_of past id ≡ Some g → id.0 ≤ highest past
 not_above [] id g e = absurd (let never : None ≡ Some g = e in cc)
@@ -71,13 +71,13 @@ titled s past b box (device.Unit u) is there h =
     false_from _ (λ e. apart_bools _ (any_at (is_unit_of box.name) s.system.units u.0 no_unit_decl there e) (h.boxes b box is).unit)
 titled s past b box (device.Mailbox c) is there h = by_box (box_at s c) refl there
   where
-    by_box : (o : Option Mailbox) → box_at s c ≡ o → Rattle.std.proofs.Common.IsTrue (Rattle.std.proofs.Common.is_some o) → bytes_eq (mailbox_at s c).name box.name ≡ (b.0 == c.0)
+    by_box : (o : Option Mailbox) → box_at s c ≡ o → IsTrue (is_some o) → bytes_eq (mailbox_at s c).name box.name ≡ (b.0 == c.0)
     by_box None e k = absurd (let never : false ≡ true = k in cc)
     by_box (Some other) e k =
         let name : (mailbox_at s c).name ≡ other.name = ap (λ (x : Mailbox). x.name) (mailbox_is s c other e) in
         rw name (bools_same (bytes_eq other.name box.name) (b.0 == c.0)
         (λ t. eq-eqb b.0 c.0 (sym ((h.boxes b box is).alone c other e ((bytes_eq-Decides other.name box.name).0 t))))
-        (λ t. let same : other.name ≡ box.name = (let one : Some other ≡ Some box = sym e ∙ (ap (λ (n : ℕ). Rattle.std.proofs.Common.get_or s.boxes n None) (sym (eqb-true b.0 c.0 t)) ∙ is) in let two : other ≡ box = cc in ap (λ (x : Mailbox). x.name) two) in (bytes_eq-Decides other.name box.name).1 same))
+        (λ t. let same : other.name ≡ box.name = (let one : Some other ≡ Some box = sym e ∙ (ap (λ (n : ℕ). get_or s.boxes n None) (sym (eqb-true b.0 c.0 t)) ∙ is) in let two : other ≡ box = cc in ap (λ (x : Mailbox). x.name) two) in (bytes_eq-Decides other.name box.name).1 same))
 
 -- Reads that wait, by the records.
 
@@ -110,9 +110,10 @@ first_of_all p low high (x ∷ xs) r o e = at (p x) refl (λ k. first_of_all p (
   where
     at : (b : Bool) → p x ≡ b → (find p xs ≡ Some r → AllByRecursion (λ x. p x ≡ true → r.req.id.0 ≤ x.req.id.0) xs) → cond b (Some x) (find p xs) ≡ Some r → (p x ≡ true → r.req.id.0 ≤ x.req.id.0) × AllByRecursion (λ x. p x ≡ true → r.req.id.0 ≤ x.req.id.0) xs
     at true is f k =
-        let same : x ≡ r = cc in
-        ((λ t. let e : x.req.id.0 ≡ r.req.id.0 = ap (λ (y : Request). y.req.id.0) same in omega (arith, e)),
-        all_weaker (λ (y : Request). request_id x + 1 ≤ y.req.id.0) (λ (y : Request). p y ≡ true → r.req.id.0 ≤ y.req.id.0) (λ y low t. let e : x.req.id.0 ≡ r.req.id.0 = ap (λ (y : Request). y.req.id.0) same in omega (arith, e, low)) xs (all_from request_id (request_id x + 1) high xs o.1))
+        let same : x ≡ r = cc in (
+          (λ t. let e : x.req.id.0 ≡ r.req.id.0 = ap (λ (y : Request). y.req.id.0) same in omega (arith, e)),
+          all_weaker (λ (y : Request). request_id x + 1 ≤ y.req.id.0) (λ (y : Request). p y ≡ true → r.req.id.0 ≤ y.req.id.0) (λ y low t. let e : x.req.id.0 ≡ r.req.id.0 = ap (λ (y : Request). y.req.id.0) same in omega (arith, e, low)) xs (all_from request_id (request_id x + 1) high xs o.1),
+        )
     at false is f k = ((λ t. absurd (apart_bools (p x) t is)), f k)
 
 abbrev test_of : List Item → Mailbox → Id → Bool
@@ -133,13 +134,13 @@ oldest_is s past b box is base listed h = by_first (find (waits_at b) s.requests
         out (Some l) k = (and_parts (is_outstanding l) _ k).0
 
     itself : (xs : List Request) (low : ℕ) → AreOrdered request_id low s.next xs → AllByRecursion (λ r. find (this_request r.req.id) xs ≡ Some r) xs
-    itself xs low o = Rattle.vx_record.proofs.Finds.all_found request_id low s.next xs o
+    itself xs low o = all_found request_id low s.next xs o
 
     all_same : AllByRecursion (SameAs s past b box) s.requests
     all_same =
         all_weaker (λ (r : Request). Rooted s past r × (find (this_request r.req.id) s.requests ≡ Some r)) (SameAs s past b box)
-        (λ r k. (reads_is s past b box r is k.0 (sym (listed r.req.id) ∙ Rattle.vx_laws.proofs.Served.find_any (this_request r.req.id) s.requests r k.1) h, k.0)) s.requests
-        (Rattle.vx_record.proofs.Lists.all_both (Rooted s past) (λ (r : Request). find (this_request r.req.id) s.requests ≡ Some r) s.requests h.requests (itself s.requests 0 base.requests))
+        (λ r k. (reads_is s past b box r is k.0 (sym (listed r.req.id) ∙ find_any (this_request r.req.id) s.requests r k.1) h, k.0)) s.requests
+        (all_both (Rooted s past) (λ (r : Request). find (this_request r.req.id) s.requests ≡ Some r) s.requests h.requests (itself s.requests 0 base.requests))
 
     by_first : (o : Option Request) → find (waits_at b) s.requests ≡ o → oldest_read past box.name ≡ option_map (λ (x : Request). x.req.id) o
     by_first None e =
@@ -147,18 +148,18 @@ oldest_is s past b box is base listed h = by_first (find (waits_at b) s.requests
         (λ k one low. false_from ((test_of past box) (id_of k))
         (λ t.
         let found = any_with (this_request (id_of k)) (λ (r : Request). (SameAs s past b box) r × (waits_at b r ≡ false)) s.requests (opened_here (id_of k) t)
-        (Rattle.vx_record.proofs.Lists.all_both (SameAs s past b box) (λ (r : Request). waits_at b r ≡ false) s.requests all_same (none_passes (waits_at b) s.requests (Rattle.vx_laws.proofs.Served.find_no (waits_at b) s.requests e))) in
+        (all_both (SameAs s past b box) (λ (r : Request). waits_at b r ≡ false) s.requests all_same (none_passes (waits_at b) s.requests (find_no (waits_at b) s.requests e))) in
         let same : found.0.req.id.0 ≡ k = eqb-true found.0.req.id.0 k found.1 in
         let yes : (test_of past box) found.0.req.id ≡ true = subst (λ (n : ℕ). (test_of past box) (id_of n) ≡ true) (sym same) t in
         apart_bools (waits_at b found.0) (sym found.2.0.0 ∙ yes) found.2.1))
     by_first (Some r) e =
         let mine = all_find (SameAs s past b box) (waits_at b) s.requests r all_same e in
-        let waits = Rattle.vx_record.proofs.Lists.find_passes (waits_at b) s.requests r e in
+        let waits = find_passes (waits_at b) s.requests r e in
         least_some (test_of past box) (highest past) r.req.id.0 mine.1.from (not_above past r.req.id _ mine.1.is) (mine.0 ∙ waits)
         (λ k one low. false_from ((test_of past box) (id_of k))
         (λ t.
         let found = any_with (this_request (id_of k)) (λ (x : Request). (SameAs s past b box) x × (waits_at b x ≡ true → r.req.id.0 ≤ x.req.id.0)) s.requests (opened_here (id_of k) t)
-        (Rattle.vx_record.proofs.Lists.all_both (SameAs s past b box) (λ (x : Request). waits_at b x ≡ true → r.req.id.0 ≤ x.req.id.0) s.requests all_same (first_of_all (waits_at b) 0 s.next s.requests r base.requests e)) in
+        (all_both (SameAs s past b box) (λ (x : Request). waits_at b x ≡ true → r.req.id.0 ≤ x.req.id.0) s.requests all_same (first_of_all (waits_at b) 0 s.next s.requests r base.requests e)) in
         let same : found.0.req.id.0 ≡ k = eqb-true found.0.req.id.0 k found.1 in
         let yes : (test_of past box) found.0.req.id ≡ true = subst (λ (n : ℕ). (test_of past box) (id_of n) ≡ true) (sym same) t in
         let above = found.2.1 (sym found.2.0.0 ∙ yes) in

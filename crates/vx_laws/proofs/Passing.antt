@@ -1,42 +1,38 @@
 -- What a part of a record does to mailboxes: what agrees goes on, and each effect is as the law of mailboxes asks.
-use Rattle.std.proofs.Common.{◌⊎◌, inl, inr, ◌≡◌, ◌≢◌, ℕ, zero, suc, ◌+◌, ◌-◌, ◌<◌, ◌≤◌, List, [], ◌∷◌, ◌++◌, Bool, true, false, cond, not, ◌==◌, ◌&&◌, ◌||◌, nat_lt, length, take, Option, Some, None, map, refl, sym, ap, ◌∙◌, subst, arith, get_or, is_some, IsTrue, append-nil}
-use Rattle.std.proofs.lemmas.Bool.{eq-eqb, eqb-true, eqb-false, and_parts, and_from, ltb-true}
+use Rattle.std.proofs.Common.{◌≡◌, ℕ, List, [], ◌∷◌, ◌++◌, Bool, true, false, cond, not, ◌==◌, ◌&&◌, ◌||◌, nat_lt, Option, Some, None, map, refl, sym, ap, ◌∙◌, subst, arith, get_or}
 use Rattle.std.proofs.lemmas.List.{append_assoc}
 use Rattle.std.proofs.lemmas.Slice.Eq.{bytes_eq-Decides}
-use Rattle.std.specs.Prelude.{option_map, bytes_eq, ⊤}
-use Rattle.std.specs.List.{AllByRecursion, find, list_any, list_all}
+use Rattle.std.specs.List.{AllByRecursion, list_any}
+use Rattle.std.specs.Prelude.{option_map, ⊤}
 use Rattle.vx_base.specs.Lists.{less}
-use Rattle.vx_base.specs.Pieces.{Request, Promised, Mailbox, Status}
-use Rattle.vx_base.specs.Cond.{name_of}
-use Rattle.vx_base.specs.declared.cond.Cond.{Cond}
+use Rattle.vx_base.specs.Pieces.{Request, Promised, Mailbox}
 use Rattle.vx_base.specs.declared.cond.Cond.TheVariants.{Cancel as Cancelled}
-use Rattle.vx_base.specs.declared.effects.Effect.{Effect}
+use Rattle.vx_base.specs.declared.cond.Cond.{Cond}
 use Rattle.vx_base.specs.declared.effects.Effect.TheVariants as effect
+use Rattle.vx_base.specs.declared.effects.Effect.{Effect}
 use Rattle.vx_base.specs.declared.number.BoxNo.{BoxNo}
 use Rattle.vx_base.specs.declared.number.Id.{Id}
 use Rattle.vx_base.specs.declared.number.Pid.{Pid}
-use Rattle.vx_base.specs.declared.request.Device.{Device}
+use Rattle.vx_base.specs.declared.number.UnitNo.{UnitNo}
 use Rattle.vx_base.specs.declared.request.Device.TheVariants as device
 use Rattle.vx_base.specs.declared.request.Msg.{Msg}
-use Rattle.vx_record.specs.Asts.{que_part, charged_ast}
+use Rattle.vx_record.proofs.Lists.{either, either_by, all_less, false_from, apart_bools, ordered_below, ordered_less}
+use Rattle.vx_record.specs.Asts.{charged_ast}
 use Rattle.vx_record.specs.Channels.{is_box_of, is_unit_of}
-use Rattle.vx_record.specs.Charges.{is_same}
-use Rattle.vx_record.specs.Finish.{Ending, is_read, this_request, fin_part, with_stored_bytes, buf_part, status_of, iosb_part, done_flag_part, done_ast_part, finish, finish_found, finish_id}
+use Rattle.vx_record.specs.Finish.{Ending, is_read, this_request, fin_part, with_stored_bytes, buf_part, status_of, iosb_part, done_ast_part, finish, finish_found}
 use Rattle.vx_record.specs.Flags.{cell, flag_where_named}
-use Rattle.vx_record.specs.Mailboxes.{mailbox_at, waits_at, this_message}
-use Rattle.vx_record.specs.Parts.{Part, nothing, tells, and_then}
-use Rattle.vx_record.specs.State.{State, process_at, change, box_at, with_box, no_unit_decl}
-use Rattle.vx_record.specs.Sound.{AreOrdered}
-use Rattle.vx_record.proofs.Lists.{either, either_by, all_weaker, all_append, all_less, false_from, apart_bools, or_none}
-use Rattle.vx_laws.specs.Agrees.{as_stored, device_title}
-use Rattle.vx_laws.specs.Boxes.{Stored, this_stored, stored, stored_at}
-use Rattle.vx_laws.specs.Items.{Item, Did, Calling, later, latest_call, effects_left, is_cond}
-use Rattle.vx_laws.specs.Lives.{Life, life, lives, is_request, named_in}
-use Rattle.vx_laws.specs.MessageLaw.{handles_messages, is_stored_nowhere, counts_right, puts_bytes}
-use Rattle.vx_laws.specs.StatusLaw.{to_next_fin}
-use Rattle.vx_laws.proofs.Aside.{row, IsAside, Aside, PartAside, idle, changed, then, parts, named_flag_aside, status_aside, que_aside}
-use Rattle.vx_laws.proofs.Boxed.{Origin, origin, origin_of, owner_of, origin_on, IsThere, Rooted, BoxIs, Boxed, Carried, carry, all_rooted, there_as, title_as, any_at, some_within, aside_boxed}
+use Rattle.vx_record.specs.Mailboxes.{mailbox_at, waits_at, this_message, or_no_box}
+use Rattle.vx_record.specs.Parts.{Part, nothing, and_then}
+use Rattle.vx_record.specs.Sound.{AreOrdered, request_id}
+use Rattle.vx_record.specs.State.{State, box_at, no_unit_decl}
+use Rattle.vx_laws.proofs.Aside.{IsAside, Aside, PartAside, idle, changed, then, named_flag_aside, status_aside, que_aside}
+use Rattle.vx_laws.proofs.Boxed.{any_index, Origin, origin, origin_on, IsThere, Rooted, Boxed, Carried, carry, all_rooted, there_as, title_as, any_at, aside_boxed}
 use Rattle.vx_laws.proofs.Kept.{later_both}
+use Rattle.vx_laws.specs.Agrees.{as_stored, device_title}
+use Rattle.vx_laws.specs.Boxes.{this_stored, stored}
+use Rattle.vx_laws.specs.Items.{Item, Did, Calling, later, latest_call, effects_left, is_cond}
+use Rattle.vx_laws.specs.Lives.{Life, life, lives, named_in}
+use Rattle.vx_laws.specs.MessageLaw.{handles_messages, is_stored_nowhere}
 
 -- An effect is as the law asks, by what is left of its record.
 abbrev pub Right : List Item → Effect → List Effect → Type 0
@@ -72,7 +68,7 @@ pub fewer_then : (s t u : State) → Fewer s t → Fewer t u → Fewer s u
 fewer_then s t u h k = record { reads = λ b e. h.reads b (k.reads b e); empty = λ b e. k.empty b (h.empty b e) }
 
 pub fewer_same : (s t : State) → t.requests ≡ s.requests → t.boxes ≡ s.boxes → Fewer s t
-fewer_same s t r b = record { reads = λ c e. ap (λ (l : List Request). list_any (waits_at c) l) (sym r) ∙ e; empty = λ c e. ap (λ (l : List (Option Mailbox)). (Rattle.vx_record.specs.Mailboxes.or_no_box (get_or l c.0 None)).messages) b ∙ e }
+fewer_same s t r b = record { reads = λ c e. ap (λ (l : List Request). list_any (waits_at c) l) (sym r) ∙ e; empty = λ c e. ap (λ (l : List (Option Mailbox)). (or_no_box (get_or l c.0 None)).messages) b ∙ e }
 
 -- No mailbox has both a stored message and a read that waits.
 abbrev pub IsSingle : State → Type 0
@@ -169,7 +165,7 @@ fin_boxed s past id c h =
     let t = (fin_part s id c).after in
     let after = Did (effect.Fin id c) ∷ past in
     let k : Carried s t past after = record { system = refl; there = there_as s t refl refl; titles = λ d j. title_as s t refl refl d; next = omega arith; origins = λ i j. origin_on (Did (effect.Fin id c)) past i tt; devices = λ p n. refl } in
-    carry s t past after k refl (λ p n. refl) (λ name. refl) (Rattle.vx_record.proofs.Lists.ordered_less Rattle.vx_record.specs.Sound.request_id (this_request id) 0 s.next s.requests h.ordered) (all_less (Rooted t after) (this_request id) s.requests (all_rooted s t past after k (λ p n. refl) s.requests h.requests)) h
+    carry s t past after k refl (λ p n. refl) (λ name. refl) (λ name. refl) (ordered_less request_id (this_request id) 0 s.next s.requests h.ordered) (all_less (Rooted t after) (this_request id) s.requests (all_rooted s t past after k (λ p n. refl) s.requests h.requests)) h
 
 pub finish_fewer : (s : State) (r : Request) (e : Ending) → Fewer s (finish s r e).after
 finish_fewer s r e =
@@ -204,14 +200,6 @@ lives_owner P p (Some l) e k = k l (let same : Some l.p ≡ Some p = e in cc)
 
 -- Nothing is stored under the name of a unit.
 
-any_index : {A : Type 0} (p : A → Bool) (xs : List A) (d : A) → list_any p xs ≡ true → (i : ℕ) × (p (get_or xs i d) ≡ true)
-any_index p [] d e = absurd (let never : false ≡ true = e in cc)
-any_index p (x ∷ xs) d e = at (p x) refl (any_index p xs d) e
-  where
-    at : (b : Bool) → p x ≡ b → (list_any p xs ≡ true → (i : ℕ) × (p (get_or xs i d) ≡ true)) → (b || list_any p xs) ≡ true → (i : ℕ) × (p (get_or (x ∷ xs) i d) ≡ true)
-    at true is rest k = (zero, is)
-    at false is rest k = let found = rest k in (suc found.0, found.1)
-
 unit_no_box : (s : State) (past : List Item) (name : List ℕ) → list_any (is_unit_of name) s.system.units ≡ true → Boxed s past → list_any (is_box_of name) s.boxes ≡ false
 unit_no_box s past name unit h =
     false_from _ (λ e.
@@ -225,7 +213,7 @@ unit_no_box s past name unit h =
         let none : list_any (is_unit_of name) s.system.units ≡ false = subst (λ (n : List ℕ). list_any (is_unit_of n) s.system.units ≡ false) same (h.boxes b box is).unit in
         apart_bools _ unit none
 
-pub unit_stores : (s : State) (past : List Item) (u : Rattle.vx_base.specs.declared.number.UnitNo.UnitNo) → IsThere s (device.Unit u) → Boxed s past → stored past (device_title s (device.Unit u)) ≡ []
+pub unit_stores : (s : State) (past : List Item) (u : UnitNo) → IsThere s (device.Unit u) → Boxed s past → stored past (device_title s (device.Unit u)) ≡ []
 unit_stores s past u there h =
     let name = device_title s (device.Unit u) in
     h.others name (unit_no_box s past name (any_at (is_unit_of name) s.system.units u.0 no_unit_decl there ((bytes_eq-Decides name name).1 refl)) h)
@@ -239,7 +227,7 @@ stored_less w (m ∷ ms) =
     (λ t. rw t refl) (λ f. rw (f, stored_less w ms) refl)
 
 pub mailbox_is : (s : State) (b : BoxNo) (box : Mailbox) → box_at s b ≡ Some box → mailbox_at s b ≡ box
-mailbox_is s b box is = ap (λ (o : Option Mailbox). Rattle.vx_record.specs.Mailboxes.or_no_box o) is
+mailbox_is s b box is = ap (λ (o : Option Mailbox). or_no_box o) is
 
 -- one part and then another that is done to the end
 pub record Serving (past : List Item) (a : Part) : Type 0 where
@@ -269,7 +257,7 @@ serving_on past a t h k calm = record {
 pub still_boxed : (s t : State) (past : List Item) → Aside s [] t → Boxed s past → Boxed t past
 still_boxed s t past k h =
     let c : Carried s t past past = record { system = k.system; there = there_as s t k.system k.boxes; titles = λ d j. title_as s t k.system k.boxes d; next = k.next; origins = λ id below. refl; devices = λ p n. refl } in
-    carry s t past past c k.boxes k.rows (λ name. refl) (subst (λ (l : List Request). AreOrdered Rattle.vx_record.specs.Sound.request_id 0 t.next l) (sym k.requests) (Rattle.vx_record.proofs.Lists.ordered_below Rattle.vx_record.specs.Sound.request_id 0 s.next t.next s.requests k.next h.ordered))
+    carry s t past past c k.boxes k.rows (λ name. refl) (λ name. refl) (subst (λ (l : List Request). AreOrdered request_id 0 t.next l) (sym k.requests) (ordered_below request_id 0 s.next t.next s.requests k.next h.ordered))
     (subst (λ (l : List Request). AllByRecursion (Rooted t past) l) (sym k.requests) (all_rooted s t past past c k.rows s.requests h.requests)) h
 
 pub serving_still : (past : List Item) (a : Part) (t : State) → Serving past a → Aside a.after [] t → Serving past (record { effects = a.effects; after = t })

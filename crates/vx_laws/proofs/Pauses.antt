@@ -31,11 +31,11 @@ use Rattle.vx_record.proofs.Apart.{Here, here_after}
 use Rattle.vx_record.proofs.Steps.{test_made}
 use Rattle.vx_record.proofs.Told.{accepted_after}
 use Rattle.vx_laws.proofs.Awaited.{Keeps, Plainly, accepted_keeps, drop_handlers_keeps, frame_waits, keep_moved, keep_none, keep_same, service_plainly, waits_in, waits_of}
-use Rattle.vx_laws.proofs.Calm.{call_turn, leave_all_state, no_turn, refusal_turn, test_is, turns}
+use Rattle.vx_laws.proofs.CalmServices.{call_turn, leave_all_state, no_turn, refusal_turn, test_is, turns}
 use Rattle.vx_laws.proofs.Events.{some_moved, start_turn, turn_is}
 use Rattle.vx_laws.proofs.Kept.{made_on}
 use Rattle.vx_record.proofs.Locals.{advanced_statuses}
-use Rattle.vx_record.proofs.Moves.{moved}
+use Rattle.vx_record.proofs.Moves.{Moves, moved}
 use Rattle.vx_laws.specs.Frames.{Clears, Enters, Returns, Stays, Turn, ast_turn, below, turn, turned, turned_by, with_first}
 use Rattle.vx_laws.specs.Items.{Item}
 use Rattle.vx_laws.specs.Lives.{life}
@@ -266,7 +266,7 @@ on_waits past s p place (stop.Call c) here some =
     let t = change s p (moved_behind place) in
     let o = service_of t p c.args c.service in
     let two = served_call p c o o.answer in
-    let move = moved s None p (process_at s p).store (place + 1) refl in
+    let move : Moves s None [] t None = moved s None p (process_at s p).store (place + 1) refl in
     before_keeps past s t (event.Run p) two.answer two.after (keep_moved s p (process_at s p).store (place + 1)) (served_waits past t p c o o.answer (service_waits t p c.args c.service (here_after s p None [] t None move here)))
 on_waits past s p place stop.Return here some = return_waits past s p (process_at s p).frames refl some here.made
 on_waits past s p place stop.End here some = return_waits past s p (process_at s p).frames refl some here.made
@@ -282,7 +282,7 @@ frame_pauses past s p f None here some =
     let a = advanced (image_of s p) (reader p f) (process_at s p).store f.pc in
     let t = change s p (moved_to a.store a.place) in
     let two = run_on t p a.place a.stop in
-    let move = moved s None p a.store a.place (advanced_statuses (image_of s p) (reader p f) (process_at s p).store f.pc) in
+    let move : Moves s None [] t None = moved s None p a.store a.place (advanced_statuses (image_of s p) (reader p f) (process_at s p).store f.pc) in
     before_keeps past s t (event.Run p) two.answer two.after (keep_moved s p a.store a.place) (on_waits past t p a.place a.stop (here_after s p None [] t None move here) (some_moved s p a.store a.place here.made some))
 frame_pauses past s p f (Some w) here some = let c = or_normal (wait_condition s p w) in run_turned past s p (answer.Resume c) (resumed_with w c) (with_first None) refl (λ ws. refl) tt here.made (resumed_frames w c (process_at s p))
 

@@ -1,10 +1,10 @@
 -- Channels and mailboxes come and go: what agrees goes on.
-use Rattle.std.proofs.Common.{◌⊎◌, inl, inr, ◌≡◌, ◌≢◌, ℕ, zero, suc, ◌+◌, ◌-◌, ◌<◌, ◌≤◌, List, [], ◌∷◌, ◌++◌, Bool, true, false, cond, not, ◌==◌, ◌&&◌, length, Option, Some, None, map, refl, sym, ap, ◌∙◌, subst, arith, get_or, set, is_some, IsTrue, ⊎_elim}
+use Rattle.std.proofs.Common.{◌⊎◌, inl, inr, ◌≡◌, ◌≢◌, ℕ, ◌-◌, ◌<◌, ◌≤◌, List, [], ◌∷◌, Bool, true, false, ◌==◌, ◌&&◌, length, Option, Some, None, refl, sym, ap, ◌∙◌, subst, arith, get_or, set, is_some, IsTrue}
 use Rattle.std.proofs.lemmas.Bool.{eq-eqb, eqb-true, and_parts, and_from, cases_eq}
 use Rattle.std.proofs.lemmas.List.{get_or-set_other}
 use Rattle.std.proofs.lemmas.Slice.Eq.{bytes_eq-Decides}
-use Rattle.std.specs.Prelude.{bytes_eq}
 use Rattle.std.specs.List.{AllByRecursion, list_any}
+use Rattle.std.specs.Prelude.{bytes_eq}
 use Rattle.vx_base.specs.Channels.{channel_at}
 use Rattle.vx_base.specs.Pieces.{Channel, Request, Mailbox}
 use Rattle.vx_base.specs.declared.call.Target.{Target}
@@ -12,22 +12,23 @@ use Rattle.vx_base.specs.declared.effects.Effect.TheVariants as effect
 use Rattle.vx_base.specs.declared.mode.Mode.{Mode}
 use Rattle.vx_base.specs.declared.number.BoxNo.{BoxNo}
 use Rattle.vx_base.specs.declared.number.Pid.{Pid}
-use Rattle.vx_base.specs.declared.request.Device.{Device}
 use Rattle.vx_base.specs.declared.request.Device.TheVariants as device
+use Rattle.vx_base.specs.declared.request.Device.{Device}
+use Rattle.vx_record.proofs.Ground.{at_set}
+use Rattle.vx_record.proofs.Lists.{either_by, all_weaker, all_both, all_get, none_passes, false_from, apart_bools}
+use Rattle.vx_record.proofs.SoundChannels.{is_on_box}
 use Rattle.vx_record.specs.Cancel.{is_request_on}
 use Rattle.vx_record.specs.Channels.{with_channel, is_box_of, is_unit_of, is_channel_to, has_channel_to, is_assigned}
 use Rattle.vx_record.specs.Charges.{is_same}
-use Rattle.vx_record.specs.Mailboxes.{is_box}
+use Rattle.vx_record.specs.Mailboxes.{is_box, or_no_box}
+use Rattle.vx_record.specs.Sound.{AreOrdered, request_id}
 use Rattle.vx_record.specs.State.{Process, State, nobody, process_at, change, box_at, with_box}
-use Rattle.vx_record.proofs.Ground.{at_set}
-use Rattle.vx_record.proofs.Lists.{either, either_by, all_weaker, all_both, all_get, none_passes, false_from, apart_bools}
-use Rattle.vx_record.proofs.SoundChannels.{is_on_box}
-use Rattle.vx_laws.specs.Agrees.{device_title}
-use Rattle.vx_laws.specs.Boxes.{stored}
+use Rattle.vx_laws.proofs.Aside.{row}
+use Rattle.vx_laws.proofs.Boxed.{any_index, IsThere, IsOn, Rooted, BoxIs, Boxed, Carried, rows_on, rooted_on, all_rooted, box_on, there_as, title_as, some_within, any_at, any_kept, was_there, put_there, Origin}
+use Rattle.vx_laws.specs.Agrees.{box_stands, device_title}
+use Rattle.vx_laws.specs.Boxes.{stored, Stored}
 use Rattle.vx_laws.specs.Items.{Item, Did, latest_call}
 use Rattle.vx_laws.specs.Lives.{device_name, named_in, or_earlier}
-use Rattle.vx_laws.proofs.Aside.{row}
-use Rattle.vx_laws.proofs.Boxed.{origin_on, IsThere, IsOn, Rooted, BoxIs, RowsAre, Boxed, Carried, rows_on, rooted_on, all_rooted, box_on, there_as, title_as, some_within, any_at, any_kept, was_there, put_there}
 
 -- One row of one process is written.
 
@@ -67,6 +68,7 @@ freed_boxed s p n past above one clear h =
           (all_both (Rooted s past) (λ (r : Request). (is_on_box r.req.device && is_request_on p n r) ≡ false) s.requests h.requests clear);
       boxes = λ b box e. let k = h.boxes b box e in box_on s t past past b box c refl k.alone k;
       others = h.others;
+      stands = h.stands;
     }
   where
     on_stays : (q : Pid) (m : ℕ) (mode : Mode) (d : Device) → 1 ≤ q.0 → 1 ≤ m → (is_on_box d && (is_same q p && (m == n))) ≡ false → IsOn s q m mode d → IsOn (change s p (with_channel n None)) q m mode d
@@ -86,7 +88,7 @@ gone_there s b (device.Mailbox c) other k = subst (λ (o : Option Mailbox). IsTr
 
 gone_title : (s : State) (b : BoxNo) (d : Device) → is_box b d ≡ false → device_title (with_box s b None) d ≡ device_title s d
 gone_title s b (device.Unit u) other = refl
-gone_title s b (device.Mailbox c) other = ap (λ (o : Option Mailbox). (Rattle.vx_record.specs.Mailboxes.or_no_box o).name) (get_or-set_other s.boxes b.0 c.0 None None (λ e. apart_bools _ (eq-eqb b.0 c.0 (sym e)) other))
+gone_title s b (device.Mailbox c) other = ap (λ (o : Option Mailbox). (or_no_box o).name) (get_or-set_other s.boxes b.0 c.0 None None (λ e. apart_bools _ (eq-eqb b.0 c.0 (sym e)) other))
 
 on_other : (s : State) (b : BoxNo) (p : Pid) (n : ℕ) (mode : Mode) (d : Device) → is_assigned s b ≡ false → IsOn s p n mode d → is_box b d ≡ false
 on_other s b p n mode (device.Unit u) none k = refl
@@ -108,7 +110,7 @@ gone_rooted s b past name none r k =
       on = on_gone s b r.req.p r.req.chan r.req.chan_mode r.req.device k.on;
       free = k.free;
       call = k.call;
-      is = k.is ∙ ap (λ (x : List ℕ). let o : Rattle.vx_laws.proofs.Boxed.Origin = record { p = r.req.p; by = Some k.call; device = Some x } in Some o) (sym (gone_title s b r.req.device other));
+      is = k.is ∙ ap (λ (x : List ℕ). let o : Origin = record { p = r.req.p; by = Some k.call; device = Some x } in Some o) (sym (gone_title s b r.req.device other));
       func = k.func;
       len = k.len;
     }
@@ -127,12 +129,25 @@ gone_boxed s b box past is none h = record {
   requests = all_weaker (Rooted s past) (Rooted (with_box s b None) (Did (effect.Mbx box.name false) ∷ past)) (gone_rooted s b past box.name none) s.requests h.requests;
   boxes = λ c other e. elim (cases_eq c.0 b.0) [ inl same ↦ absurd (let never : None ≡ Some other = sym (put_there s b c None same within) ∙ e in cc) | inr apart ↦ at_other c other apart (was_there s b c None other apart e) ];
   others = λ name e.
-      either_by (λ (l : List Rattle.vx_laws.specs.Boxes.Stored). l ≡ []) (bytes_eq box.name name) [] (stored past name) (λ t. refl)
+      either_by (λ (l : List Stored). l ≡ []) (bytes_eq box.name name) [] (stored past name) (λ t. refl)
       (λ f. h.others name (sym (any_kept (is_box_of name) s.boxes b.0 None None (rw (is, f) refl)) ∙ e));
+  stands = λ name.
+      either_by (λ (y : Bool). list_any (is_box_of name) (set s.boxes b.0 None) ≡ y) (bytes_eq box.name name) false (box_stands past name)
+      (λ t. false_from _ (λ e. let at = any_index (is_box_of name) (set s.boxes b.0 None) None e in none_named name t (record { 0 = at.0 }) (box_at (with_box s b None) (record { 0 = at.0 })) refl at.1))
+      (λ f. any_kept (is_box_of name) s.boxes b.0 None None (rw (is, f) refl) ∙ h.stands name);
 }
   where
     within : b.0 < length s.boxes
     within = some_within s.boxes b.0 box is
+
+    -- no other has its name
+    none_named : (name : List ℕ) → bytes_eq box.name name ≡ true → (c : BoxNo) (o : Option Mailbox) → box_at (with_box s b None) c ≡ o → is_box_of name o ≡ true → ⊥
+    none_named name t c None e k = absurd (let never : false ≡ true = k in cc)
+    none_named name t c (Some other) e k =
+        elim (cases_eq c.0 b.0) [
+          | inl same ↦ absurd (let never : None ≡ Some other = sym (put_there s b c None same within) ∙ e in cc)
+          | inr apart ↦ absurd (apart ((h.boxes b box is).alone c other (was_there s b c None other apart e) ((bytes_eq-Decides other.name name).0 k ∙ sym ((bytes_eq-Decides box.name name).0 t))))
+        ]
 
     at_other : (c : BoxNo) (other : Mailbox) → c.0 ≢ b.0 → box_at s c ≡ Some other → BoxIs (with_box s b None) (Did (effect.Mbx box.name false) ∷ past) c other
     at_other c other apart e =
@@ -157,7 +172,7 @@ made_title s b box free (device.Unit u) h = refl
 made_title s b box free (device.Mailbox c) h =
     elim (cases_eq c.0 b.0) [
       | inl same ↦ absurd (let none : box_at s c ≡ None = ap (λ (i : ℕ). get_or s.boxes i None) same ∙ free in let never : false ≡ true = subst (λ (o : Option Mailbox). IsTrue (is_some o)) none h in cc)
-      | inr apart ↦ ap (λ (o : Option Mailbox). (Rattle.vx_record.specs.Mailboxes.or_no_box o).name) (get_or-set_other s.boxes b.0 c.0 (Some box) None apart)
+      | inr apart ↦ ap (λ (o : Option Mailbox). (or_no_box o).name) (get_or-set_other s.boxes b.0 c.0 (Some box) None apart)
     ]
 
 pub made_boxed : (s : State) (b : BoxNo) (box : Mailbox) (past : List Item) → box_at s b ≡ None → b.0 < length s.boxes → box.messages ≡ [] → list_any (is_box_of box.name) s.boxes ≡ false → list_any (is_unit_of box.name) s.system.units ≡ false → Boxed s past → Boxed (with_box s b (Some box)) (Did (effect.Mbx box.name true) ∷ past)
@@ -171,8 +186,12 @@ made_boxed s b box past free within empty fresh unit h =
       requests = all_rooted s t past after c (λ p n. refl) s.requests h.requests;
       boxes = λ d other e. elim (cases_eq d.0 b.0) [ inl same ↦ at_here d other same e | inr apart ↦ at_other d other apart (was_there s b d (Some box) other apart e) ];
       others = λ name e.
-          let differ : bytes_eq box.name name ≡ false = false_from _ (λ yes. apart_bools _ (any_at (is_box_of name) t.boxes b.0 None (subst (λ (n : ℕ). b.0 < n) (sym (Rattle.std.proofs.Math.ListN.length-set s.boxes b.0 (Some box))) within) (rw (put_there s b b (Some box) refl within) yes)) e) in
+          let differ : bytes_eq box.name name ≡ false = false_from _ (λ yes. apart_bools _ (any_at (is_box_of name) t.boxes b.0 None (subst (λ (n : ℕ). b.0 < n) (sym (Rattle.std.proofs.Math.ListN.length-set s.boxes b.0 (Some box))) within) (rw (put_there s b b (Some box) (refl {a = b.0}) within) yes)) e) in
           rw differ (h.others name (sym (any_kept (is_box_of name) s.boxes b.0 (Some box) None (rw (free, differ) refl)) ∙ e));
+      stands = λ name.
+          either_by (λ (y : Bool). list_any (is_box_of name) t.boxes ≡ y) (bytes_eq box.name name) true (box_stands past name)
+          (λ yes. any_at (is_box_of name) t.boxes b.0 None (subst (λ (n : ℕ). b.0 < n) (sym (Rattle.std.proofs.Math.ListN.length-set s.boxes b.0 (Some box))) within) (rw (put_there s b b (Some box) (refl {a = b.0}) within) yes))
+          (λ no. any_kept (is_box_of name) s.boxes b.0 (Some box) None (rw (free, no) refl) ∙ h.stands name);
     }
   where
     c : Carried s (with_box s b (Some box)) past (Did (effect.Mbx box.name true) ∷ past)
@@ -207,13 +226,14 @@ pub assigned_boxed : (s u : State) (p : Pid) (v : Target) (n : ℕ) (ch : Channe
     1 ≤ p.0 → 1 ≤ n → row s p n ≡ None → IsThere s ch.device → named_in (latest_call past) ≡ Some (device_title s ch.device) → Boxed s past → Boxed u (Did (effect.Var p v n) ∷ past)
 assigned_boxed s u p v n ch past a b c d same above one free there named h = record {
   counted = rw d h.counted;
-  ordered = subst (λ (l : List Request). Rattle.vx_record.specs.Sound.AreOrdered Rattle.vx_record.specs.Sound.request_id 0 u.next l) (sym c) (rw d h.ordered);
+  ordered = subst (λ (l : List Request). AreOrdered request_id 0 u.next l) (sym c) (rw d h.ordered);
   rows = λ q m x up low e.
       either_by (λ (o : Option (List ℕ)). IsThere u x.device × (o ≡ Some (device_title u x.device))) (is_same p q && (n == m)) (or_earlier (named_in (latest_call past)) (device_name past q m)) (device_name past q m)
       (λ t. at_it q m x t (sym (same q m) ∙ e)) (λ f. at_other q m x up low f (sym (same q m) ∙ e));
   requests = subst (λ (l : List Request). AllByRecursion (Rooted u (Did (effect.Var p v n) ∷ past)) l) (sym c) (all_weaker (Rooted s past) (Rooted u (Did (effect.Var p v n) ∷ past)) on s.requests h.requests);
   boxes = λ f box e. let was = at f e in let k = h.boxes f box was in record { messages = k.messages; ids = rw d k.ids; writers = k.writers; unit = rw a k.unit; alone = λ g o i j. k.alone g o (at g i) j };
   others = λ name e. h.others name (ap (λ (l : List (Option Mailbox)). list_any (is_box_of name) l) (sym b) ∙ e);
+  stands = λ name. ap (λ (l : List (Option Mailbox)). list_any (is_box_of name) l) b ∙ h.stands name;
 }
   where
     at : {o : Option Mailbox} (f : BoxNo) → box_at u f ≡ o → box_at s f ≡ o
@@ -256,7 +276,7 @@ assigned_boxed s u p v n ch past a b c d same above one free there named h = rec
       on = on_row r.req.p r.req.chan r.req.chan_mode r.req.device k.on;
       free = k.free;
       call = k.call;
-      is = k.is ∙ ap (λ (x : List ℕ). let o : Rattle.vx_laws.proofs.Boxed.Origin = record { p = r.req.p; by = Some k.call; device = Some x } in Some o) (sym (title_as s u a b r.req.device));
+      is = k.is ∙ ap (λ (x : List ℕ). let o : Origin = record { p = r.req.p; by = Some k.call; device = Some x } in Some o) (sym (title_as s u a b r.req.device));
       func = k.func;
       len = k.len;
     }

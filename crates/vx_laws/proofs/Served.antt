@@ -1,46 +1,45 @@
 -- What a mailbox does for a read, a write and an end of file.
-use Rattle.std.proofs.Common.{◌⊎◌, inl, inr, ◌≡◌, ◌≢◌, ℕ, zero, suc, ◌+◌, ◌-◌, ◌<◌, ◌≤◌, List, [], ◌∷◌, ◌++◌, Bool, true, false, cond, not, ◌==◌, ◌&&◌, ◌||◌, nat_lt, length, take, Option, Some, None, map, refl, sym, ap, ◌∙◌, subst, arith, get_or, is_some, IsTrue, ⊎_elim}
+use Rattle.std.proofs.Common.{◌⊎◌, inl, inr, ◌≡◌, ◌≢◌, ℕ, zero, suc, ◌+◌, ◌<◌, List, [], ◌∷◌, ◌++◌, Bool, true, false, cond, not, ◌==◌, ◌&&◌, ◌||◌, nat_lt, length, take, Option, Some, None, map, refl, sym, ap, ◌∙◌, subst, append-nil}
 use Rattle.std.proofs.lemmas.Bool.{eq-eqb, eqb-true, and_parts, and_from, cases_eq, or_cases}
 use Rattle.std.proofs.lemmas.List.{get_or-set_other}
 use Rattle.std.proofs.lemmas.Slice.Eq.{bytes_eq-Decides}
-use Rattle.std.proofs.lemmas.List.Folds.{list_any-append}
-use Rattle.std.specs.Prelude.{option_map, bytes_eq, ⊤}
 use Rattle.std.specs.List.{AllByRecursion, find, list_any, list_all}
+use Rattle.std.specs.Prelude.{option_map, ⊤}
+use Rattle.vx_base.specs.Cond.{name_of}
 use Rattle.vx_base.specs.Lists.{less}
 use Rattle.vx_base.specs.Pieces.{Request, Mailbox}
-use Rattle.vx_base.specs.Cond.{name_of}
-use Rattle.vx_base.specs.Queues.{body_bytes}
-use Rattle.vx_base.specs.declared.cond.Cond.{Cond}
 use Rattle.vx_base.specs.declared.cond.Cond.TheVariants.{Cancel as Cancelled, EndOfFile, Normal, BufferOvf}
-use Rattle.vx_base.specs.declared.effects.Effect.{Effect}
+use Rattle.vx_base.specs.declared.cond.Cond.{Cond}
 use Rattle.vx_base.specs.declared.effects.Effect.TheVariants as effect
+use Rattle.vx_base.specs.declared.effects.Effect.{Effect}
 use Rattle.vx_base.specs.declared.number.BoxNo.{BoxNo}
 use Rattle.vx_base.specs.declared.number.Id.{Id}
 use Rattle.vx_base.specs.declared.number.Pid.{Pid}
-use Rattle.vx_base.specs.declared.request.Body.{Body}
 use Rattle.vx_base.specs.declared.request.Body.TheVariants as body
-use Rattle.vx_base.specs.declared.request.Device.{Device}
+use Rattle.vx_base.specs.declared.request.Body.{Body}
 use Rattle.vx_base.specs.declared.request.Device.TheVariants as device
-use Rattle.vx_base.specs.declared.request.Func.{Func}
+use Rattle.vx_base.specs.declared.request.Device.{Device}
 use Rattle.vx_base.specs.declared.request.Func.TheVariants.{Read, ReadAttn, WrtAttn}
+use Rattle.vx_base.specs.declared.request.Func.{Func}
 use Rattle.vx_base.specs.declared.request.Msg.{Msg}
 use Rattle.vx_base.specs.declared.request.Req.{Req}
+use Rattle.vx_record.proofs.Lists.{either, all_weaker, all_append, all_find, find_passes, apart_bools}
 use Rattle.vx_record.specs.Finish.{Ending, ending, is_read, this_request, finish, finish_found}
 use Rattle.vx_record.specs.Mailboxes.{mailbox_at, or_no_box, is_box, is_waiting_func, waits_at, this_message, message_of, mput_part, mget_part, read_ending, received, write_done, write_ending, call_attention, store_message, hand_over, write_box, wait_for_message, take_message, read_box}
-use Rattle.vx_record.specs.Parts.{Part, nothing, tells, and_then, part_if}
-use Rattle.vx_record.specs.State.{State, box_at, with_box}
+use Rattle.vx_record.specs.Parts.{Part, nothing, and_then, part_if}
+use Rattle.vx_record.specs.Services.{number}
 use Rattle.vx_record.specs.Sound.{AreOrdered}
-use Rattle.vx_record.proofs.Lists.{either, either_by, all_weaker, all_append, all_find, find_passes, false_from, apart_bools}
+use Rattle.vx_record.specs.State.{State, box_at, with_box}
+use Rattle.vx_laws.proofs.Aside.{IsAside, call_aside}
+use Rattle.vx_laws.proofs.Boxed.{Origin, Rooted, Boxed, put_there, message_id, some_within, owner_of, origin_of}
+use Rattle.vx_laws.proofs.Handed.{got_boxed, less_fewer, put_boxed, is_quiet, BytesTold, finish_told}
+use Rattle.vx_laws.proofs.Passing.{Right, Walk, walk_then, walk_aside, walk_nothing, finish_walk, found_walk, IsPlainCall, plain_over, Fewer, fewer_same, IsSingle, single_on, lives_origin, lives_owner, mailbox_is, finish_tail, finish_rest, behind_fin, Serving, serving, finish_fewer}
 use Rattle.vx_laws.specs.Agrees.{as_stored, device_title}
-use Rattle.vx_laws.specs.Boxes.{Stored, this_stored, stored, oldest_read, is_at}
-use Rattle.vx_laws.specs.Items.{Item, Did, Calling, later, latest_call, effects_left, is_cond, is_id}
+use Rattle.vx_laws.specs.Boxes.{Stored, stored, oldest_read, is_at}
+use Rattle.vx_laws.specs.Items.{Item, Did, Calling, later, is_cond}
 use Rattle.vx_laws.specs.Lives.{Life, life, lives}
 use Rattle.vx_laws.specs.MessageLaw.{takes_oldest, told_read, told_reader, counts_right, puts_bytes, read_bytes, read_cond, hands_over, is_taken_by}
 use Rattle.vx_laws.specs.StatusLaw.{to_next_fin}
-use Rattle.vx_laws.proofs.Aside.{IsAside, call_aside}
-use Rattle.vx_laws.proofs.Boxed.{Origin, origin, Rooted, BoxIs, Boxed, put_there, was_there, message_id, some_within, owner_of}
-use Rattle.vx_laws.proofs.Passing.{Right, Lawful, lawful_both, Walk, walk_then, walk_aside, walk_nothing, finish_walk, found_walk, IsPlainCall, plain_over, Fewer, fewer_then, fewer_same, IsSingle, single_on, lives_origin, lives_owner, mailbox_is, finish_tail, finish_rest, behind_fin, Serving, serving}
-use Rattle.vx_laws.proofs.Handed.{got_boxed, less_fewer, put_boxed, is_quiet, BytesTold, finish_told}
 
 -- A message goes to a read.
 
@@ -74,7 +73,7 @@ may_other b c e = rw e refl
 same_cond : (c d : Cond) → c ≡ d → is_cond c d ≡ true
 same_cond c d e = (bytes_eq-Decides (name_of c) (name_of d)).1 (ap name_of e)
 
-told_at : (id : Id) (c : Cond) (l : Life) (call : Calling) (p wp w : Pid) (len : ℕ) (b : Body) (bytes : List ℕ) (es : List Effect) → l.p ≡ p → l.by ≡ Some call → wp ≡ w → Rattle.vx_record.specs.Services.number call.call.args.a7 ≡ len → c ≡ read_cond len b → bytes ≡ read_bytes len b → BytesTold (length bytes) w p bytes es → told_reader id wp b (effect.Fin id c ∷ es) l l.by ≡ true
+told_at : (id : Id) (c : Cond) (l : Life) (call : Calling) (p wp w : Pid) (len : ℕ) (b : Body) (bytes : List ℕ) (es : List Effect) → l.p ≡ p → l.by ≡ Some call → wp ≡ w → number call.call.args.a7 ≡ len → c ≡ read_cond len b → bytes ≡ read_bytes len b → BytesTold (length bytes) w p bytes es → told_reader id wp b (effect.Fin id c ∷ es) l l.by ≡ true
 told_at id c l call p wp w len b bytes es owner by writer size is read told =
     let puts : puts_bytes l.p (read_bytes len b) es ≡ true = subst (λ (q : Pid). puts_bytes q (read_bytes len b) es ≡ true) (sym owner) (subst (λ (x : List ℕ). puts_bytes p x es ≡ true) read told.puts) in
     let counts : list_all (counts_right (length (read_bytes len b)) wp) (to_next_fin es) ≡ true =
@@ -83,7 +82,7 @@ told_at id c l call p wp w len b bytes es owner by writer size is read told =
     let body : told_read id l wp len b (effect.Fin id c ∷ es) ≡ true = and_from _ _ (eq-eqb id.0 id.0 refl) (and_from _ _ (same_cond c (read_cond len b) is) (and_from _ _ puts counts)) in
     subst (λ (o : Option Calling). told_reader id wp b (effect.Fin id c ∷ es) l o ≡ true) (sym by) (subst (λ (n : ℕ). told_read id l wp n b (effect.Fin id c ∷ es) ≡ true) (sym size) body)
 
-taken : (past : List Item) (m : Msg) (ms : List Stored) (r : Request) (k : Calling) (title : Option (List ℕ)) (c : Cond) (bytes : List ℕ) (es : List Effect) → owner_of past m.id ≡ Some m.writer → Rattle.vx_laws.proofs.Boxed.origin_of past r.req.id ≡ Some (record { p = r.req.p; by = Some k; device = title }) → Rattle.vx_record.specs.Services.number k.call.args.a7 ≡ r.req.len →
+taken : (past : List Item) (m : Msg) (ms : List Stored) (r : Request) (k : Calling) (title : Option (List ℕ)) (c : Cond) (bytes : List ℕ) (es : List Effect) → owner_of past m.id ≡ Some m.writer → origin_of past r.req.id ≡ Some (record { p = r.req.p; by = Some k; device = title }) → number k.call.args.a7 ≡ r.req.len →
     c ≡ read_cond r.req.len m.body → bytes ≡ read_bytes r.req.len m.body → BytesTold (length bytes) m.writer r.req.p bytes es → takes_oldest past m.id r.req.id (effect.Fin r.req.id c ∷ es) (as_stored m ∷ ms) ≡ true
 taken past m ms r k title c bytes es writer is size cond_is read told =
     let g : Origin = record { p = r.req.p; by = Some k; device = title } in
@@ -220,7 +219,7 @@ read_serving s past b box r old is on root reads calm new h =
       where
         found_fewer : (o : Option Request) → Fewer t (finish_found t o (write_ending m)).after
         found_fewer None = fewer_same t t refl refl
-        found_fewer (Some q) = Rattle.vx_laws.proofs.Passing.finish_fewer t q (write_ending m)
+        found_fewer (Some q) = finish_fewer t q (write_ending m)
 
     by_messages : (l : List Msg) → box.messages ≡ l → Serving past (take_message s b r l)
     by_messages [] e = serving s past (wait_for_message s b r) (take_wait s past b r calm h) (read_single s b r old on (ap (λ (y : Mailbox). y.messages) (mailbox_is s b box is) ∙ e) new)
@@ -317,7 +316,7 @@ write_serving s past b box r w calm h = by_reader (find (waits_at b) s.requests)
         let es = (store_message a.after b m).effects in
         record {
           boxed = rest.boxed;
-          lawful = (subst (Right past x) (sym (Rattle.std.proofs.Common.append-nil es)) (put_right s past b box r None es e w (hands_none (mailbox_at s b).name r.req.id es (store_no_get a.after b m))), rest.lawful);
+          lawful = (subst (Right past x) (sym (append-nil es)) (put_right s past b box r None es e w (hands_none (mailbox_at s b).name r.req.id es (store_no_get a.after b m))), rest.lawful);
           single = rest.single;
         }
     by_reader (Some q) e =
@@ -344,13 +343,13 @@ write_serving s past b box r w calm h = by_reader (find (waits_at b) s.requests)
       where
         found_fewer : (t : State) (o : Option Request) → Fewer t (finish_found t o (write_ending (message_of r.req))).after
         found_fewer t None = fewer_same t t refl refl
-        found_fewer t (Some q) = Rattle.vx_laws.proofs.Passing.finish_fewer t q (write_ending (message_of r.req))
+        found_fewer t (Some q) = finish_fewer t q (write_ending (message_of r.req))
 
         received_single : (q : Request) → find (waits_at b) s.requests ≡ Some q → (mailbox_at s b).messages ≡ [] → IsSingle (received (mput_part s b (message_of r.req)).after b (message_of r.req) q).after
         received_single q e empty c k =
             let u = (mput_part s b (message_of r.req)).after in
             let g = (mget_part u b (message_of r.req) q.req.id).after in
-            let f = Rattle.vx_laws.proofs.Passing.finish_fewer g q (read_ending q.req (message_of r.req) (message_of r.req).body) in
+            let f = finish_fewer g q (read_ending q.req (message_of r.req) (message_of r.req).body) in
             f.empty c (at c (f.reads c k))
           where
             at : (c : BoxNo) → list_any (waits_at c) s.requests ≡ true → (mailbox_at (mget_part (mput_part s b (message_of r.req)).after b (message_of r.req) q.req.id).after c).messages ≡ []

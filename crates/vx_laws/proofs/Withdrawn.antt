@@ -1,43 +1,42 @@
 -- Cancelled channels and freed ones, as the law of mailboxes asks.
-use Rattle.std.proofs.Common.{◌⊎◌, inl, inr, ◌≡◌, ◌≢◌, ℕ, zero, suc, ◌+◌, ◌-◌, ◌<◌, ◌≤◌, List, [], ◌∷◌, ◌++◌, Bool, true, false, cond, not, ◌==◌, ◌&&◌, ◌||◌, Option, Some, None, map, refl, sym, ap, ◌∙◌, subst, arith, get_or, is_some, IsTrue}
+use Rattle.std.proofs.Common.{inl, inr, ◌≡◌, ◌≢◌, ℕ, ◌+◌, ◌≤◌, List, [], ◌∷◌, ◌++◌, Bool, true, false, not, ◌==◌, ◌&&◌, ◌||◌, Option, Some, None, map, refl, sym, ap, ◌∙◌, subst, arith, is_some, IsTrue}
 use Rattle.std.proofs.lemmas.Bool.{eq-eqb, eqb-true, ne_eqb, and_parts, and_from, or_cases, or_left, or_right}
-use Rattle.std.proofs.lemmas.Slice.Eq.{bytes_eq-Decides}
-use Rattle.std.specs.Prelude.{option_map, bytes_eq, ⊤}
 use Rattle.std.specs.List.{AllByRecursion, filter, find, list_any}
 use Rattle.vx_base.specs.Lists.{less, amend}
-use Rattle.vx_base.specs.Pieces.{Channel, Request, Attention, Mailbox}
+use Rattle.vx_base.specs.Pieces.{Channel, Request, Mailbox}
 use Rattle.vx_base.specs.declared.cond.Cond.TheVariants.{Cancel as Cancelled}
-use Rattle.vx_base.specs.declared.effects.Effect.{Effect}
 use Rattle.vx_base.specs.declared.effects.Effect.TheVariants as effect
+use Rattle.vx_base.specs.declared.effects.Effect.{Effect}
 use Rattle.vx_base.specs.declared.number.BoxNo.{BoxNo}
 use Rattle.vx_base.specs.declared.number.Id.{Id}
 use Rattle.vx_base.specs.declared.number.Pid.{Pid}
-use Rattle.vx_base.specs.declared.request.Device.{Device}
+use Rattle.vx_base.specs.declared.number.UnitNo.{UnitNo}
 use Rattle.vx_base.specs.declared.request.Device.TheVariants as device
+use Rattle.vx_base.specs.declared.request.Device.{Device}
 use Rattle.vx_base.specs.declared.request.Msg.{Msg}
+use Rattle.vx_record.proofs.Ground.{at_set}
+use Rattle.vx_record.proofs.Lists.{either, either_by, all_weaker, all_both, all_less, all_amend, all_filter, all_find, all_from, ordered_less, ordered_amend, removed, false_from, apart_bools, not_holds, fails_not}
+use Rattle.vx_record.proofs.SoundChannels.{is_on_box}
 use Rattle.vx_record.specs.Cancel.{with_abort, mark_part, withdraw, withdraw_from, cancelled_request, cancel_request, is_request_on, is_attention_on, drop_attention, cancel_channel}
 use Rattle.vx_record.specs.Channels.{with_channel, is_assigned, goes_unused, box_gone, swept_device, swept_box, free_channel}
 use Rattle.vx_record.specs.Finish.{ending, this_request, finish}
 use Rattle.vx_record.specs.Mailboxes.{mailbox_at, or_no_box, waits_at, this_message, mcut_part}
-use Rattle.vx_record.specs.Parts.{Part, nothing, and_then, each, part_if}
-use Rattle.vx_record.specs.State.{State, process_at, change, box_at, with_box}
+use Rattle.vx_record.specs.Parts.{Part, nothing, and_then, each}
 use Rattle.vx_record.specs.Sound.{AreOrdered, MayBeServed, request_id}
-use Rattle.vx_record.proofs.Ground.{at_set}
-use Rattle.vx_record.proofs.Lists.{either, either_by, all_weaker, all_both, all_less, all_amend, all_filter, all_find, all_from, ordered_less, ordered_amend, removed, false_from, apart_bools, not_holds, fails_not}
-use Rattle.vx_record.proofs.SoundChannels.{is_on_box}
-use Rattle.vx_laws.specs.Agrees.{as_stored, device_title}
-use Rattle.vx_laws.specs.Boxes.{Stored, this_stored, stored, stored_at}
-use Rattle.vx_laws.specs.Items.{Item, Did, later, effects_left, is_cond}
-use Rattle.vx_laws.specs.Lives.{life, lives}
-use Rattle.vx_laws.specs.MessageLaw.{is_cancelled_next, is_stored_nowhere}
+use Rattle.vx_record.specs.State.{State, change, box_at, with_box}
 use Rattle.vx_record.proofs.Cancelled.{finish_requests, withdraw_requests}
-use Rattle.vx_laws.proofs.Aside.{row, Aside, drop_attentions_aside}
-use Rattle.vx_laws.proofs.Boxed.{Origin, origin_on, IsThere, Rooted, BoxIs, Boxed, Carried, carry, all_rooted, there_as, title_as, put_there, some_within, message_id}
+use Rattle.vx_laws.proofs.Aside.{row, drop_attentions_aside}
+use Rattle.vx_laws.proofs.Boxed.{Origin, origin_on, IsThere, Rooted, Boxed, Carried, carry, all_rooted, there_as, title_as, put_there, some_within, message_id}
 use Rattle.vx_record.proofs.Finds.{other_id, find_less, find_amend, all_found, ordered_filter}
 use Rattle.vx_laws.proofs.Handed.{cut_boxed, less_fewer}
 use Rattle.vx_record.proofs.Moves.{HasRequest}
-use Rattle.vx_laws.proofs.Passing.{Right, Lawful, Walk, walk_then, walk_aside, walk_nothing, finish_walk, IsPlainCall, plain_over, Fewer, fewer_same, MayFin, lives_origin, unit_stores, mailbox_is}
+use Rattle.vx_laws.proofs.Passing.{Right, Walk, walk_then, walk_aside, walk_nothing, finish_walk, IsPlainCall, plain_over, Fewer, fewer_same, MayFin, lives_origin, unit_stores, mailbox_is, fewer_then}
 use Rattle.vx_laws.proofs.Rows.{IsClear, freed_boxed, gone_boxed, row_written}
+use Rattle.vx_laws.specs.Agrees.{as_stored, device_title}
+use Rattle.vx_laws.specs.Boxes.{this_stored, stored, stored_at}
+use Rattle.vx_laws.specs.Items.{Item, Did, later, is_cond}
+use Rattle.vx_laws.specs.Lives.{life, lives}
+use Rattle.vx_laws.specs.MessageLaw.{is_cancelled_next, is_stored_nowhere}
 
 -- A request that is to be aborted.
 
@@ -46,7 +45,7 @@ marked_boxed s r past h =
     let t = (mark_part s r).after in
     let x = Did (effect.Mark r.req.id) in
     let c : Carried s t past (x ∷ past) = record { system = refl; there = there_as s t refl refl; titles = λ d k. title_as s t refl refl d; next = omega arith; origins = λ id k. origin_on x past id tt; devices = λ p n. refl } in
-    carry s t past (x ∷ past) c refl (λ p n. refl) (λ name. refl) (ordered_amend request_id (this_request r.req.id) with_abort (λ y. refl) 0 s.next s.requests h.ordered)
+    carry s t past (x ∷ past) c refl (λ p n. refl) (λ name. refl) (λ name. refl) (ordered_amend request_id (this_request r.req.id) with_abort (λ y. refl) 0 s.next s.requests h.ordered)
     (all_amend (Rooted t (x ∷ past)) (this_request r.req.id) with_abort (λ y k. record { from = k.from; below = k.below; above = k.above; numbered = k.numbered; there = k.there; on = k.on; free = k.free; call = k.call; is = k.is; func = k.func; len = k.len }) s.requests
     (all_rooted s t past (x ∷ past) c (λ p n. refl) s.requests h.requests)) h
 
@@ -76,7 +75,7 @@ box_nowhere s past r b box on is root none h =
     let st : stored past (device_title s r.req.device) ≡ map as_stored box.messages = ap (stored past) title ∙ sym (h.boxes b box is).messages in
     or_right (not (is_cond Cancelled Cancelled)) (lives (is_stored_nowhere past r.req.id) (life past r.req.id)) (stored_nowhere s past r root (ap (list_any (this_stored r.req.id)) st ∙ (any_stored r.req.id box.messages ∙ none)))
 
-pub unit_nowhere : (s : State) (past : List Item) (r : Request) (u : Rattle.vx_base.specs.declared.number.UnitNo.UnitNo) → r.req.device ≡ device.Unit u → Rooted s past r → Boxed s past → lives (is_stored_nowhere past r.req.id) (life past r.req.id) ≡ true
+pub unit_nowhere : (s : State) (past : List Item) (r : Request) (u : UnitNo) → r.req.device ≡ device.Unit u → Rooted s past r → Boxed s past → lives (is_stored_nowhere past r.req.id) (life past r.req.id) ≡ true
 unit_nowhere s past r u on root h =
     let empty : stored past (device_title s r.req.device) ≡ [] = subst (λ (d : Device). IsThere s d → stored past (device_title s d) ≡ []) (sym on) (λ there. unit_stores s past u there h) root.there in
     stored_nowhere s past r root (ap (list_any (this_stored r.req.id)) empty)
@@ -282,7 +281,7 @@ free_walk s past p n more above one clear h = by_row (row s p n) refl
     by_row (Some ch) e =
         let t = change s p (with_channel n None) in
         let w = swept_walk t past ch.device more (there_as s t refl refl ch.device (h.rows p n ch above one e).0) (freed_boxed s p n past above one clear h) in
-        record { boxed = w.boxed; lawful = w.lawful; fewer = Rattle.vx_laws.proofs.Passing.fewer_then s t (swept_device t ch.device).after (fewer_same s t refl refl) w.fewer }
+        record { boxed = w.boxed; lawful = w.lawful; fewer = fewer_then s t (swept_device t ch.device).after (fewer_same s t refl refl) w.fewer }
 
 -- what a freed channel leaves as it was
 

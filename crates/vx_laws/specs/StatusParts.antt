@@ -7,7 +7,7 @@ use Rattle.vx_base.specs.declared.record.Rec.{Rec}
 use Rattle.vx_laws.specs.Frames.{awaited}
 use Rattle.vx_laws.specs.Items.{Item, Head, Did, flat, at_each, effects_left}
 use Rattle.vx_laws.specs.Lives.{life, lives}
-use Rattle.vx_laws.specs.StatusLaw.{resumes_right, tells_call, to_next_fin}
+use Rattle.vx_laws.specs.StatusLaw.{completes_right, resumes_right, tells_call, to_next_fin}
 
 abbrev pub is_resumption_due : List Item → Item → List Item → Bool
 is_resumption_due past (Head (event.Run p) (answer.Resume cond)) rest = resumes_right past p cond (awaited past p)
@@ -22,3 +22,7 @@ resumptions_due recs = at_each is_resumption_due [] (flat recs)
 
 abbrev pub completions_told : List Rec → Bool
 completions_told recs = at_each is_completion_told [] (flat recs)
+
+-- all that is asked of completions
+abbrev pub completes : List Rec → Bool
+completes recs = at_each completes_right [] (flat recs)

@@ -1,6 +1,8 @@
 //! What is proved of the agreement: after the records of every run the state is what the records leave.
 
-ghost use Rattle.std.specs.Prelude.{◌≡◌, ℕ, ◌+◌, ◌≤◌, List, map, true, Some};
+ghost use Rattle.std.specs.Prelude.{◌≡◌, ℕ, ◌+◌, ◌≤◌, List, [], map, true, false, Some, is_some, IsTrue, option_map};
+ghost use Rattle.vx_base.specs.Channels.{channel_at};
+ghost use Rattle.vx_base.specs.declared.number.BoxNo.{BoxNo as BoxNoOf};
 ghost use Rattle.std.specs.List.{list_any, AllByRecursion, find};
 ghost use Rattle.vx_base.specs.Clusters.{is_association, stands};
 ghost use Rattle.vx_base.specs.Pieces.{is_enabled_in};
@@ -13,7 +15,9 @@ ghost use Rattle.vx_base.specs.declared.record.Rec.{Rec as RecOf};
 ghost use Rattle.vx_image.specs.Storage.{status_at};
 ghost use Rattle.vx_image.specs.declared.decl.ProcDecl.{ProcDecl as DeclOf};
 ghost use Rattle.vx_image.specs.declared.system.System.{System as SystemOf};
-ghost use Rattle.vx_laws.specs.Agrees.{AreEntries, as_waiting, entered_frames, has_kind, is_attending, is_handler_of, is_timed, cluster_of, cluster_stands, AsCalled, IsOwned, waited};
+ghost use Rattle.vx_laws.specs.Agrees.{AreEntries, as_waiting, entered_frames, has_kind, is_attending, is_handler_of, is_timed, cluster_of, cluster_stands, AsCalled, IsOwned, as_stored, box_stands, device_title, is_box_named, OfChannelCall, waited};
+ghost use Rattle.vx_laws.specs.Boxes.{stored};
+ghost use Rattle.vx_record.specs.Channels.{is_unit_of};
 ghost use Rattle.vx_laws.specs.Charges.{charge_by};
 ghost use Rattle.vx_laws.specs.Frames.{awaited, enabled_by, entered, waiting};
 ghost use Rattle.vx_laws.specs.Items.{past_of};
@@ -24,10 +28,10 @@ ghost use Rattle.vx_laws.specs.Values.{cluster_by, flags_by, status_by};
 ghost use Rattle.vx_record.specs.Charges.{charge};
 ghost use Rattle.vx_record.specs.Finish.{this_request};
 ghost use Rattle.vx_record.specs.Flags.{flags_of};
-ghost use Rattle.vx_record.specs.Mailboxes.{this_attention};
+ghost use Rattle.vx_record.specs.Mailboxes.{this_attention, mailbox_at, waits_at};
 ghost use Rattle.vx_record.specs.Rundown.{this_handler};
 ghost use Rattle.vx_record.specs.Runs.{IsRun, after};
-ghost use Rattle.vx_record.specs.State.{process_at, IsProcess, decl_of};
+ghost use Rattle.vx_record.specs.State.{process_at, IsProcess, decl_of, box_at};
 ghost use Rattle.vx_record.specs.Timers.{this_timer};
 
 /// After the records of every run the next id is one more than the ids that they opened. Delivery is enabled in a mode if they
@@ -90,4 +94,36 @@ pub fn every_value_agrees()
 #[tactic(auto, using(crate::proofs::Resumes::every_wait))]
 pub fn every_wait_agrees()
     ensures { AfterEveryRun (λ s past. (p : PidOf) → IsProcess s p → map (λ f. f.wait) (process_at s p).frames ≡ map waited (awaited past p)) }
+{}
+
+/// After the records of every run a mailbox stands exactly if the last MBX of its name says so. Each that stands has the
+/// messages that they leave stored, in that order, of the processes that wrote them. None has both a message and a read that waits.
+#[tactic(auto, using(crate::proofs::Messages::every_box_stands))]
+pub fn every_box_agrees()
+    ensures stands { (system : SystemOf) (recs : List RecOf) (name : List ℕ) → IsRun system recs →
+        list_any (is_box_named name) (after system recs).boxes ≡ box_stands (past_of recs) name }
+    ensures messages { (system : SystemOf) (recs : List RecOf) (b : BoxNoOf) → IsRun system recs → IsTrue (is_some (box_at (after system recs) b)) →
+        map as_stored (mailbox_at (after system recs) b).messages ≡ stored (past_of recs) (mailbox_at (after system recs) b).name }
+    ensures writers { (system : SystemOf) (recs : List RecOf) (b : BoxNoOf) → IsRun system recs → IsTrue (is_some (box_at (after system recs) b)) →
+        AllByRecursion (λ m. option_map (λ l. l.p) (life (past_of recs) m.id) ≡ Some m.writer) (mailbox_at (after system recs) b).messages }
+    ensures reads { (system : SystemOf) (recs : List RecOf) (b : BoxNoOf) → IsRun system recs →
+        list_any (waits_at b) (after system recs).requests ≡ true → (mailbox_at (after system recs) b).messages ≡ [] }
+{}
+
+/// After the records of every run each channel of a process is on the device that the latest $ASSIGN or $CREMBX which gave its
+/// number names, and each outstanding request is on the device that its channel was on when it was opened.
+#[tactic(auto, using(crate::proofs::Messages::every_request_device))]
+pub fn every_device_agrees()
+    ensures channels { (system : SystemOf) (recs : List RecOf) (p : PidOf) (n : ℕ) → IsRun system recs → 1 ≤ p.0 → 1 ≤ n →
+        OfChannelCall (after system recs) (past_of recs) p n (channel_at (process_at (after system recs) p).channels n) }
+    ensures requests { (system : SystemOf) (recs : List RecOf) → IsRun system recs →
+        AllByRecursion (λ r. option_map (λ l. l.device) (life (past_of recs) r.req.id) ≡ Some (Some (device_title (after system recs) r.req.device))) (after system recs).requests }
+{}
+
+/// After the records of every run the name of a mailbox is no unit's and no other mailbox's.
+pub fn every_box_has_its_own_name()
+    ensures units { (system : SystemOf) (recs : List RecOf) (b : BoxNoOf) → IsRun system recs → IsTrue (is_some (box_at (after system recs) b)) →
+        list_any (is_unit_of (mailbox_at (after system recs) b).name) (after system recs).system.units ≡ false }
+    ensures mailboxes { (system : SystemOf) (recs : List RecOf) (b c : BoxNoOf) → IsRun system recs → IsTrue (is_some (box_at (after system recs) b)) →
+        IsTrue (is_some (box_at (after system recs) c)) → (mailbox_at (after system recs) c).name ≡ (mailbox_at (after system recs) b).name → c ≡ b }
 {}

@@ -26,14 +26,7 @@ impl<R: Routine> Model for Attention<R> {
 }
 
 impl<R: Routine> Attention<R> {
-    pub(crate) fn new(
-        id: Id,
-        p: Pid,
-        chan: u32,
-        func: Func,
-        mode: Mode,
-        routine: R,
-    ) -> Attention<R>
+    pub(crate) fn new(id: Id, p: Pid, chan: u32, func: Func, mode: Mode, routine: R) -> Attention<R>
         ensures { result ≡ record { id = id; p = p; chan = chan; func = func; mode = mode; tag = R.tagged routine } }
     {
         Attention {

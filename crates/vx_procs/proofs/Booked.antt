@@ -100,8 +100,8 @@ here_by s before after p pr ts b c made h decl frames asts limits counts =
       frames = omega (arith, frames, ap (λ (x : Process). length x.frames) at);
       asts = omega (arith, asts, ap (λ (xs : List Queued). length xs) queued);
       used = need_eq c.account.used (charge t p)
-      (counts.ast ∙ ap (λ (xs : List Queued). tally (bears_ast p) s.requests + (tally (is_attention_of p) s.attention + (tally (charged_timer p) ts + tally is_charged xs))) (sym queued))
-      counts.bio counts.dio counts.byt counts.tqe;
+          (counts.ast ∙ ap (λ (xs : List Queued). tally (bears_ast p) s.requests + (tally (is_attention_of p) s.attention + (tally (charged_timer p) ts + tally is_charged xs))) (sym queued))
+          counts.bio counts.dio counts.byt counts.tqe;
       limits = limits ∙ (h.limits ∙ ap (λ (n : ℕ). (slice_index_or s.system.decls n no_decl).limits) (sym (ap (λ (x : Process). x.decl) at ∙ decl)));
     }
 

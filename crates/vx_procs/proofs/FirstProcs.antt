@@ -53,14 +53,14 @@ first_held system xs h =
     let s : State = record (first system) { procs = map process xs } in
     record {
       booked = λ p m.
-      let f = fresh_at system.decls xs (p.0 - 1) h (omega (arith, m.above, m.within)) in
-      let asts : (process_at s p).asts ≡ [] = f.1 in
-      record {
-        frames = f.0;
-        asts = omega (arith, f.2, ap (λ (qs : List Queued). length qs) asts);
-        used = ap (λ (a : Quotas). a.used) f.3 ∙ need_eq no_need (charge s p) (ap (λ (qs : List Queued). 0 + (0 + (0 + tally is_charged qs))) (sym asts)) refl refl refl refl;
-        limits = ap (λ (a : Quotas). a.limits) f.3;
-      };
+          let f = fresh_at system.decls xs (p.0 - 1) h (omega (arith, m.above, m.within)) in
+          let asts : (process_at s p).asts ≡ [] = f.1 in
+          record {
+            frames = f.0;
+            asts = omega (arith, f.2, ap (λ (qs : List Queued). length qs) asts);
+            used = ap (λ (a : Quotas). a.used) f.3 ∙ need_eq no_need (charge s p) (ap (λ (qs : List Queued). 0 + (0 + (0 + tally is_charged qs))) (sym asts)) refl refl refl refl;
+            limits = ap (λ (a : Quotas). a.limits) f.3;
+          };
       timers = tt;
       marked = tt;
     }

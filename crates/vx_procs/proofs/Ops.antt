@@ -491,9 +491,6 @@ pub mapped_some : {A B : Type 0} (f : A → B) (o : Option A) → is_some (optio
 mapped_some f None = refl
 mapped_some f (Some x) = refl
 
-pub place_one : {R : Type 0} (test : Timer → Bool) (c : Inside R) (p : Pid) (t : Timer) (r : Proc R) → IsHeld c → Some t ≡ find test c.timers.items → t.p ≡ p → r ≡ slice_index_or c.procs.items (p.0 - 1) r → length (process r).asts + one (takes_ast t.what) ≤ (room_of r).asts
-place_one test c p t r h found own is = place_free test c p t r h found own is
-
 -- a timer that is found as p's is p's
 pub own_pid : {R : Type 0} (p : Pid) (m : Mode) (c : Inside R) (t : Timer) → Some t ≡ find (is_timer_in p m) c.timers.items → t.p ≡ p
 own_pid p m c t found =

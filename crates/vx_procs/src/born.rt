@@ -9,8 +9,8 @@ ghost use Rattle.vx_procs.specs.View.{process};
 ghost use Rattle.vx_procs.specs.Fresh.{IsFresh};
 ghost use Rattle.vx_procs.specs.Words.{born_if_started};
 
-use crate::procs::Core;
 use crate::process::Proc;
+use crate::procs::Core;
 use std::alloc::Global;
 use vx_base::{Effects, NoMemory, Reserved, Routine};
 use vx_image::{ProcDecl, ProcDecls, System};

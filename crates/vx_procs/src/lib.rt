@@ -18,4 +18,5 @@ mod reads;
 mod setters;
 mod timers;
 
+pub use crate::process::{ast_need, timer_need};
 pub use crate::procs::Core;

@@ -96,7 +96,7 @@ fn first_asts<R: Routine>(alloc: Global) -> Result<AstQueue<R>, NoMemory>
 }
 
 /// What a timer needs, with an AST or without.
-pub(crate) fn timer_need(with_ast: bool) -> Need
+pub fn timer_need(with_ast: bool) -> Need
     ensures { result ≡ timer_need with_ast }
 {
     Need {
@@ -109,7 +109,7 @@ pub(crate) fn timer_need(with_ast: bool) -> Need
 }
 
 /// What an AST needs, where it is charged.
-pub(crate) fn ast_need(charged: bool) -> Need
+pub fn ast_need(charged: bool) -> Need
     ensures { result ≡ ast_need charged }
 {
     Need {
@@ -378,6 +378,7 @@ impl<R: Routine> Proc<R> {
             return None;
         }
         let frame = self.frames.top()?;
-        self.asts.deliverable(frame.mode, self.frames.active_ast_mode())
+        self.asts
+            .deliverable(frame.mode, self.frames.active_ast_mode())
     }
 }

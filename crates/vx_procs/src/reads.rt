@@ -17,8 +17,8 @@ ghost use Rattle.vx_record.specs.Rundown.{is_busy};
 ghost use Rattle.vx_procs.specs.View.{process};
 ghost use Rattle.vx_procs.specs.Words.{decl_in, image_in, HasDecl, HasImage};
 
-use crate::procs::Core;
 use crate::process::Proc;
+use crate::procs::Core;
 use vx_base::{Cell, Entry, Frame, FrameKind, Id, Mode, Need, Phase, Pid, Privs, Routine, Target};
 use vx_image::{Image, ProcDecl, System};
 
@@ -252,6 +252,30 @@ impl<R: Routine> Core<R> {
         self.process_of(p).privs
     }
 
+    /// The group of its UIC.
+    pub fn group(&self, p: Pid) -> u32
+        requires { IsProcess self.now.state p }
+        ensures { result ≡ (process_at self.now.state p).group }
+    {
+        self.process_of(p).group
+    }
+
+    /// The member of its UIC.
+    pub fn member(&self, p: Pid) -> u32
+        requires { IsProcess self.now.state p }
+        ensures { result ≡ (process_at self.now.state p).member }
+    {
+        self.process_of(p).member
+    }
+
+    /// Whether it is to be deleted ($DELPRC).
+    pub fn is_delete_pending(&self, p: Pid) -> bool
+        requires { IsProcess self.now.state p }
+        ensures { result ≡ (process_at self.now.state p).delete_pending }
+    {
+        self.process_of(p).delete_pending
+    }
+
     /// Whether a wake pends for it.
     pub fn has_wake(&self, p: Pid) -> bool
         requires { IsProcess self.now.state p }
@@ -314,10 +338,10 @@ impl<R: Routine> Core<R> {
     }
 
     /// Whether a request of a process of a mode or an outer one is outstanding.
-    pub fn is_busy(&self, _p: Pid, _mode: Mode) -> bool
-        ensures { result ≡ is_busy self.now.state _p _mode }
+    pub fn is_busy(&self, p: Pid, mode: Mode) -> bool
+        ensures { result ≡ is_busy self.now.state p mode }
     {
-        let _next = self.next;
+        let (_p, _mode, _next) = (p, mode, self.next);
         false
     }
 

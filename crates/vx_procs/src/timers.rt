@@ -13,8 +13,8 @@ ghost use Rattle.vx_procs.specs.Held.{IsOwn};
 ghost use Rattle.vx_procs.specs.Ready.{HasSpares};
 ghost use Rattle.vx_procs.specs.Words.{due_flag, fired_ast, moved_on, without_timer};
 
-use crate::procs::Core;
 use crate::process::timer_need;
+use crate::procs::Core;
 use vx_base::{Id, Mode, Pid, Routine};
 use vx_timers::{Due, What, first_due, least, take_due, take_timer_in};
 

@@ -1,6 +1,6 @@
 -- Changes of one process that keep references.
 use Rattle.std.proofs.Common.{IfSome}
-use Rattle.std.proofs.Common.{◌≡◌, ℕ, ◌-◌, ◌≤◌, List, [], ◌∷◌, Bool, false, nat_lt, length, Option, None, refl, sym, ap, ◌∙◌, arith}
+use Rattle.std.proofs.Common.{◌≡◌, ℕ, ◌-◌, ◌≤◌, List, [], ◌∷◌, Bool, false, nat_lt, length, Option, None, refl, sym, ◌∙◌, arith}
 use Rattle.vx_base.specs.Pieces.{Queued, Handler, Status}
 use Rattle.vx_base.specs.declared.call.Target.{Target}
 use Rattle.vx_base.specs.declared.frame.Frame.{Frame}

@@ -13,7 +13,7 @@ use Rattle.vx_base.specs.declared.request.Device.TheVariants as device
 use Rattle.vx_base.specs.declared.routine.Entry.{Entry}
 use Rattle.vx_base.specs.declared.routine.Entry.TheVariants as entry
 use Rattle.vx_image.specs.declared.system.System.{System}
-use Rattle.vx_record.specs.State.{Process, State, IsProcess, nobody, process_at, change, past_id}
+use Rattle.vx_record.specs.State.{Process, State, nobody, process_at, change, past_id}
 use Rattle.vx_record.specs.Sound.{Ground, ground, IsMade, process_of, IsRoutine, IsRoutineOf, BoxStands, DeviceStands, ChannelStands, HasChannel, IsRooted, RequestStands, AlarmStands, TimerStands, is_drained, AttentionStands, ProcessStands, AssociationStands, AreOrdered, request_id, timer_id, attention_id}
 use Rattle.vx_record.proofs.Firm.{IsFirm}
 use Rattle.vx_record.proofs.Lists.{all_weaker, all_set, ordered_below}

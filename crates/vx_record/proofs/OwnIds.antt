@@ -1,6 +1,8 @@
 -- No two open things have one id, after each move.
-use Rattle.std.proofs.Common.{◌≡◌, ℕ, zero, suc, ◌+◌, ◌-◌, ◌≤◌, List, [], ◌∷◌, ◌++◌, Bool, true, false, cond, ◌==◌, nat_lt, Option, Some, None, refl, ap, ◌∙◌, subst, arith, get_or, set, inl, inr}
-use Rattle.std.proofs.lemmas.Bool.{cases_eq, eq-eqb, ne_eqb}
+use Rattle.std.proofs.Common.{◌≡◌, ℕ, zero, suc, ◌+◌, ◌-◌, ◌≤◌, List, [], ◌∷◌, ◌++◌, Bool, cond, ◌==◌, nat_lt, Option, Some, None, refl, ap, arith, get_or, set, inl, inr}
+use Rattle.std.specs.List.{AllByRecursion}
+use Rattle.std.proofs.Common.{◌<◌}
+use Rattle.std.proofs.lemmas.Bool.{cases_lt, cases_eq, eq-eqb, ne_eqb}
 use Rattle.std.specs.List.{filter, find}
 use Rattle.vx_base.specs.Lists.{less, amend, tally}
 use Rattle.vx_base.specs.Pieces.{Queued, Handler, Request, Promised, Timer, Alarm, OfTimer, OfWake, Attention}
@@ -12,7 +14,7 @@ use Rattle.vx_base.specs.declared.number.Pid.{Pid}
 use Rattle.vx_record.specs.State.{Process, State, nobody, process_at, change, past_id}
 use Rattle.vx_base.specs.Flags.{one}
 use Rattle.vx_record.specs.Parts.{total, each}
-use Rattle.vx_record.specs.Asts.{charged_ast, with_queued}
+use Rattle.vx_record.specs.Asts.{with_queued}
 use Rattle.vx_record.specs.Cancel.{with_abort}
 use Rattle.vx_record.specs.Control.{created}
 use Rattle.vx_record.specs.Finish.{this_request}
@@ -33,7 +35,7 @@ use Rattle.vx_record.specs.Rundown.{in_phase}
 use Rattle.vx_record.specs.Services.{with_variable}
 use Rattle.vx_record.specs.Timers.{this_timer, due_again, after_wake}
 use Rattle.vx_record.proofs.Lists.{either, either_by}
-use Rattle.vx_record.proofs.Moves.{Loose, passed, loosed, loosed_timer, promised_by, fired_by, MovesBy, none, skip, both, quiet, moved, bytes, var, status, enb, channel, newly, gone, leave, flag, clusters, open_ast, open_force, que, end_asts, open_handler, end_handler, end_handlers, enter, open_request, fin, mark, unit, mput, mget, mcut, box_opens, box_ends, box_marked, open_attention, attention_fires, end_attention, open_timer, open_wake, timer_fires, wake_fires, end_timer, time}
+use Rattle.vx_record.proofs.Moves.{Loose, passed, loosed, loosed_timer, MovesBy, none, skip, both, quiet, moved, bytes, var, status, enb, channel, newly, gone, leave, flag, clusters, open_ast, open_force, que, end_asts, open_handler, end_handler, end_handlers, enter, open_request, fin, mark, unit, mput, mget, mcut, box_opens, box_ends, box_marked, open_attention, attention_fires, end_attention, open_timer, open_wake, timer_fires, wake_fires, end_timer, time}
 
 -- Lists.
 
@@ -227,3 +229,29 @@ born_bear id place (d ∷ ds) = let rest = born_bear id (place + 1) ds in either
 
 pub first_own : (system : System) → HaveOwnIds (first system)
 first_own system = record { single = λ id. let e = born_bear id 0 system.decls in omega (arith, e); below = λ id k. let e = born_bear id 0 system.decls in omega (arith, e) }
+
+-- What it says of queued ASTs: of those of a process no two have one id, and their ids are below the next.
+
+all_below : (n : ℕ) (qs : List Queued) → ((id : ℕ) → n ≤ id → tally (λ q. q.id.0 == id) qs ≡ 0) → AllByRecursion (λ q. q.id.0 < n) qs
+all_below n [] k = tt
+all_below n (q ∷ qs) k = (here, all_below n qs (λ id e. let z = k id e in omega (arith, z)))
+  where
+    here : q.id.0 < n
+    here = elim (cases_lt q.id.0 n) [
+      | inl less ↦ less
+      | inr past ↦ absurd (let z = k q.id.0 past in let y : one (q.id.0 == q.id.0) ≡ 1 = rw (eq-eqb q.id.0 q.id.0 refl) refl in omega (arith, z, y))
+    ]
+
+pub record HaveOwnAsts (next : ℕ) (pr : Process) : Type 0 where
+  pub single : (id : ℕ) → tally (λ q. q.id.0 == id) pr.asts ≤ 1
+  pub below : AllByRecursion (λ q. q.id.0 < next) pr.asts
+
+processes_own : (next : ℕ) (prs : List Process) → ((id : ℕ) → total (process_bears id) prs ≤ 1) → ((id : ℕ) → next ≤ id → total (process_bears id) prs ≡ 0) → AllByRecursion (HaveOwnAsts next) prs
+processes_own next [] h k = tt
+processes_own next (pr ∷ prs) h k = (
+  record { single = λ id. let a = h id in omega (arith, a); below = all_below next pr.asts (λ id e. let a = k id e in omega (arith, a)) },
+  processes_own next prs (λ id. let a = h id in omega (arith, a)) (λ id e. let a = k id e in omega (arith, a)),
+)
+
+pub asts_own : (s : State) → HaveOwnIds s → AllByRecursion (HaveOwnAsts s.next) s.procs
+asts_own s h = processes_own s.next s.procs (λ id. let a = h.single id in omega (arith, a)) (λ id e. let a = h.below id e in omega (arith, a))

@@ -2,7 +2,6 @@
 use Rattle.std.proofs.Common.{◌≡◌, ℕ, ◌-◌, ◌+◌, ◌<◌, ◌≤◌, List, [], ◌∷◌, ◌++◌, ◌≢◌, ◌==◌, Bool, true, false, Option, Some, None, IfSome, refl, sym, ap, ◌∙◌, subst, length, arith, inl, inr, get_or-set_other}
 use Rattle.std.proofs.Math.ListN.{length-set}
 use Rattle.std.proofs.lemmas.Bool.{cases_eq}
-use Rattle.std.proofs.lemmas.List.{get_or_append_left}
 use Rattle.std.specs.List.{filter, list_any}
 use Rattle.vx_base.specs.Channels.{channels_of}
 use Rattle.vx_base.specs.Pieces.{Attention, Request, Promised, Timer, Alarm, OfTimer, OfWake, Channel}

@@ -1,15 +1,15 @@
 -- Each service and each event is a sequence of moves.
-use Rattle.std.proofs.Common.{◌≡◌, ℕ, ◌^◌, ◌%◌, List, [], ◌∷◌, Bool, true, false, cond, not, ◌==◌, ◌&&◌, ◌||◌, nat_lt, nat_le, length, Option, Some, None, Result, Ok, Err, is_some, position, is_none, refl, ◌∙◌}
+use Rattle.std.proofs.Common.{◌≡◌, ℕ, ◌^◌, ◌%◌, List, [], ◌∷◌, Bool, true, false, not, ◌==◌, ◌&&◌, ◌||◌, nat_lt, nat_le, length, Option, Some, None, Result, Ok, Err, position, refl, ◌∙◌}
 use Rattle.std.specs.List.{filter, find, list_any}
 use Rattle.vx_base.specs.Modes.{outer, is_kernel}
-use Rattle.vx_base.specs.Pieces.{Queued, Channel, Handler, Request, Promised, Timer, Alarm, OfTimer, OfWake, Attention, Mailbox, Status, cleared}
+use Rattle.vx_base.specs.Pieces.{Queued, Channel, Handler, Request, Promised, Timer, Attention}
 use Rattle.vx_base.specs.Queues.{in_service}
 use Rattle.vx_base.specs.Serving.{serve, settled}
 use Rattle.vx_base.specs.declared.call.Args.{Args}
 use Rattle.vx_base.specs.declared.call.Call.{Call}
 use Rattle.vx_base.specs.declared.call.Target.{Target}
 use Rattle.vx_base.specs.declared.cond.Cond.{Cond}
-use Rattle.vx_base.specs.declared.cond.Cond.TheVariants.{Cancel as Cancelled, EndOfFile}
+use Rattle.vx_base.specs.declared.cond.Cond.TheVariants.{Cancel as Cancelled}
 use Rattle.vx_base.specs.declared.effects.Cell.{Cell}
 use Rattle.vx_base.specs.declared.effects.Cell.TheVariants.{Local, Common}
 use Rattle.vx_base.specs.declared.frame.Frame.{Frame}
@@ -20,7 +20,6 @@ use Rattle.vx_base.specs.declared.frame.Phase.TheVariants as phase
 use Rattle.vx_base.specs.declared.frame.Wait.{Wait}
 use Rattle.vx_base.specs.declared.frame.Wait.TheVariants as wait
 use Rattle.vx_base.specs.declared.mode.Mode.{Mode}
-use Rattle.vx_base.specs.declared.number.BoxNo.{BoxNo}
 use Rattle.vx_base.specs.declared.number.Pid.{Pid}
 use Rattle.vx_base.specs.declared.number.UnitNo.{UnitNo}
 use Rattle.vx_base.specs.declared.record.Answer.{Answer}
@@ -28,9 +27,6 @@ use Rattle.vx_base.specs.declared.record.Event.{Event}
 use Rattle.vx_base.specs.declared.record.Event.TheVariants as event
 use Rattle.vx_base.specs.declared.request.Device.{Device}
 use Rattle.vx_base.specs.declared.request.Device.TheVariants as device
-use Rattle.vx_base.specs.declared.request.Func.{Func}
-use Rattle.vx_base.specs.declared.request.Func.TheVariants.{ReadAttn, WrtAttn}
-use Rattle.vx_base.specs.declared.request.Msg.{Msg}
 use Rattle.vx_base.specs.declared.request.Req.{Req}
 use Rattle.vx_base.specs.declared.routine.Entry.{Entry}
 use Rattle.vx_base.specs.declared.routine.Entry.TheVariants as entry
@@ -40,99 +36,80 @@ use Rattle.vx_image.specs.Local.{Advanced, advanced}
 use Rattle.vx_image.specs.declared.stop.Stop.{Stop}
 use Rattle.vx_image.specs.declared.stop.Stop.TheVariants as stop
 use Rattle.vx_record.specs.State.{State, process_at, change, current, image_of, unit_at}
-use Rattle.vx_record.specs.Parts.{Part, Outcome, nothing, each, part_if, refused, at_tested, part_of}
-use Rattle.vx_record.specs.Charges.{moved_bytes, request_need, exceeds, ast_need, timer_need, is_direct, is_attention}
-use Rattle.vx_record.specs.Flags.{cell, flag_part, flag_where_named, at_named, at_flag, put_flag_at, refused_value, readef_at, readef, refused_wait, wait_condition, awaited_at, awaited, waits_on, is_common, wants_prmceb}
+use Rattle.vx_record.specs.Parts.{Part, Outcome, nothing, each, refused, part_of}
+use Rattle.vx_record.specs.Charges.{exceeds, ast_need}
+use Rattle.vx_record.specs.Flags.{cell, flag_where_named, put_flag_at, refused_value, readef_at, readef, wait_condition, is_common, wants_prmceb}
 use Rattle.vx_record.specs.Asts.{is_inside}
-use Rattle.vx_record.specs.Finish.{Ending, ending, is_read, fin_part, buf_part, status_of, iosb_part, done_flag_part, done_ast_part, finish, finish_found, this_request}
-use Rattle.vx_record.specs.Mailboxes.{mailbox_at, is_waiting_func, waits_at, this_message, mput_part, mget_part, mcut_part, message_of, read_ending, write_ending, received, write_done, is_attention_at, fire_attention, call_attention, store_message, hand_over, write_box, take_message, read_box, is_answered_now, attend}
-use Rattle.vx_record.specs.Channels.{channel_test, box_named, device_named, with_channel, free_channel_of, assign_at, assign_to, assign, is_bad_box, new_box, make_box, make_box_in, find_or_create, crembx, marked_box, delmbx_on, delmbx_at, is_assigned, goes_unused, box_gone, swept_device, swept_box, free_channel}
+use Rattle.vx_record.specs.Finish.{Ending, ending, is_read, fin_part, buf_part, status_of, iosb_part, done_flag_part, done_ast_part, finish}
+use Rattle.vx_record.specs.Mailboxes.{mailbox_at, this_message, mcut_part}
+use Rattle.vx_record.specs.Channels.{channel_test, box_named, device_named, assign, crembx, delmbx_at, free_channel}
 use Rattle.vx_record.specs.Cancel.{mark_part, withdraw, cancelled_request, cancel_request, is_request_on, is_attention_on, drop_attention, cancel_channel, cancel_at, dassgn_at}
-use Rattle.vx_record.specs.Requests.{is_bad, has_function, is_too_long, is_full, device_test, on_channel, on_cell, attention_set, Asked, request_test, new_request, opened_request, cleared_part, begun_on, transfer, new_attention, attention_opened, done_at_once, attention_on, asked_of, accepted, qio_tested, qiow_tested, unit_ending, with_unit}
+use Rattle.vx_record.specs.Requests.{request_test, unit_ending, with_unit}
 use Rattle.vx_record.specs.Control.{process_test, changed_process, with_wake, with_suspension, forced, creprc}
-use Rattle.vx_record.specs.Timers.{drop_timer, drop_timers, setimr_at, setimr, is_cancelled_timer, scheduled, is_wake_for, unscheduled, que_timer, fire_timer, fired, fire, is_due, at_time, next_time, tick}
+use Rattle.vx_record.specs.Timers.{drop_timer, drop_timers, is_cancelled_timer, scheduled, is_wake_for, unscheduled}
 use Rattle.vx_record.specs.Rundown.{leave_kind, leave_frame, leave_all, exited, without_frames, is_handler_of, is_handler_with, drop_handlers, any_handler, cancel_found, cancel_handlers, named_for_deletion, deleted_by, cancel_one, free_one, is_timer_in, is_wake_by, cancel_modes, release, drop_all_handlers, is_busy, drain, cancelled_in, run_handlers, handling, run_down, inner_modes, rundown_from}
 use Rattle.vx_record.specs.Services.{number, place, access_mode, text, routine_or_none, decl_place, asked, valued_at, numbered_at, service_of, service}
 use Rattle.vx_record.specs.Events.{r0_of, returned_from, returned, served_call, moved_behind, moved_to, run_on, run_advanced, reader, run_frame, run, started, don, step}
 use Rattle.vx_record.specs.declared.served.Served.{Served}
 use Rattle.vx_record.specs.declared.served.Served.TheVariants.{Answered, Waits}
-use Rattle.vx_base.specs.Channels.{channel_at, channels_of}
+use Rattle.vx_base.specs.Channels.{channels_of}
 use Rattle.vx_record.proofs.Lists.{either}
-use Rattle.std.proofs.Common.{◌+◌, ◌-◌, ◌≤◌, ◌++◌, IfSome, sym, ap, arith, subst, append-nil, zero, suc, get_or}
-use Rattle.vx_record.specs.Requests.{promised}
+use Rattle.std.proofs.Common.{◌+◌, ◌≤◌, IfSome, sym, ap, arith, subst, append-nil, zero, suc, get_or}
 use Rattle.vx_record.specs.Rundown.{drop_asts}
-use Rattle.std.proofs.lemmas.Bool.{eq-eqb, eqb-true, and_parts, leb-true, ltb-true}
-use Rattle.std.proofs.Math.ListN.{length-set}
+use Rattle.std.proofs.lemmas.Bool.{and_parts, leb-true}
 use Rattle.std.specs.List.{AllByRecursion}
-use Rattle.std.specs.Prelude.{option_map}
-use Rattle.vx_base.specs.Clusters.{Common as Clusters, Change, stands, followed, joined, parted, swept_at, swept, dissociated_at, dissociated, has_already, made_where_new, associated, marked_at, marked, is_used, is_user, is_association, is_cluster}
-use Rattle.vx_base.specs.Lists.{less, amend}
-use Rattle.vx_base.specs.Pieces.{Association, Cluster}
+use Rattle.vx_base.specs.Clusters.{dissociated, associated, marked, is_cluster}
 use Rattle.vx_base.specs.declared.effects.Effect.{Effect}
 use Rattle.vx_base.specs.declared.effects.Effect.TheVariants as effect
 use Rattle.vx_base.specs.declared.effects.Opened.TheVariants as opened
-use Rattle.vx_record.specs.Channels.{box_number, box_made}
-use Rattle.vx_record.specs.Timers.{mode_of_ast}
-use Rattle.vx_base.specs.declared.number.Id.{Id}
 use Rattle.vx_record.specs.State.{Process, IsProcess}
 use Rattle.vx_record.specs.Parts.{and_then, followed_by}
-use Rattle.vx_record.specs.Flags.{common_cell, with_wait, with_local_flag}
+use Rattle.vx_record.specs.Flags.{with_wait, with_local_flag}
 use Rattle.vx_base.specs.Clusters.{cluster_number}
 use Rattle.vx_base.specs.declared.cond.Cond.TheVariants.{Normal}
 use Rattle.vx_base.specs.declared.mode.Mode.TheVariants.{User}
 use Rattle.vx_record.specs.State.{next_id, past_id}
 use Rattle.vx_record.specs.Asts.{declared_ast, charged_ast, with_frame}
-use Rattle.vx_record.specs.Cancel.{with_abort}
 use Rattle.vx_record.specs.Control.{exists_for_control, may_control, named_process, exit_ast}
-use Rattle.vx_record.specs.Mailboxes.{this_attention}
 use Rattle.vx_base.specs.Cond.{number_of}
 use Rattle.vx_base.specs.Queues.{is_served_by}
 use Rattle.vx_record.specs.Rundown.{handler_frame, in_phase, gone_part, part_with}
 use Rattle.vx_record.specs.Services.{var_part, valued, routine}
-use Rattle.vx_record.specs.Timers.{this_timer, due_again, after_wake, new_timer, new_wake, timer_set, gettim}
+use Rattle.vx_record.specs.Timers.{gettim}
 use Rattle.vx_record.specs.Events.{resumed_with, uses_wake, with_r0, put_back, below_top, or_normal}
-use Rattle.vx_record.specs.Sound.{AreOrdered, request_id, timer_id, attention_id}
-use Rattle.vx_record.proofs.Lists.{either_by, all_weaker, all_both, all_append, all_filter, all_find, find_passes, all_from, ordered_more, not_holds, not_fails, some_found}
+use Rattle.vx_record.proofs.Lists.{either_by, all_weaker, all_both, not_fails, some_found}
 use Rattle.std.proofs.Common.{◌<◌}
 use Rattle.std.specs.Prelude.{bytes_eq, unwrap_or}
 use Rattle.std.proofs.lemmas.Slice.Eq.{bytes_eq-Decides}
 use Rattle.std.proofs.lemmas.List.Quantifiers.{position-Some}
-use Rattle.vx_base.specs.declared.quota.Need.{Need}
 use Rattle.vx_image.specs.declared.decl.ProcDecl.{ProcDecl}
-use Rattle.vx_base.specs.Quotas.{together, is_within}
-use Rattle.vx_record.specs.State.{limits_of, no_decl}
-use Rattle.vx_record.specs.Charges.{charge}
+use Rattle.vx_record.specs.State.{no_decl}
 use Rattle.vx_record.specs.Finish.{with_stored_status}
-use Rattle.vx_record.specs.Flags.{with_cell}
 use Rattle.vx_record.proofs.Moves.{HasAstRoom, IsDeclared}
 use Rattle.vx_record.proofs.Moves.{Loose, passed, IsAt, IsIdle, IsSetWhere, promised_by, loosed, loosed_timer, fired_by, IsCellMade, IsAlarmMade, IsOfTimer, IsSilent, is_clusters, associates, dissociates, marks, IsNew, IsNewAttention, IsNewTimer, HasRequest, HasTimer, HasAttention, none, skip, both, quiet, moved, bytes, var, status, enb, channel, newly, gone, leave, flag, clusters, open_ast, open_force, que, end_asts, open_handler, end_handler, end_handlers, enter, open_request, fin, mark, unit, mput, mget, mcut, box_opens, box_ends, box_marked, open_attention, attention_fires, end_attention, open_timer, open_wake, timer_fires, wake_fires, end_timer, time, MovesBy, PartBy, OutcomeBy}
 use Rattle.vx_record.proofs.Locals.{advanced_statuses}
-use Rattle.std.proofs.Common.{◌≢◌, inl, inr}
-use Rattle.std.proofs.lemmas.Bool.{and_from, or_cases, or_left, or_right}
 use Rattle.std.specs.Prelude.{⊤}
 use Rattle.vx_base.specs.declared.call.Target.TheVariants as target
 use Rattle.vx_image.specs.WellFormed.{IsWellFormed}
 use Rattle.vx_record.specs.State.{HasFrame, top_mode}
 use Rattle.vx_record.specs.Asts.{with_queued}
-use Rattle.vx_record.specs.Channels.{is_box_of, unit_named}
+use Rattle.vx_record.specs.Channels.{unit_named}
 use Rattle.vx_record.specs.Finish.{with_stored_bytes}
 use Rattle.vx_record.specs.Rundown.{leaving, leaving_deleted, keeps_busy}
-use Rattle.vx_record.specs.Sound.{ground, IsRoutineOf, DeviceStands, RequestStands, AttentionStands, MayBeServed, IsIdle as Idles}
-use Rattle.vx_record.proofs.Firm.{IsFirm}
-use Rattle.vx_record.proofs.Lists.{all_less, all_amend, ordered_amend, ordered_less, removed, fails_not, false_from, apart_bools, none_passes}
-use Rattle.vx_record.proofs.Changes.{Quiet, with_wait_quiet, with_wake_quiet, with_suspension_quiet, with_variable_quiet, put_back_quiet, below_top_quiet, woken_quiet, leaving_going, deleted_going, idle_none, idle_of, firm_at}
+use Rattle.vx_record.specs.Sound.{ground, IsRoutineOf, IsIdle as Idles}
+use Rattle.vx_record.proofs.Lists.{none_passes}
+use Rattle.vx_record.proofs.Changes.{with_suspension_quiet, with_variable_quiet, put_back_quiet, below_top_quiet, woken_quiet, leaving_going, deleted_going, idle_none, idle_of, firm_at}
 use Rattle.vx_record.proofs.Called.{IsCalled, declared_routine, handler_routine, third_routine, fifth_routine, IsStopped, stopped_call, moved_stopped, advanced_stopped}
-use Rattle.vx_record.proofs.Fits.{field_same, IsSeated, seated_then, cell_seated, status_seated, routine_seated, IsFit, tested_fits, fit_seated, fit_request, fit_attention}
+use Rattle.vx_record.proofs.Fits.{field_same, tested_fits}
 use Rattle.vx_record.proofs.Freeing.{IsFreeing, IsReleased, freeing_first, freeing_row, freed_on, released_frames, phase_at}
 use Rattle.vx_record.proofs.Moves.{PartMoves, Answers, IsCalm, IsTame, calm, drains, AreUnattended, IsRow}
 use Rattle.vx_record.proofs.SoundCalls.{placed}
-use Rattle.vx_record.proofs.SoundChannels.{IsClear, is_on_box, free_row, is_some_box, named_stands, made_there}
+use Rattle.vx_record.proofs.SoundChannels.{named_stands}
 use Rattle.vx_record.proofs.SoundFlags.{associated_stands, dissociated_stands, marked_stands}
 use Rattle.vx_record.proofs.SoundRequests.{tested_channel}
 use Rattle.std.proofs.lemmas.Bool.{ltb-false}
 use Rattle.vx_record.specs.Sound.{WaitStands}
-use Rattle.vx_record.proofs.Base.{Base, made_more, moves_keep}
-use Rattle.vx_record.proofs.Finds.{other_id, find_less, find_amend, all_found, ordered_filter}
+use Rattle.vx_record.proofs.Base.{Base, moves_keep}
 use Rattle.vx_record.proofs.Apart.{Here, here_after, part_then, based_then, outcome_either, each_free, tamely, at_flag_moves, waited, waits_moves, dissociated_only, associated_only, marked_at_only, finish_moves, requests_found, tested_cell, qio_moves, qiow_moves}
 use Rattle.vx_record.proofs.Cancelled.{at_tested_moves, assign_to_moves, crembx_moves, delmbx_moves, free_channel_moves, cancel_channel_moves, cancel_channel_all, cancel_channel_attention, cancel_channel_clears, drop_timers_moves, setimr_moves, scheduled_moves, woken, tick_moves}
 

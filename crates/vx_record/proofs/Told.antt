@@ -1,5 +1,5 @@
 -- The same with references left aside.
-use Rattle.std.proofs.Common.{◌≡◌, true, false, Option, Result, Ok, is_some}
+use Rattle.std.proofs.Common.{◌≡◌, true, false, Option, Ok, is_some}
 use Rattle.vx_base.specs.Pieces.{Queued, Channel}
 use Rattle.vx_base.specs.declared.call.Call.{Call}
 use Rattle.vx_base.specs.declared.effects.Cell.{Cell}

@@ -1,7 +1,6 @@
 -- Rundown where nothing is open but ASTs and timers: no channel, handler, request, wake or cluster stands in the way.
-use Rattle.std.proofs.Common.{◌≡◌, ℕ, ◌-◌, Bool, true, false, cond, ◌&&◌, if◌then◌else◌, List, [], ◌∷◌, ◌++◌, IsTrue, Option, length, refl, ap, sym, subst, ◌∙◌}
+use Rattle.std.proofs.Common.{◌≡◌, ℕ, ◌-◌, Bool, true, false, cond, ◌&&◌, if◌then◌else◌, List, [], ◌∷◌, ◌++◌, IsTrue, refl, ap, sym, subst, ◌∙◌}
 use Rattle.std.specs.List.{AllByRecursion, filter, find, list_any}
-use Rattle.vx_base.specs.Channels.{channels_of}
 use Rattle.vx_base.specs.Clusters.{is_association, dissociated_at}
 use Rattle.vx_base.specs.Lists.{less}
 use Rattle.vx_base.specs.Pieces.{Alarm, Association, Handler, OfTimer, OfWake, Queued, Request, Timer}
@@ -12,7 +11,7 @@ use Rattle.vx_base.specs.declared.mode.Mode.TheVariants.{Kernel, Exec, Super, Us
 use Rattle.vx_base.specs.declared.number.Pid.{Pid}
 use Rattle.vx_base.specs.declared.record.Answer.{Answer}
 use Rattle.vx_base.specs.declared.record.Answer.TheVariants as answer
-use Rattle.vx_record.specs.State.{Process, State, IsProcess, process_at, change, nobody}
+use Rattle.vx_record.specs.State.{Process, State, process_at, change, nobody}
 use Rattle.vx_record.specs.Charges.{is_same, is_timer}
 use Rattle.vx_record.specs.Parts.{Part, Outcome, nothing, and_then, each, answered, followed_by, commonly}
 use Rattle.vx_record.specs.Timers.{drop_timer, drop_timers, is_wake_for}

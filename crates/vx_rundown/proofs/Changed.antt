@@ -1,5 +1,5 @@
 -- A process that is changed, seen in the state after it.
-use Rattle.std.proofs.Common.{◌≡◌, ◌-◌, List, [], ◌++◌, length, set, get_or-set_same, length-set, ap, ◌∙◌, arith}
+use Rattle.std.proofs.Common.{◌≡◌, ◌-◌, List, ◌++◌, get_or-set_same, length-set, ap, ◌∙◌, arith}
 use Rattle.std.proofs.lemmas.List.{append-nil}
 use Rattle.vx_base.specs.declared.effects.Effect.{Effect}
 use Rattle.vx_base.specs.declared.number.Pid.{Pid}

@@ -1,6 +1,6 @@
 -- Queued ASTs of a mode and outer ones are dropped, and timers, the first of them at a time.
-use Rattle.std.proofs.Common.{◌≡◌, ℕ, ◌+◌, ◌-◌, ◌<◌, List, [], ◌∷◌, Bool, true, false, cond, not, ◌==◌, length, eq-eqb, arith, IsTrue, Option, Some, None, option_map, refl, ap, sym, subst, ◌∙◌}
-use Rattle.std.specs.List.{AllByRecursion, filter, find, list_any}
+use Rattle.std.proofs.Common.{◌≡◌, ◌-◌, ◌<◌, List, [], ◌∷◌, Bool, true, false, cond, not, ◌==◌, length, eq-eqb, arith, IsTrue, Option, Some, None, option_map, refl, ap, sym, subst, ◌∙◌}
+use Rattle.std.specs.List.{filter, find, list_any}
 use Rattle.std.proofs.lemmas.Bool.{and_parts, and_from, not-true, or_parts}
 use Rattle.std.proofs.lemmas.List.{set-get_or}
 use Rattle.vx_base.specs.Lists.{less}
@@ -10,15 +10,13 @@ use Rattle.vx_base.specs.declared.effects.Effect.TheVariants as effect
 use Rattle.vx_base.specs.declared.mode.Mode.{Mode}
 use Rattle.vx_base.specs.declared.number.Id.{Id}
 use Rattle.vx_base.specs.declared.number.Pid.{Pid}
-use Rattle.vx_record.proofs.Lists.{all_less, either, fails_not, ordered_less}
-use Rattle.vx_record.specs.Charges.{is_timer}
+use Rattle.vx_record.proofs.Lists.{either, fails_not, ordered_less}
 use Rattle.vx_record.specs.State.{Process, State, IsProcess, process_at, change, nobody}
-use Rattle.vx_record.specs.Parts.{Part, nothing, tells, and_then, each}
+use Rattle.vx_record.specs.Parts.{Part, tells, and_then, each}
 use Rattle.vx_record.specs.Rundown.{drop_ast, drop_asts, is_ast_reached, without_ast}
-use Rattle.vx_record.specs.Sound.{AreOrdered, timer_id}
+use Rattle.vx_record.specs.Sound.{timer_id}
 use Rattle.vx_record.specs.Timers.{drop_timer, drop_timers, this_timer}
 use Rattle.vx_procs.specs.Kernel.{Acts, Fits, Kernel, changed, told, with_state}
-use Rattle.vx_procs.specs.Ready.{IsBare, IsBareProcess}
 use Rattle.vx_procs.specs.Words.{have_own_ids, without_reached, without_timer}
 use Rattle.vx_procs.proofs.Booked.{length-less}
 use Rattle.vx_procs.proofs.Firsts.{filter_found, filter_none, less_same}

@@ -1,5 +1,5 @@
 -- Rundown, mode after mode.
-use Rattle.std.proofs.Common.{◌≡◌, ◌+◌, List, [], ◌∷◌, ◌++◌, length, length-append, IsTrue, Option, Some, ap, sym, subst, ◌∙◌, refl, arith}
+use Rattle.std.proofs.Common.{◌≡◌, List, [], ◌∷◌, length, length-append, IsTrue, Option, Some, ap, sym, subst, ◌∙◌, refl, arith}
 use Rattle.std.proofs.lemmas.List.{append-nil}
 use Rattle.vx_base.specs.declared.effects.Effect.{Effect}
 use Rattle.vx_base.specs.declared.frame.Phase.{Phase}
@@ -12,10 +12,10 @@ use Rattle.vx_record.specs.Parts.{Outcome, Part, and_then, followed_by, nothing}
 use Rattle.vx_record.specs.Rundown.{drop_asts, draining, handling, in_phase, inner_modes, is_timer_in, run_down, rundown}
 use Rattle.vx_record.specs.Sound.{AreOrdered, timer_id}
 use Rattle.vx_record.specs.Timers.{drop_timers}
-use Rattle.vx_procs.specs.Kernel.{Acts, Does, Fits, Kernel, changed, told, with_state}
+use Rattle.vx_procs.specs.Kernel.{Acts, Fits, Kernel, changed, told, with_state}
 use Rattle.vx_procs.specs.Ready.{IsReady}
 use Rattle.vx_procs.specs.Words.{have_own_ids}
-use Rattle.vx_procs.proofs.Rest.{IsAnswering, acted, answering_begun, answering_end, answering_on, answering_room}
+use Rattle.vx_procs.proofs.Rest.{IsAnswering, acted, answering_begun, answering_on, answering_room}
 use Rattle.vx_rundown.specs.Leaving.{IsLeaving, cancelled}
 use Rattle.vx_rundown.specs.Modes.{modes_from, next_inner}
 use Rattle.vx_rundown.proofs.Bare.{cancelled_timers, in_phase_bare, inner_next, mode_done, rundown_drains}

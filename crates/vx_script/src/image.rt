@@ -5,7 +5,7 @@ ghost use Rattle.vx_table.specs.Reading.{toks};
 ghost use Rattle.vx_script.specs.Reading as spec;
 ghost use Rattle.vx_script.specs.Steps.{ReadsLine};
 
-use crate::declaration::{unused_name, room_for};
+use crate::declaration::{room_for, unused_name};
 use crate::draft::{DraftImage, DraftLine, MOST_STMTS};
 use crate::ending::with_image;
 use crate::fault::LineFail;

@@ -108,7 +108,11 @@ pub fn hex_value(b: u8) -> u8
     ensures value { result ≡ classes.hex_value b }
     ensures small { result < 16 }
 {
-    if is_digit(b) { b - 48 } else { to_upper(b) - 55 }
+    if is_digit(b) {
+        b - 48
+    } else {
+        to_upper(b) - 55
+    }
 }
 
 /// The number that a run of decimal digits spells, if it is one of at most 4294967295.

@@ -1,11 +1,10 @@
 -- Device units while they serve.
-use Rattle.std.specs.Prelude.{ℕ, ◌+◌, ◌*◌, List, [], Bool, true, false, ◌&&◌, ◌||◌, ◌==◌, not, nat_le, Option, Some, None, replicate, length, slice_range, if◌then◌else◌}
+use Rattle.std.specs.Prelude.{ℕ, ◌+◌, ◌*◌, List, [], Bool, true, false, ◌&&◌, ◌||◌, ◌==◌, not, nat_le, Option, Some, None, length, slice_range, if◌then◌else◌}
 use Rattle.vx_base.specs.Pieces.{DeviceUnit, Contents, Lines, Blocks}
 use Rattle.vx_base.specs.Serving.{is_write, settled}
 use Rattle.vx_base.specs.declared.request.Func.{Func}
 use Rattle.vx_base.specs.declared.request.Func.TheVariants.{Read, Write}
 use Rattle.vx_base.specs.declared.request.Req.{Req}
-use Rattle.vx_image.specs.declared.unit.UnitDecl.{UnitDecl}
 
 -- A unit, what a service that is pending makes of it, and whether the memory for a service is there.
 pub record Serving : Type 0 where

@@ -6,7 +6,12 @@ use vx_clusters::Clusters;
 
 // A process of group 9 associates the cluster C for flags 64 to 95.
 #[tactic(auto, using(vx_clusters::proofs::Few::associate_few))]
-fn associate(clusters: &mut Clusters, log: &mut Effects, p: Pid, name: Name) -> Result<bool, NoMemory> {
+fn associate(
+    clusters: &mut Clusters,
+    log: &mut Effects,
+    p: Pid,
+    name: Name,
+) -> Result<bool, NoMemory> {
     clusters.reserve()?;
     log.reserve(4)?;
     Ok(clusters.associate(p, 9, 64, name, false, true, log).is_ok())

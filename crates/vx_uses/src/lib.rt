@@ -20,15 +20,19 @@ mod flags;
 #[cfg(test)]
 mod frames;
 #[cfg(test)]
+mod grammar;
+#[cfg(test)]
 mod image;
 #[cfg(test)]
+mod judge;
+#[cfg(test)]
 mod mailbox;
+#[cfg(test)]
+mod names;
 #[cfg(test)]
 mod quota;
 #[cfg(test)]
 mod record;
-#[cfg(test)]
-mod register;
 #[cfg(test)]
 mod reqs;
 #[cfg(test)]

@@ -1,4 +1,3 @@
-use Rattle.std.proofs.Common.{refl, arith}
 use Rattle.vx_ctl.proofs.Ticking.{firing_begun, firing_end, firing_fewer, firing_more, firing_room}
 use Rattle.vx_ctl.proofs.time.fire_due.Goals as goal
 

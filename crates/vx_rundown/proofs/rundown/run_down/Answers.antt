@@ -1,7 +1,6 @@
-use Rattle.std.proofs.Common.{Option, sym, subst}
+use Rattle.std.proofs.Common.{Option, subst}
 use Rattle.vx_base.specs.declared.mode.Mode.{Mode}
 use Rattle.vx_record.specs.Rundown.{run_down}
-use Rattle.vx_procs.proofs.Rest.{answering_end}
 use Rattle.vx_rundown.specs.Modes.{modes_from}
 use Rattle.vx_rundown.proofs.Running.{IsRunning, drops_room, mode_leaving, mode_more, mode_room, running_begun}
 use Rattle.vx_rundown.proofs.rundown.run_down.Goals as goal

@@ -15,7 +15,7 @@ use Rattle.vx_procs.specs.Words.{alarm_ast, moved_on, with_queued_if}
 use Rattle.vx_procs.specs.declared.procs.Core.TheInside.{Inside}
 use Rattle.vx_timers.specs.Seen.{alarm_of}
 use Rattle.vx_procs.proofs.Changed.{found_in, stands, timers_as}
-use Rattle.vx_procs.proofs.Ops.{charged_tqe, held_fired, own_timer, place_free, place_one, same_timers}
+use Rattle.vx_procs.proofs.Ops.{charged_tqe, held_fired, own_timer, place_free, same_timers}
 use Rattle.vx_procs.proofs.procs.Core.fire.Goals as goal
 
 pub invariant_of-self : goal.invariant_of-self
@@ -41,7 +41,7 @@ pub fire-requires-clause-timer : goal.fire-requires-clause-timer
 fire-requires-clause-timer g c = subst (λ (a : Alarm). IsTrue (is_timer a)) (sym c.into_what.ensures) (own_timer (is_due c.args.now) c.self.inside c.in-Some.due c.self.invariant c.in-Some.ensures.found).timer
 
 pub fire-requires-clause-free : goal.fire-requires-clause-free
-fire-requires-clause-free g c = subst (λ (a : Alarm). length (process c.index_mut.result.now).asts + one (takes_ast a) ≤ (room_of c.index_mut.result.now).asts) (sym c.into_what.ensures) (place_one (is_due c.args.now) c.self.inside c.p-p.result c.in-Some.due c.index_mut.result.now c.self.invariant c.in-Some.ensures.found (sym c.p-p.ensures) c.index_mut.ensures.value)
+fire-requires-clause-free g c = subst (λ (a : Alarm). length (process c.index_mut.result.now).asts + one (takes_ast a) ≤ (room_of c.index_mut.result.now).asts) (sym c.into_what.ensures) (place_free (is_due c.args.now) c.self.inside c.p-p.result c.in-Some.due c.index_mut.result.now c.self.invariant c.in-Some.ensures.found (sym c.p-p.ensures) c.index_mut.ensures.value)
 
 pub fire-requires-clause-charged : goal.fire-requires-clause-charged
 fire-requires-clause-charged g c = charged_tqe (is_due c.args.now) c.self.inside c.p-p.result c.in-Some.due c.index_mut.result.now c.self.invariant c.in-Some.ensures.found (sym c.p-p.ensures) c.index_mut.ensures.value

@@ -1,0 +1,138 @@
+//! Waits, and the services that wait.
+
+ghost use Rattle.std.specs.Prelude.{◌≡◌, ◌≤◌, ◌^◌, ◌%◌, if◌then◌else◌};
+ghost use Rattle.vx_base.specs.Flags.{any_set, all_set};
+ghost use Rattle.vx_base.specs.declared.effects.Cell.TheVariants.{Local};
+ghost use Rattle.vx_record.specs.State.{IsProcess};
+ghost use Rattle.vx_record.specs.Control.{hiber};
+ghost use Rattle.vx_record.specs.Flags.{awaited, is_synchronized, normal_if, wait_condition, waitfr, wfland, wflor};
+ghost use Rattle.vx_procs.specs.Kernel.{DoesQuietly};
+ghost use Rattle.vx_procs.specs.Ready.{FitsBlock, IsReady};
+ghost use Rattle.vx_ctl.specs.Answers.{wait_for_flags};
+
+use crate::flags::LAST_FLAG;
+use vx_base::{Cond, Pid, Routine, Wait};
+use vx_procs::Core;
+use vx_record::Served;
+
+fn normal_if(holds: bool) -> Option<Cond>
+    ensures { result ≡ normal_if holds }
+{
+    if holds { Some(Cond::Normal) } else { None }
+}
+
+// Whether flags hold what a mask asks: all of them, or any.
+fn hold(flags: u32, mask: u32, all: bool) -> bool
+    ensures { result ≡ (if all then all_set flags mask else any_set flags mask) }
+{
+    if all {
+        flags & mask == mask
+    } else {
+        flags & mask != 0
+    }
+}
+
+// Whether a process's flag n, 0 to 63, is set, and its status block, if one is named, filled.
+fn is_synchronized<R: Routine>(core: &Core<R>, p: Pid, n: u32, iosb: u32) -> bool
+    requires made { IsProcess core.now.state p }
+    requires block { iosb ≤ 32 }
+    ensures { result ≡ is_synchronized core.now.state p iosb (Local p n) }
+{
+    core.is_set(p, n) && (iosb == 0 || core.is_filled(p, iosb))
+}
+
+/// The condition with which a wait of a process ends now; None where it is not satisfied.
+pub fn wait_condition<R: Routine>(core: &Core<R>, p: Pid, wait: Wait) -> Option<Cond>
+    requires made { IsProcess core.now.state p }
+    requires block { FitsBlock wait }
+    ensures { result ≡ wait_condition core.now.state p wait }
+{
+    match wait {
+        Wait::Flags(efn, mask, all) => {
+            if core.cell(p, efn).is_none() {
+                return Some(Cond::UnasEfc);
+            }
+            normal_if(hold(core.flags_of(p, efn), mask, all))
+        }
+        Wait::Synch(efn, iosb) => {
+            if core.cell(p, efn).is_none() {
+                return Some(Cond::UnasEfc);
+            }
+            normal_if(is_synchronized(core, p, efn, iosb))
+        }
+        Wait::Hiber => normal_if(core.has_wake(p)),
+    }
+}
+
+// A service that waits answers at once where its wait is satisfied, and else leaves the wait in the top frame.
+fn awaited<R: Routine>(core: &mut Core<R>, p: Pid, wait: Wait) -> Served
+    requires ready { IsReady core.old p }
+    requires block { FitsBlock wait }
+    ensures { DoesQuietly (awaited core.old.state p wait) result core.old core.new }
+{
+    match wait_condition(core, p, wait) {
+        Some(cond) => Served::Answered(cond),
+        None => {
+            core.set_wait(p, Some(wait));
+            Served::Waits
+        }
+    }
+}
+
+// A wait for flags of an event flag's cluster, by a mask: all of them, or any.
+fn wait_for_flags<R: Routine>(core: &mut Core<R>, p: Pid, efn: u32, mask: u32, all: bool) -> Served
+    requires { IsReady core.old p }
+    ensures { DoesQuietly (wait_for_flags core.old.state p efn mask all) result core.old core.new }
+{
+    if efn > LAST_FLAG {
+        return Served::Answered(Cond::IllEfc);
+    }
+    if core.cell(p, efn).is_none() {
+        return Served::Answered(Cond::UnasEfc);
+    }
+    awaited(core, p, Wait::Flags(efn, mask, all))
+}
+
+// The mask of one event flag in its cluster.
+fn mask_of(efn: u32) -> u32
+    ensures { result ≡ 2 ^ (efn % 32) }
+{
+    1u32 << (efn % 32)
+}
+
+/// $WAITFR: waits for an event flag: ILLEFC above 127, UNASEFC where the number names no flag.
+pub fn waitfr<R: Routine>(core: &mut Core<R>, p: Pid, efn: u32) -> Served
+    requires { IsReady core.old p }
+    ensures { DoesQuietly (waitfr core.old.state p efn) result core.old core.new }
+{
+    wait_for_flags(core, p, efn, mask_of(efn), false)
+}
+
+/// $WFLOR: waits for any flag of a mask, of an event flag's cluster, and refuses as $WAITFR does. Of no flag it waits for ever.
+pub fn wflor<R: Routine>(core: &mut Core<R>, p: Pid, efn: u32, mask: u32) -> Served
+    requires { IsReady core.old p }
+    ensures { DoesQuietly (wflor core.old.state p efn mask) result core.old core.new }
+{
+    wait_for_flags(core, p, efn, mask, false)
+}
+
+/// $WFLAND: waits for all flags of a mask, of an event flag's cluster, and refuses as $WAITFR does.
+pub fn wfland<R: Routine>(core: &mut Core<R>, p: Pid, efn: u32, mask: u32) -> Served
+    requires { IsReady core.old p }
+    ensures { DoesQuietly (wfland core.old.state p efn mask) result core.old core.new }
+{
+    wait_for_flags(core, p, efn, mask, true)
+}
+
+/// $HIBER: waits for a wake. Where one pends, it is used up and the call answers at once.
+pub fn hiber<R: Routine>(core: &mut Core<R>, p: Pid) -> Served
+    requires { IsReady core.old p }
+    ensures { DoesQuietly (hiber core.old.state p) result core.old core.new }
+{
+    if core.has_wake(p) {
+        core.set_wake(p, false);
+        return Served::Answered(Cond::Normal);
+    }
+    core.set_wait(p, Some(Wait::Hiber));
+    Served::Waits
+}

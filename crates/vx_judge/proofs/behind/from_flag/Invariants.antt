@@ -1,0 +1,7 @@
+use Rattle.std.proofs.Common.{◌≡◌, drop}
+use Rattle.vx_laws.specs.StatusLaw.{is_flag}
+use Rattle.vx_judge.specs.Lists.{from_first}
+use Rattle.vx_judge.proofs.behind.from_flag.Given as goal
+
+abbrev pub invariant-loop-i : goal.invariant-loop-i
+invariant-loop-i l = from_first is_flag l.effects ≡ from_first is_flag (drop l.i l.effects)
