@@ -230,7 +230,7 @@ served_stays : (past : List Item) (p : Pid) (c : Call) (o : Outcome Served) (x :
 served_stays past p c o (Answered y) h = h
 served_stays past p c o Waits h = h
 
-returned_allowed : {ok : Test} (s : State) (p : Pid) (frames : List Frame) → Allowed ok (returned s p frames).effects
+pub returned_allowed : {ok : Test} (s : State) (p : Pid) (frames : List Frame) → Allowed ok (returned s p frames).effects
 returned_allowed s p [] = nil
 returned_allowed {ok} s p (f ∷ fs) = by_kind f.kind
   where
