@@ -122,7 +122,7 @@ may_others q s p a v apart = record {
   wake = λ e r k. rw apart refl;
 }
 
-place_apart : (p q : Pid) → 1 ≤ p.0 → 1 ≤ q.0 → is_same p q ≡ false → p.0 - 1 ≡ q.0 - 1 → ⊥
+pub place_apart : (p q : Pid) → 1 ≤ p.0 → 1 ≤ q.0 → is_same p q ≡ false → p.0 - 1 ≡ q.0 - 1 → ⊥
 place_apart p q a b apart e = let yes : is_same p q ≡ true = eq-eqb p.0 q.0 (omega (arith, a, b, e)) in let never : true ≡ false = sym yes ∙ apart in cc
 
 service_rows : (s : State) (p q : Pid) (a : Args) (v : Service) → (p.0 - 1 ≡ q.0 - 1 → ⊥) → (k : ℕ) → row (service_of s p a v).after q k ≡ row s q k
@@ -195,7 +195,7 @@ don_allowed s u None = nil
 don_allowed s u (Some r) = finish_allowed (with_unit s u (settled (unit_at s u) r.req)) r (unit_ending r (serve (unit_at s u) r.req).reply)
 
 -- who acts is another one: a process that acts has a frame
-acts_apart : (s : State) (p q : Pid) → (process_at s p).frames ≢ [] → (process_at s q).frames ≡ [] → is_same p q ≡ false
+pub acts_apart : (s : State) (p q : Pid) → (process_at s p).frames ≢ [] → (process_at s q).frames ≡ [] → is_same p q ≡ false
 acts_apart s p q some none = by_test (is_same p q) refl
   where
     by_test : (b : Bool) → is_same p q ≡ b → b ≡ false
