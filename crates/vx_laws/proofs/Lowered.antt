@@ -49,10 +49,10 @@ reached_rows k m (r ∷ rows) =
     first e = let place : k - k ≡ zero = omega arith in rw place e
 
 -- a channel that is of such a mode, or free
-abbrev IsFreed : State → Pid → Mode → ℕ → Type 0
+abbrev pub IsFreed : State → Pid → Mode → ℕ → Type 0
 IsFreed s p m n = (1 ≤ n) × ((c : Channel) → row s p n ≡ Some c → reaches c.mode m ≡ true)
 
-freed_first : (s : State) (p : Pid) (m : Mode) → AllByRecursion (IsFreed s p m) (channels_of m (process_at s p).channels)
+pub freed_first : (s : State) (p : Pid) (m : Mode) → AllByRecursion (IsFreed s p m) (channels_of m (process_at s p).channels)
 freed_first s p m =
     all_weaker (IsReachedAt m (process_at s p).channels 1) (IsFreed s p m) (λ n k. (k.0, λ c e. subst (λ (o : Option Channel). is_reached m o ≡ true) e k.1)) (channels_of m (process_at s p).channels) (reached_rows 1 m (process_at s p).channels)
 
