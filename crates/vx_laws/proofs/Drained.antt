@@ -20,7 +20,14 @@ use Rattle.vx_laws.proofs.Courses.{step_spares, ended_on}
 use Rattle.vx_laws.proofs.Emptied.{AllSeated}
 use Rattle.vx_laws.proofs.Idle.{step_idle}
 use Rattle.vx_laws.proofs.Leftover.{Ended, Emptied, Cleared, emptying}
-use Rattle.vx_laws.proofs.Lowers.{IsLowering}
+use Rattle.vx_laws.proofs.Lowers.{IsLowering, Others, Settled, closed}
+use Rattle.vx_laws.proofs.Allowed.{Allowed}
+use Rattle.vx_laws.proofs.Courses.{of_others, spares_moves}
+use Rattle.vx_laws.proofs.Emptied.{seat_rows}
+use Rattle.vx_laws.proofs.Rests.{closed_all}
+use Rattle.vx_record.proofs.Moves.{Moves}
+use Rattle.std.proofs.Common.{⊎_elim}
+use Rattle.std.proofs.lemmas.Bool.{cases_eq}
 use Rattle.vx_laws.proofs.Phases.{Ages, Passes, phase_in}
 use Rattle.vx_laws.proofs.Rests.{enabled_awake, is_rundown, phase_made, step_ages}
 use Rattle.vx_laws.proofs.Runs.{enabled_there}
@@ -73,4 +80,30 @@ step_course s past e other c b h = record {
         none = step_idle s past e q other (enabled_there s e c) awake b here there was.none;
         ended = ended_on q m s t (step_spares s e q other (enabled_there s e c) awake b here.above was.none) was.ended;
       };
+}
+
+-- RDN of a process, for another one.
+
+seat_phase : (s t : State) (p q : Pid) → Others p s t → (p.0 - 1 ≡ q.0 - 1 → ⊥) → phase_in t.procs (q.0 - 1) ≡ phase_in s.procs (q.0 - 1)
+seat_phase s t p q o off = ap (λ (x : Phase × List (Option Channel)). x.0) (o.seats (q.0 - 1) off)
+
+other_drains : (s t : State) (es : List Effect) (p q : Pid) (m : Mode) → Moves s None es t None → Allowed closed es → Others p s t → (p.0 - 1 ≡ q.0 - 1 → ⊥) → ((process_at s q).frames ≡ [] → (process_at t q).frames ≡ []) → Course s → IsProcess t q → (process_at t q).phase ≡ phase.Draining m → Drains q m t
+other_drains s t es p q m j f o off idle h there at =
+    let before : phase_in s.procs (q.0 - 1) ≡ phase.Draining m = sym (seat_phase s t p q o off) ∙ (phase_made t q there ∙ at) in
+    let within = made_if s.procs (q.0 - 1) m before in
+    let above = there.above in
+    let here : IsProcess s q = record { above = above; within = omega (arith, within, above) } in
+    let was = h.drains q here m (sym (phase_made s q here) ∙ before) in
+    let spared = spares_moves q s es t j (record { all = closed_all (of_others q) es f.all }) (λ k. seat_rows s t q k (o.seats (q.0 - 1) off)) in
+    record { none = idle was.none; ended = ended_on q m s t spared was.ended }
+
+-- a step of rundown that stops
+pub stops_course : (s t : State) (es : List Effect) (p : Pid) → IsProcess s p → Moves s None es t None → Allowed closed es → Others p s t → AllSeated t → Settled (λ m x. Drains p m x) t p → ((q : Pid) → (p.0 - 1 ≡ q.0 - 1 → ⊥) → (process_at s q).frames ≡ [] → (process_at t q).frames ≡ []) → Course s → Course t
+stops_course s t es p made j f o seated settled idle h = record {
+  seated = seated;
+  drains = λ q there m at.
+      ⊎_elim
+      (λ (e : p.0 ≡ q.0). let is : p ≡ q = ap (λ (n : ℕ). let x : Pid = record { 0 = n } in x) e in subst (λ (r : Pid). Drains r m t) is (settled m (subst (λ (r : Pid). (process_at t r).phase ≡ phase.Draining m) (sym is) at)))
+      (λ (n : p.0 ≡ q.0 → ⊥). let off : p.0 - 1 ≡ q.0 - 1 → ⊥ = λ e. let a = made.above in let b = there.above in n (omega (arith, e, a, b)) in other_drains s t es p q m j f o off (idle q off) h there at)
+      (cases_eq p.0 q.0);
 }
