@@ -84,10 +84,10 @@ step_course s past e other c b h = record {
 
 -- RDN of a process, for another one.
 
-seat_phase : (s t : State) (p q : Pid) → Others p s t → (p.0 - 1 ≡ q.0 - 1 → ⊥) → phase_in t.procs (q.0 - 1) ≡ phase_in s.procs (q.0 - 1)
+pub seat_phase : (s t : State) (p q : Pid) → Others p s t → (p.0 - 1 ≡ q.0 - 1 → ⊥) → phase_in t.procs (q.0 - 1) ≡ phase_in s.procs (q.0 - 1)
 seat_phase s t p q o off = ap (λ (x : Phase × List (Option Channel)). x.0) (o.seats (q.0 - 1) off)
 
-other_drains : (s t : State) (es : List Effect) (p q : Pid) (m : Mode) → Moves s None es t None → Allowed closed es → Others p s t → (p.0 - 1 ≡ q.0 - 1 → ⊥) → ((process_at s q).frames ≡ [] → (process_at t q).frames ≡ []) → Course s → IsProcess t q → (process_at t q).phase ≡ phase.Draining m → Drains q m t
+pub other_drains : (s t : State) (es : List Effect) (p q : Pid) (m : Mode) → Moves s None es t None → Allowed closed es → Others p s t → (p.0 - 1 ≡ q.0 - 1 → ⊥) → ((process_at s q).frames ≡ [] → (process_at t q).frames ≡ []) → Course s → IsProcess t q → (process_at t q).phase ≡ phase.Draining m → Drains q m t
 other_drains s t es p q m j f o off idle h there at =
     let before : phase_in s.procs (q.0 - 1) ≡ phase.Draining m = sym (seat_phase s t p q o off) ∙ (phase_made t q there ∙ at) in
     let within = made_if s.procs (q.0 - 1) m before in
