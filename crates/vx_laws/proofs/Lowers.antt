@@ -89,7 +89,7 @@ OutcomeLowers J R C p s o = Lowers J R C p s o.effects o.after
 low_after : (s t : State) (p : Pid) (es : List Effect) → Moves s None es t None → Tags t → ((process_at s p).frames ≡ [] → (process_at t p).frames ≡ []) → Low s p → Low t p
 low_after s t p es j g k h = record { here = here_after s p None es t None j h.here; tags = g; none = k h.none }
 
-low_release : (s : State) (p : Pid) (m : Mode) → Low s p → Low (release s p m).after p
+pub low_release : (s : State) (p : Pid) (m : Mode) → Low s p → Low (release s p m).after p
 low_release s p m h = let c = release_calm true s p m h.tags in low_after s (release s p m).after p (release s p m).effects (release_moves s p m h.here) c.tags (c.empties refl p) h
 
 low_cancelled : (s : State) (p : Pid) (m : Mode) → Low s p → Low (cancelled_in s p m).after p
@@ -111,7 +111,7 @@ drain_lowers J R D C s p m next i h j at q k =
     (k a.after (low_release s p m h) (i.releases s m h j (q m at))
     (λ is. subst (λ (n : Mode). is_busy s p n ≡ false → (process_at s p).phase ≡ phase.Draining n → D (release s p n).after) (sym is) (λ f e. i.released s h j (q Kernel e) f) free at)))
 
-cancelled_phase : (s : State) (p : Pid) (m : Mode) → Low s p → (process_at (cancelled_in s p m).after p).phase ≡ phase.Draining m
+pub cancelled_phase : (s : State) (p : Pid) (m : Mode) → Low s p → (process_at (cancelled_in s p m).after p).phase ≡ phase.Draining m
 cancelled_phase s p m h =
     let b = (cancel_modes s p m).after in
     let made : IsProcess b p = made_here (low_cancelled s p m h).here.made in

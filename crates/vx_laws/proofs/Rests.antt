@@ -323,7 +323,7 @@ others_deleted s t p q h apart above made there e =
     let k = h.seats (q.0 - 1) (λ same. let low = made.above in apart (omega (arith, same, low, above))) in
     sym (phase_made t q there) ∙ (ap (λ (x : Phase × List (Option Rattle.vx_base.specs.Pieces.Channel)). x.0) k ∙ (phase_made s q made ∙ e))
 
-both_later : (past : List Item) (es : List Effect) (p q : Pid) → AllByRecursion (λ x. is_allowed closed x ≡ true) es → is_gone (later past (map Did (es ++ effect.Gone p ∷ []))) q ≡ (is_same p q || is_gone past q)
+pub both_later : (past : List Item) (es : List Effect) (p q : Pid) → AllByRecursion (λ x. is_allowed closed x ≡ true) es → is_gone (later past (map Did (es ++ effect.Gone p ∷ []))) q ≡ (is_same p q || is_gone past q)
 both_later past [] p q h = refl
 both_later past (x ∷ xs) p q h = both_later (Did x ∷ past) xs p q h.1 ∙ ap (λ (b : Bool). is_same p q || b) (gone_one closed x past q h.0)
 

@@ -28,7 +28,7 @@ use Rattle.vx_laws.proofs.Stands.{Stands}
 abbrev pub is_not_of : Pid → Life → Bool
 is_not_of p l = not (is_same l.p p)
 
-pid_of : (a b : Pid) → is_same a b ≡ true → a ≡ b
+pub pid_of : (a b : Pid) → is_same a b ≡ true → a ≡ b
 pid_of a b e = ap (λ (n : ℕ). let x : Pid = record { 0 = n } in x) (eqb-true a.0 b.0 e)
 
 other_owner : (p r : Pid) (l : Life) → is_same r p ≡ false → is_same l.p r ≡ true → is_not_of p l ≡ true
@@ -61,7 +61,7 @@ owned_seat s past p id n c w g own =
     absurd_by : lives (is_not_of p) (life past id) ≡ true → (n == 0) ≡ true
     absurd_by e = let never : true ≡ false = sym e ∙ own in absurd (cc)
 
-open_seated : (b r q : Bool) (k : Opened) → (b || r) ≡ true → ((cond b (body_seat k) (cond r (routine_seat q) 0)) == 0) ≡ false
+pub open_seated : (b r q : Bool) (k : Opened) → (b || r) ≡ true → ((cond b (body_seat k) (cond r (routine_seat q) 0)) == 0) ≡ false
 open_seated true r q opened.Bio e = refl
 open_seated true r q opened.Dio e = refl
 open_seated true r q opened.Timer e = refl

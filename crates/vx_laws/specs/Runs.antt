@@ -1,6 +1,7 @@
 -- How something is said of every run.
-use Rattle.std.specs.Prelude.{◌≡◌, ℕ, List, Bool, true}
+use Rattle.std.specs.Prelude.{◌≡◌, ℕ, List, Bool, true, Some}
 use Rattle.vx_base.specs.declared.number.Pid.{Pid}
+use Rattle.vx_base.specs.declared.record.End.TheVariants.{Done}
 use Rattle.vx_base.specs.declared.record.Rec.{Rec}
 use Rattle.vx_image.specs.declared.system.System.{System}
 use Rattle.vx_record.specs.Runs.{IsRun, after, end_after}
@@ -25,3 +26,7 @@ AtEveryEnd says = (system : System) (recs : List Rec) (limit : ℕ) → IsRun sy
 -- of any records that keep the first part of the law of once and the law of rundown, and of a process that is gone in them
 abbrev pub OfEveryoneGone : (List Item → Pid → Type 0) → Type 0
 OfEveryoneGone says = (recs : List Rec) (p : Pid) → ends recs ≡ true → run_downs recs ≡ true → is_gone (past_of recs) p ≡ true → says (past_of recs) p
+
+-- where a run ends with all processes gone, of its records
+abbrev pub AtEveryDone : (List Item → Type 0) → Type 0
+AtEveryDone says = (system : System) (recs : List Rec) (limit : ℕ) → IsRun system recs → end_after system recs limit ≡ Some Done → says (past_of recs)
