@@ -15,14 +15,11 @@ use Rattle.vx_base.specs.declared.effects.Effect.TheVariants as effect
 use Rattle.vx_base.specs.declared.frame.Frame.{Frame}
 use Rattle.vx_base.specs.declared.frame.FrameKind.{FrameKind}
 use Rattle.vx_base.specs.declared.frame.FrameKind.TheVariants as kind
-use Rattle.vx_base.specs.declared.frame.Phase.{Phase}
-use Rattle.vx_base.specs.declared.frame.Phase.TheVariants as phase
 use Rattle.vx_base.specs.declared.frame.Wait.{Wait}
 use Rattle.vx_base.specs.declared.frame.Wait.TheVariants as wait
 use Rattle.vx_base.specs.declared.mode.Mode.{Mode}
 use Rattle.vx_base.specs.declared.number.BoxNo.{BoxNo}
 use Rattle.vx_base.specs.declared.number.Pid.{Pid}
-use Rattle.vx_base.specs.declared.record.Answer.{Answer}
 use Rattle.vx_base.specs.declared.request.Device.{Device}
 use Rattle.vx_base.specs.declared.request.Device.TheVariants as device
 use Rattle.vx_base.specs.declared.request.Func.{Func}
@@ -43,24 +40,21 @@ use Rattle.vx_record.specs.Cancel.{mark_part, withdraw, cancelled_request, cance
 use Rattle.vx_record.specs.Requests.{begun_on}
 use Rattle.vx_record.specs.Control.{process_test, changed_process, with_wake, with_suspension, forced, creprc}
 use Rattle.vx_record.specs.Timers.{drop_timer, drop_timers, setimr_at, setimr, is_cancelled_timer, scheduled, is_wake_for, unscheduled, que_timer, fired, fire, is_due, at_time, next_time, tick}
-use Rattle.vx_record.specs.Rundown.{leave_kind, leave_frame, leave_all, exited, is_handler_of, is_handler_with, drop_handler, drop_handlers, any_handler, cancel_found, cancel_handlers, named_for_deletion, deleted_by, cancel_one, free_one, is_timer_in, is_wake_by, cancel_modes, drop_ast, drop_asts, is_ast_reached, part_with, release, is_busy, drain, cancelled_in, run_handlers, handling, run_down, inner_modes, rundown_from}
+use Rattle.vx_record.specs.Rundown.{leave_kind, leave_frame, leave_all, exited, is_handler_of, is_handler_with, drop_handler, drop_handlers, any_handler, cancel_found, cancel_handlers, named_for_deletion, deleted_by, cancel_one, free_one, is_timer_in, is_wake_by, cancel_modes, drop_ast, drop_asts, is_ast_reached, part_with, release}
 use Rattle.vx_record.specs.Services.{number, place, access_mode, text, routine_or_none, decl_place, valued_at, numbered_at, service_of}
 use Rattle.vx_record.proofs.Lists.{all_append, all_weaker}
-use Rattle.vx_laws.specs.StatusLaw.{is_asked}
 use Rattle.vx_record.proofs.Moves.{is_clusters}
 use Rattle.vx_record.proofs.Apart.{associated_only, dissociated_only, marked_at_only}
 use Rattle.vx_base.specs.Pieces.{cleared}
 use Rattle.vx_base.specs.declared.effects.Opened.{Opened}
 use Rattle.vx_base.specs.declared.effects.Opened.TheVariants as opened
-use Rattle.vx_base.specs.Serving.{serve, settled}
 use Rattle.vx_laws.specs.Lives.{is_wake}
 use Rattle.vx_record.specs.Charges.{is_direct, is_attention}
 use Rattle.vx_record.specs.Finish.{iosb_part}
 use Rattle.vx_record.specs.Flags.{flag_part}
 use Rattle.vx_record.specs.Parts.{and_then}
-use Rattle.vx_record.specs.Requests.{Asked, new_request, cleared_part, transfer, new_attention, attention_opened, attention_set, attention_on, accepted, done_at_once, request_test, qio_tested, qiow_tested, unit_ending, with_unit}
+use Rattle.vx_record.specs.Requests.{Asked, new_request, cleared_part, transfer, new_attention, attention_opened, attention_set, attention_on, accepted, done_at_once, request_test, qio_tested, qiow_tested}
 use Rattle.vx_record.specs.Services.{asked}
-use Rattle.vx_record.specs.State.{next_id}
 use Rattle.vx_record.proofs.Lists.{either, either_by}
 use Rattle.std.proofs.Common.{sym, ◌∙◌}
 

@@ -1,8 +1,8 @@
 -- In every state each attention entry is on a channel that is assigned.
-use Rattle.std.proofs.Common.{◌≡◌, ◌≢◌, ◌∙◌, ℕ, zero, suc, ◌+◌, ◌-◌, ◌<◌, ◌≤◌, List, [], ◌∷◌, ◌++◌, Bool, true, false, cond, not, ◌==◌, ◌&&◌, ◌||◌, Option, Some, None, Result, Ok, Err, refl, sym, ap, subst, arith, get_or, set, position, is_none, length, nat_le}
-use Rattle.std.specs.List.{AllByRecursion, filter, list_any, find}
-use Rattle.std.proofs.lemmas.Bool.{and_parts, and_from, eqb-true, eq-eqb, leb-true}
-use Rattle.vx_base.specs.Channels.{channel_at, is_reached}
+use Rattle.std.proofs.Common.{◌≡◌, ◌∙◌, ℕ, ◌+◌, ◌-◌, List, [], ◌∷◌, Bool, true, false, cond, not, ◌==◌, ◌&&◌, Option, Some, None, Result, Ok, Err, refl, sym, ap, subst, position, is_none}
+use Rattle.std.specs.List.{AllByRecursion}
+use Rattle.std.proofs.lemmas.Bool.{and_parts, leb-true}
+use Rattle.vx_base.specs.Channels.{channel_at}
 use Rattle.vx_base.specs.Modes.{outer}
 use Rattle.vx_base.specs.Pieces.{Queued, Channel, Request, Timer, Attention, Mailbox, Status, cleared}
 use Rattle.vx_base.specs.declared.call.Args.{Args}
@@ -23,12 +23,12 @@ use Rattle.vx_base.specs.declared.request.Device.TheVariants as device
 use Rattle.vx_base.specs.declared.routine.Entry.{Entry}
 use Rattle.vx_base.specs.declared.service.Service.{Service}
 use Rattle.vx_base.specs.declared.service.Service.TheVariants.{Assign, Dassgn, CreMbx, DelMbx, Qio, QioW, Cancel}
-use Rattle.vx_record.specs.Cancel.{cancel_channel, dassgn_at, is_attention_on}
-use Rattle.vx_record.specs.Channels.{with_channel, channel_test, free_channel, free_channel_of, assign_at, assign_to, assign, device_named, is_bad_box, new_box, box_named, box_made, box_number, make_box, make_box_in, find_or_create, crembx}
-use Rattle.vx_record.specs.Charges.{is_same, is_attention}
+use Rattle.vx_record.specs.Cancel.{cancel_channel, dassgn_at}
+use Rattle.vx_record.specs.Channels.{with_channel, channel_test, free_channel_of, assign_at, assign_to, assign, device_named, is_bad_box, new_box, box_named, box_made, box_number, make_box, make_box_in, find_or_create, crembx}
+use Rattle.vx_record.specs.Charges.{is_attention}
 use Rattle.vx_record.specs.Finish.{iosb_part}
 use Rattle.vx_record.specs.Flags.{cell, flag_part, flag_where_named, awaited_at, wait_condition}
-use Rattle.vx_record.specs.Mailboxes.{this_attention, is_answered_now, attend, fire_attention}
+use Rattle.vx_record.specs.Mailboxes.{this_attention, is_answered_now, fire_attention}
 use Rattle.vx_record.specs.Parts.{Part, Outcome, nothing, at_tested, part_of}
 use Rattle.vx_record.specs.Requests.{Asked, new_attention, attention_set, attention_opened, attention_on, transfer, accepted, done_at_once, request_test, qio_tested, qiow_tested, cleared_part}
 use Rattle.vx_record.specs.Services.{number, place, access_mode, text, asked, numbered_at, service_of, with_variable}
@@ -38,17 +38,17 @@ use Rattle.vx_record.proofs.Base.{Base}
 use Rattle.vx_record.proofs.Cancelled.{cancel_channel_attention, cancel_channel_all}
 use Rattle.vx_record.proofs.SoundRequests.{request_test_row}
 use Rattle.vx_record.proofs.Ground.{at_set}
-use Rattle.vx_record.proofs.Lists.{either, either_by, all_weaker, all_append, all_less}
+use Rattle.vx_record.proofs.Lists.{either, all_weaker, all_append, all_less}
 use Rattle.vx_record.proofs.Moves.{Moves, PartMoves}
 use Rattle.vx_record.proofs.SoundChannels.{free_row}
 use Rattle.vx_record.proofs.SoundRequests.{tested_channel}
 use Rattle.vx_record.proofs.Told.{accepted_after, service_moves}
 use Rattle.vx_laws.specs.StatusLaw.{is_asked}
 use Rattle.vx_laws.proofs.Allowed.{Test, is_allowed, transferred_allowed}
-use Rattle.vx_laws.proofs.Aside.{row, changed, is_near, service_aside}
-use Rattle.vx_laws.proofs.Emptied.{AllSeated, Seated, IsOfLists, AreHeld, is_open_allowed, allowed_open, moves_held, seated_on, kept_rows}
+use Rattle.vx_laws.proofs.Aside.{row, changed, service_aside}
+use Rattle.vx_laws.proofs.Emptied.{AllSeated, Seated, IsOfLists, is_open_allowed, allowed_open, moves_held, seated_on, kept_rows}
 use Rattle.vx_laws.proofs.Leftover.{freed_seated}
-use Rattle.vx_laws.proofs.Phases.{service_keeps, accepted_keeps, cancel_channel_keeps, is_leaving}
+use Rattle.vx_laws.proofs.Phases.{service_keeps, cancel_channel_keeps}
 use Rattle.vx_laws.proofs.Plain.{Plain, is_plain, service_plain}
 use Rattle.vx_base.specs.Cond.{number_of}
 use Rattle.vx_base.specs.Queues.{front, in_service}

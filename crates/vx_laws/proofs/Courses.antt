@@ -1,32 +1,25 @@
 -- What drains keeps its course: a process that drains a mode has no frame, and events of others spare what it has.
-use Rattle.std.proofs.Common.{◌≡◌, ◌≢◌, ◌∙◌, ℕ, zero, suc, ◌+◌, ◌-◌, ◌<◌, ◌≤◌, List, [], ◌∷◌, ◌++◌, Bool, true, false, cond, not, ◌==◌, ◌&&◌, ◌||◌, Option, Some, None, Result, Ok, Err, refl, sym, ap, subst, arith, get_or, get_or-set_other, map}
-use Rattle.std.specs.Prelude.{Contains}
+use Rattle.std.proofs.Common.{◌≡◌, ◌≢◌, ◌∙◌, ℕ, ◌-◌, ◌≤◌, List, [], ◌∷◌, Bool, true, false, not, ◌||◌, Option, Some, None, refl, sym, ap, subst, arith}
 use Rattle.std.specs.List.{AllByRecursion}
 use Rattle.std.proofs.lemmas.Bool.{eqb-true, eq-eqb}
 use Rattle.vx_base.specs.Channels.{is_reached}
-use Rattle.vx_base.specs.Pieces.{Queued, Channel, Request, Timer, Attention}
+use Rattle.vx_base.specs.Pieces.{Queued, Request, Timer, Attention}
 use Rattle.vx_base.specs.Queues.{front, in_service}
 use Rattle.vx_base.specs.Serving.{serve, settled}
 use Rattle.vx_base.specs.Cond.{number_of}
 use Rattle.vx_base.specs.declared.call.Args.{Args}
 use Rattle.vx_base.specs.declared.call.Call.{Call}
-use Rattle.vx_base.specs.declared.cond.Cond.{Cond}
 use Rattle.vx_base.specs.declared.effects.Effect.{Effect}
 use Rattle.vx_base.specs.declared.effects.Opened.{Opened}
 use Rattle.vx_base.specs.declared.effects.Opened.TheVariants as opened
 use Rattle.vx_base.specs.declared.frame.Frame.{Frame}
-use Rattle.vx_base.specs.declared.frame.FrameKind.TheVariants as kind
 use Rattle.vx_base.specs.declared.frame.Wait.{Wait}
 use Rattle.vx_base.specs.declared.frame.Wait.TheVariants as wait
 use Rattle.vx_base.specs.declared.mode.Mode.{Mode}
-use Rattle.vx_base.specs.declared.mode.Mode.TheVariants.{Kernel}
 use Rattle.vx_base.specs.declared.number.Pid.{Pid}
 use Rattle.vx_base.specs.declared.record.Answer.{Answer}
-use Rattle.vx_base.specs.declared.record.Answer.TheVariants as answer
 use Rattle.vx_base.specs.declared.record.Event.{Event}
 use Rattle.vx_base.specs.declared.record.Event.TheVariants as event
-use Rattle.vx_base.specs.declared.routine.Entry.{Entry}
-use Rattle.vx_base.specs.declared.routine.Entry.TheVariants as entry
 use Rattle.vx_base.specs.declared.service.Service.{Service}
 use Rattle.vx_base.specs.declared.service.Service.TheVariants.{Assign, Dassgn, CreMbx, DelMbx, Qio, QioW, Cancel}
 use Rattle.vx_image.specs.Local.{advanced}
@@ -35,14 +28,14 @@ use Rattle.vx_image.specs.declared.stop.Stop.TheVariants as stop
 use Rattle.vx_record.specs.Asts.{deliverable_ast}
 use Rattle.vx_record.specs.Charges.{is_same}
 use Rattle.vx_record.specs.Channels.{channel_test}
-use Rattle.vx_record.specs.Events.{moved_to, moved_behind, returned, served_call, run_on, reader, run_frame, run, resumed_with, uses_wake, with_r0, or_normal, started, delivered, beg, don, step, enabled}
+use Rattle.vx_record.specs.Events.{moved_to, moved_behind, returned, served_call, run_on, reader, run_frame, run, resumed_with, uses_wake, with_r0, or_normal, started, delivered, beg, don, step}
 use Rattle.vx_record.specs.Finish.{finish}
 use Rattle.vx_record.specs.Flags.{with_wait, wait_condition}
 use Rattle.vx_record.specs.Parts.{Outcome}
-use Rattle.vx_record.specs.Requests.{begun, unit_ending, with_unit}
+use Rattle.vx_record.specs.Requests.{unit_ending, with_unit}
 use Rattle.vx_record.specs.Rundown.{without_ast}
 use Rattle.vx_record.specs.Services.{number, service_of}
-use Rattle.vx_record.specs.State.{Process, State, IsProcess, process_at, change, image_of, unit_at, nobody}
+use Rattle.vx_record.specs.State.{Process, State, process_at, change, image_of, unit_at}
 use Rattle.vx_record.specs.declared.served.Served.{Served}
 use Rattle.vx_record.specs.declared.served.Served.TheVariants.{Answered, Waits}
 use Rattle.vx_record.proofs.Base.{Base}
@@ -51,7 +44,7 @@ use Rattle.vx_record.proofs.Moves.{Moves}
 use Rattle.vx_record.proofs.Steps.{IsThere}
 use Rattle.vx_record.proofs.Told.{started_moves, step_moves}
 use Rattle.vx_laws.proofs.Allowed.{Test, is_allowed, Allowed, MayOpen, nil, service_allowed, tick_allowed, finish_allowed}
-use Rattle.vx_laws.proofs.Aside.{row, changed, is_near, service_aside, returned_aside, started_aside, tick_aside}
+use Rattle.vx_laws.proofs.Aside.{row, changed, service_aside, returned_aside, started_aside, tick_aside}
 use Rattle.vx_laws.proofs.Emptied.{IsOfLists, AreHeld, Unreached, is_open_allowed, allowed_open, moves_held, kept_rows, seat_rows}
 use Rattle.vx_laws.proofs.Leftover.{Ended}
 use Rattle.vx_laws.proofs.Phases.{finish_keeps, service_keeps, assign_shifts, crembx_service_shifts, dassgn_shifts}

@@ -1,21 +1,19 @@
 -- In every state a process that drains a mode has no frame, and nothing of that mode but requests; RDN, and runs.
-use Rattle.std.proofs.Common.{◌≡◌, ◌≢◌, ◌∙◌, ℕ, zero, suc, ◌+◌, ◌-◌, ◌<◌, ◌≤◌, List, [], ◌∷◌, ◌++◌, Bool, true, false, not, ◌&&◌, Option, Some, None, map, refl, sym, ap, subst, arith, get_or, length}
+use Rattle.std.proofs.Common.{◌≡◌, ◌∙◌, ℕ, zero, suc, ◌-◌, ◌<◌, List, [], ◌∷◌, false, Option, None, refl, sym, ap, subst, arith, length}
 use Rattle.std.specs.Prelude.{Contains}
 use Rattle.vx_base.specs.Pieces.{Channel}
 use Rattle.vx_base.specs.declared.effects.Effect.{Effect}
-use Rattle.vx_base.specs.declared.effects.Effect.TheVariants as effect
 use Rattle.vx_base.specs.declared.frame.Phase.{Phase}
 use Rattle.vx_base.specs.declared.frame.Phase.TheVariants as phase
 use Rattle.vx_base.specs.declared.mode.Mode.{Mode}
 use Rattle.vx_base.specs.declared.number.Pid.{Pid}
 use Rattle.vx_base.specs.declared.record.Event.{Event}
-use Rattle.vx_base.specs.declared.record.Event.TheVariants as event
 use Rattle.vx_record.specs.Events.{step, enabled}
-use Rattle.vx_record.specs.State.{Process, State, IsProcess, process_at, nobody}
+use Rattle.vx_record.specs.State.{Process, State, IsProcess, process_at}
 use Rattle.vx_record.proofs.Base.{Base}
 use Rattle.vx_laws.specs.Items.{Item}
 use Rattle.vx_laws.proofs.Attended.{step_seated}
-use Rattle.vx_laws.proofs.Calm.{Tags, cancelled_in_calm}
+use Rattle.vx_laws.proofs.Calm.{cancelled_in_calm}
 use Rattle.vx_laws.proofs.Courses.{step_spares, ended_on}
 use Rattle.vx_laws.proofs.Emptied.{AllSeated}
 use Rattle.vx_laws.proofs.Idle.{step_idle}
@@ -28,7 +26,7 @@ use Rattle.vx_laws.proofs.Rests.{closed_all}
 use Rattle.vx_record.proofs.Moves.{Moves}
 use Rattle.std.proofs.Common.{⊎_elim}
 use Rattle.std.proofs.lemmas.Bool.{cases_eq}
-use Rattle.vx_laws.proofs.Phases.{Ages, Passes, phase_in}
+use Rattle.vx_laws.proofs.Phases.{Passes, phase_in}
 use Rattle.vx_laws.proofs.Rests.{enabled_awake, is_rundown, phase_made, step_ages}
 use Rattle.vx_laws.proofs.Runs.{enabled_there}
 

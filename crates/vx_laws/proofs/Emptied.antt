@@ -1,37 +1,35 @@
 -- What rundown leaves of a process in the lists of timers and attention entries.
-use Rattle.std.proofs.Common.{◌≡◌, ◌≢◌, ◌∙◌, ℕ, zero, suc, ◌+◌, ◌-◌, ◌<◌, ◌≤◌, List, [], ◌∷◌, ◌++◌, Bool, true, false, cond, not, ◌==◌, ◌&&◌, ◌||◌, Option, Some, None, refl, sym, ap, subst, arith, get_or, is_some, inl, inr, ⊎_elim, nat_lt, replicate, set}
-use Rattle.std.specs.List.{AllByRecursion, filter, list_any, find}
-use Rattle.std.proofs.lemmas.Bool.{and_parts, and_from, eqb-true, eq-eqb, ne_eqb, cases_eq}
+use Rattle.std.proofs.Common.{◌≡◌, ◌≢◌, ◌∙◌, ℕ, zero, suc, ◌+◌, ◌-◌, ◌≤◌, List, [], ◌∷◌, ◌++◌, Bool, true, false, ◌==◌, ◌&&◌, ◌||◌, Option, Some, None, refl, sym, ap, subst, arith, get_or, ⊎_elim, replicate}
+use Rattle.std.specs.List.{AllByRecursion, filter, list_any}
+use Rattle.std.proofs.lemmas.Bool.{and_from, eqb-true, eq-eqb, ne_eqb, cases_eq}
 use Rattle.vx_base.specs.Channels.{channel_at, is_reached, reached_from, channels_of}
-use Rattle.vx_base.specs.Lists.{less, amend}
+use Rattle.vx_base.specs.Lists.{less}
 use Rattle.vx_base.specs.Modes.{reaches}
-use Rattle.vx_base.specs.Pieces.{Queued, Channel, Handler, Request, Timer, Alarm, OfTimer, OfWake, Attention}
+use Rattle.vx_base.specs.Pieces.{Channel, Timer, Alarm, OfTimer, OfWake, Attention}
 use Rattle.vx_base.specs.declared.effects.Cell.{Cell}
 use Rattle.vx_base.specs.declared.effects.Cell.TheVariants.{Local, Common as Shared}
 use Rattle.vx_base.specs.declared.effects.Effect.{Effect}
 use Rattle.vx_base.specs.declared.effects.Effect.TheVariants as effect
-use Rattle.vx_base.specs.declared.effects.Opened.{Opened}
 use Rattle.vx_base.specs.declared.effects.Opened.TheVariants as opened
-use Rattle.vx_base.specs.declared.frame.Phase.TheVariants as phase
 use Rattle.vx_base.specs.declared.mode.Mode.{Mode}
 use Rattle.vx_base.specs.declared.mode.Mode.TheVariants.{Kernel, Exec, Super, User}
 use Rattle.vx_base.specs.declared.number.Pid.{Pid}
-use Rattle.vx_record.specs.Cancel.{cancel_channel, drop_attention, is_attention_on}
+use Rattle.vx_record.specs.Cancel.{cancel_channel, is_attention_on}
 use Rattle.vx_record.specs.Charges.{is_same}
 use Rattle.vx_record.specs.Flags.{flag_part}
 use Rattle.vx_record.specs.Mailboxes.{this_attention}
-use Rattle.vx_record.specs.Parts.{Part, and_then, each}
-use Rattle.vx_record.specs.Rundown.{drop_ast, drop_handler, drop_asts, is_ast_reached, cancel_one, cancel_modes, is_timer_in, is_wake_by, is_timer_reached, is_wake_alarm}
+use Rattle.vx_record.specs.Parts.{Part, each}
+use Rattle.vx_record.specs.Rundown.{drop_ast, drop_handler, is_ast_reached, cancel_one, cancel_modes, is_timer_in, is_wake_by, is_timer_reached, is_wake_alarm}
 use Rattle.vx_record.specs.State.{Process, State, process_at, nobody}
-use Rattle.vx_record.specs.Timers.{this_timer, drop_timer, drop_timers, due_again, after_wake, is_wake_for}
+use Rattle.vx_record.specs.Timers.{this_timer, drop_timer, drop_timers, due_again, after_wake}
 use Rattle.vx_record.specs.Sound.{AreOrdered, timer_id}
 use Rattle.vx_record.proofs.Base.{Base, moves_keep}
 use Rattle.vx_record.proofs.Cancelled.{cancel_channel_all, cancel_channel_attention, cancel_channel_moves}
-use Rattle.vx_record.proofs.Lists.{either, either_by, all_weaker, all_both, all_append, all_less, all_amend, removed, ordered_less, false_from, apart_bools}
-use Rattle.vx_record.proofs.Moves.{Loose, Moves, PartMoves, none, skip, both, quiet, moved, bytes, var, status, enb, channel, newly, gone, leave, flag, clusters, open_ast, open_force, que, end_asts, open_handler, end_handler, end_handlers, enter, open_request, fin, mark, unit, mput, mget, mcut, box_opens, box_ends, box_marked, open_attention, attention_fires, end_attention, open_timer, open_wake, timer_fires, wake_fires, end_timer, time}
+use Rattle.vx_record.proofs.Lists.{either, all_weaker, all_both, all_append, all_less, all_amend, removed, ordered_less}
+use Rattle.vx_record.proofs.Moves.{Loose, Moves, PartMoves, both, flag, end_asts, end_handlers, open_attention, attention_fires, end_attention, open_timer, open_wake, timer_fires, wake_fires, end_timer}
 use Rattle.vx_laws.proofs.Allowed.{Test, is_allowed}
 use Rattle.vx_laws.proofs.Aside.{row}
-use Rattle.vx_laws.proofs.Phases.{Keeps, seat_in, newcomer, cancel_modes_keeps}
+use Rattle.vx_laws.proofs.Phases.{Keeps, seat_in, cancel_modes_keeps}
 
 -- an opening is one that a test allows; of other effects nothing is asked
 abbrev pub is_open_allowed : Test → Effect → Bool

@@ -1,14 +1,13 @@
 -- In a run whose end is DONE no id is open, and each request has exactly one FIN.
-use Rattle.std.proofs.Common.{◌≡◌, ◌≢◌, ◌∙◌, ℕ, zero, suc, ◌+◌, ◌-◌, ◌<◌, ◌≤◌, List, [], ◌∷◌, ◌++◌, Bool, true, false, cond, not, ◌==◌, ◌&&◌, ◌||◌, Option, Some, None, map, refl, sym, ap, subst, arith, length, get_or, ⊎_elim}
+use Rattle.std.proofs.Common.{◌≡◌, ◌≢◌, ◌∙◌, ℕ, zero, suc, ◌+◌, ◌-◌, ◌<◌, ◌≤◌, List, [], ◌∷◌, Bool, true, false, cond, ◌==◌, ◌&&◌, ◌||◌, Option, Some, None, map, refl, sym, ap, subst, arith, length, get_or, ⊎_elim}
 use Rattle.std.specs.Prelude.{Contains, nat_le}
 use Rattle.std.specs.List.{AllByRecursion, list_all, list_any}
-use Rattle.std.proofs.lemmas.Bool.{and_parts, and_from, eq-eqb, eqb-true, cases_eq, leb-true, le-leb}
-use Rattle.vx_base.specs.Pieces.{Queued, Handler, Request, Timer, Attention}
+use Rattle.std.proofs.lemmas.Bool.{and_parts, and_from, eq-eqb, cases_eq, leb-true, le-leb}
+use Rattle.vx_base.specs.Pieces.{Request, Timer, Attention}
 use Rattle.vx_base.specs.declared.effects.Effect.{Effect}
 use Rattle.vx_base.specs.declared.effects.Effect.TheVariants as effect
 use Rattle.vx_base.specs.declared.frame.Phase.{Phase}
 use Rattle.vx_base.specs.declared.frame.Phase.TheVariants as phase
-use Rattle.vx_base.specs.declared.mode.Mode.{Mode}
 use Rattle.vx_base.specs.declared.number.Id.{Id}
 use Rattle.vx_base.specs.declared.number.Pid.{Pid}
 use Rattle.vx_base.specs.declared.record.Answer.{Answer}
@@ -22,34 +21,29 @@ use Rattle.vx_image.specs.declared.system.System.{System}
 use Rattle.vx_record.specs.Charges.{is_same}
 use Rattle.vx_record.specs.Control.{is_deleted, is_deleted_phase}
 use Rattle.vx_record.specs.Events.{step, enabled, can_step_down}
-use Rattle.vx_record.specs.Finish.{this_request}
-use Rattle.vx_record.specs.Mailboxes.{this_attention}
-use Rattle.vx_record.specs.Rundown.{gone_part, in_phase, entering, handler_frame, handling, this_handler, release}
+use Rattle.vx_record.specs.Rundown.{gone_part, in_phase, entering, handler_frame, this_handler, release}
 use Rattle.vx_record.specs.Runs.{born_of, born_from, first, after, after_from, are_deleted, end_with, end_after, AreSteps, IsRun}
-use Rattle.vx_record.specs.State.{Process, State, IsProcess, process_at, change, nobody}
-use Rattle.vx_record.specs.Timers.{this_timer}
+use Rattle.vx_record.specs.State.{Process, State, IsProcess, process_at, nobody}
 use Rattle.vx_record.proofs.Base.{Base}
 use Rattle.vx_record.proofs.Fits.{field_same}
 use Rattle.vx_record.proofs.Freeing.{phase_at}
-use Rattle.vx_record.proofs.Lists.{either, all_weaker, all_both, all_get}
+use Rattle.vx_record.proofs.Lists.{either, all_weaker, all_both}
 use Rattle.vx_laws.specs.Items.{Item, Head, Did, flat, later, past_of}
 use Rattle.vx_laws.specs.Leftovers.{fins, is_open_of}
 use Rattle.vx_laws.specs.Lives.{Life, life, lives, is_open, is_request}
-use Rattle.vx_laws.specs.Once.{ends}
 use Rattle.vx_laws.specs.RundownLaw.{is_gone}
-use Rattle.vx_laws.proofs.Allowed.{Allowed, is_allowed}
 use Rattle.vx_laws.proofs.Calm.{Tags}
 use Rattle.vx_laws.proofs.Drained.{seat_phase}
 use Rattle.vx_laws.proofs.Listed.{holds, holds_in, Listed, this_ast}
-use Rattle.vx_laws.proofs.Lowers.{IsLowering, Low, Lowers, Others, closed, stops, goes, others_change, rundown_lowers, cancelled_phase, low_release}
+use Rattle.vx_laws.proofs.Lowers.{IsLowering, Low, Lowers, stops, goes, others_change, rundown_lowers, cancelled_phase, low_release}
 use Rattle.vx_laws.proofs.Newest.{Further, step_further, first_further}
 use Rattle.vx_laws.proofs.Opens.{any_told}
-use Rattle.vx_laws.proofs.Phases.{Ages, Passes, phase_in, release_shifts}
+use Rattle.vx_laws.proofs.Phases.{Passes, phase_in, release_shifts}
 use Rattle.vx_laws.proofs.Rests.{enabled_awake, is_rundown, phase_made, step_ages, both_later}
 use Rattle.vx_laws.proofs.Right.{lives_more}
 use Rattle.vx_laws.proofs.Runs.{enabled_there, step_right, first_base, first_stands, every_run_ends_right}
 use Rattle.vx_laws.proofs.Seats.{seat, request_life, timer_life, attention_life, RequestLives, TimerLives, AttentionLives}
-use Rattle.vx_laws.proofs.Settled.{Owned, IsOwnedLife, owned_after}
+use Rattle.vx_laws.proofs.Settled.{IsOwnedLife, owned_after}
 use Rattle.vx_laws.proofs.Shares.{records_whole, told_fins, gone_leave_nothing}
 use Rattle.vx_laws.proofs.Stands.{Stands}
 use Rattle.vx_laws.proofs.Steps.{step_tags, first_tags}

@@ -1,5 +1,5 @@
 -- Who has no frame gets none from events of others.
-use Rattle.std.proofs.Common.{◌≡◌, ◌≢◌, ◌∙◌, ℕ, ◌-◌, ◌≤◌, List, [], ◌∷◌, Bool, true, false, cond, ◌==◌, Option, Some, None, refl, sym, ap, subst, get_or, get_or-set_other}
+use Rattle.std.proofs.Common.{◌≡◌, ◌∙◌, ◌-◌, List, [], ◌∷◌, Bool, true, false, cond, Option, Some, None, refl, sym, ap, subst, get_or-set_other}
 use Rattle.vx_base.specs.Pieces.{Queued, Request}
 use Rattle.vx_base.specs.Queues.{front, in_service}
 use Rattle.vx_base.specs.Serving.{serve, settled}
@@ -24,17 +24,16 @@ use Rattle.vx_record.specs.Charges.{is_same}
 use Rattle.vx_record.specs.Events.{started, delivered, beg, don, step, r0_of}
 use Rattle.vx_record.specs.Finish.{finish}
 use Rattle.vx_record.specs.Requests.{unit_ending, with_unit}
-use Rattle.vx_record.specs.Rundown.{without_ast, exited, without_frames}
+use Rattle.vx_record.specs.Rundown.{without_ast, without_frames}
 use Rattle.vx_record.specs.State.{Process, State, IsProcess, process_at, change, unit_at, nobody}
-use Rattle.vx_record.proofs.Apart.{Here}
 use Rattle.vx_record.proofs.Base.{Base}
 use Rattle.vx_record.proofs.Steps.{IsThere}
 use Rattle.vx_laws.specs.Frames.{turned, turned_by, turn}
 use Rattle.vx_laws.specs.Items.{Item}
-use Rattle.vx_laws.proofs.Awaited.{Keeps, waits_of, waits_in, frame_waits, finish_keeps, tick_keeps}
+use Rattle.vx_laws.proofs.Awaited.{Keeps, waits_of, frame_waits, finish_keeps, tick_keeps}
 use Rattle.vx_laws.proofs.CalmServices.{call_turn, leave_all_state}
 use Rattle.vx_laws.proofs.Courses.{acts_apart, place_apart}
-use Rattle.vx_laws.proofs.Pauses.{EventWaits, shifted, heard, made_waits, run_waits}
+use Rattle.vx_laws.proofs.Pauses.{shifted, heard, made_waits, run_waits}
 use Rattle.vx_laws.proofs.Rests.{IsAwake, is_rundown}
 
 nil_frames : (fs : List Frame) → waits_of fs ≡ [] → fs ≡ []

@@ -1,12 +1,11 @@
 -- What rundown leaves of its process: nothing, step by step.
-use Rattle.std.proofs.Common.{◌≡◌, ◌≢◌, ◌∙◌, ℕ, zero, suc, ◌+◌, ◌-◌, ◌<◌, ◌≤◌, List, [], ◌∷◌, ◌++◌, Bool, true, false, cond, not, ◌==◌, ◌&&◌, ◌||◌, Option, Some, None, refl, sym, ap, subst, arith, get_or, get_or-set_other, set, inl, inr, ⊎_elim}
-use Rattle.std.specs.List.{AllByRecursion, filter, list_any, find}
-use Rattle.std.proofs.lemmas.Bool.{and_parts, and_from, eqb-true, eq-eqb, ne_eqb, cases_eq}
+use Rattle.std.proofs.Common.{◌≡◌, ◌≢◌, ◌∙◌, ℕ, zero, suc, ◌-◌, ◌≤◌, List, [], ◌∷◌, Bool, true, false, not, ◌==◌, ◌&&◌, Option, Some, None, refl, sym, ap, subst, arith, get_or, get_or-set_other, set, ⊎_elim}
+use Rattle.std.specs.List.{AllByRecursion, filter}
+use Rattle.std.proofs.lemmas.Bool.{and_parts, and_from, eqb-true, eq-eqb, cases_eq}
 use Rattle.vx_base.specs.Channels.{channel_at, is_reached, channels_of}
 use Rattle.vx_base.specs.Lists.{less}
 use Rattle.vx_base.specs.Modes.{reaches}
 use Rattle.vx_base.specs.Pieces.{Queued, Channel, Handler, Request, Timer, Attention}
-use Rattle.vx_base.specs.declared.effects.Effect.TheVariants as effect
 use Rattle.vx_base.specs.declared.frame.Phase.TheVariants as phase
 use Rattle.vx_base.specs.declared.mode.Mode.{Mode}
 use Rattle.vx_base.specs.declared.mode.Mode.TheVariants.{Kernel}
@@ -20,7 +19,7 @@ use Rattle.vx_record.specs.Parts.{Part, and_then, each, nothing}
 use Rattle.vx_record.specs.Rundown.{any_handler, free_one, drop_ast, drop_asts, drop_handler, drop_handlers, drop_all_handlers, without_ast, is_ast_reached, is_busy, keeps_busy, part_with, release, cancel_modes, cancelled_in, in_phase, entering, handler_frame, handling}
 use Rattle.vx_record.specs.State.{Process, State, process_at, change, nobody}
 use Rattle.vx_record.specs.Timers.{drop_timers, is_wake_for}
-use Rattle.vx_record.proofs.Base.{Base, moves_keep}
+use Rattle.vx_record.proofs.Base.{moves_keep}
 use Rattle.vx_record.proofs.Ground.{at_set}
 use Rattle.vx_record.proofs.Lists.{either, all_weaker, all_both, none_passes}
 use Rattle.vx_record.proofs.Moves.{PartMoves, end_handlers}

@@ -1,10 +1,9 @@
 -- One step of rundown, taken apart: it stops, or it goes on to the end, where its process is gone; no other process's phase changes.
-use Rattle.std.proofs.Common.{List, None, Option, Some, [], ap, refl, sym, subst, true, false, ◌++◌, ◌∷◌, ◌≡◌, ◌∙◌, Bool, ℕ, ◌-◌, ◌≤◌, arith, zero, suc, set, append-nil}
-use Rattle.std.specs.List.{find, filter, AllByRecursion}
+use Rattle.std.proofs.Common.{List, None, Option, Some, [], ap, refl, sym, subst, true, false, ◌++◌, ◌∷◌, ◌≡◌, ◌∙◌, ℕ, ◌-◌, arith}
+use Rattle.std.specs.List.{find}
 use Rattle.vx_base.specs.Pieces.{Handler}
 use Rattle.vx_base.specs.declared.effects.Effect.TheVariants as effect
 use Rattle.vx_base.specs.declared.effects.Effect.{Effect}
-use Rattle.vx_base.specs.declared.effects.Opened.{Opened}
 use Rattle.vx_base.specs.declared.frame.Phase.TheVariants as phase
 use Rattle.vx_base.specs.declared.frame.Phase.{Phase}
 use Rattle.vx_base.specs.declared.mode.Mode.{Mode}
@@ -15,15 +14,15 @@ use Rattle.vx_record.proofs.Apart.{Here, here_after}
 use Rattle.vx_record.proofs.Fits.{field_same}
 use Rattle.vx_record.proofs.Freeing.{phase_at}
 use Rattle.vx_record.proofs.Told.{cancelled_in_moves, phase_silent, release_moves}
-use Rattle.vx_record.proofs.Base.{moves_keep, made_more}
+use Rattle.vx_record.proofs.Base.{moves_keep}
 use Rattle.vx_record.proofs.Cancelled.{drop_timers_moves}
 use Rattle.vx_record.proofs.Moves.{Moves, both, none, quiet, end_handlers, enter}
-use Rattle.vx_record.proofs.Lists.{either, either_by, all_append}
+use Rattle.vx_record.proofs.Lists.{either_by}
 use Rattle.vx_record.specs.Parts.{Outcome, and_then, each}
 use Rattle.vx_record.specs.Rundown.{any_handler, cancelled_in, cancel_modes, drain, drop_all_handlers, drop_handlers, entering, gone_part, handler_frame, handling, in_phase, inner_modes, is_busy, is_handler_of, release, run_down, run_handlers, rundown_from}
-use Rattle.vx_record.specs.State.{Process, State, IsProcess, change, process_at, nobody}
+use Rattle.vx_record.specs.State.{Process, State, IsProcess, change, process_at}
 use Rattle.vx_record.specs.Timers.{drop_timers, is_wake_for}
-use Rattle.vx_laws.proofs.Calm.{Tags, IsBare, Still, cancelled_in_calm, phase_calm, release_calm, drop_handlers_calm, drop_timers_calm}
+use Rattle.vx_laws.proofs.Calm.{Tags, Still, cancelled_in_calm, phase_calm, release_calm, drop_handlers_calm, drop_timers_calm}
 use Rattle.vx_laws.proofs.Named.{dropped_all, all_any}
 use Rattle.vx_laws.proofs.Phases.{Keeps, Shifts, seat_in, set_apart, keep_none, keep_then, cancel_modes_keeps, release_shifts, drop_handlers_keeps, drop_timers_keeps}
 use Rattle.vx_laws.proofs.Allowed.{Test, Allowed, nil, one, join, cancel_modes_allowed, release_allowed, handlers_allowed, timers_allowed}

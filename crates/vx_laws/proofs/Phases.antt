@@ -37,7 +37,7 @@ use Rattle.vx_record.specs.Cancel.{mark_part, withdraw, cancelled_request, cance
 use Rattle.vx_record.specs.Requests.{attention_set, Asked, request_test, new_request, opened_request, begun_on, transfer, new_attention, attention_opened, done_at_once, attention_on, accepted, qio_tested}
 use Rattle.vx_record.specs.Control.{process_test, changed_process, with_wake, with_suspension, forced, creprc}
 use Rattle.vx_record.specs.Timers.{drop_timer, drop_timers, setimr_at, setimr, is_cancelled_timer, scheduled, is_wake_for, unscheduled, que_timer, fire_timer, fired, fire, is_due, at_time, next_time, tick}
-use Rattle.vx_record.specs.Rundown.{is_handler_of, is_handler_with, drop_handlers, any_handler, cancel_found, cancel_handlers, cancel_one, free_one, is_timer_in, is_wake_by, cancel_modes, release, drop_all_handlers, cancelled_in, run_down}
+use Rattle.vx_record.specs.Rundown.{is_handler_of, is_handler_with, drop_handlers, any_handler, cancel_found, cancel_handlers, cancel_one, free_one, is_timer_in, is_wake_by, cancel_modes, release}
 use Rattle.vx_record.specs.Services.{number, place, access_mode, text, routine_or_none, decl_place, asked, valued_at, numbered_at, service_of}
 use Rattle.vx_record.specs.Events.{moved_to}
 use Rattle.vx_record.specs.declared.served.Served.{Served}
@@ -52,24 +52,20 @@ use Rattle.vx_record.specs.Channels.{box_number, box_made}
 use Rattle.vx_record.specs.Timers.{mode_of_ast}
 use Rattle.vx_record.specs.State.{Process}
 use Rattle.vx_record.specs.Flags.{with_local_flag}
-use Rattle.vx_base.specs.declared.cond.Cond.TheVariants.{Normal}
-use Rattle.vx_base.specs.declared.mode.Mode.TheVariants.{User}
 use Rattle.vx_record.specs.State.{next_id, past_id}
 use Rattle.vx_record.specs.Asts.{declared_ast, charged_ast}
 use Rattle.vx_record.specs.Control.{exit_ast}
 use Rattle.vx_record.specs.Mailboxes.{this_attention}
-use Rattle.vx_record.specs.Rundown.{in_phase, part_with}
+use Rattle.vx_record.specs.Rundown.{part_with}
 use Rattle.vx_record.specs.Services.{var_part, routine}
 use Rattle.vx_record.specs.Timers.{this_timer, due_again, after_wake, new_timer, new_wake, timer_set, gettim}
-use Rattle.vx_record.specs.State.{with_top}
 use Rattle.vx_record.specs.Rundown.{drop_handler, drop_ast, is_ast_reached, without_ast, without_handler, with_handler, new_handler}
 use Rattle.vx_record.specs.Control.{created, new_part}
 use Rattle.vx_record.specs.Asts.{que_part, with_queued, with_delivery}
 use Rattle.vx_record.specs.Finish.{with_stored_bytes, with_stored_status}
 use Rattle.vx_record.specs.Requests.{with_request}
 use Rattle.vx_record.specs.Timers.{with_timer}
-use Rattle.vx_record.specs.Services.{with_variable, at_once}
-use Rattle.vx_image.specs.Storage.{Storage}
+use Rattle.vx_record.specs.Services.{with_variable}
 use Rattle.std.proofs.Common.{◌%◌, ◌^◌, ◌||◌, sym, subst, replicate}
 use Rattle.vx_base.specs.Cond.{number_of}
 use Rattle.vx_base.specs.Modes.{inner}
@@ -78,15 +74,13 @@ use Rattle.vx_base.specs.declared.frame.FrameKind.{FrameKind}
 use Rattle.vx_base.specs.declared.frame.Wait.TheVariants as wait
 use Rattle.vx_base.specs.declared.mode.Mode.TheVariants.{Exec, Kernel}
 use Rattle.vx_base.specs.declared.number.UnitNo.{UnitNo}
-use Rattle.vx_base.specs.declared.record.Answer.{Answer}
 use Rattle.vx_base.specs.declared.routine.Entry.TheVariants as entry
 use Rattle.vx_base.specs.declared.call.Call.{Call}
-use Rattle.vx_base.specs.Queues.{front, in_service}
 use Rattle.vx_base.specs.Serving.{serve, settled}
 use Rattle.vx_image.specs.Local.{advanced}
 use Rattle.vx_image.specs.declared.stop.Stop.{Stop}
 use Rattle.vx_image.specs.declared.stop.Stop.TheVariants as stop
-use Rattle.vx_record.specs.Asts.{is_inside, with_frame, new_frame, deliverable_ast}
+use Rattle.vx_record.specs.Asts.{is_inside, with_frame, new_frame}
 use Rattle.vx_record.specs.Flags.{awaited_at, waits_on, refused_wait, wait_condition, with_wait}
 use Rattle.vx_record.specs.Requests.{qiow_tested, begun, unit_ending, with_unit}
 use Rattle.vx_record.specs.Rundown.{leave_kind, leave_frame, leave_all, exited, without_frames, leaving, leaving_deleted, deleted_by, named_for_deletion}

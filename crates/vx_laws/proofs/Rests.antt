@@ -1,5 +1,5 @@
 -- A process that is gone rests in every run: it has no event, and nothing is opened for it.
-use Rattle.std.proofs.Common.{◌≡◌, ◌≢◌, ◌∙◌, ℕ, zero, suc, ◌+◌, ◌-◌, ◌<◌, ◌≤◌, List, [], ◌∷◌, ◌++◌, Bool, true, false, not, ◌&&◌, ◌||◌, Option, Some, None, Result, Ok, Err, map, refl, sym, ap, subst, arith, get_or, length}
+use Rattle.std.proofs.Common.{◌≡◌, ◌≢◌, ◌∙◌, ℕ, zero, suc, ◌+◌, ◌-◌, ◌<◌, ◌≤◌, List, [], ◌∷◌, ◌++◌, Bool, true, false, not, ◌&&◌, ◌||◌, Option, Some, None, Result, Ok, map, refl, sym, ap, subst, arith, get_or, length}
 use Rattle.std.specs.Prelude.{Contains}
 use Rattle.std.specs.List.{AllByRecursion}
 use Rattle.std.proofs.lemmas.Bool.{and_parts, and_from, eqb-true, eq-eqb}
@@ -11,7 +11,6 @@ use Rattle.vx_base.specs.declared.cond.Cond.{Cond}
 use Rattle.vx_base.specs.declared.effects.Effect.{Effect}
 use Rattle.vx_base.specs.declared.effects.Effect.TheVariants as effect
 use Rattle.vx_base.specs.declared.effects.Opened.{Opened}
-use Rattle.vx_base.specs.declared.effects.Opened.TheVariants as opened
 use Rattle.vx_base.specs.declared.frame.Frame.{Frame}
 use Rattle.vx_base.specs.declared.frame.FrameKind.{FrameKind}
 use Rattle.vx_base.specs.declared.frame.FrameKind.TheVariants as kind
@@ -26,7 +25,6 @@ use Rattle.vx_base.specs.declared.record.Event.TheVariants as event
 use Rattle.vx_base.specs.declared.record.Rec.{Rec}
 use Rattle.vx_base.specs.declared.routine.Entry.{Entry}
 use Rattle.vx_base.specs.declared.routine.Entry.TheVariants as entry
-use Rattle.vx_base.specs.declared.service.Service.TheVariants.{SchdWk, ForceX}
 use Rattle.vx_image.specs.Local.{advanced}
 use Rattle.vx_image.specs.declared.stop.Stop.{Stop}
 use Rattle.vx_image.specs.declared.stop.Stop.TheVariants as stop
@@ -37,7 +35,7 @@ use Rattle.vx_record.specs.Control.{is_deleted_phase, exists_for_control, may_co
 use Rattle.vx_record.specs.Events.{moved_to, returned, returned_from, r0_of, served_call, moved_behind, run_on, reader, run_frame, run, started, delivered, beg, don, step, enabled, can_run, can_run_down, can_step_down, run_events, ast_or_run, process_events, processes_from, beg_event, don_or_beg, unit_events, units_from, tick_events}
 use Rattle.vx_record.specs.Parts.{Outcome}
 use Rattle.vx_record.specs.Requests.{unit_ending, with_unit}
-use Rattle.vx_record.specs.Rundown.{without_ast, gone_part, in_phase, rundown_from}
+use Rattle.vx_record.specs.Rundown.{without_ast, gone_part, in_phase}
 use Rattle.vx_record.specs.Runs.{first, AreSteps, IsRun}
 use Rattle.vx_record.specs.Services.{service_of, number}
 use Rattle.vx_record.specs.State.{Process, State, IsProcess, process_at, change, image_of, nobody, pid, unit_at}
@@ -47,14 +45,14 @@ use Rattle.vx_record.proofs.Base.{Base}
 use Rattle.vx_record.proofs.Freeing.{phase_at}
 use Rattle.vx_record.proofs.Lists.{either, either_by, all_append, all_at, not_fails}
 use Rattle.vx_laws.specs.Items.{Item, Head, Did, flat, later, at_each, latest_call, calling}
-use Rattle.vx_laws.specs.Lives.{is_wake, new_life}
-use Rattle.vx_laws.specs.RundownLaw.{is_gone, woken, is_of_nobody_gone}
+use Rattle.vx_laws.specs.Lives.{is_wake}
+use Rattle.vx_laws.specs.RundownLaw.{is_gone, woken}
 use Rattle.vx_laws.specs.RundownParts.{stays, gone_rest}
 use Rattle.vx_laws.proofs.Allowed.{Test, is_allowed, Allowed, MayOpen, nil, one, join, exited_allowed, finish_allowed, tick_allowed, service_allowed}
 use Rattle.vx_laws.proofs.Calm.{Tags, IsBare, Still, still_made, held_at}
-use Rattle.vx_laws.proofs.Lowers.{IsLowering, Low, Lowers, Others, Settled, closed, stops, goes, rundown_lowers}
+use Rattle.vx_laws.proofs.Lowers.{IsLowering, Low, Lowers, Others, closed, stops, goes, rundown_lowers}
 use Rattle.vx_laws.proofs.Named.{step_still}
-use Rattle.vx_laws.proofs.Phases.{Keeps, keep_phases, Ages, Passes, phase_in, newcomer, keep_same, keep_then, run_ages, delivered_ages, beg_ages, don_ages, tick_ages}
+use Rattle.vx_laws.proofs.Phases.{keep_phases, Ages, Passes, phase_in, keep_same, run_ages, delivered_ages, beg_ages, don_ages, tick_ages}
 use Rattle.vx_laws.proofs.Runs.{enabled_there, step_right, first_base, first_stands}
 use Rattle.vx_laws.proofs.Stands.{Stands}
 use Rattle.vx_laws.proofs.Steps.{delivered_some, step_tags, first_tags}

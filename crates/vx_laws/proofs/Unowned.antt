@@ -1,18 +1,15 @@
 -- Where nothing stands in the lists for a process, no id of it is open in the records.
-use Rattle.std.proofs.Common.{◌≡◌, ◌∙◌, ℕ, ◌+◌, ◌≤◌, List, [], ◌∷◌, Bool, true, false, cond, not, ◌==◌, ◌&&◌, ◌||◌, Option, Some, None, refl, sym, ap, subst}
+use Rattle.std.proofs.Common.{◌≡◌, ◌∙◌, ℕ, List, Bool, true, false, cond, not, ◌==◌, ◌||◌, Option, Some, None, refl, sym, ap, subst}
 use Rattle.std.specs.List.{AllByRecursion, list_any}
 use Rattle.std.proofs.lemmas.Bool.{and_parts, eqb-true}
-use Rattle.vx_base.specs.Pieces.{Queued, Handler, Request, Timer, Attention}
+use Rattle.vx_base.specs.Pieces.{Request, Timer, Attention}
 use Rattle.vx_base.specs.declared.effects.Opened.{Opened}
 use Rattle.vx_base.specs.declared.effects.Opened.TheVariants as opened
 use Rattle.vx_base.specs.declared.number.Id.{Id}
 use Rattle.vx_base.specs.declared.number.Pid.{Pid}
 use Rattle.vx_record.specs.Charges.{is_same}
-use Rattle.vx_record.specs.Finish.{this_request}
-use Rattle.vx_record.specs.Mailboxes.{this_attention}
 use Rattle.vx_record.specs.Rundown.{this_handler}
-use Rattle.vx_record.specs.State.{State, process_at}
-use Rattle.vx_record.specs.Timers.{this_timer}
+use Rattle.vx_record.specs.State.{State}
 use Rattle.vx_record.proofs.Lists.{all_weaker, all_both}
 use Rattle.vx_laws.specs.Items.{Item}
 use Rattle.vx_laws.specs.Leftovers.{is_open_of}

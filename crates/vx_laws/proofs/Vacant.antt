@@ -1,15 +1,13 @@
 -- At GONE nothing is left: no id of the process is open in the records, and no wake is for it. Of every run.
-use Rattle.std.proofs.Common.{◌≡◌, ◌≢◌, ◌∙◌, ℕ, zero, suc, ◌+◌, ◌-◌, ◌<◌, ◌≤◌, List, [], ◌∷◌, ◌++◌, Bool, true, false, cond, not, ◌==◌, ◌&&◌, ◌||◌, Option, Some, None, map, refl, sym, ap, subst, arith, length, ⊎_elim}
+use Rattle.std.proofs.Common.{◌≡◌, ◌∙◌, ℕ, zero, suc, ◌+◌, ◌-◌, List, [], ◌∷◌, ◌++◌, Bool, true, false, not, ◌&&◌, ◌||◌, Option, Some, None, map, refl, sym, ap, subst, arith, ⊎_elim}
 use Rattle.std.specs.Prelude.{Contains}
 use Rattle.std.specs.List.{AllByRecursion, list_any}
-use Rattle.std.proofs.lemmas.Bool.{and_parts, and_from, eq-eqb, eqb-true, cases_eq}
-use Rattle.vx_base.specs.Channels.{is_reached}
+use Rattle.std.proofs.lemmas.Bool.{and_parts, and_from, eqb-true, cases_eq}
 use Rattle.vx_base.specs.Pieces.{Timer, Alarm, OfTimer, OfWake}
 use Rattle.vx_base.specs.declared.effects.Effect.{Effect}
 use Rattle.vx_base.specs.declared.effects.Effect.TheVariants as effect
 use Rattle.vx_base.specs.declared.effects.Opened.{Opened}
 use Rattle.vx_base.specs.declared.effects.Opened.TheVariants as opened
-use Rattle.vx_base.specs.declared.frame.Phase.{Phase}
 use Rattle.vx_base.specs.declared.frame.Phase.TheVariants as phase
 use Rattle.vx_base.specs.declared.mode.Mode.{Mode}
 use Rattle.vx_base.specs.declared.number.Id.{Id}
@@ -22,20 +20,19 @@ use Rattle.vx_image.specs.declared.decl.ProcDecl.{ProcDecl}
 use Rattle.vx_image.specs.declared.system.System.{System}
 use Rattle.vx_record.specs.Charges.{is_same}
 use Rattle.vx_record.specs.Events.{step, enabled}
-use Rattle.vx_record.specs.Rundown.{gone_part, in_phase, entering, handler_frame, rundown_from}
+use Rattle.vx_record.specs.Rundown.{gone_part, in_phase, entering, handler_frame}
 use Rattle.vx_record.specs.Runs.{born_of, born_from, first, AreSteps, IsRun}
-use Rattle.vx_record.specs.State.{Process, State, IsProcess, process_at, change, nobody}
+use Rattle.vx_record.specs.State.{Process, State, IsProcess, process_at, nobody}
 use Rattle.vx_record.specs.Timers.{this_timer, wakes}
-use Rattle.vx_record.proofs.Apart.{Here}
-use Rattle.vx_record.proofs.Base.{Base, moves_keep}
+use Rattle.vx_record.proofs.Base.{Base}
 use Rattle.vx_record.proofs.Fits.{field_same}
 use Rattle.vx_record.proofs.Freeing.{phase_at}
-use Rattle.vx_record.proofs.Lists.{either, all_weaker, all_both, all_append, all_get}
+use Rattle.vx_record.proofs.Lists.{either, all_weaker, all_get}
 use Rattle.vx_record.proofs.Moves.{Moves}
 use Rattle.vx_laws.specs.Items.{Item, Head, Did, flat, later, at_each}
 use Rattle.vx_laws.specs.Leftovers.{is_open_of}
 use Rattle.vx_laws.specs.Lives.{Life, life, lives, highest, is_open, is_wake, id_of, all_ids}
-use Rattle.vx_laws.specs.RundownLaw.{woken, is_wake_for, is_of, is_left_of, nothing_left, rests, enters_last, is_run_down, run_downs}
+use Rattle.vx_laws.specs.RundownLaw.{woken, is_wake_for, is_of, is_left_of, nothing_left, rests, enters_last, run_downs}
 use Rattle.vx_laws.specs.RundownParts.{stays, leaves, leaves_none}
 use Rattle.vx_laws.proofs.Allowed.{Allowed, is_allowed}
 use Rattle.vx_laws.proofs.Aside.{changed}
@@ -45,21 +42,21 @@ use Rattle.vx_laws.proofs.Drained.{Course, Drains, draining, step_course, stops_
 use Rattle.vx_laws.proofs.Emptied.{AllSeated, Seated, Unreached, seated_on, unreached_on, is_open_allowed}
 use Rattle.vx_laws.proofs.Idle.{frames_apart}
 use Rattle.vx_laws.proofs.Kept.{moves_stand}
-use Rattle.vx_laws.proofs.Leftover.{Ended, Emptied, Cleared}
+use Rattle.vx_laws.proofs.Leftover.{Emptied, Cleared}
 use Rattle.vx_laws.proofs.Listed.{holds, holds_in, Listed, moves_listed}
-use Rattle.vx_laws.proofs.Lowers.{Low, Lowers, Others, Settled, closed, stops, goes, others_change, rundown_lowers}
+use Rattle.vx_laws.proofs.Lowers.{Low, Lowers, Others, closed, stops, goes, others_change, rundown_lowers}
 use Rattle.vx_laws.proofs.Named.{every_run_last}
 use Rattle.vx_laws.proofs.Newest.{Further, step_further, first_further}
 use Rattle.vx_laws.proofs.Opens.{any_told}
 use Rattle.vx_laws.proofs.Rests.{enabled_awake, is_rundown, phase_made, every_run_rests}
-use Rattle.vx_laws.proofs.Right.{AllRight, lives_more, moves_right}
+use Rattle.vx_laws.proofs.Right.{lives_more, moves_right}
 use Rattle.vx_laws.proofs.Runs.{enabled_there, step_right, first_base, first_stands}
 use Rattle.vx_laws.proofs.Seats.{TimerLives, timer_life, alarm_life, seat, body_seat}
 use Rattle.vx_laws.proofs.Stands.{Stands}
 use Rattle.vx_laws.proofs.Steps.{step_tags, first_tags}
 use Rattle.vx_laws.proofs.Unowned.{nothing_owned}
 use Rattle.vx_laws.proofs.Where.{both_hold}
-use Rattle.vx_laws.proofs.Wakes.{no_wake, is_for, has_woken, IsTold, Targeted, Unwoken, Wakes, Opens, unopened, opened_one, Unopening, step_opens, step_wakes, wakes_moved, unwoken_on}
+use Rattle.vx_laws.proofs.Wakes.{no_wake, is_for, has_woken, IsTold, Targeted, Wakes, Opens, unopened, opened_one, Unopening, step_opens, step_wakes, wakes_moved, unwoken_on}
 
 false_by : (b : Bool) → (b ≡ true → ⊥) → b ≡ false
 false_by true k = absurd (k refl)

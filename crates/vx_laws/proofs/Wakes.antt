@@ -1,10 +1,9 @@
 -- Scheduled wakes: each in the list is for the process that its $SCHDWK names, and none has a routine.
-use Rattle.std.proofs.Common.{◌≡◌, ◌≢◌, ◌∙◌, ℕ, ◌+◌, ◌<◌, ◌≤◌, List, [], ◌∷◌, ◌++◌, Bool, true, false, cond, not, ◌==◌, ◌&&◌, ◌||◌, Option, Some, None, Result, Ok, Err, map, refl, sym, ap, subst, arith, ⊎_elim}
+use Rattle.std.proofs.Common.{◌≡◌, ◌∙◌, ℕ, ◌+◌, ◌<◌, ◌≤◌, List, [], ◌∷◌, ◌++◌, Bool, true, false, cond, not, ◌==◌, ◌&&◌, Option, Some, None, Result, Ok, Err, map, refl, sym, ap, subst, arith, ⊎_elim}
 use Rattle.std.specs.Prelude.{Contains, option_map, is_some}
 use Rattle.std.specs.List.{AllByRecursion, filter}
 use Rattle.std.proofs.lemmas.Bool.{and_parts, eq-eqb, eqb-true, cases_lt}
-use Rattle.vx_base.specs.Cond.{number_of}
-use Rattle.vx_base.specs.Pieces.{Queued, Request, Timer, Alarm, OfTimer, OfWake, Handler}
+use Rattle.vx_base.specs.Pieces.{Queued, Request, Timer, Alarm, OfTimer, OfWake}
 use Rattle.vx_base.specs.Queues.{front, in_service}
 use Rattle.vx_base.specs.Serving.{serve, settled}
 use Rattle.vx_base.specs.declared.call.Call.{Call}
@@ -31,28 +30,27 @@ use Rattle.vx_image.specs.Local.{advanced}
 use Rattle.vx_image.specs.declared.stop.Stop.{Stop}
 use Rattle.vx_image.specs.declared.stop.Stop.TheVariants as stop
 use Rattle.vx_record.specs.Asts.{deliverable_ast}
-use Rattle.vx_record.specs.Cancel.{drop_attention}
 use Rattle.vx_record.specs.Charges.{is_same, exceeds, ast_need}
-use Rattle.vx_record.specs.Control.{process_test, named_process}
-use Rattle.vx_record.specs.Events.{moved_to, moved_behind, returned, served_call, run_on, reader, run_frame, run, started, delivered, beg, don, step, enabled}
+use Rattle.vx_record.specs.Control.{process_test}
+use Rattle.vx_record.specs.Events.{moved_to, moved_behind, served_call, run_on, reader, run_frame, run, started, delivered, beg, don, step, enabled}
 use Rattle.vx_record.specs.Flags.{flag_part}
-use Rattle.vx_record.specs.Parts.{Outcome, Part, each, at_tested, refused}
+use Rattle.vx_record.specs.Parts.{Outcome, Part, each, at_tested}
 use Rattle.vx_record.specs.Requests.{unit_ending, with_unit}
 use Rattle.vx_record.specs.Rundown.{without_ast, drop_ast, drop_handler, is_ast_reached}
 use Rattle.vx_record.specs.Services.{service_of, number, at_once}
-use Rattle.vx_record.specs.State.{Process, State, IsProcess, process_at, change, image_of, next_id, unit_at}
+use Rattle.vx_record.specs.State.{Process, State, process_at, change, image_of, next_id, unit_at}
 use Rattle.vx_record.specs.Timers.{this_timer, due_again, after_wake, scheduled, new_wake}
 use Rattle.vx_record.specs.declared.served.Served.{Served}
 use Rattle.vx_record.specs.declared.served.Served.TheVariants.{Answered, Waits}
 use Rattle.vx_record.proofs.Base.{Base}
-use Rattle.vx_record.proofs.Lists.{either, either_by, all_append, all_less, all_amend, all_weaker, all_both}
-use Rattle.vx_record.proofs.Moves.{Loose, Moves, IsOfTimer, none, skip, both, quiet, moved, bytes, var, status, enb, channel, newly, gone, leave, flag, clusters, open_ast, open_force, que, end_asts, open_handler, end_handler, end_handlers, enter, open_request, fin, mark, unit, mput, mget, mcut, box_opens, box_ends, box_marked, open_attention, attention_fires, end_attention, open_timer, open_wake, timer_fires, wake_fires, end_timer, time}
+use Rattle.vx_record.proofs.Lists.{either, all_append, all_less, all_amend, all_weaker, all_both}
+use Rattle.vx_record.proofs.Moves.{Loose, Moves, IsOfTimer, both, flag, end_asts, end_handlers, open_timer, open_wake, timer_fires, wake_fires, end_timer}
 use Rattle.vx_record.proofs.Steps.{IsThere}
 use Rattle.vx_record.proofs.Told.{started_moves, step_moves}
-use Rattle.vx_laws.specs.Items.{Item, Head, Did, Calling, later, latest_call, calling}
-use Rattle.vx_laws.specs.Lives.{Life, life, lives, lived, opens, subject, is_about, is_wake, new_life, finished, fired, dropped, entered_once, queued_now, marked_now, begun_by, started as ast_started}
+use Rattle.vx_laws.specs.Items.{Item, Head, Did, later, latest_call, calling}
+use Rattle.vx_laws.specs.Lives.{Life, life, lives, opens, is_wake, finished, fired, dropped, entered_once, queued_now, marked_now, begun_by, started as ast_started}
 use Rattle.vx_laws.specs.RundownLaw.{woken}
-use Rattle.vx_laws.proofs.Allowed.{Test, is_allowed, Allowed, MayOpen, nil, one, service_allowed, finish_allowed, tick_allowed}
+use Rattle.vx_laws.proofs.Allowed.{Test, is_allowed, Allowed, MayOpen, nil, service_allowed, finish_allowed, tick_allowed}
 use Rattle.vx_laws.proofs.Boxed.{Origin, origin, origin_of, origin_on, IsElse}
 use Rattle.vx_laws.proofs.CalmServices.{test_is}
 use Rattle.vx_laws.proofs.Emptied.{is_open_allowed, allowed_open}
