@@ -1,10 +1,12 @@
 -- What an input comes to.
-use Rattle.std.proofs.Common.{◌≡◌, ℕ, List, Option, false, IsTrue, subst}
+use Rattle.std.proofs.Common.{◌≡◌, ℕ, List, Option, Result, Err, false, IsTrue, subst}
 use Rattle.std.specs.Io.KnownBytes.{Appends}
 use Rattle.vx_base.specs.declared.record.End.{End}
 use Rattle.vx_image.specs.declared.system.System.{System}
-use Rattle.vx_grammar.specs.FirstFault.{Tells}
+use Rattle.vx_grammar.specs.FirstFault.{Tells, TellsIfFault}
 use Rattle.vx_grammar.specs.Grammar.{Spells}
+use Rattle.vx_script.specs.declared.fault.ScriptFail.{ScriptFail}
+use Rattle.vx_script.specs.declared.fault.ScriptFail.TheVariants as fail
 use Rattle.vx_script.specs.declared.fault.ScriptFault.{ScriptFault}
 use Rattle.vx_exec.specs.Built.{is_built}
 use Rattle.vms.specs.Simulated.{WritesRun, WritesRefusal}
@@ -23,6 +25,10 @@ writes_run input options held held_after system text end want says built simulat
   simulated = subst (λ z. IsSimulated system options z text) told.0 simulated;
   written = told.1;
 }
+
+-- what a failed reading tells, of the input and its fault
+pub told : (text input : List ℕ) (failure : ScriptFail) (fault : ScriptFault) → text ≡ input → failure ≡ fail.Fault fault → TellsIfFault text (Err failure) → Tells input fault
+told text input failure fault same is h = subst (λ z. Tells z fault) same (subst (λ z. TellsIfFault text (Err z)) is h)
 
 -- the line of a fault that was written refuses the input
 pub writes_fault : (input : List ℕ) (command : Command) (held held_after : Option (List ℕ)) (fault : ScriptFault) → Tells input fault → Appends held held_after (fault_line fault) → WritesRefusal command input held held_after

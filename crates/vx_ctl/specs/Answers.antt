@@ -1,10 +1,10 @@
 -- What calls of services answer.
 use Rattle.std.specs.Prelude.{ℕ, Bool, Result, Ok, Err}
 use Rattle.vx_base.specs.declared.cond.Cond.{Cond}
+use Rattle.vx_base.specs.declared.frame.Wait.TheVariants as wait
 use Rattle.vx_base.specs.declared.number.Pid.{Pid}
 use Rattle.vx_record.specs.State.{State}
 use Rattle.vx_record.specs.Parts.{Outcome, refused}
-use Rattle.vx_base.specs.declared.frame.Wait.TheVariants as wait
 use Rattle.vx_record.specs.Flags.{at_flag, put_flag_at, refused_wait, waits_on}
 use Rattle.vx_record.specs.declared.served.Served.{Served}
 use Rattle.vx_ctl.specs.declared.refused.Refused.{Refused}

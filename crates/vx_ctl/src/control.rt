@@ -36,7 +36,8 @@ fn has_same_group<R: Routine>(core: &Core<R>, p: Pid, q: Pid) -> bool
     core.group(p) == core.group(q)
 }
 
-// Whether a process may control another: they are one, or of one group and member, or by the privileges GROUP and WORLD.
+// Whether a process may control another: they are one, or of one group and member; or they are of one group and it holds GROUP; or
+// it holds WORLD.
 fn may_control<R: Routine>(core: &Core<R>, p: Pid, q: Pid) -> bool
     requires caller { IsProcess core.now.state p }
     requires target { IsProcess core.now.state q }
@@ -65,7 +66,8 @@ fn process_test<R: Routine>(core: &Core<R>, p: Pid, n: u32) -> Result<Pid, Cond>
     }
 }
 
-/// $WAKE: a wake pends for the process that a number names, 0 for the caller: NONEXPR and NOPRIV.
+/// $WAKE: a wake pends for the process that a number names, 0 for the caller: NONEXPR where there is no such process, NOPRIV where
+/// the caller may not control it.
 pub fn wake<R: Routine>(core: &mut Core<R>, p: Pid, n: u32) -> Cond
     requires { IsReady core.old p }
     ensures { DoesQuietly (wake core.old.state p n) result core.old core.new }
@@ -93,7 +95,7 @@ pub fn suspnd<R: Routine>(core: &mut Core<R>, p: Pid, n: u32) -> Cond
     }
 }
 
-/// $RESUME: ends the suspension of a process, and refuses as $WAKE does.
+/// $RESUME: ends the suspension of a process, if it is suspended, and refuses as $WAKE does.
 pub fn resume<R: Routine>(core: &mut Core<R>, p: Pid, n: u32) -> Cond
     requires { IsReady core.old p }
     ensures { DoesQuietly (resume core.old.state p n) result core.old core.new }
@@ -127,8 +129,8 @@ fn force<R: Routine>(core: &mut Core<R>, p: Pid, q: Pid, code: u32) -> Cond
     Cond::Normal
 }
 
-/// $FORCEX: queues the exit of a process with a code, as an AST of user mode that nobody is charged for, in the spare place of
-/// the process; it refuses as $WAKE does. Takes no memory.
+/// $FORCEX: queues the exit of a process with a code as an AST of user mode, for which nobody is charged; it refuses as $WAKE does.
+/// It takes no memory: the process has a spare place.
 #[tactic(auto, using(crate::proofs::Told::told_none))]
 pub fn forcex<R: Routine>(core: &mut Core<R>, p: Pid, n: u32, code: u32) -> Cond
     requires ready { IsReady core.old p }

@@ -100,7 +100,7 @@ fn mask_of(efn: u32) -> u32
     1u32 << (efn % 32)
 }
 
-/// $WAITFR: waits for an event flag: ILLEFC above 127, UNASEFC where the number names no flag.
+/// $WAITFR: waits for an event flag: ILLEFC above 127, UNASEFC where the number names no flag. If the flag is set it answers at once.
 pub fn waitfr<R: Routine>(core: &mut Core<R>, p: Pid, efn: u32) -> Served
     requires { IsReady core.old p }
     ensures { DoesQuietly (waitfr core.old.state p efn) result core.old core.new }
@@ -108,7 +108,7 @@ pub fn waitfr<R: Routine>(core: &mut Core<R>, p: Pid, efn: u32) -> Served
     wait_for_flags(core, p, efn, mask_of(efn), false)
 }
 
-/// $WFLOR: waits for any flag of a mask, of an event flag's cluster, and refuses as $WAITFR does. Of no flag it waits for ever.
+/// $WFLOR: waits for any flag of a mask, in an event flag's cluster, and refuses as $WAITFR does. If the mask is 0 it waits for ever.
 pub fn wflor<R: Routine>(core: &mut Core<R>, p: Pid, efn: u32, mask: u32) -> Served
     requires { IsReady core.old p }
     ensures { DoesQuietly (wflor core.old.state p efn mask) result core.old core.new }
@@ -116,7 +116,7 @@ pub fn wflor<R: Routine>(core: &mut Core<R>, p: Pid, efn: u32, mask: u32) -> Ser
     wait_for_flags(core, p, efn, mask, false)
 }
 
-/// $WFLAND: waits for all flags of a mask, of an event flag's cluster, and refuses as $WAITFR does.
+/// $WFLAND: waits for all flags of a mask, in an event flag's cluster, and refuses as $WAITFR does. If the mask is 0 it answers at once.
 pub fn wfland<R: Routine>(core: &mut Core<R>, p: Pid, efn: u32, mask: u32) -> Served
     requires { IsReady core.old p }
     ensures { DoesQuietly (wfland core.old.state p efn mask) result core.old core.new }

@@ -1,6 +1,6 @@
 -- What is owed and charged, as ASTs are queued and taken out and timers come and go.
-use Rattle.std.proofs.Common.{◌≡◌, ◌≢◌, ℕ, zero, suc, ◌+◌, ◌-◌, ◌<◌, ◌≤◌, length, List, [], ◌∷◌, ◌++◌, Bool, true, false, cond, not, ◌==◌, ◌&&◌, map, slice_index_or, slice_set, Option, Some, None, IsTrue, arith, refl, sym, ap, subst, ◌∙◌}
-use Rattle.std.specs.List.{AllByRecursion, find}
+use Rattle.std.proofs.Common.{◌≡◌, ◌≢◌, ℕ, zero, suc, ◌+◌, ◌-◌, ◌≤◌, length, List, [], ◌∷◌, ◌++◌, Bool, true, false, cond, not, ◌==◌, ◌&&◌, map, slice_index_or, slice_set, Option, Some, None, arith, refl, sym, ap, ◌∙◌}
+use Rattle.std.specs.List.{find}
 use Rattle.std.proofs.lemmas.Bool.{eq-eqb, eqb-true}
 use Rattle.vx_base.specs.Flags.{one}
 use Rattle.vx_base.specs.Lists.{less, tally}
@@ -9,10 +9,10 @@ use Rattle.vx_base.specs.declared.number.Pid.{Pid}
 use Rattle.vx_base.specs.declared.quota.Need.{Need}
 use Rattle.vx_record.specs.State.{Process, State, IsProcess, process_at, no_decl}
 use Rattle.vx_record.specs.Charges.{charge, bears_ast, is_attention_of, is_same, charged_timer, is_charged, is_timer_of}
-use Rattle.vx_record.proofs.Lists.{either_by, false_from}
+use Rattle.vx_record.proofs.Lists.{false_from}
 use Rattle.vx_procs.specs.Held.{Books, IsBooked, books_at, no_books, spare}
 use Rattle.vx_procs.specs.Kernel.{Room, no_room, room_at}
-use Rattle.vx_procs.specs.Ready.{HasSpare, HasSpares, owed, promised}
+use Rattle.vx_procs.specs.Ready.{HasSpares, owed}
 use Rattle.vx_procs.specs.View.{kernel, books, books_of, room_of, state}
 use Rattle.vx_procs.specs.declared.procs.Core.TheInside.{Inside}
 use Rattle.vx_procs.specs.declared.process.Proc.{Proc}

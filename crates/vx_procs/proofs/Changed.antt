@@ -1,23 +1,20 @@
 -- One process changed in the code is that process changed in the value, and what is held stays held.
-use Rattle.std.proofs.Common.{◌≡◌, ◌≢◌, ℕ, zero, suc, ◌+◌, ◌-◌, ◌<◌, ◌≤◌, length, List, [], ◌∷◌, ◌++◌, Bool, true, false, cond, not, ◌==◌, map, slice_index_or, slice_set, Option, Some, None, Result, Ok, Err, OnOk, IfSome, inl, inr, get_or-set_same, get_or-set_other, length-set, arith, refl, sym, ap, subst, ◌∙◌}
+use Rattle.std.proofs.Common.{◌≡◌, ◌≢◌, ℕ, ◌+◌, ◌-◌, ◌<◌, ◌≤◌, length, List, Bool, map, slice_index_or, slice_set, Option, IfSome, inl, inr, get_or-set_same, get_or-set_other, length-set, arith, refl, sym, ap, subst, ◌∙◌}
 use Rattle.std.specs.List.{AllByRecursion, find}
-use Rattle.std.proofs.lemmas.Bool.{cases_eq, eq-eqb, eqb-true}
+use Rattle.std.proofs.lemmas.Bool.{cases_eq}
 use Rattle.std.proofs.lemmas.List.{map-set, get_or-map, length-map, set-get_or}
 use Rattle.std.proofs.Math.Seq.{map-set_same}
 use Rattle.std.specs.Vec.{with_item}
-use Rattle.vx_base.specs.Flags.{one}
 use Rattle.vx_base.specs.Roomy.{Roomy, with_items}
 use Rattle.vx_base.specs.Pieces.{Queued, Timer}
 use Rattle.vx_base.specs.declared.number.Pid.{Pid}
-use Rattle.vx_base.specs.declared.quota.Need.{Need}
 use Rattle.vx_base.specs.Lists.{tally}
 use Rattle.vx_record.specs.State.{Process, State, IsProcess, process_at, change, nobody, no_decl}
 use Rattle.vx_record.specs.Charges.{charge, bears_ast, is_attention_of, charged_timer, is_charged}
 use Rattle.vx_record.proofs.Lists.{all_weaker}
 use Rattle.vx_record.proofs.Ground.{some_weaker}
-use Rattle.vx_procs.specs.Held.{AreHeld, Books, IsBooked, IsOwn, books_at, no_books, is_short, spare}
-use Rattle.vx_procs.specs.Kernel.{Kernel, Room, no_room, room_at, changed, with_state}
-use Rattle.vx_procs.specs.Ready.{HasSpare, HasSpares, owed}
+use Rattle.vx_procs.specs.Held.{AreHeld, Books, IsBooked, IsOwn, books_at, no_books}
+use Rattle.vx_procs.specs.Kernel.{Kernel, Room, changed, with_state}
 use Rattle.vx_procs.specs.View.{process, state, kernel, books, room_of, books_of, IsHeld}
 use Rattle.vx_procs.specs.declared.procs.Core.TheInside.{Inside}
 use Rattle.vx_procs.specs.declared.process.Proc.{Proc}

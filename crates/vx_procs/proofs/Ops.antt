@@ -1,5 +1,5 @@
 -- What is held stays held, as frames are entered, ASTs queued and taken out, and timers set, fired and dropped.
-use Rattle.std.proofs.Common.{◌≡◌, ◌≢◌, ℕ, ◌+◌, ◌-◌, ◌<◌, ◌≤◌, length, length-append, List, [], ◌∷◌, ◌++◌, Bool, true, false, cond, not, ◌==◌, ◌&&◌, slice_index_or, slice_set, Option, Some, None, IfSome, IsTrue, is_some, option_map, arith, refl, sym, ap, subst, ◌∙◌}
+use Rattle.std.proofs.Common.{◌≡◌, ◌≢◌, ℕ, ◌+◌, ◌-◌, ◌≤◌, length, length-append, List, [], ◌∷◌, ◌++◌, Bool, true, false, cond, not, ◌==◌, ◌&&◌, slice_index_or, Option, Some, None, IfSome, IsTrue, is_some, option_map, arith, refl, sym, ap, subst, ◌∙◌}
 use Rattle.std.specs.List.{AllByRecursion, find}
 use Rattle.std.specs.Vec.{with_item}
 use Rattle.std.proofs.lemmas.Bool.Decides.{nat_tests}
@@ -9,14 +9,14 @@ use Rattle.vx_base.specs.Lists.{less, tally}
 use Rattle.vx_base.specs.Pieces.{Queued, Timer, Alarm, OfTimer, OfWake}
 use Rattle.vx_base.specs.Roomy.{Roomy, with_items}
 use Rattle.vx_base.proofs.First.{less_none}
-use Rattle.vx_base.specs.Quotas.{is_within, together, without}
+use Rattle.vx_base.specs.Quotas.{is_within, together}
 use Rattle.vx_base.specs.declared.frame.Frame.{Frame}
 use Rattle.vx_base.specs.declared.number.Id.{Id}
 use Rattle.vx_base.specs.declared.number.Pid.{Pid}
 use Rattle.vx_base.specs.declared.mode.Mode.{Mode}
 use Rattle.vx_base.specs.declared.quota.Need.{Need}
 use Rattle.vx_record.specs.Rundown.{is_timer_in, is_timer_reached}
-use Rattle.vx_record.specs.State.{Process, State, IsProcess, process_at, limits_of}
+use Rattle.vx_record.specs.State.{Process, IsProcess, process_at}
 use Rattle.vx_record.specs.Asts.{charged_ast, with_frame, with_queued}
 use Rattle.vx_record.specs.Charges.{ast_need, charge, charged_timer, exceeds, is_charged, is_same, is_timer, is_timer_of, takes_ast, timer_need}
 use Rattle.vx_record.proofs.Lists.{all_append, all_find, all_less, false_from, find_passes, not_fails}
@@ -29,7 +29,7 @@ use Rattle.vx_procs.specs.Words.{alarm_ast, deliverable_of, have_own_ids, with_q
 use Rattle.vx_procs.specs.View.{process, state, kernel, books, books_of, room_of, IsHeld}
 use Rattle.vx_procs.specs.declared.procs.Core.TheInside.{Inside}
 use Rattle.vx_procs.specs.declared.process.Proc.{Proc}
-use Rattle.vx_procs.proofs.Booked.{Counts, apart, counts_of, here_by, length-less, others_by, one_few, room_books, spare_used, spared, tally-append, tally-less}
+use Rattle.vx_procs.proofs.Booked.{Counts, apart, counts_of, here_by, others_by, one_few, room_books, spare_used, spared, tally-append, tally-less}
 use Rattle.vx_procs.proofs.Changed.{held_set, made_in, seen, seen_books}
 use Rattle.vx_procs.proofs.Started.{own_found, started_found}
 

@@ -1,6 +1,5 @@
 -- Changes of a process that queue no AST and enter no frame.
-use Rattle.std.proofs.Common.{◌≡◌, ℕ, ◌-◌, ◌≤◌, List, [], ◌∷◌, Bool, length, nat_lt, Option, Some, None, refl, arith}
-use Rattle.vx_base.specs.Cond.{number_of}
+use Rattle.std.proofs.Common.{ℕ, ◌-◌, ◌≤◌, List, [], ◌∷◌, Bool, length, nat_lt, Option, None, refl, arith}
 use Rattle.vx_base.specs.Flags.{with_flag}
 use Rattle.vx_base.specs.declared.cond.Cond.{Cond}
 use Rattle.vx_base.specs.declared.frame.Frame.{Frame}
@@ -8,7 +7,7 @@ use Rattle.vx_base.specs.declared.frame.Wait.{Wait}
 use Rattle.vx_base.specs.declared.frame.Wait.TheVariants as wait
 use Rattle.vx_image.specs.Storage.{Storage}
 use Rattle.vx_record.specs.State.{Process, with_top}
-use Rattle.vx_record.specs.Events.{below_top, moved_to, put_back, resumed_with, uses_wake, without_top}
+use Rattle.vx_record.specs.Events.{below_top, moved_to, put_back, resumed_with, without_top}
 use Rattle.vx_record.specs.Flags.{with_local_flag, with_wait}
 use Rattle.vx_record.proofs.Lists.{either}
 use Rattle.vx_procs.proofs.Changed.{IsQuiet}

@@ -1,5 +1,5 @@
 -- A loop that does a part: what it has done, with what is left, is the whole.
-use Rattle.std.proofs.Common.{◌≡◌, ◌+◌, ◌≤◌, List, [], ◌++◌, length, length-append, ap, sym, subst, ◌∙◌, refl, arith}
+use Rattle.std.proofs.Common.{◌≡◌, [], length, length-append, ap, sym, subst, ◌∙◌, refl, arith}
 use Rattle.std.proofs.lemmas.List.{append_assoc, append-nil}
 use Rattle.vx_record.specs.State.{State}
 use Rattle.vx_record.specs.Parts.{Outcome, Part, and_then, followed_by, nothing, part_of}

@@ -1,5 +1,5 @@
 -- The running charge of a process, as its queued ASTs change.
-use Rattle.std.specs.Prelude.{ℕ, ◌≤◌, Option, Some, None}
+use Rattle.std.specs.Prelude.{◌≤◌, Option, Some, None}
 use Rattle.vx_base.specs.Pieces.{Queued}
 use Rattle.vx_base.specs.Lists.{tally}
 use Rattle.vx_record.specs.Charges.{ast_need, is_charged}

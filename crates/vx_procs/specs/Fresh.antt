@@ -1,5 +1,5 @@
 -- A process before its first statement, as the code makes it.
-use Rattle.std.specs.Prelude.{◌≡◌, ℕ, ◌+◌, ◌≤◌, List, [], length, slice_index_or}
+use Rattle.std.specs.Prelude.{◌≡◌, ◌+◌, ◌≤◌, List, [], length, slice_index_or}
 use Rattle.vx_base.specs.Quotas.{no_need}
 use Rattle.vx_base.specs.declared.quota.Need.{Need}
 use Rattle.vx_image.specs.declared.decl.ProcDecl.{ProcDecl}

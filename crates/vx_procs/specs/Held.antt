@@ -1,11 +1,10 @@
 -- What the executive keeps beside its state, and what is true of it.
-use Rattle.std.specs.Prelude.{◌≡◌, ℕ, ◌+◌, ◌-◌, ◌≤◌, List, Bool, true, false, ◌==◌, not, Option, Some, None, IsTrue, IfSome, length, slice_index_or}
+use Rattle.std.specs.Prelude.{◌≡◌, ℕ, ◌+◌, ◌-◌, ◌≤◌, List, Bool, false, ◌==◌, not, Option, Some, None, IsTrue, IfSome, length, slice_index_or}
 use Rattle.std.specs.List.{AllByRecursion}
 use Rattle.vx_base.specs.Flags.{one}
 use Rattle.vx_base.specs.Pieces.{Timer}
-use Rattle.vx_base.specs.Quotas.{no_need, is_within}
+use Rattle.vx_base.specs.Quotas.{no_need}
 use Rattle.vx_base.specs.declared.number.Pid.{Pid}
-use Rattle.vx_base.specs.declared.quota.Need.{Need}
 use Rattle.vx_record.specs.State.{State, IsProcess, process_at, limits_of}
 use Rattle.vx_record.specs.Charges.{charge, is_timer}
 use Rattle.vx_quota.specs.Account.{Quotas}

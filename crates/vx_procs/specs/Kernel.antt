@@ -1,5 +1,5 @@
 -- What callers see of the executive: its plain state, the log of the event under way, and how much there is room for.
-use Rattle.std.specs.Prelude.{◌≡◌, ℕ, ◌+◌, ◌-◌, ◌≤◌, List, [], ◌∷◌, length, slice_index_or}
+use Rattle.std.specs.Prelude.{◌≡◌, ℕ, ◌-◌, ◌≤◌, List, [], length, slice_index_or}
 use Rattle.vx_base.specs.Log.{Log, HasRoom, logged}
 use Rattle.vx_base.specs.declared.effects.Effect.{Effect}
 use Rattle.vx_base.specs.declared.number.Pid.{Pid}

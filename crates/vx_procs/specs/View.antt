@@ -1,5 +1,5 @@
 -- What the processes of the code stand for.
-use Rattle.std.specs.Prelude.{ℕ, List, [], None, map, replicate}
+use Rattle.std.specs.Prelude.{List, [], None, map, replicate}
 use Rattle.vx_image.specs.Units.{first_unit}
 use Rattle.vx_record.specs.State.{Process, State}
 use Rattle.vx_procs.specs.Kernel.{Kernel, Room}

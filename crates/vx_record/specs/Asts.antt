@@ -1,5 +1,5 @@
 -- ASTs: which one may start, how one is queued, and the services on ASTs and modes.
-use Rattle.std.specs.Prelude.{ℕ, List, [], ◌∷◌, ◌++◌, Bool, true, false, ◌||◌, ◌==◌, not, nat_le, if◌then◌else◌, Option, Some, None}
+use Rattle.std.specs.Prelude.{ℕ, List, [], ◌∷◌, ◌++◌, Bool, true, ◌||◌, ◌==◌, not, nat_le, if◌then◌else◌, Option, Some, None}
 use Rattle.vx_base.specs.Modes.{rank, inner, outer}
 use Rattle.vx_base.specs.Pieces.{Queued, is_enabled_in, with_enable}
 use Rattle.vx_base.specs.Queues.{deliverable}
@@ -17,7 +17,7 @@ use Rattle.vx_base.specs.declared.number.Id.{Id}
 use Rattle.vx_base.specs.declared.number.Pid.{Pid}
 use Rattle.vx_base.specs.declared.routine.Entry.{Entry}
 use Rattle.vx_base.specs.declared.routine.Entry.TheVariants as entry
-use Rattle.vx_base.specs.Frames.{is_ast, active_mode}
+use Rattle.vx_base.specs.Frames.{active_mode}
 use Rattle.vx_image.specs.Local.{place_of}
 use Rattle.vx_record.specs.State.{Process, State, process_at, change, image_of, current, next_id, past_id}
 use Rattle.vx_record.specs.Parts.{Part, Outcome, nothing, tells, and_then, answered, refused}

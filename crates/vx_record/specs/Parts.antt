@@ -1,7 +1,6 @@
 -- What an event does: parts, one after another, each with its effects and the state after it.
 use Rattle.std.specs.Prelude.{◌≡◌, ℕ, ◌+◌, List, [], ◌∷◌, ◌++◌, Bool, if◌then◌else◌, Result, Ok, Err}
 use Rattle.vx_base.specs.Clusters.{Change}
-use Rattle.vx_base.specs.Flags.{one}
 use Rattle.vx_base.specs.Log.{Log, logged}
 use Rattle.vx_base.specs.declared.cond.Cond.{Cond}
 use Rattle.vx_base.specs.declared.effects.Effect.{Effect}

@@ -22,7 +22,6 @@ use Rattle.vx_base.specs.declared.number.Pid.{Pid}
 use Rattle.vx_base.specs.declared.record.Answer.{Answer}
 use Rattle.vx_base.specs.declared.record.Answer.TheVariants as answer
 use Rattle.vx_base.specs.declared.routine.Entry.{Entry}
-use Rattle.vx_base.specs.declared.routine.Entry.TheVariants as entry
 use Rattle.vx_base.specs.Entries.{is_same_entry}
 use Rattle.vx_record.specs.State.{Process, State, process_at, change, current, next_id, past_id, top_mode}
 use Rattle.vx_record.specs.Parts.{Part, Outcome, nothing, tells, and_then, each, answered, refused, followed_by, commonly}

@@ -3,7 +3,7 @@ use Rattle.vx_base.specs.declared.record.End.TheVariants.{Done, Hung, Limit}
 use Rattle.vms.specs.declared.command.Command.TheVariants.{Sim}
 use Rattle.vms.specs.Simulated.{in_run, in_refusal}
 use Rattle.vms.specs.Top.{later, fault_line, no_script, not_built}
-use Rattle.vms.proofs.Simulating.{writes_run, writes_fault, writes_later}
+use Rattle.vms.proofs.Simulating.{told, writes_run, writes_fault, writes_later}
 use Rattle.vms.proofs.call.simulate.Goals as goal
 
 pub returns-then-not-is_built-clause-form : goal.returns-then-not-is_built-clause-form
@@ -25,7 +25,7 @@ pub returns-in-Ok-transcript-clause-front : goal.returns-in-Ok-transcript-clause
 returns-in-Ok-transcript-clause-front g c = λ e. in_run c.in-Ok.system c.in-Ok-transcript.end c.in-Ok-transcript.text (rw c.as_slice.ensures at c.in-Ok.ensures.spelled) (search rules) c.in-Ok-transcript.ensures (rw c.as_slice-in-Ok-transcript.ensures at (c.tell_transcript.ensures.front e))
 
 pub returns-in-Ok-fault_line-clause-form : goal.returns-in-Ok-fault_line-clause-form
-returns-in-Ok-fault_line-clause-form g c = λ e. writes_fault c.args.input.now (Sim c.args.options) _ _ c.in-Err-Fault.fault (rw (c.as_slice.ensures, c.in-Err-Fault.field-0-is) at c.in-Err-Fault.ensures.fault) (rw (c.as_slice-in-Ok-fault_line.ensures, c.in-Ok-fault_line.ensures, c.in-Err-Fault.field-0-is) at (c.tell-in-Ok-fault_line.ensures.whole (λ k. cc)))
+returns-in-Ok-fault_line-clause-form g c = λ e. writes_fault c.args.input.now (Sim c.args.options) _ _ c.in-Err-Fault.fault (told _ _ _ _ c.as_slice.ensures c.in-Err-Fault.field-0-is c.in-Err-Fault.ensures.fault) (rw (c.as_slice-in-Ok-fault_line.ensures, c.in-Ok-fault_line.ensures, c.in-Err-Fault.field-0-is) at (c.tell-in-Ok-fault_line.ensures.whole (λ k. cc)))
 
 pub returns-in-Ok-fault_line-clause-front : goal.returns-in-Ok-fault_line-clause-front
-returns-in-Ok-fault_line-clause-front g c = λ e. in_refusal (fault_line c.in-Err-Fault.fault) (no_script (Sim c.args.options) c.in-Err-Fault.fault (rw (c.as_slice.ensures, c.in-Err-Fault.field-0-is) at c.in-Err-Fault.ensures.fault)) (rw (c.as_slice-in-Ok-fault_line.ensures, c.in-Ok-fault_line.ensures, c.in-Err-Fault.field-0-is) at (c.tell-in-Ok-fault_line.ensures.front e))
+returns-in-Ok-fault_line-clause-front g c = λ e. in_refusal (fault_line c.in-Err-Fault.fault) (no_script (Sim c.args.options) c.in-Err-Fault.fault (told _ _ _ _ c.as_slice.ensures c.in-Err-Fault.field-0-is c.in-Err-Fault.ensures.fault)) (rw (c.as_slice-in-Ok-fault_line.ensures, c.in-Ok-fault_line.ensures, c.in-Err-Fault.field-0-is) at (c.tell-in-Ok-fault_line.ensures.front e))

@@ -1,4 +1,3 @@
-use Rattle.std.proofs.Common.{sym}
 use Rattle.vx_procs.proofs.FirstProcs.{born_more, fresh_more}
 use Rattle.vx_procs.proofs.born.first_procs.Goals as goal
 

@@ -1,7 +1,4 @@
-use Rattle.std.proofs.Common.{◌≡◌, arith, sym, subst}
-use Rattle.vx_base.specs.declared.quota.Need.{Need}
-use Rattle.vx_base.specs.Quotas.{is_within}
-use Rattle.std.proofs.Common.{IsTrue}
+use Rattle.std.proofs.Common.{arith, sym}
 use Rattle.vx_record.specs.Charges.{is_charged}
 use Rattle.vx_record.specs.Rundown.{is_ast_reached}
 use Rattle.vx_procs.proofs.Booked.{tally-less}

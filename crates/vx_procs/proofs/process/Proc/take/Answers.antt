@@ -1,4 +1,4 @@
-use Rattle.std.proofs.Common.{Option, Some, arith, sym, ap, ◌∙◌}
+use Rattle.std.proofs.Common.{Option, arith, sym, ap, ◌∙◌}
 use Rattle.vx_base.specs.Pieces.{Queued}
 use Rattle.vx_ast.specs.Queue.{less_first_like}
 use Rattle.vx_record.specs.Charges.{is_charged}

@@ -1,4 +1,4 @@
-use Rattle.std.proofs.Common.{◌≡◌, ◌∷◌, ◌++◌, [], List, is_some, Option, Some, None, option_map, false, refl, ap, sym, subst, ◌∙◌}
+use Rattle.std.proofs.Common.{◌∷◌, ◌++◌, [], option_map, refl, ap, sym, ◌∙◌}
 use Rattle.vx_base.specs.Pieces.{Timer, OfTimer}
 use Rattle.vx_base.specs.Roomy.{with_items}
 use Rattle.vx_record.specs.State.{State}

@@ -1,16 +1,9 @@
-use Rattle.std.proofs.Common.{◌≡◌, List, Option, Some, None, refl, ap, arith, sym, subst, ◌∙◌}
-use Rattle.std.specs.List.{AllByRecursion}
+use Rattle.std.proofs.Common.{ap, sym, ◌∙◌}
 use Rattle.vx_base.specs.Lists.{less}
-use Rattle.vx_base.specs.Pieces.{Timer}
-use Rattle.vx_base.specs.Roomy.{Roomy}
 use Rattle.vx_record.specs.State.{State}
 use Rattle.vx_record.specs.Charges.{takes_ast, timer_need}
 use Rattle.vx_record.specs.Rundown.{is_timer_in}
 use Rattle.vx_quota.specs.Account.{released}
-use Rattle.vx_procs.specs.Held.{IsOwn}
-use Rattle.vx_procs.specs.Kernel.{Kernel, with_state}
-use Rattle.vx_procs.specs.View.{kernel}
-use Rattle.vx_procs.specs.Words.{without_timer}
 use Rattle.vx_procs.proofs.Changed.{timers_alone}
 use Rattle.vx_procs.proofs.Ops.{charged_one, charged_tqe, held_dropped, own_pid, same_timers, within_timer}
 use Rattle.vx_procs.proofs.procs.Core.drop_timer_in.Goals as goal

@@ -1,4 +1,4 @@
-use Rattle.std.proofs.Common.{ap, subst, sym}
+use Rattle.std.proofs.Common.{subst, sym}
 use Rattle.vx_base.specs.declared.number.Pid.{Pid}
 use Rattle.vx_record.specs.State.{IsProcess}
 use Rattle.vx_record.specs.Timers.{is_due}

@@ -4,7 +4,6 @@ use Rattle.vx_base.specs.declared.effects.Effect.{Effect}
 use Rattle.vx_record.specs.State.{Process, State, change, process_at}
 use Rattle.vx_record.specs.Rundown.{exited, without_frames}
 use Rattle.vx_procs.specs.Kernel.{Kernel, changed}
-use Rattle.vx_procs.specs.View.{state}
 use Rattle.vx_procs.specs.Words.{left}
 use Rattle.vx_procs.proofs.Changed.{changed_as, held_as, seen_in}
 use Rattle.vx_procs.proofs.Stack.{left_after, left_effects}

@@ -1,18 +1,16 @@
-use Rattle.std.proofs.Common.{◌≡◌, ◌-◌, ◌+◌, ◌≤◌, ◌<◌, List, Option, Some, None, IsTrue, false, length, refl, ap, arith, sym, subst, ◌∙◌}
-use Rattle.std.specs.List.{find}
+use Rattle.std.proofs.Common.{◌+◌, ◌≤◌, Option, Some, None, IsTrue, length, ap, arith, sym, subst, ◌∙◌}
 use Rattle.vx_base.specs.Flags.{one}
 use Rattle.vx_base.specs.Lists.{less}
 use Rattle.vx_base.specs.Pieces.{Timer, Alarm}
 use Rattle.vx_base.specs.Roomy.{Roomy}
 use Rattle.vx_base.specs.declared.number.Id.{Id}
 use Rattle.vx_base.specs.declared.number.Pid.{Pid}
-use Rattle.vx_record.specs.State.{Process, State, IsProcess, change}
+use Rattle.vx_record.specs.State.{State, IsProcess, change}
 use Rattle.vx_record.specs.Charges.{is_timer, takes_ast}
 use Rattle.vx_record.specs.Timers.{is_due}
 use Rattle.vx_procs.specs.Kernel.{Kernel, with_state}
 use Rattle.vx_procs.specs.View.{kernel, process, room_of, state}
 use Rattle.vx_procs.specs.Words.{alarm_ast, moved_on, with_queued_if}
-use Rattle.vx_procs.specs.declared.procs.Core.TheInside.{Inside}
 use Rattle.vx_timers.specs.Seen.{alarm_of}
 use Rattle.vx_procs.proofs.Changed.{found_in, stands, timers_as}
 use Rattle.vx_procs.proofs.Ops.{charged_tqe, held_fired, own_timer, place_free, same_timers}

@@ -1,4 +1,4 @@
-use Rattle.std.proofs.Common.{◌≡◌, List, None, ap, sym, subst}
+use Rattle.std.proofs.Common.{None, sym, subst}
 use Rattle.vx_base.specs.Pieces.{Timer}
 use Rattle.vx_base.specs.Roomy.{Roomy}
 use Rattle.vx_record.specs.Runs.{first}
