@@ -39,7 +39,7 @@ use Rattle.vx_laws.proofs.Lowers.{IsLowering, Low, Lowers, stops, goes, others_c
 use Rattle.vx_laws.proofs.Newest.{Further, step_further, first_further}
 use Rattle.vx_laws.proofs.Opens.{any_told}
 use Rattle.vx_laws.proofs.Phases.{Passes, phase_in, release_shifts}
-use Rattle.vx_laws.proofs.Rests.{enabled_awake, is_rundown, phase_made, step_ages, both_later}
+use Rattle.vx_laws.proofs.Rests.{enabled_awake, is_rundown, phase_made, step_ages, both_later, AllGone, step_rests}
 use Rattle.vx_laws.proofs.Right.{lives_more}
 use Rattle.vx_laws.proofs.Runs.{enabled_there, step_right, first_base, first_stands, every_run_ends_right}
 use Rattle.vx_laws.proofs.Seats.{seat, request_life, timer_life, attention_life, RequestLives, TimerLives, AttentionLives}
@@ -220,20 +220,37 @@ record Over (s : State) (past : List Item) : Type 0 where
   pub stands : Stands s None past
   pub listed : Listed s None past
   pub told : GoneTold s past
+  pub gone : AllGone s past
 
-run_over : (s : State) (past : List Item) (rs : List Rec) → AreSteps s rs → Base s → Stands s None past → Tags s → Further s past → GoneTold s past → Over (after_from s rs) (later past (flat rs))
-run_over s past [] j b g tags f h = record { base = b; stands = g; listed = f.listed; told = h }
-run_over s past (r ∷ rs) j b g tags f h =
+run_over : (s : State) (past : List Item) (rs : List Rec) → AreSteps s rs → Base s → Stands s None past → Tags s → Further s past → GoneTold s past → AllGone s past → Over (after_from s rs) (later past (flat rs))
+run_over s past [] j b g tags f h k = record { base = b; stands = g; listed = f.listed; told = h; gone = k }
+run_over s past (r ∷ rs) j b g tags f h k =
     let e = r.event in
     let c = j.0.enabled in
     let one = step_right s past e c b g in
     let es = (step s e).effects in
     let x = Head e (step s e).answer in
     rw (j.0.answer, j.0.effects, later_items (x ∷ past) (map Did es) (flat rs))
-    (run_over (step s e).after (later (x ∷ past) (map Did es)) rs j.1 one.base one.stands (step_tags s past e (enabled_there s e c) b tags) (step_further s past e c b g f) (step_told s past e c b tags h))
+    (run_over (step s e).after (later (x ∷ past) (map Did es)) rs j.1 one.base one.stands (step_tags s past e (enabled_there s e c) b tags) (step_further s past e c b g f) (step_told s past e c b tags h) (step_rests s past e c b tags k).gone)
 
 every_run_over : (system : System) (recs : List Rec) → IsRun system recs → Over (after system recs) (past_of recs)
-every_run_over system recs run = run_over (first system) [] recs run.steps (first_base system) (first_stands system) (first_tags system) (first_further system) (first_told system)
+every_run_over system recs run = run_over (first system) [] recs run.steps (first_base system) (first_stands system) (first_tags system) (first_further system) (first_told system) (λ p k. absurd (let never : false ≡ true = k in cc))
+
+phase_deleted : (x : Phase) → is_deleted_phase x ≡ true → x ≡ phase.Deleted
+phase_deleted phase.Deleted e = refl
+phase_deleted x e = absurd (let never : false ≡ true = e in cc)
+
+same_bool : (a b : Bool) → (a ≡ true → b ≡ true) → (b ≡ true → a ≡ true) → a ≡ b
+same_bool true b f k = sym (f refl)
+same_bool false true f k = k refl
+same_bool false false f k = refl
+
+-- a process is deleted exactly if it is gone in the records
+pub every_gone : (system : System) (recs : List Rec) (p : Pid) → IsRun system recs → IsProcess (after system recs) p → is_deleted (process_at (after system recs) p) ≡ is_gone (past_of recs) p
+every_gone system recs p run made =
+    let s = after system recs in
+    let k = every_run_over system recs run in
+    same_bool (is_deleted (process_at s p)) (is_gone (past_of recs) p) (λ e. k.told p made (phase_deleted (process_at s p).phase e)) (λ e. ap is_deleted_phase (k.gone p e).deleted)
 
 -- At the end.
 
@@ -241,10 +258,6 @@ done_deleted : (limit taken : ℕ) (d : Bool) (es : List Event) → end_with lim
 done_deleted limit taken true es e = refl
 done_deleted limit taken false [] e = absurd (let never : Some Hung ≡ Some Done = e in cc)
 done_deleted limit taken false (x ∷ es) e = absurd (either (λ (o : Option End). o ≡ Some Done → ⊥) (nat_le limit taken) (Some Limit) None (λ k. cc) (λ k. cc) e)
-
-phase_deleted : (x : Phase) → is_deleted_phase x ≡ true → x ≡ phase.Deleted
-phase_deleted phase.Deleted e = refl
-phase_deleted x e = absurd (let never : false ≡ true = e in cc)
 
 deleted_at : (l : List Process) (i : ℕ) → list_all is_deleted l ≡ true → (get_or l i nobody).phase ≡ phase.Deleted
 deleted_at [] i e = refl

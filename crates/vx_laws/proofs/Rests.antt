@@ -152,7 +152,7 @@ down_gone s past p can h = false_by (is_gone past p) (λ k. let no : can_step_do
 abbrev pub may_open : List Item → Test
 may_open past k p = not (is_gone past p || (is_wake k && is_gone past (woken (latest_call past) p)))
 
-abbrev AllStay : List Item → List Effect → Type 0
+abbrev pub AllStay : List Item → List Effect → Type 0
 AllStay past [] = Unit {0}
 AllStay past (x ∷ xs) = ((rest : List Item) → stays past (Did x) rest ≡ true) × AllStay (Did x ∷ past) xs
 
@@ -334,7 +334,7 @@ closed_all ok [] h = tt
 closed_all ok (x ∷ xs) h = (closed_wider ok x h.0, closed_all ok xs h.1)
 
 -- What a record leaves: its effects stay, and who is gone then is gone in the state.
-record RecordRests (past : List Item) (e : Event) (o : Outcome Answer) : Type 0 where
+pub record RecordRests (past : List Item) (e : Event) (o : Outcome Answer) : Type 0 where
   pub effects : AllStay (Head e o.answer ∷ past) o.effects
   pub gone : AllGone o.after (later (Head e o.answer ∷ past) (map Did o.effects))
 
@@ -393,7 +393,7 @@ other_rests s past e other c b g h =
           record { still = still; deleted = deleted_on s o.after q (step_ages s e other) was.still.0 still.0 was.deleted };
     }
 
-step_rests : (s : State) (past : List Item) (e : Event) → Contains (enabled s) e → Base s → Tags s → AllGone s past → RecordRests past e (step s e)
+pub step_rests : (s : State) (past : List Item) (e : Event) → Contains (enabled s) e → Base s → Tags s → AllGone s past → RecordRests past e (step s e)
 step_rests s past (event.Rdn p) c b g h = rdn_rests s past p c b g h
 step_rests s past e c b g h = other_rests s past e refl c b g h
 

@@ -23,9 +23,11 @@ ghost use Rattle.vx_laws.specs.Frames.{awaited, enabled_by, entered, waiting};
 ghost use Rattle.vx_laws.specs.Items.{past_of};
 ghost use Rattle.vx_laws.specs.Lives.{is_outstanding, life, lives, opens};
 ghost use Rattle.vx_laws.specs.QuotaSum.{decl_by};
+ghost use Rattle.vx_laws.specs.RundownLaw.{is_gone};
 ghost use Rattle.vx_laws.specs.Runs.{AfterEveryRun};
 ghost use Rattle.vx_laws.specs.Values.{cluster_by, flags_by, status_by};
 ghost use Rattle.vx_record.specs.Charges.{charge};
+ghost use Rattle.vx_record.specs.Control.{is_deleted};
 ghost use Rattle.vx_record.specs.Finish.{this_request};
 ghost use Rattle.vx_record.specs.Flags.{flags_of};
 ghost use Rattle.vx_record.specs.Mailboxes.{this_attention, mailbox_at, waits_at};
@@ -126,4 +128,10 @@ pub fn every_box_has_its_own_name()
         list_any (is_unit_of (mailbox_at (after system recs) b).name) (after system recs).system.units ≡ false }
     ensures mailboxes { (system : SystemOf) (recs : List RecOf) (b c : BoxNoOf) → IsRun system recs → IsTrue (is_some (box_at (after system recs) b)) →
         IsTrue (is_some (box_at (after system recs) c)) → (mailbox_at (after system recs) c).name ≡ (mailbox_at (after system recs) b).name → c ≡ b }
+{}
+
+/// After the records of every run a process that is there is deleted exactly if its GONE stands in them.
+#[tactic(auto, using(crate::proofs::Finished::every_gone))]
+pub fn every_process_agrees()
+    ensures { AfterEveryRun (λ s past. (p : PidOf) → IsProcess s p → is_deleted (process_at s p) ≡ is_gone past p) }
 {}
