@@ -14,6 +14,7 @@ use Rattle.vx_script.specs.declared.fault.FaultKind.TheVariants as kind
 use Rattle.vx_script.specs.declared.fault.ScriptFault.{ScriptFault}
 use Rattle.vx_exec.specs.Built.{is_built}
 use Rattle.vx_record.specs.Runs.{IsRun, chosen, end_after}
+use Rattle.vx_laws.specs.Laws.{KeepLaws}
 use Rattle.vms.specs.Transcript.{transcript}
 use Rattle.vms.specs.Words.{command_of}
 use Rattle.vms.specs.declared.command.Command.{Command}
@@ -123,6 +124,12 @@ pub record Shows (words : List (List ℕ)) (left left_after : Option (List ℕ))
   pub system : System
   pub says : Spells input system
   pub spells : text ≡ script system
+
+-- `sim` took a run whose records keep the six laws of transcripts; or `show` took none
+pub data IsLawful (words : List (List ℕ)) (left left_after : Option (List ℕ)) : Type 0 where
+  run_is_lawful : (options : Options) (input : List ℕ) (system : System) → ReadsInput words (Sim options) left left_after input → Spells input system
+      → KeepLaws system (chosen system options.seed options.limit) → IsLawful words left left_after
+  no_run : (input : List ℕ) → ReadsInput words Show left left_after input → IsLawful words left left_after
 
 -- The words are a command's. Nothing is said of memory: the answer states no cause.
 pub record RunsOut (words : List (List ℕ)) : Type 0 where

@@ -5,7 +5,7 @@ ghost use Rattle.std.specs.Io.KnownBytes.{Appends};
 ghost use Rattle.vx_host.specs.Causes.{Rose};
 ghost use Rattle.vx_host.specs.Streams.{AppendsFront};
 ghost use Rattle.vms.specs.Simulated.{WritesRun, WritesRefusal, WritesShown, BreaksInput, BreaksShown};
-ghost use Rattle.vms.specs.Top.{usage, too_long, read_fault, fault_line, kind_word, no_memory, RefusesWords, Overflows, FailsToRead, RunsOut, Completes, WritesTranscript, WritesFault, Breaks};
+ghost use Rattle.vms.specs.Top.{usage, too_long, read_fault, fault_line, kind_word, no_memory, RefusesWords, Overflows, FailsToRead, RunsOut, Completes, IsLawful, WritesTranscript, WritesFault, Breaks};
 
 use crate::command::{Command, Options, command_of};
 use crate::simulate::transcript;
@@ -175,9 +175,8 @@ fn show<K: Sink>(alloc: Global, input: &Bytes, sink: &mut K) -> Status
     }
 }
 
-/// The call that the program makes: what the words ask for, from the source to the sink. It waits for nobody, and
-/// returns if the source and the sink do. The words are those after the program's name.
-pub fn quiet_call<S: Source, K: Sink>(
+/// What the words ask for, from the source to the sink.
+fn answer_call<S: Source, K: Sink>(
     alloc: Global,
     words: &[Bytes],
     source: &mut S,
@@ -234,4 +233,58 @@ pub fn quiet_call<S: Source, K: Sink>(
         Err(ReadFail::TooLong) => tell(sink, b"vms: input too long\n", Status::TooLong),
         Err(ReadFail::NoMemory) => tell_no_memory(sink),
     }
+}
+
+/// The call that the program makes: what the words ask for, from the source to the sink. It waits for nobody, and
+/// returns if the source and the sink do. The words are those after the program's name.
+pub fn quiet_call<S: Source, K: Sink>(
+    alloc: Global,
+    words: &[Bytes],
+    source: &mut S,
+    sink: &mut K,
+) -> Status
+    // The transcript of the run that the seed chooses was written, one clause for each end; or the canonical script.
+    ensures done { result ≡ Status.Done →
+        Completes words.now (S.left source.old) (S.left source.new)
+        (K.held sink.old) (K.held sink.new) }
+    ensures hung { result ≡ Status.Hung →
+        WritesTranscript words.now (S.left source.old) (S.left source.new)
+        (K.held sink.old) (K.held sink.new) End.Hung }
+    ensures limit { result ≡ Status.Limit →
+        WritesTranscript words.now (S.left source.old) (S.left source.new)
+        (K.held sink.old) (K.held sink.new) End.Limit }
+
+    // The records that `sim` wrote keep the six laws of transcripts.
+    ensures lawful { (result ≡ Status.Done) ⊎ (result ≡ Status.Hung) ⊎ (result ≡ Status.Limit) →
+        IsLawful words.now (S.left source.old) (S.left source.new) }
+
+    // A line was written, each with its cause.
+    ensures words { result ≡ Status.Words →
+        RefusesWords words.now (S.left source.old) (S.left source.new)
+        × Appends (K.held sink.old) (K.held sink.new) usage }
+    ensures form { result ≡ Status.Form →
+        WritesFault words.now (S.left source.old) (S.left source.new)
+        (K.held sink.old) (K.held sink.new) }
+    ensures read_fault { result ≡ Status.ReadFault →
+        FailsToRead words.now (S.left source.old) (S.left source.new)
+        (S.faults source.old) (S.faults source.new)
+        × Appends (K.held sink.old) (K.held sink.new) read_fault }
+    ensures too_long { result ≡ Status.TooLong →
+        Overflows words.now (S.left source.old) (S.left source.new)
+        × Appends (K.held sink.old) (K.held sink.new) too_long }
+    ensures no_memory { result ≡ Status.NoMemory →
+        RunsOut words.now × Appends (K.held sink.old) (K.held sink.new) no_memory }
+
+    // The sink failed in the middle of one of these texts.
+    ensures sink_rose { result ≡ Status.WriteFault → Rose (K.faults sink.old) (K.faults sink.new) }
+    ensures write_fault { result ≡ Status.WriteFault →
+        Breaks words.now (S.left source.old) (S.left source.new)
+        (S.faults source.old) (S.faults source.new)
+        (K.held sink.old) (K.held sink.new) }
+
+    // No count falls.
+    ensures source_later { S.faults source.old ≤ S.faults source.new }
+    ensures sink_later { K.faults sink.old ≤ K.faults sink.new }
+{
+    answer_call(alloc, words, source, sink)
 }
