@@ -1,7 +1,8 @@
 //! The common clusters, as services call on them.
 
-ghost use Rattle.std.specs.Prelude.{◌≡◌, ◌<◌, ◌≤◌, length, IfSome, OnOk, OnErr, Some, None, true, false, if◌then◌else◌};
-ghost use Rattle.vx_base.specs.Clusters.{cluster_number};
+ghost use Rattle.std.specs.Prelude.{◌≡◌, ◌<◌, ◌≤◌, length, IfSome, OnOk, OnErr, Some, None, true, false, if◌then◌else◌, option_map, position};
+ghost use Rattle.std.specs.List.{find};
+ghost use Rattle.vx_base.specs.Clusters.{cluster_number, is_association, is_cluster};
 ghost use Rattle.vx_base.specs.Flags.{is_set};
 ghost use Rattle.vx_base.specs.Log.{HasRoom};
 ghost use Rattle.vx_clusters.specs.Clusters.{answer, associate_refusal, dissociate_refusal, mark_refusal};
@@ -125,6 +126,23 @@ impl Clusters {
         let table = &self.table;
         let association = table.association(p, cluster_number(efn)?)?;
         let place = table.place_of(association.group(), association.name())?;
+        Some(place as u32)
+    }
+
+    /// The group and the name of what a process has associated as its cluster k.
+    pub fn associated(&self, p: Pid, k: u32) -> Option<(u32, Name)>
+        ensures { result ≡ option_map (λ a. (a.group, a.name)) (find (is_association p k) self.now.common.associations) }
+    {
+        let association = self.table.association(p, k)?;
+        Some((association.group(), association.name()))
+    }
+
+    /// The place of the cluster of a group and name, if it stands.
+    pub fn place(&self, group: u32, name: Name) -> Option<u32>
+        ensures place { result ≡ position (is_cluster group name) self.now.common.clusters }
+        ensures within { IfSome result (λ place. place < length self.now.common.clusters) }
+    {
+        let place = self.table.place_of(group, name)?;
         Some(place as u32)
     }
 

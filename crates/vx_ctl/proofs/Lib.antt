@@ -1,3 +1,5 @@
+pub mod Common
+pub mod Flagged
 pub mod Inward
 pub mod Told
 pub mod Ticking

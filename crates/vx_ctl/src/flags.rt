@@ -32,9 +32,9 @@ fn put_flag<R: Routine>(core: &mut Core<R>, p: Pid, efn: u32, on: bool) -> Cond
     let Some(cell) = core.cell(p, efn) else {
         return Cond::UnasEfc;
     };
-    let was = core.is_set(p, efn);
+    let was = core.is_set(&cell);
+    core.set_flag(&cell, on);
     core.tell(Effect::Flag { cell, bit: on });
-    core.set_flag(p, efn, on);
     how_it_was(was)
 }
 
@@ -65,9 +65,9 @@ pub fn readef<R: Routine>(core: &Core<R>, p: Pid, efn: u32) -> Result<(Cond, u32
     if efn > LAST_FLAG {
         return Err(Cond::IllEfc);
     }
-    if core.cell(p, efn).is_none() {
+    let Some(cell) = core.cell(p, efn) else {
         return Err(Cond::UnasEfc);
-    }
-    let cond = how_it_was(core.is_set(p, efn));
-    Ok((cond, core.flags_of(p, efn)))
+    };
+    let cond = how_it_was(core.is_set(&cell));
+    Ok((cond, core.flags_of(&cell)))
 }

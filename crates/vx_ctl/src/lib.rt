@@ -1,4 +1,4 @@
-//! The services on event flags, ASTs, access modes, timers and other processes, and those that wait, each by its entry in the
+//! The services on event flags and their common clusters, ASTs, access modes, timers and other processes, and those that wait, each by its entry in the
 //! "OpenVMS System Services Reference Manual".
 //!
 //! Each call does the row of its service in the machine's definitions: it tests in the row's order, logs the row's effects,
@@ -7,6 +7,7 @@
 #![tactic(auto)]
 
 mod asts;
+mod clusters;
 mod control;
 mod flags;
 mod modes;
@@ -16,6 +17,7 @@ mod timers;
 mod waits;
 
 pub use asts::{dclast, setast};
+pub use clusters::{ascefc, dacefc, dlcefc};
 pub use control::{forcex, resume, suspnd, wake};
 pub use flags::{clref, readef, setef};
 pub use modes::{cmexec, cmkrnl};

@@ -23,8 +23,8 @@ fn set_where_named<R: Routine>(core: &mut Core<R>, p: Pid, efn: u32)
     let Some(cell) = core.cell(p, efn) else {
         return;
     };
+    core.set_flag(&cell, true);
     core.tell(Effect::Flag { cell, bit: true });
-    core.set_flag(p, efn, true);
 }
 
 // The first timer that is due by then fires, if there is one. Takes no memory.

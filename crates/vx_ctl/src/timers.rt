@@ -55,8 +55,8 @@ pub fn setimr<R: Routine>(
         });
     }
     let mode = core.current_mode(p);
+    core.set_flag(&cell, false);
     core.tell(Effect::Flag { cell, bit: false });
-    core.set_flag(p, efn, false);
     let id = core.new_id();
     core.tell(Effect::Open {
         id,

@@ -2,17 +2,17 @@
 
 ghost use Rattle.std.specs.Prelude.{◌≡◌, ◌≤◌, ◌^◌, ◌%◌, if◌then◌else◌};
 ghost use Rattle.vx_base.specs.Flags.{any_set, all_set};
-ghost use Rattle.vx_base.specs.declared.effects.Cell.TheVariants.{Local};
 ghost use Rattle.vx_record.specs.State.{IsProcess};
 ghost use Rattle.vx_record.specs.Control.{hiber};
 ghost use Rattle.vx_record.specs.Flags.{awaited, is_synchronized, normal_if, wait_condition, waitfr, wfland, wflor};
+ghost use Rattle.vx_procs.specs.Cells.{IsCell};
 ghost use Rattle.vx_procs.specs.Kernel.{DoesQuietly};
 ghost use Rattle.vx_record.specs.Sound.{WaitStands};
 ghost use Rattle.vx_procs.specs.Ready.{IsReady};
 ghost use Rattle.vx_ctl.specs.Answers.{wait_for_flags};
 
 use crate::flags::LAST_FLAG;
-use vx_base::{Cond, Pid, Routine, Wait};
+use vx_base::{Cell, Cond, Pid, Routine, Wait};
 use vx_procs::Core;
 use vx_record::Served;
 
@@ -33,34 +33,32 @@ fn hold(flags: u32, mask: u32, all: bool) -> bool
     }
 }
 
-// Whether a process's flag n, 0 to 63, is set, and its status block, if one is named, filled.
-fn is_synchronized<R: Routine>(core: &Core<R>, p: Pid, n: u32, iosb: u32) -> bool
+// Whether an event flag is set, and a process's status block, if one is named, filled.
+fn is_synchronized<R: Routine>(core: &Core<R>, p: Pid, cell: &Cell, iosb: u32) -> bool
     requires made { IsProcess core.now.state p }
+    requires there { IsCell core.now.state cell.now }
     requires block { iosb ≤ 32 }
-    ensures { result ≡ is_synchronized core.now.state p iosb (Local p n) }
+    ensures { result ≡ is_synchronized core.now.state p iosb cell.now }
 {
-    core.is_set(p, n) && (iosb == 0 || core.is_filled(p, iosb))
+    core.is_set(cell) && (iosb == 0 || core.is_filled(p, iosb))
 }
 
-/// The condition with which a wait of a process ends now; None where it is not satisfied.
+/// The condition with which a wait of a process ends now: UNASEFC where its number names no flag any more, else NORMAL; None where it
+/// is not satisfied.
 pub fn wait_condition<R: Routine>(core: &Core<R>, p: Pid, wait: Wait) -> Option<Cond>
     requires made { IsProcess core.now.state p }
     requires block { WaitStands wait }
     ensures { result ≡ wait_condition core.now.state p wait }
 {
     match wait {
-        Wait::Flags(efn, mask, all) => {
-            if core.cell(p, efn).is_none() {
-                return Some(Cond::UnasEfc);
-            }
-            normal_if(hold(core.flags_of(p, efn), mask, all))
-        }
-        Wait::Synch(efn, iosb) => {
-            if core.cell(p, efn).is_none() {
-                return Some(Cond::UnasEfc);
-            }
-            normal_if(is_synchronized(core, p, efn, iosb))
-        }
+        Wait::Flags(efn, mask, all) => match core.cell(p, efn) {
+            Some(cell) => normal_if(hold(core.flags_of(&cell), mask, all)),
+            None => Some(Cond::UnasEfc),
+        },
+        Wait::Synch(efn, iosb) => match core.cell(p, efn) {
+            Some(cell) => normal_if(is_synchronized(core, p, &cell, iosb)),
+            None => Some(Cond::UnasEfc),
+        },
         Wait::Hiber => normal_if(core.has_wake(p)),
     }
 }

@@ -18,7 +18,6 @@ bare_procs (x ∷ xs) = (record { channels = λ m. refl; handlers = refl }, bare
 pub bare : {R : Type 0} (c : Inside R) → IsHeld c → IsBare (state c)
 bare c h = record {
   requests = refl;
-  associations = refl;
   timers = all_weaker (IsOwn (state c)) (λ (t : Timer). IsTrue (is_timer t.what)) (λ t own. own.timer) c.timers.items h.timers;
   procs = bare_procs c.procs.items;
 }

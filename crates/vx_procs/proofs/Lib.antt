@@ -1,5 +1,6 @@
 pub mod Bare
 pub mod Booked
+pub mod Cells
 pub mod Changed
 pub mod FirstProcs
 pub mod Firsts

@@ -19,12 +19,15 @@ pub record IsWithinRoom (a b : Room) : Type 0 where
   pub frames : a.frames ≤ b.frames
   pub asts : a.asts ≤ b.asts
 
--- the state; the effects so far; the room of each process, in number order; and for how many timers there is room in all
+-- the state; the effects so far; the room of each process, in number order; and for how many timers, common clusters and
+-- associations with them there is room in all
 pub record Kernel : Type 0 where
   pub state : State
   pub log : Log
   pub rooms : List Room
   pub timers : ℕ
+  pub clusters : ℕ
+  pub associations : ℕ
 
 abbrev pub room_at : Kernel → Pid → Room
 room_at k p = slice_index_or k.rooms (p.0 - 1) no_room

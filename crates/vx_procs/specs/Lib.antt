@@ -1,3 +1,4 @@
+pub mod Cells
 pub mod Counts
 pub mod Fresh
 pub mod Held

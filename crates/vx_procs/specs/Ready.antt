@@ -34,11 +34,9 @@ pub record IsBareProcess (pr : Process) : Type 0 where
   pub channels : (m : Mode) → channels_of m pr.channels ≡ []
   pub handlers : pr.handlers ≡ []
 
--- What is not built yet is not open: channels and exit handlers, requests, associations with common clusters, and scheduled
--- wakes.
+-- What is not built yet is not open: channels and exit handlers, requests, and scheduled wakes.
 pub record IsBare (s : State) : Type 0 where
   pub requests : s.requests ≡ []
-  pub associations : s.common.associations ≡ []
   pub timers : AllByRecursion (λ t. IsTrue (is_timer t.what)) s.timers
   pub procs : AllByRecursion IsBareProcess s.procs
 
@@ -51,6 +49,8 @@ pub record IsReady (k : Kernel) (p : Pid) : Type 0 where
   pub formed : IsImage (image_of k.state p)
   pub spares : HasSpares k
   pub timer : length k.state.timers + 1 ≤ k.timers
+  pub cluster : length k.state.common.clusters + 1 ≤ k.clusters
+  pub association : length k.state.common.associations + 1 ≤ k.associations
   pub ids : k.state.next < 4294967295
   pub time : k.state.time < 2 ^ 63
   pub bare : IsBare k.state

@@ -35,14 +35,14 @@ room_of pr = record { frames = pr.frames.capacity; asts = pr.asts.capacity }
 abbrev pub books_of : {R : Type 0} → Proc R → Books
 books_of pr = record { room = room_of pr; account = pr.account }
 
--- the whole, with no clusters, requests, attention entries and mailboxes, and with the units as they are at first
+-- the whole, with no requests, attention entries and mailboxes, and with the units as they are at first
 abbrev pub state : {R : Type 0} → Inside R → State
 state c = record {
   system = c.system;
   time = c.time;
   next = c.next;
   procs = map process c.procs.items;
-  common = record { clusters = []; associations = [] };
+  common = c.clusters.common;
   requests = [];
   timers = c.timers.items;
   attention = [];
@@ -51,7 +51,14 @@ state c = record {
 }
 
 abbrev pub kernel : {R : Type 0} → Inside R → Kernel
-kernel c = record { state = state c; log = c.log; rooms = map room_of c.procs.items; timers = c.timers.capacity }
+kernel c = record {
+  state = state c;
+  log = c.log;
+  rooms = map room_of c.procs.items;
+  timers = c.timers.capacity;
+  clusters = c.clusters.cluster_capacity;
+  associations = c.clusters.association_capacity;
+}
 
 abbrev pub books : {R : Type 0} → Inside R → List Books
 books c = map books_of c.procs.items

@@ -13,6 +13,7 @@ use crate::process::Proc;
 use crate::procs::Core;
 use std::alloc::Global;
 use vx_base::{Effects, NoMemory, Reserved, Routine};
+use vx_clusters::Clusters;
 use vx_image::{ProcDecl, ProcDecls, System};
 
 // Adds the process of a declaration at a place, where it is there from the start.
@@ -57,6 +58,7 @@ impl<R: Routine> Core<R> {
             time: 0,
             next: 1,
             procs,
+            clusters: Clusters::new(alloc),
             timers: Reserved::new(alloc),
             log: Effects::new(alloc),
             short: None,

@@ -10,20 +10,23 @@ use std::alloc::Global;
 use std::marker::Model;
 use std::mem;
 use vx_base::{Effect, EffectList, Effects, NoMemory, Pid, Routine};
+use vx_clusters::Clusters;
 use vx_image::System;
 use vx_timers::Timers;
 
 /// The time, in ticks, from which on no timer can be set: due times are counted in 64 bits.
 const LAST_TIME: u64 = 9_223_372_036_854_775_808;
 
-/// What the script says, the time in ticks, the next id, the processes in the order of their numbers from 1, timers, and the
-/// log of the event under way. Contracts see the plain state, the log, and how much there is room for: `specs/Kernel.antt`.
+/// What the script says, the time in ticks, the next id, the processes in the order of their numbers from 1, the common event
+/// flag clusters, timers, and the log of the event under way. Contracts see the plain state, the log, and how much there is room
+/// for: `specs/Kernel.antt`.
 #[derive(Drop)]
 pub struct Core<R: Routine> {
     pub(crate) system: System,
     pub(crate) time: u64,
     pub(crate) next: u32,
     pub(crate) procs: Vec<Proc<R>>,
+    pub(crate) clusters: Clusters,
     pub(crate) timers: Timers<R>,
     pub(crate) log: Effects,
     // the process whose spares may have been used since they were made
@@ -44,12 +47,14 @@ impl<R: Routine> Model for Core<R> {
 }
 
 impl<R: Routine> Core<R> {
-    /// Makes good what spare room the last event used, and makes room for a timer more and for as many effects as are told.
-    /// Nothing that the state says is changed, even where memory is short. (A time beyond 2^63 has no room for timers either.)
+    /// Makes good what spare room the last event used, and makes room for a timer, a cluster and an association more and for as
+    /// many effects as are told. Nothing that the state says is changed, even where memory is short. (A time beyond 2^63 has no room for timers either.)
     pub fn begin(&mut self, effects: u32) -> Result<(), NoMemory>
         ensures same { self.new.state ≡ self.old.state }
         ensures spares { OnOk result (HasSpares self.new) }
         ensures timer { OnOk result (length self.new.state.timers + 1 ≤ self.new.timers) }
+        ensures cluster { OnOk result (length self.new.state.common.clusters + 1 ≤ self.new.clusters) }
+        ensures association { OnOk result (length self.new.state.common.associations + 1 ≤ self.new.associations) }
         ensures empty { OnOk result (self.new.log.items ≡ []) }
         ensures room { OnOk result (HasRoom self.new.log effects) }
         ensures time { OnOk result (self.new.state.time < 2 ^ 63) }
@@ -61,6 +66,7 @@ impl<R: Routine> Core<R> {
         let mut log = Effects::new(self.alloc);
         log.reserve(effects)?;
         self.timers.reserve(1)?;
+        self.clusters.reserve()?;
         self.mend()?;
         self.log = log;
         Ok(())
@@ -70,6 +76,8 @@ impl<R: Routine> Core<R> {
     fn mend(&mut self) -> Result<(), NoMemory>
         ensures same { self.new.state ≡ self.old.state }
         ensures timers { self.new.timers ≡ self.old.timers }
+        ensures clusters { self.new.clusters ≡ self.old.clusters }
+        ensures associations { self.new.associations ≡ self.old.associations }
         ensures spares { OnOk result (HasSpares self.new) }
     {
         let Some(p) = self.short else {

@@ -1,25 +1,24 @@
 //! Reads of one process.
 
-ghost use Rattle.std.specs.Prelude.{◌≡◌, ◌<◌, ◌≤◌, IfSome, length, option_map};
+ghost use Rattle.std.specs.Prelude.{◌≡◌, ◌<◌, ◌≤◌, length, option_map};
 ghost use Rattle.vx_frames.specs.Frames.{top_of};
 ghost use Rattle.vx_image.specs.Local.{place_of};
 ghost use Rattle.vx_image.specs.Storage.{status_at};
 ghost use Rattle.vx_base.specs.Pieces.{is_enabled_in};
-ghost use Rattle.vx_base.specs.declared.effects.Cell.TheVariants.{Local};
 ghost use Rattle.vx_base.specs.Frames.{active_mode};
 ghost use Rattle.vx_record.specs.State.{IsProcess, process_at, decl_of, image_of, limits_of, current};
 ghost use Rattle.vx_record.specs.Asts.{deliverable_ast, entry_place, entry_prm, new_frame};
 ghost use Rattle.vx_record.specs.Charges.{exceeds};
 ghost use Rattle.vx_record.specs.Control.{is_deleted};
 ghost use Rattle.vx_record.specs.Events.{r0_of};
-ghost use Rattle.vx_record.specs.Flags.{cell, flags_of, is_filled, is_set_in};
+ghost use Rattle.vx_record.specs.Flags.{is_filled};
 ghost use Rattle.vx_record.specs.Rundown.{is_busy};
 ghost use Rattle.vx_procs.specs.View.{process};
 ghost use Rattle.vx_procs.specs.Words.{decl_in, image_in, HasDecl, HasImage};
 
 use crate::process::Proc;
 use crate::procs::Core;
-use vx_base::{Cell, Entry, Frame, FrameKind, Id, Mode, Need, Phase, Pid, Privs, Routine, Target};
+use vx_base::{Entry, Frame, FrameKind, Id, Mode, Need, Phase, Pid, Privs, Routine, Target};
 use vx_image::{Image, ProcDecl, System};
 
 // The process declaration at a place, from 0.
@@ -141,46 +140,6 @@ impl<R: Routine> Core<R> {
         ensures { result ≡ r0_of self.now.state p }
     {
         self.process_of(p).store.value(Target::R0)
-    }
-
-    /// The event flag that a number names, if it names one.
-    pub fn cell(&self, p: Pid, efn: u32) -> Option<Cell>
-        ensures cell { result ≡ cell self.now.state p efn }
-        ensures local { IfSome result (λ c. (efn < 64) × (c ≡ Local p efn)) }
-    {
-        let _next = self.next;
-        if efn < 64 {
-            Some(Cell::Local(p, efn))
-        } else {
-            None
-        }
-    }
-
-    /// The 32 flags of the cluster of a process's flag n, 0 to 63, as a number ($READEF).
-    pub fn flags_of(&self, p: Pid, n: u32) -> u32
-        requires { IsProcess self.now.state p }
-        ensures { result ≡ flags_of self.now.state (Local p n) }
-    {
-        let proc = self.process_of(p);
-        if n < 32 {
-            proc.cluster_0.bits()
-        } else {
-            proc.cluster_1.bits()
-        }
-    }
-
-    /// Whether a process's flag n, 0 to 63, is set.
-    pub fn is_set(&self, p: Pid, n: u32) -> bool
-        requires { IsProcess self.now.state p }
-        ensures { result ≡ is_set_in self.now.state (Local p n) }
-    {
-        let proc = self.process_of(p);
-        let place = (n % 32) as u8;
-        if n < 32 {
-            proc.cluster_0.test(place)
-        } else {
-            proc.cluster_1.test(place)
-        }
     }
 
     /// Whether AST delivery is enabled in a mode.

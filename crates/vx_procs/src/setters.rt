@@ -10,7 +10,7 @@ ghost use Rattle.vx_record.specs.Charges.{ast_need, exceeds};
 ghost use Rattle.vx_record.specs.Asts.{deliverable_ast, with_delivery, with_frame, with_queued};
 ghost use Rattle.vx_record.specs.Control.{with_suspension, with_wake};
 ghost use Rattle.vx_record.specs.Events.{below_top, moved_behind, put_back, resumed_with, with_r0};
-ghost use Rattle.vx_record.specs.Flags.{with_local_flag, with_wait};
+ghost use Rattle.vx_record.specs.Flags.{with_wait};
 ghost use Rattle.vx_record.specs.Rundown.{exited, in_phase, is_ast_reached};
 ghost use Rattle.vx_record.specs.Services.{with_variable};
 ghost use Rattle.vx_procs.specs.Kernel.{Acts, Fits, changed, with_state};
@@ -58,15 +58,6 @@ impl<R: Routine> Core<R> {
         ensures { self.new ≡ changed self.old p (in_phase phase) }
     {
         self.procs[p.0 as usize - 1].phase = phase;
-    }
-
-    /// Sets or clears a process's flag n, 0 to 63 ($SETEF, $CLREF).
-    pub fn set_flag(&mut self, p: Pid, n: u32, on: bool)
-        requires made { IsProcess self.old.state p }
-        requires local { n < 64 }
-        ensures { self.new ≡ changed self.old p (with_local_flag n on) }
-    {
-        self.procs[p.0 as usize - 1].put_flag(n, on)
     }
 
     /// Puts a number into a variable of a process, or into its R0.
