@@ -1,8 +1,10 @@
 pub mod Bare
 pub mod Booked
 pub mod Changed
+pub mod Ended
 pub mod FirstProcs
 pub mod Firsts
+pub mod Moments
 pub mod Ops
 pub mod Quiet
 pub mod Rest
