@@ -1,10 +1,6 @@
 -- What is not built yet is not open.
 use Rattle.std.proofs.Common.{◌≡◌, List, [], ◌∷◌, IsTrue, map, refl, subst}
 use Rattle.std.specs.List.{AllByRecursion}
-use Rattle.vx_base.specs.Pieces.{Timer}
-use Rattle.vx_record.specs.Charges.{is_timer}
-use Rattle.vx_record.proofs.Lists.{all_weaker}
-use Rattle.vx_procs.specs.Held.{IsOwn}
 use Rattle.vx_procs.specs.Kernel.{Kernel}
 use Rattle.vx_procs.specs.Ready.{IsBare, IsBareProcess}
 use Rattle.vx_procs.specs.View.{IsHeld, kernel, process, state}
@@ -18,7 +14,6 @@ bare_procs (x ∷ xs) = (record { channels = λ m. refl; handlers = refl }, bare
 pub bare : {R : Type 0} (c : Inside R) → IsHeld c → IsBare (state c)
 bare c h = record {
   requests = refl;
-  timers = all_weaker (IsOwn (state c)) (λ (t : Timer). IsTrue (is_timer t.what)) (λ t own. own.timer) c.timers.items h.timers;
   procs = bare_procs c.procs.items;
 }
 

@@ -3,13 +3,13 @@ use Rattle.std.proofs.Common.{◌≡◌, ◌≢◌, ℕ, zero, suc, ◌+◌, ◌
 use Rattle.std.specs.List.{find}
 use Rattle.std.proofs.lemmas.Bool.{eq-eqb, eqb-true}
 use Rattle.vx_base.specs.Flags.{one}
-use Rattle.vx_base.specs.Lists.{less, tally}
+use Rattle.vx_base.specs.Lists.{amend, less, tally}
 use Rattle.vx_base.specs.Pieces.{Queued, Timer}
 use Rattle.vx_base.specs.declared.number.Pid.{Pid}
 use Rattle.vx_base.specs.declared.quota.Need.{Need}
 use Rattle.vx_record.specs.State.{Process, State, IsProcess, process_at, no_decl}
 use Rattle.vx_record.specs.Charges.{charge, bears_ast, is_attention_of, is_same, charged_timer, is_charged, is_timer_of}
-use Rattle.vx_record.proofs.Lists.{false_from}
+use Rattle.vx_record.proofs.Lists.{either, false_from}
 use Rattle.vx_procs.specs.Held.{Books, IsBooked, books_at, no_books, spare}
 use Rattle.vx_procs.specs.Kernel.{Room, no_room, room_at}
 use Rattle.vx_procs.specs.Ready.{HasSpares, owed}
@@ -31,6 +31,10 @@ tally-less p test (y ∷ ys) x e =
       | true ↦ λ found. let same : y ≡ x = cc in let e = ap (λ z. one (p z)) same in omega (arith, e)
       | false ↦ λ found. let rest = tally-less p test ys x found in omega (arith, rest)
     ] e
+
+pub tally-amend : {A : Type 0} (p test : A → Bool) (f : A → A) → ((x : A) → p (f x) ≡ p x) → (xs : List A) → tally p (amend test f xs) ≡ tally p xs
+tally-amend p test f same [] = refl
+tally-amend p test f same (x ∷ xs) = let rest = tally-amend p test f same xs in either (λ ys. tally p ys ≡ one (p x) + tally p xs) (test x) (f x ∷ xs) (x ∷ amend test f xs) (rw (same x) refl) (omega (arith, rest))
 
 pub length-less : {A : Type 0} (test : A → Bool) (xs : List A) (x : A) → find test xs ≡ Some x → length (less test xs) + 1 ≡ length xs
 length-less test [] x e = absurd (cc)

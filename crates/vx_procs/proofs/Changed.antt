@@ -13,7 +13,7 @@ use Rattle.vx_record.specs.State.{Process, State, IsProcess, process_at, change,
 use Rattle.vx_record.specs.Charges.{charge, bears_ast, is_attention_of, charged_timer, is_charged}
 use Rattle.vx_record.proofs.Lists.{all_weaker}
 use Rattle.vx_record.proofs.Ground.{some_weaker}
-use Rattle.vx_procs.specs.Held.{AreHeld, Books, IsBooked, IsOwn, books_at, no_books}
+use Rattle.vx_procs.specs.Held.{AreHeld, Books, IsBooked, IsOwn, IsTargetMade, books_at, no_books}
 use Rattle.vx_procs.specs.Kernel.{Kernel, Room, changed, with_state}
 use Rattle.vx_procs.specs.View.{process, state, kernel, books, room_of, books_of, IsHeld}
 use Rattle.vx_procs.specs.declared.procs.Core.TheInside.{Inside}
@@ -73,7 +73,12 @@ made_set s i pr ts q m = record { above = m.above; within = omega (arith, m.with
 
 own_set : (s : State) (i : ℕ) (pr : Process) (ts : List Timer) → AllByRecursion (IsOwn s) ts → AllByRecursion (IsOwn (record s { procs = slice_set s.procs i pr; timers = ts })) ts
 own_set s i pr ts h =
-    all_weaker (IsOwn s) (IsOwn (record s { procs = slice_set s.procs i pr; timers = ts })) (λ t o. record { made = record { above = o.made.above; within = omega (arith, o.made.within, length-set s.procs i pr) }; timer = o.timer }) ts h
+    all_weaker (IsOwn s) (IsOwn (record s { procs = slice_set s.procs i pr; timers = ts })) (λ t o. record {
+      made = record { above = o.made.above; within = omega (arith, o.made.within, length-set s.procs i pr) };
+      target = subst (λ n. IsTargetMade n t.what) (sym (length-set s.procs i pr)) o.target;
+      ahead = o.ahead;
+      soon = o.soon;
+    }) ts h
 
 -- one process changed, with its books, and the timers: each other process is booked still
 pub held_by : (s : State) (bs : List Books) (before after : Option Pid) (p : Pid) (pr : Process) (b : Books) (ts : List Timer) → AreHeld s before bs → IsProcess s p → p.0 - 1 < length bs → IsBooked (record s { procs = slice_set s.procs (p.0 - 1) pr; timers = ts }) after p b → ((q : Pid) → IsProcess s q → q.0 ≢ p.0 → IsBooked s before q (books_at bs q) → IsBooked (record s { timers = ts }) after q (books_at bs q)) → AllByRecursion (IsOwn s) ts → IfSome after (IsProcess s) → AreHeld (record s { procs = slice_set s.procs (p.0 - 1) pr; timers = ts }) after (slice_set bs (p.0 - 1) b)

@@ -2,8 +2,10 @@ pub mod Bare
 pub mod Booked
 pub mod Cells
 pub mod Changed
+pub mod Ended
 pub mod FirstProcs
 pub mod Firsts
+pub mod Moments
 pub mod Ops
 pub mod Quiet
 pub mod Rest

@@ -1,11 +1,11 @@
 -- What is held stays held, as frames are entered, ASTs queued and taken out, and timers set, fired and dropped.
-use Rattle.std.proofs.Common.{◌≡◌, ◌≢◌, ℕ, ◌+◌, ◌-◌, ◌≤◌, length, length-append, List, [], ◌∷◌, ◌++◌, Bool, true, false, cond, not, ◌==◌, ◌&&◌, slice_index_or, Option, Some, None, IfSome, IsTrue, is_some, option_map, arith, refl, sym, ap, subst, ◌∙◌}
+use Rattle.std.proofs.Common.{◌≡◌, ◌≢◌, ℕ, ◌+◌, ◌-◌, ◌<◌, ◌≤◌, length, length-append, List, [], ◌∷◌, ◌++◌, Bool, true, false, cond, not, ◌==◌, ◌&&◌, slice_index_or, Option, Some, None, IfSome, IsTrue, is_some, option_map, arith, refl, sym, ap, subst, ◌∙◌}
 use Rattle.std.specs.List.{AllByRecursion, find}
 use Rattle.std.specs.Vec.{with_item}
 use Rattle.std.proofs.lemmas.Bool.Decides.{nat_tests}
-use Rattle.std.proofs.lemmas.Bool.{and_parts, eq-eqb, eqb-true}
+use Rattle.std.proofs.lemmas.Bool.{eq-eqb, eqb-true, leb-true}
 use Rattle.vx_base.specs.Flags.{one}
-use Rattle.vx_base.specs.Lists.{less, tally}
+use Rattle.vx_base.specs.Lists.{amend, less, tally}
 use Rattle.vx_base.specs.Pieces.{Queued, Timer, Alarm, OfTimer, OfWake}
 use Rattle.vx_base.specs.Roomy.{Roomy, with_items}
 use Rattle.vx_base.proofs.First.{less_none}
@@ -15,21 +15,22 @@ use Rattle.vx_base.specs.declared.number.Id.{Id}
 use Rattle.vx_base.specs.declared.number.Pid.{Pid}
 use Rattle.vx_base.specs.declared.mode.Mode.{Mode}
 use Rattle.vx_base.specs.declared.quota.Need.{Need}
-use Rattle.vx_record.specs.Rundown.{is_timer_in, is_timer_reached}
-use Rattle.vx_record.specs.State.{Process, IsProcess, process_at}
+use Rattle.vx_record.specs.Timers.{at_time, due_again, is_due}
+use Rattle.vx_record.specs.State.{Process, State, IsProcess, process_at}
 use Rattle.vx_record.specs.Asts.{charged_ast, with_frame, with_queued}
-use Rattle.vx_record.specs.Charges.{ast_need, charge, charged_timer, exceeds, is_charged, is_same, is_timer, is_timer_of, takes_ast, timer_need}
-use Rattle.vx_record.proofs.Lists.{all_append, all_find, all_less, false_from, find_passes, not_fails}
+use Rattle.vx_record.specs.Charges.{ast_need, charge, charged_timer, exceeds, is_charged, is_same, is_timer, is_timer_of, takes_ast}
+use Rattle.vx_record.proofs.Lists.{all_append, all_find, all_less, all_weaker, either_by, false_from, not_fails}
 use Rattle.vx_quota.specs.Account.{Quotas, charged, has_left, released}
 use Rattle.vx_procs.specs.Counts.{CountsAsts, freed}
-use Rattle.vx_procs.specs.Held.{Books, IsBooked, IsOwn, books_at, spare}
+use Rattle.vx_procs.specs.Held.{Books, IsBooked, IsOwn, IsTargetMade, books_at, spare}
 use Rattle.vx_procs.specs.Kernel.{IsWithinRoom, Kernel, Room, room_at}
-use Rattle.vx_procs.specs.Ready.{HasSpares, promised}
-use Rattle.vx_procs.specs.Words.{alarm_ast, deliverable_of, have_own_ids, with_queued_if, without_started}
+use Rattle.vx_procs.specs.Ready.{HasSpares, IsMoment, promised}
+use Rattle.vx_procs.specs.Words.{alarm_ast, alarm_need, deliverable_of, fired_need, have_own_ids, IsWoken, with_queued_if, without_started}
+use Rattle.vx_timers.specs.Seen.{falls_of}
 use Rattle.vx_procs.specs.View.{process, state, kernel, books, books_of, room_of, IsHeld}
 use Rattle.vx_procs.specs.declared.procs.Core.TheInside.{Inside}
 use Rattle.vx_procs.specs.declared.process.Proc.{Proc}
-use Rattle.vx_procs.proofs.Booked.{Counts, apart, counts_of, here_by, others_by, one_few, room_books, spare_used, spared, tally-append, tally-less}
+use Rattle.vx_procs.proofs.Booked.{Counts, apart, counts_of, here_by, others_by, one_few, room_books, spare_used, spared, tally-amend, tally-append, tally-less}
 use Rattle.vx_procs.proofs.Changed.{held_set, made_in, seen, seen_books}
 use Rattle.vx_procs.proofs.Started.{own_found, started_found}
 
@@ -237,10 +238,10 @@ charged_own p t a own what =
     let same : is_same t.p p ≡ true = ap (λ (x : Pid). is_same x p) own ∙ eq-eqb p.0 p.0 refl in
     ap (λ b. b && takes_ast t.what) same ∙ ap takes_ast what
 
-timer_own : (p : Pid) (t : Timer) → t.p ≡ p → IsTrue (is_timer t.what) → is_timer_of p t ≡ true
-timer_own p t own timer =
+timer_own : (p : Pid) (t : Timer) (a : Alarm) → t.p ≡ p → t.what ≡ a → is_timer_of p t ≡ is_timer a
+timer_own p t a own what =
     let same : is_same t.p p ≡ true = ap (λ (x : Pid). is_same x p) own ∙ eq-eqb p.0 p.0 refl in
-    ap (λ b. b && is_timer t.what) same ∙ timer
+    ap (λ b. b && is_timer t.what) same ∙ ap is_timer what
 
 charged_apart : (p q : Pid) (t : Timer) → t.p ≡ p → q.0 ≢ p.0 → charged_timer q t ≡ false
 charged_apart p q t own other = apart t.p q (takes_ast t.what) (λ same. other (same ∙ ap (λ (x : Pid). x.0) own))
@@ -248,12 +249,52 @@ charged_apart p q t own other = apart t.p q (takes_ast t.what) (λ same. other (
 timer_apart : (p q : Pid) (t : Timer) → t.p ≡ p → q.0 ≢ p.0 → is_timer_of q t ≡ false
 timer_apart p q t own other = apart t.p q (is_timer t.what) (λ same. other (same ∙ ap (λ (x : Pid). x.0) own))
 
-fired_asts : (id : Id) (a : Alarm) (pr : Process) → IsTrue (is_timer a) → (tally is_charged (with_queued_if (alarm_ast id a) pr).asts ≡ tally is_charged pr.asts + one (takes_ast a)) × (length (with_queued_if (alarm_ast id a) pr).asts ≡ length pr.asts + one (takes_ast a))
-fired_asts id (OfTimer efn reqid mode None) pr timer = (omega arith, omega arith)
-fired_asts id (OfTimer efn reqid mode (Some tag)) pr timer =
+-- how many ASTs an entry queues as it fires
+abbrev pub fired_count : Alarm → ℕ
+fired_count (OfTimer efn reqid mode tag) = one (is_some tag)
+fired_count (OfWake target repeat) = 0
+
+fired_asts : (id : Id) (a : Alarm) (pr : Process) → (tally is_charged (with_queued_if (alarm_ast id a) pr).asts ≡ tally is_charged pr.asts + fired_count a) × (length (with_queued_if (alarm_ast id a) pr).asts ≡ length pr.asts + fired_count a)
+fired_asts id (OfTimer efn reqid mode None) pr = (omega arith, omega arith)
+fired_asts id (OfTimer efn reqid mode (Some tag)) pr =
     let q = charged_ast id mode tag in
     (tally-append is_charged pr.asts (q ∷ []), length-append pr.asts (q ∷ []))
-fired_asts id (OfWake target repeat) pr timer = absurd (cc)
+fired_asts id (OfWake target repeat) pr = (omega arith, omega arith)
+
+-- What an entry is charged, and what is given back as it ends.
+
+record IsBilled (a : Alarm) (n : Need) : Type 0 where
+  ast : n.ast ≡ one (takes_ast a)
+  tqe : n.tqe ≡ one (is_timer a)
+  bio : n.bio ≡ 0
+  dio : n.dio ≡ 0
+  byt : n.byt ≡ 0
+
+alarm_billed : (a : Alarm) → IsBilled a (alarm_need a)
+alarm_billed (OfTimer efn reqid mode None) = record { ast = refl; tqe = refl; bio = refl; dio = refl; byt = refl }
+alarm_billed (OfTimer efn reqid mode (Some tag)) = record { ast = refl; tqe = refl; bio = refl; dio = refl; byt = refl }
+alarm_billed (OfWake target repeat) = record { ast = refl; tqe = refl; bio = refl; dio = refl; byt = refl }
+
+record IsBackFor (a : Alarm) (n : Need) : Type 0 where
+  ast : n.ast + fired_count a ≡ one (takes_ast a)
+  tqe : n.tqe ≡ one (is_timer a)
+  bio : n.bio ≡ 0
+  dio : n.dio ≡ 0
+  byt : n.byt ≡ 0
+
+fired_back : (a : Alarm) → IsBackFor a (fired_need a)
+fired_back (OfTimer efn reqid mode None) = record { ast = refl; tqe = refl; bio = refl; dio = refl; byt = refl }
+fired_back (OfTimer efn reqid mode (Some tag)) = record { ast = refl; tqe = refl; bio = refl; dio = refl; byt = refl }
+fired_back (OfWake target repeat) = record { ast = refl; tqe = refl; bio = refl; dio = refl; byt = refl }
+
+within_need : (n u : Need) → n.ast ≤ u.ast → n.tqe ≤ u.tqe → n.bio ≡ 0 → n.dio ≡ 0 → n.byt ≡ 0 → IsTrue (is_within n u)
+within_need n u ast tqe bio dio byt = grind (arith, nat_tests)
+
+pub within_alarm : (a : Alarm) (u : Need) → one (takes_ast a) ≤ u.ast → one (is_timer a) ≤ u.tqe → IsTrue (is_within (alarm_need a) u)
+within_alarm a u ast tqe = let bill = alarm_billed a in within_need (alarm_need a) u (omega (arith, bill.ast, ast)) (omega (arith, bill.tqe, tqe)) bill.bio bill.dio bill.byt
+
+pub within_fired : (a : Alarm) (u : Need) → one (takes_ast a) ≤ u.ast → one (is_timer a) ≤ u.tqe → IsTrue (is_within (fired_need a) u)
+within_fired a u ast tqe = let back = fired_back a in within_need (fired_need a) u (omega (arith, back.ast, ast)) (omega (arith, back.tqe, tqe)) back.bio back.dio back.byt
 
 queued_decl : (o : Option Queued) (pr : Process) → (with_queued_if o pr).decl ≡ pr.decl
 queued_decl None pr = refl
@@ -268,7 +309,7 @@ pub own_timer : {R : Type 0} (test : Timer → Bool) (c : Inside R) (t : Timer) 
 own_timer test c t h found = all_find (IsOwn (state c)) test c.timers.items t h.timers (sym found)
 
 -- a timer is out: its process has another AST or not, and has been given back so much
-held_out : {R : Type 0} (test : Timer → Bool) (asts : ℕ) (c : Inside R) (p : Pid) (t : Timer) (r new : Proc R) (ts : Roomy Timer) → Some t ≡ find test c.timers.items → t.p ≡ p → ts ≡ with_items c.timers (less test c.timers.items) → r ≡ slice_index_or c.procs.items (p.0 - 1) r → (process new).decl ≡ (process r).decl → (process new).frames ≡ (process r).frames → tally is_charged (process new).asts ≡ tally is_charged (process r).asts + asts → length (process new).asts ≡ length (process r).asts + asts → asts ≤ one (takes_ast t.what) → room_of new ≡ room_of r → new.account.limits ≡ r.account.limits → new.account.used.ast + one (takes_ast t.what) ≡ r.account.used.ast + asts → new.account.used.tqe + 1 ≡ r.account.used.tqe → new.account.used.bio ≡ r.account.used.bio → new.account.used.dio ≡ r.account.used.dio → new.account.used.byt ≡ r.account.used.byt → IsHeld c → IsHeld (record c { procs = with_item c.procs (p.0 - 1) new; timers = ts })
+held_out : {R : Type 0} (test : Timer → Bool) (asts : ℕ) (c : Inside R) (p : Pid) (t : Timer) (r new : Proc R) (ts : Roomy Timer) → Some t ≡ find test c.timers.items → t.p ≡ p → ts ≡ with_items c.timers (less test c.timers.items) → r ≡ slice_index_or c.procs.items (p.0 - 1) r → (process new).decl ≡ (process r).decl → (process new).frames ≡ (process r).frames → tally is_charged (process new).asts ≡ tally is_charged (process r).asts + asts → length (process new).asts ≡ length (process r).asts + asts → asts ≤ one (takes_ast t.what) → room_of new ≡ room_of r → new.account.limits ≡ r.account.limits → new.account.used.ast + one (takes_ast t.what) ≡ r.account.used.ast + asts → new.account.used.tqe + one (is_timer t.what) ≡ r.account.used.tqe → new.account.used.bio ≡ r.account.used.bio → new.account.used.dio ≡ r.account.used.dio → new.account.used.byt ≡ r.account.used.byt → IsHeld c → IsHeld (record c { procs = with_item c.procs (p.0 - 1) new; timers = ts })
 held_out test asts c p t r new ts found own left is decl frames more longer few room limits ast tqe bio dio byt h =
     let s = state c in
     let its = own_timer test c t h found in
@@ -279,8 +320,8 @@ held_out test asts c p t r new ts found own left is decl frames more longer few 
     let items : ts.items ≡ less test c.timers.items = ap (λ (x : Roomy Timer). x.items) left in
     let charges : tally (charged_timer p) ts.items + one (takes_ast t.what) ≡ tally (charged_timer p) c.timers.items =
     ap (λ (xs : List Timer). tally (charged_timer p) xs + one (takes_ast t.what)) items ∙ (ap (λ b. tally (charged_timer p) (less test c.timers.items) + one b) (sym (charged_own p t t.what own refl)) ∙ tally-less (charged_timer p) test c.timers.items t (sym found)) in
-    let timers : tally (is_timer_of p) ts.items + 1 ≡ tally (is_timer_of p) c.timers.items =
-    ap (λ (xs : List Timer). tally (is_timer_of p) xs + 1) items ∙ (ap (λ b. tally (is_timer_of p) (less test c.timers.items) + one b) (sym (timer_own p t own its.timer)) ∙ tally-less (is_timer_of p) test c.timers.items t (sym found)) in
+    let timers : tally (is_timer_of p) ts.items + one (is_timer t.what) ≡ tally (is_timer_of p) c.timers.items =
+    ap (λ (xs : List Timer). tally (is_timer_of p) xs + one (is_timer t.what)) items ∙ (ap (λ b. tally (is_timer_of p) (less test c.timers.items) + one b) (sym (timer_own p t t.what own refl)) ∙ tally-less (is_timer_of p) test c.timers.items t (sym found)) in
     let queued : length (process_at s p).asts ≡ length (process r).asts = ap (λ (x : Process). length x.asts) (sym was) in
     held_set c c.short p new ts.items h made
     (here_by s c.short c.short p (process new) ts.items (books_of r) (books_of new) made b
@@ -309,33 +350,15 @@ held_out test asts c p t r new ts found own left is decl frames more longer few 
     others_by s c.short c.short ts.items q (books_at (books c) q) bq bq.frames bq.asts same none_of)
     (subst (λ (xs : List Timer). AllByRecursion (IsOwn s) xs) (sym items) (all_less (IsOwn s) test c.timers.items h.timers)) h.marked
 
--- the timer is charged
-pub charged_tqe : {R : Type 0} (test : Timer → Bool) (c : Inside R) (p : Pid) (t : Timer) (r : Proc R) → IsHeld c → Some t ≡ find test c.timers.items → t.p ≡ p → r ≡ slice_index_or c.procs.items (p.0 - 1) r → 1 ≤ r.account.used.tqe
+-- the entry is charged
+pub charged_tqe : {R : Type 0} (test : Timer → Bool) (c : Inside R) (p : Pid) (t : Timer) (r : Proc R) → IsHeld c → Some t ≡ find test c.timers.items → t.p ≡ p → r ≡ slice_index_or c.procs.items (p.0 - 1) r → one (is_timer t.what) ≤ r.account.used.tqe
 charged_tqe test c p t r h found own is =
     let its = own_timer test c t h found in
     let made = subst (λ (x : Pid). IsProcess (state c) x) own its.made in
     let counts = counts_here c p r h made is in
     let timers = tally-less (is_timer_of p) test c.timers.items t (sym found) in
-    let one_more : one (is_timer_of p t) ≡ 1 = ap one (timer_own p t own its.timer) in
-    omega (arith, counts.tqe, timers, one_more)
-
-pub held_fired : {R : Type 0} (test : Timer → Bool) (id : Id) (a : Alarm) (c : Inside R) (p : Pid) (t : Timer) (r new : Proc R) (ts : Roomy Timer) → Some t ≡ find test c.timers.items → p ≡ t.p → a ≡ t.what → ts ≡ with_items c.timers (less test c.timers.items) → r ≡ slice_index_or c.procs.items (p.0 - 1) r → process new ≡ with_queued_if (alarm_ast id a) (process r) → room_of new ≡ room_of r → new.account ≡ released r.account (timer_need false) → IsHeld c → IsHeld (record c { procs = with_item c.procs (p.0 - 1) new; timers = ts })
-held_fired test id a c p t r new ts found own what left is e room account h =
-    let its = own_timer test c t h found in
-    let timer : IsTrue (is_timer a) = subst (λ (x : Alarm). IsTrue (is_timer x)) (sym what) its.timer in
-    let made = subst (λ (x : Pid). IsProcess (state c) x) (sym own) its.made in
-    let asts = fired_asts id a (process r) timer in
-    let o = alarm_ast id a in
-    let one_same : one (takes_ast a) ≡ one (takes_ast t.what) = ap (λ (x : Alarm). one (takes_ast x)) what in
-    let used = ap (λ (x : Quotas). x.used) account in
-    let ready = charged_tqe test c p t r h found (sym own) is in
-    held_out test (one (takes_ast a)) c p t r new ts found (sym own) left is
-    (ap (λ (x : Process). x.decl) e ∙ queued_decl o (process r)) (ap (λ (x : Process). x.frames) e ∙ queued_frames o (process r))
-    (ap (λ (x : Process). tally is_charged x.asts) e ∙ asts.0) (ap (λ (x : Process). length x.asts) e ∙ asts.1) (omega (arith, one_same)) room
-    (ap (λ (x : Quotas). x.limits) account)
-    (omega (arith, ap (λ (n : Need). n.ast) used, one_same))
-    (omega (arith, ap (λ (n : Need). n.tqe) used, ready))
-    (omega (arith, ap (λ (n : Need). n.bio) used)) (omega (arith, ap (λ (n : Need). n.dio) used)) (omega (arith, ap (λ (n : Need). n.byt) used)) h
+    let same : one (is_timer_of p t) ≡ one (is_timer t.what) = ap one (timer_own p t t.what own refl) in
+    omega (arith, counts.tqe, timers, same)
 
 -- and its AST, if it has one
 pub charged_one : {R : Type 0} (test : Timer → Bool) (c : Inside R) (p : Pid) (t : Timer) (r : Proc R) → IsHeld c → Some t ≡ find test c.timers.items → t.p ≡ p → r ≡ slice_index_or c.procs.items (p.0 - 1) r → one (takes_ast t.what) ≤ r.account.used.ast
@@ -346,6 +369,29 @@ charged_one test c p t r h found own is =
     let charges = tally-less (charged_timer p) test c.timers.items t (sym found) in
     let same : one (charged_timer p t) ≡ one (takes_ast t.what) = ap one (charged_own p t t.what own refl) in
     omega (arith, counts.ast, charges, same)
+
+pub held_fired : {R : Type 0} (test : Timer → Bool) (id : Id) (a : Alarm) (c : Inside R) (p : Pid) (t : Timer) (r new : Proc R) (ts : Roomy Timer) → Some t ≡ find test c.timers.items → p ≡ t.p → a ≡ t.what → ts ≡ with_items c.timers (less test c.timers.items) → r ≡ slice_index_or c.procs.items (p.0 - 1) r → process new ≡ with_queued_if (alarm_ast id a) (process r) → room_of new ≡ room_of r → new.account ≡ released r.account (fired_need a) → IsHeld c → IsHeld (record c { procs = with_item c.procs (p.0 - 1) new; timers = ts })
+held_fired test id a c p t r new ts found own what left is e room account h =
+    let asts = fired_asts id a (process r) in
+    let o = alarm_ast id a in
+    let back = fired_back a in
+    let one_ast : one (takes_ast a) ≡ one (takes_ast t.what) = ap (λ (x : Alarm). one (takes_ast x)) what in
+    let one_tqe : one (is_timer a) ≡ one (is_timer t.what) = ap (λ (x : Alarm). one (is_timer x)) what in
+    let used = ap (λ (x : Quotas). x.used) account in
+    let ready = charged_tqe test c p t r h found (sym own) is in
+    let ready_ast = charged_one test c p t r h found (sym own) is in
+    held_out test (fired_count a) c p t r new ts found (sym own) left is
+    (ap (λ (x : Process). x.decl) e ∙ queued_decl o (process r)) (ap (λ (x : Process). x.frames) e ∙ queued_frames o (process r))
+    (ap (λ (x : Process). tally is_charged x.asts) e ∙ asts.0) (ap (λ (x : Process). length x.asts) e ∙ asts.1) (omega (arith, one_ast, back.ast)) room
+    (ap (λ (x : Quotas). x.limits) account)
+    (omega (arith, ap (λ (n : Need). n.ast) used, one_ast, back.ast, ready_ast))
+    (omega (arith, ap (λ (n : Need). n.tqe) used, one_tqe, back.tqe, ready))
+    (omega (arith, ap (λ (n : Need). n.bio) used, back.bio)) (omega (arith, ap (λ (n : Need). n.dio) used, back.dio)) (omega (arith, ap (λ (n : Need). n.byt) used, back.byt)) h
+
+-- the process that it wakes is there
+pub woken : (n : ℕ) (a : Alarm) → IsTargetMade n a → IsWoken n (falls_of a)
+woken n (OfTimer efn reqid mode tag) made = tt
+woken n (OfWake target repeat) made = made
 
 -- there is a place for that AST
 pub place_free : {R : Type 0} (test : Timer → Bool) (c : Inside R) (p : Pid) (t : Timer) (r : Proc R) → IsHeld c → Some t ≡ find test c.timers.items → t.p ≡ p → r ≡ slice_index_or c.procs.items (p.0 - 1) r → length (process r).asts + one (takes_ast t.what) ≤ (room_of r).asts
@@ -358,44 +404,37 @@ place_free test c p t r h found own is =
     let same : one (charged_timer p t) ≡ one (takes_ast t.what) = ap one (charged_own p t t.what own refl) in
     omega (arith, b.asts, charges, same, ap (λ (x : Process). length x.asts) was)
 
-timer_bill : (b : Bool) → ((timer_need b).ast ≡ one b) × ((timer_need b).tqe ≡ 1)
-timer_bill true = (refl, refl)
-timer_bill false = (refl, refl)
-
-pub held_dropped : {R : Type 0} (test : Timer → Bool) (c : Inside R) (p : Pid) (t : Timer) (r new : Proc R) (ts : Roomy Timer) → Some t ≡ find test c.timers.items → p ≡ t.p → ts ≡ with_items c.timers (less test c.timers.items) → r ≡ slice_index_or c.procs.items (p.0 - 1) r → process new ≡ process r → room_of new ≡ room_of r → new.account ≡ released r.account (timer_need (takes_ast t.what)) → IsHeld c → IsHeld (record c { procs = with_item c.procs (p.0 - 1) new; timers = ts })
+pub held_dropped : {R : Type 0} (test : Timer → Bool) (c : Inside R) (p : Pid) (t : Timer) (r new : Proc R) (ts : Roomy Timer) → Some t ≡ find test c.timers.items → p ≡ t.p → ts ≡ with_items c.timers (less test c.timers.items) → r ≡ slice_index_or c.procs.items (p.0 - 1) r → process new ≡ process r → room_of new ≡ room_of r → new.account ≡ released r.account (alarm_need t.what) → IsHeld c → IsHeld (record c { procs = with_item c.procs (p.0 - 1) new; timers = ts })
 held_dropped test c p t r new ts found own left is e room account h =
     let used = ap (λ (x : Quotas). x.used) account in
     let ready = charged_tqe test c p t r h found (sym own) is in
     let ready_ast = charged_one test c p t r h found (sym own) is in
-    let bill = timer_bill (takes_ast t.what) in
+    let bill = alarm_billed t.what in
     held_out test 0 c p t r new ts found (sym own) left is
     (ap (λ (x : Process). x.decl) e) (ap (λ (x : Process). x.frames) e)
     (omega (arith, ap (λ (x : Process). tally is_charged x.asts) e)) (omega (arith, ap (λ (x : Process). length x.asts) e)) (omega arith) room
     (ap (λ (x : Quotas). x.limits) account)
-    (omega (arith, ap (λ (n : Need). n.ast) used, bill.0, ready_ast))
-    (omega (arith, ap (λ (n : Need). n.tqe) used, bill.1, ready))
-    (omega (arith, ap (λ (n : Need). n.bio) used)) (omega (arith, ap (λ (n : Need). n.dio) used)) (omega (arith, ap (λ (n : Need). n.byt) used)) h
+    (omega (arith, ap (λ (n : Need). n.ast) used, bill.ast, ready_ast))
+    (omega (arith, ap (λ (n : Need). n.tqe) used, bill.tqe, ready))
+    (omega (arith, ap (λ (n : Need). n.bio) used, bill.bio)) (omega (arith, ap (λ (n : Need). n.dio) used, bill.dio)) (omega (arith, ap (λ (n : Need). n.byt) used, bill.byt)) h
 
 -- where none is found, nothing is taken out
 pub same_timers : {A : Type 0} (test : A → Bool) (before after : Roomy A) → None ≡ find test before.items → after ≡ with_items before (less test before.items) → after ≡ before
 same_timers test before after none left = left ∙ ap (λ (xs : List _). with_items before xs) (less_none test before.items (sym none))
 
-pub within_timer : (b : Bool) (u : Need) → one b ≤ u.ast → 1 ≤ u.tqe → IsTrue (is_within (timer_need b) u)
-within_timer true u h k = grind (arith, nat_tests)
-within_timer false u h k = grind (arith, nat_tests)
-
 -- A timer is set.
 
-pub held_timed : {R : Type 0} (t : Timer) (c : Inside R) (k : Kernel) (p : Pid) (r new : Proc R) (ts : Roomy Timer) → kernel c ≡ k → IsProcess k.state p → HasSpares k → t.p ≡ p → IsTrue (is_timer t.what) → exceeds k.state p (timer_need (takes_ast t.what)) ≡ false → r ≡ slice_index_or c.procs.items (p.0 - 1) r → process new ≡ process r → room_of new ≡ room_of r → new.account ≡ charged r.account (timer_need (takes_ast t.what)) → ts ≡ with_items c.timers (c.timers.items ++ t ∷ []) → IsHeld c → IsHeld (record c { procs = with_item c.procs (p.0 - 1) new; timers = ts; short = Some p })
-held_timed t c k p r new ts view is_made has own timer within is e room account put h =
+pub held_timed : {R : Type 0} (t : Timer) (c : Inside R) (k : Kernel) (p : Pid) (r new : Proc R) (ts : Roomy Timer) → kernel c ≡ k → IsProcess k.state p → HasSpares k → t.p ≡ p → IsOwn k.state t → exceeds k.state p (alarm_need t.what) ≡ false → r ≡ slice_index_or c.procs.items (p.0 - 1) r → process new ≡ process r → room_of new ≡ room_of r → new.account ≡ charged r.account (alarm_need t.what) → ts ≡ with_items c.timers (c.timers.items ++ t ∷ []) → IsHeld c → IsHeld (record c { procs = with_item c.procs (p.0 - 1) new; timers = ts; short = Some p })
+held_timed t c k p r new ts view is_made has own is_own within is e room account put h =
     let s = state c in
-    let need = timer_need (takes_ast t.what) in
+    let need = alarm_need t.what in
+    let its : IsOwn s t = subst (λ (x : Kernel). IsOwn x.state t) (sym view) is_own in
     let made = made_in c k p view is_made in
     let spares = spares_in c k view has in
     let was = seen c p r made is in
     let spare_room = spares_here c p r spares made is in
     let counts = counts_here c p r h made is in
-    let bill = timer_bill (takes_ast t.what) in
+    let bill = alarm_billed t.what in
     let items : ts.items ≡ c.timers.items ++ t ∷ [] = ap (λ (x : Roomy Timer). x.items) put in
     let left = left_for c k p r need view h made is within in
     let paid_so : (charged r.account need).used ≡ together r.account.used need = ap (λ (b : Bool). (cond b (record r.account { used = together r.account.used need }) r.account).used) left in
@@ -405,10 +444,10 @@ held_timed t c k p r new ts view is_made has own timer within is e room account 
     let there = ap (λ (xs : List Timer). tally (charged_timer p) xs) items in
     let same : one (charged_timer p t) ≡ one (takes_ast t.what) = ap one (charged_own p t t.what own refl) in
     omega (arith, more, there, same) in
-    let timers : tally (is_timer_of p) ts.items ≡ tally (is_timer_of p) c.timers.items + 1 =
+    let timers : tally (is_timer_of p) ts.items ≡ tally (is_timer_of p) c.timers.items + one (is_timer t.what) =
     let more = tally-append (is_timer_of p) c.timers.items (t ∷ []) in
     let there = ap (λ (xs : List Timer). tally (is_timer_of p) xs) items in
-    let same : one (is_timer_of p t) ≡ 1 = ap one (timer_own p t own timer) in
+    let same : one (is_timer_of p t) ≡ one (is_timer t.what) = ap one (timer_own p t t.what own refl) in
     omega (arith, more, there, same) in
     let few = one_few (takes_ast t.what) in
     held_set c (Some p) p new ts.items h made
@@ -418,11 +457,11 @@ held_timed t c k p r new ts view is_made has own timer within is e room account 
     (omega (arith, spare_room.1, spare_used p, ap (λ (x : Process). length x.asts) e, charges, few, ap (λ (x : Room). x.asts) room))
     (ap (λ (a : Quotas). a.limits) account ∙ charged_limits r.account need)
     (record {
-      ast = omega (arith, ap (λ (n : Need). n.ast) used, bill.0, counts.ast, charges, ap (λ (x : Process). tally is_charged x.asts) e);
-      tqe = omega (arith, ap (λ (n : Need). n.tqe) used, bill.1, counts.tqe, timers);
-      bio = omega (arith, ap (λ (n : Need). n.bio) used, counts.bio);
-      dio = omega (arith, ap (λ (n : Need). n.dio) used, counts.dio);
-      byt = omega (arith, ap (λ (n : Need). n.byt) used, counts.byt);
+      ast = omega (arith, ap (λ (n : Need). n.ast) used, bill.ast, counts.ast, charges, ap (λ (x : Process). tally is_charged x.asts) e);
+      tqe = omega (arith, ap (λ (n : Need). n.tqe) used, bill.tqe, counts.tqe, timers);
+      bio = omega (arith, ap (λ (n : Need). n.bio) used, bill.bio, counts.bio);
+      dio = omega (arith, ap (λ (n : Need). n.dio) used, bill.dio, counts.dio);
+      byt = omega (arith, ap (λ (n : Need). n.byt) used, bill.byt, counts.byt);
     }))
     (λ q m other bq.
     let kept = spared c (Some p) q spares m in
@@ -437,7 +476,47 @@ held_timed t c k p r new ts view is_made has own timer within is e room account 
     let none : one (is_timer_of q t) ≡ 0 = ap one (timer_apart p q t own other) in
     omega (arith, more, there, none) in
     others_by s c.short (Some p) ts.items q (books_at (books c) q) bq kept.0 kept.1 same none_of)
-    (subst (λ (xs : List Timer). AllByRecursion (IsOwn s) xs) (sym items) (all_append (IsOwn s) c.timers.items (t ∷ []) h.timers (record { made = subst (λ (x : Pid). IsProcess s x) (sym own) made; timer = timer }, tt))) made
+    (subst (λ (xs : List Timer). AllByRecursion (IsOwn s) xs) (sym items) (all_append (IsOwn s) c.timers.items (t ∷ []) h.timers (its, tt))) made
+
+-- An entry is put off.
+
+own_again : (s : State) (now n : ℕ) (ys xs : List Timer) → now ≤ s.time → n < 4294967296 → AllByRecursion (IsOwn s) xs → AllByRecursion (IsOwn (record s { timers = ys })) (amend (is_due now) (due_again n) xs)
+own_again s now n ys [] past few h = tt
+own_again s now n ys (x ∷ xs) past few h =
+    let t : State = record s { timers = ys } in
+    let there : (u : Timer) → IsOwn s u → IsOwn t u = λ u o. record { made = o.made; target = o.target; ahead = o.ahead; soon = o.soon } in
+    either_by (AllByRecursion (IsOwn t)) (is_due now x) (due_again n x ∷ xs) (x ∷ amend (is_due now) (due_again n) xs)
+    (λ due. let by : x.due ≤ now = leb-true x.due now due in (record { made = h.0.made; target = h.0.target; ahead = omega (arith, h.0.ahead); soon = omega (arith, by, past, few) }, all_weaker (IsOwn s) (IsOwn t) there xs h.1))
+    (λ _. (there x h.0, own_again s now n ys xs past few h.1))
+
+pub held_later : {R : Type 0} (now n : ℕ) (c : Inside R) (ts : Roomy Timer) → ts ≡ with_items c.timers (amend (is_due now) (due_again n) c.timers.items) → now ≤ c.time → n < 4294967296 → IsHeld c → IsHeld (record c { timers = ts })
+held_later now n c ts later past few h =
+    let s = state c in
+    let items : ts.items ≡ amend (is_due now) (due_again n) c.timers.items = ap (λ (x : Roomy Timer). x.items) later in
+    record {
+      booked = λ q m.
+          let b = h.booked q m in
+          others_by s c.short c.short ts.items q (books_at (books c) q) b b.frames b.asts
+          (ap (λ (xs : List Timer). tally (charged_timer q) xs) items ∙ tally-amend (charged_timer q) (is_due now) (due_again n) (λ x. refl) c.timers.items)
+          (ap (λ (xs : List Timer). tally (is_timer_of q) xs) items ∙ tally-amend (is_timer_of q) (is_due now) (due_again n) (λ x. refl) c.timers.items);
+      timers = subst (λ (xs : List Timer). AllByRecursion (IsOwn (record s { timers = ts.items })) xs) (sym items) (own_again s now n ts.items c.timers.items past few h.timers);
+      marked = h.marked;
+    }
+
+-- Time moves.
+
+own_then : (s : State) (now : ℕ) (xs : List Timer) → s.time ≤ now → AllByRecursion (λ t. now ≤ t.due) xs → AllByRecursion (IsOwn s) xs → AllByRecursion (IsOwn (at_time s now)) xs
+own_then s now [] forward ahead h = tt
+own_then s now (x ∷ xs) forward ahead h = (record { made = h.0.made; target = h.0.target; ahead = ahead.0; soon = omega (arith, h.0.soon, forward) }, own_then s now xs forward ahead.1 h.1)
+
+pub held_then : {R : Type 0} (now : ℕ) (c : Inside R) (k : Kernel) → kernel c ≡ k → IsMoment k.state now → IsHeld c → IsHeld (record c { time = now })
+held_then now c k view moment h =
+    let here : IsMoment (state c) now = subst (λ (x : Kernel). IsMoment x.state now) (sym view) moment in
+    record {
+      booked = λ q m. let b = h.booked q m in record { frames = b.frames; asts = b.asts; used = b.used; limits = b.limits };
+      timers = own_then (state c) now c.timers.items here.forward here.ahead h.timers;
+      marked = h.marked;
+    }
 
 -- Room is made.
 
@@ -490,10 +569,3 @@ held_mended c p r new short is e account frames asts h =
 pub mapped_some : {A B : Type 0} (f : A → B) (o : Option A) → is_some (option_map f o) ≡ is_some o
 mapped_some f None = refl
 mapped_some f (Some x) = refl
-
--- a timer that is found as p's is p's
-pub own_pid : {R : Type 0} (p : Pid) (m : Mode) (c : Inside R) (t : Timer) → Some t ≡ find (is_timer_in p m) c.timers.items → t.p ≡ p
-own_pid p m c t found =
-    let passes = find_passes (is_timer_in p m) c.timers.items t (sym found) in
-    let same = eqb-true t.p.0 p.0 (and_parts (is_same t.p p) (is_timer_reached m t.what) passes).0 in
-    ap (λ (n : ℕ). let x : Pid = record { 0 = n } in x) same

@@ -1,12 +1,12 @@
 -- What the executive keeps beside its state, and what is true of it.
-use Rattle.std.specs.Prelude.{◌≡◌, ℕ, ◌+◌, ◌-◌, ◌≤◌, List, Bool, false, ◌==◌, not, Option, Some, None, IsTrue, IfSome, length, slice_index_or}
+use Rattle.std.specs.Prelude.{◌≡◌, ℕ, ◌+◌, ◌-◌, ◌<◌, ◌≤◌, List, Bool, false, ◌==◌, not, Option, Some, None, IfSome, length, slice_index_or, ⊤}
 use Rattle.std.specs.List.{AllByRecursion}
 use Rattle.vx_base.specs.Flags.{one}
-use Rattle.vx_base.specs.Pieces.{Timer}
+use Rattle.vx_base.specs.Pieces.{Timer, Alarm, OfTimer, OfWake}
 use Rattle.vx_base.specs.Quotas.{no_need}
 use Rattle.vx_base.specs.declared.number.Pid.{Pid}
-use Rattle.vx_record.specs.State.{State, IsProcess, process_at, limits_of}
-use Rattle.vx_record.specs.Charges.{charge, is_timer}
+use Rattle.vx_record.specs.State.{State, IsProcess, IsWithin, process_at, limits_of}
+use Rattle.vx_record.specs.Charges.{charge}
 use Rattle.vx_quota.specs.Account.{Quotas}
 use Rattle.vx_procs.specs.Kernel.{Room, no_room}
 use Rattle.vx_procs.specs.Ready.{owed}
@@ -38,10 +38,17 @@ pub record IsBooked (s : State) (short : Option Pid) (p : Pid) (b : Books) : Typ
   pub used : b.account.used ≡ charge s p
   pub limits : b.account.limits ≡ limits_of s p
 
--- an entry is a timer, and a process's
+-- the process that a wake is for is one of so many
+abbrev pub IsTargetMade : ℕ → Alarm → Type 0
+IsTargetMade n (OfTimer efn reqid mode tag) = ⊤
+IsTargetMade n (OfWake target repeat) = IsWithin n target
+
+-- An entry is a process's, and a wake is for a process; it is due now or later, and less than 2^32 ticks ahead.
 pub record IsOwn (s : State) (t : Timer) : Type 0 where
   pub made : IsProcess s t.p
-  pub timer : IsTrue (is_timer t.what)
+  pub target : IsTargetMade (length s.procs) t.what
+  pub ahead : s.time ≤ t.due
+  pub soon : t.due < s.time + 4294967296
 
 pub record AreHeld (s : State) (short : Option Pid) (books : List Books) : Type 0 where
   pub booked : (p : Pid) → IsProcess s p → IsBooked s short p (books_at books p)

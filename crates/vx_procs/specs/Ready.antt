@@ -7,7 +7,7 @@ use Rattle.vx_base.specs.declared.number.Pid.{Pid}
 use Rattle.vx_base.specs.Lists.{tally}
 use Rattle.vx_image.specs.WellFormed.{IsImage}
 use Rattle.vx_record.specs.State.{Process, State, IsProcess, process_at, image_of}
-use Rattle.vx_record.specs.Charges.{bears_ast, is_attention_of, is_timer, charged_timer}
+use Rattle.vx_record.specs.Charges.{bears_ast, is_attention_of, charged_timer}
 use Rattle.vx_procs.specs.Kernel.{Kernel, room_at}
 use Rattle.vx_procs.specs.Words.{HasDecl, HasImage}
 
@@ -34,11 +34,16 @@ pub record IsBareProcess (pr : Process) : Type 0 where
   pub channels : (m : Mode) → channels_of m pr.channels ≡ []
   pub handlers : pr.handlers ≡ []
 
--- What is not built yet is not open: channels and exit handlers, requests, and scheduled wakes.
+-- What is not built yet is not open: channels and exit handlers, and requests.
 pub record IsBare (s : State) : Type 0 where
   pub requests : s.requests ≡ []
-  pub timers : AllByRecursion (λ t. IsTrue (is_timer t.what)) s.timers
   pub procs : AllByRecursion IsBareProcess s.procs
+
+-- Time may come to this moment: it is not behind, and less than 2^32 ticks ahead, and no entry is due before it.
+pub record IsMoment (s : State) (now : ℕ) : Type 0 where
+  pub forward : s.time ≤ now
+  pub soon : now < s.time + 4294967296
+  pub ahead : AllByRecursion (λ t. now ≤ t.due) s.timers
 
 -- The process is there, with its image; there is a spare of each kind, an id left, and a time that can be counted on; nothing is
 -- open that is not built.

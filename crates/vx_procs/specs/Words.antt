@@ -1,7 +1,7 @@
 -- Words on one process: its declaration and image, its local statements, the ASTs that its frames leave.
-use Rattle.std.specs.Prelude.{ℕ, ◌<◌, List, [], ◌∷◌, ◌++◌, Bool, true, false, ◌&&◌, ◌==◌, not, if◌then◌else◌, Option, Some, None, is_some, option_map, length, slice_index_or}
+use Rattle.std.specs.Prelude.{ℕ, ◌<◌, List, [], ◌∷◌, ◌++◌, Bool, true, false, ◌&&◌, ◌==◌, not, if◌then◌else◌, Option, Some, None, is_some, option_map, length, slice_index_or, ⊤}
 use Rattle.std.specs.List.{list_any}
-use Rattle.vx_base.specs.Lists.{less}
+use Rattle.vx_base.specs.Lists.{amend, less}
 use Rattle.vx_base.specs.Pieces.{Queued, Timer, Alarm, OfTimer, OfWake}
 use Rattle.vx_base.specs.declared.effects.Effect.{Effect}
 use Rattle.vx_base.specs.declared.effects.Effect.TheVariants as effect
@@ -11,19 +11,23 @@ use Rattle.vx_base.specs.declared.frame.FrameKind.TheVariants as kind
 use Rattle.vx_base.specs.declared.mode.Mode.{Mode}
 use Rattle.vx_base.specs.declared.number.Id.{Id}
 use Rattle.vx_base.specs.declared.number.Pid.{Pid}
+use Rattle.vx_base.specs.declared.quota.Need.{Need}
 use Rattle.vx_image.specs.Local.{Advanced, advanced, stopped}
 use Rattle.vx_image.specs.Storage.{Storage}
 use Rattle.vx_image.specs.declared.decl.ProcDecl.{ProcDecl}
 use Rattle.vx_image.specs.declared.image.Image.{Image}
 use Rattle.vx_image.specs.declared.stop.Stop.TheVariants as stop
 use Rattle.vx_image.specs.declared.system.System.{System}
-use Rattle.vx_record.specs.State.{Process, State, process_at, change, decl_of, image_of, no_decl, no_image}
+use Rattle.vx_record.specs.State.{Process, State, IsWithin, process_at, change, decl_of, image_of, no_decl, no_image}
 use Rattle.vx_record.specs.Asts.{charged_ast, deliverable_at, with_queued}
-use Rattle.vx_record.specs.Timers.{is_due}
+use Rattle.vx_record.specs.Charges.{ast_need, is_timer, takes_ast, timer_need}
+use Rattle.vx_record.specs.Timers.{due_again, is_due}
 use Rattle.vx_record.specs.Events.{reader, moved_to}
 use Rattle.vx_record.specs.Rundown.{without_ast, is_ast_reached}
 use Rattle.vx_record.specs.Runs.{born_of}
-use Rattle.vx_timers.specs.Seen.{flag_number}
+use Rattle.vx_timers.specs.Seen.{falls_of}
+use Rattle.vx_timers.specs.declared.due.Falls.{Falls}
+use Rattle.vx_timers.specs.declared.due.Falls.TheVariants as falls
 
 -- the process of a declaration at a place, where it is there from the start
 abbrev pub born_if_started : ℕ → ProcDecl → List Process
@@ -96,8 +100,24 @@ left_top (f ∷ fs) = left_kind f.kind
 
 -- Timers.
 
-abbrev pub due_flag : Timer → Id × Pid × ℕ
-due_flag t = (t.id, t.p, flag_number t.what)
+-- its id, its process, and what it does
+
+abbrev pub due_entry : Timer → Id × Pid × Falls
+due_entry t = (t.id, t.p, falls_of t.what)
+
+-- the process that it wakes is one of so many
+abbrev pub IsWoken : ℕ → Falls → Type 0
+IsWoken n (falls.Timer efn) = ⊤
+IsWoken n (falls.Wake target repeat) = IsWithin n target
+
+-- what an entry is charged: a timer, and its AST if it has one; a wake as an AST
+abbrev pub alarm_need : Alarm → Need
+alarm_need a = if is_timer a then timer_need (takes_ast a) else ast_need true
+
+-- what it is given back as it fires: an AST that it queues stays charged
+abbrev pub fired_need : Alarm → Need
+fired_need (OfTimer efn reqid mode tag) = timer_need false
+fired_need (OfWake target repeat) = ast_need true
 
 -- the AST that an entry queues when it is due
 
@@ -119,7 +139,11 @@ with_queued_if (Some q) pr = with_queued q pr
 abbrev pub without_timer : (Timer → Bool) → State → State
 without_timer passes s = record s { timers = less passes s.timers }
 
--- the first entry that is due is out, and its AST is queued
+-- the first entry that is due is so many ticks later
+abbrev pub put_off_first : ℕ → ℕ → State → State
+put_off_first now ticks s = record s { timers = amend (is_due now) (due_again ticks) s.timers }
+
+-- the first entry that is due is out, and its AST, if it has one, is queued
 abbrev pub moved_on : State → ℕ → Option Timer → State
 moved_on s now None = s
 moved_on s now (Some t) = change (without_timer (is_due now) s) t.p (with_queued_if (timer_ast t))

@@ -22,3 +22,4 @@ mod timers;
 
 pub use crate::process::{ast_need, timer_need};
 pub use crate::procs::Core;
+pub use crate::timers::drop_timers;

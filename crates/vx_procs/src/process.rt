@@ -9,7 +9,7 @@ ghost use Rattle.vx_base.specs.Log.{HasRoom, logged};
 ghost use Rattle.vx_base.specs.declared.frame.FrameKind.TheVariants.{Main};
 ghost use Rattle.vx_image.specs.WellFormed.{IsImage};
 ghost use Rattle.vx_record.specs.Asts.{with_queued};
-ghost use Rattle.vx_record.specs.Charges.{ast_need, is_timer, takes_ast, timer_need};
+ghost use Rattle.vx_record.specs.Charges.{ast_need, takes_ast, timer_need};
 ghost use Rattle.vx_quota.specs.Account.{charged, has_left, released};
 ghost use Rattle.vx_timers.specs.Seen.{alarm_of};
 ghost use Rattle.vx_record.specs.Events.{put_back, resumed_with, uses_wake};
@@ -21,7 +21,7 @@ ghost use Rattle.vx_procs.specs.View.{books_of, process, room_of};
 ghost use Rattle.vx_procs.specs.Fresh.{IsBlank};
 ghost use Rattle.vx_procs.specs.Kernel.{IsWithinRoom};
 ghost use Rattle.vx_procs.specs.Counts.{CountsAsts, freed};
-ghost use Rattle.vx_procs.specs.Words.{advanced_of, alarm_ast, deliverable_of, have_own_ids, left, moved_as, with_queued_if, without_reached, without_started};
+ghost use Rattle.vx_procs.specs.Words.{advanced_of, alarm_ast, alarm_need, deliverable_of, fired_need, have_own_ids, left, moved_as, with_queued_if, without_reached, without_started};
 
 use crate::frames::{leave_all, place_top, wait_at_top};
 use std::alloc::Global;
@@ -34,7 +34,7 @@ use vx_flags::Flags;
 use vx_frames::Frames;
 use vx_image::{Image, ProcDecl, Stop, Store, advance};
 use vx_quota::Account;
-use vx_timers::What;
+use vx_timers::{Due, What};
 
 /// A process: the place of its declaration, from 0; its group, member and privileges; what it stores; its frames; its AST
 /// enables and queued ASTs; its event flags 0 to 31 and 32 to 63; whether a wake pends, it is suspended, and $DELPRC named
@@ -118,6 +118,17 @@ pub fn ast_need(charged: bool) -> Need
         dio: 0,
         byt: 0,
         tqe: 0,
+    }
+}
+
+/// What an entry is charged: a timer, and its AST if it has one; a wake as an AST.
+pub(crate) fn due_need<R: Routine>(due: &Due<R>) -> Need
+    ensures { result ≡ alarm_need due.now.what }
+{
+    if due.is_timer() {
+        timer_need(due.takes_ast())
+    } else {
+        ast_need(true)
     }
 }
 
@@ -312,18 +323,16 @@ impl<R: Routine> Proc<R> {
         self.account.release(need);
     }
 
-    /// A timer of it with this id fires: its AST, if it has one, is queued, and tells whether it has. The AST stays charged, the
-    /// timer is no more.
+    /// An entry that it set fires, and ends: its AST, if it has one, is queued, and tells whether it has. The AST stays charged,
+    /// what else the entry was charged is given back.
     pub(crate) fn fire(&mut self, id: Id, what: What<R>) -> bool
-        requires timer { IsTrue (is_timer (alarm_of R.tagged what)) }
         requires free { length (process self.old).asts + one (takes_ast (alarm_of R.tagged what)) ≤ (room_of self.old).asts }
-        requires charged { 1 ≤ self.old.account.used.tqe }
+        requires charged { IsTrue (is_within (fired_need (alarm_of R.tagged what)) self.old.account.used) }
         ensures queued { result ≡ is_some (alarm_ast id (alarm_of R.tagged what)) }
         ensures after { process self.new ≡ with_queued_if (alarm_ast id (alarm_of R.tagged what)) (process self.old) }
         ensures room { room_of self.new ≡ room_of self.old }
-        ensures account { self.new.account ≡ released self.old.account (timer_need false) }
+        ensures account { self.new.account ≡ released self.old.account (fired_need (alarm_of R.tagged what)) }
     {
-        self.account.release(timer_need(false));
         match what {
             What::Timer {
                 efn: _,
@@ -331,6 +340,7 @@ impl<R: Routine> Proc<R> {
                 mode,
                 routine: Some(routine),
             } => {
+                self.account.release(timer_need(false));
                 self.asts.put(id, mode, routine, true);
                 true
             }
@@ -339,11 +349,17 @@ impl<R: Routine> Proc<R> {
                 reqid: _,
                 mode: _,
                 routine: None,
-            } => false,
+            } => {
+                self.account.release(timer_need(false));
+                false
+            }
             What::Wake {
                 target: _,
                 repeat: _,
-            } => unreachable!(),
+            } => {
+                self.account.release(ast_need(true));
+                false
+            }
         }
     }
 

@@ -1,99 +1,160 @@
-//! Timers.
+//! Timers and scheduled wakes.
 
-ghost use Rattle.std.specs.Prelude.{◌≡◌, ◌+◌, ◌≤◌, false, IfSome, Option, is_some, length, option_map};
+ghost use Rattle.std.specs.Prelude.{◌≡◌, ◌+◌, ◌<◌, ◌≤◌, ◌^◌, false, true, IfSome, Option, is_some, length, option_map};
 ghost use Rattle.std.specs.List.{find, AllByRecursion};
-ghost use Rattle.vx_base.specs.Pieces.{OfTimer};
+ghost use Rattle.vx_base.specs.Pieces.{OfTimer, OfWake};
 ghost use Rattle.vx_base.specs.Queues.{least_due};
 ghost use Rattle.vx_record.specs.State.{IsProcess};
-ghost use Rattle.vx_record.specs.Charges.{exceeds, timer_need};
-ghost use Rattle.vx_record.specs.Rundown.{is_timer_in};
-ghost use Rattle.vx_record.specs.Timers.{at_time, is_due, with_timer};
-ghost use Rattle.vx_procs.specs.Kernel.{with_state};
+ghost use Rattle.vx_record.specs.Charges.{ast_need, exceeds, timer_need};
+ghost use Rattle.vx_record.specs.Sound.{AreOrdered, timer_id};
+ghost use Rattle.vx_record.specs.Timers.{at_time, drop_timers, is_due, next_time, with_timer};
+ghost use Rattle.vx_timers.specs.Seen.{passes};
+ghost use Rattle.vx_procs.specs.Kernel.{Acts, Fits, with_state};
 ghost use Rattle.vx_procs.specs.Held.{IsOwn};
-ghost use Rattle.vx_procs.specs.Ready.{HasSpares};
-ghost use Rattle.vx_procs.specs.Words.{due_flag, fired_ast, moved_on, without_timer};
+ghost use Rattle.vx_procs.specs.Ready.{HasSpares, IsMoment};
+ghost use Rattle.vx_procs.specs.Words.{alarm_need, due_entry, fired_ast, IsWoken, moved_on, put_off_first, without_timer};
 
-use crate::process::timer_need;
+use crate::process::due_need;
 use crate::procs::Core;
-use vx_base::{Id, Mode, Pid, Routine};
-use vx_timers::{Due, What, first_due, least, take_due, take_timer_in};
+use vx_base::{Effect, Id, Mode, Pid, Routine};
+use vx_timers::{Due, Falls, What, Which, first_due, least, put_off, take_first};
 
 impl<R: Routine> Core<R> {
     /// Moves the time.
     pub fn set_time(&mut self, now: u64)
+        requires { IsMoment self.old.state now }
         ensures { self.new ≡ with_state self.old (at_time self.old.state now) }
     {
         self.time = now;
     }
 
-    /// When the first timer is due, if there is one.
-    pub fn least_due(&self) -> Option<u64>
+    // When the first entry is due, if there is one.
+    fn least_due(&self) -> Option<u64>
         ensures due { result ≡ option_map (λ t. t.due) (least_due self.now.state.timers) }
         ensures own { AllByRecursion (IsOwn self.now.state) self.now.state.timers }
     {
         least(&self.timers)
     }
 
-    /// Sets a timer ($SETIMR) with a place for its AST, and charges its process. Takes no memory.
+    /// The moment of the next tick: when the first entry is due, and now if there is none.
+    pub fn next_time(&self) -> u64
+        ensures time { result ≡ next_time self.now.state }
+        ensures moment { IsMoment self.now.state result }
+    {
+        match self.least_due() {
+            Some(due) => due,
+            None => self.time(),
+        }
+    }
+
+    // Adds an entry with a place for its AST, and charges its process. Takes no memory.
+    fn add(&mut self, due: Due<R>)
+        requires own { IsOwn self.old.state due }
+        requires spares { HasSpares self.old }
+        requires room { length self.old.state.timers + 1 ≤ self.old.timers }
+        requires within { exceeds self.old.state due.p (alarm_need due.what) ≡ false }
+        ensures { self.new ≡ with_state self.old (with_timer self.old.state due) }
+    {
+        let p = due.p();
+        self.procs[p.0 as usize - 1].charge(due_need(&due));
+        self.timers.put(due);
+        self.short = Some(p);
+    }
+
+    /// Sets a timer so many ticks ahead ($SETIMR) with a place for its AST, and charges its process. Takes no memory.
     pub fn add_timer(
         &mut self,
         p: Pid,
         id: Id,
-        due: u64,
+        delta: u32,
         efn: u32,
         reqid: u32,
         mode: Mode,
         routine: Option<R>,
     )
         requires made { IsProcess self.old.state p }
+        requires time { self.old.state.time < 2 ^ 63 }
         requires spares { HasSpares self.old }
         requires room { length self.old.state.timers + 1 ≤ self.old.timers }
         requires within { exceeds self.old.state p (timer_need (is_some routine)) ≡ false }
-        ensures { self.new ≡ with_state self.old (with_timer self.old.state (record { id = id; p = p; due = due; what = OfTimer efn reqid mode (option_map R.tagged routine) })) }
+        ensures { self.new ≡ with_state self.old (with_timer self.old.state (record { id = id; p = p; due = self.old.state.time + delta; what = OfTimer efn reqid mode (option_map R.tagged routine) })) }
     {
-        self.procs[p.0 as usize - 1].charge(timer_need(routine.is_some()));
         let what = What::Timer {
             efn,
             reqid,
             mode,
             routine,
         };
-        self.timers.put(Due::new(id, p, due, what));
-        self.short = Some(p);
+        let due = self.time() + delta as u64;
+        self.add(Due::new(id, p, due, what));
     }
 
-    /// The first timer that is due by then: its id, its process, and its event flag.
-    pub fn due_timer(&self, now: u64) -> Option<(Id, Pid, u32)>
-        ensures due { result ≡ option_map due_flag (find (is_due now) self.now.state.timers) }
+    /// Schedules a wake of a process so many ticks ahead ($SCHDWK), and again after so many where these are not 0, and charges the
+    /// process that asks for it. Takes no memory.
+    pub fn add_wake(&mut self, p: Pid, id: Id, delta: u32, target: Pid, repeat: u32)
+        requires made { IsProcess self.old.state p }
+        requires target { IsProcess self.old.state target }
+        requires time { self.old.state.time < 2 ^ 63 }
+        requires spares { HasSpares self.old }
+        requires room { length self.old.state.timers + 1 ≤ self.old.timers }
+        requires within { exceeds self.old.state p (ast_need true) ≡ false }
+        ensures { self.new ≡ with_state self.old (with_timer self.old.state (record { id = id; p = p; due = self.old.state.time + delta; what = OfWake target repeat })) }
+    {
+        let due = self.time() + delta as u64;
+        self.add(Due::new(id, p, due, What::Wake { target, repeat }));
+    }
+
+    /// The first entry that is due by then: its id, its process, and what it does.
+    pub fn due_entry(&self, now: u64) -> Option<(Id, Pid, Falls)>
+        ensures due { result ≡ option_map due_entry (find (is_due now) self.now.state.timers) }
         ensures made { IfSome result (λ t. IsProcess self.now.state t.1) }
+        ensures woken { IfSome result (λ t. IsWoken (length self.now.state.procs) t.2) }
     {
         let due = first_due(&self.timers, now)?;
-        Some((due.id(), due.p(), due.efn()))
+        Some((due.id(), due.p(), due.falls()))
     }
 
-    /// Takes out the first timer that is due by then; its AST, if it has one, is queued in the place that was made for it. Takes
+    /// Takes out the first entry that is due by then; its AST, if it has one, is queued in the place that was made for it. Takes
     /// no memory, and no spare room.
     pub fn fire(&mut self, now: u64) -> bool
         ensures queued { result ≡ fired_ast (find (is_due now) self.old.state.timers) }
         ensures after { self.new ≡ with_state self.old (moved_on self.old.state now (find (is_due now) self.old.state.timers)) }
     {
-        let Some(due) = take_due(&mut self.timers, now) else {
+        let Some(due) = take_first(&mut self.timers, Which::Due(now)) else {
             return false;
         };
         let (id, p) = (due.id(), due.p());
         self.procs[p.0 as usize - 1].fire(id, due.into_what())
     }
 
-    /// Takes out the first timer of a process of a mode or an outer one, and gives its id.
-    pub fn drop_timer_in(&mut self, p: Pid, mode: Mode) -> Option<Id>
-        requires { IsProcess self.old.state p }
-        ensures id { result ≡ option_map (λ t. t.id) (find (is_timer_in p mode) self.old.state.timers) }
-        ensures after { self.new ≡ with_state self.old (without_timer (is_timer_in p mode) self.old.state) }
-        ensures own { AllByRecursion (IsOwn self.new.state) self.new.state.timers }
+    /// The first entry that is due by then, if there is one, stays, charged, and is due so many ticks later.
+    pub fn put_off(&mut self, now: u64, ticks: u32)
+        requires past { now ≤ self.old.state.time }
+        requires counted { now + ticks < 2 ^ 64 }
+        ensures { self.new ≡ with_state self.old (put_off_first now ticks self.old.state) }
     {
-        let due = take_timer_in(&mut self.timers, p, mode)?;
-        let id = due.id();
-        self.procs[p.0 as usize - 1].release(timer_need(due.takes_ast()));
+        put_off(&mut self.timers, now, ticks)
+    }
+
+    // Takes out the first of the entries that are looked for, gives its charge back, and gives its id.
+    fn drop_timer(&mut self, which: Which) -> Option<Id>
+        ensures id { result ≡ option_map (λ t. t.id) (find (passes which) self.old.state.timers) }
+        ensures after { self.new ≡ with_state self.old (without_timer (passes which) self.old.state) }
+    {
+        let due = take_first(&mut self.timers, which)?;
+        let (id, p) = (due.id(), due.p());
+        self.procs[p.0 as usize - 1].release(due_need(&due));
         Some(id)
+    }
+}
+
+/// The entries that are looked for end, in id order, and their charges are given back. Takes no memory.
+pub fn drop_timers<R: Routine>(core: &mut Core<R>, which: Which)
+    requires order { AreOrdered timer_id 0 core.old.state.next core.old.state.timers }
+    requires room { Fits core.old (drop_timers (passes which) core.old.state).effects }
+    ensures { Acts (drop_timers (passes which) core.old.state) core.old core.new }
+{
+    'timers: while let Some(id) = core.drop_timer(which) {
+        core.tell(Effect::Drop(id));
     }
 }

@@ -1,9 +1,15 @@
 -- What falls due as the code keeps it, seen as plain data.
-use Rattle.std.specs.Prelude.{ℕ, Option, Some, None, option_map, nat_le, if◌then◌else◌}
-use Rattle.vx_base.specs.Pieces.{Alarm, OfTimer, OfWake}
+use Rattle.std.specs.Prelude.{ℕ, Bool, Option, Some, None, option_map, nat_le, if◌then◌else◌}
+use Rattle.vx_base.specs.Pieces.{Timer, Alarm, OfTimer, OfWake}
 use Rattle.vx_base.specs.declared.routine.Entry.{Entry}
+use Rattle.vx_record.specs.Rundown.{is_timer_in, is_wake_by}
+use Rattle.vx_record.specs.Timers.{is_cancelled_timer, is_due, is_wake_for}
+use Rattle.vx_timers.specs.declared.due.Falls.{Falls}
+use Rattle.vx_timers.specs.declared.due.Falls.TheVariants as falls
 use Rattle.vx_timers.specs.declared.due.What.{What}
 use Rattle.vx_timers.specs.declared.due.What.TheVariants as what
+use Rattle.vx_timers.specs.declared.due.Which.{Which}
+use Rattle.vx_timers.specs.declared.due.Which.TheVariants as which
 
 -- the tag stands for the routine
 abbrev pub alarm_of : {R : Type 0} → (R → Entry) → What R → Alarm
@@ -16,7 +22,15 @@ lesser_of None b = b
 lesser_of (Some a) None = Some a
 lesser_of (Some a) (Some b) = if nat_le a b then Some a else Some b
 
--- the event flag of a timer
-abbrev pub flag_number : Alarm → ℕ
-flag_number (OfTimer efn reqid mode tag) = efn
-flag_number (OfWake target repeat) = 0
+-- what an entry does when it falls due
+abbrev pub falls_of : Alarm → Falls
+falls_of (OfTimer efn reqid mode tag) = falls.Timer efn
+falls_of (OfWake target repeat) = falls.Wake target repeat
+
+-- whether an entry is one of those that are looked for
+abbrev pub passes : Which → Timer → Bool
+passes (which.Due now) = is_due now
+passes (which.Cancelled p reqid mode) = is_cancelled_timer p reqid mode
+passes (which.TimersOf p mode) = is_timer_in p mode
+passes (which.WakesBy p) = is_wake_by p
+passes (which.WakesFor q) = is_wake_for q

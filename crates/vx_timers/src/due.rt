@@ -1,9 +1,9 @@
 //! A timer or a scheduled wake.
 
 ghost use Rattle.std.specs.Prelude.{◌≡◌, ◌+◌, ◌<◌, ◌^◌};
-ghost use Rattle.vx_record.specs.Charges.{takes_ast};
+ghost use Rattle.vx_record.specs.Charges.{is_timer, takes_ast};
 ghost use Rattle.vx_record.specs.Rundown.{is_timer_in, is_wake_by};
-ghost use Rattle.vx_record.specs.Timers.{is_cancelled_timer, is_due, is_wake_for};
+ghost use Rattle.vx_record.specs.Timers.{due_again, is_cancelled_timer, is_due, is_wake_for};
 
 use std::marker::Model;
 use vx_base::{Id, Mode, Pid, Routine};
@@ -24,6 +24,30 @@ pub enum What<R> {
         target: Pid,
         repeat: u32,
     },
+}
+
+/// What an entry does when it falls due.
+#[derive(Clone, Copy, Drop)]
+pub enum Falls {
+    /// A timer sets an event flag.
+    Timer(u32),
+    /// A wake wakes a process, and again after so many ticks where these are not 0.
+    Wake(Pid, u32),
+}
+
+/// Which entries are looked for.
+#[derive(Clone, Copy, Drop)]
+pub enum Which {
+    /// Those that are due by a time.
+    Due(u64),
+    /// The timers of a process of a mode or an outer one, with an identification, 0 for any ($CANTIM).
+    Cancelled(Pid, u32, Mode),
+    /// The timers of a process of a mode or an outer one.
+    TimersOf(Pid, Mode),
+    /// The wakes that a process scheduled.
+    WakesBy(Pid),
+    /// The wakes of a process ($CANWAK).
+    WakesFor(Pid),
 }
 
 /// A timer or a scheduled wake: its id, the process that set it, and when it is due, in ticks. Contracts see the plain
@@ -47,7 +71,7 @@ impl<R: Routine> Model for Due<R> {
 }
 
 impl<R: Routine> Due<R> {
-    ghost use Rattle.vx_timers.specs.Seen.{alarm_of, flag_number};
+    ghost use Rattle.vx_timers.specs.Seen.{alarm_of, falls_of, passes};
 
     /// An entry.
     pub fn new(id: Id, p: Pid, due: u64, what: What<R>) -> Due<R>
@@ -77,9 +101,9 @@ impl<R: Routine> Due<R> {
         self.due
     }
 
-    /// Its event flag, 0 where it is a wake.
-    pub fn efn(&self) -> u32
-        ensures { result ≡ flag_number self.now.what }
+    /// What it does when it falls due.
+    pub fn falls(&self) -> Falls
+        ensures { result ≡ falls_of self.now.what }
     {
         match &self.what {
             What::Timer {
@@ -87,11 +111,26 @@ impl<R: Routine> Due<R> {
                 reqid: _,
                 mode: _,
                 routine: _,
-            } => *efn,
+            } => Falls::Timer(*efn),
+            What::Wake { target, repeat } => Falls::Wake(*target, *repeat),
+        }
+    }
+
+    /// Whether it is a timer.
+    pub fn is_timer(&self) -> bool
+        ensures { result ≡ is_timer self.now.what }
+    {
+        match &self.what {
+            What::Timer {
+                efn: _,
+                reqid: _,
+                mode: _,
+                routine: _,
+            } => true,
             What::Wake {
                 target: _,
                 repeat: _,
-            } => 0,
+            } => false,
         }
     }
 
@@ -126,15 +165,36 @@ impl<R: Routine> Due<R> {
         what
     }
 
+    /// Whether it is one of those that are looked for.
+    pub(crate) fn passes(&self, which: Which) -> bool
+        ensures { result ≡ passes which self.now }
+    {
+        match which {
+            Which::Due(now) => self.is_due(now),
+            Which::Cancelled(p, reqid, mode) => self.is_cancelled(p, reqid, mode),
+            Which::TimersOf(p, mode) => self.is_timer_in(p, mode),
+            Which::WakesBy(p) => self.is_wake_by(p),
+            Which::WakesFor(q) => self.is_wake_for(q),
+        }
+    }
+
+    /// It is due so many ticks later.
+    pub(crate) fn put_off(&mut self, ticks: u32)
+        requires { self.old.due + ticks < 2 ^ 64 }
+        ensures { self.new ≡ due_again ticks self.old }
+    {
+        self.due += ticks as u64;
+    }
+
     /// Whether it is due by then.
-    pub(crate) fn is_due(&self, now: u64) -> bool
+    fn is_due(&self, now: u64) -> bool
         ensures { result ≡ is_due now self.now }
     {
         self.due <= now
     }
 
     /// Whether a process set it, and it is a timer of a mode or an outer one with an identification, 0 for any.
-    pub(crate) fn is_cancelled(&self, p: Pid, reqid: u32, mode: Mode) -> bool
+    fn is_cancelled(&self, p: Pid, reqid: u32, mode: Mode) -> bool
         ensures { result ≡ is_cancelled_timer p reqid mode self.now }
     {
         self.p.0 == p.0
@@ -153,7 +213,7 @@ impl<R: Routine> Due<R> {
     }
 
     /// Whether a process set it, and it is a timer of a mode or an outer one.
-    pub(crate) fn is_timer_in(&self, p: Pid, mode: Mode) -> bool
+    fn is_timer_in(&self, p: Pid, mode: Mode) -> bool
         ensures { result ≡ is_timer_in p mode self.now }
     {
         self.p.0 == p.0
@@ -172,7 +232,7 @@ impl<R: Routine> Due<R> {
     }
 
     /// Whether a process set it, and it is a wake.
-    pub(crate) fn is_wake_by(&self, p: Pid) -> bool
+    fn is_wake_by(&self, p: Pid) -> bool
         ensures { result ≡ is_wake_by p self.now }
     {
         self.p.0 == p.0
@@ -191,7 +251,7 @@ impl<R: Routine> Due<R> {
     }
 
     /// Whether it is a wake of a process.
-    pub(crate) fn is_wake_for(&self, q: Pid) -> bool
+    fn is_wake_for(&self, q: Pid) -> bool
         ensures { result ≡ is_wake_for q self.now }
     {
         match &self.what {

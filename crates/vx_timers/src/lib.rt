@@ -8,7 +8,5 @@
 mod due;
 mod timers;
 
-pub use due::{Due, What};
-pub use timers::{
-    Timers, first_due, least, take_cancelled, take_due, take_timer_in, take_wake_by, take_wake_for,
-};
+pub use due::{Due, Falls, What, Which};
+pub use timers::{Timers, first_due, least, put_off, take_first};

@@ -1,53 +1,24 @@
 //! The timers and scheduled wakes of all processes: one list, in the order of opening, which is that of ids.
 
-ghost use Rattle.std.specs.Prelude.{◌≡◌, ◌<◌, IfSome, length, option_map, position};
+ghost use Rattle.std.specs.Prelude.{◌≡◌, ◌+◌, ◌<◌, ◌^◌, IfSome, Some, length, option_map, position};
 ghost use Rattle.std.specs.List.{find};
-ghost use Rattle.vx_base.specs.Lists.{less};
+ghost use Rattle.vx_base.specs.Lists.{amend, less};
 ghost use Rattle.vx_base.specs.Queues.{least_due};
 ghost use Rattle.vx_base.specs.Roomy.{with_items};
-ghost use Rattle.vx_record.specs.Rundown.{is_timer_in, is_wake_by};
-ghost use Rattle.vx_record.specs.Timers.{is_cancelled_timer, is_due, is_wake_for};
-ghost use Rattle.vx_timers.specs.Seen.{lesser_of};
+ghost use Rattle.vx_record.specs.Timers.{due_again, is_due};
+ghost use Rattle.vx_timers.specs.Seen.{lesser_of, passes};
 
-use crate::due::Due;
-use vx_base::{Mode, Pid, Reserved, Routine, at_place};
+use crate::due::{Due, Which};
+use vx_base::{Reserved, Routine, at_place};
 
 /// The timers and scheduled wakes of all processes, in id order.
 pub type Timers<R> = Reserved<Due<R>>;
 
-fn place_due<R: Routine>(items: &[Due<R>], now: u64) -> Option<usize>
-    ensures place { result ≡ position (is_due now) items.now }
+fn place_first<R: Routine>(items: &[Due<R>], which: Which) -> Option<usize>
+    ensures place { result ≡ position (passes which) items.now }
     ensures within { IfSome result (λ i. i < length items.now) }
 {
-    items.iter().position(|d| d.is_due(now))
-}
-
-fn place_cancelled<R: Routine>(items: &[Due<R>], p: Pid, reqid: u32, mode: Mode) -> Option<usize>
-    ensures place { result ≡ position (is_cancelled_timer p reqid mode) items.now }
-    ensures within { IfSome result (λ i. i < length items.now) }
-{
-    items.iter().position(|d| d.is_cancelled(p, reqid, mode))
-}
-
-fn place_timer_in<R: Routine>(items: &[Due<R>], p: Pid, mode: Mode) -> Option<usize>
-    ensures place { result ≡ position (is_timer_in p mode) items.now }
-    ensures within { IfSome result (λ i. i < length items.now) }
-{
-    items.iter().position(|d| d.is_timer_in(p, mode))
-}
-
-fn place_wake_by<R: Routine>(items: &[Due<R>], p: Pid) -> Option<usize>
-    ensures place { result ≡ position (is_wake_by p) items.now }
-    ensures within { IfSome result (λ i. i < length items.now) }
-{
-    items.iter().position(|d| d.is_wake_by(p))
-}
-
-fn place_wake_for<R: Routine>(items: &[Due<R>], q: Pid) -> Option<usize>
-    ensures place { result ≡ position (is_wake_for q) items.now }
-    ensures within { IfSome result (λ i. i < length items.now) }
-{
-    items.iter().position(|d| d.is_wake_for(q))
+    items.iter().position(|d| d.passes(which))
 }
 
 /// The first entry that is due by then.
@@ -55,57 +26,27 @@ pub fn first_due<R: Routine>(timers: &Timers<R>, now: u64) -> Option<&Due<R>>
     ensures { option_map (λ d. d.now) result ≡ find (is_due now) timers.now.items }
 {
     let items = timers.as_slice();
-    at_place(items, place_due(items, now))
+    at_place(items, place_first(items, Which::Due(now)))
 }
 
-/// Takes out the first entry that is due by then.
-pub fn take_due<R: Routine>(timers: &mut Timers<R>, now: u64) -> Option<Due<R>>
-    ensures found { result ≡ find (is_due now) timers.old.items }
-    ensures after { timers.new ≡ with_items timers.old (less (is_due now) timers.old.items) }
+/// Takes out the first of those that are looked for.
+pub fn take_first<R: Routine>(timers: &mut Timers<R>, which: Which) -> Option<Due<R>>
+    ensures found { result ≡ find (passes which) timers.old.items }
+    ensures after { timers.new ≡ with_items timers.old (less (passes which) timers.old.items) }
 {
-    let place = place_due(timers.as_slice(), now);
+    let place = place_first(timers.as_slice(), which);
     timers.take(place)
 }
 
-/// Takes out the first timer of a process of a mode or an outer one, with an identification, 0 for any ($CANTIM).
-pub fn take_cancelled<R: Routine>(
-    timers: &mut Timers<R>,
-    p: Pid,
-    reqid: u32,
-    mode: Mode,
-) -> Option<Due<R>>
-    ensures found { result ≡ find (is_cancelled_timer p reqid mode) timers.old.items }
-    ensures after { timers.new ≡ with_items timers.old (less (is_cancelled_timer p reqid mode) timers.old.items) }
+/// The first entry that is due by then, if there is one, is due so many ticks later.
+pub fn put_off<R: Routine>(timers: &mut Timers<R>, now: u64, ticks: u32)
+    requires { now + ticks < 2 ^ 64 }
+    ensures { timers.new ≡ with_items timers.old (amend (is_due now) (due_again ticks) timers.old.items) }
 {
-    let place = place_cancelled(timers.as_slice(), p, reqid, mode);
-    timers.take(place)
-}
-
-/// Takes out the first timer of a process of a mode or an outer one.
-pub fn take_timer_in<R: Routine>(timers: &mut Timers<R>, p: Pid, mode: Mode) -> Option<Due<R>>
-    ensures found { result ≡ find (is_timer_in p mode) timers.old.items }
-    ensures after { timers.new ≡ with_items timers.old (less (is_timer_in p mode) timers.old.items) }
-{
-    let place = place_timer_in(timers.as_slice(), p, mode);
-    timers.take(place)
-}
-
-/// Takes out the first wake that a process set.
-pub fn take_wake_by<R: Routine>(timers: &mut Timers<R>, p: Pid) -> Option<Due<R>>
-    ensures found { result ≡ find (is_wake_by p) timers.old.items }
-    ensures after { timers.new ≡ with_items timers.old (less (is_wake_by p) timers.old.items) }
-{
-    let place = place_wake_by(timers.as_slice(), p);
-    timers.take(place)
-}
-
-/// Takes out the first wake of a process ($CANWAK).
-pub fn take_wake_for<R: Routine>(timers: &mut Timers<R>, q: Pid) -> Option<Due<R>>
-    ensures found { result ≡ find (is_wake_for q) timers.old.items }
-    ensures after { timers.new ≡ with_items timers.old (less (is_wake_for q) timers.old.items) }
-{
-    let place = place_wake_for(timers.as_slice(), q);
-    timers.take(place)
+    match place_first(timers.as_slice(), Which::Due(now)) {
+        Some(place) => timers.at_mut(place).put_off(ticks),
+        None => (),
+    }
 }
 
 // The lesser of two times, where the first may be missing.

@@ -2,7 +2,7 @@
 
 use std::test::*;
 use vx_base::{Id, Pid, Scripted};
-use vx_timers::{Due, Timers, What, least, take_due};
+use vx_timers::{Due, Timers, What, Which, least, take_first};
 
 #[test]
 fn the_least_due_time_comes_first(rt: HostRuntime) -> Result<(), Fail> {
@@ -16,7 +16,7 @@ fn the_least_due_time_comes_first(rt: HostRuntime) -> Result<(), Fail> {
         timers.put(Due::new(Id(id), Pid(1), due, wake));
     }
     assert_eq!(rt; least(&timers), Some(10));
-    let due = take_due(&mut timers, 10).ok_or("a wake")?;
+    let due = take_first(&mut timers, Which::Due(10)).ok_or("a wake")?;
     assert_eq!(rt; due.id(), Id(2));
     Ok(())
 }

@@ -6,22 +6,23 @@ use Rattle.vx_base.specs.Roomy.{Roomy}
 use Rattle.vx_base.specs.declared.number.Id.{Id}
 use Rattle.vx_base.specs.declared.number.Pid.{Pid}
 use Rattle.vx_record.specs.State.{State, IsProcess, change}
-use Rattle.vx_record.specs.Charges.{is_timer, takes_ast}
+use Rattle.vx_base.specs.Quotas.{is_within}
+use Rattle.vx_record.specs.Charges.{takes_ast}
 use Rattle.vx_record.specs.Timers.{is_due}
 use Rattle.vx_procs.specs.Kernel.{Kernel, with_state}
 use Rattle.vx_procs.specs.View.{kernel, process, room_of, state}
-use Rattle.vx_procs.specs.Words.{alarm_ast, moved_on, with_queued_if}
+use Rattle.vx_procs.specs.Words.{alarm_ast, fired_need, moved_on, with_queued_if}
 use Rattle.vx_timers.specs.Seen.{alarm_of}
 use Rattle.vx_procs.proofs.Changed.{found_in, stands, timers_as}
-use Rattle.vx_procs.proofs.Ops.{charged_tqe, held_fired, own_timer, place_free, same_timers}
+use Rattle.vx_procs.proofs.Ops.{charged_one, charged_tqe, held_fired, own_timer, place_free, same_timers, within_fired}
 use Rattle.vx_procs.proofs.procs.Core.fire.Goals as goal
 
 pub invariant_of-self : goal.invariant_of-self
-invariant_of-self g c = rw (same_timers (is_due c.args.now) c.self.inside.timers c.take_due.new.timers c.in_default.ensures.found c.in_default.ensures.after) c.self.invariant
+invariant_of-self g c = rw (same_timers (is_due c.args.now) c.self.inside.timers c.take_first.new.timers c.in_default.ensures.found c.in_default.ensures.after) c.self.invariant
 
 pub returns-in_default-clause-after : goal.returns-in_default-clause-after
 returns-in_default-clause-after g c =
-    let same = same_timers (is_due c.args.now) c.self.inside.timers c.take_due.new.timers c.in_default.ensures.found c.in_default.ensures.after in
+    let same = same_timers (is_due c.args.now) c.self.inside.timers c.take_first.new.timers c.in_default.ensures.found c.in_default.ensures.after in
     let k = c.args.self.now in
     ap (λ (ts : Roomy Timer). kernel (record c.self.inside { timers = ts })) same ∙ (c.self.view_is ∙ ap (λ (o : Option Timer). with_state k (moved_on k.state c.args.now o)) (found_in (is_due c.args.now) c.self.inside k None c.self.view_is c.in_default.ensures.found))
 
@@ -35,14 +36,16 @@ index_mut-requires g c =
     let own = own_timer (is_due c.args.now) c.self.inside c.in-Some.due c.self.invariant c.in-Some.ensures.found in
     omega (arith, stands c.self.inside c.in-Some.due.p own.made, ap (λ (x : Pid). x.0) c.p-p.ensures)
 
-pub fire-requires-clause-timer : goal.fire-requires-clause-timer
-fire-requires-clause-timer g c = subst (λ (a : Alarm). IsTrue (is_timer a)) (sym c.into_what.ensures) (own_timer (is_due c.args.now) c.self.inside c.in-Some.due c.self.invariant c.in-Some.ensures.found).timer
-
 pub fire-requires-clause-free : goal.fire-requires-clause-free
 fire-requires-clause-free g c = subst (λ (a : Alarm). length (process c.index_mut.result.now).asts + one (takes_ast a) ≤ (room_of c.index_mut.result.now).asts) (sym c.into_what.ensures) (place_free (is_due c.args.now) c.self.inside c.p-p.result c.in-Some.due c.index_mut.result.now c.self.invariant c.in-Some.ensures.found (sym c.p-p.ensures) c.index_mut.ensures.value)
 
 pub fire-requires-clause-charged : goal.fire-requires-clause-charged
-fire-requires-clause-charged g c = charged_tqe (is_due c.args.now) c.self.inside c.p-p.result c.in-Some.due c.index_mut.result.now c.self.invariant c.in-Some.ensures.found (sym c.p-p.ensures) c.index_mut.ensures.value
+fire-requires-clause-charged g c =
+    let t = c.in-Some.due in
+    let r = c.index_mut.result.now in
+    subst (λ (a : Alarm). IsTrue (is_within (fired_need a) r.account.used)) (sym c.into_what.ensures) (within_fired t.what r.account.used
+    (charged_one (is_due c.args.now) c.self.inside c.p-p.result t r c.self.invariant c.in-Some.ensures.found (sym c.p-p.ensures) c.index_mut.ensures.value)
+    (charged_tqe (is_due c.args.now) c.self.inside c.p-p.result t r c.self.invariant c.in-Some.ensures.found (sym c.p-p.ensures) c.index_mut.ensures.value))
 
 pub invariant_of-self-2 : goal.invariant_of-self-2
 invariant_of-self-2 g c =
