@@ -8,6 +8,7 @@
 
 mod asts;
 mod control;
+mod create;
 mod flags;
 mod modes;
 mod refused;
@@ -17,6 +18,7 @@ mod waits;
 
 pub use asts::{dclast, setast};
 pub use control::{forcex, resume, suspnd, wake};
+pub use create::creprc;
 pub use flags::{clref, readef, setef};
 pub use modes::{cmexec, cmkrnl};
 pub use refused::Refused;

@@ -1,6 +1,7 @@
 pub mod Bare
 pub mod Booked
 pub mod Changed
+pub mod Created
 pub mod FirstProcs
 pub mod Firsts
 pub mod Ops

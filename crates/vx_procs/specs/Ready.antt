@@ -33,6 +33,10 @@ pub record HasSpare (k : Kernel) (p : Pid) : Type 0 where
 abbrev pub HasSpares : Kernel → Type 0
 HasSpares k = (p : Pid) → IsProcess k.state p → HasSpare k p
 
+-- there is a spare process
+abbrev pub HasNewcomer : Kernel → Type 0
+HasNewcomer k = length k.state.procs < length k.rooms
+
 -- the I/O status block that a wait names is one that a process has, or none
 abbrev pub FitsBlock : Wait → Type 0
 FitsBlock (wait.Flags efn mask all) = Unit {0}
@@ -64,7 +68,7 @@ pub record IsBare (s : State) : Type 0 where
   pub timers : AllByRecursion (λ t. IsTrue (is_timer t.what)) s.timers
   pub procs : AllByRecursion IsBareProcess s.procs
 
--- The process is there, with its image; there is a spare of each kind, an id left, and a time that can be counted on; nothing is
+-- The process is there, with its image; there is a spare of each kind, a process among them, an id left, and a time that can be counted on; nothing is
 -- open that is not built.
 pub record IsReady (k : Kernel) (p : Pid) : Type 0 where
   pub made : IsProcess k.state p
@@ -74,6 +78,7 @@ pub record IsReady (k : Kernel) (p : Pid) : Type 0 where
   pub kept : IsKept k.state.next k.state.timers (process_at k.state p)
   pub spares : HasSpares k
   pub timer : length k.state.timers + 1 ≤ k.timers
+  pub newcomer : HasNewcomer k
   pub ids : k.state.next < 4294967295
   pub time : k.state.time < 2 ^ 63
   pub bare : IsBare k.state

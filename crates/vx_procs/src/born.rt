@@ -57,6 +57,7 @@ impl<R: Routine> Core<R> {
             time: 0,
             next: 1,
             procs,
+            spare: None,
             timers: Reserved::new(alloc),
             log: Effects::new(alloc),
             short: None,

@@ -11,7 +11,9 @@
 #![tactic(auto)]
 
 mod born;
+mod create;
 mod frames;
+mod newcomer;
 mod process;
 mod procs;
 mod reads;
