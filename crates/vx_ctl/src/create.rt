@@ -26,6 +26,6 @@ pub fn creprc<R: Routine>(core: &mut Core<R>, p: Pid, place: u32) -> Result<u32,
     }
     let name = core.declared_name(place);
     let number = core.create(p, place);
-    core.tell(Effect::New(number, name));
+    core.tell(Effect::New { p: number, name });
     Ok(number.0)
 }
