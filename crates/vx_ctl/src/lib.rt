@@ -9,6 +9,7 @@
 mod asts;
 mod clusters;
 mod control;
+mod create;
 mod flags;
 mod modes;
 mod refused;
@@ -19,6 +20,7 @@ mod waits;
 pub use asts::{dclast, setast};
 pub use clusters::{ascefc, dacefc, dlcefc};
 pub use control::{forcex, resume, suspnd, wake};
+pub use create::creprc;
 pub use flags::{clref, readef, setef};
 pub use modes::{cmexec, cmkrnl};
 pub use refused::Refused;

@@ -2,6 +2,7 @@
 use Rattle.std.proofs.Common.{◌≡◌, ◌≢◌, ℕ, zero, suc, ◌+◌, ◌-◌, ◌≤◌, length, List, [], ◌∷◌, ◌++◌, Bool, true, false, cond, not, ◌==◌, ◌&&◌, map, slice_index_or, slice_set, Option, Some, None, arith, refl, sym, ap, ◌∙◌}
 use Rattle.std.specs.List.{find}
 use Rattle.std.proofs.lemmas.Bool.{eq-eqb, eqb-true}
+use Rattle.std.proofs.lemmas.List.{get_or_append_left, length-map}
 use Rattle.vx_base.specs.Flags.{one}
 use Rattle.vx_base.specs.Lists.{amend, less, tally}
 use Rattle.vx_base.specs.Pieces.{Queued, Timer}
@@ -13,10 +14,10 @@ use Rattle.vx_record.proofs.Lists.{either, false_from}
 use Rattle.vx_procs.specs.Held.{Books, IsBooked, books_at, no_books, spare}
 use Rattle.vx_procs.specs.Kernel.{Room, no_room, room_at}
 use Rattle.vx_procs.specs.Ready.{HasSpares, owed}
-use Rattle.vx_procs.specs.View.{kernel, books, books_of, room_of, state}
+use Rattle.vx_procs.specs.View.{kernel, newcomers, books, books_of, room_of, state}
 use Rattle.vx_procs.specs.declared.procs.Core.TheInside.{Inside}
 use Rattle.vx_procs.specs.declared.process.Proc.{Proc}
-use Rattle.vx_procs.proofs.Changed.{put_there}
+use Rattle.vx_procs.proofs.Changed.{put_there, stands}
 
 -- Tallies.
 
@@ -62,8 +63,9 @@ rooms_books [] i = refl
 rooms_books (x ∷ xs) zero = refl
 rooms_books (x ∷ xs) (suc i) = rooms_books xs i
 
-pub room_books : {R : Type 0} (c : Inside R) (q : Pid) → room_at (kernel c) q ≡ (books_at (books c) q).room
-room_books c q = rooms_books c.procs.items (q.0 - 1)
+pub room_books : {R : Type 0} (c : Inside R) (q : Pid) → IsProcess (state c) q → room_at (kernel c) q ≡ (books_at (books c) q).room
+room_books c q made =
+    get_or_append_left (map room_of c.procs.items) (newcomers c) no_room (q.0 - 1) (omega (arith, stands c q made, length-map c.procs.items room_of)) ∙ rooms_books c.procs.items (q.0 - 1)
 
 -- Amounts.
 
@@ -125,7 +127,7 @@ pub spared : {R : Type 0} (c : Inside R) (after : Option Pid) (q : Pid) → HasS
 spared c after q spares made =
     let has = spares q made in
     let few = spare_few after q in
-    (omega (arith, has.frame, few, ap (λ (r : Room). r.frames) (room_books c q)), omega (arith, has.ast, few, ap (λ (r : Room). r.asts) (room_books c q)))
+    (omega (arith, has.frame, few, ap (λ (r : Room). r.frames) (room_books c q made)), omega (arith, has.ast, few, ap (λ (r : Room). r.asts) (room_books c q made)))
 
 -- a timer of p is none of another's
 pub apart : (p q : Pid) (b : Bool) → q.0 ≢ p.0 → (is_same p q && b) ≡ false

@@ -1,5 +1,5 @@
 -- One process changed in the code is that process changed in the value, and what is held stays held.
-use Rattle.std.proofs.Common.{◌≡◌, ◌≢◌, ℕ, ◌+◌, ◌-◌, ◌<◌, ◌≤◌, length, List, Bool, map, slice_index_or, slice_set, Option, IfSome, inl, inr, get_or-set_same, get_or-set_other, length-set, arith, refl, sym, ap, subst, ◌∙◌}
+use Rattle.std.proofs.Common.{◌≡◌, ◌≢◌, ℕ, ◌+◌, ◌-◌, ◌<◌, ◌≤◌, length, List, ◌++◌, Bool, map, slice_index_or, slice_set, Option, IfSome, inl, inr, get_or-set_same, get_or-set_other, length-set, arith, refl, sym, ap, subst, ◌∙◌}
 use Rattle.std.specs.List.{AllByRecursion, find}
 use Rattle.std.proofs.lemmas.Bool.{cases_eq}
 use Rattle.std.proofs.lemmas.List.{map-set, get_or-map, length-map, set-get_or}
@@ -15,7 +15,7 @@ use Rattle.vx_record.proofs.Lists.{all_weaker}
 use Rattle.vx_record.proofs.Ground.{some_weaker}
 use Rattle.vx_procs.specs.Held.{AreHeld, Books, IsBooked, IsOwn, IsTargetMade, books_at, no_books}
 use Rattle.vx_procs.specs.Kernel.{Kernel, Room, changed, with_state}
-use Rattle.vx_procs.specs.View.{process, state, kernel, books, room_of, books_of, IsHeld}
+use Rattle.vx_procs.specs.View.{process, state, kernel, newcomers, books, room_of, books_of, IsHeld}
 use Rattle.vx_procs.specs.declared.procs.Core.TheInside.{Inside}
 use Rattle.vx_procs.specs.declared.process.Proc.{Proc}
 
@@ -39,8 +39,8 @@ changed_here : {R : Type 0} (f : Process → Process) (c : Inside R) (p : Pid) (
 changed_here f c p r new made is e room =
     let procs : map process (slice_set c.procs.items (p.0 - 1) new) ≡ (change (state c) p f).procs = map-set process c.procs.items (p.0 - 1) new ∙ ap (slice_set (map process c.procs.items) (p.0 - 1)) (e ∙ ap f (seen c p r made is)) in
     let rooms : map room_of (slice_set c.procs.items (p.0 - 1) new) ≡ map room_of c.procs.items = map-set_same room_of c.procs.items (p.0 - 1) new r (room ∙ ap room_of is) in
-    ap (λ (ps : List Process). record (kernel c) { state = record (state c) { procs = ps }; rooms = map room_of (slice_set c.procs.items (p.0 - 1) new) }) procs
-    ∙ ap (λ (rs : List Room). record (kernel c) { state = change (state c) p f; rooms = rs }) rooms
+    ap (λ (ps : List Process). record (kernel c) { state = record (state c) { procs = ps }; rooms = map room_of (slice_set c.procs.items (p.0 - 1) new) ++ newcomers c }) procs
+    ∙ ap (λ (rs : List Room). record (kernel c) { state = change (state c) p f; rooms = rs ++ newcomers c }) rooms
 
 pub changed_as : {R : Type 0} (f : Process → Process) (c : Inside R) (k : Kernel) (p : Pid) (r new : Proc R) → kernel c ≡ k → IsProcess k.state p → r ≡ slice_index_or c.procs.items (p.0 - 1) r → process new ≡ f (process r) → books_of new ≡ books_of r → kernel (record c { procs = with_item c.procs (p.0 - 1) new }) ≡ changed k p f
 changed_as f c k p r new view made is e same =

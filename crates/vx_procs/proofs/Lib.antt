@@ -3,6 +3,7 @@ pub mod Booked
 pub mod Cells
 pub mod Changed
 pub mod Ended
+pub mod Created
 pub mod FirstProcs
 pub mod Firsts
 pub mod Moments

@@ -46,7 +46,7 @@ spares_here : {R : Type 0} (c : Inside R) (p : Pid) (r : Proc R) → HasSpares (
 spares_here c p r spares made is =
     let has = spares p made in
     let was = seen c p r made is in
-    let rooms : room_at (kernel c) p ≡ room_of r = room_books c p ∙ ap (λ (b : Books). b.room) (sym (seen_books c p r made is)) in
+    let rooms : room_at (kernel c) p ≡ room_of r = room_books c p made ∙ ap (λ (b : Books). b.room) (sym (seen_books c p r made is)) in
     (omega (arith, has.frame, ap (λ (x : Room). x.frames) rooms, ap (λ (x : Process). length x.frames) was), omega (arith, has.ast, ap (λ (x : Room). x.asts) rooms, ap (λ (x : Process). length x.asts) was))
 
 -- what the process is charged, as the code sees it
@@ -524,7 +524,7 @@ pub spares_none : {R : Type 0} (c : Inside R) (k : Kernel) → kernel c ≡ k �
 spares_none c k view none h =
     let here : HasSpares (kernel c) = λ q m.
     let b = subst (λ (o : Option Pid). IsBooked (state c) o q (books_at (books c) q)) none (h.booked q m) in
-    record { frame = omega (arith, b.frames, ap (λ (x : Room). x.frames) (room_books c q)); ast = omega (arith, b.asts, ap (λ (x : Room). x.asts) (room_books c q)) } in
+    record { frame = omega (arith, b.frames, ap (λ (x : Room). x.frames) (room_books c q m)); ast = omega (arith, b.asts, ap (λ (x : Room). x.asts) (room_books c q m)) } in
     subst (λ (x : Kernel). HasSpares x) view here
 
 pub held_roomier : {R : Type 0} (c : Inside R) (p : Pid) (r new : Proc R) → c.short ≡ Some p → r ≡ slice_index_or c.procs.items (p.0 - 1) r → process new ≡ process r → new.account ≡ r.account → IsWithinRoom (room_of r) (room_of new) → IsHeld c → IsHeld (record c { procs = with_item c.procs (p.0 - 1) new })

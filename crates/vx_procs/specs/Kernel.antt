@@ -19,8 +19,8 @@ pub record IsWithinRoom (a b : Room) : Type 0 where
   pub frames : a.frames ≤ b.frames
   pub asts : a.asts ≤ b.asts
 
--- the state; the effects so far; the room of each process, in number order; and for how many timers, common clusters and
--- associations with them there is room in all
+-- the state; the effects so far; the room of each process, in number order, and then of the spare process, if there is one; and for
+-- how many timers, common clusters and associations with them there is room in all
 pub record Kernel : Type 0 where
   pub state : State
   pub log : Log

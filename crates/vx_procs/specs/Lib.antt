@@ -4,5 +4,6 @@ pub mod Fresh
 pub mod Held
 pub mod Kernel
 pub mod Ready
+pub mod Unused
 pub mod View
 pub mod Words

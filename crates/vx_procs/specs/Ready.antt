@@ -29,6 +29,10 @@ pub record HasSpare (k : Kernel) (p : Pid) : Type 0 where
 abbrev pub HasSpares : Kernel → Type 0
 HasSpares k = (p : Pid) → IsProcess k.state p → HasSpare k p
 
+-- there is a spare process
+abbrev pub HasNewcomer : Kernel → Type 0
+HasNewcomer k = length k.state.procs < length k.rooms
+
 -- a process has no channel and no exit handler
 pub record IsBareProcess (pr : Process) : Type 0 where
   pub channels : (m : Mode) → channels_of m pr.channels ≡ []
@@ -45,8 +49,8 @@ pub record IsMoment (s : State) (now : ℕ) : Type 0 where
   pub soon : now < s.time + 4294967296
   pub ahead : AllByRecursion (λ t. now ≤ t.due) s.timers
 
--- The process is there, with its image; there is a spare of each kind, an id left, and a time that can be counted on; nothing is
--- open that is not built.
+-- The process is there, with its image; there is a spare of each kind, a process among them, an id left, and a time that can be
+-- counted on; nothing is open that is not built.
 pub record IsReady (k : Kernel) (p : Pid) : Type 0 where
   pub made : IsProcess k.state p
   pub declared : HasDecl k.state p
@@ -56,6 +60,7 @@ pub record IsReady (k : Kernel) (p : Pid) : Type 0 where
   pub timer : length k.state.timers + 1 ≤ k.timers
   pub cluster : length k.state.common.clusters + 1 ≤ k.clusters
   pub association : length k.state.common.associations + 1 ≤ k.associations
+  pub newcomer : HasNewcomer k
   pub ids : k.state.next < 4294967295
   pub time : k.state.time < 2 ^ 63
   pub bare : IsBare k.state

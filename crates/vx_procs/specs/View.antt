@@ -1,5 +1,5 @@
 -- What the processes of the code stand for.
-use Rattle.std.specs.Prelude.{List, [], None, map, replicate}
+use Rattle.std.specs.Prelude.{List, [], ◌++◌, nat_lt, if◌then◌else◌, None, map, option_to_list, replicate, vec_len, vec_capacity}
 use Rattle.vx_image.specs.Units.{first_unit}
 use Rattle.vx_record.specs.State.{Process, State}
 use Rattle.vx_procs.specs.Kernel.{Kernel, Room}
@@ -50,11 +50,15 @@ state c = record {
   units = map first_unit c.system.units;
 }
 
+-- the room of the spare process, if there is one and a place for it
+abbrev pub newcomers : {R : Type 0} → Inside R → List Room
+newcomers c = if nat_lt (vec_len c.procs) (vec_capacity c.procs) then option_to_list c.spare else []
+
 abbrev pub kernel : {R : Type 0} → Inside R → Kernel
 kernel c = record {
   state = state c;
   log = c.log;
-  rooms = map room_of c.procs.items;
+  rooms = map room_of c.procs.items ++ newcomers c;
   timers = c.timers.capacity;
   clusters = c.clusters.cluster_capacity;
   associations = c.clusters.association_capacity;

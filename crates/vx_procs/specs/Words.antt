@@ -18,7 +18,9 @@ use Rattle.vx_image.specs.declared.decl.ProcDecl.{ProcDecl}
 use Rattle.vx_image.specs.declared.image.Image.{Image}
 use Rattle.vx_image.specs.declared.stop.Stop.TheVariants as stop
 use Rattle.vx_image.specs.declared.system.System.{System}
-use Rattle.vx_record.specs.State.{Process, State, IsWithin, process_at, change, decl_of, image_of, no_decl, no_image}
+use Rattle.vx_record.specs.State.{Process, State, IsWithin, process_at, change, decl_of, image_of, no_decl, no_image, top_mode}
+use Rattle.vx_record.specs.Control.{created, held_by_both}
+use Rattle.vx_base.specs.Modes.{outer}
 use Rattle.vx_record.specs.Asts.{charged_ast, deliverable_at, with_queued}
 use Rattle.vx_record.specs.Charges.{ast_need, is_timer, takes_ast, timer_need}
 use Rattle.vx_record.specs.Timers.{due_again, is_due}
@@ -32,6 +34,14 @@ use Rattle.vx_timers.specs.declared.due.Falls.TheVariants as falls
 -- the process of a declaration at a place, where it is there from the start
 abbrev pub born_if_started : ℕ → ProcDecl → List Process
 born_if_started place d = if d.start then born_of place d ∷ [] else []
+
+-- a declaration as a creator hands it on: with its group and member, no privilege that it lacks, and no inner mode
+abbrev pub handed_on : Process → ProcDecl → ProcDecl
+handed_on pr d = record d { group = pr.group; member = pr.member; privs = held_by_both pr.privs d.privs; mode = outer d.mode (top_mode pr.frames) }
+
+-- the state with one process more
+abbrev pub with_created : State → Pid → ℕ → State
+with_created s p place = record s { procs = s.procs ++ created s p place ∷ [] }
 
 -- the AST of a process that may start: none where it is suspended or has no frame
 abbrev pub deliverable_of : Process → Option Queued

@@ -59,6 +59,7 @@ impl<R: Routine> Core<R> {
             next: 1,
             procs,
             clusters: Clusters::new(alloc),
+            spare: None,
             timers: Reserved::new(alloc),
             log: Effects::new(alloc),
             short: None,

@@ -13,7 +13,9 @@
 
 mod born;
 mod clusters;
+mod create;
 mod frames;
+mod newcomer;
 mod process;
 mod procs;
 mod reads;

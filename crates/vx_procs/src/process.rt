@@ -1,12 +1,10 @@
 //! One process, as it is kept.
 
-ghost use Rattle.std.specs.Prelude.{◌≡◌, ◌+◌, ◌<◌, ◌≤◌, ◌∷◌, [], false, not, None, IfOk, OnOk, IsTrue, is_some, length, option_map};
+ghost use Rattle.std.specs.Prelude.{◌≡◌, ◌+◌, ◌<◌, ◌≤◌, false, not, None, OnOk, IsTrue, is_some, length, option_map};
 ghost use Rattle.std.specs.List.{find};
 ghost use Rattle.vx_base.specs.Flags.{one, with_flag};
-ghost use Rattle.vx_base.specs.Pieces.{all_on};
 ghost use Rattle.vx_base.specs.Quotas.{is_within};
 ghost use Rattle.vx_base.specs.Log.{HasRoom, logged};
-ghost use Rattle.vx_base.specs.declared.frame.FrameKind.TheVariants.{Main};
 ghost use Rattle.vx_image.specs.WellFormed.{IsImage};
 ghost use Rattle.vx_record.specs.Asts.{with_queued};
 ghost use Rattle.vx_record.specs.Charges.{ast_need, takes_ast, timer_need};
@@ -14,25 +12,21 @@ ghost use Rattle.vx_quota.specs.Account.{charged, has_left, released};
 ghost use Rattle.vx_timers.specs.Seen.{alarm_of};
 ghost use Rattle.vx_record.specs.Events.{put_back, resumed_with, uses_wake};
 ghost use Rattle.vx_record.specs.Flags.{with_local_flag};
-ghost use Rattle.vx_record.specs.Runs.{born_of};
 ghost use Rattle.vx_record.specs.State.{top_mode};
 ghost use Rattle.vx_record.specs.Rundown.{is_ast_reached, leaving, without_frames};
 ghost use Rattle.vx_procs.specs.View.{books_of, process, room_of};
-ghost use Rattle.vx_procs.specs.Fresh.{IsBlank};
 ghost use Rattle.vx_procs.specs.Kernel.{IsWithinRoom};
 ghost use Rattle.vx_procs.specs.Counts.{CountsAsts, freed};
 ghost use Rattle.vx_procs.specs.Words.{advanced_of, alarm_ast, alarm_need, deliverable_of, fired_need, have_own_ids, left, moved_as, with_queued_if, without_reached, without_started};
 
 use crate::frames::{leave_all, place_top, wait_at_top};
-use std::alloc::Global;
 use vx_ast::{AstQueue, Delivery};
 use vx_base::{
-    Cond, Effects, Frame, FrameKind, Id, Mode, Need, NoMemory, Phase, Pid, Privs, Routine, Target,
-    Wait,
+    Cond, Effects, Id, Mode, Need, NoMemory, Phase, Pid, Privs, Routine, Target, Wait,
 };
 use vx_flags::Flags;
 use vx_frames::Frames;
-use vx_image::{Image, ProcDecl, Stop, Store, advance};
+use vx_image::{Image, Stop, Store, advance};
 use vx_quota::Account;
 use vx_timers::{Due, What};
 
@@ -56,43 +50,6 @@ pub(crate) struct Proc<R: Routine> {
     pub(crate) exit_code: u32,
     pub(crate) phase: Phase,
     pub(crate) account: Account,
-}
-
-// The frame of a process before its first statement.
-fn main_frame(mode: Mode) -> Frame
-    ensures { result ≡ record { kind = Main; mode = mode; pc = 0; prm = 0; saved_r0 = 0; wait = None } }
-{
-    Frame {
-        kind: FrameKind::Main,
-        mode,
-        pc: 0,
-        prm: 0,
-        saved_r0: 0,
-        wait: None,
-    }
-}
-
-// The one frame of a new process, with room for another.
-fn first_frames(alloc: Global, mode: Mode) -> Result<Frames, NoMemory>
-    ensures items { IfOk result (λ frames. frames.items ≡ record { kind = Main; mode = mode; pc = 0; prm = 0; saved_r0 = 0; wait = None } ∷ []) }
-    ensures spare { IfOk result (λ frames. length frames.items + 1 ≤ frames.capacity) }
-{
-    let mut frames = Frames::new(alloc);
-    frames.reserve()?;
-    frames.push(main_frame(mode));
-    frames.reserve()?;
-    Ok(frames)
-}
-
-// No queued ASTs, with room for one.
-fn first_asts<R: Routine>(alloc: Global) -> Result<AstQueue<R>, NoMemory>
-    ensures items { IfOk result (λ asts. asts.items ≡ []) }
-    ensures enables { IfOk result (λ asts. asts.enables ≡ all_on) }
-    ensures spare { IfOk result (λ asts. 1 ≤ asts.capacity) }
-{
-    let mut asts = AstQueue::new(alloc);
-    asts.reserve(1)?;
-    Ok(asts)
 }
 
 /// What a timer needs, with an AST or without.
@@ -144,30 +101,6 @@ fn put_flag(flags: &mut Flags, n: u8, on: bool)
 }
 
 impl<R: Routine> Proc<R> {
-    /// A process of the declaration at a place, before its first statement.
-    pub(crate) fn created(alloc: Global, place: u32, decl: &ProcDecl) -> Result<Proc<R>, NoMemory>
-        ensures process { IfOk result (λ proc. process proc ≡ born_of place decl.now) }
-        ensures fresh { IfOk result (λ proc. IsBlank decl.now.limits proc) }
-    {
-        Ok(Proc {
-            decl: place,
-            group: decl.group,
-            member: decl.member,
-            privs: decl.privs,
-            store: Store::new(alloc)?,
-            frames: first_frames(alloc, decl.mode)?,
-            asts: first_asts(alloc)?,
-            cluster_0: Flags::new(),
-            cluster_1: Flags::new(),
-            wake_pending: false,
-            suspended: false,
-            delete_pending: false,
-            exit_code: 0,
-            phase: Phase::Alive,
-            account: Account::new(decl.limits),
-        })
-    }
-
     /// The mode of its top frame, user mode where it has none.
     pub(crate) fn mode(&self) -> Mode
         ensures { result ≡ top_mode (process self.now).frames }

@@ -3,8 +3,9 @@
 ghost use Rattle.std.specs.Prelude.{◌≡◌, ◌+◌, ◌<◌, ◌≤◌, ◌^◌, [], ◌∷◌, OnOk, length};
 ghost use Rattle.vx_base.specs.Log.{HasRoom};
 ghost use Rattle.vx_procs.specs.Kernel.{Fits, told};
-ghost use Rattle.vx_procs.specs.Ready.{HasSpares, IsBare};
+ghost use Rattle.vx_procs.specs.Ready.{HasNewcomer, HasSpares, IsBare};
 
+use crate::newcomer::Newcomer;
 use crate::process::Proc;
 use std::alloc::Global;
 use std::marker::Model;
@@ -27,6 +28,8 @@ pub struct Core<R: Routine> {
     pub(crate) next: u32,
     pub(crate) procs: Vec<Proc<R>>,
     pub(crate) clusters: Clusters,
+    // what the next process takes memory for, if it is made
+    pub(crate) spare: Option<Newcomer<R>>,
     pub(crate) timers: Timers<R>,
     pub(crate) log: Effects,
     // the process whose spares may have been used since they were made
@@ -47,14 +50,16 @@ impl<R: Routine> Model for Core<R> {
 }
 
 impl<R: Routine> Core<R> {
-    /// Makes good what spare room the last event used, and makes room for a timer, a cluster and an association more and for as
-    /// many effects as are told. Nothing that the state says is changed, even where memory is short. (A time beyond 2^63 has no room for timers either.)
+    /// Makes good what spare room the last event used, and makes room for a timer, a process, a cluster and an association more and
+    /// for as many effects as are told. Nothing that the state says is changed, even where memory is short. (A time beyond 2^63 has
+    /// no room for timers either.)
     pub fn begin(&mut self, effects: u32) -> Result<(), NoMemory>
         ensures same { self.new.state ≡ self.old.state }
         ensures spares { OnOk result (HasSpares self.new) }
         ensures timer { OnOk result (length self.new.state.timers + 1 ≤ self.new.timers) }
         ensures cluster { OnOk result (length self.new.state.common.clusters + 1 ≤ self.new.clusters) }
         ensures association { OnOk result (length self.new.state.common.associations + 1 ≤ self.new.associations) }
+        ensures newcomer { OnOk result (HasNewcomer self.new) }
         ensures empty { OnOk result (self.new.log.items ≡ []) }
         ensures room { OnOk result (HasRoom self.new.log effects) }
         ensures time { OnOk result (self.new.state.time < 2 ^ 63) }
@@ -67,8 +72,25 @@ impl<R: Routine> Core<R> {
         log.reserve(effects)?;
         self.timers.reserve(1)?;
         self.clusters.reserve()?;
+        self.make_spare()?;
         self.mend()?;
         self.log = log;
+        Ok(())
+    }
+
+    // Makes a spare process and a place for it, if they are missing.
+    fn make_spare(&mut self) -> Result<(), NoMemory>
+        ensures same { self.new.state ≡ self.old.state }
+        ensures timers { self.new.timers ≡ self.old.timers }
+        ensures clusters { self.new.clusters ≡ self.old.clusters }
+        ensures associations { self.new.associations ≡ self.old.associations }
+        ensures newcomer { OnOk result (HasNewcomer self.new) }
+    {
+        self.procs.reserve(1)?;
+        if self.spare.is_some() {
+            return Ok(());
+        }
+        self.spare = Some(Newcomer::new(self.alloc)?);
         Ok(())
     }
 
@@ -78,6 +100,7 @@ impl<R: Routine> Core<R> {
         ensures timers { self.new.timers ≡ self.old.timers }
         ensures clusters { self.new.clusters ≡ self.old.clusters }
         ensures associations { self.new.associations ≡ self.old.associations }
+        ensures rooms { length self.new.rooms ≡ length self.old.rooms }
         ensures spares { OnOk result (HasSpares self.new) }
     {
         let Some(p) = self.short else {

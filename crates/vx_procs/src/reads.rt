@@ -9,7 +9,7 @@ ghost use Rattle.vx_base.specs.Frames.{active_mode};
 ghost use Rattle.vx_record.specs.State.{IsProcess, process_at, decl_of, image_of, limits_of, current};
 ghost use Rattle.vx_record.specs.Asts.{deliverable_ast, entry_place, entry_prm, new_frame};
 ghost use Rattle.vx_record.specs.Charges.{exceeds};
-ghost use Rattle.vx_record.specs.Control.{is_deleted};
+ghost use Rattle.vx_record.specs.Control.{decl_at, is_deleted};
 ghost use Rattle.vx_record.specs.Events.{r0_of};
 ghost use Rattle.vx_record.specs.Flags.{is_filled};
 ghost use Rattle.vx_record.specs.Rundown.{is_busy};
@@ -18,11 +18,13 @@ ghost use Rattle.vx_procs.specs.Words.{decl_in, image_in, HasDecl, HasImage};
 
 use crate::process::Proc;
 use crate::procs::Core;
-use vx_base::{Entry, Frame, FrameKind, Id, Mode, Need, Phase, Pid, Privs, Routine, Target};
+use vx_base::{
+    Entry, Frame, FrameKind, Id, Mode, Name, Need, Phase, Pid, Privs, Routine, Target,
+};
 use vx_image::{Image, ProcDecl, System};
 
-// The process declaration at a place, from 0.
-fn decl_in(system: &System, place: u32) -> &ProcDecl
+/// The process declaration at a place, from 0.
+pub(crate) fn decl_in(system: &System, place: u32) -> &ProcDecl
     requires { place < length system.now.decls }
     ensures { result.now ≡ decl_in system.now place }
 {
@@ -72,6 +74,14 @@ impl<R: Routine> Core<R> {
         ensures { process result.now ≡ process_at self.now.state p }
     {
         &self.procs[p.0 as usize - 1]
+    }
+
+    /// The name of the declaration at a place, from 0.
+    pub fn declared_name(&self, place: u32) -> Name
+        requires { place < length self.now.state.system.decls }
+        ensures { result ≡ (decl_at self.now.state place).name }
+    {
+        decl_in(&self.system, place).name
     }
 
     /// The declaration of a process.
