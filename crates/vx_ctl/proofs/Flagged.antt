@@ -1,17 +1,19 @@
 -- An event flag that is set or cleared leaves processes, their rooms and charges, and timers as they were.
-use Rattle.std.proofs.Common.{◌≡◌, ℕ, ◌+◌, ◌-◌, ◌≤◌, List, Bool, length, length-set, not, slice_index_or, refl, ap, ◌∙◌, arith}
+use Rattle.std.proofs.Common.{◌≡◌, ℕ, ◌+◌, ◌-◌, ◌≤◌, List, [], ◌∷◌, Bool, length, length-set, not, slice_index_or, refl, ap, sym, subst, ◌∙◌, arith}
 use Rattle.vx_base.specs.Lists.{tally}
 use Rattle.vx_base.specs.Pieces.{Queued}
 use Rattle.vx_base.specs.Quotas.{is_within, together}
 use Rattle.vx_base.specs.declared.effects.Cell.{Cell}
 use Rattle.vx_base.specs.declared.effects.Cell.TheVariants.{Local, Common}
+use Rattle.vx_base.specs.declared.effects.Effect.{Effect}
+use Rattle.vx_base.specs.declared.effects.Effect.TheVariants as effect
 use Rattle.vx_base.specs.declared.number.Pid.{Pid}
 use Rattle.vx_base.specs.declared.quota.Need.{Need}
 use Rattle.vx_record.specs.Charges.{bears_ast, charge, charged_timer, exceeds, is_attention_of, is_charged}
-use Rattle.vx_record.specs.Flags.{with_cell, with_local_flag}
+use Rattle.vx_record.specs.Flags.{flag_part, with_cell, with_local_flag}
 use Rattle.vx_record.specs.State.{Process, State, IsProcess, change, limits_of, no_decl, nobody, process_at}
 use Rattle.vx_record.proofs.Ground.{at_set}
-use Rattle.vx_procs.specs.Kernel.{Kernel, with_state}
+use Rattle.vx_procs.specs.Kernel.{Acts, Kernel, told, with_state}
 use Rattle.vx_procs.specs.Ready.{HasSpares}
 use Rattle.vx_procs.proofs.Changed.{IsQuiet}
 use Rattle.vx_procs.proofs.Quiet.{flag_quiet}
@@ -25,16 +27,19 @@ pub flagged_made : (s : State) (c : Cell) (on : Bool) (p : Pid) → IsProcess s 
 flagged_made s (Local q n) on p made = record { above = made.above; within = omega (arith, made.within, length-set s.procs (q.0 - 1) (with_local_flag n on (process_at s q))) }
 flagged_made s (Common group name n) on p made = record { above = made.above; within = made.within }
 
-pub flagged_spares : (k : Kernel) (c : Cell) (on : Bool) → HasSpares k → HasSpares (with_state k (with_cell k.state c on))
-flagged_spares k (Local q n) on spares = λ p made.
+spares_by : (k : Kernel) (c : Cell) (on : Bool) (told_of : List Effect) → HasSpares k → HasSpares (told (with_state k (with_cell k.state c on)) told_of)
+spares_by k (Local q n) on told_of spares = λ p made.
     let s = k.state in
     let was : IsProcess s p = record { above = made.above; within = omega (arith, made.within, length-set s.procs (q.0 - 1) (with_local_flag n on (process_at s q))) } in
     let has = spares p was in
     let quiet = flag_at s q p n on in
     record { frame = omega (arith, has.frame, quiet.frames); ast = omega (arith, has.ast, ap (λ (qs : List Queued). length qs) quiet.asts) }
-flagged_spares k (Common group name n) on spares = λ p made.
+spares_by k (Common group name n) on told_of spares = λ p made.
     let has = spares p (record { above = made.above; within = made.within }) in
     record { frame = has.frame; ast = has.ast }
+
+pub flagged_spares : (k l : Kernel) (c : Cell) (on : Bool) → HasSpares k → Acts (flag_part k.state c on) k l → HasSpares l
+flagged_spares k l c on spares did = subst HasSpares (sym did) (spares_by k c on (effect.Flag c on ∷ []) spares)
 
 pub flagged_exceeds : (s : State) (c : Cell) (on : Bool) (p : Pid) (need : Need) → exceeds (with_cell s c on) p need ≡ exceeds s p need
 flagged_exceeds s (Local q n) on p need =

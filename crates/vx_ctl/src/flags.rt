@@ -2,12 +2,13 @@
 
 ghost use Rattle.std.specs.Prelude.{◌≡◌};
 ghost use Rattle.vx_record.specs.State.{IsProcess};
-ghost use Rattle.vx_record.specs.Flags.{clref, how_it_was, readef, setef};
-ghost use Rattle.vx_procs.specs.Kernel.{Does, DoesQuietly, Fits};
+ghost use Rattle.vx_record.specs.Flags.{clref, flag_part, how_it_was, readef, setef};
+ghost use Rattle.vx_procs.specs.Cells.{IsCell};
+ghost use Rattle.vx_procs.specs.Kernel.{Acts, Does, DoesQuietly, Fits};
 ghost use Rattle.vx_procs.specs.Ready.{IsReady};
 ghost use Rattle.vx_ctl.specs.Answers.{put_flag};
 
-use vx_base::{Cond, Effect, Pid, Routine};
+use vx_base::{Cell, Cond, Effect, Pid, Routine};
 use vx_procs::Core;
 
 /// The last number that an event flag may have.
@@ -20,7 +21,17 @@ pub(crate) fn how_it_was(on: bool) -> Cond
     if on { Cond::WasSet } else { Cond::WasClr }
 }
 
-// Sets or clears an event flag.
+/// Sets or clears an event flag that a number names.
+pub(crate) fn put_cell<R: Routine>(core: &mut Core<R>, cell: Cell, on: bool)
+    requires there { IsCell core.old.state cell }
+    requires room { Fits core.old (flag_part core.old.state cell on).effects }
+    ensures { Acts (flag_part core.old.state cell on) core.old core.new }
+{
+    core.set_flag(&cell, on);
+    core.tell(Effect::Flag { cell, bit: on });
+}
+
+// Sets or clears the event flag of a number.
 fn put_flag<R: Routine>(core: &mut Core<R>, p: Pid, efn: u32, on: bool) -> Cond
     requires ready { IsReady core.old p }
     requires room { Fits core.old (put_flag core.old.state p efn on).effects }
@@ -33,8 +44,7 @@ fn put_flag<R: Routine>(core: &mut Core<R>, p: Pid, efn: u32, on: bool) -> Cond
         return Cond::UnasEfc;
     };
     let was = core.is_set(&cell);
-    core.set_flag(&cell, on);
-    core.tell(Effect::Flag { cell, bit: on });
+    put_cell(core, cell, on);
     how_it_was(was)
 }
 

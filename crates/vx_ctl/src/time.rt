@@ -10,6 +10,7 @@ ghost use Rattle.vx_procs.specs.Held.{IsOwn};
 ghost use Rattle.vx_procs.specs.Kernel.{Acts, Fits};
 ghost use Rattle.vx_ctl.specs.Firing.{AreTimers, due_part, firing};
 
+use crate::flags::put_cell;
 use vx_base::{Effect, Pid, Routine};
 use vx_procs::Core;
 
@@ -23,8 +24,7 @@ fn set_where_named<R: Routine>(core: &mut Core<R>, p: Pid, efn: u32)
     let Some(cell) = core.cell(p, efn) else {
         return;
     };
-    core.set_flag(&cell, true);
-    core.tell(Effect::Flag { cell, bit: true });
+    put_cell(core, cell, true);
 }
 
 // The first timer that is due by then fires, if there is one. Takes no memory.

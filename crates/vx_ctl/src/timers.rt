@@ -1,11 +1,14 @@
 //! Services on timers, and time.
 
-ghost use Rattle.std.specs.Prelude.{◌≡◌, ◌≤◌, ◌+◌, IfErr, Some, Option, option_map, length};
-ghost use Rattle.vx_record.specs.Timers.{mode_of_ast, setimr};
-ghost use Rattle.vx_procs.specs.Kernel.{Does, Fits};
-ghost use Rattle.vx_procs.specs.Ready.{IsReady};
+ghost use Rattle.std.specs.Prelude.{◌≡◌, ◌≤◌, ◌<◌, ◌+◌, ◌^◌, false, IfErr, Some, Option, is_some, option_map, length};
+ghost use Rattle.vx_record.specs.State.{IsProcess};
+ghost use Rattle.vx_record.specs.Charges.{exceeds, timer_need};
+ghost use Rattle.vx_record.specs.Timers.{mode_of_ast, open_timer, setimr};
+ghost use Rattle.vx_procs.specs.Kernel.{Acts, Does, Fits};
+ghost use Rattle.vx_procs.specs.Ready.{HasSpares, IsReady};
 ghost use Rattle.vx_ctl.specs.Answers.{cond_of};
 
+use crate::flags::put_cell;
 use crate::refused::Refused;
 use vx_base::{Cond, Effect, Mode, Opened, Pid, Routine};
 use vx_procs::{Core, timer_need};
@@ -18,6 +21,36 @@ fn mode_of_ast<R: Routine>(mode: Mode, routine: &Option<R>) -> Option<Mode>
         Some(_) => Some(mode),
         None => None,
     }
+}
+
+// Opens a timer so many ticks ahead, with an AST or without; no quota stands against it.
+fn open_timer<R: Routine>(
+    core: &mut Core<R>,
+    p: Pid,
+    efn: u32,
+    delta: u32,
+    routine: Option<R>,
+    reqid: u32,
+)
+    requires made { IsProcess core.old.state p }
+    requires spares { HasSpares core.old }
+    requires timer { length core.old.state.timers + 1 ≤ core.old.timers }
+    requires ids { core.old.state.next < 4294967295 }
+    requires time { core.old.state.time < 2 ^ 63 }
+    requires within { exceeds core.old.state p (timer_need (is_some routine)) ≡ false }
+    requires room { Fits core.old (open_timer core.old.state p efn delta (option_map R.tagged routine) reqid).effects }
+    ensures { Acts (open_timer core.old.state p efn delta (option_map R.tagged routine) reqid) core.old core.new }
+{
+    let mode = core.current_mode(p);
+    let id = core.new_id();
+    core.tell(Effect::Open {
+        id,
+        kind: Opened::Timer,
+        p,
+        mode: mode_of_ast(mode, &routine),
+        n: 0,
+    });
+    core.add_timer(p, id, core.time() + delta as u64, efn, reqid, mode, routine);
 }
 
 /// $SETIMR: clears an event flag, and sets a timer so many ticks ahead, with an AST or without: ILLEFC and UNASEFC as $CLREF
@@ -54,17 +87,7 @@ pub fn setimr<R: Routine>(
             ast: routine,
         });
     }
-    let mode = core.current_mode(p);
-    core.set_flag(&cell, false);
-    core.tell(Effect::Flag { cell, bit: false });
-    let id = core.new_id();
-    core.tell(Effect::Open {
-        id,
-        kind: Opened::Timer,
-        p,
-        mode: mode_of_ast(mode, &routine),
-        n: 0,
-    });
-    core.add_timer(p, id, core.time() + delta as u64, efn, reqid, mode, routine);
+    put_cell(core, cell, false);
+    open_timer(core, p, efn, delta, routine, reqid);
     Ok(Cond::Normal)
 }

@@ -1,9 +1,8 @@
--- Rundown where nothing is open but ASTs and timers: no channel, handler, request, wake or cluster stands in the way.
+-- Rundown where nothing is open but ASTs, timers and common clusters: no channel, handler, request or wake stands in the way.
 use Rattle.std.proofs.Common.{◌≡◌, ℕ, ◌-◌, Bool, true, false, cond, ◌&&◌, if◌then◌else◌, List, [], ◌∷◌, ◌++◌, IsTrue, refl, ap, sym, subst, ◌∙◌}
 use Rattle.std.specs.List.{AllByRecursion, filter, find, list_any}
-use Rattle.vx_base.specs.Clusters.{is_association, dissociated_at}
 use Rattle.vx_base.specs.Lists.{less}
-use Rattle.vx_base.specs.Pieces.{Alarm, Association, Handler, OfTimer, OfWake, Queued, Request, Timer}
+use Rattle.vx_base.specs.Pieces.{Alarm, Handler, OfTimer, OfWake, Queued, Request, Timer}
 use Rattle.vx_base.specs.declared.frame.Phase.{Phase}
 use Rattle.vx_base.specs.declared.frame.Phase.TheVariants as phase
 use Rattle.vx_base.specs.declared.mode.Mode.{Mode}
@@ -13,12 +12,12 @@ use Rattle.vx_base.specs.declared.record.Answer.{Answer}
 use Rattle.vx_base.specs.declared.record.Answer.TheVariants as answer
 use Rattle.vx_record.specs.State.{Process, State, process_at, change, nobody}
 use Rattle.vx_record.specs.Charges.{is_same, is_timer}
-use Rattle.vx_record.specs.Parts.{Part, Outcome, nothing, and_then, each, answered, followed_by, commonly}
+use Rattle.vx_record.specs.Parts.{Part, Outcome, nothing, and_then, each, answered, followed_by}
 use Rattle.vx_record.specs.Timers.{drop_timer, drop_timers, is_wake_for}
 use Rattle.vx_record.specs.Rundown.{in_phase, without_ast, is_ast_reached, keeps_busy, cancel_one, free_one, cancelled_in, is_timer_in, is_wake_by, draining, handling, drop_ast, drop_asts, part_with, release, drop_handler, any_handler, gone, gone_part, is_handler_of, run_handlers, run_down, drain, inner_modes, rundown_from, rundown}
 use Rattle.vx_record.proofs.Lists.{all_get, all_less, all_set}
 use Rattle.vx_procs.specs.Ready.{IsBare, IsBareProcess}
-use Rattle.vx_rundown.specs.Leaving.{cancelled}
+use Rattle.vx_rundown.specs.Leaving.{cancelled, released}
 use Rattle.vx_rundown.specs.Modes.{modes_from, next_inner}
 use Rattle.vx_rundown.proofs.Changed.{quiet_then}
 
@@ -28,13 +27,13 @@ bare_process : (s : State) (p : Pid) → IsBare s → IsBareProcess (process_at 
 bare_process s p b = all_get IsBareProcess s.procs (p.0 - 1) nobody (record { channels = λ m. refl; handlers = refl }) b.procs
 
 pub bare_still : (s : State) (p : Pid) (f : Process → Process) → (IsBareProcess (process_at s p) → IsBareProcess (f (process_at s p))) → IsBare s → IsBare (change s p f)
-bare_still s p f k b = record { requests = b.requests; timers = b.timers; associations = b.associations; procs = all_set IsBareProcess s.procs (p.0 - 1) (f (process_at s p)) nobody k b.procs }
+bare_still s p f k b = record { requests = b.requests; timers = b.timers; procs = all_set IsBareProcess s.procs (p.0 - 1) (f (process_at s p)) nobody k b.procs }
 
 pub in_phase_bare : (s : State) (p : Pid) (ph : Phase) → IsBare s → IsBare (change s p (in_phase ph))
 in_phase_bare s p ph b = bare_still s p (in_phase ph) (λ e. record { channels = e.channels; handlers = e.handlers }) b
 
 pub bare_timers : (s : State) (test : Timer → Bool) → IsBare s → IsBare (record s { timers = less test s.timers })
-bare_timers s test b = record { requests = b.requests; associations = b.associations; procs = b.procs; timers = all_less (λ (t : Timer). IsTrue (is_timer t.what)) test s.timers b.timers }
+bare_timers s test b = record { requests = b.requests; procs = b.procs; timers = all_less (λ (t : Timer). IsTrue (is_timer t.what)) test s.timers b.timers }
 
 drops_bare : (p : Pid) (qs : List Queued) (s : State) → IsBare s → IsBare (each (drop_ast p) qs s).after
 drops_bare p [] s b = b
@@ -71,7 +70,7 @@ not_for : (p : Pid) (t : Timer) (a : Alarm) → t.what ≡ a → IsTrue (is_time
 not_for p t (OfTimer efn reqid mode tag) what timer = rw what refl
 not_for p t (OfWake target repeat) what timer = absurd (cc)
 
--- cancelling a mode drops timers alone, and releasing it ASTs alone.
+-- cancelling a mode drops timers alone, and no channel is freed as it is released.
 
 pub cancelled_timers : (s : State) (p : Pid) (m : Mode) → IsBare s → cancelled_in s p m ≡ and_then (drop_timers (is_timer_in p m) s) (λ a. nothing (draining p m a))
 cancelled_timers s p m b =
@@ -81,19 +80,10 @@ cancelled_timers s p m b =
     ap all ((bare_process s p b).channels m)
     ∙ ap last (quiet_then drops (drop_timers (is_wake_by p)) (wakes_none (is_wake_by p) drops.after (λ t timer. not_by p t t.what refl timer) (drop_timers_bare (is_timer_in p m) s b)))
 
-parts_with_none : (s : State) (p : Pid) (k : ℕ) → s.common.associations ≡ [] → part_with p k s ≡ nothing s
-parts_with_none s p k none =
-    let parted : List Association → Part = λ associations. commonly s (dissociated_at s.common p k (find (is_association p k) associations)) in
-    ap parted none
-
-release_none : (s : State) (p : Pid) (m : Mode) → IsBare s → release s p m ≡ drop_asts p m s
-release_none s p m b =
-    let drops = drop_asts p m s in
-    let released : List ℕ → Part = λ ns. and_then (and_then (and_then (each (free_one p) ns s) (drop_asts p m)) (part_with p 2)) (part_with p 3) in
-    let none : drops.after.common.associations ≡ [] = (drop_asts_bare p m s b).associations in
-    let two : and_then drops (part_with p 2) ≡ drops = quiet_then drops (part_with p 2) (parts_with_none drops.after p 2 none) in
-    let three : and_then drops (part_with p 3) ≡ drops = quiet_then drops (part_with p 3) (parts_with_none drops.after p 3 none) in
-    ap released ((bare_process s p b).channels m) ∙ (ap (λ (a : Part). and_then a (part_with p 3)) two ∙ three)
+released_alone : (s : State) (p : Pid) (m : Mode) → IsBare s → release s p m ≡ released p m s
+released_alone s p m b =
+    let freed : List ℕ → Part = λ ns. and_then (and_then (and_then (each (free_one p) ns s) (drop_asts p m)) (part_with p 2)) (part_with p 3) in
+    ap freed ((bare_process s p b).channels m)
 
 pub gone_alone : (s : State) (p : Pid) → IsBare s → gone s p ≡ answered answer.Gone (gone_part p s)
 gone_alone s p b =
@@ -102,10 +92,10 @@ gone_alone s p b =
     ap last (bare_process s p b).handlers ∙ ap from (quiet_then (nothing s) (drop_timers (is_wake_for p)) (wakes_none (is_wake_for p) s (λ t timer. not_for p t t.what refl timer) b))
 
 -- a mode that is drained
-pub drained : (s : State) (p : Pid) (m : Mode) (next : State → Outcome Answer) → IsBare s → drain p m next s ≡ followed_by (drop_asts p m s) next
+pub drained : (s : State) (p : Pid) (m : Mode) (next : State → Outcome Answer) → IsBare s → drain p m next s ≡ followed_by (released p m s) next
 drained s p m next b =
     let busy : List Request → Outcome Answer = λ rs. if list_any (keeps_busy p m) rs then answered answer.Busy (nothing s) else followed_by (release s p m) next in
-    ap busy b.requests ∙ ap (λ (a : Part). followed_by a next) (release_none s p m b)
+    ap busy b.requests ∙ ap (λ (a : Part). followed_by a next) (released_alone s p m b)
 
 pub cancelled_bare : (p : Pid) (m : Mode) (s : State) → IsBare s → IsBare (cancelled p m s).after
 cancelled_bare p m s b =
@@ -115,7 +105,7 @@ cancelled_bare p m s b =
     subst (λ (a : Part). IsBare a.after) (sym (cancelled_timers t p m still)) (in_phase_bare drops.after p (phase.Draining m) (drop_timers_bare (is_timer_in p m) t still))
 
 -- a mode, and then those further in
-pub mode_done : (s : State) (p : Pid) (m : Mode) (ms : List Mode) → IsBare s → run_down p (m ∷ ms) s ≡ followed_by (cancelled p m s) (λ t. followed_by (drop_asts p m t) (run_down p ms))
+pub mode_done : (s : State) (p : Pid) (m : Mode) (ms : List Mode) → IsBare s → run_down p (m ∷ ms) s ≡ followed_by (cancelled p m s) (λ t. followed_by (released p m t) (run_down p ms))
 mode_done s p m ms b =
     let next = run_down p ms in
     let a = cancelled p m s in
@@ -130,5 +120,5 @@ inner_next Super = refl
 inner_next User = refl
 
 -- a rundown that goes on with a mode that is drained
-pub rundown_drains : (s : State) (p : Pid) (m : Mode) → IsBare s → phase.Draining m ≡ (process_at s p).phase → rundown s p ≡ followed_by (drop_asts p m s) (run_down p (inner_modes m))
+pub rundown_drains : (s : State) (p : Pid) (m : Mode) → IsBare s → phase.Draining m ≡ (process_at s p).phase → rundown s p ≡ followed_by (released p m s) (run_down p (inner_modes m))
 rundown_drains s p m b is = ap (λ (ph : Phase). rundown_from p ph s) (sym is) ∙ drained s p m (run_down p (inner_modes m)) b

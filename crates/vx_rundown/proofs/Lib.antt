@@ -1,4 +1,5 @@
 pub mod Bare
 pub mod Changed
 pub mod Dropped
+pub mod Released
 pub mod Running

@@ -9,18 +9,19 @@ use Rattle.vx_base.specs.declared.number.Pid.{Pid}
 use Rattle.vx_base.specs.declared.record.Answer.{Answer}
 use Rattle.vx_record.specs.State.{Process, State, change, process_at}
 use Rattle.vx_record.specs.Parts.{Outcome, Part, and_then, followed_by, nothing}
-use Rattle.vx_record.specs.Rundown.{drop_asts, draining, handling, in_phase, inner_modes, is_timer_in, run_down, rundown}
+use Rattle.vx_record.specs.Rundown.{draining, handling, in_phase, inner_modes, is_timer_in, run_down, rundown}
 use Rattle.vx_record.specs.Sound.{AreOrdered, timer_id}
 use Rattle.vx_record.specs.Timers.{drop_timers}
 use Rattle.vx_procs.specs.Kernel.{Acts, Fits, Kernel, changed, told, with_state}
 use Rattle.vx_procs.specs.Ready.{IsReady}
 use Rattle.vx_procs.specs.Words.{have_own_ids}
 use Rattle.vx_procs.proofs.Rest.{IsAnswering, acted, answering_begun, answering_on, answering_room}
-use Rattle.vx_rundown.specs.Leaving.{IsLeaving, cancelled}
+use Rattle.vx_rundown.specs.Leaving.{IsLeaving, cancelled, released}
 use Rattle.vx_rundown.specs.Modes.{modes_from, next_inner}
 use Rattle.vx_rundown.proofs.Bare.{cancelled_timers, in_phase_bare, inner_next, mode_done, rundown_drains}
 use Rattle.vx_rundown.proofs.Changed.{made_still, process_there}
-use Rattle.vx_rundown.proofs.Dropped.{asts_leaving, timers_leaving}
+use Rattle.vx_rundown.proofs.Dropped.{timers_leaving}
+use Rattle.vx_rundown.proofs.Released.{released_leaving}
 
 -- A mode is cancelled.
 
@@ -77,7 +78,7 @@ running_begun p ms k leaving room = record { leaving = leaving; rest = answering
 
 -- what follows when a mode is cancelled
 abbrev after_cancel : Pid → Mode → State → Outcome Answer
-after_cancel p m t = followed_by (drop_asts p m t) (run_down p (inner_modes m))
+after_cancel p m t = followed_by (released p m t) (run_down p (inner_modes m))
 
 pub mode_room : (p : Pid) (m : Mode) (whole : Outcome Answer) (first k : Kernel) → IsRunning p whole first (modes_from (Some m)) k → Fits k (cancelled p m k.state).effects
 mode_room p m whole first k h =
@@ -90,29 +91,29 @@ mode_on p m whole first k l h did =
 pub mode_leaving : (p : Pid) (m : Mode) (k l : Kernel) → IsLeaving k.state p → Acts (cancelled p m k.state) k l → IsLeaving l.state p
 mode_leaving p m k l h did = subst (λ (x : Kernel). IsLeaving x.state p) (sym did) (cancelled_leaving p m k.state h)
 
-pub drops_room : (p : Pid) (m : Mode) (whole : Outcome Answer) (first k l : Kernel) → IsRunning p whole first (modes_from (Some m)) k → Acts (cancelled p m k.state) k l → Fits l (drop_asts p m l.state).effects
-drops_room p m whole first k l h did = answering_room whole first l (after_cancel p m l.state) (drop_asts p m l.state) (run_down p (inner_modes m)) refl (mode_on p m whole first k l h did)
+pub drops_room : (p : Pid) (m : Mode) (whole : Outcome Answer) (first k l : Kernel) → IsRunning p whole first (modes_from (Some m)) k → Acts (cancelled p m k.state) k l → Fits l (released p m l.state).effects
+drops_room p m whole first k l h did = answering_room whole first l (after_cancel p m l.state) (released p m l.state) (run_down p (inner_modes m)) refl (mode_on p m whole first k l h did)
 
-pub mode_more : (p : Pid) (m : Mode) (n : Option Mode) (whole : Outcome Answer) (first k l o : Kernel) → IsRunning p whole first (modes_from (Some m)) k → Acts (cancelled p m k.state) k l → Acts (drop_asts p m l.state) l o → n ≡ next_inner m → IsRunning p whole first (modes_from n) o
+pub mode_more : (p : Pid) (m : Mode) (n : Option Mode) (whole : Outcome Answer) (first k l o : Kernel) → IsRunning p whole first (modes_from (Some m)) k → Acts (cancelled p m k.state) k l → Acts (released p m l.state) l o → n ≡ next_inner m → IsRunning p whole first (modes_from n) o
 mode_more p m n whole first k l o h did drops next =
-    let on = answering_on whole first l o (after_cancel p m l.state) (drop_asts p m l.state) (run_down p (inner_modes m)) refl drops (mode_on p m whole first k l h did) in
+    let on = answering_on whole first l o (after_cancel p m l.state) (released p m l.state) (run_down p (inner_modes m)) refl drops (mode_on p m whole first k l h did) in
     let is : modes_from n ≡ inner_modes m = ap modes_from next ∙ inner_next m in
     record {
-      leaving = subst (λ (x : Kernel). IsLeaving x.state p) (sym drops) (asts_leaving p m l.state (mode_leaving p m k l h.leaving did));
+      leaving = subst (λ (x : Kernel). IsLeaving x.state p) (sym drops) (released_leaving p m l.state (mode_leaving p m k l h.leaving did));
       rest = subst (λ (ms : List Mode). IsAnswering whole first (run_down p ms o.state) o) (sym is) on;
     }
 
 -- A rundown that goes on with a mode that is drained.
 
-pub drain_room : (p : Pid) (m : Mode) (k : Kernel) → IsLeaving k.state p → phase.Draining m ≡ (process_at k.state p).phase → Fits k (rundown k.state p).effects → Fits k (drop_asts p m k.state).effects
+pub drain_room : (p : Pid) (m : Mode) (k : Kernel) → IsLeaving k.state p → phase.Draining m ≡ (process_at k.state p).phase → Fits k (rundown k.state p).effects → Fits k (released p m k.state).effects
 drain_room p m k h is room =
-    answering_room (rundown k.state p) k k (rundown k.state p) (drop_asts p m k.state) (run_down p (inner_modes m)) (rundown_drains k.state p m h.bare is) (answering_begun (rundown k.state p) k room)
+    answering_room (rundown k.state p) k k (rundown k.state p) (released p m k.state) (run_down p (inner_modes m)) (rundown_drains k.state p m h.bare is) (answering_begun (rundown k.state p) k room)
 
-pub drain_on : (p : Pid) (m : Mode) (n : Option Mode) (k l : Kernel) → IsLeaving k.state p → phase.Draining m ≡ (process_at k.state p).phase → n ≡ next_inner m → Fits k (rundown k.state p).effects → Acts (drop_asts p m k.state) k l → IsRunning p (rundown k.state p) k (modes_from n) l
+pub drain_on : (p : Pid) (m : Mode) (n : Option Mode) (k l : Kernel) → IsLeaving k.state p → phase.Draining m ≡ (process_at k.state p).phase → n ≡ next_inner m → Fits k (rundown k.state p).effects → Acts (released p m k.state) k l → IsRunning p (rundown k.state p) k (modes_from n) l
 drain_on p m n k l h is next room drops =
-    let on = answering_on (rundown k.state p) k k l (rundown k.state p) (drop_asts p m k.state) (run_down p (inner_modes m)) (rundown_drains k.state p m h.bare is) drops (answering_begun (rundown k.state p) k room) in
+    let on = answering_on (rundown k.state p) k k l (rundown k.state p) (released p m k.state) (run_down p (inner_modes m)) (rundown_drains k.state p m h.bare is) drops (answering_begun (rundown k.state p) k room) in
     let same : modes_from n ≡ inner_modes m = ap modes_from next ∙ inner_next m in
     record {
-      leaving = subst (λ (x : Kernel). IsLeaving x.state p) (sym drops) (asts_leaving p m k.state h);
+      leaving = subst (λ (x : Kernel). IsLeaving x.state p) (sym drops) (released_leaving p m k.state h);
       rest = subst (λ (ms : List Mode). IsAnswering (rundown k.state p) k (run_down p ms l.state) l) (sym same) on;
     }

@@ -3,8 +3,8 @@ use Rattle.std.specs.Prelude.{IsTrue}
 use Rattle.vx_base.specs.declared.mode.Mode.{Mode}
 use Rattle.vx_base.specs.declared.number.Pid.{Pid}
 use Rattle.vx_record.specs.State.{State, IsProcess, process_at}
-use Rattle.vx_record.specs.Parts.{Part}
-use Rattle.vx_record.specs.Rundown.{cancelled_in, handling}
+use Rattle.vx_record.specs.Parts.{Part, and_then}
+use Rattle.vx_record.specs.Rundown.{cancelled_in, drop_asts, handling, part_with}
 use Rattle.vx_record.specs.Sound.{AreOrdered, timer_id}
 use Rattle.vx_procs.specs.Ready.{IsBare}
 use Rattle.vx_procs.specs.Words.{have_own_ids}
@@ -19,3 +19,7 @@ pub record IsLeaving (s : State) (p : Pid) : Type 0 where
 -- what a process opened in a mode and outer ones is cancelled, as its rundown comes to that mode
 abbrev pub cancelled : Pid → Mode → State → Part
 cancelled p m s = cancelled_in (handling p m s) p m
+
+-- its queued ASTs of a mode and outer ones end, and its common clusters are dissociated
+abbrev pub released : Pid → Mode → State → Part
+released p m s = and_then (and_then (drop_asts p m s) (part_with p 2)) (part_with p 3)

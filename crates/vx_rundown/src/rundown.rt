@@ -8,7 +8,7 @@ ghost use Rattle.vx_record.specs.Timers.{drop_timers};
 ghost use Rattle.vx_procs.specs.Kernel.{Acts, Does, Fits};
 ghost use Rattle.vx_procs.specs.Ready.{IsReady};
 ghost use Rattle.vx_procs.specs.Words.{have_own_ids};
-ghost use Rattle.vx_rundown.specs.Leaving.{IsLeaving, cancelled};
+ghost use Rattle.vx_rundown.specs.Leaving.{IsLeaving, cancelled, released};
 ghost use Rattle.vx_rundown.specs.Modes.{modes_from, next_inner};
 
 use vx_base::{Answer, Effect, Mode, Phase, Pid, Routine};
@@ -48,6 +48,18 @@ fn drop_asts<R: Routine>(core: &mut Core<R>, p: Pid, mode: Mode)
     }
 }
 
+// The queued ASTs of a mode and outer ones end, and the common clusters of the process are dissociated: 2, whose first flag is 64, and
+// then 3.
+fn release<R: Routine>(core: &mut Core<R>, p: Pid, mode: Mode)
+    requires leaving { IsLeaving core.old.state p }
+    requires room { Fits core.old (released p mode core.old.state).effects }
+    ensures { Acts (released p mode core.old.state) core.old core.new }
+{
+    drop_asts(core, p, mode);
+    let _second = core.dissociate(p, 64);
+    let _third = core.dissociate(p, 96);
+}
+
 // No handler is declared in a mode: what the process opened in it is cancelled.
 fn cancel<R: Routine>(core: &mut Core<R>, p: Pid, mode: Mode)
     requires leaving { IsLeaving core.old.state p }
@@ -70,8 +82,8 @@ fn end<R: Routine>(core: &mut Core<R>, p: Pid) -> Answer
     Answer::Gone
 }
 
-// Runs a process down, mode after mode, from a mode inward. No handler is declared, and nothing else is open but its timers
-// and ASTs.
+// Runs a process down, mode after mode, from a mode inward. No handler is declared, and nothing else is open but its timers, ASTs
+// and common clusters.
 fn run_down<R: Routine>(core: &mut Core<R>, p: Pid, outermost: Option<Mode>) -> Answer
     requires leaving { IsLeaving core.old.state p }
     requires room { Fits core.old (run_down p (modes_from outermost) core.old.state).effects }
@@ -80,7 +92,7 @@ fn run_down<R: Routine>(core: &mut Core<R>, p: Pid, outermost: Option<Mode>) -> 
     let mut next = outermost;
     'modes: while let Some(mode) = next {
         cancel(core, p, mode);
-        drop_asts(core, p, mode);
+        release(core, p, mode);
         next = next_inner(mode);
     }
     end(core, p)
@@ -97,7 +109,7 @@ pub fn rundown_step<R: Routine>(core: &mut Core<R>, p: Pid) -> Answer
     match core.phase(p) {
         Phase::Handlers(mode) => run_down(core, p, Some(mode)),
         Phase::Draining(mode) => {
-            drop_asts(core, p, mode);
+            release(core, p, mode);
             run_down(core, p, next_inner(mode))
         }
         Phase::Alive | Phase::Deleted => Answer::Gone,

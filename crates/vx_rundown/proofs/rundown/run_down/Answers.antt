@@ -17,11 +17,11 @@ cancel-requires-clause-room g c =
     let so_far = subst (λ (n : Option Mode). IsRunning c.args.p whole c.args.core.now (modes_from n) c.modes.core) c.in-Some.is c.modes.invariant in
     mode_room c.args.p c.in-Some.mode whole c.args.core.now c.modes.core so_far
 
-pub drop_asts-requires-clause-leaving : goal.drop_asts-requires-clause-leaving
-drop_asts-requires-clause-leaving g c = mode_leaving c.args.p c.in-Some.mode c.modes.core c.cancel.new.core c.modes.invariant.leaving c.cancel.ensures
+pub release-requires-clause-leaving : goal.release-requires-clause-leaving
+release-requires-clause-leaving g c = mode_leaving c.args.p c.in-Some.mode c.modes.core c.cancel.new.core c.modes.invariant.leaving c.cancel.ensures
 
-pub drop_asts-requires-clause-room : goal.drop_asts-requires-clause-room
-drop_asts-requires-clause-room g c =
+pub release-requires-clause-room : goal.release-requires-clause-room
+release-requires-clause-room g c =
     let whole = run_down c.args.p (modes_from c.args.outermost) c.args.core.now.state in
     let so_far = subst (λ (n : Option Mode). IsRunning c.args.p whole c.args.core.now (modes_from n) c.modes.core) c.in-Some.is c.modes.invariant in
     drops_room c.args.p c.in-Some.mode whole c.args.core.now c.modes.core c.cancel.new.core so_far c.cancel.ensures
@@ -30,4 +30,4 @@ pub modes-preserved : goal.modes-preserved
 modes-preserved g c =
     let whole = run_down c.args.p (modes_from c.args.outermost) c.args.core.now.state in
     let so_far = subst (λ (n : Option Mode). IsRunning c.args.p whole c.args.core.now (modes_from n) c.modes.core) c.in-Some.is c.modes.invariant in
-    mode_more c.args.p c.in-Some.mode c.next_inner-next.result whole c.args.core.now c.modes.core c.cancel.new.core c.drop_asts.new.core so_far c.cancel.ensures c.drop_asts.ensures c.next_inner-next.ensures
+    mode_more c.args.p c.in-Some.mode c.next_inner-next.result whole c.args.core.now c.modes.core c.cancel.new.core c.release.new.core so_far c.cancel.ensures c.release.ensures c.next_inner-next.ensures
