@@ -6,7 +6,7 @@ use Rattle.std.proofs.lemmas.List.{append-nil, get_or_append_left, length-map, m
 use Rattle.std.proofs.Math.Seq.{get_or-append_seam}
 use Rattle.vx_base.specs.Flags.{one}
 use Rattle.vx_base.specs.Lists.{tally}
-use Rattle.vx_base.specs.Pieces.{Queued, Timer}
+use Rattle.vx_base.specs.Pieces.{Alarm, OfTimer, OfWake, Queued, Timer}
 use Rattle.vx_base.specs.Quotas.{no_need}
 use Rattle.vx_base.specs.declared.number.Pid.{Pid}
 use Rattle.vx_base.specs.declared.quota.Need.{Need}
@@ -17,7 +17,7 @@ use Rattle.vx_record.proofs.Lists.{all_weaker, either}
 use Rattle.vx_record.proofs.Ground.{some_weaker}
 use Rattle.vx_quota.specs.Account.{Quotas}
 use Rattle.vx_procs.specs.Fresh.{IsFresh}
-use Rattle.vx_procs.specs.Held.{AreHeld, Books, IsBooked, IsOwn, books_at, no_books}
+use Rattle.vx_procs.specs.Held.{AreHeld, Books, IsBooked, IsOwn, IsTargetMade, books_at, no_books}
 use Rattle.vx_procs.specs.Kernel.{Kernel, Room, with_state}
 use Rattle.vx_procs.specs.Ready.{HasNewcomer}
 use Rattle.vx_procs.specs.View.{process, state, kernel, newcomers, books, books_of, room_of, IsHeld}
@@ -72,6 +72,10 @@ none_own s q (t ∷ ts) above h =
 grown : (s : State) (pr : Process) (q : Pid) → IsProcess s q → IsProcess (record s { procs = s.procs ++ pr ∷ [] }) q
 grown s pr q m = record { above = m.above; within = omega (arith, m.within, length-append s.procs (pr ∷ [])) }
 
+target_grown : (s : State) (pr : Process) (a : Alarm) → IsTargetMade (length s.procs) a → IsTargetMade (length (s.procs ++ pr ∷ [])) a
+target_grown s pr (OfTimer efn reqid mode tag) made = tt
+target_grown s pr (OfWake target repeat) made = grown s pr target made
+
 last_at : {A : Type 0} (xs : List A) (y d : A) → slice_index_or (xs ++ y ∷ []) (length xs + 1 - 1) d ≡ y
 last_at xs y d = let e : length xs + 1 - 1 ≡ length xs = omega arith in ap (λ (n : ℕ). slice_index_or (xs ++ y ∷ []) n d) e ∙ get_or-append_seam xs y [] d
 
@@ -93,7 +97,7 @@ held_with s bs short pr b h same new =
             subst (λ (x : Books). IsBooked t short q x) (sym its)
             (booked_quiet s (s.procs ++ pr ∷ []) short q (books_at bs q) (record { decl = ap (λ (x : Process). x.decl) at; asts = ap (λ (x : Process). x.asts) at; frames = omega (arith, ap (λ (x : Process). length x.frames) at) }) (h.booked q was))
       ];
-      timers = all_weaker (IsOwn s) (IsOwn t) (λ x own. record { made = grown s pr x.p own.made; timer = own.timer }) s.timers h.timers;
+      timers = all_weaker (IsOwn s) (IsOwn t) (λ x own. record { made = grown s pr x.p own.made; target = target_grown s pr x.what own.target; ahead = own.ahead; soon = own.soon }) s.timers h.timers;
       marked = some_weaker (IsProcess s) (IsProcess t) (λ q m. grown s pr q m) short h.marked;
     }
 
