@@ -1,14 +1,16 @@
-//! Services on timers, and time.
+//! Services on timers.
 
 ghost use Rattle.std.specs.Prelude.{◌≡◌, ◌≤◌, ◌+◌, IfErr, Some, Option, option_map, length};
-ghost use Rattle.vx_record.specs.Timers.{mode_of_ast, setimr};
+ghost use Rattle.vx_record.specs.Timers.{cantim, mode_of_ast, setimr};
+ghost use Rattle.vx_record.specs.Sound.{AreOrdered, timer_id};
 ghost use Rattle.vx_procs.specs.Kernel.{Does, Fits};
 ghost use Rattle.vx_procs.specs.Ready.{IsReady};
 ghost use Rattle.vx_ctl.specs.Answers.{cond_of};
 
 use crate::refused::Refused;
-use vx_base::{Cond, Effect, Mode, Opened, Pid, Routine};
-use vx_procs::{Core, timer_need};
+use vx_base::{Cond, Effect, Mode, Opened, Pid, Routine, outer_of};
+use vx_procs::{Core, drop_timers, timer_need};
+use vx_timers::Which;
 
 // The mode of an AST, if there is one.
 fn mode_of_ast<R: Routine>(mode: Mode, routine: &Option<R>) -> Option<Mode>
@@ -65,6 +67,19 @@ pub fn setimr<R: Routine>(
         mode: mode_of_ast(mode, &routine),
         n: 0,
     });
-    core.add_timer(p, id, core.time() + delta as u64, efn, reqid, mode, routine);
+    core.add_timer(p, id, delta, efn, reqid, mode, routine);
     Ok(Cond::Normal)
+}
+
+/// $CANTIM: ends the caller's timers that are not of a mode further in than the one that is named and the caller's, with an
+/// identification, 0 for any. What they are charged is given back.
+pub fn cantim<R: Routine>(core: &mut Core<R>, p: Pid, reqid: u32, mode: Mode) -> Cond
+    requires ready { IsReady core.old p }
+    requires order { AreOrdered timer_id 0 core.old.state.next core.old.state.timers }
+    requires room { Fits core.old (cantim core.old.state p reqid mode).effects }
+    ensures { Does (cantim core.old.state p reqid mode) result core.old core.new }
+{
+    let mode = outer_of(mode, core.current_mode(p));
+    drop_timers(core, Which::Cancelled(p, reqid, mode));
+    Cond::Normal
 }
