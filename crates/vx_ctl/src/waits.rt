@@ -7,7 +7,8 @@ ghost use Rattle.vx_record.specs.State.{IsProcess};
 ghost use Rattle.vx_record.specs.Control.{hiber};
 ghost use Rattle.vx_record.specs.Flags.{awaited, is_synchronized, normal_if, wait_condition, waitfr, wfland, wflor};
 ghost use Rattle.vx_procs.specs.Kernel.{DoesQuietly};
-ghost use Rattle.vx_procs.specs.Ready.{FitsBlock, IsReady};
+ghost use Rattle.vx_record.specs.Sound.{WaitStands};
+ghost use Rattle.vx_procs.specs.Ready.{IsReady};
 ghost use Rattle.vx_ctl.specs.Answers.{wait_for_flags};
 
 use crate::flags::LAST_FLAG;
@@ -44,7 +45,7 @@ fn is_synchronized<R: Routine>(core: &Core<R>, p: Pid, n: u32, iosb: u32) -> boo
 /// The condition with which a wait of a process ends now; None where it is not satisfied.
 pub fn wait_condition<R: Routine>(core: &Core<R>, p: Pid, wait: Wait) -> Option<Cond>
     requires made { IsProcess core.now.state p }
-    requires block { FitsBlock wait }
+    requires block { WaitStands wait }
     ensures { result ≡ wait_condition core.now.state p wait }
 {
     match wait {
@@ -67,7 +68,7 @@ pub fn wait_condition<R: Routine>(core: &Core<R>, p: Pid, wait: Wait) -> Option<
 // A service that waits answers at once where its wait is satisfied, and else leaves the wait in the top frame.
 fn awaited<R: Routine>(core: &mut Core<R>, p: Pid, wait: Wait) -> Served
     requires ready { IsReady core.old p }
-    requires block { FitsBlock wait }
+    requires block { WaitStands wait }
     ensures { DoesQuietly (awaited core.old.state p wait) result core.old core.new }
 {
     match wait_condition(core, p, wait) {

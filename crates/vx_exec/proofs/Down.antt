@@ -15,15 +15,13 @@ use Rattle.vx_base.specs.declared.record.Answer.{Answer}
 use Rattle.vx_record.specs.State.{Process, State, IsProcess, process_at, change}
 use Rattle.vx_record.specs.Parts.{Outcome, Part, each, followed_by}
 use Rattle.vx_record.specs.Rundown.{draining, drop_ast, drop_asts, handling, in_phase, inner_modes, is_ast_reached, is_timer_in, rundown, rundown_from, run_down, without_ast}
-use Rattle.vx_record.specs.Sound.{timer_id}
 use Rattle.vx_record.specs.Timers.{drop_timer, drop_timers, this_timer}
-use Rattle.vx_record.proofs.Lists.{all_weaker, either, ordered_less}
-use Rattle.vx_procs.specs.Ready.{IsBare, IsKept}
+use Rattle.vx_record.proofs.Lists.{either}
+use Rattle.vx_procs.specs.Ready.{IsBare}
 use Rattle.vx_rundown.specs.Leaving.{cancelled}
 use Rattle.vx_rundown.proofs.Bare.{cancelled_bare, cancelled_timers, drained, drop_asts_bare, gone_alone, in_phase_bare, mode_done}
 use Rattle.vx_rundown.proofs.Changed.{process_there}
 use Rattle.vx_exec.proofs.Goes.{Goes, Stays, goes_stays, made_stays, stays_changed, stays_still, stays_then}
-use Rattle.vx_exec.proofs.Kept.{Keeps, kept_fewer, kept_phase, kept_without}
 
 -- the timers there are, and the ASTs queued for a process
 abbrev load : State → Pid → ℕ
@@ -61,27 +59,20 @@ falls_more p m n s t told more h = record { stays = h.stays; asts = h.asts; time
 falls_made : (p : Pid) (n : ℕ) (s t : State) (told : List Effect) → IsProcess s p → Falls p n s t told → IsProcess t p
 falls_made p n s t told made h = made_stays p s t h.stays made
 
-changed_falls : (p : Pid) (s : State) (f : Process → Process) → IsProcess s p → Keeps f → length (f (process_at s p)).asts ≤ length (process_at s p).asts → Falls p 0 s (change s p f) []
-changed_falls p s f made k asts = record { stays = stays_changed s p f k; asts = omega (arith, asts, ap (λ (pr : Process). length pr.asts) (process_there s p f made)); timers = omega arith; few = omega arith }
+changed_falls : (p : Pid) (s : State) (f : Process → Process) → IsProcess s p → length (f (process_at s p)).asts ≤ length (process_at s p).asts → Falls p 0 s (change s p f) []
+changed_falls p s f made asts = record { stays = stays_changed s p f; asts = omega (arith, asts, ap (λ (pr : Process). length pr.asts) (process_there s p f made)); timers = omega arith; few = omega arith }
 
 phase_falls : (p : Pid) (s : State) (ph : Phase) → IsProcess s p → Falls p 0 s (change s p (in_phase ph)) []
-phase_falls p s ph made = changed_falls p s (in_phase ph) made (kept_phase ph) (omega arith)
+phase_falls p s ph made = changed_falls p s (in_phase ph) made (omega arith)
 
 -- one AST, and one timer
 
 ast_falls : (p : Pid) (s : State) (q : Queued) → IsProcess s p → Falls p 1 s (drop_ast p s q).after (drop_ast p s q).effects
-ast_falls p s q made = let h = changed_falls p s (without_ast q.id) made (kept_without q.id) (less_few _ (process_at s p).asts) in record { stays = h.stays; asts = h.asts; timers = h.timers; few = omega arith }
+ast_falls p s q made = let h = changed_falls p s (without_ast q.id) made (less_few _ (process_at s p).asts) in record { stays = h.stays; asts = h.asts; timers = h.timers; few = omega arith }
 
 timer_falls : (p : Pid) (s : State) (t : Timer) → Falls p 1 s (drop_timer s t).after (drop_timer s t).effects
 timer_falls p s t = record {
-  stays = record {
-    procs = refl;
-    next = refl;
-    kept = λ h. record {
-      order = ordered_less timer_id (this_timer t.id) 0 s.next s.timers h.order;
-      procs = all_weaker (IsKept s.next s.timers) (IsKept s.next (less (this_timer t.id) s.timers)) (kept_fewer (this_timer t.id) s.next s.timers) s.procs h.procs;
-    };
-  };
+  stays = record { procs = refl; next = refl };
   asts = omega arith;
   timers = less_few (this_timer t.id) s.timers;
   few = omega arith;

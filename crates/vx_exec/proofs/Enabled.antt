@@ -16,8 +16,9 @@ use Rattle.vx_record.specs.State.{Process, State, IsProcess, process_at, nobody,
 use Rattle.vx_record.specs.Asts.{deliverable_ast}
 use Rattle.vx_record.specs.Events.{ast_or_run, can_run, can_run_down, enabled, process_events, processes_from, run_events, tick_events, units_from}
 use Rattle.vx_record.specs.Runs.{next_seed, picked}
+use Rattle.vx_record.specs.Sound.{WaitStands, WaitsStand}
+use Rattle.vx_record.proofs.Changes.{stands_at}
 use Rattle.vx_record.proofs.Lists.{either, all_append, all_at}
-use Rattle.vx_procs.specs.Ready.{FitWaits, FitsBlock, IsKept}
 use Rattle.vx_exec.specs.Picks.{picked_event}
 use Rattle.vx_exec.specs.Ready.{HasOwner}
 use Rattle.vx_exec.specs.Sound.{IsWhole}
@@ -145,8 +146,8 @@ units_iff s e whole is = (λ t. absurd (cc), λ there. absurd (none_of is (abled
 
 -- Loops over processes.
 
-pub kept_at : (s : State) (p : Pid) → IsProcess s p → IsWhole s → IsKept s.next s.timers (process_at s p)
-kept_at s p made whole = all_at (IsKept s.next s.timers) s.procs (p.0 - 1) nobody whole.kept.procs (omega arith)
+pub waits_at : (s : State) (p : Pid) → IsProcess s p → IsWhole s → WaitsStand (process_at s p).frames
+waits_at s p made whole = (stands_at s p whole.sound made).waits
 
 pub events_step : (s : State) (place : ℕ) (r : Option Event) → place < length s.procs → option_to_list r ≡ process_events s (pid (place + 1)) → processes_from s (place + 1) (drop place s.procs) ≡ option_to_list r ++ processes_from s (place + 1 + 1) (drop (place + 1) s.procs)
 events_step s place r within is =
@@ -160,7 +161,7 @@ procs_step s place within =
 
 -- The wait of the top frame.
 
-pub top_fits : (fs : List Frame) (f : Frame) (w : Wait) → FitWaits fs → top_of fs ≡ Some f → f.wait ≡ Some w → FitsBlock w
+pub top_fits : (fs : List Frame) (f : Frame) (w : Wait) → WaitsStand fs → top_of fs ≡ Some f → f.wait ≡ Some w → WaitStands w
 top_fits [] f w fits top waits = absurd (cc)
 top_fits (g ∷ fs) f w fits top waits =
     let same : g ≡ f = cc in

@@ -1,4 +1,4 @@
--- What events of a process do to the state: how many ids they open, what stays kept, and how much they tell.
+-- What events of a process do to the state: how many processes there are then, how many ids they open, and how much they tell.
 use Rattle.std.proofs.Common.{◌≡◌, ℕ, zero, suc, ◌≢◌, ◌<◌, ◌++◌, is_some, slice_index_or, slice_set, ◌+◌, ◌-◌, ◌%◌, ◌^◌, ◌≤◌, List, [], ◌∷◌, Bool, true, false, not, ◌==◌, length, length-set, length-append, IsTrue, Option, Some, None, Result, Ok, Err, refl, ap, ◌∙◌, arith, nat_lt}
 use Rattle.std.specs.List.{AllByRecursion}
 use Rattle.vx_base.specs.Clusters.{Common as CommonClusters}
@@ -44,27 +44,23 @@ use Rattle.vx_record.proofs.Lists.{either, all_set, all_weaker}
 use Rattle.vx_record.specs.Sound.{timer_id}
 use Rattle.vx_record.specs.Timers.{gettim, new_timer, open_timer, setimr_at, timer_set, with_timer}
 use Rattle.vx_record.proofs.Lists.{ordered_below, ordered_more}
-use Rattle.vx_procs.specs.Ready.{FitsBlock, IsKept}
 use Rattle.vx_procs.specs.Words.{left, left_kind}
 use Rattle.vx_procs.proofs.Stack.{left_after, left_effects}
 use Rattle.vx_rundown.proofs.Changed.{process_there}
 use Rattle.vx_exec.specs.Built.{is_built_service, is_built}
-use Rattle.vx_exec.specs.Sound.{AreKept}
 use Rattle.vx_exec.proofs.Calls.{IsBuiltStop, advanced_built}
-use Rattle.vx_exec.proofs.Kept.{Keeps, kept_variable, kept_flag, kept_delivery, kept_moved, kept_behind, kept_resumed, kept_suspended, kept_wait, kept_waking, kept_below, kept_back, kept_exit, kept_frame, kept_without, kept_later, kept_queued, kept_timed, none_new, ordered_high}
 
--- from s to t: no process comes or goes, no id is opened, and what is kept stays kept
+-- from s to t: no process comes or goes, and no id is opened
 pub record Stays (s t : State) : Type 0 where
   pub procs : length t.procs ≡ length s.procs
   pub next : t.next ≡ s.next
-  pub kept : AreKept s → AreKept t
 
--- the same with at most one id opened, and with so many effects at most
+-- no process goes, and there are 1,000 at most; at most one id is opened; and so many effects are told at most
 pub record Goes (bound : ℕ) (s t : State) (told : List Effect) : Type 0 where
-  pub procs : length t.procs ≡ length s.procs
+  pub grows : length s.procs ≤ length t.procs
+  pub within : length s.procs ≤ 1000 → length t.procs ≤ 1000
   pub later : s.next ≤ t.next
   pub soon : t.next ≤ s.next + 1
-  pub kept : AreKept s → AreKept t
   pub few : length told ≤ bound
 
 -- how much a process tells at most where it runs
@@ -75,52 +71,45 @@ abbrev pub GoesBy : {A : Type 0} → Pid → State → Outcome A → Type 0
 GoesBy p s o = Goes (run_most s p) s o.after o.effects
 
 pub stays_still : (s : State) → Stays s s
-stays_still s = record { procs = refl; next = refl; kept = λ h. h }
+stays_still s = record { procs = refl; next = refl }
 
 pub stays_then : (s t u : State) → Stays s t → Stays t u → Stays s u
-stays_then s t u a b = record { procs = b.procs ∙ a.procs; next = b.next ∙ a.next; kept = λ h. b.kept (a.kept h) }
+stays_then s t u a b = record { procs = b.procs ∙ a.procs; next = b.next ∙ a.next }
 
--- all that is kept, with one process changed
-change_kept : (s : State) (q : Pid) (f : Process → Process) → Keeps f → AreKept s → AreKept (change s q f)
-change_kept s q f k h = record {
-  order = h.order;
-  procs = all_set (IsKept s.next s.timers) s.procs (q.0 - 1) (f (process_at s q)) nobody (λ e. k s.next s.timers (process_at s q) e) h.procs;
-}
-
-pub stays_changed : (s : State) (q : Pid) (f : Process → Process) → Keeps f → Stays s (change s q f)
-stays_changed s q f k = record { procs = length-set s.procs (q.0 - 1) (f (process_at s q)); next = refl; kept = change_kept s q f k }
+pub stays_changed : (s : State) (q : Pid) (f : Process → Process) → Stays s (change s q f)
+stays_changed s q f = record { procs = length-set s.procs (q.0 - 1) (f (process_at s q)); next = refl }
 
 pub made_stays : (p : Pid) (s t : State) → Stays s t → IsProcess s p → IsProcess t p
 made_stays p s t k made = record { above = made.above; within = omega (arith, made.within, k.procs) }
 
 pub goes_stays : (bound : ℕ) (s t : State) (told : List Effect) → Stays s t → length told ≤ bound → Goes bound s t told
-goes_stays bound s t told k few = record { procs = k.procs; later = omega (arith, k.next); soon = omega (arith, k.next); kept = k.kept; few = few }
+goes_stays bound s t told k few = record { grows = omega (arith, k.procs); within = λ h. omega (arith, k.procs, h); later = omega (arith, k.next); soon = omega (arith, k.next); few = few }
 
 pub goes_still : (p : Pid) (s : State) → Goes (run_most s p) s s []
 goes_still p s = goes_stays (run_most s p) s s [] (stays_still s) (omega arith)
 
-pub goes_changed : (p q : Pid) (s : State) (f : Process → Process) (told : List Effect) → Keeps f → length told ≤ run_most s p → Goes (run_most s p) s (change s q f) told
-goes_changed p q s f told k few = goes_stays (run_most s p) s (change s q f) told (stays_changed s q f k) few
+pub goes_changed : (p q : Pid) (s : State) (f : Process → Process) (told : List Effect) → length told ≤ run_most s p → Goes (run_most s p) s (change s q f) told
+goes_changed p q s f told few = goes_stays (run_most s p) s (change s q f) told (stays_changed s q f) few
+
+-- with one id opened
+goes_opened : (bound : ℕ) (s t : State) (told : List Effect) → length t.procs ≡ length s.procs → t.next ≡ s.next + 1 → length told ≤ bound → Goes bound s t told
+goes_opened bound s t told procs next few = record { grows = omega (arith, procs); within = λ h. omega (arith, procs, h); later = omega (arith, next); soon = omega (arith, next); few = few }
 
 -- after a beginning that tells nothing, and leaves no more frames
 pub goes_after : (p : Pid) (s t u : State) (told : List Effect) → Stays s t → length (process_at t p).frames ≤ length (process_at s p).frames → Goes (run_most t p) t u told → Goes (run_most s p) s u told
 goes_after p s t u told a frames b = record {
-  procs = b.procs ∙ a.procs;
+  grows = omega (arith, a.procs, b.grows);
+  within = λ h. b.within (omega (arith, a.procs, h));
   later = omega (arith, a.next, b.later);
   soon = omega (arith, a.next, b.soon);
-  kept = λ h. b.kept (a.kept h);
   few = omega (arith, frames, b.few);
 }
 
 -- with one process changed at the end
-goes_on : (bound : ℕ) (q : Pid) (s t : State) (f : Process → Process) (told : List Effect) → Keeps f → Goes bound s t told → Goes bound s (change t q f) told
-goes_on bound q s t f told k b = record {
-  procs = length-set t.procs (q.0 - 1) (f (process_at t q)) ∙ b.procs;
-  later = b.later;
-  soon = b.soon;
-  kept = λ h. change_kept t q f k (b.kept h);
-  few = b.few;
-}
+goes_on : (bound : ℕ) (q : Pid) (s t : State) (f : Process → Process) (told : List Effect) → Goes bound s t told → Goes bound s (change t q f) told
+goes_on bound q s t f told b =
+    let same = length-set t.procs (q.0 - 1) (f (process_at t q)) in
+    record { grows = omega (arith, same, b.grows); within = λ h. let few = b.within h in omega (arith, same, few); later = b.later; soon = b.soon; few = b.few }
 
 -- Services.
 
@@ -132,16 +121,16 @@ flag_goes : {A : Type 0} (p : Pid) (s : State) (efn : ℕ) (refuse : Cond → Ou
 flag_goes p s efn refuse go r g = either (λ (o : Outcome _). GoesBy p s o) (nat_lt 127 efn) _ _ (r _) (named_goes p s refuse go (cell s p efn) r g)
 
 pub stays_common : (s : State) (c : CommonClusters) → Stays s (record s { common = c })
-stays_common s c = record { procs = refl; next = refl; kept = λ h. record { order = h.order; procs = h.procs } }
+stays_common s c = record { procs = refl; next = refl }
 
 put_goes : (p : Pid) (s : State) (on : Bool) (c : Cell) → GoesBy p s (put_flag_at s on c)
-put_goes p s on (Local q n) = goes_changed p q s (with_local_flag n on) (effect.Flag (Local q n) on ∷ []) (kept_flag n on) (omega arith)
+put_goes p s on (Local q n) = goes_changed p q s (with_local_flag n on) (effect.Flag (Local q n) on ∷ []) (omega arith)
 put_goes p s on (Common group name n) = goes_stays (run_most s p) s _ (effect.Flag (Common group name n) on ∷ []) (stays_common s _) (omega arith)
 
 -- local flags, and no clusters: what $READEF reads it does not change
 read_goes : (p : Pid) (s : State) (t : Target) (o : Outcome (Result (Cond × ℕ) Cond)) (r : Result (Cond × ℕ) Cond) → o.after ≡ s → o.effects ≡ [] → GoesBy p s (valued_at p t (part_of o) r)
 read_goes p s t o (Ok x) same none =
-    rw (same, none) (goes_changed p p s (with_variable t x.1) (effect.Var p t x.1 ∷ []) (kept_variable t x.1) (omega arith))
+    rw (same, none) (goes_changed p p s (with_variable t x.1) (effect.Var p t x.1 ∷ []) (omega arith))
 read_goes p s t o (Err c) same none = rw (same, none) (goes_still p s)
 
 quiet_named : (s : State) (o : Option Cell) → ((at_named (refused_value s) (readef_at s) o).after ≡ s) × ((at_named (refused_value s) (readef_at s) o).effects ≡ [])
@@ -168,66 +157,35 @@ exited_few : (s : State) (p : Pid) (code : ℕ) → length (exited s p code).eff
 exited_few s p code = omega (arith, left_few (process_at s p).frames, ap length (left_effects (process_at s p).frames (change s p (without_frames code))))
 
 exited_goes : (p : Pid) (s : State) (code : ℕ) (told : List Effect) → length told ≤ run_most s p → Goes (run_most s p) s (exited s p code).after told
-exited_goes p s code told few = rw (exited_after s p code) (goes_changed p p s (without_frames code) told (kept_exit code) few)
-
--- one process changed, with another next id and other timers
-pub all_one : (n m : ℕ) (ts us : List Timer) (f : Process → Process) → ((pr : Process) → IsKept n ts pr → IsKept m us (f pr)) → ((pr : Process) → IsKept n ts pr → IsKept m us pr) → (prs : List Process) (i : ℕ) → AllByRecursion (IsKept n ts) prs → AllByRecursion (IsKept m us) (slice_set prs i (f (slice_index_or prs i nobody)))
-all_one n m ts us f here others [] i h = tt
-all_one n m ts us f here others (pr ∷ prs) zero h = (here pr h.0, all_weaker (IsKept n ts) (IsKept m us) others prs h.1)
-all_one n m ts us f here others (pr ∷ prs) (suc i) h = (others pr h.0, all_one n m ts us f here others prs i h.1)
-
-queued_kept : (s : State) (p : Pid) (q : Queued) → q.id.0 ≡ s.next → AreKept s → AllByRecursion (IsKept (s.next + 1) s.timers) (change s p (with_queued q)).procs
-queued_kept s p q is h =
-    let n = s.next in
-    let below = ordered_high timer_id 0 n s.timers h.order in
-    let others : AllByRecursion (λ (t : Timer). t.id.0 ≢ q.id.0) s.timers = all_weaker (λ (t : Timer). t.id.0 < n) (λ t. t.id.0 ≢ q.id.0) (λ t k e. omega (arith, k, e, is)) s.timers below in
-    all_one n (n + 1) s.timers s.timers (with_queued q)
-    (λ pr k. kept_queued n (n + 1) s.timers s.timers pr q (omega arith) (omega (arith, is)) (rw is (none_new n pr.asts k.opened)) k.apart others k)
-    (kept_later n s.timers) s.procs (p.0 - 1) h.procs
+exited_goes p s code told few = rw (exited_after s p code) (goes_changed p p s (without_frames code) told few)
 
 declared_goes : (p : Pid) (s : State) (mode : Mode) (tag : Entry) → Goes (run_most s p) s (declared_ast s p mode tag).after (declared_ast s p mode tag).effects
 declared_goes p s mode tag =
     let q = charged_ast (next_id s) mode tag in
-    record {
-      procs = length-set s.procs (p.0 - 1) (with_queued q (process_at s p));
-      later = omega arith;
-      soon = omega arith;
-      kept = λ h. record { order = ordered_below timer_id 0 s.next (s.next + 1) s.timers (omega arith) h.order; procs = queued_kept s p q refl h };
-      few = omega arith;
-    }
-
-timed_kept : (s : State) (t : Timer) → t.id.0 ≡ s.next → AreKept s → AreKept (with_timer (past_id s) t)
-timed_kept s t is h = record {
-  order = ordered_more timer_id 0 s.next s.timers t is h.order;
-  procs = all_weaker (IsKept s.next s.timers) (IsKept (s.next + 1) (s.timers ++ t ∷ [])) (λ pr k. kept_timed s.next s.timers t pr is k) s.procs h.procs;
-}
+    goes_opened (run_most s p) s (declared_ast s p mode tag).after (declared_ast s p mode tag).effects (length-set s.procs (p.0 - 1) (with_queued q (process_at s p))) refl (omega arith)
 
 -- a flag is cleared, and a timer is set
 timer_goes : (p : Pid) (s a : State) (efn delta : ℕ) (tag : Option Entry) (reqid : ℕ) (told : List Effect) → Stays s a → length told ≤ 1 → Goes (run_most s p) s (open_timer a p efn delta tag reqid).after (told ++ (open_timer a p efn delta tag reqid).effects)
-timer_goes p s a efn delta tag reqid told k few = record {
-  procs = k.procs;
-  later = omega (arith, k.next);
-  soon = omega (arith, k.next);
-  kept = λ h. timed_kept a (new_timer a p efn delta tag reqid) refl (k.kept h);
-  few = omega (arith, few, length-append told (open_timer a p efn delta tag reqid).effects);
-}
+timer_goes p s a efn delta tag reqid told k few =
+    let part = open_timer a p efn delta tag reqid in
+    goes_opened (run_most s p) s part.after (told ++ part.effects) k.procs (omega (arith, k.next)) (omega (arith, few, length-append told part.effects))
 
 set_goes : (p : Pid) (s : State) (efn delta : ℕ) (tag : Option Entry) (reqid : ℕ) (c : Cell) → GoesBy p s (setimr_at s p efn delta tag reqid c)
 set_goes p s efn delta tag reqid (Local q n) =
     either (λ (o : Outcome Cond). GoesBy p s o) (exceeds s p (timer_need (is_some tag))) (refused s ExQuota) (answered Normal (timer_set s p efn delta tag reqid (Local q n))) (goes_still p s)
-    (timer_goes p s (change s q (with_local_flag n false)) efn delta tag reqid (effect.Flag (Local q n) false ∷ []) (stays_changed s q (with_local_flag n false) (kept_flag n false)) (omega arith))
+    (timer_goes p s (change s q (with_local_flag n false)) efn delta tag reqid (effect.Flag (Local q n) false ∷ []) (stays_changed s q (with_local_flag n false)) (omega arith))
 set_goes p s efn delta tag reqid (Common g name n) =
     either (λ (o : Outcome Cond). GoesBy p s o) (exceeds s p (timer_need (is_some tag))) (refused s ExQuota) (answered Normal (timer_set s p efn delta tag reqid (Common g name n))) (goes_still p s)
     (timer_goes p s (flag_part s (Common g name n) false).after efn delta tag reqid (effect.Flag (Common g name n) false ∷ []) (stays_common s _) (omega arith))
 
 -- a wait goes into the top frame, where it is not satisfied
-awaited_goes : (p : Pid) (s : State) (w : Wait) (o : Option Cond) → FitsBlock w → GoesBy p s (awaited_at s p w o)
-awaited_goes p s w None fits = goes_changed p p s (with_wait (Some w)) [] (kept_wait w fits) (omega arith)
-awaited_goes p s w (Some c) fits = goes_still p s
+awaited_goes : (p : Pid) (s : State) (w : Wait) (o : Option Cond) → GoesBy p s (awaited_at s p w o)
+awaited_goes p s w None = goes_changed p p s (with_wait (Some w)) [] (omega arith)
+awaited_goes p s w (Some c) = goes_still p s
 
 -- a wait for flags by a mask
 masked_goes : (p : Pid) (s : State) (efn mask : ℕ) (all : Bool) → GoesBy p s (at_flag s p efn (refused_wait s) (waits_on s p (wait.Flags efn mask all)))
-masked_goes p s efn mask all = let w = wait.Flags efn mask all in flag_goes p s efn (refused_wait s) (waits_on s p w) (λ c. goes_still p s) (λ c. awaited_goes p s w (wait_condition s p w) tt)
+masked_goes p s efn mask all = let w = wait.Flags efn mask all in flag_goes p s efn (refused_wait s) (waits_on s p w) (λ c. goes_still p s) (λ c. awaited_goes p s w (wait_condition s p w))
 
 -- what is done to a process that a test found
 tested_goes : (p : Pid) (s : State) (go : Pid → Outcome Cond) (r : Result Pid Cond) → ((q : Pid) → GoesBy p s (go q)) → GoesBy p s (at_tested s go r)
@@ -235,20 +193,14 @@ tested_goes p s go (Ok q) g = g q
 tested_goes p s go (Err c) g = goes_still p s
 
 -- a process that a number names is changed
-control_goes : (p : Pid) (s : State) (f : Process → Process) (r : Result Pid Cond) → Keeps f → GoesBy p s (at_tested s (changed_process s f) r)
-control_goes p s f r k = tested_goes p s (changed_process s f) r (λ q. goes_changed p q s f [] k (omega arith))
+control_goes : (p : Pid) (s : State) (f : Process → Process) (r : Result Pid Cond) → GoesBy p s (at_tested s (changed_process s f) r)
+control_goes p s f r = tested_goes p s (changed_process s f) r (λ q. goes_changed p q s f [] (omega arith))
 
 -- a process is to exit
 forced_goes : (p : Pid) (s : State) (code : ℕ) (q : Pid) → GoesBy p s (forced s code q)
 forced_goes p s code q =
     let ast = exit_ast (next_id s) code in
-    record {
-      procs = length-set s.procs (q.0 - 1) (with_queued ast (process_at s q));
-      later = omega arith;
-      soon = omega arith;
-      kept = λ h. record { order = ordered_below timer_id 0 s.next (s.next + 1) s.timers (omega arith) h.order; procs = queued_kept s q ast refl h };
-      few = omega arith;
-    }
+    goes_opened (run_most s p) s (forced s code q).after (forced s code q).effects (length-set s.procs (q.0 - 1) (with_queued ast (process_at s q))) refl (omega arith)
 
 service_goes : (p : Pid) (s : State) (a : Args) (v : Service) → is_built_service v ≡ true → GoesBy p s (service_of s p a v)
 service_goes p s a SetEf built = flag_goes p s (number a.a0) (refused s) (put_flag_at s true) (λ c. goes_still p s) (put_goes p s true)
@@ -264,22 +216,22 @@ service_goes p s a DclAst built =
 service_goes p s a SetAst built =
     let mode = current s p in
     let on = not (number a.a0 == 0) in
-    goes_changed p p s (with_delivery mode on) (effect.Enb p mode on ∷ []) (kept_delivery mode on) (omega arith)
+    goes_changed p p s (with_delivery mode on) (effect.Enb p mode on ∷ []) (omega arith)
 service_goes p s a CmExec built =
     let tag = routine s p a.a0 (number a.a1) in
-    either (λ (o : Outcome Cond). GoesBy p s o) _ _ _ (goes_changed p p s (with_frame (new_frame s p kind.Change (inner (current s p) Exec) tag 0)) [] (kept_frame _ tt) (omega arith)) (goes_still p s)
+    either (λ (o : Outcome Cond). GoesBy p s o) _ _ _ (goes_changed p p s (with_frame (new_frame s p kind.Change (inner (current s p) Exec) tag 0)) [] (omega arith)) (goes_still p s)
 service_goes p s a CmKrnl built =
     let tag = routine s p a.a0 (number a.a1) in
-    either (λ (o : Outcome Cond). GoesBy p s o) _ _ _ (goes_changed p p s (with_frame (new_frame s p kind.Change Kernel tag 0)) [] (kept_frame _ tt) (omega arith)) (goes_still p s)
+    either (λ (o : Outcome Cond). GoesBy p s o) _ _ _ (goes_changed p p s (with_frame (new_frame s p kind.Change Kernel tag 0)) [] (omega arith)) (goes_still p s)
 service_goes p s a SetImr built =
     flag_goes p s (number a.a0) (refused s) (setimr_at s p (number a.a0) (number a.a1) (routine_or_none s p a.a2 (number a.a3)) (number a.a3)) (λ c. goes_still p s) (set_goes p s (number a.a0) (number a.a1) (routine_or_none s p a.a2 (number a.a3)) (number a.a3))
-service_goes p s a GetTim built = goes_changed p p s (with_variable (place a.a0) (gettim s)) (effect.Var p (place a.a0) (gettim s) ∷ []) (kept_variable (place a.a0) (gettim s)) (omega arith)
+service_goes p s a GetTim built = goes_changed p p s (with_variable (place a.a0) (gettim s)) (effect.Var p (place a.a0) (gettim s) ∷ []) (omega arith)
 service_goes p s a Hiber built =
     either (λ (o : Outcome Served). GoesBy p s o) (process_at s p).wake_pending (answered (Answered Normal) (nothing (change s p (with_wake false)))) (answered Waits (nothing (change s p (with_wait (Some wait.Hiber)))))
-    (goes_changed p p s (with_wake false) [] (kept_waking false) (omega arith)) (goes_changed p p s (with_wait (Some wait.Hiber)) [] (kept_wait wait.Hiber tt) (omega arith))
-service_goes p s a Wake built = control_goes p s (with_wake true) (process_test s p (number a.a0)) (kept_waking true)
-service_goes p s a Suspnd built = control_goes p s (with_suspension true) (process_test s p (number a.a0)) (kept_suspended true)
-service_goes p s a Resume built = control_goes p s (with_suspension false) (process_test s p (number a.a0)) (kept_suspended false)
+    (goes_changed p p s (with_wake false) [] (omega arith)) (goes_changed p p s (with_wait (Some wait.Hiber)) [] (omega arith))
+service_goes p s a Wake built = control_goes p s (with_wake true) (process_test s p (number a.a0))
+service_goes p s a Suspnd built = control_goes p s (with_suspension true) (process_test s p (number a.a0))
+service_goes p s a Resume built = control_goes p s (with_suspension false) (process_test s p (number a.a0))
 service_goes p s a ForceX built = tested_goes p s (forced s (number a.a1)) (process_test s p (number a.a0)) (forced_goes p s (number a.a1))
 service_goes p s a Exit built =
     let few = exited_few s p (number a.a0) in exited_goes p s (number a.a0) (exited s p (number a.a0)).effects (omega (arith, few))
@@ -291,14 +243,14 @@ call_goes p s c built = service_goes p s c.args c.service built
 -- RUN.
 
 served_goes : (p : Pid) (s : State) (c : Call) (o : Outcome Served) (answer : Served) → GoesBy p s o → GoesBy p s (served_call p c o answer)
-served_goes p s c o (Answered cond) h = goes_on (run_most s p) p s o.after (with_variable target.R0 _) o.effects (kept_variable target.R0 _) h
+served_goes p s c o (Answered cond) h = goes_on (run_most s p) p s o.after (with_variable target.R0 _) o.effects h
 served_goes p s c o Waits h = h
 
 returned_from_goes : (p : Pid) (s : State) (f : Frame) (k : FrameKind) → GoesBy p s (returned_from s p f k)
 returned_from_goes p s f kind.Main = let few = exited_few s p (r0_of s p) in exited_goes p s (r0_of s p) (exited s p (r0_of s p)).effects (omega (arith, few))
-returned_from_goes p s f (kind.Ast id) = goes_changed p p s (put_back f.saved_r0) (effect.Leave id ∷ []) (kept_back f.saved_r0) (omega arith)
-returned_from_goes p s f kind.Change = goes_changed p p s below_top [] kept_below (omega arith)
-returned_from_goes p s f kind.Handler = goes_changed p p s below_top [] kept_below (omega arith)
+returned_from_goes p s f (kind.Ast id) = goes_changed p p s (put_back f.saved_r0) (effect.Leave id ∷ []) (omega arith)
+returned_from_goes p s f kind.Change = goes_changed p p s below_top [] (omega arith)
+returned_from_goes p s f kind.Handler = goes_changed p p s below_top [] (omega arith)
 
 returned_goes : (p : Pid) (s : State) (fs : List Frame) → GoesBy p s (returned s p fs)
 returned_goes p s [] = goes_still p s
@@ -314,7 +266,7 @@ top_frames p s f made few = omega (arith, few, ap (λ (pr : Process). length pr.
 run_on_goes : (p : Pid) (s t : State) (n : ℕ) (x : Stop) → IsBuiltStop (image_of s p) n x → IsProcess t p → GoesBy p t (run_on t p n x)
 run_on_goes p s t n (stop.Call c) built made =
     let u = change t p (moved_behind n) in
-    goes_after p t u _ _ (stays_changed t p (moved_behind n) (kept_behind n)) (top_frames p t (moved_behind n) made (top_few _ (process_at t p).frames)) (served_goes p u c (service u p c) (service u p c).answer (call_goes p u c built.0))
+    goes_after p t u _ _ (stays_changed t p (moved_behind n)) (top_frames p t (moved_behind n) made (top_few _ (process_at t p).frames)) (served_goes p u c (service u p c) (service u p c).answer (call_goes p u c built.0))
 run_on_goes p s t n stop.Return built made = returned_goes p t (process_at t p).frames
 run_on_goes p s t n stop.End built made = returned_goes p t (process_at t p).frames
 run_on_goes p s t n stop.Local built made = goes_still p t
@@ -323,9 +275,9 @@ run_frame_goes : (p : Pid) (s : State) (f : Frame) (o : Option Wait) → IsTrue 
 run_frame_goes p s f None built made =
     let a = advanced (image_of s p) (reader p f) (process_at s p).store f.pc in
     let t = change s p (moved_to a.store a.place) in
-    let moved = stays_changed s p (moved_to a.store a.place) (kept_moved a.store a.place) in
+    let moved = stays_changed s p (moved_to a.store a.place) in
     goes_after p s t _ _ moved (top_frames p s (moved_to a.store a.place) made (top_few _ (process_at s p).frames)) (run_on_goes p s t a.place a.stop (advanced_built s p (reader p f) (process_at s p).store f.pc built) (made_stays p s t moved made))
-run_frame_goes p s f (Some w) built made = goes_changed p p s (resumed_with w (or_normal (wait_condition s p w))) [] (kept_resumed w _) (omega arith)
+run_frame_goes p s f (Some w) built made = goes_changed p p s (resumed_with w (or_normal (wait_condition s p w))) [] (omega arith)
 
 pub run_goes : (p : Pid) (s : State) (fs : List Frame) → IsTrue (is_built s.system) → IsProcess s p → GoesBy p s (run s p fs)
 run_goes p s [] built made = goes_still p s
@@ -335,9 +287,9 @@ run_goes p s (f ∷ fs) built made = run_frame_goes p s f f.wait built made
 
 started_goes : (p : Pid) (s : State) (q : Queued) (tag : Entry) → Goes (run_most s p) s (started s p q tag).after (started s p q tag).effects
 started_goes p s q (entry.Exit code) = let few = exited_few s p code in exited_goes p s code (effect.Leave q.id ∷ (exited s p code).effects) (omega (arith, few))
-started_goes p s q (entry.Label k prm) = goes_changed p p s (with_frame (new_frame s p (kind.Ast q.id) q.mode (entry.Label k prm) (r0_of s p))) [] (kept_frame _ tt) (omega arith)
-started_goes p s q (entry.Host prm) = goes_changed p p s (with_frame (new_frame s p (kind.Ast q.id) q.mode (entry.Host prm) (r0_of s p))) [] (kept_frame _ tt) (omega arith)
+started_goes p s q (entry.Label k prm) = goes_changed p p s (with_frame (new_frame s p (kind.Ast q.id) q.mode (entry.Label k prm) (r0_of s p))) [] (omega arith)
+started_goes p s q (entry.Host prm) = goes_changed p p s (with_frame (new_frame s p (kind.Ast q.id) q.mode (entry.Host prm) (r0_of s p))) [] (omega arith)
 
 pub delivered_goes : (p : Pid) (s : State) (o : Option Queued) → IsProcess s p → GoesBy p s (delivered s p o)
 delivered_goes p s None made = goes_still p s
-delivered_goes p s (Some q) made = let t = change s p (without_ast q.id) in goes_after p s t _ _ (stays_changed s p (without_ast q.id) (kept_without q.id)) (top_frames p s (without_ast q.id) made (omega arith)) (started_goes p t q q.tag)
+delivered_goes p s (Some q) made = let t = change s p (without_ast q.id) in goes_after p s t _ _ (stays_changed s p (without_ast q.id)) (top_frames p s (without_ast q.id) made (omega arith)) (started_goes p t q q.tag)

@@ -21,12 +21,13 @@ use Rattle.vx_record.proofs.SoundCalls.{all_from_list}
 use Rattle.vx_record.proofs.SoundSteps.{first_sound, step_sound}
 use Rattle.vx_record.proofs.SystemKept.{step_keeps_system}
 use Rattle.vx_procs.specs.Kernel.{Fits, Kernel}
-use Rattle.vx_procs.specs.Ready.{HasSpares, IsBare, IsKept}
+use Rattle.vx_procs.specs.Ready.{HasSpares, IsBare}
 use Rattle.vx_exec.specs.Built.{is_built}
-use Rattle.vx_exec.specs.Ready.{HasOwner, IsReadyFor, IsSet, most}
+use Rattle.vx_exec.specs.Ready.{HasOwner, IsNext, IsReadyFor, most}
 use Rattle.vx_exec.specs.Sound.{IsGoing, IsWhole}
 use Rattle.vx_exec.proofs.Down.{rundown_goes}
-use Rattle.vx_exec.proofs.Enabled.{enabled_owned, kept_at}
+use Rattle.vx_exec.proofs.Enabled.{enabled_owned}
+use Rattle.vx_exec.proofs.Kept.{own_ids_at}
 use Rattle.vx_exec.proofs.Fired.{tick_goes}
 use Rattle.vx_exec.proofs.Goes.{Goes, delivered_goes, run_goes}
 
@@ -50,32 +51,35 @@ pub record HasBegun (k : Kernel) : Type 0 where
   pub time : k.state.time < 2 ^ 63
   pub bare : IsBare k.state
 
-set_of : (k : Kernel) (p : Pid) (limit taken : ℕ) → IsGoing k.state limit taken → IsProcess k.state p → HasBegun k → IsSet k p
-set_of k p limit taken going made begun =
+next_of : (k : Kernel) (p : Pid) (limit taken : ℕ) → IsGoing k.state limit taken → IsProcess k.state p → HasBegun k → IsNext k p
+next_of k p limit taken going made begun =
     let whole = going.whole in
-    let declared = (stands_at k.state p whole.sound made).decl in
+    let stands = stands_at k.state p whole.sound made in
     record {
-      ready = record {
-        made = made;
-        declared = declared;
-        image = decl_image k.state p whole.formed declared;
-        formed = image_formed k.state p whole.formed;
-        kept = kept_at k.state p made whole;
-        spares = begun.spares;
-        timer = begun.timer;
-        ids = omega (arith, going.ids, going.within, going.limited);
-        time = begun.time;
-        bare = begun.bare;
+      set = record {
+        ready = record {
+          made = made;
+          declared = stands.decl;
+          image = decl_image k.state p whole.formed stands.decl;
+          formed = image_formed k.state p whole.formed;
+          spares = begun.spares;
+          timer = begun.timer;
+          ids = omega (arith, going.ids, going.within, going.limited);
+          time = begun.time;
+          bare = begun.bare;
+        };
+        built = whole.built;
+        order = whole.sound.timer_ids;
       };
-      built = whole.built;
-      order = whole.kept.order;
+      waits = stands.waits;
+      ids = own_ids_at k.state p whole.sound made;
     }
 
 pub ready_for : (k : Kernel) (e : Event) (limit taken : ℕ) → IsGoing k.state limit taken → HasOwner k.state e → HasBegun k → IsReadyFor k e
-ready_for k (event.Run p) limit taken going made begun = set_of k p limit taken going made begun
-ready_for k (event.Ast p) limit taken going made begun = set_of k p limit taken going made begun
-ready_for k (event.Rdn p) limit taken going made begun = set_of k p limit taken going made begun
-ready_for k event.Tick limit taken going made begun = going.whole.kept.order
+ready_for k (event.Run p) limit taken going made begun = next_of k p limit taken going made begun
+ready_for k (event.Ast p) limit taken going made begun = next_of k p limit taken going made begun
+ready_for k (event.Rdn p) limit taken going made begun = next_of k p limit taken going made begun
+ready_for k event.Tick limit taken going made begun = going.whole.sound.timer_ids
 ready_for k (event.Beg u) limit taken going made begun = made
 ready_for k (event.Don u) limit taken going made begun = made
 
@@ -85,7 +89,7 @@ step_goes : (s : State) (e : Event) → IsWhole s → IsBare s → HasOwner s e 
 step_goes s (event.Run p) whole bare made = run_goes p s (process_at s p).frames whole.built made
 step_goes s (event.Ast p) whole bare made = delivered_goes p s (deliverable_ast s p) made
 step_goes s (event.Rdn p) whole bare made = rundown_goes p s bare made
-step_goes s event.Tick whole bare made = tick_goes s (record { order = whole.kept.order; timers = bare.timers })
+step_goes s event.Tick whole bare made = tick_goes s (record { order = whole.sound.timer_ids; timers = bare.timers })
 step_goes s (event.Beg u) whole bare made = absurd made
 step_goes s (event.Don u) whole bare made = absurd made
 
@@ -105,8 +109,7 @@ going_after s t e limit taken going bare there below leaves =
         sound = step_sound s e whole.formed whole.sound there;
         formed = subst IsWellFormed (sym same) whole.formed;
         built = subst (λ (y : System). IsTrue (is_built y)) (sym same) whole.built;
-        few = omega (arith, goes.procs, whole.few);
-        kept = goes.kept whole.kept;
+        few = goes.within whole.few;
       };
       ids = omega (arith, goes.soon, going.ids);
       within = omega arith;
@@ -129,13 +132,6 @@ born_few place (d ∷ ds) =
     let rest = born_few (place + 1) ds in
     either (λ prs. length prs ≤ length (d ∷ ds)) d.start (born_of place d ∷ born_from (place + 1) ds) (born_from (place + 1) ds) (omega (arith, rest)) (omega (arith, rest))
 
-born_kept : (place : ℕ) (ds : List ProcDecl) → AllByRecursion (IsKept 1 []) (born_from place ds)
-born_kept place [] = tt
-born_kept place (d ∷ ds) =
-    let rest = born_kept (place + 1) ds in
-    let one : IsKept 1 [] (born_of place d) = record { ids = refl; opened = tt; apart = tt; waits = (tt, tt) } in
-    either (AllByRecursion (IsKept 1 [])) d.start (born_of place d ∷ born_from (place + 1) ds) (born_from (place + 1) ds) (one, rest) rest
-
 pub first_going : (system : System) (limit : ℕ) → IsWellFormed system → IsTrue (is_built system) → limit ≤ 100000 → IsGoing (first system) limit 0
 first_going system limit formed built limited = record {
   whole = record {
@@ -143,7 +139,6 @@ first_going system limit formed built limited = record {
     formed = formed;
     built = built;
     few = omega (arith, born_few 0 system.decls, leb-true (length system.decls) 1000 formed.few_decls);
-    kept = record { order = omega arith; procs = born_kept 0 system.decls };
   };
   ids = omega arith;
   within = omega arith;

@@ -39,7 +39,7 @@ use Rattle.vx_record.specs.declared.served.Served.TheVariants.{Answered, Waits}
 use Rattle.vx_record.proofs.Lists.{either_by, find_passes}
 use Rattle.vx_record.proofs.Ground.{at_set}
 use Rattle.vx_procs.specs.Kernel.{Acts, Does, DoesQuietly, Fits, Kernel, changed, told, with_state}
-use Rattle.vx_procs.specs.Ready.{IsBareProcess, IsKept}
+use Rattle.vx_procs.specs.Ready.{IsBareProcess}
 use Rattle.vx_procs.specs.Words.{advanced_at, advanced_from, moved_as, without_started}
 use Rattle.vx_procs.proofs.Rest as rest
 use Rattle.vx_rundown.proofs.Bare.{bare_still}
@@ -49,7 +49,6 @@ use Rattle.vx_exec.specs.Ready.{IsSet, started_as}
 use Rattle.vx_exec.proofs.Calls.{IsBuiltStop, advanced_built}
 use Rattle.vx_exec.proofs.Down.{less_few}
 use Rattle.vx_exec.proofs.Goes.{call_goes, top_few}
-use Rattle.vx_exec.proofs.Kept.{Keeps, kept_moved, kept_started}
 
 pub told_none : (k : Kernel) → k ≡ told k []
 told_none k = rest.told_none k
@@ -134,8 +133,8 @@ pub record IsFewer (x y : Process) : Type 0 where
   pub frames : length y.frames ≤ length x.frames
   pub asts : length y.asts ≤ length x.asts
 
-pub set_changed : (k l : Kernel) (p : Pid) (f : Process → Process) → IsSet k p → l ≡ changed k p f → Keeps f → (IsBareProcess (process_at k.state p) → IsBareProcess (f (process_at k.state p))) → (f (process_at k.state p)).decl ≡ (process_at k.state p).decl → IsFewer (process_at k.state p) (f (process_at k.state p)) → IsSet l p
-set_changed k l p f set there keeps bare decl fewer =
+pub set_changed : (k l : Kernel) (p : Pid) (f : Process → Process) → IsSet k p → l ≡ changed k p f → (IsBareProcess (process_at k.state p) → IsBareProcess (f (process_at k.state p))) → (f (process_at k.state p)).decl ≡ (process_at k.state p).decl → IsFewer (process_at k.state p) (f (process_at k.state p)) → IsSet l p
+set_changed k l p f set there bare decl fewer =
     let s = k.state in
     let t = change s p f in
     let ready = set.ready in
@@ -148,7 +147,6 @@ set_changed k l p f set there keeps bare decl fewer =
         declared = omega (arith, its, ready.declared);
         image = omega (arith, ap (λ (n : ℕ). (slice_index_or s.system.decls n no_decl).image) its, ready.image);
         formed = subst IsImage (sym image) ready.formed;
-        kept = subst (λ (x : Process). IsKept s.next s.timers x) (sym at) (keeps s.next s.timers (process_at s p) ready.kept);
         spares = λ q m.
             let was : IsProcess s q = record { above = m.above; within = omega (arith, m.within, length-set s.procs (p.0 - 1) (f (process_at s p))) } in
             let has = ready.spares q was in
@@ -166,12 +164,12 @@ set_changed k l p f set there keeps bare decl fewer =
 
 pub set_moved : (k l : Kernel) (p : Pid) (store : Storage) (place : ℕ) → IsSet k p → l ≡ changed k p (moved_to store place) → IsSet l p
 set_moved k l p store place set there =
-    set_changed k l p (moved_to store place) set there (kept_moved store place) (λ e. record { channels = e.channels; handlers = e.handlers }) refl (record { frames = top_few _ (process_at k.state p).frames; asts = omega arith })
+    set_changed k l p (moved_to store place) set there (λ e. record { channels = e.channels; handlers = e.handlers }) refl (record { frames = top_few _ (process_at k.state p).frames; asts = omega arith })
 
 pub call_made : (k l : Kernel) (p : Pid) (c : Call) (s : Served) → IsSet k p → is_built_service c.service ≡ true → Does (service k.state p c) s k l → IsProcess l.state p
 call_made k l p c s set built did =
     let goes = call_goes p k.state c built in
-    subst (λ (x : Kernel). IsProcess x.state p) (sym did.leaves) (record { above = set.ready.made.above; within = omega (arith, set.ready.made.within, goes.procs) })
+    subst (λ (x : Kernel). IsProcess x.state p) (sym did.leaves) (record { above = set.ready.made.above; within = omega (arith, set.ready.made.within, goes.grows) })
 
 -- The top frame goes on, where it waits for nothing.
 
@@ -226,7 +224,7 @@ pub set_taken : (k l : Kernel) (p : Pid) → IsSet k p → l ≡ changed k p (wi
 set_taken k l p set there =
     let o = deliverable_ast k.state p in
     let pr = process_at k.state p in
-    set_changed k l p (without_started o) set there (kept_started o) (bare_started o pr) (same_decl o pr) (record { frames = omega (arith, ap length (same_frames o pr)); asts = fewer_asts o pr })
+    set_changed k l p (without_started o) set there (bare_started o pr) (same_decl o pr) (record { frames = omega (arith, ap length (same_frames o pr)); asts = fewer_asts o pr })
 
 -- it is in a mode that is not further out than that of the process
 

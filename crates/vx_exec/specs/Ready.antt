@@ -9,9 +9,10 @@ use Rattle.vx_base.specs.declared.routine.Entry.{Entry}
 use Rattle.vx_record.specs.State.{State, IsProcess, process_at}
 use Rattle.vx_record.specs.Events.{started}
 use Rattle.vx_record.specs.Parts.{Part}
-use Rattle.vx_record.specs.Sound.{AreOrdered, timer_id}
+use Rattle.vx_record.specs.Sound.{AreOrdered, WaitsStand, timer_id}
 use Rattle.vx_procs.specs.Kernel.{Kernel}
 use Rattle.vx_procs.specs.Ready.{IsReady}
+use Rattle.vx_procs.specs.Words.{have_own_ids}
 use Rattle.vx_exec.specs.Built.{is_built}
 
 -- A process is ready, in a system that the executive runs so far; timers stand in id order.
@@ -19,6 +20,12 @@ pub record IsSet (k : Kernel) (p : Pid) : Type 0 where
   pub ready : IsReady k p
   pub built : IsTrue (is_built k.state.system)
   pub order : AreOrdered timer_id 0 k.state.next k.state.timers
+
+-- What an event of a process relies on: its frames wait for status blocks that it has, and no two of its queued ASTs have one id.
+pub record IsNext (k : Kernel) (p : Pid) : Type 0 where
+  pub set : IsSet k p
+  pub waits : WaitsStand (process_at k.state p).frames
+  pub ids : IsTrue (have_own_ids (process_at k.state p).asts)
 
 -- the process of an event is there; of units there are no events
 abbrev pub HasOwner : State → Event → Type 0
@@ -30,9 +37,9 @@ HasOwner s other = ⊥
 
 -- what it relies on
 abbrev pub IsReadyFor : Kernel → Event → Type 0
-IsReadyFor k (event.Run p) = IsSet k p
-IsReadyFor k (event.Ast p) = IsSet k p
-IsReadyFor k (event.Rdn p) = IsSet k p
+IsReadyFor k (event.Run p) = IsNext k p
+IsReadyFor k (event.Ast p) = IsNext k p
+IsReadyFor k (event.Rdn p) = IsNext k p
 IsReadyFor k event.Tick = AreOrdered timer_id 0 k.state.next k.state.timers
 IsReadyFor k other = ⊥
 

@@ -1,16 +1,9 @@
 -- What an executive keeps of its state.
 use Rattle.std.specs.Prelude.{ℕ, ◌+◌, ◌≤◌, IsTrue, length}
-use Rattle.std.specs.List.{AllByRecursion}
 use Rattle.vx_image.specs.WellFormed.{IsWellFormed}
-use Rattle.vx_record.specs.Sound.{AreOrdered, IsSound, timer_id}
+use Rattle.vx_record.specs.Sound.{IsSound}
 use Rattle.vx_record.specs.State.{State}
-use Rattle.vx_procs.specs.Ready.{IsKept}
 use Rattle.vx_exec.specs.Built.{is_built}
-
--- timers stand in id order, and each process keeps apart the ids of its queued ASTs
-pub record AreKept (s : State) : Type 0 where
-  pub order : AreOrdered timer_id 0 s.next s.timers
-  pub procs : AllByRecursion (IsKept s.next s.timers) s.procs
 
 -- What the state names is there, in a system that is well formed and that the executive runs so far, with at most 1,000
 -- processes.
@@ -19,7 +12,6 @@ pub record IsWhole (s : State) : Type 0 where
   pub formed : IsWellFormed s.system
   pub built : IsTrue (is_built s.system)
   pub few : length s.procs ≤ 1000
-  pub kept : AreKept s
 
 -- Each record opens at most one id, and no more records were made than the limit allows.
 pub record IsGoing (s : State) (limit taken : ℕ) : Type 0 where

@@ -4,7 +4,7 @@ ghost use Rattle.std.specs.Prelude.{◌≡◌, ◌≤◌, ◌↔◌, [], ◌∷�
 ghost use Rattle.vx_record.specs.State.{IsProcess, process_at};
 ghost use Rattle.vx_record.specs.Events.{can_run, can_run_down, enabled, process_events, processes_from, tick_events};
 ghost use Rattle.vx_record.specs.Runs.{are_deleted};
-ghost use Rattle.vx_procs.specs.Ready.{IsKept};
+ghost use Rattle.vx_record.specs.Sound.{WaitsStand};
 ghost use Rattle.vx_exec.specs.Sound.{IsWhole};
 
 use vx_base::{Event, Phase, Pid, Routine};
@@ -15,7 +15,7 @@ use vx_procs::Core;
 #[tactic(auto, using(crate::proofs::Enabled::top_fits))]
 fn can_run<R: Routine>(core: &Core<R>, p: Pid) -> bool
     requires made { IsProcess core.now.state p }
-    requires kept { IsKept core.now.state.next core.now.state.timers (process_at core.now.state p) }
+    requires waits { WaitsStand (process_at core.now.state p).frames }
     ensures { result ≡ can_run core.now.state p (process_at core.now.state p).frames }
 {
     let Some(frame) = core.top(p) else {
@@ -45,7 +45,7 @@ fn can_run_down<R: Routine>(core: &Core<R>, p: Pid) -> bool
 // The event of a process, if it has one.
 fn event_of<R: Routine>(core: &Core<R>, p: Pid) -> Option<Event>
     requires made { IsProcess core.now.state p }
-    requires kept { IsKept core.now.state.next core.now.state.timers (process_at core.now.state p) }
+    requires waits { WaitsStand (process_at core.now.state p).frames }
     ensures { option_to_list result ≡ process_events core.now.state p }
 {
     if core.is_suspended(p) {
@@ -67,7 +67,7 @@ fn event_of<R: Routine>(core: &Core<R>, p: Pid) -> Option<Event>
 // How many events a process has: one or none.
 fn events_of<R: Routine>(core: &Core<R>, p: Pid) -> u32
     requires made { IsProcess core.now.state p }
-    requires kept { IsKept core.now.state.next core.now.state.timers (process_at core.now.state p) }
+    requires waits { WaitsStand (process_at core.now.state p).frames }
     ensures count { result ≡ length (process_events core.now.state p) }
     ensures few { result ≤ 1 }
 {
@@ -78,7 +78,7 @@ fn events_of<R: Routine>(core: &Core<R>, p: Pid) -> u32
 }
 
 // How many events processes have.
-#[tactic(auto, using(crate::proofs::Enabled::kept_at))]
+#[tactic(auto, using(crate::proofs::Enabled::waits_at))]
 fn process_count<R: Routine>(core: &Core<R>) -> u32
     requires { IsWhole core.now.state }
     ensures count { result ≡ length (processes_from core.now.state 1 core.now.state.procs) }
@@ -117,7 +117,7 @@ fn tick_at<R: Routine>(core: &Core<R>, place: u32) -> Option<Event>
 }
 
 /// The enabled event at a place from 0: the processes in number order, each with one event or none, and then time.
-#[tactic(auto, using(crate::proofs::Enabled::kept_at))]
+#[tactic(auto, using(crate::proofs::Enabled::waits_at))]
 pub(crate) fn enabled_at<R: Routine>(core: &Core<R>, i: u32) -> Option<Event>
     requires { IsWhole core.now.state }
     ensures { result ≡ slice_get (enabled core.now.state) i }

@@ -6,11 +6,11 @@ ghost use Rattle.vx_record.specs.State.{IsProcess, current, process_at};
 ghost use Rattle.vx_record.specs.Asts.{deliverable_ast};
 ghost use Rattle.vx_record.specs.Events.{delivered, or_normal, resumed, returned, run, run_advanced, run_on, step};
 ghost use Rattle.vx_record.specs.Flags.{wait_condition};
+ghost use Rattle.vx_record.specs.Sound.{WaitStands};
 ghost use Rattle.vx_procs.specs.Kernel.{Acts, Does, DoesQuietly, Fits};
-ghost use Rattle.vx_procs.specs.Ready.{FitsBlock};
 ghost use Rattle.vx_procs.specs.Words.{advanced_at};
 ghost use Rattle.vx_exec.specs.Built.{IsBuiltCall, is_built_service};
-ghost use Rattle.vx_exec.specs.Ready.{IsReadyFor, IsSet, started_as};
+ghost use Rattle.vx_exec.specs.Ready.{IsNext, IsReadyFor, IsSet, started_as};
 
 use crate::services::serve;
 use vx_base::{Answer, Call, Cond, Effect, Entry, Event, FrameKind, Id, Mode, Pid, Routine, Wait};
@@ -32,7 +32,7 @@ fn or_normal(cond: Option<Cond>) -> Cond
 // The wait of the top frame ends.
 fn end_wait<R: Routine>(core: &mut Core<R>, p: Pid, wait: Wait) -> Answer
     requires made { IsProcess core.old.state p }
-    requires block { FitsBlock wait }
+    requires block { WaitStands wait }
     ensures { DoesQuietly (resumed core.old.state p wait (or_normal (wait_condition core.old.state p wait))) result core.old core.new }
 {
     let cond = or_normal(wait_condition(core, p, wait));
@@ -112,7 +112,7 @@ fn go_on<R: Routine>(core: &mut Core<R>, p: Pid) -> Answer
 // RUN.
 #[tactic(auto, using(crate::proofs::Running::quietly))]
 fn run<R: Routine>(core: &mut Core<R>, p: Pid) -> Answer
-    requires set { IsSet core.old p }
+    requires next { IsNext core.old p }
     requires room { Fits core.old (run core.old.state p (process_at core.old.state p).frames).effects }
     ensures { Does (run core.old.state p (process_at core.old.state p).frames) result core.old core.new }
 {
@@ -146,7 +146,7 @@ fn start<R: Routine>(core: &mut Core<R>, p: Pid, id: Id, mode: Mode, entry: Entr
 
 // AST.
 fn deliver<R: Routine>(core: &mut Core<R>, p: Pid) -> Answer
-    requires set { IsSet core.old p }
+    requires next { IsNext core.old p }
     requires room { Fits core.old (delivered core.old.state p (deliverable_ast core.old.state p)).effects }
     ensures { Does (delivered core.old.state p (deliverable_ast core.old.state p)) result core.old core.new }
 {

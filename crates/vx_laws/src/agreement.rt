@@ -15,6 +15,7 @@ ghost use Rattle.vx_base.specs.declared.record.Rec.{Rec as RecOf};
 ghost use Rattle.vx_image.specs.Storage.{status_at};
 ghost use Rattle.vx_image.specs.declared.decl.ProcDecl.{ProcDecl as DeclOf};
 ghost use Rattle.vx_image.specs.declared.system.System.{System as SystemOf};
+ghost use Rattle.vx_laws.specs.Agreement.{StateAgrees};
 ghost use Rattle.vx_laws.specs.Agrees.{AreEntries, as_waiting, entered_frames, has_kind, is_attending, is_handler_of, is_timed, cluster_of, cluster_stands, AsCalled, IsOwned, as_stored, box_stands, device_title, is_box_named, OfChannelCall, waited};
 ghost use Rattle.vx_laws.specs.Boxes.{stored};
 ghost use Rattle.vx_record.specs.Channels.{is_unit_of};
@@ -134,4 +135,11 @@ pub fn every_box_has_its_own_name()
 #[tactic(auto, using(crate::proofs::Finished::every_gone))]
 pub fn every_process_agrees()
     ensures { AfterEveryRun (λ s past. (p : PidOf) → IsProcess s p → is_deleted (process_at s p) ≡ is_gone past p) }
+{}
+
+/// After the records of every run the state is what they leave, in all its parts: what is open, each process, flags and status
+/// blocks and common clusters, and each mailbox.
+#[tactic(auto, using(crate::proofs::StateAgrees::every_state_agrees))]
+pub fn every_state_agrees()
+    ensures { AfterEveryRun StateAgrees }
 {}

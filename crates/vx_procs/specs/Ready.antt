@@ -1,11 +1,7 @@
 -- Room that was made before, and what a call of a service relies on.
-use Rattle.std.specs.Prelude.{◌≡◌, ℕ, ◌+◌, ◌^◌, ◌<◌, ◌≤◌, List, [], false, ◌==◌, IsTrue, IfSome, length}
-use Rattle.std.specs.List.{AllByRecursion, list_any}
+use Rattle.std.specs.Prelude.{◌≡◌, ℕ, ◌+◌, ◌^◌, ◌<◌, ◌≤◌, [], IsTrue, length}
+use Rattle.std.specs.List.{AllByRecursion}
 use Rattle.vx_base.specs.Channels.{channels_of}
-use Rattle.vx_base.specs.Pieces.{Timer}
-use Rattle.vx_base.specs.declared.frame.Frame.{Frame}
-use Rattle.vx_base.specs.declared.frame.Wait.{Wait}
-use Rattle.vx_base.specs.declared.frame.Wait.TheVariants as wait
 use Rattle.vx_base.specs.declared.mode.Mode.{Mode}
 use Rattle.vx_base.specs.declared.number.Pid.{Pid}
 use Rattle.vx_base.specs.Lists.{tally}
@@ -13,7 +9,7 @@ use Rattle.vx_image.specs.WellFormed.{IsImage}
 use Rattle.vx_record.specs.State.{Process, State, IsProcess, process_at, image_of}
 use Rattle.vx_record.specs.Charges.{bears_ast, is_attention_of, charged_timer}
 use Rattle.vx_procs.specs.Kernel.{Kernel, room_at}
-use Rattle.vx_procs.specs.Words.{have_own_ids, HasDecl, HasImage}
+use Rattle.vx_procs.specs.Words.{HasDecl, HasImage}
 
 -- how many ASTs will be queued yet for what a process has opened: one for each request with an AST, attention entry, timer
 -- with an AST and scheduled wake, as ASTLM charges them
@@ -32,24 +28,6 @@ pub record HasSpare (k : Kernel) (p : Pid) : Type 0 where
 -- and of each process
 abbrev pub HasSpares : Kernel → Type 0
 HasSpares k = (p : Pid) → IsProcess k.state p → HasSpare k p
-
--- the I/O status block that a wait names is one that a process has, or none
-abbrev pub FitsBlock : Wait → Type 0
-FitsBlock (wait.Flags efn mask all) = Unit {0}
-FitsBlock (wait.Synch efn iosb) = iosb ≤ 32
-FitsBlock wait.Hiber = Unit {0}
-
--- each status block that a frame waits for is there
-abbrev pub FitWaits : List Frame → Type 0
-FitWaits frames = AllByRecursion (λ f. IfSome f.wait FitsBlock) frames
-
--- No two queued ASTs of a process have one id, their ids were opened, and none is a timer's; a status block that a frame waits for
--- is there.
-pub record IsKept (next : ℕ) (timers : List Timer) (pr : Process) : Type 0 where
-  pub ids : IsTrue (have_own_ids pr.asts)
-  pub opened : AllByRecursion (λ q. q.id.0 < next) pr.asts
-  pub apart : AllByRecursion (λ t. list_any (λ q. q.id.0 == t.id.0) pr.asts ≡ false) timers
-  pub waits : FitWaits pr.frames
 
 -- a process has no channel and no exit handler
 pub record IsBareProcess (pr : Process) : Type 0 where
@@ -75,7 +53,6 @@ pub record IsReady (k : Kernel) (p : Pid) : Type 0 where
   pub declared : HasDecl k.state p
   pub image : HasImage k.state p
   pub formed : IsImage (image_of k.state p)
-  pub kept : IsKept k.state.next k.state.timers (process_at k.state p)
   pub spares : HasSpares k
   pub timer : length k.state.timers + 1 ≤ k.timers
   pub ids : k.state.next < 4294967295

@@ -63,8 +63,8 @@ cancel_done p m k l n o h handled drops drained =
     ∙ (ap (λ (x : Kernel). changed (acted x (drop_timers (is_timer_in p m) x.state)) p (in_phase (phase.Draining m))) handled
     ∙ (ap at (sym (append-nil part.effects)) ∙ ap (acted k) (sym (cancelled_as p m k.state h)))))
 
-pub leaving_of : (k : Kernel) (p : Pid) → IsReady k p → AreOrdered timer_id 0 k.state.next k.state.timers → IsLeaving k.state p
-leaving_of k p ready order = record { made = ready.made; ids = ready.kept.ids; order = order; bare = ready.bare }
+pub leaving_of : (k : Kernel) (p : Pid) → IsReady k p → IsTrue (have_own_ids (process_at k.state p).asts) → AreOrdered timer_id 0 k.state.next k.state.timers → IsLeaving k.state p
+leaving_of k p ready ids order = record { made = ready.made; ids = ids; order = order; bare = ready.bare }
 
 -- The loop: what is left of a rundown, of a process that is leaving.
 

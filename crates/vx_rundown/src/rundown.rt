@@ -1,11 +1,13 @@
 //! Rundown of a process that has no frame left.
 
-ghost use Rattle.std.specs.Prelude.{◌≡◌};
+ghost use Rattle.std.specs.Prelude.{◌≡◌, IsTrue};
 ghost use Rattle.vx_record.specs.Rundown.{drop_asts, gone, is_timer_in, rundown, run_down};
 ghost use Rattle.vx_record.specs.Sound.{AreOrdered, timer_id};
+ghost use Rattle.vx_record.specs.State.{process_at};
 ghost use Rattle.vx_record.specs.Timers.{drop_timers};
 ghost use Rattle.vx_procs.specs.Kernel.{Acts, Does, Fits};
 ghost use Rattle.vx_procs.specs.Ready.{IsReady};
+ghost use Rattle.vx_procs.specs.Words.{have_own_ids};
 ghost use Rattle.vx_rundown.specs.Leaving.{IsLeaving, cancelled};
 ghost use Rattle.vx_rundown.specs.Modes.{modes_from, next_inner};
 
@@ -87,6 +89,7 @@ fn run_down<R: Routine>(core: &mut Core<R>, p: Pid, outermost: Option<Mode>) -> 
 /// One step of the rundown of a process, from where it stands to its end.
 pub fn rundown_step<R: Routine>(core: &mut Core<R>, p: Pid) -> Answer
     requires ready { IsReady core.old p }
+    requires ids { IsTrue (have_own_ids (process_at core.old.state p).asts) }
     requires order { AreOrdered timer_id 0 core.old.state.next core.old.state.timers }
     requires room { Fits core.old (rundown core.old.state p).effects }
     ensures { Does (rundown core.old.state p) result core.old core.new }
