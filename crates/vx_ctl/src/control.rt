@@ -49,8 +49,8 @@ fn may_control<R: Routine>(core: &Core<R>, p: Pid, q: Pid) -> bool
     p.0 == q.0 || (is_near && is_own) || (is_near && privs.group) || privs.world
 }
 
-// The process test: NONEXPR where the number names no process that can be controlled, NOPRIV where the caller may not.
-fn process_test<R: Routine>(core: &Core<R>, p: Pid, n: u32) -> Result<Pid, Cond>
+/// The process test: NONEXPR where the number names no process that can be controlled, NOPRIV where the caller may not.
+pub(crate) fn process_test<R: Routine>(core: &Core<R>, p: Pid, n: u32) -> Result<Pid, Cond>
     requires { IsProcess core.now.state p }
     ensures test { result ≡ process_test core.now.state p n }
     ensures made { IfOk result (λ q. IsProcess core.now.state q) }

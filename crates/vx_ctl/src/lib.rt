@@ -16,6 +16,7 @@ mod refused;
 mod time;
 mod timers;
 mod waits;
+mod wakes;
 
 pub use asts::{dclast, setast};
 pub use clusters::{ascefc, dacefc, dlcefc};
@@ -25,5 +26,6 @@ pub use flags::{clref, readef, setef};
 pub use modes::{cmexec, cmkrnl};
 pub use refused::Refused;
 pub use time::{gettim, tick};
-pub use timers::setimr;
+pub use timers::{cantim, setimr};
 pub use waits::{hiber, wait_condition, waitfr, wfland, wflor};
+pub use wakes::{canwak, schdwk};

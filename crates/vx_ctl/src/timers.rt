@@ -1,17 +1,19 @@
-//! Services on timers, and time.
+//! Services on timers.
 
 ghost use Rattle.std.specs.Prelude.{◌≡◌, ◌≤◌, ◌<◌, ◌+◌, ◌^◌, false, IfErr, Some, Option, is_some, option_map, length};
 ghost use Rattle.vx_record.specs.State.{IsProcess};
 ghost use Rattle.vx_record.specs.Charges.{exceeds, timer_need};
-ghost use Rattle.vx_record.specs.Timers.{mode_of_ast, open_timer, setimr};
+ghost use Rattle.vx_record.specs.Timers.{cantim, mode_of_ast, open_timer, setimr};
+ghost use Rattle.vx_record.specs.Sound.{AreOrdered, timer_id};
 ghost use Rattle.vx_procs.specs.Kernel.{Acts, Does, Fits};
 ghost use Rattle.vx_procs.specs.Ready.{HasSpares, IsReady};
 ghost use Rattle.vx_ctl.specs.Answers.{cond_of};
 
 use crate::flags::put_cell;
 use crate::refused::Refused;
-use vx_base::{Cond, Effect, Mode, Opened, Pid, Routine};
-use vx_procs::{Core, timer_need};
+use vx_base::{Cond, Effect, Mode, Opened, Pid, Routine, outer_of};
+use vx_procs::{Core, drop_timers, timer_need};
+use vx_timers::Which;
 
 // The mode of an AST, if there is one.
 fn mode_of_ast<R: Routine>(mode: Mode, routine: &Option<R>) -> Option<Mode>
@@ -50,7 +52,7 @@ fn open_timer<R: Routine>(
         mode: mode_of_ast(mode, &routine),
         n: 0,
     });
-    core.add_timer(p, id, core.time() + delta as u64, efn, reqid, mode, routine);
+    core.add_timer(p, id, delta, efn, reqid, mode, routine);
 }
 
 /// $SETIMR: clears an event flag, and sets a timer so many ticks ahead, with an AST or without: ILLEFC and UNASEFC as $CLREF
@@ -90,4 +92,17 @@ pub fn setimr<R: Routine>(
     put_cell(core, cell, false);
     open_timer(core, p, efn, delta, routine, reqid);
     Ok(Cond::Normal)
+}
+
+/// $CANTIM: ends the caller's timers that are not of a mode further in than the one that is named and the caller's, with an
+/// identification, 0 for any. What they are charged is given back.
+pub fn cantim<R: Routine>(core: &mut Core<R>, p: Pid, reqid: u32, mode: Mode) -> Cond
+    requires ready { IsReady core.old p }
+    requires order { AreOrdered timer_id 0 core.old.state.next core.old.state.timers }
+    requires room { Fits core.old (cantim core.old.state p reqid mode).effects }
+    ensures { Does (cantim core.old.state p reqid mode) result core.old core.new }
+{
+    let mode = outer_of(mode, core.current_mode(p));
+    drop_timers(core, Which::Cancelled(p, reqid, mode));
+    Cond::Normal
 }

@@ -2,7 +2,7 @@
 use Rattle.std.proofs.Common.{◌≡◌, ℕ, ◌+◌, ◌≤◌, List, [], ◌∷◌, Bool, true, false, cond, ◌==◌, Some, None, ap, sym, ◌∙◌, refl, arith}
 use Rattle.std.specs.List.{filter, find}
 use Rattle.std.proofs.lemmas.Bool.{eq-eqb, eqb-true}
-use Rattle.vx_base.specs.Lists.{less}
+use Rattle.vx_base.specs.Lists.{amend, less}
 use Rattle.vx_record.specs.Sound.{AreOrdered}
 use Rattle.vx_record.proofs.Lists.{all_find, all_from, false_from}
 
@@ -35,4 +35,18 @@ less_same key p low high (y ∷ ys) x order e =
           let above : key y + 1 ≤ key x = all_find (λ z. key y + 1 ≤ key z) p ys x (all_from key (key y + 1) high ys order.1) found in
           let isnt : (key y == key x) ≡ false = false_from (key y == key x) (λ same. let e = eqb-true (key y) (key x) same in omega (arith, above, e)) in
           ap (λ b. cond b ys (y ∷ less (λ z. key z == key x) ys)) isnt ∙ ap (λ zs. y ∷ zs) (less_same key p (key y + 1) high ys x order.1 found)
+    ] e
+
+pub amend_like : {A : Type 0} (key : A → ℕ) (p : A → Bool) (f : A → A) (low high : ℕ) (xs : List A) (x : A) → AreOrdered key low high xs → find p xs ≡ Some x → amend (λ y. key y == key x) f xs ≡ amend p f xs
+amend_like key p f low high [] x order e = refl
+amend_like key p f low high (y ∷ ys) x order e =
+    elim (p y) as (λ b. cond b (Some y) (find p ys) ≡ Some x → cond (key y == key x) (f y ∷ ys) (y ∷ amend (λ z. key z == key x) f ys) ≡ cond b (f y ∷ ys) (y ∷ amend p f ys)) [
+      | true ↦ λ found.
+          let same : y ≡ x = cc in
+          let is : (key y == key x) ≡ true = eq-eqb (key y) (key x) (ap key same) in
+          ap (λ b. cond b (f y ∷ ys) (y ∷ amend (λ z. key z == key x) f ys)) is
+      | false ↦ λ found.
+          let above : key y + 1 ≤ key x = all_find (λ z. key y + 1 ≤ key z) p ys x (all_from key (key y + 1) high ys order.1) found in
+          let isnt : (key y == key x) ≡ false = false_from (key y == key x) (λ same. let e = eqb-true (key y) (key x) same in omega (arith, above, e)) in
+          ap (λ b. cond b (f y ∷ ys) (y ∷ amend (λ z. key z == key x) f ys)) isnt ∙ ap (λ zs. y ∷ zs) (amend_like key p f (key y + 1) high ys x order.1 found)
     ] e

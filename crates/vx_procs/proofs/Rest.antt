@@ -58,3 +58,15 @@ answering_on whole first k l rest a f splits there h = record {
 
 pub answering_end : {A : Type 0} (whole : Outcome A) (first k l : Kernel) (rest : Outcome A) (answer : A) → IsAnswering whole first rest k → Does rest answer k l → Does whole answer first l
 answering_end whole first k l rest answer h did = record { answers = did.answers ∙ h.answers; leaves = did.leaves ∙ h.doing.leaves }
+
+-- One part and then another.
+
+pub room_first : (k : Kernel) (a : Part) (f : State → Part) → Fits k (and_then a f).effects → Fits k a.effects
+room_first k a f room = omega (arith, room, length-append a.effects (f a.after).effects)
+
+pub room_second : (k l : Kernel) (a : Part) (f : State → Part) → l ≡ acted k a → Fits k (and_then a f).effects → Fits l (f l.state).effects
+room_second k l a f did room = subst (λ (x : Kernel). Fits x (f x.state).effects) (sym did) (omega (arith, room, length-append a.effects (f a.after).effects, length-append k.log.items a.effects))
+
+pub acts_both : (k l n : Kernel) (a : Part) (f : State → Part) → l ≡ acted k a → n ≡ acted l (f l.state) → n ≡ acted k (and_then a f)
+acts_both k l n a f did then =
+    then ∙ (ap (λ (x : Kernel). acted x (f x.state)) did ∙ ap (λ zs. let x : Kernel = record k { state = (f a.after).after; log = record k.log { items = zs } } in x) (append_assoc k.log.items a.effects (f a.after).effects))

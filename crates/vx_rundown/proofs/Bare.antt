@@ -1,8 +1,8 @@
--- Rundown where nothing is open but ASTs, timers and common clusters: no channel, handler, request or wake stands in the way.
+-- Rundown where nothing is open but ASTs, timers, wakes and common clusters: no channel, handler or request stands in the way.
 use Rattle.std.proofs.Common.{◌≡◌, ℕ, ◌-◌, Bool, true, false, cond, ◌&&◌, if◌then◌else◌, List, [], ◌∷◌, ◌++◌, IsTrue, refl, ap, sym, subst, ◌∙◌}
 use Rattle.std.specs.List.{AllByRecursion, filter, find, list_any}
 use Rattle.vx_base.specs.Lists.{less}
-use Rattle.vx_base.specs.Pieces.{Alarm, Handler, OfTimer, OfWake, Queued, Request, Timer}
+use Rattle.vx_base.specs.Pieces.{Handler, Queued, Request, Timer}
 use Rattle.vx_base.specs.declared.frame.Phase.{Phase}
 use Rattle.vx_base.specs.declared.frame.Phase.TheVariants as phase
 use Rattle.vx_base.specs.declared.mode.Mode.{Mode}
@@ -11,13 +11,12 @@ use Rattle.vx_base.specs.declared.number.Pid.{Pid}
 use Rattle.vx_base.specs.declared.record.Answer.{Answer}
 use Rattle.vx_base.specs.declared.record.Answer.TheVariants as answer
 use Rattle.vx_record.specs.State.{Process, State, process_at, change, nobody}
-use Rattle.vx_record.specs.Charges.{is_same, is_timer}
 use Rattle.vx_record.specs.Parts.{Part, Outcome, nothing, and_then, each, answered, followed_by}
 use Rattle.vx_record.specs.Timers.{drop_timer, drop_timers, is_wake_for}
 use Rattle.vx_record.specs.Rundown.{in_phase, without_ast, is_ast_reached, keeps_busy, cancel_one, free_one, cancelled_in, is_timer_in, is_wake_by, draining, handling, drop_ast, drop_asts, part_with, release, drop_handler, any_handler, gone, gone_part, is_handler_of, run_handlers, run_down, drain, inner_modes, rundown_from, rundown}
-use Rattle.vx_record.proofs.Lists.{all_get, all_less, all_set}
+use Rattle.vx_record.proofs.Lists.{all_get, all_set}
 use Rattle.vx_procs.specs.Ready.{IsBare, IsBareProcess}
-use Rattle.vx_rundown.specs.Leaving.{cancelled, released}
+use Rattle.vx_rundown.specs.Leaving.{cancelled, entries_part, released}
 use Rattle.vx_rundown.specs.Modes.{modes_from, next_inner}
 use Rattle.vx_rundown.proofs.Changed.{quiet_then}
 
@@ -27,13 +26,13 @@ bare_process : (s : State) (p : Pid) → IsBare s → IsBareProcess (process_at 
 bare_process s p b = all_get IsBareProcess s.procs (p.0 - 1) nobody (record { channels = λ m. refl; handlers = refl }) b.procs
 
 pub bare_still : (s : State) (p : Pid) (f : Process → Process) → (IsBareProcess (process_at s p) → IsBareProcess (f (process_at s p))) → IsBare s → IsBare (change s p f)
-bare_still s p f k b = record { requests = b.requests; timers = b.timers; procs = all_set IsBareProcess s.procs (p.0 - 1) (f (process_at s p)) nobody k b.procs }
+bare_still s p f k b = record { requests = b.requests; procs = all_set IsBareProcess s.procs (p.0 - 1) (f (process_at s p)) nobody k b.procs }
 
 pub in_phase_bare : (s : State) (p : Pid) (ph : Phase) → IsBare s → IsBare (change s p (in_phase ph))
 in_phase_bare s p ph b = bare_still s p (in_phase ph) (λ e. record { channels = e.channels; handlers = e.handlers }) b
 
 pub bare_timers : (s : State) (test : Timer → Bool) → IsBare s → IsBare (record s { timers = less test s.timers })
-bare_timers s test b = record { requests = b.requests; procs = b.procs; timers = all_less (λ (t : Timer). IsTrue (is_timer t.what)) test s.timers b.timers }
+bare_timers s test b = record { requests = b.requests; procs = b.procs }
 
 drops_bare : (p : Pid) (qs : List Queued) (s : State) → IsBare s → IsBare (each (drop_ast p) qs s).after
 drops_bare p [] s b = b
@@ -49,47 +48,25 @@ timers_bare (t ∷ ts) s b = timers_bare ts (drop_timer s t).after (bare_timers 
 pub drop_timers_bare : (test : Timer → Bool) (s : State) → IsBare s → IsBare (drop_timers test s).after
 drop_timers_bare test s b = timers_bare (filter test s.timers) s b
 
--- So there are no wakes,
+pub entries_bare : (p : Pid) (m : Mode) (s : State) → IsBare s → IsBare (entries_part p m s).after
+entries_bare p m s b = drop_timers_bare (is_wake_by p) (drop_timers (is_timer_in p m) s).after (drop_timers_bare (is_timer_in p m) s b)
 
-none_passes : (test : Timer → Bool) → ((t : Timer) → IsTrue (is_timer t.what) → test t ≡ false) → (ts : List Timer) → AllByRecursion (λ (t : Timer). IsTrue (is_timer t.what)) ts → filter test ts ≡ []
-none_passes test fails [] h = refl
-none_passes test fails (t ∷ ts) h = ap (λ b. cond b (t ∷ filter test ts) (filter test ts)) (fails t h.0) ∙ none_passes test fails ts h.1
+-- Cancelling a mode drops timers and wakes alone, and no channel is freed as it is released.
 
-wakes_none : (test : Timer → Bool) (s : State) → ((t : Timer) → IsTrue (is_timer t.what) → test t ≡ false) → IsBare s → drop_timers test s ≡ nothing s
-wakes_none test s fails b = ap (λ (ts : List Timer). each drop_timer ts s) (none_passes test fails s.timers b.timers)
-
-never : (b : Bool) → (b && false) ≡ false
-never true = refl
-never false = refl
-
-not_by : (p : Pid) (t : Timer) (a : Alarm) → t.what ≡ a → IsTrue (is_timer a) → is_wake_by p t ≡ false
-not_by p t (OfTimer efn reqid mode tag) what timer = rw what (never (is_same t.p p))
-not_by p t (OfWake target repeat) what timer = absurd (cc)
-
-not_for : (p : Pid) (t : Timer) (a : Alarm) → t.what ≡ a → IsTrue (is_timer a) → is_wake_for p t ≡ false
-not_for p t (OfTimer efn reqid mode tag) what timer = rw what refl
-not_for p t (OfWake target repeat) what timer = absurd (cc)
-
--- cancelling a mode drops timers alone, and no channel is freed as it is released.
-
-pub cancelled_timers : (s : State) (p : Pid) (m : Mode) → IsBare s → cancelled_in s p m ≡ and_then (drop_timers (is_timer_in p m) s) (λ a. nothing (draining p m a))
-cancelled_timers s p m b =
-    let drops = drop_timers (is_timer_in p m) s in
+pub cancelled_entries : (s : State) (p : Pid) (m : Mode) → IsBare s → cancelled_in s p m ≡ and_then (entries_part p m s) (λ a. nothing (draining p m a))
+cancelled_entries s p m b =
     let all : List ℕ → Part = λ ns. and_then (and_then (and_then (each (cancel_one p) ns s) (drop_timers (is_timer_in p m))) (drop_timers (is_wake_by p))) (λ a. nothing (draining p m a)) in
-    let last : Part → Part = λ a. and_then a (λ a. nothing (draining p m a)) in
     ap all ((bare_process s p b).channels m)
-    ∙ ap last (quiet_then drops (drop_timers (is_wake_by p)) (wakes_none (is_wake_by p) drops.after (λ t timer. not_by p t t.what refl timer) (drop_timers_bare (is_timer_in p m) s b)))
 
 released_alone : (s : State) (p : Pid) (m : Mode) → IsBare s → release s p m ≡ released p m s
 released_alone s p m b =
     let freed : List ℕ → Part = λ ns. and_then (and_then (and_then (each (free_one p) ns s) (drop_asts p m)) (part_with p 2)) (part_with p 3) in
     ap freed ((bare_process s p b).channels m)
 
-pub gone_alone : (s : State) (p : Pid) → IsBare s → gone s p ≡ answered answer.Gone (gone_part p s)
-gone_alone s p b =
+pub gone_wakes : (s : State) (p : Pid) → IsBare s → gone s p ≡ answered answer.Gone (and_then (drop_timers (is_wake_for p) s) (gone_part p))
+gone_wakes s p b =
     let last : List Handler → Outcome Answer = λ hs. answered answer.Gone (and_then (and_then (each (drop_handler p) (filter any_handler hs) s) (drop_timers (is_wake_for p))) (gone_part p)) in
-    let from : Part → Outcome Answer = λ a. answered answer.Gone (and_then a (gone_part p)) in
-    ap last (bare_process s p b).handlers ∙ ap from (quiet_then (nothing s) (drop_timers (is_wake_for p)) (wakes_none (is_wake_for p) s (λ t timer. not_for p t t.what refl timer) b))
+    ap last (bare_process s p b).handlers
 
 -- a mode that is drained
 pub drained : (s : State) (p : Pid) (m : Mode) (next : State → Outcome Answer) → IsBare s → drain p m next s ≡ followed_by (released p m s) next
@@ -101,8 +78,8 @@ pub cancelled_bare : (p : Pid) (m : Mode) (s : State) → IsBare s → IsBare (c
 cancelled_bare p m s b =
     let t = handling p m s in
     let still = in_phase_bare s p (phase.Handlers m) b in
-    let drops = drop_timers (is_timer_in p m) t in
-    subst (λ (a : Part). IsBare a.after) (sym (cancelled_timers t p m still)) (in_phase_bare drops.after p (phase.Draining m) (drop_timers_bare (is_timer_in p m) t still))
+    let drops = entries_part p m t in
+    subst (λ (a : Part). IsBare a.after) (sym (cancelled_entries t p m still)) (in_phase_bare drops.after p (phase.Draining m) (entries_bare p m t still))
 
 -- a mode, and then those further in
 pub mode_done : (s : State) (p : Pid) (m : Mode) (ms : List Mode) → IsBare s → run_down p (m ∷ ms) s ≡ followed_by (cancelled p m s) (λ t. followed_by (released p m t) (run_down p ms))

@@ -1,4 +1,4 @@
--- Queued ASTs of a mode and outer ones are dropped, and timers, the first of them at a time.
+-- Queued ASTs of a mode and outer ones are dropped, the first of them at a time, and a process that is leaving as its timers end.
 use Rattle.std.proofs.Common.{◌≡◌, ◌-◌, ◌<◌, List, [], ◌∷◌, Bool, true, false, cond, not, ◌==◌, length, eq-eqb, arith, IsTrue, Option, Some, None, option_map, refl, ap, sym, subst, ◌∙◌}
 use Rattle.std.specs.List.{filter, find, list_any}
 use Rattle.std.proofs.lemmas.Bool.{and_parts, and_from, not-true, or_parts}
@@ -13,15 +13,16 @@ use Rattle.vx_base.specs.declared.number.Pid.{Pid}
 use Rattle.vx_record.proofs.Lists.{either, fails_not, ordered_less}
 use Rattle.vx_record.specs.State.{Process, State, IsProcess, process_at, change, nobody}
 use Rattle.vx_record.specs.Parts.{Part, tells, and_then, each}
-use Rattle.vx_record.specs.Rundown.{drop_ast, drop_asts, is_ast_reached, without_ast}
+use Rattle.vx_record.specs.Rundown.{drop_ast, drop_asts, is_ast_reached, is_timer_in, is_wake_by, without_ast}
 use Rattle.vx_record.specs.Sound.{timer_id}
 use Rattle.vx_record.specs.Timers.{drop_timer, drop_timers, this_timer}
 use Rattle.vx_procs.specs.Kernel.{Acts, Fits, Kernel, changed, told, with_state}
 use Rattle.vx_procs.specs.Words.{have_own_ids, without_reached, without_timer}
 use Rattle.vx_procs.proofs.Booked.{length-less}
-use Rattle.vx_procs.proofs.Firsts.{filter_found, filter_none, less_same}
+use Rattle.vx_procs.proofs.Ended.{found_id, found_none}
+use Rattle.vx_procs.proofs.Firsts.{filter_found, filter_none}
 use Rattle.vx_procs.proofs.Rest.{IsDoing, acted, doing_begun, doing_end, doing_on, doing_room}
-use Rattle.vx_rundown.specs.Leaving.{IsLeaving}
+use Rattle.vx_rundown.specs.Leaving.{IsLeaving, entries_part}
 use Rattle.vx_rundown.proofs.Bare.{bare_still, bare_timers}
 use Rattle.vx_rundown.proofs.Changed.{process_there, made_still}
 
@@ -67,16 +68,6 @@ less_own p (x ∷ xs) q own found =
           let other : (x.id.0 == q.id.0) ≡ false = none_found p (λ r. x.id.0 == r.id.0) xs q (not-true _ parts.0) more in
           rw other (ap (λ ys. x ∷ ys) (less_own p xs q parts.1 more))
     ] found
-
--- What was found, by its id.
-
-found_id : {A : Type 0} (key : A → Id) (o : Option A) (id : Id) → Some id ≡ option_map key o → (x : A) × ((o ≡ Some x) × (key x ≡ id))
-found_id key None id e = absurd (cc)
-found_id key (Some x) id e = (x, (refl, let same : id ≡ key x = cc in sym same))
-
-found_none : {A : Type 0} (key : A → Id) (o : Option A) → None ≡ option_map key o → o ≡ None
-found_none key None e = refl
-found_none key (Some x) e = absurd (cc)
 
 -- ASTs.
 
@@ -167,36 +158,5 @@ timers_each p (t ∷ ts) s h = timers_each p ts (drop_timer s t).after (timer_le
 pub timers_leaving : (p : Pid) (test : Timer → Bool) (s : State) → IsLeaving s p → IsLeaving (drop_timers test s).after p
 timers_leaving p test s h = timers_each p (filter test s.timers) s h
 
-timer_first : (s : State) (p : Pid) (test : Timer → Bool) (t : Timer) → IsLeaving s p → find test s.timers ≡ Some t → drop_timers test s ≡ and_then (tells (effect.Drop t.id) (without_timer test s)) (drop_timers test)
-timer_first s p test t h found =
-    let rest = filter test (less test s.timers) in
-    let told : State → Part = λ u. and_then (tells (effect.Drop t.id) u) (each drop_timer rest) in
-    ap (λ ts. each drop_timer ts s) (filter_found test s.timers t found)
-    ∙ ap (λ (ts : List Timer). told (record s { timers = ts })) (less_same timer_id test 0 s.next s.timers t h.order found)
-
-pub timer_room : (p : Pid) (test : Timer → Bool) (first k l : Kernel) (id : Id) → IsDropping p (drop_timers test) first k → Some id ≡ option_map (λ t. t.id) (find test k.state.timers) → l ≡ with_state k (without_timer test k.state) → Fits l (effect.Drop id ∷ [])
-timer_room p test first k l id h given there =
-    let found = found_id (λ (t : Timer). t.id) (find test k.state.timers) id given in
-    let room = doing_room (drop_timers test first.state) first k (drop_timers test k.state) (tells (effect.Drop found.0.id) (without_timer test k.state)) (drop_timers test) (timer_first k.state p test found.0 h.leaving found.1.0) h.doing in
-    rw there room
-
-pub timer_more : (p : Pid) (test : Timer → Bool) (first k l n : Kernel) (id : Id) → IsDropping p (drop_timers test) first k → Some id ≡ option_map (λ t. t.id) (find test k.state.timers) → l ≡ with_state k (without_timer test k.state) → n ≡ told l (effect.Drop id ∷ []) → IsDropping p (drop_timers test) first n
-timer_more p test first k l n id h given there tells_it =
-    let found = found_id (λ (t : Timer). t.id) (find test k.state.timers) id given in
-    let a : Part = tells (effect.Drop found.0.id) (without_timer test k.state) in
-    let did : n ≡ acted k a = tells_it ∙ (ap (λ (x : Kernel). told x (effect.Drop id ∷ [])) there ∙ ap (λ (i : Id). told (with_state k (without_timer test k.state)) (effect.Drop i ∷ [])) (sym found.1.1)) in
-    record {
-      leaving = subst (λ (x : Kernel). IsLeaving x.state p) (sym did) (timer_leaving k.state p test h.leaving);
-      doing = doing_on (drop_timers test first.state) first k n (drop_timers test k.state) a (drop_timers test) (timer_first k.state p test found.0 h.leaving found.1.0) did h.doing;
-    }
-
-pub timer_fewer : (test : Timer → Bool) (k l : Kernel) (id : Id) → Some id ≡ option_map (λ t. t.id) (find test k.state.timers) → l ≡ with_state k (without_timer test k.state) → length l.state.timers < length k.state.timers
-timer_fewer test k l id given there =
-    let found = found_id (λ (t : Timer). t.id) (find test k.state.timers) id given in
-    let fewer = length-less test k.state.timers found.0 found.1.0 in
-    rw there (omega (arith, fewer))
-
-pub timer_end : (p : Pid) (test : Timer → Bool) (first k l : Kernel) → IsDropping p (drop_timers test) first k → None ≡ option_map (λ t. t.id) (find test k.state.timers) → l ≡ with_state k (without_timer test k.state) → Acts (drop_timers test first.state) first l
-timer_end p test first k l h given there =
-    let none = found_none (λ (t : Timer). t.id) (find test k.state.timers) given in
-    doing_end (drop_timers test first.state) first k l (drop_timers test k.state) (ap (λ ts. each drop_timer ts k.state) (filter_none test k.state.timers none)) (there ∙ ap (λ (ts : List Timer). with_state k (record k.state { timers = ts })) (less_none test k.state.timers none)) h.doing
+pub entries_leaving : (p : Pid) (m : Mode) (s : State) → IsLeaving s p → IsLeaving (entries_part p m s).after p
+entries_leaving p m s h = timers_leaving p (is_wake_by p) (drop_timers (is_timer_in p m) s).after (timers_leaving p (is_timer_in p m) s h)

@@ -16,7 +16,7 @@ use Rattle.vx_rundown.proofs.Dropped.{asts_leaving}
 -- The state stays one of a process that is leaving.
 
 parted_bare : (s : State) (p : Pid) (k : ℕ) → IsBare s → IsBare (part_with p k s).after
-parted_bare s p k b = record { requests = b.requests; timers = b.timers; procs = b.procs }
+parted_bare s p k b = record { requests = b.requests; procs = b.procs }
 
 parted_leaving : (p : Pid) (k : ℕ) (s : State) → IsLeaving s p → IsLeaving (part_with p k s).after p
 parted_leaving p k s h = record {

@@ -9,18 +9,17 @@ use Rattle.vx_base.specs.declared.number.Pid.{Pid}
 use Rattle.vx_base.specs.declared.record.Answer.{Answer}
 use Rattle.vx_record.specs.State.{Process, State, change, process_at}
 use Rattle.vx_record.specs.Parts.{Outcome, Part, and_then, followed_by, nothing}
-use Rattle.vx_record.specs.Rundown.{draining, handling, in_phase, inner_modes, is_timer_in, run_down, rundown}
+use Rattle.vx_record.specs.Rundown.{draining, handling, in_phase, inner_modes, run_down, rundown}
 use Rattle.vx_record.specs.Sound.{AreOrdered, timer_id}
-use Rattle.vx_record.specs.Timers.{drop_timers}
 use Rattle.vx_procs.specs.Kernel.{Acts, Fits, Kernel, changed, told, with_state}
 use Rattle.vx_procs.specs.Ready.{IsReady}
 use Rattle.vx_procs.specs.Words.{have_own_ids}
 use Rattle.vx_procs.proofs.Rest.{IsAnswering, acted, answering_begun, answering_on, answering_room}
-use Rattle.vx_rundown.specs.Leaving.{IsLeaving, cancelled, released}
+use Rattle.vx_rundown.specs.Leaving.{IsLeaving, cancelled, entries_part, released}
 use Rattle.vx_rundown.specs.Modes.{modes_from, next_inner}
-use Rattle.vx_rundown.proofs.Bare.{cancelled_timers, in_phase_bare, inner_next, mode_done, rundown_drains}
+use Rattle.vx_rundown.proofs.Bare.{cancelled_entries, in_phase_bare, inner_next, mode_done, rundown_drains}
 use Rattle.vx_rundown.proofs.Changed.{made_still, process_there}
-use Rattle.vx_rundown.proofs.Dropped.{timers_leaving}
+use Rattle.vx_rundown.proofs.Dropped.{entries_leaving}
 use Rattle.vx_rundown.proofs.Released.{released_leaving}
 
 -- A mode is cancelled.
@@ -33,35 +32,35 @@ phase_leaving s p ph h = record {
   bare = in_phase_bare s p ph h.bare;
 }
 
--- its timers end, between two phases
-abbrev timers_part : Pid → Mode → State → Part
-timers_part p m s = drop_timers (is_timer_in p m) (handling p m s)
+-- what it set ends, between two phases
+abbrev ended_part : Pid → Mode → State → Part
+ended_part p m s = entries_part p m (handling p m s)
 
-cancelled_as : (p : Pid) (m : Mode) (s : State) → IsLeaving s p → cancelled p m s ≡ and_then (timers_part p m s) (λ a. nothing (draining p m a))
-cancelled_as p m s h = cancelled_timers (handling p m s) p m (phase_leaving s p (phase.Handlers m) h).bare
+cancelled_as : (p : Pid) (m : Mode) (s : State) → IsLeaving s p → cancelled p m s ≡ and_then (ended_part p m s) (λ a. nothing (draining p m a))
+cancelled_as p m s h = cancelled_entries (handling p m s) p m (phase_leaving s p (phase.Handlers m) h).bare
 
 pub cancelled_leaving : (p : Pid) (m : Mode) (s : State) → IsLeaving s p → IsLeaving (cancelled p m s).after p
 cancelled_leaving p m s h =
     let t = handling p m s in
-    let here = phase_leaving (timers_part p m s).after p (phase.Draining m) (timers_leaving p (is_timer_in p m) t (phase_leaving s p (phase.Handlers m) h)) in
+    let here = phase_leaving (ended_part p m s).after p (phase.Draining m) (entries_leaving p m t (phase_leaving s p (phase.Handlers m) h)) in
     subst (λ (a : Part). IsLeaving a.after p) (sym (cancelled_as p m s h)) here
 
-pub cancel_room : (p : Pid) (m : Mode) (k l : Kernel) → IsLeaving k.state p → l ≡ changed k p (in_phase (phase.Handlers m)) → Fits k (cancelled p m k.state).effects → Fits l (drop_timers (is_timer_in p m) l.state).effects
+pub cancel_room : (p : Pid) (m : Mode) (k l : Kernel) → IsLeaving k.state p → l ≡ changed k p (in_phase (phase.Handlers m)) → Fits k (cancelled p m k.state).effects → Fits l (entries_part p m l.state).effects
 cancel_room p m k l h there room =
-    rw there (omega (arith, room, ap (λ (a : Part). length a.effects) (cancelled_as p m k.state h), length-append (timers_part p m k.state).effects []))
+    rw there (omega (arith, room, ap (λ (a : Part). length a.effects) (cancelled_as p m k.state h), length-append (ended_part p m k.state).effects []))
 
-pub timers_gone : (p : Pid) (m : Mode) (k l n : Kernel) → IsLeaving k.state p → l ≡ changed k p (in_phase (phase.Handlers m)) → Acts (drop_timers (is_timer_in p m) l.state) l n → IsLeaving n.state p
-timers_gone p m k l n h handled drops =
+pub entries_gone : (p : Pid) (m : Mode) (k l n : Kernel) → IsLeaving k.state p → l ≡ changed k p (in_phase (phase.Handlers m)) → Acts (entries_part p m l.state) l n → IsLeaving n.state p
+entries_gone p m k l n h handled drops =
     let there : IsLeaving l.state p = subst (λ (x : Kernel). IsLeaving x.state p) (sym handled) (phase_leaving k.state p (phase.Handlers m) h) in
-    subst (λ (x : Kernel). IsLeaving x.state p) (sym drops) (timers_leaving p (is_timer_in p m) l.state there)
+    subst (λ (x : Kernel). IsLeaving x.state p) (sym drops) (entries_leaving p m l.state there)
 
-pub cancel_done : (p : Pid) (m : Mode) (k l n o : Kernel) → IsLeaving k.state p → l ≡ changed k p (in_phase (phase.Handlers m)) → Acts (drop_timers (is_timer_in p m) l.state) l n → o ≡ changed n p (in_phase (phase.Draining m)) → Acts (cancelled p m k.state) k o
+pub cancel_done : (p : Pid) (m : Mode) (k l n o : Kernel) → IsLeaving k.state p → l ≡ changed k p (in_phase (phase.Handlers m)) → Acts (entries_part p m l.state) l n → o ≡ changed n p (in_phase (phase.Draining m)) → Acts (cancelled p m k.state) k o
 cancel_done p m k l n o h handled drops drained =
-    let part = timers_part p m k.state in
+    let part = ended_part p m k.state in
     let at : List Effect → Kernel = λ xs. told (with_state k (draining p m part.after)) xs in
     drained
     ∙ (ap (λ (x : Kernel). changed x p (in_phase (phase.Draining m))) drops
-    ∙ (ap (λ (x : Kernel). changed (acted x (drop_timers (is_timer_in p m) x.state)) p (in_phase (phase.Draining m))) handled
+    ∙ (ap (λ (x : Kernel). changed (acted x (entries_part p m x.state)) p (in_phase (phase.Draining m))) handled
     ∙ (ap at (sym (append-nil part.effects)) ∙ ap (acted k) (sym (cancelled_as p m k.state h)))))
 
 pub leaving_of : (k : Kernel) (p : Pid) → IsReady k p → IsTrue (have_own_ids (process_at k.state p).asts) → AreOrdered timer_id 0 k.state.next k.state.timers → IsLeaving k.state p

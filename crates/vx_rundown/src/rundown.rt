@@ -1,18 +1,18 @@
 //! Rundown of a process that has no frame left.
 
 ghost use Rattle.std.specs.Prelude.{◌≡◌, IsTrue};
-ghost use Rattle.vx_record.specs.Rundown.{drop_asts, gone, is_timer_in, rundown, run_down};
+ghost use Rattle.vx_record.specs.Rundown.{drop_asts, gone, rundown, run_down};
 ghost use Rattle.vx_record.specs.Sound.{AreOrdered, timer_id};
 ghost use Rattle.vx_record.specs.State.{process_at};
-ghost use Rattle.vx_record.specs.Timers.{drop_timers};
 ghost use Rattle.vx_procs.specs.Kernel.{Acts, Does, Fits};
 ghost use Rattle.vx_procs.specs.Ready.{IsReady};
 ghost use Rattle.vx_procs.specs.Words.{have_own_ids};
-ghost use Rattle.vx_rundown.specs.Leaving.{IsLeaving, cancelled, released};
+ghost use Rattle.vx_rundown.specs.Leaving.{IsLeaving, cancelled, entries_part, released};
 ghost use Rattle.vx_rundown.specs.Modes.{modes_from, next_inner};
 
 use vx_base::{Answer, Effect, Mode, Phase, Pid, Routine};
-use vx_procs::Core;
+use vx_procs::{Core, drop_timers};
+use vx_timers::Which;
 
 // The mode next to a mode, further in.
 fn next_inner(mode: Mode) -> Option<Mode>
@@ -26,15 +26,14 @@ fn next_inner(mode: Mode) -> Option<Mode>
     }
 }
 
-// The timers of a process of a mode and outer ones end, in id order.
-fn drop_timers<R: Routine>(core: &mut Core<R>, p: Pid, mode: Mode)
+// What a process set of a mode and outer ones ends, in id order: its timers, and then the wakes that it scheduled.
+fn drop_entries<R: Routine>(core: &mut Core<R>, p: Pid, mode: Mode)
     requires leaving { IsLeaving core.old.state p }
-    requires room { Fits core.old (drop_timers (is_timer_in p mode) core.old.state).effects }
-    ensures { Acts (drop_timers (is_timer_in p mode) core.old.state) core.old core.new }
+    requires room { Fits core.old (entries_part p mode core.old.state).effects }
+    ensures { Acts (entries_part p mode core.old.state) core.old core.new }
 {
-    'timers: while let Some(id) = core.drop_timer_in(p, mode) {
-        core.tell(Effect::Drop(id));
-    }
+    drop_timers(core, Which::TimersOf(p, mode));
+    drop_timers(core, Which::WakesBy(p));
 }
 
 // The queued ASTs of a mode and outer ones end, in order of queuing, and their routines are never entered.
@@ -67,23 +66,24 @@ fn cancel<R: Routine>(core: &mut Core<R>, p: Pid, mode: Mode)
     ensures { Acts (cancelled p mode core.old.state) core.old core.new }
 {
     core.set_phase(p, Phase::Handlers(mode));
-    drop_timers(core, p, mode);
+    drop_entries(core, p, mode);
     core.set_phase(p, Phase::Draining(mode));
 }
 
-// The last of a process.
+// The last of a process: the wakes that are scheduled for it end, and it is deleted.
 fn end<R: Routine>(core: &mut Core<R>, p: Pid) -> Answer
     requires leaving { IsLeaving core.old.state p }
     requires room { Fits core.old (gone core.old.state p).effects }
     ensures { Does (gone core.old.state p) result core.old core.new }
 {
+    drop_timers(core, Which::WakesFor(p));
     core.tell(Effect::Gone(p));
     core.set_phase(p, Phase::Deleted);
     Answer::Gone
 }
 
-// Runs a process down, mode after mode, from a mode inward. No handler is declared, and nothing else is open but its timers, ASTs
-// and common clusters.
+// Runs a process down, mode after mode, from a mode inward. No handler is declared, and nothing else is open but its timers,
+// wakes, ASTs and common clusters.
 fn run_down<R: Routine>(core: &mut Core<R>, p: Pid, outermost: Option<Mode>) -> Answer
     requires leaving { IsLeaving core.old.state p }
     requires room { Fits core.old (run_down p (modes_from outermost) core.old.state).effects }
