@@ -1,6 +1,7 @@
 -- What events of a process do to the state: how many processes there are then, how many ids they open, and how much they tell.
-use Rattle.std.proofs.Common.{◌≡◌, ℕ, zero, suc, ◌≢◌, ◌<◌, ◌++◌, is_some, slice_index_or, slice_set, ◌+◌, ◌-◌, ◌%◌, ◌^◌, ◌≤◌, List, [], ◌∷◌, Bool, true, false, not, ◌==◌, length, length-set, length-append, IsTrue, Option, Some, None, Result, Ok, Err, refl, ap, ◌∙◌, arith, nat_lt}
+use Rattle.std.proofs.Common.{◌≡◌, ℕ, zero, suc, ◌≢◌, ◌<◌, ◌++◌, is_some, slice_index_or, slice_set, ◌+◌, ◌-◌, ◌%◌, ◌^◌, ◌≤◌, List, [], ◌∷◌, Bool, true, false, not, ◌==◌, length, length-set, length-append, IsTrue, Option, Some, None, Result, Ok, Err, refl, ap, ◌∙◌, arith, nat_le, nat_lt}
 use Rattle.std.specs.List.{AllByRecursion}
+use Rattle.std.proofs.lemmas.Bool.{leb-false}
 use Rattle.vx_base.specs.Clusters.{Common as CommonClusters}
 use Rattle.vx_base.specs.Pieces.{Queued, Timer}
 use Rattle.vx_base.specs.declared.call.Args.{Args}
@@ -8,7 +9,7 @@ use Rattle.vx_base.specs.declared.call.Call.{Call}
 use Rattle.vx_base.specs.declared.call.Target.{Target}
 use Rattle.vx_base.specs.declared.call.Target.TheVariants as target
 use Rattle.vx_base.specs.declared.cond.Cond.{Cond}
-use Rattle.vx_base.specs.declared.cond.Cond.TheVariants.{Normal, ExQuota}
+use Rattle.vx_base.specs.declared.cond.Cond.TheVariants.{Normal, ExQuota, NoSlot}
 use Rattle.vx_base.specs.declared.effects.Cell.{Cell}
 use Rattle.vx_base.specs.declared.effects.Cell.TheVariants.{Local, Common}
 use Rattle.vx_base.specs.declared.effects.Effect.{Effect}
@@ -24,23 +25,23 @@ use Rattle.vx_base.specs.declared.number.Pid.{Pid}
 use Rattle.vx_base.specs.declared.routine.Entry.{Entry}
 use Rattle.vx_base.specs.declared.routine.Entry.TheVariants as entry
 use Rattle.vx_base.specs.declared.service.Service.{Service}
-use Rattle.vx_base.specs.declared.service.Service.TheVariants.{SetEf, ClrEf, ReadEf, WaitFr, WflOr, WflAnd, DclAst, SetAst, CmExec, CmKrnl, SetImr, Hiber, Wake, Suspnd, Resume, ForceX, Exit, GetTim}
+use Rattle.vx_base.specs.declared.service.Service.TheVariants.{SetEf, ClrEf, ReadEf, WaitFr, WflOr, WflAnd, DclAst, SetAst, CmExec, CmKrnl, SetImr, Hiber, Wake, Suspnd, Resume, ForceX, CrePrc, Exit, GetTim}
 use Rattle.vx_base.specs.Modes.{inner, outer}
 use Rattle.vx_image.specs.Local.{advanced}
 use Rattle.vx_image.specs.declared.stop.Stop.{Stop}
 use Rattle.vx_image.specs.declared.stop.Stop.TheVariants as stop
 use Rattle.vx_record.specs.State.{Process, State, IsProcess, process_at, change, image_of, current, nobody, next_id, past_id, with_top}
-use Rattle.vx_record.specs.Parts.{Outcome, answered, at_tested, nothing, refused, part_of}
+use Rattle.vx_record.specs.Parts.{Outcome, Part, answered, at_tested, nothing, refused, part_of}
 use Rattle.vx_record.specs.Asts.{charged_ast, declared_ast, with_delivery, with_frame, with_queued, new_frame}
 use Rattle.vx_record.specs.Charges.{exceeds, ast_need, timer_need}
-use Rattle.vx_record.specs.Control.{changed_process, exit_ast, forced, process_test, with_suspension, with_wake}
+use Rattle.vx_record.specs.Control.{changed_process, created, creprc, exit_ast, forced, new_part, next_pid, process_test, with_suspension, with_wake}
 use Rattle.vx_record.specs.Events.{below_top, delivered, moved_behind, moved_to, or_normal, put_back, r0_of, reader, resumed_with, returned, returned_from, run, run_frame, run_on, served_call, started}
 use Rattle.vx_record.specs.Flags.{at_flag, at_named, awaited_at, cell, flag_part, put_flag_at, readef, readef_at, refused_value, refused_wait, wait_condition, waits_on, with_local_flag, with_wait}
 use Rattle.vx_record.specs.Rundown.{exited, without_ast, without_frames}
-use Rattle.vx_record.specs.Services.{number, place, routine, routine_or_none, access_mode, service, service_of, valued_at, with_variable}
+use Rattle.vx_record.specs.Services.{decl_place, number, numbered_at, place, routine, routine_or_none, access_mode, service, service_of, text, valued_at, with_number, with_variable}
 use Rattle.vx_record.specs.declared.served.Served.{Served}
 use Rattle.vx_record.specs.declared.served.Served.TheVariants.{Answered, Waits}
-use Rattle.vx_record.proofs.Lists.{either, all_set, all_weaker}
+use Rattle.vx_record.proofs.Lists.{either, either_by, all_set, all_weaker}
 use Rattle.vx_record.specs.Sound.{timer_id}
 use Rattle.vx_record.specs.Timers.{gettim, new_timer, open_timer, setimr_at, timer_set, with_timer}
 use Rattle.vx_record.proofs.Lists.{ordered_below, ordered_more}
@@ -202,6 +203,21 @@ forced_goes p s code q =
     let ast = exit_ast (next_id s) code in
     goes_opened (run_most s p) s (forced s code q).after (forced s code q).effects (length-set s.procs (q.0 - 1) (with_queued ast (process_at s q))) refl (omega arith)
 
+-- a variable takes the number of a new process
+numbered_goes : (p : Pid) (s : State) (t : Target) (part : Part) (r : Result ℕ Cond) → length s.procs ≤ length part.after.procs → (length s.procs ≤ 1000 → length part.after.procs ≤ 1000) → part.after.next ≡ s.next → length part.effects ≤ 1 → GoesBy p s (numbered_at p t part r)
+numbered_goes p s t part (Ok n) grows within next few =
+    goes_on (run_most s p) p s part.after (with_variable t n) (part.effects ++ effect.Var p t n ∷ [])
+    (record { grows = grows; within = within; later = omega (arith, next); soon = omega (arith, next); few = omega (arith, few, length-append part.effects (effect.Var p t n ∷ [])) })
+numbered_goes p s t part (Err c) grows within next few = record { grows = grows; within = within; later = omega (arith, next); soon = omega (arith, next); few = omega (arith, few) }
+
+-- a process is made, where there are fewer than 1,000
+created_goes : (p : Pid) (s : State) (t : Target) (place : ℕ) → GoesBy p s (with_number p t (creprc s p place))
+created_goes p s t place =
+    let more = length-append s.procs (created s p place ∷ []) in
+    either_by (λ (o : Outcome (Result ℕ Cond)). GoesBy p s (with_number p t o)) (nat_le 1000 (length s.procs)) (answered (Err NoSlot) (nothing s)) (answered (Ok (next_pid s).0) (new_part s p place))
+    (λ many. numbered_goes p s t (nothing s) (Err NoSlot) (omega arith) (λ h. h) refl (omega arith))
+    (λ few. numbered_goes p s t (new_part s p place) (Ok (next_pid s).0) (omega (arith, more)) (λ h. omega (arith, more, leb-false 1000 (length s.procs) few)) refl (omega arith))
+
 service_goes : (p : Pid) (s : State) (a : Args) (v : Service) → is_built_service v ≡ true → GoesBy p s (service_of s p a v)
 service_goes p s a SetEf built = flag_goes p s (number a.a0) (refused s) (put_flag_at s true) (λ c. goes_still p s) (put_goes p s true)
 service_goes p s a ClrEf built = flag_goes p s (number a.a0) (refused s) (put_flag_at s false) (λ c. goes_still p s) (put_goes p s false)
@@ -233,6 +249,7 @@ service_goes p s a Wake built = control_goes p s (with_wake true) (process_test 
 service_goes p s a Suspnd built = control_goes p s (with_suspension true) (process_test s p (number a.a0))
 service_goes p s a Resume built = control_goes p s (with_suspension false) (process_test s p (number a.a0))
 service_goes p s a ForceX built = tested_goes p s (forced s (number a.a1)) (process_test s p (number a.a0)) (forced_goes p s (number a.a1))
+service_goes p s a CrePrc built = created_goes p s (place a.a0) (decl_place s (text a.a1))
 service_goes p s a Exit built =
     let few = exited_few s p (number a.a0) in exited_goes p s (number a.a0) (exited s p (number a.a0)).effects (omega (arith, few))
 service_goes p s a _ built = absurd (cc)

@@ -21,7 +21,7 @@ use Rattle.vx_record.proofs.SoundCalls.{all_from_list}
 use Rattle.vx_record.proofs.SoundSteps.{first_sound, step_sound}
 use Rattle.vx_record.proofs.SystemKept.{step_keeps_system}
 use Rattle.vx_procs.specs.Kernel.{Fits, Kernel}
-use Rattle.vx_procs.specs.Ready.{HasSpares, IsBare}
+use Rattle.vx_procs.specs.Ready.{HasNewcomer, HasSpares, IsBare}
 use Rattle.vx_exec.specs.Built.{is_built}
 use Rattle.vx_exec.specs.Ready.{HasOwner, IsNext, IsReadyFor, most}
 use Rattle.vx_exec.specs.Sound.{IsGoing, IsWhole}
@@ -48,6 +48,7 @@ image_formed s p formed =
 pub record HasBegun (k : Kernel) : Type 0 where
   pub spares : HasSpares k
   pub timer : length k.state.timers + 1 ≤ k.timers
+  pub newcomer : HasNewcomer k
   pub time : k.state.time < 2 ^ 63
   pub bare : IsBare k.state
 
@@ -64,11 +65,13 @@ next_of k p limit taken going made begun =
           formed = image_formed k.state p whole.formed;
           spares = begun.spares;
           timer = begun.timer;
+          newcomer = begun.newcomer;
           ids = omega (arith, going.ids, going.within, going.limited);
           time = begun.time;
           bare = begun.bare;
         };
         built = whole.built;
+        decls = leb-true (length k.state.system.decls) 1000 whole.formed.few_decls;
         order = whole.sound.timer_ids;
       };
       waits = stands.waits;

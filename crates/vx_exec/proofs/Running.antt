@@ -153,11 +153,13 @@ set_changed k l p f set there bare decl fewer =
             let few = at_set IsFewer (λ x. record { frames = omega arith; asts = omega arith }) s.procs (p.0 - 1) (q.0 - 1) (f (process_at s p)) nobody fewer in
             record { frame = omega (arith, has.frame, few.frames); ast = omega (arith, has.ast, few.asts) };
         timer = ready.timer;
+        newcomer = omega (arith, ready.newcomer, length-set s.procs (p.0 - 1) (f (process_at s p)));
         ids = ready.ids;
         time = ready.time;
         bare = bare_still s p f bare ready.bare;
       };
       built = set.built;
+      decls = set.decls;
       order = set.order;
     } in
     subst (λ (x : Kernel). IsSet x p) (sym there) here

@@ -1,5 +1,5 @@
 -- What an event relies on, once room was made for it.
-use Rattle.std.specs.Prelude.{ℕ, true, ◌+◌, ◌*◌, IsTrue, length, ⊤}
+use Rattle.std.specs.Prelude.{ℕ, true, ◌+◌, ◌*◌, ◌≤◌, IsTrue, length, ⊤}
 use Rattle.vx_base.specs.declared.mode.Mode.{Mode}
 use Rattle.vx_base.specs.declared.number.Id.{Id}
 use Rattle.vx_base.specs.declared.number.Pid.{Pid}
@@ -15,10 +15,11 @@ use Rattle.vx_procs.specs.Ready.{IsReady}
 use Rattle.vx_procs.specs.Words.{have_own_ids}
 use Rattle.vx_exec.specs.Built.{is_built}
 
--- A process is ready, in a system that the executive runs so far; timers stand in id order.
+-- A process is ready, in a system that the executive runs so far and that declares at most 1,000 processes; timers stand in id order.
 pub record IsSet (k : Kernel) (p : Pid) : Type 0 where
   pub ready : IsReady k p
   pub built : IsTrue (is_built k.state.system)
+  pub decls : length k.state.system.decls ≤ 1000
   pub order : AreOrdered timer_id 0 k.state.next k.state.timers
 
 -- What an event of a process relies on: its frames wait for status blocks that it has, and no two of its queued ASTs have one id.

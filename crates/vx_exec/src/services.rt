@@ -1,11 +1,11 @@
 //! Calls of services, with the values of their arguments computed.
 
-ghost use Rattle.std.specs.Prelude.{◌≡◌, ◌<◌, IfSome, IsTrue, bytes_eq, length, option_map, position};
+ghost use Rattle.std.specs.Prelude.{◌≡◌, ◌<◌, ◌≤◌, IfSome, IsTrue, bytes_eq, length, option_map, position};
 ghost use Rattle.vx_record.specs.Flags.{readef};
 ghost use Rattle.vx_record.specs.Parts.{nothing};
 ghost use Rattle.vx_record.specs.Timers.{gettim};
-ghost use Rattle.vx_record.specs.Control.{resume, suspnd, wake};
-ghost use Rattle.vx_record.specs.Services.{access_mode, at_once, label_place, number, place, routine, routine_or_none, service, service_of, valued, with_value};
+ghost use Rattle.vx_record.specs.Control.{creprc, resume, suspnd, wake};
+ghost use Rattle.vx_record.specs.Services.{access_mode, at_once, decl_place, label_place, number, place, routine, routine_or_none, service, service_of, text, valued, with_number, with_value};
 ghost use Rattle.vx_procs.specs.Kernel.{Does, DoesQuietly, Fits};
 ghost use Rattle.vx_ctl.specs.Answers.{cond_of};
 ghost use Rattle.vx_exec.specs.Built.{is_built_service};
@@ -13,10 +13,10 @@ ghost use Rattle.vx_exec.specs.Ready.{IsSet};
 
 use vx_base::{Arg, Args, Call, Cond, Effect, Entry, Mode, Operand, Pid, Routine, Service, Target};
 use vx_ctl::{
-    Refused, clref, cmexec, cmkrnl, dclast, forcex, gettim, hiber, readef, resume, setast, setef,
+    Refused, clref, cmexec, cmkrnl, creprc, dclast, forcex, gettim, hiber, readef, resume, setast, setef,
     setimr, suspnd, waitfr, wake, wfland, wflor,
 };
-use vx_image::{Image, Label};
+use vx_image::{Image, Label, ProcDecl};
 use vx_procs::Core;
 use vx_record::Served;
 use vx_rundown::exit;
@@ -51,6 +51,16 @@ fn access_mode(arg: &Arg) -> Mode
     }
 }
 
+// The name that an argument is.
+fn text(arg: &Arg) -> &[u8]
+    ensures { result.now ≡ text arg.now }
+{
+    match arg {
+        Arg::Name(name) => name.text(),
+        _ => b"".as_slice(),
+    }
+}
+
 fn is_named(label: &Label, name: &[u8]) -> bool
     ensures { result ≡ bytes_eq label.now.name name.now }
 {
@@ -71,6 +81,33 @@ fn label_place(image: &Image, name: &[u8]) -> u32
     ensures { result ≡ label_place image.now name.now }
 {
     match position_of(image.labels.as_slice(), name) {
+        Some(place) => place as u32,
+        None => 0,
+    }
+}
+
+fn is_declared(decl: &ProcDecl, name: &[u8]) -> bool
+    ensures { result ≡ bytes_eq decl.now.name name.now }
+{
+    decl.name.text() == name
+}
+
+// Where a process declaration of a name stands among declarations.
+fn position_of_decl(decls: &[ProcDecl], name: &[u8]) -> Option<usize>
+    ensures place { result ≡ position (λ decl. bytes_eq decl.name name.now) decls.now }
+    ensures within { IfSome result (λ place. place < length decls.now) }
+{
+    decls.iter().position(|decl| is_declared(decl, name))
+}
+
+// The place of the process declaration of a name, from 0; 0 if there is none.
+fn decl_place<R: Routine>(core: &Core<R>, name: &[u8]) -> u32
+    requires some { 0 < length core.now.state.system.decls }
+    requires few { length core.now.state.system.decls ≤ 1000 }
+    ensures place { result ≡ decl_place core.now.state name.now }
+    ensures within { result < length core.now.state.system.decls }
+{
+    match position_of_decl(core.system().decls.as_slice(), name) {
         Some(place) => place as u32,
         None => 0,
     }
@@ -125,6 +162,33 @@ fn read_flags<R: Routine>(core: &mut Core<R>, p: Pid, efn: u32, v: Target) -> Se
         }
         Err(cond) => Served::Answered(cond),
     }
+}
+
+// $CREPRC of the process declaration at a place: a variable takes the number of the process.
+fn create<R: Routine>(core: &mut Core<R>, p: Pid, place: u32, v: Target) -> Served
+    requires set { IsSet core.old p }
+    requires declared { place < length core.old.state.system.decls }
+    requires room { Fits core.old (with_number p v (creprc core.old.state p place)).effects }
+    ensures { Does (with_number p v (creprc core.old.state p place)) result core.old core.new }
+{
+    match creprc(core, p, place) {
+        Ok(n) => {
+            core.tell(Effect::Var { p, v, n });
+            core.set_variable(p, v, n);
+            Served::Answered(Cond::Normal)
+        }
+        Err(cond) => Served::Answered(cond),
+    }
+}
+
+// $CREPRC of the process declaration that an argument names.
+fn create_named<R: Routine>(core: &mut Core<R>, p: Pid, args: &Args) -> Served
+    requires set { IsSet core.old p }
+    requires room { Fits core.old (service_of core.old.state p args.now Service.CrePrc).effects }
+    ensures { Does (service_of core.old.state p args.now Service.CrePrc) result core.old core.new }
+{
+    let decl = decl_place(core, text(&args.a1));
+    create(core, p, decl, place(&args.a0))
 }
 
 // $GETTIM: a variable takes the time.
@@ -234,6 +298,7 @@ pub(crate) fn serve<R: Routine>(core: &mut Core<R>, p: Pid, call: &Call) -> Serv
         Service::Suspnd => suspend_named(core, p, n),
         Service::Resume => resume_named(core, p, n),
         Service::ForceX => Served::Answered(forcex(core, p, n, number(&args.a1))),
+        Service::CrePrc => create_named(core, p, args),
         Service::Exit => Served::Answered(exit(core, p, n)),
         // these are not built yet
         Service::AscEfc
@@ -242,7 +307,6 @@ pub(crate) fn serve<R: Routine>(core: &mut Core<R>, p: Pid, call: &Call) -> Serv
         | Service::CanTim
         | Service::SchdWk
         | Service::CanWak
-        | Service::CrePrc
         | Service::DelPrc
         | Service::DclExh
         | Service::CanExh

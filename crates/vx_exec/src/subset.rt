@@ -28,6 +28,7 @@ fn is_built_service(service: Service) -> bool
             | Service::Suspnd
             | Service::Resume
             | Service::ForceX
+            | Service::CrePrc
             | Service::Exit
             | Service::GetTim
     )
@@ -67,7 +68,7 @@ fn are_built_images(images: &[Image]) -> bool
 }
 
 /// Whether the executive runs a system so far: it has no units, and its images call of the services those on local event
-/// flags and waits, ASTs and modes, $SETIMR, $GETTIM, $EXIT, and those that control processes but $CREPRC and $DELPRC.
+/// flags and waits, ASTs and modes, $SETIMR, $GETTIM, $EXIT, and those that control processes but $DELPRC.
 pub fn is_built(system: &System) -> bool
     ensures { result ≡ is_built system.now }
 {
