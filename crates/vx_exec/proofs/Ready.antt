@@ -48,6 +48,8 @@ image_formed s p formed =
 pub record HasBegun (k : Kernel) : Type 0 where
   pub spares : HasSpares k
   pub timer : length k.state.timers + 1 ≤ k.timers
+  pub cluster : length k.state.common.clusters + 1 ≤ k.clusters
+  pub association : length k.state.common.associations + 1 ≤ k.associations
   pub time : k.state.time < 2 ^ 63
   pub bare : IsBare k.state
 
@@ -64,6 +66,8 @@ next_of k p limit taken going made begun =
           formed = image_formed k.state p whole.formed;
           spares = begun.spares;
           timer = begun.timer;
+          cluster = begun.cluster;
+          association = begun.association;
           ids = omega (arith, going.ids, going.within, going.limited);
           time = begun.time;
           bare = begun.bare;
