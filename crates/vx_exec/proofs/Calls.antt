@@ -2,7 +2,11 @@
 use Rattle.std.proofs.Common.{◌≡◌, ℕ, zero, suc, ◌<◌, List, [], ◌∷◌, Bool, true, length, IsTrue, Option, Some, None, IfSome, slice_get, refl, arith}
 use Rattle.std.specs.List.{AllByRecursion, list_all}
 use Rattle.std.proofs.lemmas.Bool.{and_parts}
+use Rattle.vx_base.specs.Services.{are_args, args_list, is_of_kind, params_of}
+use Rattle.vx_base.specs.declared.call.Args.{Args}
 use Rattle.vx_base.specs.declared.number.Pid.{Pid}
+use Rattle.vx_base.specs.declared.service.Kind.TheVariants as kind
+use Rattle.vx_base.specs.declared.service.Service.TheVariants.{AscEfc, DlcEfc}
 use Rattle.vx_image.specs.Local.{Reader, Moved, Advanced, local_at, stop_at, go_on, run_local, advanced}
 use Rattle.vx_image.specs.Storage.{Storage}
 use Rattle.vx_image.specs.declared.image.Image.{Image}
@@ -67,6 +71,14 @@ image_built s p built =
 
 pub advanced_built : (s : State) (p : Pid) (who : Reader) (store : Storage) (place : ℕ) → IsTrue (is_built s.system) → IsBuiltAt (image_of s p) (advanced (image_of s p) who store place)
 advanced_built s p who store place built = run_built 1000 (image_of s p) who store place (all_from_list is_built_stmt (image_of s p).stmts (image_built s p built))
+
+-- the name of a call of a service that takes one
+
+pub names_second : (a : Args) → IsTrue (are_args (params_of AscEfc) (args_list a)) → IsTrue (is_of_kind kind.Name a.a1)
+names_second a kinds = (and_parts (is_of_kind kind.Name a.a1) _ (and_parts (is_of_kind kind.Value a.a0) _ kinds).1).0
+
+pub names_first : (a : Args) → IsTrue (are_args (params_of DlcEfc) (args_list a)) → IsTrue (is_of_kind kind.Name a.a0)
+names_first a kinds = (and_parts (is_of_kind kind.Name a.a0) _ kinds).0
 
 no_units : (us : List UnitDecl) → are_no_units us ≡ true → us ≡ []
 no_units [] e = refl

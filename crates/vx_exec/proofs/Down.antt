@@ -1,5 +1,5 @@
--- What a step of rundown does to the state: no id is opened, and it drops at most the timers and queued ASTs there are in each
--- mode.
+-- What a step of rundown does to the state: no id is opened, and in each mode it drops at most the timers and queued ASTs there
+-- are, and dissociates two clusters, which may go.
 use Rattle.std.proofs.Common.{ℕ, ◌+◌, ◌*◌, ◌≤◌, List, [], ◌∷◌, ◌++◌, Bool, length, length-append, refl, sym, ap, subst, arith}
 use Rattle.std.specs.List.{filter}
 use Rattle.std.proofs.Math.Nat.{mul-le-mul_left, mul-le-mul_right}
@@ -14,18 +14,21 @@ use Rattle.vx_base.specs.declared.number.Pid.{Pid}
 use Rattle.vx_base.specs.declared.record.Answer.{Answer}
 use Rattle.vx_record.specs.State.{Process, State, IsProcess, process_at, change}
 use Rattle.vx_record.specs.Parts.{Outcome, Part, each, followed_by}
-use Rattle.vx_record.specs.Rundown.{draining, drop_ast, drop_asts, handling, in_phase, inner_modes, is_ast_reached, is_timer_in, rundown, rundown_from, run_down, without_ast}
+use Rattle.vx_record.specs.Rundown.{draining, drop_ast, drop_asts, handling, in_phase, inner_modes, is_ast_reached, is_timer_in, part_with, rundown, rundown_from, run_down, without_ast}
 use Rattle.vx_record.specs.Timers.{drop_timer, drop_timers, this_timer}
 use Rattle.vx_record.proofs.Lists.{either}
+use Rattle.vx_clusters.proofs.Few.{dissociate_few}
+use Rattle.vx_procs.specs.Cells.{dissociation_part}
 use Rattle.vx_procs.specs.Ready.{IsBare}
-use Rattle.vx_rundown.specs.Leaving.{cancelled}
-use Rattle.vx_rundown.proofs.Bare.{cancelled_bare, cancelled_timers, drained, drop_asts_bare, gone_alone, in_phase_bare, mode_done}
+use Rattle.vx_rundown.specs.Leaving.{cancelled, released}
+use Rattle.vx_rundown.proofs.Bare.{cancelled_bare, cancelled_timers, drained, gone_alone, in_phase_bare, mode_done}
 use Rattle.vx_rundown.proofs.Changed.{process_there}
-use Rattle.vx_exec.proofs.Goes.{Goes, Stays, goes_stays, made_stays, stays_changed, stays_still, stays_then}
+use Rattle.vx_rundown.proofs.Released.{released_bare}
+use Rattle.vx_exec.proofs.Goes.{Goes, Stays, goes_stays, made_stays, stays_changed, stays_common, stays_still, stays_then}
 
--- the timers there are, and the ASTs queued for a process
+-- how much a mode tells at most: of the timers there are, the ASTs queued for a process, and two clusters
 abbrev load : State → Pid → ℕ
-load s p = length (process_at s p).asts + length s.timers
+load s p = length (process_at s p).asts + length s.timers + 4
 
 -- it stays, has no more to drop, and tells at most so much
 record Falls (p : Pid) (bound : ℕ) (s t : State) (told : List Effect) : Type 0 where
@@ -94,6 +97,18 @@ timers_each p (t ∷ ts) s = falls_more p (1 + length ts) (length (t ∷ ts)) s 
 asts_fall : (p : Pid) (m : Mode) (s : State) → IsProcess s p → Falls p (length (process_at s p).asts) s (drop_asts p m s).after (drop_asts p m s).effects
 asts_fall p m s made = falls_more p _ _ s _ _ (filter_few (is_ast_reached m) (process_at s p).asts) (asts_each p (filter (is_ast_reached m) (process_at s p).asts) s made)
 
+-- a cluster is dissociated, and may go
+parted_falls : (p : Pid) (efn : ℕ) (s : State) → Falls p 2 s (dissociation_part s p efn).after (dissociation_part s p efn).effects
+parted_falls p efn s = record { stays = stays_common s _; asts = omega arith; timers = omega arith; few = dissociate_few s.common p efn }
+
+released_fall : (p : Pid) (m : Mode) (s : State) → IsProcess s p → Falls p (length (process_at s p).asts + 4) s (released p m s).after (released p m s).effects
+released_fall p m s made =
+    let n = length (process_at s p).asts in
+    let a = drop_asts p m s in
+    let b = part_with p 2 a.after in
+    let c = part_with p 3 b.after in
+    falls_more p (n + 2 + 2) (n + 4) s c.after _ (omega arith) (falls_then p (n + 2) 2 s b.after c.after _ _ (falls_then p n 2 s a.after b.after _ _ (asts_fall p m s made) (parted_falls p 64 a.after)) (parted_falls p 96 b.after))
+
 timers_fall : (p : Pid) (test : Timer → Bool) (s : State) → Falls p (length s.timers) s (drop_timers test s).after (drop_timers test s).effects
 timers_fall p test s = falls_more p _ _ s _ _ (filter_few test s.timers) (timers_each p (filter test s.timers) s)
 
@@ -112,15 +127,15 @@ cancelled_falls p m s b made =
 abbrev down_most : State → Pid → List Mode → ℕ
 down_most s p ms = length ms * load s p + 1
 
-followed_falls : (p : Pid) (m : Mode) (n : ℕ) (s t : State) (told : List Effect) (ms : List Mode) → Falls p n s t told → IsProcess s p → (let u = (drop_asts p m t).after in Falls p (down_most u p ms) u (run_down p ms u).after (run_down p ms u).effects) → (let o = followed_by (drop_asts p m t) (run_down p ms) in Falls p (n + (length (process_at s p).asts + down_most s p ms)) s o.after (told ++ o.effects))
+followed_falls : (p : Pid) (m : Mode) (n : ℕ) (s t : State) (told : List Effect) (ms : List Mode) → Falls p n s t told → IsProcess s p → (let u = (released p m t).after in Falls p (down_most u p ms) u (run_down p ms u).after (run_down p ms u).effects) → (let o = followed_by (released p m t) (run_down p ms) in Falls p (n + (length (process_at s p).asts + 4 + down_most s p ms)) s o.after (told ++ o.effects))
 followed_falls p m n s t told ms first made rest =
-    let drops = drop_asts p m t in
+    let drops = released p m t in
     let u = drops.after in
-    let two = asts_fall p m t (falls_made p n s t told made first) in
-    let after_both = falls_then p n (length (process_at t p).asts) s t u told drops.effects first two in
+    let two = released_fall p m t (falls_made p n s t told made first) in
+    let after_both = falls_then p n (length (process_at t p).asts + 4) s t u told drops.effects first two in
     let less_load : load u p ≤ load s p = omega (arith, after_both.asts, after_both.timers) in
     let bound : down_most u p ms ≤ down_most s p ms = omega (arith, mul-le-mul_left (length ms) less_load) in
-    let later = falls_then p (length (process_at t p).asts) (down_most u p ms) t u (run_down p ms u).after drops.effects (run_down p ms u).effects two rest in
+    let later = falls_then p (length (process_at t p).asts + 4) (down_most u p ms) t u (run_down p ms u).after drops.effects (run_down p ms u).effects two rest in
     falls_more p _ _ s _ _ (omega (arith, first.asts, bound)) (falls_then p n _ s t _ told _ first later)
 
 run_down_falls : (p : Pid) (ms : List Mode) (s : State) → IsBare s → IsProcess s p → Falls p (down_most s p ms) s (run_down p ms s).after (run_down p ms s).effects
@@ -130,9 +145,9 @@ run_down_falls p [] s b made =
 run_down_falls p (m ∷ ms) s b made =
     let a = cancelled p m s in
     let first = cancelled_falls p m s b made in
-    let u = (drop_asts p m a.after).after in
+    let u = (released p m a.after).after in
     let made_a = falls_made p (length s.timers) s a.after a.effects made first in
-    let rest = run_down_falls p ms u (drop_asts_bare p m a.after (cancelled_bare p m s b)) (falls_made p _ a.after u _ made_a (asts_fall p m a.after made_a)) in
+    let rest = run_down_falls p ms u (released_bare p m a.after (cancelled_bare p m s b)) (falls_made p _ a.after u _ made_a (released_fall p m a.after made_a)) in
     subst (λ (o : Outcome Answer). Falls p (down_most s p (m ∷ ms)) s o.after o.effects) (sym (mode_done s p m ms b)) (falls_more p _ (down_most s p (m ∷ ms)) s _ _ (omega arith) (followed_falls p m (length s.timers) s a.after a.effects ms first made rest))
 
 -- of four modes at most
@@ -158,10 +173,10 @@ rundown_from_goes p s (phase.Handlers m) b made =
     falls_goes p (down_most s p (m ∷ inner_modes m)) (4 * load s p + 1) s (run_down p (m ∷ inner_modes m) s) (omega (arith, few)) (run_down_falls p (m ∷ inner_modes m) s b made)
 rundown_from_goes p s (phase.Draining m) b made =
     let few = mul-le-mul_right (load s p) (inner_few m) in
-    let u = (drop_asts p m s).after in
-    let rest = run_down_falls p (inner_modes m) u (drop_asts_bare p m s b) (falls_made p _ s u _ made (asts_fall p m s made)) in
+    let u = (released p m s).after in
+    let rest = run_down_falls p (inner_modes m) u (released_bare p m s b) (falls_made p _ s u _ made (released_fall p m s made)) in
     let falls = followed_falls p m 0 s s [] (inner_modes m) (falls_still p s) made rest in
-    subst (λ (o : Outcome Answer). Goes (4 * load s p + 1) s o.after o.effects) (sym (drained s p m (run_down p (inner_modes m)) b)) (falls_goes p (0 + (length (process_at s p).asts + down_most s p (inner_modes m))) (4 * load s p + 1) s (followed_by (drop_asts p m s) (run_down p (inner_modes m))) (omega (arith, few)) falls)
+    subst (λ (o : Outcome Answer). Goes (4 * load s p + 1) s o.after o.effects) (sym (drained s p m (run_down p (inner_modes m)) b)) (falls_goes p (0 + (length (process_at s p).asts + 4 + down_most s p (inner_modes m))) (4 * load s p + 1) s (followed_by (released p m s) (run_down p (inner_modes m))) (omega (arith, few)) falls)
 rundown_from_goes p s phase.Alive b made = goes_stays (4 * load s p + 1) s s [] (stays_still s) (omega arith)
 rundown_from_goes p s phase.Deleted b made = goes_stays (4 * load s p + 1) s s [] (stays_still s) (omega arith)
 

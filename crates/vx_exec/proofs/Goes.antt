@@ -1,8 +1,8 @@
 -- What events of a process do to the state: how many processes there are then, how many ids they open, and how much they tell.
-use Rattle.std.proofs.Common.{◌≡◌, ℕ, zero, suc, ◌≢◌, ◌<◌, ◌++◌, is_some, slice_index_or, slice_set, ◌+◌, ◌-◌, ◌%◌, ◌^◌, ◌≤◌, List, [], ◌∷◌, Bool, true, false, not, ◌==◌, length, length-set, length-append, IsTrue, Option, Some, None, Result, Ok, Err, refl, ap, ◌∙◌, arith, nat_le, nat_lt}
+use Rattle.std.proofs.Common.{◌≡◌, ℕ, zero, suc, ◌≢◌, ◌<◌, ◌++◌, is_some, slice_index_or, slice_set, ◌+◌, ◌-◌, ◌%◌, ◌^◌, ◌≤◌, List, [], ◌∷◌, Bool, true, false, not, ◌==◌, length, length-set, length-append, IsTrue, Option, Some, None, Result, Ok, Err, refl, ap, ◌∙◌, arith, nat_le, nat_lt, subst}
 use Rattle.std.specs.List.{AllByRecursion}
 use Rattle.std.proofs.lemmas.Bool.{leb-false}
-use Rattle.vx_base.specs.Clusters.{Common as CommonClusters}
+use Rattle.vx_base.specs.Clusters.{Common as CommonClusters, Change}
 use Rattle.vx_base.specs.Pieces.{Queued, Timer}
 use Rattle.vx_base.specs.declared.call.Args.{Args}
 use Rattle.vx_base.specs.declared.call.Call.{Call}
@@ -25,13 +25,13 @@ use Rattle.vx_base.specs.declared.number.Pid.{Pid}
 use Rattle.vx_base.specs.declared.routine.Entry.{Entry}
 use Rattle.vx_base.specs.declared.routine.Entry.TheVariants as entry
 use Rattle.vx_base.specs.declared.service.Service.{Service}
-use Rattle.vx_base.specs.declared.service.Service.TheVariants.{SetEf, ClrEf, ReadEf, WaitFr, WflOr, WflAnd, DclAst, SetAst, CmExec, CmKrnl, SetImr, Hiber, Wake, Suspnd, Resume, ForceX, CrePrc, Exit, GetTim}
+use Rattle.vx_base.specs.declared.service.Service.TheVariants.{SetEf, ClrEf, ReadEf, WaitFr, WflOr, WflAnd, DclAst, SetAst, CmExec, CmKrnl, SetImr, Hiber, Wake, Suspnd, Resume, ForceX, CrePrc, Exit, GetTim, AscEfc, DacEfc, DlcEfc}
 use Rattle.vx_base.specs.Modes.{inner, outer}
 use Rattle.vx_image.specs.Local.{advanced}
 use Rattle.vx_image.specs.declared.stop.Stop.{Stop}
 use Rattle.vx_image.specs.declared.stop.Stop.TheVariants as stop
 use Rattle.vx_record.specs.State.{Process, State, IsProcess, process_at, change, image_of, current, nobody, next_id, past_id, with_top}
-use Rattle.vx_record.specs.Parts.{Outcome, Part, answered, at_tested, nothing, refused, part_of}
+use Rattle.vx_record.specs.Parts.{Outcome, Part, answered, at_tested, nothing, refused, part_of, commonly}
 use Rattle.vx_record.specs.Asts.{charged_ast, declared_ast, with_delivery, with_frame, with_queued, new_frame}
 use Rattle.vx_record.specs.Charges.{exceeds, ast_need, timer_need}
 use Rattle.vx_record.specs.Control.{changed_process, created, creprc, exit_ast, forced, new_part, next_pid, process_test, with_suspension, with_wake}
@@ -49,6 +49,8 @@ use Rattle.vx_procs.specs.Words.{left, left_kind}
 use Rattle.vx_procs.proofs.Stack.{left_after, left_effects}
 use Rattle.vx_rundown.proofs.Changed.{process_there}
 use Rattle.vx_exec.specs.Built.{is_built_service, is_built}
+use Rattle.vx_clusters.proofs.Few.{associate_few, dissociate_few, mark_few}
+use Rattle.vx_ctl.proofs.Common.{associates, dissociates, marks}
 use Rattle.vx_exec.proofs.Calls.{IsBuiltStop, advanced_built}
 
 -- from s to t: no process comes or goes, and no id is opened
@@ -66,7 +68,7 @@ pub record Goes (bound : ℕ) (s t : State) (told : List Effect) : Type 0 where
 
 -- how much a process tells at most where it runs
 abbrev pub run_most : State → Pid → ℕ
-run_most s p = length (process_at s p).frames + 2
+run_most s p = length (process_at s p).frames + 4
 
 abbrev pub GoesBy : {A : Type 0} → Pid → State → Outcome A → Type 0
 GoesBy p s o = Goes (run_most s p) s o.after o.effects
@@ -123,6 +125,10 @@ flag_goes p s efn refuse go r g = either (λ (o : Outcome _). GoesBy p s o) (nat
 
 pub stays_common : (s : State) (c : CommonClusters) → Stays s (record s { common = c })
 stays_common s c = record { procs = refl; next = refl }
+
+-- common clusters are changed
+common_goes : (p : Pid) (s : State) (c : Change) → length c.effects ≤ 4 → Goes (run_most s p) s (commonly s c).after c.effects
+common_goes p s c few = goes_stays (run_most s p) s (commonly s c).after c.effects (stays_common s c.after) (omega (arith, few))
 
 put_goes : (p : Pid) (s : State) (on : Bool) (c : Cell) → GoesBy p s (put_flag_at s on c)
 put_goes p s on (Local q n) = goes_changed p q s (with_local_flag n on) (effect.Flag (Local q n) on ∷ []) (omega arith)
@@ -225,6 +231,21 @@ service_goes p s a ReadEf built = let quiet = quiet_read s p (number a.a0) in re
 service_goes p s a WaitFr built = masked_goes p s (number a.a0) (2 ^ (number a.a0 % 32)) false
 service_goes p s a WflOr built = masked_goes p s (number a.a0) (number a.a1) false
 service_goes p s a WflAnd built = masked_goes p s (number a.a0) (number a.a1) true
+service_goes p s a AscEfc built =
+    let efn = number a.a0 in
+    let name = text a.a1 in
+    let perm = number a.a2 in
+    let pr = process_at s p in
+    subst (λ (o : Outcome Cond). GoesBy p s o) (associates s p efn name perm) (common_goes p s _ (associate_few s.common p pr.group efn name (not (perm == 0)) pr.privs.prmceb))
+service_goes p s a DacEfc built =
+    let efn = number a.a0 in
+    let few = dissociate_few s.common p efn in
+    subst (λ (o : Outcome Cond). GoesBy p s o) (dissociates s p efn) (common_goes p s _ (omega (arith, few)))
+service_goes p s a DlcEfc built =
+    let name = text a.a0 in
+    let pr = process_at s p in
+    let few = mark_few s.common pr.group name pr.privs.prmceb in
+    subst (λ (o : Outcome Cond). GoesBy p s o) (marks s p name) (common_goes p s _ (omega (arith, few)))
 service_goes p s a DclAst built =
     let mode = outer (access_mode a.a2) (current s p) in
     let tag = routine s p a.a0 (number a.a1) in

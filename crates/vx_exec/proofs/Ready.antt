@@ -49,6 +49,8 @@ pub record HasBegun (k : Kernel) : Type 0 where
   pub spares : HasSpares k
   pub timer : length k.state.timers + 1 ≤ k.timers
   pub newcomer : HasNewcomer k
+  pub cluster : length k.state.common.clusters + 1 ≤ k.clusters
+  pub association : length k.state.common.associations + 1 ≤ k.associations
   pub time : k.state.time < 2 ^ 63
   pub bare : IsBare k.state
 
@@ -66,6 +68,8 @@ next_of k p limit taken going made begun =
           spares = begun.spares;
           timer = begun.timer;
           newcomer = begun.newcomer;
+          cluster = begun.cluster;
+          association = begun.association;
           ids = omega (arith, going.ids, going.within, going.limited);
           time = begun.time;
           bare = begun.bare;

@@ -30,13 +30,14 @@ use Rattle.vx_image.specs.declared.system.System.{System}
 use Rattle.vx_record.specs.State.{Process, State, IsProcess, change, current, image_of, process_at, no_decl, no_image, nobody, top_mode}
 use Rattle.vx_record.specs.Parts.{Outcome, Part, answered, nothing}
 use Rattle.vx_record.specs.Asts.{deliverable_ast, deliverable_at}
-use Rattle.vx_record.specs.Events.{called, delivered, moved_to, r0_of, returned, returned_from, run, run_advanced, run_frame, run_on, served_call, started, with_r0}
+use Rattle.vx_record.specs.Events.{called, delivered, moved_to, r0_of, reader, returned, returned_from, run, run_advanced, run_frame, run_on, served_call, started, with_r0}
 use Rattle.vx_record.specs.Rundown.{exited, without_ast}
 use Rattle.vx_record.specs.Services.{at_once, service}
 use Rattle.vx_record.specs.Timers.{setimr}
 use Rattle.vx_record.specs.declared.served.Served.{Served}
 use Rattle.vx_record.specs.declared.served.Served.TheVariants.{Answered, Waits}
 use Rattle.vx_record.proofs.Lists.{either_by, find_passes}
+use Rattle.vx_record.proofs.SoundCalls.{StopFits, advanced_fits}
 use Rattle.vx_record.proofs.Ground.{at_set}
 use Rattle.vx_procs.specs.Kernel.{Acts, Does, DoesQuietly, Fits, Kernel, changed, told, with_state}
 use Rattle.vx_procs.specs.Ready.{IsBareProcess}
@@ -108,17 +109,23 @@ built_from : (s : State) (p : Pid) (fs : List Frame) → IsTrue (is_built s.syst
 built_from s p [] built = tt
 built_from s p (f ∷ fs) built = advanced_built s p _ (process_at s p).store f.pc built
 
-built_call : (image : Image) (n : ℕ) (x : Stop) → length image.stmts ≤ 10000 → IsBuiltStop image n x → IsBuiltCall n x
-built_call image n (stop.Call c) few h = (h.0, omega (arith, h.1))
-built_call image n stop.Return few h = tt
-built_call image n stop.End few h = tt
-built_call image n stop.Local few h = tt
+-- and its arguments are of their kinds
+
+fits_from : (s : State) (p : Pid) (fs : List Frame) → IsImage (image_of s p) → StopFits (image_of s p) (advanced_from (image_of s p) p (process_at s p).store fs).stop
+fits_from s p [] formed = tt
+fits_from s p (f ∷ fs) formed = advanced_fits formed.0 (image_of s p) (reader p f) (process_at s p).store f.pc formed.1
+
+built_call : (image : Image) (n : ℕ) (x : Stop) → length image.stmts ≤ 10000 → IsBuiltStop image n x → StopFits image x → IsBuiltCall n x
+built_call image n (stop.Call c) few h fits = (h.0, omega (arith, h.1), fits.args)
+built_call image n stop.Return few h fits = tt
+built_call image n stop.End few h fits = tt
+built_call image n stop.Local few h fits = tt
 
 pub advanced_call : (k : Kernel) (p : Pid) (n : ℕ) (x : Stop) → IsSet k p → n ≡ (advanced_at k.state p).place → x ≡ (advanced_at k.state p).stop → IsBuiltCall n x
 advanced_call k p n x set place stops =
     let s = k.state in
     let a = advanced_at s p in
-    rw (place, stops) (built_call (image_of s p) a.place a.stop (few_stmts (image_of s p) set.ready.formed) (built_from s p (process_at s p).frames set.built))
+    rw (place, stops) (built_call (image_of s p) a.place a.stop (few_stmts (image_of s p) set.ready.formed) (built_from s p (process_at s p).frames set.built) (fits_from s p (process_at s p).frames set.ready.formed))
 
 pub advanced_as : (s : State) (p : Pid) (a : Advanced) (n : ℕ) (x : Stop) → n ≡ a.place → x ≡ a.stop → run_on (change s p (moved_as a)) p n x ≡ run_advanced s p a
 advanced_as s p a n x place stops = ap (λ (m : ℕ). run_on (change s p (moved_as a)) p m x) place ∙ ap (run_on (change s p (moved_as a)) p a.place) stops
@@ -154,6 +161,8 @@ set_changed k l p f set there bare decl fewer =
             record { frame = omega (arith, has.frame, few.frames); ast = omega (arith, has.ast, few.asts) };
         timer = ready.timer;
         newcomer = omega (arith, ready.newcomer, length-set s.procs (p.0 - 1) (f (process_at s p)));
+        cluster = ready.cluster;
+        association = ready.association;
         ids = ready.ids;
         time = ready.time;
         bare = bare_still s p f bare ready.bare;

@@ -2,7 +2,8 @@
 use Rattle.std.specs.Prelude.{ℕ, ◌<◌, List, [], ◌∷◌, Bool, true, false, ◌&&◌, IsTrue, ⊤}
 use Rattle.std.specs.List.{list_all}
 use Rattle.vx_base.specs.declared.service.Service.{Service}
-use Rattle.vx_base.specs.declared.service.Service.TheVariants.{SetEf, ClrEf, ReadEf, WaitFr, WflOr, WflAnd, DclAst, SetAst, CmExec, CmKrnl, SetImr, Hiber, Wake, Suspnd, Resume, ForceX, CrePrc, Exit, GetTim}
+use Rattle.vx_base.specs.declared.service.Service.TheVariants.{SetEf, ClrEf, ReadEf, WaitFr, WflOr, WflAnd, DclAst, SetAst, CmExec, CmKrnl, SetImr, Hiber, Wake, Suspnd, Resume, ForceX, CrePrc, Exit, GetTim, AscEfc, DacEfc, DlcEfc}
+use Rattle.vx_base.specs.Services.{is_call}
 use Rattle.vx_image.specs.declared.image.Image.{Image}
 use Rattle.vx_image.specs.declared.stmt.Stmt.{Stmt}
 use Rattle.vx_image.specs.declared.stmt.Stmt.TheVariants as stmt
@@ -11,7 +12,8 @@ use Rattle.vx_image.specs.declared.stop.Stop.TheVariants as stop
 use Rattle.vx_image.specs.declared.system.System.{System}
 use Rattle.vx_image.specs.declared.unit.UnitDecl.{UnitDecl}
 
--- the services on local event flags and waits, ASTs and modes, $SETIMR, $GETTIM, and those that control processes but $DELPRC
+-- the services on event flags, common clusters and waits, ASTs and modes, $SETIMR, $GETTIM, and those that control processes but
+-- $DELPRC
 abbrev pub is_built_service : Service → Bool
 is_built_service SetEf = true
 is_built_service ClrEf = true
@@ -19,6 +21,9 @@ is_built_service ReadEf = true
 is_built_service WaitFr = true
 is_built_service WflOr = true
 is_built_service WflAnd = true
+is_built_service AscEfc = true
+is_built_service DacEfc = true
+is_built_service DlcEfc = true
 is_built_service DclAst = true
 is_built_service SetAst = true
 is_built_service CmExec = true
@@ -50,7 +55,7 @@ are_no_units (u ∷ us) = false
 abbrev pub is_built : System → Bool
 is_built system = are_no_units system.units && list_all is_built_image system.images
 
--- a service at which local statements stop is built, and its statement is one of at most 10,000
+-- a service at which local statements stop is built, its statement is one of at most 10,000, and its arguments are of their kinds
 abbrev pub IsBuiltCall : ℕ → Stop → Type 0
-IsBuiltCall place (stop.Call c) = IsTrue (is_built_service c.service) × (place < 10000)
+IsBuiltCall place (stop.Call c) = IsTrue (is_built_service c.service) × (place < 10000) × IsTrue (is_call c)
 IsBuiltCall place _ = ⊤

@@ -44,12 +44,12 @@ IsReadyFor k (event.Rdn p) = IsNext k p
 IsReadyFor k event.Tick = AreOrdered timer_id 0 k.state.next k.state.timers
 IsReadyFor k other = ⊥
 
--- How many effects an event has at most. A process leaves its frames, and tells two effects more; in rundown it drops timers and
--- ASTs in four modes, and is gone; a timer that is due fires, sets its flag and queues its AST.
+-- How many effects an event has at most. A process leaves its frames, and tells four effects more; in rundown it drops timers and
+-- ASTs in four modes, dissociates two clusters in each, which may go, and is gone; a timer that is due fires, sets its flag and queues its AST.
 abbrev pub most : State → Event → ℕ
-most s (event.Run p) = length (process_at s p).frames + 2
-most s (event.Ast p) = length (process_at s p).frames + 2
-most s (event.Rdn p) = 4 * (length (process_at s p).asts + length s.timers) + 1
+most s (event.Run p) = length (process_at s p).frames + 4
+most s (event.Ast p) = length (process_at s p).frames + 4
+most s (event.Rdn p) = 4 * (length (process_at s p).asts + length s.timers + 4) + 1
 most s event.Tick = 3 * length s.timers
 most s other = 0
 

@@ -2,6 +2,7 @@
 
 ghost use Rattle.std.specs.Prelude.{◌≡◌, ◌<◌, IsTrue};
 ghost use Rattle.vx_base.specs.Modes.{reaches};
+ghost use Rattle.vx_base.specs.Services.{is_call};
 ghost use Rattle.vx_record.specs.State.{IsProcess, current, process_at};
 ghost use Rattle.vx_record.specs.Asts.{deliverable_ast};
 ghost use Rattle.vx_record.specs.Events.{delivered, or_normal, resumed, returned, run, run_advanced, run_on, step};
@@ -44,6 +45,7 @@ fn end_wait<R: Routine>(core: &mut Core<R>, p: Pid, wait: Wait) -> Answer
 fn call_service<R: Routine>(core: &mut Core<R>, p: Pid, place: u32, call: Call) -> Answer
     requires set { IsSet core.old p }
     requires built { IsTrue (is_built_service call.service) }
+    requires kinds { IsTrue (is_call call) }
     requires place { place < 10000 }
     requires room { Fits core.old (run_on core.old.state p place (Stop.Call call)).effects }
     ensures { Does (run_on core.old.state p place (Stop.Call call)) result core.old core.new }

@@ -6,14 +6,18 @@ ghost use Rattle.vx_record.specs.Parts.{nothing};
 ghost use Rattle.vx_record.specs.Timers.{gettim};
 ghost use Rattle.vx_record.specs.Control.{creprc, resume, suspnd, wake};
 ghost use Rattle.vx_record.specs.Services.{access_mode, at_once, decl_place, label_place, number, place, routine, routine_or_none, service, service_of, text, valued, with_number, with_value};
+ghost use Rattle.vx_base.specs.Services.{is_call, is_of_kind};
+ghost use Rattle.vx_base.specs.declared.service.Kind.TheVariants.{Name as name_kind};
 ghost use Rattle.vx_procs.specs.Kernel.{Does, DoesQuietly, Fits};
 ghost use Rattle.vx_ctl.specs.Answers.{cond_of};
 ghost use Rattle.vx_exec.specs.Built.{is_built_service};
 ghost use Rattle.vx_exec.specs.Ready.{IsSet};
 
-use vx_base::{Arg, Args, Call, Cond, Effect, Entry, Mode, Operand, Pid, Routine, Service, Target};
+use vx_base::{
+    Arg, Args, Call, Cond, Effect, Entry, Mode, Name, Operand, Pid, Routine, Service, Target,
+};
 use vx_ctl::{
-    Refused, clref, cmexec, cmkrnl, creprc, dclast, forcex, gettim, hiber, readef, resume, setast, setef,
+    Refused, ascefc, clref, cmexec, cmkrnl, creprc, dacefc, dclast, dlcefc, forcex, gettim, hiber, readef, resume, setast, setef,
     setimr, suspnd, waitfr, wake, wfland, wflor,
 };
 use vx_image::{Image, Label, ProcDecl};
@@ -38,6 +42,17 @@ fn place(arg: &Arg) -> Target
     match arg {
         Arg::Target(target) => *target,
         _ => Target::R0,
+    }
+}
+
+// The name that an argument is.
+fn text(arg: &Arg) -> Name
+    requires { IsTrue (is_of_kind name_kind arg.now) }
+    ensures { result ≡ text arg.now }
+{
+    match arg {
+        Arg::Name(name) => *name,
+        _ => unreachable!(),
     }
 }
 
@@ -270,11 +285,34 @@ fn resume_named<R: Routine>(core: &mut Core<R>, p: Pid, n: u32) -> Served
     Served::Answered(resume(core, p, n))
 }
 
+// $ASCEFC of the cluster that an argument names.
+fn associate<R: Routine>(core: &mut Core<R>, p: Pid, args: &Args) -> Served
+    requires set { IsSet core.old p }
+    requires name { IsTrue (is_of_kind name_kind args.now.a1) }
+    requires room { Fits core.old (service_of core.old.state p args.now Service.AscEfc).effects }
+    ensures { Does (service_of core.old.state p args.now Service.AscEfc) result core.old core.new }
+{
+    let name = text(&args.a1);
+    Served::Answered(ascefc(core, p, number(&args.a0), name, number(&args.a2)))
+}
+
+// $DLCEFC of the cluster that an argument names.
+fn delete_cluster<R: Routine>(core: &mut Core<R>, p: Pid, args: &Args) -> Served
+    requires set { IsSet core.old p }
+    requires name { IsTrue (is_of_kind name_kind args.now.a0) }
+    requires room { Fits core.old (service_of core.old.state p args.now Service.DlcEfc).effects }
+    ensures { Does (service_of core.old.state p args.now Service.DlcEfc) result core.old core.new }
+{
+    let name = text(&args.a0);
+    Served::Answered(dlcefc(core, p, name))
+}
+
 /// Does the service of a call. Its place is put behind the statement before, and R0 set after it.
-#[tactic(auto, using(crate::proofs::Running::quietly))]
+#[tactic(auto, using(crate::proofs::Running::quietly, crate::proofs::Calls::names_second, crate::proofs::Calls::names_first))]
 pub(crate) fn serve<R: Routine>(core: &mut Core<R>, p: Pid, call: &Call) -> Served
     requires set { IsSet core.old p }
     requires built { IsTrue (is_built_service call.now.service) }
+    requires kinds { IsTrue (is_call call.now) }
     requires room { Fits core.old (service core.old.state p call.now).effects }
     ensures { Does (service core.old.state p call.now) result core.old core.new }
 {
@@ -287,6 +325,9 @@ pub(crate) fn serve<R: Routine>(core: &mut Core<R>, p: Pid, call: &Call) -> Serv
         Service::WaitFr => waitfr(core, p, n),
         Service::WflOr => wflor(core, p, n, number(&args.a1)),
         Service::WflAnd => wfland(core, p, n, number(&args.a1)),
+        Service::AscEfc => associate(core, p, args),
+        Service::DacEfc => Served::Answered(dacefc(core, p, n)),
+        Service::DlcEfc => delete_cluster(core, p, args),
         Service::DclAst => declare(core, p, args),
         Service::SetAst => Served::Answered(setast(core, p, n)),
         Service::CmExec => enter_exec(core, p, args),
@@ -301,10 +342,7 @@ pub(crate) fn serve<R: Routine>(core: &mut Core<R>, p: Pid, call: &Call) -> Serv
         Service::CrePrc => create_named(core, p, args),
         Service::Exit => Served::Answered(exit(core, p, n)),
         // these are not built yet
-        Service::AscEfc
-        | Service::DacEfc
-        | Service::DlcEfc
-        | Service::CanTim
+        Service::CanTim
         | Service::SchdWk
         | Service::CanWak
         | Service::DelPrc

@@ -18,6 +18,9 @@ fn is_built_service(service: Service) -> bool
             | Service::WaitFr
             | Service::WflOr
             | Service::WflAnd
+            | Service::AscEfc
+            | Service::DacEfc
+            | Service::DlcEfc
             | Service::DclAst
             | Service::SetAst
             | Service::CmExec
@@ -67,8 +70,8 @@ fn are_built_images(images: &[Image]) -> bool
     images.iter().all(|image| is_built_image(image))
 }
 
-/// Whether the executive runs a system so far: it has no units, and its images call of the services those on local event
-/// flags and waits, ASTs and modes, $SETIMR, $GETTIM, $EXIT, and those that control processes but $DELPRC.
+/// Whether the executive runs a system so far: it has no units, and its images call of the services those on event flags,
+/// common clusters and waits, ASTs and modes, $SETIMR, $GETTIM, $EXIT, and those that control processes but $DELPRC.
 pub fn is_built(system: &System) -> bool
     ensures { result ≡ is_built system.now }
 {

@@ -11,6 +11,7 @@ use Rattle.vx_procs.specs.Kernel.{Acts, Fits, Kernel}
 use Rattle.vx_procs.specs.Ready.{IsBare}
 use Rattle.vx_procs.proofs.Rest.{IsDoing, doing_begun, doing_on, doing_room}
 use Rattle.vx_rundown.specs.Leaving.{IsLeaving, released}
+use Rattle.vx_rundown.proofs.Bare.{drop_asts_bare}
 use Rattle.vx_rundown.proofs.Dropped.{asts_leaving}
 
 -- The state stays one of a process that is leaving.
@@ -25,6 +26,11 @@ parted_leaving p k s h = record {
   order = h.order;
   bare = parted_bare s p k h.bare;
 }
+
+pub released_bare : (p : Pid) (m : Mode) (s : State) → IsBare s → IsBare (released p m s).after
+released_bare p m s b =
+    let t = (drop_asts p m s).after in
+    parted_bare (part_with p 2 t).after p 3 (parted_bare t p 2 (drop_asts_bare p m s b))
 
 pub released_leaving : (p : Pid) (m : Mode) (s : State) → IsLeaving s p → IsLeaving (released p m s).after p
 released_leaving p m s h =

@@ -23,7 +23,7 @@ step-answer-requires-clause-ready g c =
     let going = subst (λ (u : State). IsGoing u c.self.inside.limit c.self.inside.taken) (sym begun.same) c.self.invariant in
     let here = subst (λ (e : Executive). Contains (enabled e.state) c.args.event) (sym c.self.view_is) c.requires.enabled in
     let owner = enabled_owned c.begin.new.self.state c.args.event going.whole (subst (λ (u : State). Contains (enabled u) c.args.event) (sym begun.same) here) in
-    ready_for c.begin.new.self c.args.event c.self.inside.limit c.self.inside.taken going owner (record { spares = begun.spares; timer = begun.timer; newcomer = begun.newcomer; time = begun.time; bare = begun.bare })
+    ready_for c.begin.new.self c.args.event c.self.inside.limit c.self.inside.taken going owner (record { spares = begun.spares; timer = begun.timer; newcomer = begun.newcomer; cluster = begun.cluster; association = begun.association; time = begun.time; bare = begun.bare })
 
 pub step-answer-requires-clause-room : goal.step-answer-requires-clause-room
 step-answer-requires-clause-room g c =
