@@ -2,7 +2,7 @@
 use Rattle.std.specs.Prelude.{ℕ, ◌<◌, List, [], ◌∷◌, Bool, true, false, ◌&&◌, IsTrue, ⊤}
 use Rattle.std.specs.List.{list_all}
 use Rattle.vx_base.specs.declared.service.Service.{Service}
-use Rattle.vx_base.specs.declared.service.Service.TheVariants.{SetEf, ClrEf, ReadEf, WaitFr, WflOr, WflAnd, DclAst, SetAst, CmExec, CmKrnl, SetImr, Hiber, Wake, Suspnd, Resume, ForceX, Exit, GetTim}
+use Rattle.vx_base.specs.declared.service.Service.TheVariants.{SetEf, ClrEf, ReadEf, WaitFr, WflOr, WflAnd, DclAst, SetAst, CmExec, CmKrnl, SetImr, CanTim, SchdWk, CanWak, Hiber, Wake, Suspnd, Resume, ForceX, Exit, GetTim}
 use Rattle.vx_image.specs.declared.image.Image.{Image}
 use Rattle.vx_image.specs.declared.stmt.Stmt.{Stmt}
 use Rattle.vx_image.specs.declared.stmt.Stmt.TheVariants as stmt
@@ -11,8 +11,8 @@ use Rattle.vx_image.specs.declared.stop.Stop.TheVariants as stop
 use Rattle.vx_image.specs.declared.system.System.{System}
 use Rattle.vx_image.specs.declared.unit.UnitDecl.{UnitDecl}
 
--- the services on local event flags and waits, ASTs and modes, $SETIMR, $GETTIM, and those that control processes but $CREPRC and
--- $DELPRC
+-- the services on local event flags and waits, ASTs and modes, timers and scheduled wakes, and those that control processes but
+-- $CREPRC and $DELPRC
 abbrev pub is_built_service : Service → Bool
 is_built_service SetEf = true
 is_built_service ClrEf = true
@@ -25,6 +25,9 @@ is_built_service SetAst = true
 is_built_service CmExec = true
 is_built_service CmKrnl = true
 is_built_service SetImr = true
+is_built_service CanTim = true
+is_built_service SchdWk = true
+is_built_service CanWak = true
 is_built_service Hiber = true
 is_built_service Wake = true
 is_built_service Suspnd = true

@@ -23,6 +23,9 @@ fn is_built_service(service: Service) -> bool
             | Service::CmExec
             | Service::CmKrnl
             | Service::SetImr
+            | Service::CanTim
+            | Service::SchdWk
+            | Service::CanWak
             | Service::Hiber
             | Service::Wake
             | Service::Suspnd
@@ -67,7 +70,7 @@ fn are_built_images(images: &[Image]) -> bool
 }
 
 /// Whether the executive runs a system so far: it has no units, and its images call of the services those on local event
-/// flags and waits, ASTs and modes, $SETIMR, $GETTIM, $EXIT, and those that control processes but $CREPRC and $DELPRC.
+/// flags and waits, ASTs and modes, timers and scheduled wakes, $EXIT, and those that control processes but $CREPRC and $DELPRC.
 pub fn is_built(system: &System) -> bool
     ensures { result ≡ is_built system.now }
 {
