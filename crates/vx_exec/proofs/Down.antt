@@ -1,5 +1,5 @@
--- What a step of rundown does to the state: no id is opened, and in each mode it drops at most the timers and queued ASTs there
--- are, and dissociates two clusters, which may go.
+-- What a step of rundown does to the state: no id is opened, and in each mode it drops at most the timers, wakes and queued ASTs
+-- there are, and dissociates two clusters, which may go; and then it drops the wakes for the process.
 use Rattle.std.proofs.Common.{ℕ, ◌+◌, ◌*◌, ◌≤◌, List, [], ◌∷◌, ◌++◌, Bool, length, length-append, refl, sym, ap, subst, arith}
 use Rattle.std.specs.List.{filter}
 use Rattle.std.proofs.Math.Nat.{mul-le-mul_left, mul-le-mul_right}
@@ -13,22 +13,23 @@ use Rattle.vx_base.specs.declared.mode.Mode.TheVariants.{Kernel, Exec, Super, Us
 use Rattle.vx_base.specs.declared.number.Pid.{Pid}
 use Rattle.vx_base.specs.declared.record.Answer.{Answer}
 use Rattle.vx_record.specs.State.{Process, State, IsProcess, process_at, change}
-use Rattle.vx_record.specs.Parts.{Outcome, Part, each, followed_by}
-use Rattle.vx_record.specs.Rundown.{draining, drop_ast, drop_asts, handling, in_phase, inner_modes, is_ast_reached, is_timer_in, part_with, rundown, rundown_from, run_down, without_ast}
-use Rattle.vx_record.specs.Timers.{drop_timer, drop_timers, this_timer}
+use Rattle.vx_record.specs.Parts.{Outcome, Part, each, followed_by, and_then}
+use Rattle.vx_record.specs.Rundown.{draining, drop_ast, drop_asts, handling, in_phase, inner_modes, is_ast_reached, is_timer_in, part_with, rundown, rundown_from, run_down, without_ast, gone_part, is_wake_by}
+use Rattle.vx_record.specs.Timers.{drop_timer, drop_timers, this_timer, is_wake_for}
 use Rattle.vx_record.proofs.Lists.{either}
 use Rattle.vx_clusters.proofs.Few.{dissociate_few}
 use Rattle.vx_procs.specs.Cells.{dissociation_part}
 use Rattle.vx_procs.specs.Ready.{IsBare}
-use Rattle.vx_rundown.specs.Leaving.{cancelled, released}
-use Rattle.vx_rundown.proofs.Bare.{cancelled_bare, cancelled_timers, drained, gone_alone, in_phase_bare, mode_done}
+use Rattle.vx_rundown.specs.Leaving.{cancelled, released, entries_part}
+use Rattle.vx_rundown.proofs.Bare.{cancelled_bare, cancelled_entries, drained, gone_wakes, in_phase_bare, mode_done}
 use Rattle.vx_rundown.proofs.Changed.{process_there}
 use Rattle.vx_rundown.proofs.Released.{released_bare}
+use Rattle.vx_exec.proofs.Few.{filter_few}
 use Rattle.vx_exec.proofs.Goes.{Goes, Stays, goes_stays, made_stays, stays_changed, stays_common, stays_still, stays_then}
 
--- how much a mode tells at most: of the timers there are, the ASTs queued for a process, and two clusters
+-- how much a mode tells at most: of the ASTs queued for a process, the timers and wakes there are, and two clusters
 abbrev load : State → Pid → ℕ
-load s p = length (process_at s p).asts + length s.timers + 4
+load s p = length (process_at s p).asts + 2 * length s.timers + 4
 
 -- it stays, has no more to drop, and tells at most so much
 record Falls (p : Pid) (bound : ℕ) (s t : State) (told : List Effect) : Type 0 where
@@ -40,10 +41,6 @@ record Falls (p : Pid) (bound : ℕ) (s t : State) (told : List Effect) : Type 0
 pub less_few : {A : Type 0} (p : A → Bool) (xs : List A) → length (less p xs) ≤ length xs
 less_few p [] = omega arith
 less_few p (x ∷ xs) = let rest = less_few p xs in either (λ ys. length ys ≤ length (x ∷ xs)) (p x) xs (x ∷ less p xs) (omega arith) (omega (arith, rest))
-
-filter_few : {A : Type 0} (p : A → Bool) (xs : List A) → length (filter p xs) ≤ length xs
-filter_few p [] = omega arith
-filter_few p (x ∷ xs) = let rest = filter_few p xs in either (λ ys. length ys ≤ length (x ∷ xs)) (p x) (x ∷ filter p xs) (filter p xs) (omega (arith, rest)) (omega (arith, rest))
 
 falls_still : (p : Pid) (s : State) → Falls p 0 s s []
 falls_still p s = record { stays = stays_still s; asts = omega arith; timers = omega arith; few = omega arith }
@@ -112,20 +109,36 @@ released_fall p m s made =
 timers_fall : (p : Pid) (test : Timer → Bool) (s : State) → Falls p (length s.timers) s (drop_timers test s).after (drop_timers test s).effects
 timers_fall p test s = falls_more p _ _ s _ _ (filter_few test s.timers) (timers_each p (filter test s.timers) s)
 
-cancelled_falls : (p : Pid) (m : Mode) (s : State) → IsBare s → IsProcess s p → Falls p (length s.timers) s (cancelled p m s).after (cancelled p m s).effects
+entries_fall : (p : Pid) (m : Mode) (s : State) → Falls p (2 * length s.timers) s (entries_part p m s).after (entries_part p m s).effects
+entries_fall p m s =
+    let a = drop_timers (is_timer_in p m) s in
+    let one = timers_fall p (is_timer_in p m) s in
+    let two = timers_fall p (is_wake_by p) a.after in
+    falls_more p (length s.timers + length a.after.timers) (2 * length s.timers) s _ _ (omega (arith, one.timers)) (falls_then p (length s.timers) (length a.after.timers) s a.after _ _ _ one two)
+
+cancelled_falls : (p : Pid) (m : Mode) (s : State) → IsBare s → IsProcess s p → Falls p (2 * length s.timers) s (cancelled p m s).after (cancelled p m s).effects
 cancelled_falls p m s b made =
     let t = handling p m s in
+    let n = 2 * length s.timers in
     let one = phase_falls p s (phase.Handlers m) made in
-    let drops = drop_timers (is_timer_in p m) t in
-    let two = falls_more p (0 + length s.timers) (length s.timers) s drops.after _ (omega arith) (falls_then p 0 (length s.timers) s t drops.after _ _ one (timers_fall p (is_timer_in p m) t)) in
-    let last = phase_falls p drops.after (phase.Draining m) (falls_made p (length s.timers) s drops.after _ made two) in
-    let all = falls_more p (length s.timers + 0) (length s.timers) s _ _ (omega arith) (falls_then p (length s.timers) 0 s drops.after (draining p m drops.after) _ _ two last) in
-    subst (λ (a : Part). Falls p (length s.timers) s a.after a.effects) (sym (cancelled_timers t p m (in_phase_bare s p (phase.Handlers m) b))) all
+    let drops = entries_part p m t in
+    let two = falls_more p (0 + n) n s drops.after _ (omega arith) (falls_then p 0 n s t drops.after _ _ one (entries_fall p m t)) in
+    let last = phase_falls p drops.after (phase.Draining m) (falls_made p n s drops.after _ made two) in
+    let all = falls_more p (n + 0) n s _ _ (omega arith) (falls_then p n 0 s drops.after (draining p m drops.after) _ _ two last) in
+    subst (λ (a : Part). Falls p n s a.after a.effects) (sym (cancelled_entries t p m (in_phase_bare s p (phase.Handlers m) b))) all
+
+-- the last: the wakes for the process end
+gone_falls : (p : Pid) (s : State) → IsProcess s p → (let o = and_then (drop_timers (is_wake_for p) s) (gone_part p) in Falls p (length s.timers + 1) s o.after o.effects)
+gone_falls p s made =
+    let a = drop_timers (is_wake_for p) s in
+    let one = timers_fall p (is_wake_for p) s in
+    let h = phase_falls p a.after phase.Deleted (falls_made p (length s.timers) s a.after a.effects made one) in
+    falls_then p (length s.timers) 1 s a.after _ a.effects _ one (record { stays = h.stays; asts = h.asts; timers = h.timers; few = omega arith })
 
 -- mode after mode
 
 abbrev down_most : State → Pid → List Mode → ℕ
-down_most s p ms = length ms * load s p + 1
+down_most s p ms = length ms * load s p + length s.timers + 1
 
 followed_falls : (p : Pid) (m : Mode) (n : ℕ) (s t : State) (told : List Effect) (ms : List Mode) → Falls p n s t told → IsProcess s p → (let u = (released p m t).after in Falls p (down_most u p ms) u (run_down p ms u).after (run_down p ms u).effects) → (let o = followed_by (released p m t) (run_down p ms) in Falls p (n + (length (process_at s p).asts + 4 + down_most s p ms)) s o.after (told ++ o.effects))
 followed_falls p m n s t told ms first made rest =
@@ -134,21 +147,20 @@ followed_falls p m n s t told ms first made rest =
     let two = released_fall p m t (falls_made p n s t told made first) in
     let after_both = falls_then p n (length (process_at t p).asts + 4) s t u told drops.effects first two in
     let less_load : load u p ≤ load s p = omega (arith, after_both.asts, after_both.timers) in
-    let bound : down_most u p ms ≤ down_most s p ms = omega (arith, mul-le-mul_left (length ms) less_load) in
+    let bound : down_most u p ms ≤ down_most s p ms = omega (arith, mul-le-mul_left (length ms) less_load, after_both.timers) in
     let later = falls_then p (length (process_at t p).asts + 4) (down_most u p ms) t u (run_down p ms u).after drops.effects (run_down p ms u).effects two rest in
     falls_more p _ _ s _ _ (omega (arith, first.asts, bound)) (falls_then p n _ s t _ told _ first later)
 
 run_down_falls : (p : Pid) (ms : List Mode) (s : State) → IsBare s → IsProcess s p → Falls p (down_most s p ms) s (run_down p ms s).after (run_down p ms s).effects
 run_down_falls p [] s b made =
-    let h = phase_falls p s phase.Deleted made in
-    subst (λ (o : Outcome Answer). Falls p (down_most s p []) s o.after o.effects) (sym (gone_alone s p b)) (record { stays = h.stays; asts = h.asts; timers = h.timers; few = omega arith })
+    subst (λ (o : Outcome Answer). Falls p (down_most s p []) s o.after o.effects) (sym (gone_wakes s p b)) (falls_more p (length s.timers + 1) (down_most s p []) s _ _ (omega arith) (gone_falls p s made))
 run_down_falls p (m ∷ ms) s b made =
     let a = cancelled p m s in
     let first = cancelled_falls p m s b made in
     let u = (released p m a.after).after in
-    let made_a = falls_made p (length s.timers) s a.after a.effects made first in
+    let made_a = falls_made p (2 * length s.timers) s a.after a.effects made first in
     let rest = run_down_falls p ms u (released_bare p m a.after (cancelled_bare p m s b)) (falls_made p _ a.after u _ made_a (released_fall p m a.after made_a)) in
-    subst (λ (o : Outcome Answer). Falls p (down_most s p (m ∷ ms)) s o.after o.effects) (sym (mode_done s p m ms b)) (falls_more p _ (down_most s p (m ∷ ms)) s _ _ (omega arith) (followed_falls p m (length s.timers) s a.after a.effects ms first made rest))
+    subst (λ (o : Outcome Answer). Falls p (down_most s p (m ∷ ms)) s o.after o.effects) (sym (mode_done s p m ms b)) (falls_more p _ (down_most s p (m ∷ ms)) s _ _ (omega arith) (followed_falls p m (2 * length s.timers) s a.after a.effects ms first made rest))
 
 -- of four modes at most
 
@@ -167,18 +179,18 @@ inner_few User = omega arith
 falls_goes : (p : Pid) (n bound : ℕ) (s : State) (o : Outcome Answer) → n ≤ bound → Falls p n s o.after o.effects → Goes bound s o.after o.effects
 falls_goes p n bound s o few h = goes_stays bound s o.after o.effects h.stays (omega (arith, h.few, few))
 
-rundown_from_goes : (p : Pid) (s : State) (ph : Phase) → IsBare s → IsProcess s p → (let o = rundown_from p ph s in Goes (4 * load s p + 1) s o.after o.effects)
+rundown_from_goes : (p : Pid) (s : State) (ph : Phase) → IsBare s → IsProcess s p → (let o = rundown_from p ph s in Goes (4 * load s p + length s.timers + 1) s o.after o.effects)
 rundown_from_goes p s (phase.Handlers m) b made =
     let few = mul-le-mul_right (load s p) (modes_few m) in
-    falls_goes p (down_most s p (m ∷ inner_modes m)) (4 * load s p + 1) s (run_down p (m ∷ inner_modes m) s) (omega (arith, few)) (run_down_falls p (m ∷ inner_modes m) s b made)
+    falls_goes p (down_most s p (m ∷ inner_modes m)) (4 * load s p + length s.timers + 1) s (run_down p (m ∷ inner_modes m) s) (omega (arith, few)) (run_down_falls p (m ∷ inner_modes m) s b made)
 rundown_from_goes p s (phase.Draining m) b made =
     let few = mul-le-mul_right (load s p) (inner_few m) in
     let u = (released p m s).after in
     let rest = run_down_falls p (inner_modes m) u (released_bare p m s b) (falls_made p _ s u _ made (released_fall p m s made)) in
     let falls = followed_falls p m 0 s s [] (inner_modes m) (falls_still p s) made rest in
-    subst (λ (o : Outcome Answer). Goes (4 * load s p + 1) s o.after o.effects) (sym (drained s p m (run_down p (inner_modes m)) b)) (falls_goes p (0 + (length (process_at s p).asts + 4 + down_most s p (inner_modes m))) (4 * load s p + 1) s (followed_by (released p m s) (run_down p (inner_modes m))) (omega (arith, few)) falls)
-rundown_from_goes p s phase.Alive b made = goes_stays (4 * load s p + 1) s s [] (stays_still s) (omega arith)
-rundown_from_goes p s phase.Deleted b made = goes_stays (4 * load s p + 1) s s [] (stays_still s) (omega arith)
+    subst (λ (o : Outcome Answer). Goes (4 * load s p + length s.timers + 1) s o.after o.effects) (sym (drained s p m (run_down p (inner_modes m)) b)) (falls_goes p (0 + (length (process_at s p).asts + 4 + down_most s p (inner_modes m))) (4 * load s p + length s.timers + 1) s (followed_by (released p m s) (run_down p (inner_modes m))) (omega (arith, few)) falls)
+rundown_from_goes p s phase.Alive b made = goes_stays (4 * load s p + length s.timers + 1) s s [] (stays_still s) (omega arith)
+rundown_from_goes p s phase.Deleted b made = goes_stays (4 * load s p + length s.timers + 1) s s [] (stays_still s) (omega arith)
 
-pub rundown_goes : (p : Pid) (s : State) → IsBare s → IsProcess s p → Goes (4 * load s p + 1) s (rundown s p).after (rundown s p).effects
+pub rundown_goes : (p : Pid) (s : State) → IsBare s → IsProcess s p → Goes (4 * load s p + length s.timers + 1) s (rundown s p).after (rundown s p).effects
 rundown_goes p s b made = rundown_from_goes p s (process_at s p).phase b made

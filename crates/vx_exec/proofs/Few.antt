@@ -37,15 +37,15 @@ few_each (t ∷ ts) s =
     let rest = few_each ts a.after in
     omega (arith, one, rest, length-append a.effects (each fire ts a.after).effects)
 
-few_due : (p : Timer → Bool) (ts : List Timer) → length (filter p ts) ≤ length ts
-few_due p [] = omega arith
-few_due p (t ∷ ts) =
-    let rest = few_due p ts in
-    either (λ xs. length xs ≤ length (t ∷ ts)) (p t) (t ∷ filter p ts) (filter p ts) (omega (arith, rest)) (omega (arith, rest))
+pub filter_few : {A : Type 0} (p : A → Bool) (xs : List A) → length (filter p xs) ≤ length xs
+filter_few p [] = omega arith
+filter_few p (x ∷ xs) =
+    let rest = filter_few p xs in
+    either (λ ys. length ys ≤ length (x ∷ xs)) (p x) (x ∷ filter p xs) (filter p xs) (omega (arith, rest)) (omega (arith, rest))
 
 pub few_ticked : (s : State) → length (tick s).effects ≤ 3 * length s.timers
 few_ticked s =
     let now = next_time s in
     let one = few_each (filter (is_due now) s.timers) (at_time s now) in
-    let two = few_due (is_due now) s.timers in
+    let two = filter_few (is_due now) s.timers in
     omega (arith, one, two)

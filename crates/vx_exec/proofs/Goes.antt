@@ -1,6 +1,6 @@
 -- What events of a process do to the state: how many processes there are then, how many ids they open, and how much they tell.
 use Rattle.std.proofs.Common.{◌≡◌, ℕ, zero, suc, ◌≢◌, ◌<◌, ◌++◌, is_some, slice_index_or, slice_set, ◌+◌, ◌-◌, ◌%◌, ◌^◌, ◌≤◌, List, [], ◌∷◌, Bool, true, false, not, ◌==◌, length, length-set, length-append, IsTrue, Option, Some, None, Result, Ok, Err, refl, ap, ◌∙◌, arith, nat_le, nat_lt, subst}
-use Rattle.std.specs.List.{AllByRecursion}
+use Rattle.std.specs.List.{AllByRecursion, filter}
 use Rattle.std.proofs.lemmas.Bool.{leb-false}
 use Rattle.vx_base.specs.Clusters.{Common as CommonClusters, Change}
 use Rattle.vx_base.specs.Pieces.{Queued, Timer}
@@ -14,6 +14,7 @@ use Rattle.vx_base.specs.declared.effects.Cell.{Cell}
 use Rattle.vx_base.specs.declared.effects.Cell.TheVariants.{Local, Common}
 use Rattle.vx_base.specs.declared.effects.Effect.{Effect}
 use Rattle.vx_base.specs.declared.effects.Effect.TheVariants as effect
+use Rattle.vx_base.specs.declared.effects.Opened.TheVariants as opened
 use Rattle.vx_base.specs.declared.frame.Frame.{Frame}
 use Rattle.vx_base.specs.declared.frame.FrameKind.{FrameKind}
 use Rattle.vx_base.specs.declared.frame.FrameKind.TheVariants as kind
@@ -25,14 +26,14 @@ use Rattle.vx_base.specs.declared.number.Pid.{Pid}
 use Rattle.vx_base.specs.declared.routine.Entry.{Entry}
 use Rattle.vx_base.specs.declared.routine.Entry.TheVariants as entry
 use Rattle.vx_base.specs.declared.service.Service.{Service}
-use Rattle.vx_base.specs.declared.service.Service.TheVariants.{SetEf, ClrEf, ReadEf, WaitFr, WflOr, WflAnd, DclAst, SetAst, CmExec, CmKrnl, SetImr, Hiber, Wake, Suspnd, Resume, ForceX, CrePrc, Exit, GetTim, AscEfc, DacEfc, DlcEfc}
+use Rattle.vx_base.specs.declared.service.Service.TheVariants.{SetEf, ClrEf, ReadEf, WaitFr, WflOr, WflAnd, DclAst, SetAst, CmExec, CmKrnl, SetImr, Hiber, Wake, Suspnd, Resume, ForceX, CrePrc, Exit, GetTim, AscEfc, DacEfc, DlcEfc, CanTim, SchdWk, CanWak}
 use Rattle.vx_base.specs.Modes.{inner, outer}
 use Rattle.vx_image.specs.Local.{advanced}
 use Rattle.vx_image.specs.declared.stop.Stop.{Stop}
 use Rattle.vx_image.specs.declared.stop.Stop.TheVariants as stop
 use Rattle.vx_record.specs.State.{Process, State, IsProcess, process_at, change, image_of, current, nobody, next_id, past_id, with_top}
-use Rattle.vx_record.specs.Parts.{Outcome, Part, answered, at_tested, nothing, refused, part_of, commonly}
-use Rattle.vx_record.specs.Asts.{charged_ast, declared_ast, with_delivery, with_frame, with_queued, new_frame}
+use Rattle.vx_record.specs.Parts.{Outcome, Part, answered, at_tested, nothing, refused, part_of, commonly, each}
+use Rattle.vx_record.specs.Asts.{charged_ast, declared_ast, with_delivery, with_frame, with_queued, new_frame, open_part}
 use Rattle.vx_record.specs.Charges.{exceeds, ast_need, timer_need}
 use Rattle.vx_record.specs.Control.{changed_process, created, creprc, exit_ast, forced, new_part, next_pid, process_test, with_suspension, with_wake}
 use Rattle.vx_record.specs.Events.{below_top, delivered, moved_behind, moved_to, or_normal, put_back, r0_of, reader, resumed_with, returned, returned_from, run, run_frame, run_on, served_call, started}
@@ -43,7 +44,7 @@ use Rattle.vx_record.specs.declared.served.Served.{Served}
 use Rattle.vx_record.specs.declared.served.Served.TheVariants.{Answered, Waits}
 use Rattle.vx_record.proofs.Lists.{either, either_by, all_set, all_weaker}
 use Rattle.vx_record.specs.Sound.{timer_id}
-use Rattle.vx_record.specs.Timers.{gettim, new_timer, open_timer, setimr_at, timer_set, with_timer}
+use Rattle.vx_record.specs.Timers.{drop_timer, drop_timers, gettim, is_cancelled_timer, is_wake_for, new_wake, open_timer, scheduled, setimr_at, timer_set, unscheduled, with_timer}
 use Rattle.vx_record.proofs.Lists.{ordered_below, ordered_more}
 use Rattle.vx_procs.specs.Words.{left, left_kind}
 use Rattle.vx_procs.proofs.Stack.{left_after, left_effects}
@@ -51,6 +52,7 @@ use Rattle.vx_rundown.proofs.Changed.{process_there}
 use Rattle.vx_exec.specs.Built.{is_built_service, is_built}
 use Rattle.vx_clusters.proofs.Few.{associate_few, dissociate_few, mark_few}
 use Rattle.vx_ctl.proofs.Common.{associates, dissociates, marks}
+use Rattle.vx_exec.proofs.Few.{filter_few}
 use Rattle.vx_exec.proofs.Calls.{IsBuiltStop, advanced_built}
 
 -- from s to t: no process comes or goes, and no id is opened
@@ -68,7 +70,7 @@ pub record Goes (bound : ℕ) (s t : State) (told : List Effect) : Type 0 where
 
 -- how much a process tells at most where it runs
 abbrev pub run_most : State → Pid → ℕ
-run_most s p = length (process_at s p).frames + 4
+run_most s p = length (process_at s p).frames + length s.timers + 4
 
 abbrev pub GoesBy : {A : Type 0} → Pid → State → Outcome A → Type 0
 GoesBy p s o = Goes (run_most s p) s o.after o.effects
@@ -98,14 +100,14 @@ goes_changed p q s f told few = goes_stays (run_most s p) s (change s q f) told 
 goes_opened : (bound : ℕ) (s t : State) (told : List Effect) → length t.procs ≡ length s.procs → t.next ≡ s.next + 1 → length told ≤ bound → Goes bound s t told
 goes_opened bound s t told procs next few = record { grows = omega (arith, procs); within = λ h. omega (arith, procs, h); later = omega (arith, next); soon = omega (arith, next); few = few }
 
--- after a beginning that tells nothing, and leaves no more frames
-pub goes_after : (p : Pid) (s t u : State) (told : List Effect) → Stays s t → length (process_at t p).frames ≤ length (process_at s p).frames → Goes (run_most t p) t u told → Goes (run_most s p) s u told
-goes_after p s t u told a frames b = record {
+-- after a beginning that tells nothing, and leaves no more to tell
+pub goes_after : (p : Pid) (s t u : State) (told : List Effect) → Stays s t → run_most t p ≤ run_most s p → Goes (run_most t p) t u told → Goes (run_most s p) s u told
+goes_after p s t u told a most b = record {
   grows = omega (arith, a.procs, b.grows);
   within = λ h. b.within (omega (arith, a.procs, h));
   later = omega (arith, a.next, b.later);
   soon = omega (arith, a.next, b.soon);
-  few = omega (arith, frames, b.few);
+  few = omega (arith, most, b.few);
 }
 
 -- with one process changed at the end
@@ -224,6 +226,30 @@ created_goes p s t place =
     (λ many. numbered_goes p s t (nothing s) (Err NoSlot) (omega arith) (λ h. h) refl (omega arith))
     (λ few. numbered_goes p s t (new_part s p place) (Ok (next_pid s).0) (omega (arith, more)) (λ h. omega (arith, more, leb-false 1000 (length s.procs) few)) refl (omega arith))
 
+-- timers and wakes end
+
+drops_stay : (ts : List Timer) (s : State) → Stays s (each drop_timer ts s).after
+drops_stay [] s = stays_still s
+drops_stay (t ∷ ts) s = let u = (drop_timer s t).after in stays_then s u _ (record { procs = refl; next = refl }) (drops_stay ts u)
+
+drops_few : (ts : List Timer) (s : State) → length (each drop_timer ts s).effects ≤ length ts
+drops_few [] s = omega arith
+drops_few (t ∷ ts) s = let rest = drops_few ts (drop_timer s t).after in omega (arith, rest)
+
+dropped_goes : (p : Pid) (s : State) (test : Timer → Bool) → GoesBy p s (answered Normal (drop_timers test s))
+dropped_goes p s test =
+    let ts = filter test s.timers in
+    let few = drops_few ts s in
+    let fewer = filter_few test s.timers in
+    goes_stays (run_most s p) s (drop_timers test s).after (drop_timers test s).effects (drops_stay ts s) (omega (arith, few, fewer))
+
+-- a wake is scheduled
+scheduled_goes : (p : Pid) (s : State) (delta repeat : ℕ) (q : Pid) → GoesBy p s (scheduled s p delta repeat q)
+scheduled_goes p s delta repeat q =
+    let part = open_part s opened.Wake p None repeat (with_timer (past_id s) (new_wake s p q delta repeat)) in
+    either (λ (o : Outcome Cond). GoesBy p s o) (exceeds s p (ast_need true)) (refused s ExQuota) (answered Normal part) (goes_still p s)
+    (goes_opened (run_most s p) s part.after part.effects refl refl (omega arith))
+
 service_goes : (p : Pid) (s : State) (a : Args) (v : Service) → is_built_service v ≡ true → GoesBy p s (service_of s p a v)
 service_goes p s a SetEf built = flag_goes p s (number a.a0) (refused s) (put_flag_at s true) (λ c. goes_still p s) (put_goes p s true)
 service_goes p s a ClrEf built = flag_goes p s (number a.a0) (refused s) (put_flag_at s false) (λ c. goes_still p s) (put_goes p s false)
@@ -262,6 +288,9 @@ service_goes p s a CmKrnl built =
     either (λ (o : Outcome Cond). GoesBy p s o) _ _ _ (goes_changed p p s (with_frame (new_frame s p kind.Change Kernel tag 0)) [] (omega arith)) (goes_still p s)
 service_goes p s a SetImr built =
     flag_goes p s (number a.a0) (refused s) (setimr_at s p (number a.a0) (number a.a1) (routine_or_none s p a.a2 (number a.a3)) (number a.a3)) (λ c. goes_still p s) (set_goes p s (number a.a0) (number a.a1) (routine_or_none s p a.a2 (number a.a3)) (number a.a3))
+service_goes p s a CanTim built = dropped_goes p s (is_cancelled_timer p (number a.a0) (outer (access_mode a.a1) (current s p)))
+service_goes p s a SchdWk built = tested_goes p s (scheduled s p (number a.a1) (number a.a2)) (process_test s p (number a.a0)) (scheduled_goes p s (number a.a1) (number a.a2))
+service_goes p s a CanWak built = tested_goes p s (unscheduled s) (process_test s p (number a.a0)) (λ q. dropped_goes p s (is_wake_for q))
 service_goes p s a GetTim built = goes_changed p p s (with_variable (place a.a0) (gettim s)) (effect.Var p (place a.a0) (gettim s) ∷ []) (omega arith)
 service_goes p s a Hiber built =
     either (λ (o : Outcome Served). GoesBy p s o) (process_at s p).wake_pending (answered (Answered Normal) (nothing (change s p (with_wake false)))) (answered Waits (nothing (change s p (with_wait (Some wait.Hiber)))))
@@ -298,13 +327,13 @@ pub top_few : (f : Frame → Frame) (fs : List Frame) → length (with_top f fs)
 top_few f [] = omega arith
 top_few f (x ∷ xs) = omega arith
 
-top_frames : (p : Pid) (s : State) (f : Process → Process) → IsProcess s p → length (f (process_at s p)).frames ≤ length (process_at s p).frames → length (process_at (change s p f) p).frames ≤ length (process_at s p).frames
-top_frames p s f made few = omega (arith, few, ap (λ (pr : Process). length pr.frames) (process_there s p f made))
+top_most : (p : Pid) (s : State) (f : Process → Process) → IsProcess s p → length (f (process_at s p)).frames ≤ length (process_at s p).frames → run_most (change s p f) p ≤ run_most s p
+top_most p s f made few = omega (arith, few, ap (λ (pr : Process). length pr.frames) (process_there s p f made))
 
 run_on_goes : (p : Pid) (s t : State) (n : ℕ) (x : Stop) → IsBuiltStop (image_of s p) n x → IsProcess t p → GoesBy p t (run_on t p n x)
 run_on_goes p s t n (stop.Call c) built made =
     let u = change t p (moved_behind n) in
-    goes_after p t u _ _ (stays_changed t p (moved_behind n)) (top_frames p t (moved_behind n) made (top_few _ (process_at t p).frames)) (served_goes p u c (service u p c) (service u p c).answer (call_goes p u c built.0))
+    goes_after p t u _ _ (stays_changed t p (moved_behind n)) (top_most p t (moved_behind n) made (top_few _ (process_at t p).frames)) (served_goes p u c (service u p c) (service u p c).answer (call_goes p u c built.0))
 run_on_goes p s t n stop.Return built made = returned_goes p t (process_at t p).frames
 run_on_goes p s t n stop.End built made = returned_goes p t (process_at t p).frames
 run_on_goes p s t n stop.Local built made = goes_still p t
@@ -314,7 +343,7 @@ run_frame_goes p s f None built made =
     let a = advanced (image_of s p) (reader p f) (process_at s p).store f.pc in
     let t = change s p (moved_to a.store a.place) in
     let moved = stays_changed s p (moved_to a.store a.place) in
-    goes_after p s t _ _ moved (top_frames p s (moved_to a.store a.place) made (top_few _ (process_at s p).frames)) (run_on_goes p s t a.place a.stop (advanced_built s p (reader p f) (process_at s p).store f.pc built) (made_stays p s t moved made))
+    goes_after p s t _ _ moved (top_most p s (moved_to a.store a.place) made (top_few _ (process_at s p).frames)) (run_on_goes p s t a.place a.stop (advanced_built s p (reader p f) (process_at s p).store f.pc built) (made_stays p s t moved made))
 run_frame_goes p s f (Some w) built made = goes_changed p p s (resumed_with w (or_normal (wait_condition s p w))) [] (omega arith)
 
 pub run_goes : (p : Pid) (s : State) (fs : List Frame) → IsTrue (is_built s.system) → IsProcess s p → GoesBy p s (run s p fs)
@@ -330,4 +359,4 @@ started_goes p s q (entry.Host prm) = goes_changed p p s (with_frame (new_frame 
 
 pub delivered_goes : (p : Pid) (s : State) (o : Option Queued) → IsProcess s p → GoesBy p s (delivered s p o)
 delivered_goes p s None made = goes_still p s
-delivered_goes p s (Some q) made = let t = change s p (without_ast q.id) in goes_after p s t _ _ (stays_changed s p (without_ast q.id)) (top_frames p s (without_ast q.id) made (omega arith)) (started_goes p t q q.tag)
+delivered_goes p s (Some q) made = let t = change s p (without_ast q.id) in goes_after p s t _ _ (stays_changed s p (without_ast q.id)) (top_most p s (without_ast q.id) made (omega arith)) (started_goes p t q q.tag)

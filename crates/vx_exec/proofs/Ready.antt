@@ -86,7 +86,7 @@ pub ready_for : (k : Kernel) (e : Event) (limit taken : ℕ) → IsGoing k.state
 ready_for k (event.Run p) limit taken going made begun = next_of k p limit taken going made begun
 ready_for k (event.Ast p) limit taken going made begun = next_of k p limit taken going made begun
 ready_for k (event.Rdn p) limit taken going made begun = next_of k p limit taken going made begun
-ready_for k event.Tick limit taken going made begun = going.whole.sound.timer_ids
+ready_for k event.Tick limit taken going made begun = record { order = going.whole.sound.timer_ids; counted = begun.time }
 ready_for k (event.Beg u) limit taken going made begun = made
 ready_for k (event.Don u) limit taken going made begun = made
 
@@ -96,7 +96,7 @@ step_goes : (s : State) (e : Event) → IsWhole s → IsBare s → HasOwner s e 
 step_goes s (event.Run p) whole bare made = run_goes p s (process_at s p).frames whole.built made
 step_goes s (event.Ast p) whole bare made = delivered_goes p s (deliverable_ast s p) made
 step_goes s (event.Rdn p) whole bare made = rundown_goes p s bare made
-step_goes s event.Tick whole bare made = tick_goes s (record { order = whole.sound.timer_ids; timers = bare.timers })
+step_goes s event.Tick whole bare made = tick_goes s
 step_goes s (event.Beg u) whole bare made = absurd made
 step_goes s (event.Don u) whole bare made = absurd made
 

@@ -1,5 +1,5 @@
 -- What an event relies on, once room was made for it.
-use Rattle.std.specs.Prelude.{ℕ, true, ◌+◌, ◌*◌, ◌≤◌, IsTrue, length, ⊤}
+use Rattle.std.specs.Prelude.{ℕ, true, ◌+◌, ◌*◌, ◌≤◌, IsTrue, length, ⊤, ◌^◌, ◌<◌}
 use Rattle.vx_base.specs.declared.mode.Mode.{Mode}
 use Rattle.vx_base.specs.declared.number.Id.{Id}
 use Rattle.vx_base.specs.declared.number.Pid.{Pid}
@@ -28,6 +28,11 @@ pub record IsNext (k : Kernel) (p : Pid) : Type 0 where
   pub waits : WaitsStand (process_at k.state p).frames
   pub ids : IsTrue (have_own_ids (process_at k.state p).asts)
 
+-- What a tick relies on: timers stand in id order, and the time is one that can be counted on.
+pub record IsTimely (k : Kernel) : Type 0 where
+  pub order : AreOrdered timer_id 0 k.state.next k.state.timers
+  pub counted : k.state.time < 2 ^ 63
+
 -- the process of an event is there; of units there are no events
 abbrev pub HasOwner : State → Event → Type 0
 HasOwner s (event.Run p) = IsProcess s p
@@ -41,15 +46,16 @@ abbrev pub IsReadyFor : Kernel → Event → Type 0
 IsReadyFor k (event.Run p) = IsNext k p
 IsReadyFor k (event.Ast p) = IsNext k p
 IsReadyFor k (event.Rdn p) = IsNext k p
-IsReadyFor k event.Tick = AreOrdered timer_id 0 k.state.next k.state.timers
+IsReadyFor k event.Tick = IsTimely k
 IsReadyFor k other = ⊥
 
--- How many effects an event has at most. A process leaves its frames, and tells four effects more; in rundown it drops timers and
--- ASTs in four modes, dissociates two clusters in each, which may go, and is gone; a timer that is due fires, sets its flag and queues its AST.
+-- How many effects an event has at most. A process leaves its frames, or cancels timers, and tells four effects more; in rundown it
+-- drops timers, wakes and ASTs in four modes, dissociates two clusters in each, which may go, drops the wakes for it, and is gone; a
+-- timer that is due fires, sets its flag and queues its AST.
 abbrev pub most : State → Event → ℕ
-most s (event.Run p) = length (process_at s p).frames + 4
-most s (event.Ast p) = length (process_at s p).frames + 4
-most s (event.Rdn p) = 4 * (length (process_at s p).asts + length s.timers + 4) + 1
+most s (event.Run p) = length (process_at s p).frames + length s.timers + 4
+most s (event.Ast p) = length (process_at s p).frames + length s.timers + 4
+most s (event.Rdn p) = 4 * (length (process_at s p).asts + 2 * length s.timers + 4) + length s.timers + 1
 most s event.Tick = 3 * length s.timers
 most s other = 0
 

@@ -12,8 +12,13 @@ pub(crate) fn most<R: Routine>(core: &Core<R>, event: Event) -> Option<u32>
     ensures { IfSome result (λ n. most core.now.state event ≤ n) }
 {
     let most = match event {
-        Event::Run(p) | Event::Ast(p) => core.frame_count(p) as u128 + 4,
-        Event::Rdn(p) => 4 * (core.ast_count(p) as u128 + core.timer_count() as u128 + 4) + 1,
+        Event::Run(p) | Event::Ast(p) => {
+            core.frame_count(p) as u128 + core.timer_count() as u128 + 4
+        }
+        Event::Rdn(p) => {
+            let timers = core.timer_count() as u128;
+            4 * (core.ast_count(p) as u128 + 2 * timers + 4) + timers + 1
+        }
         Event::Tick => 3 * core.timer_count() as u128,
         Event::Beg(_) | Event::Don(_) => 0,
     };

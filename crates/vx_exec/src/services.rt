@@ -17,7 +17,8 @@ use vx_base::{
     Arg, Args, Call, Cond, Effect, Entry, Mode, Name, Operand, Pid, Routine, Service, Target,
 };
 use vx_ctl::{
-    Refused, ascefc, clref, cmexec, cmkrnl, creprc, dacefc, dclast, dlcefc, forcex, gettim, hiber, readef, resume, setast, setef,
+    Refused, ascefc, cantim, canwak, clref, cmexec, cmkrnl, creprc, dacefc, dclast, dlcefc, forcex,
+    gettim, hiber, readef, resume, schdwk, setast, setef,
     setimr, suspnd, waitfr, wake, wfland, wflor,
 };
 use vx_image::{Image, Label, ProcDecl};
@@ -241,6 +242,16 @@ fn set_timer<R: Routine>(core: &mut Core<R>, p: Pid, args: &Args) -> Served
     Served::Answered(cond_of(answer))
 }
 
+// $SCHDWK of the process that a number names.
+fn schedule_wake<R: Routine>(core: &mut Core<R>, p: Pid, args: &Args) -> Served
+    requires set { IsSet core.old p }
+    requires room { Fits core.old (service_of core.old.state p args.now Service.SchdWk).effects }
+    ensures { Does (service_of core.old.state p args.now Service.SchdWk) result core.old core.new }
+{
+    let (n, delta, repeat) = (number(&args.a0), number(&args.a1), number(&args.a2));
+    Served::Answered(schdwk(core, p, n, delta, repeat))
+}
+
 // $CMEXEC of the routine at a label.
 fn enter_exec<R: Routine>(core: &mut Core<R>, p: Pid, args: &Args) -> Served
     requires { IsSet core.old p }
@@ -333,6 +344,9 @@ pub(crate) fn serve<R: Routine>(core: &mut Core<R>, p: Pid, call: &Call) -> Serv
         Service::CmExec => enter_exec(core, p, args),
         Service::CmKrnl => enter_kernel(core, p, args),
         Service::SetImr => set_timer(core, p, args),
+        Service::CanTim => Served::Answered(cantim(core, p, n, access_mode(&args.a1))),
+        Service::SchdWk => schedule_wake(core, p, args),
+        Service::CanWak => Served::Answered(canwak(core, p, n)),
         Service::GetTim => read_time(core, p, place(&args.a0)),
         Service::Hiber => hiber(core, p),
         Service::Wake => wake_named(core, p, n),
@@ -342,10 +356,7 @@ pub(crate) fn serve<R: Routine>(core: &mut Core<R>, p: Pid, call: &Call) -> Serv
         Service::CrePrc => create_named(core, p, args),
         Service::Exit => Served::Answered(exit(core, p, n)),
         // these are not built yet
-        Service::CanTim
-        | Service::SchdWk
-        | Service::CanWak
-        | Service::DelPrc
+        Service::DelPrc
         | Service::DclExh
         | Service::CanExh
         | Service::Assign

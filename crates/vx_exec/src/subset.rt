@@ -26,6 +26,9 @@ fn is_built_service(service: Service) -> bool
             | Service::CmExec
             | Service::CmKrnl
             | Service::SetImr
+            | Service::CanTim
+            | Service::SchdWk
+            | Service::CanWak
             | Service::Hiber
             | Service::Wake
             | Service::Suspnd
@@ -70,8 +73,8 @@ fn are_built_images(images: &[Image]) -> bool
     images.iter().all(|image| is_built_image(image))
 }
 
-/// Whether the executive runs a system so far: it has no units, and its images call of the services those on event flags,
-/// common clusters and waits, ASTs and modes, $SETIMR, $GETTIM, $EXIT, and those that control processes but $DELPRC.
+/// Whether the executive runs a system so far: it has no units, and its images call of the services those on event flags, common
+/// clusters and waits, ASTs and modes, timers and scheduled wakes, $EXIT, and those that control processes but $DELPRC.
 pub fn is_built(system: &System) -> bool
     ensures { result ≡ is_built system.now }
 {
