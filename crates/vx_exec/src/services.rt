@@ -46,8 +46,8 @@ fn place(arg: &Arg) -> Target
     }
 }
 
-// The name that an argument is.
-fn text(arg: &Arg) -> Name
+// The name that an argument is, where it is one.
+fn cluster_name(arg: &Arg) -> Name
     requires { IsTrue (is_of_kind name_kind arg.now) }
     ensures { result ≡ text arg.now }
 {
@@ -303,7 +303,7 @@ fn associate<R: Routine>(core: &mut Core<R>, p: Pid, args: &Args) -> Served
     requires room { Fits core.old (service_of core.old.state p args.now Service.AscEfc).effects }
     ensures { Does (service_of core.old.state p args.now Service.AscEfc) result core.old core.new }
 {
-    let name = text(&args.a1);
+    let name = cluster_name(&args.a1);
     Served::Answered(ascefc(core, p, number(&args.a0), name, number(&args.a2)))
 }
 
@@ -314,7 +314,7 @@ fn delete_cluster<R: Routine>(core: &mut Core<R>, p: Pid, args: &Args) -> Served
     requires room { Fits core.old (service_of core.old.state p args.now Service.DlcEfc).effects }
     ensures { Does (service_of core.old.state p args.now Service.DlcEfc) result core.old core.new }
 {
-    let name = text(&args.a0);
+    let name = cluster_name(&args.a0);
     Served::Answered(dlcefc(core, p, name))
 }
 
