@@ -1,5 +1,5 @@
-//! The services on event flags and their common clusters, ASTs, access modes, timers and other processes, and those that wait, each by its entry in the
-//! "OpenVMS System Services Reference Manual".
+//! The services on event flags, common clusters, ASTs, access modes, timers and other processes, and those that wait, each by its
+//! entry in the "OpenVMS System Services Reference Manual".
 //!
 //! Each call does the row of its service in the machine's definitions: it tests in the row's order, logs the row's effects,
 //! and leaves the row's state. The caller puts the place behind the statement before it, and R0 and an answer's variable

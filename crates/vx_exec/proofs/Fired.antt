@@ -4,7 +4,7 @@ use Rattle.std.specs.List.{find}
 use Rattle.vx_base.specs.Pieces.{Queued, Timer}
 use Rattle.vx_base.specs.declared.effects.Cell.{Cell}
 use Rattle.vx_base.specs.declared.effects.Cell.TheVariants.{Common, Local}
-use Rattle.vx_record.specs.State.{State, change, process_at}
+use Rattle.vx_record.specs.State.{State, change}
 use Rattle.vx_record.specs.Flags.{cell, flag_where_named, with_local_flag}
 use Rattle.vx_record.specs.Parts.{Part}
 use Rattle.vx_record.specs.Timers.{at_time, is_due, next_time, tick}
@@ -12,7 +12,7 @@ use Rattle.vx_procs.specs.Words.{moved_on, timer_ast, with_queued_if, without_ti
 use Rattle.vx_procs.proofs.Booked.{length-less}
 use Rattle.vx_timers.specs.Seen.{flag_number}
 use Rattle.vx_ctl.specs.Firing.{AreTimers, due_part, fired_first, told_ast}
-use Rattle.vx_ctl.proofs.Ticking.{fired_more, fired_none, fired_timers, flag_timers, timers_after}
+use Rattle.vx_ctl.proofs.Ticking.{fired_more, fired_none, fired_timers, timers_after}
 use Rattle.vx_exec.proofs.Few.{few_ticked}
 use Rattle.vx_exec.proofs.Goes.{Goes, Stays, goes_stays, stays_changed, stays_common, stays_still, stays_then}
 

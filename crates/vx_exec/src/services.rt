@@ -17,8 +17,8 @@ use vx_base::{
     Arg, Args, Call, Cond, Effect, Entry, Mode, Name, Operand, Pid, Routine, Service, Target,
 };
 use vx_ctl::{
-    Refused, ascefc, clref, cmexec, cmkrnl, dacefc, dclast, dlcefc, forcex, gettim, hiber, readef, resume, setast, setef,
-    setimr, suspnd, waitfr, wake, wfland, wflor,
+    Refused, ascefc, clref, cmexec, cmkrnl, dacefc, dclast, dlcefc, forcex, gettim, hiber, readef,
+    resume, setast, setef, setimr, suspnd, waitfr, wake, wfland, wflor,
 };
 use vx_image::{Image, Label};
 use vx_procs::Core;
