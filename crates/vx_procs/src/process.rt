@@ -21,9 +21,7 @@ ghost use Rattle.vx_procs.specs.Words.{advanced_of, alarm_ast, alarm_need, deliv
 
 use crate::frames::{leave_all, place_top, wait_at_top};
 use vx_ast::{AstQueue, Delivery};
-use vx_base::{
-    Cond, Effects, Id, Mode, Need, NoMemory, Phase, Pid, Privs, Routine, Target, Wait,
-};
+use vx_base::{Cond, Effects, Id, Mode, Need, NoMemory, Phase, Pid, Privs, Routine, Target, Wait};
 use vx_flags::Flags;
 use vx_frames::Frames;
 use vx_image::{Image, Stop, Store, advance};
