@@ -1,5 +1,5 @@
 -- The common cluster at the place of its group and name is the one that the machine finds by them.
-use Rattle.std.proofs.Common.{◌≡◌, ℕ, ◌<◌, List, Bool, Some, None, length, position, slice_index_or, slice_set, refl, ap, sym, ◌∙◌}
+use Rattle.std.proofs.Common.{◌≡◌, ℕ, ◌<◌, List, Bool, Some, None, length, position, slice_index_or, slice_set, refl, ap}
 use Rattle.std.specs.List.{find}
 use Rattle.std.proofs.lemmas.List.{get_or_default}
 use Rattle.vx_base.specs.Clusters.{is_cluster}

@@ -18,9 +18,7 @@ ghost use Rattle.vx_procs.specs.Words.{decl_in, image_in, HasDecl, HasImage};
 
 use crate::process::Proc;
 use crate::procs::Core;
-use vx_base::{
-    Entry, Frame, FrameKind, Id, Mode, Name, Need, Phase, Pid, Privs, Routine, Target,
-};
+use vx_base::{Entry, Frame, FrameKind, Id, Mode, Name, Need, Phase, Pid, Privs, Routine, Target};
 use vx_image::{Image, ProcDecl, System};
 
 /// The process declaration at a place, from 0.

@@ -1,4 +1,4 @@
-use Rattle.std.proofs.Common.{List, None, map, sym, subst}
+use Rattle.std.proofs.Common.{None, map, sym, subst}
 use Rattle.vx_base.specs.Pieces.{Timer}
 use Rattle.vx_base.specs.Roomy.{Roomy}
 use Rattle.vx_clusters.specs.Clusters.{Shared}
