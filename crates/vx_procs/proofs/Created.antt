@@ -1,5 +1,5 @@
 -- A process is created: the value after it, and what is held stays held.
-use Rattle.std.proofs.Common.{◌≡◌, ◌≢◌, ℕ, ◌+◌, ◌-◌, ◌<◌, ◌≤◌, length, length-append, List, [], ◌∷◌, ◌++◌, Bool, true, false, cond, nat_lt, map, slice_index_or, Option, Some, None, IfSome, option_to_list, inl, inr, vec_len, vec_capacity, arith, refl, sym, ap, subst, ◌∙◌}
+use Rattle.std.proofs.Common.{◌≡◌, ◌≢◌, ℕ, ◌+◌, ◌-◌, ◌<◌, length, length-append, List, [], ◌∷◌, ◌++◌, Bool, true, false, cond, nat_lt, map, slice_index_or, Option, Some, None, option_to_list, inl, inr, vec_len, vec_capacity, arith, refl, sym, ap, subst, ◌∙◌}
 use Rattle.std.specs.List.{AllByRecursion}
 use Rattle.std.proofs.lemmas.Bool.{cases_eq}
 use Rattle.std.proofs.lemmas.List.{append-nil, get_or_append_left, length-map, map-append}
@@ -9,7 +9,6 @@ use Rattle.vx_base.specs.Lists.{tally}
 use Rattle.vx_base.specs.Pieces.{Queued, Timer}
 use Rattle.vx_base.specs.Quotas.{no_need}
 use Rattle.vx_base.specs.declared.number.Pid.{Pid}
-use Rattle.vx_base.specs.declared.quota.Need.{Need}
 use Rattle.vx_record.specs.State.{Process, State, IsProcess, process_at, nobody, no_decl, pid}
 use Rattle.vx_record.specs.Charges.{charge, charged_timer, is_charged, is_timer, is_timer_of, takes_ast}
 use Rattle.vx_record.specs.Control.{created}

@@ -6,8 +6,8 @@
 //! at first. Only `new` and `begin` take memory: `begin` makes sure of spare room, of which an event uses one of each kind at
 //! most, and every other call leaves the room as it was (`specs/Held.antt`).
 //!
-//! All reads of a process are in `reads.rt`, all writes of its fields in `setters.rt`, those of timers in `timers.rt`: each says the
-//! value after it as one equation, in the words of the machine. Services call these alone.
+//! All reads of a process are in `reads.rt`, all writes of its fields in `setters.rt`, those of timers in `timers.rt`, and creation is
+//! in `create.rt`: each says the value after it as one equation, in the words of the machine. Services call these alone.
 #![tactic(auto)]
 
 mod born;

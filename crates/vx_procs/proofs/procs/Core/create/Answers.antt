@@ -8,7 +8,6 @@ use Rattle.vx_record.specs.Control.{created, decl_at}
 use Rattle.vx_procs.specs.Fresh.{IsBlank}
 use Rattle.vx_procs.specs.Kernel.{Kernel}
 use Rattle.vx_procs.specs.View.{process}
-use Rattle.vx_procs.specs.declared.procs.Core.TheInside.{Inside}
 use Rattle.vx_procs.proofs.Created.{created_as, held_created, newcomer_place}
 use Rattle.vx_procs.proofs.procs.Core.create.Goals as goal
 
