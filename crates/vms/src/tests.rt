@@ -453,7 +453,7 @@ fn ends_and_several_faults(rt: HostRuntime) -> Result<(), Fail> {
     Ok(())
 }
 
-// What an image may do for its system to be built: each local statement, and eighteen services.
+// What an image may do for its system to be built: each local statement, and each service that is run.
 const BUILT: [&[u8]; 20] = [
     b"LET A = 1\nLET A = A + 1\nLET B = A - 1\nGOTO L\nIF A EQ 1 GOTO L\nPUT 0 \"x\"\nBYTE A 0 1\nIOSB A 1 COUNT\nRETURN",
     b"$SETEF A",
