@@ -453,8 +453,8 @@ fn ends_and_several_faults(rt: HostRuntime) -> Result<(), Fail> {
     Ok(())
 }
 
-// What an image may do for its system to be built: each local statement, and eighteen services.
-const BUILT: [&[u8]; 19] = [
+// What an image may do for its system to be built: each local statement, and each service that is run.
+const BUILT: [&[u8]; 26] = [
     b"LET A = 1\nLET A = A + 1\nLET B = A - 1\nGOTO L\nIF A EQ 1 GOTO L\nPUT 0 \"x\"\nBYTE A 0 1\nIOSB A 1 COUNT\nRETURN",
     b"$SETEF A",
     b"$CLREF SS$_NORMAL",
@@ -473,18 +473,18 @@ const BUILT: [&[u8]; 19] = [
     b"$SUSPND",
     b"$RESUME",
     b"$FORCEX",
-    b"$EXIT",
-];
-
-// The other services.
-const UNBUILT: [&[u8]; 18] = [
+    b"$CREPRC A,P",
     b"$ASCEFC 64,N",
     b"$DACEFC 64",
     b"$DLCEFC N",
     b"$CANTIM",
     b"$SCHDWK ,1",
     b"$CANWAK",
-    b"$CREPRC A,P",
+    b"$EXIT",
+];
+
+// The other services.
+const UNBUILT: [&[u8]; 11] = [
     b"$DELPRC",
     b"$DCLEXH L",
     b"$CANEXH",

@@ -7,8 +7,8 @@
 //! most, and every other call leaves the room as it was (`specs/Held.antt`).
 //!
 //! All reads of a process are in `reads.rt`, all writes of its fields in `setters.rt`, event flags and their clusters in
-//! `clusters.rt`, timers in `timers.rt`: each says the value after it as one equation, in the words of the machine. Services call
-//! these alone.
+//! `clusters.rt`, timers in `timers.rt`, and creation in `create.rt`: each says the value after it as one equation, in the words of
+//! the machine. Services call these alone.
 #![tactic(auto)]
 
 mod born;
