@@ -12,7 +12,9 @@ pub(crate) fn most<R: Routine>(core: &Core<R>, event: Event) -> Option<u32>
     ensures { IfSome result (λ n. most core.now.state event ≤ n) }
 {
     let most = match event {
-        Event::Run(p) | Event::Ast(p) => core.frame_count(p) as u128 + core.timer_count() as u128 + 2,
+        Event::Run(p) | Event::Ast(p) => core.frame_count(p) as u128
+            + core.timer_count() as u128
+            + 2,
         Event::Rdn(p) => {
             let timers = core.timer_count() as u128;
             4 * (core.ast_count(p) as u128 + 2 * timers) + timers + 1

@@ -13,8 +13,8 @@ ghost use Rattle.vx_exec.specs.Ready.{IsSet};
 
 use vx_base::{Arg, Args, Call, Cond, Effect, Entry, Mode, Operand, Pid, Routine, Service, Target};
 use vx_ctl::{
-    Refused, cantim, canwak, clref, cmexec, cmkrnl, dclast, forcex, gettim, hiber, readef, resume, schdwk, setast, setef,
-    setimr, suspnd, waitfr, wake, wfland, wflor,
+    Refused, cantim, canwak, clref, cmexec, cmkrnl, dclast, forcex, gettim, hiber, readef, resume,
+    schdwk, setast, setef, setimr, suspnd, waitfr, wake, wfland, wflor,
 };
 use vx_image::{Image, Label};
 use vx_procs::Core;
