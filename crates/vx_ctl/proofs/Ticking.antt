@@ -69,6 +69,7 @@ wake_off s now t target repeat what order found =
     both_ways : {x y u v : State} (b : Bool) → x ≡ u → y ≡ v → cond b x y ≡ cond b u v
     both_ways true e f = e
     both_ways false e f = f
+
     ended : t.what ≡ OfWake target repeat → without_timer (is_due now) s ≡ moved_on s now (Some t)
     ended what = rw what (sym (none_changed (without_timer (is_due now) s) t.p))
 

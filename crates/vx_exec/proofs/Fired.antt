@@ -37,7 +37,7 @@ fired_stays s t (OfTimer efn reqid mode tag) =
 fired_stays s t (OfWake target repeat) =
     let u = after_wake s t repeat in
     let there = either (Stays s) (repeat == 0) (record s { timers = less (this_timer t.id) s.timers }) (record s { timers = amend (this_timer t.id) (due_again repeat) s.timers })
-        (timers_stay s (less (this_timer t.id) s.timers)) (timers_stay s (amend (this_timer t.id) (due_again repeat) s.timers)) in
+    (timers_stay s (less (this_timer t.id) s.timers)) (timers_stay s (amend (this_timer t.id) (due_again repeat) s.timers)) in
     stays_then s u _ there (stays_changed u target (with_wake true))
 
 each_stays : (ts : List Timer) (s : State) → Stays s (each fire ts s).after
