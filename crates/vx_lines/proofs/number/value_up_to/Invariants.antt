@@ -1,8 +1,8 @@
 use Rattle.std.proofs.Common.{◌≡◌, ◌≤◌, drop}
 use Rattle.std.specs.List.{list_all, fold}
 use Rattle.vx_base.specs.Name.{is_digit}
-use Rattle.vms.specs.Words.{with_digit, digits_value}
-use Rattle.vms.proofs.number.value_up_to.Given as goal
+use Rattle.vx_lines.specs.Numbers.{with_digit, digits_value}
+use Rattle.vx_lines.proofs.number.value_up_to.Given as goal
 
 abbrev pub invariant-loop-digit : goal.invariant-loop-digit
 invariant-loop-digit l = record {

@@ -1,7 +1,7 @@
 use Rattle.std.proofs.Common.{◌<◌, length, suc, drop}
 use Rattle.std.proofs.Math.Seq.{drop-cons}
-use Rattle.vms.proofs.Numbers.{value_up_to-large}
-use Rattle.vms.proofs.number.value_up_to.Goals as goal
+use Rattle.vx_lines.proofs.Numbers.{value_up_to-large}
+use Rattle.vx_lines.proofs.number.value_up_to.Goals as goal
 
 pub returns-then-number-from : goal.returns-then-number-from
 returns-then-number-from c =

@@ -1,7 +1,7 @@
 -- Digits and their numbers.
 use Rattle.std.proofs.Common.{◌≡◌, ℕ, ◌<◌, ◌≤◌, List, [], ◌∷◌, Bool, true, false, ◌&&◌, nat_le, None, arith, refl, rules}
 use Rattle.std.specs.List.{fold}
-use Rattle.vms.specs.Words.{with_digit, digits_value, value_up_to}
+use Rattle.vx_lines.specs.Numbers.{with_digit, digits_value, value_up_to}
 
 fold-grows : (n : ℕ) (ds : List ℕ) → n ≤ fold with_digit n ds
 fold-grows n [] = omega arith

@@ -3,8 +3,7 @@
 //! Each function appends its text. If memory runs out, it may have appended the start of it.
 
 ghost use Rattle.std.specs.Prelude.{◌≡◌, ◌++◌, ◌∷◌, [], decimal, map, OnOk};
-ghost use Rattle.vx_script.specs.Script.{ended_lines, spaced};
-ghost use Rattle.vms.specs.Transcript.{id_text, bit_text, cluster_text, cell_text, opened_name, mode_text, cond_text, joined_text, body_text, effect_words, effect_line};
+ghost use Rattle.vx_lines.specs.Records.{ended_lines, spaced, id_text, bit_text, cluster_text, cell_text, opened_name, mode_text, cond_text, joined_text, body_text, effect_words, effect_line};
 
 use std::alloc::Global;
 use vx_base::{Body, Bytes, Cell, Cond, Effect, Id, Mode, Name, NoMemory, Opened, Pid};
@@ -253,7 +252,8 @@ fn print_words(alloc: Global, effect: &Effect, out: &mut Bytes) -> Result<(), No
     }
 }
 
-fn print_effect(alloc: Global, effect: &Effect, out: &mut Bytes) -> Result<(), NoMemory>
+/// Appends an effect, on its line.
+pub fn print_effect(alloc: Global, effect: &Effect, out: &mut Bytes) -> Result<(), NoMemory>
     ensures { OnOk result (out.new ≡ out.old ++ (effect_line effect.now ++ 10 ∷ [])) }
 {
     print_words(alloc, effect, out)?;

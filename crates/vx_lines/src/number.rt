@@ -1,7 +1,7 @@
 //! Numbers in the words.
 
 ghost use Rattle.std.specs.Prelude.{◌≡◌, ◌<◌, ◌^◌};
-ghost use Rattle.vms.specs.Words as spec;
+ghost use Rattle.vx_lines.specs.Numbers as spec;
 
 // Nothing, or a zero in front of more.
 fn is_misspelled(digits: &[u8]) -> bool
