@@ -1,2 +1,5 @@
 pub mod Cutting
+pub mod EffectsBack
+pub mod EffectsLaw
 pub mod Numbers
+pub mod WordsBack

@@ -1,5 +1,5 @@
--- What a word of a line is.
-use Rattle.std.specs.Prelude.{ℕ, ◌==◌, nat_le, Bool, true, false, List, [], ◌∷◌, length, codes, bytes_eq, if◌then◌else◌, Option, Some, None, option_map, position, Result, Ok, Err}
+-- What a word of a line is. A number may have zeros in front here: a line is read only if it is spelled as what was read.
+use Rattle.std.specs.Prelude.{ℕ, ◌==◌, nat_le, Bool, List, [], ◌∷◌, length, codes, bytes_eq, if◌then◌else◌, Option, Some, None, option_map, position, Result, Ok, Err}
 use Rattle.vx_base.specs.Name.{is_name}
 use Rattle.vx_base.specs.declared.cond.Cond.{Cond}
 use Rattle.vx_base.specs.declared.effects.Cell.{Cell}
@@ -20,11 +20,11 @@ use Rattle.vx_text.specs.declared.token.Tok.{Tok}
 use Rattle.vx_text.specs.declared.token.Tok.TheVariants as tok
 use Rattle.vx_table.specs.Back.{toks_of}
 use Rattle.vx_table.specs.Reading.{mode_word}
-use Rattle.vx_lines.specs.Numbers.{number_up_to}
+use Rattle.vx_lines.specs.Numbers.{value_up_to}
 use Rattle.vx_lines.specs.Words.{◌>>=◌, first_part, from_colon, behind_part}
 
 abbrev pub number_of : List ℕ → Option ℕ
-number_of word = number_up_to 4294967295 word
+number_of word = value_up_to 4294967295 word
 
 abbrev pub as_id : ℕ → Id
 as_id n = record { 0 = n }
@@ -40,9 +40,12 @@ id_of (b ∷ digits) = if b == 35 then option_map as_id (number_of digits) else 
 abbrev pub pid_of : List ℕ → Option Pid
 pid_of word = option_map as_pid (number_of word)
 
+abbrev pub is_one : ℕ → Bool
+is_one n = n == 1
+
 -- 0 or 1
 abbrev pub bit_of : List ℕ → Option Bool
-bit_of word = if bytes_eq word (codes "0") then Some false else (if bytes_eq word (codes "1") then Some true else None)
+bit_of word = option_map is_one (value_up_to 1 word)
 
 abbrev pub name_in : List ℕ → Option (List ℕ)
 name_in word = if is_name word then Some word else None
@@ -72,7 +75,7 @@ local_of first second = pid_of first >>= λ p. number_of second >>= λ n. Some (
 
 -- a flag's number in its cluster, 0 to 31
 abbrev pub small_of : List ℕ → Option ℕ
-small_of word = number_up_to 31 word
+small_of word = value_up_to 31 word
 
 -- group:name:flag
 abbrev pub common_of : List ℕ → List ℕ → List ℕ → Option Cell
@@ -93,9 +96,12 @@ cluster_of word = number_of (first_part word) >>= λ group. name_in (behind_part
 abbrev pub cluster_or_none : List ℕ → Option (Option (ℕ × List ℕ))
 cluster_or_none word = if bytes_eq word (codes "-") then Some None else option_map Some (cluster_of word)
 
+abbrev pub if_common : ℕ → Option ℕ
+if_common n = if nat_le 2 n then Some n else None
+
 -- 2 or 3
 abbrev pub common_number : List ℕ → Option ℕ
-common_number word = if bytes_eq word (codes "2") then Some 2 else (if bytes_eq word (codes "3") then Some 3 else None)
+common_number word = value_up_to 3 word >>= if_common
 
 -- the unit of a name, by its place
 abbrev pub as_unit : ℕ → UnitNo

@@ -6,3 +6,4 @@ pub mod Records
 pub mod Words
 pub mod Cutting
 pub mod ReadRecords
+pub mod Spelled

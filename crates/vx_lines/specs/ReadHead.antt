@@ -24,7 +24,7 @@ use Rattle.vx_table.specs.Back.{toks_of}
 use Rattle.vx_table.specs.Reading.{read_call}
 use Rattle.vx_table.specs.declared.fail.CallFail.{CallFail}
 use Rattle.vx_lines.specs.Fields.{id_of, pid_of, unit_of}
-use Rattle.vx_lines.specs.Numbers.{number_up_to}
+use Rattle.vx_lines.specs.Numbers.{value_up_to}
 use Rattle.vx_lines.specs.ReadEffect.{unfed}
 use Rattle.vx_lines.specs.Records.{head_line}
 use Rattle.vx_lines.specs.Words.{◌>>=◌, word_len, first_word, behind_word, second_word, third_word, fourth_word, last_word, before_last}
@@ -103,7 +103,7 @@ don_in units line = unit_of units (second_word line) >>= λ u. id_of (third_word
 
 -- a time of 64 bits
 abbrev pub tick_in : List ℕ → Option Rec
-tick_in line = number_up_to 18446744073709551615 (second_word line) >>= λ t. Some (as_head event.Tick (answer.Time t))
+tick_in line = value_up_to 18446744073709551615 (second_word line) >>= λ t. Some (as_head event.Tick (answer.Time t))
 
 abbrev pub other_head : List UnitDecl → List ℕ → List ℕ → Option Rec
 other_head units word line =

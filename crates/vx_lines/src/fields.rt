@@ -1,11 +1,11 @@
-//! What a word of a line is.
+//! What a word of a line is. A number may have zeros in front here: the line is compared with what it is read as.
 
 ghost use Rattle.std.specs.Prelude.{◌≡◌, ◌<◌, ◌≤◌, IfOk, IfSome, Ok, bytes_eq, length, position};
 ghost use Rattle.vx_table.specs.Reading.{toks};
 ghost use Rattle.vx_text.specs.First.{cond_named};
 ghost use Rattle.vx_lines.specs.Fields as spec;
 
-use crate::number::number_up_to;
+use crate::number::value_up_to;
 use crate::words::{behind_part, first_part, from_colon};
 use std::alloc::Global;
 use vx_base::{Bytes, Cell, Cond, Id, Mode, Name, NoMemory, Opened, Pid, UnitNo};
@@ -17,7 +17,7 @@ use vx_text::{LexFail, Tok, Token, tokens};
 pub fn number_of(word: &[u8]) -> Option<u32>
     ensures { result ≡ spec.number_of word.now }
 {
-    match number_up_to(4_294_967_295, word) {
+    match value_up_to(4_294_967_295, word) {
         Some(number) => Some(number as u32),
         None => None,
     }
@@ -43,12 +43,9 @@ pub fn pid_of(word: &[u8]) -> Option<Pid>
 pub fn bit_of(word: &[u8]) -> Option<bool>
     ensures { result ≡ spec.bit_of word.now }
 {
-    if word == b"0".as_slice() {
-        Some(false)
-    } else if word == b"1".as_slice() {
-        Some(true)
-    } else {
-        None
+    match value_up_to(1, word) {
+        Some(number) => Some(number == 1),
+        None => None,
     }
 }
 
@@ -123,7 +120,7 @@ fn local_of(first: &[u8], second: &[u8]) -> Option<Cell>
 fn small_of(word: &[u8]) -> Option<u32>
     ensures { result ≡ spec.small_of word.now }
 {
-    match number_up_to(31, word) {
+    match value_up_to(31, word) {
         Some(number) => Some(number as u32),
         None => None,
     }
@@ -175,12 +172,9 @@ pub fn cluster_or_none(word: &[u8]) -> Option<Option<(u32, Name)>>
 pub fn common_number(word: &[u8]) -> Option<u32>
     ensures { result ≡ spec.common_number word.now }
 {
-    if word == b"2".as_slice() {
-        Some(2)
-    } else if word == b"3".as_slice() {
-        Some(3)
-    } else {
-        None
+    match value_up_to(3, word) {
+        Some(number) if number >= 2 => Some(number as u32),
+        _ => None,
     }
 }
 

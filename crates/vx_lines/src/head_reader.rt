@@ -7,7 +7,7 @@ ghost use Rattle.vx_table.specs.Reading.{BeginsCall, read_call, toks};
 ghost use Rattle.vx_lines.specs.ReadHead as spec;
 
 use crate::fields::{cond_of, id_of, pid_of, unit_of};
-use crate::number::number_up_to;
+use crate::number::value_up_to;
 use crate::print::print_head;
 use crate::effect_reader::unfed;
 use crate::words::{
@@ -214,7 +214,7 @@ fn don_in(alloc: Global, units: &[UnitDecl], line: &[u8]) -> Option<Rec>
 fn tick_in(alloc: Global, line: &[u8]) -> Option<Rec>
     ensures { result ≡ spec.tick_in line.now }
 {
-    let time = number_up_to(18_446_744_073_709_551_615, second_word(line))?;
+    let time = value_up_to(18_446_744_073_709_551_615, second_word(line))?;
     Some(as_head(alloc, Event::Tick, Answer::Time(time)))
 }
 

@@ -6,6 +6,7 @@
 
 mod effect;
 mod fields;
+mod law;
 mod number;
 mod print;
 mod read;
@@ -14,6 +15,7 @@ mod head_reader;
 mod words;
 
 pub use effect::{print_effects, print_spaced, print_spaced_num};
+pub use law::effects_are_read_back;
 pub use number::number_up_to;
 pub use print::print_records;
 pub use read::{LinesFail, Records, read_records};

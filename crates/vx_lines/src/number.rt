@@ -1,4 +1,4 @@
-//! Numbers in the words.
+//! Decimal numbers.
 
 ghost use Rattle.std.specs.Prelude.{◌≡◌, ◌<◌, ◌^◌};
 ghost use Rattle.vx_lines.specs.Numbers as spec;
@@ -14,8 +14,8 @@ fn is_misspelled(digits: &[u8]) -> bool
     }
 }
 
-// The number that digits spell, where it is at most so much.
-fn value_up_to(most: u64, digits: &[u8]) -> Option<u64>
+/// The number that digits spell, where it is at most so much. Takes zeros in front, and no digits for 0.
+pub fn value_up_to(most: u64, digits: &[u8]) -> Option<u64>
     ensures { result ≡ spec.value_up_to most digits.now }
 {
     let mut number: u128 = 0;
