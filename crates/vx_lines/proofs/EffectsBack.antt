@@ -172,5 +172,5 @@ only_id_back make word id t h by =
     let line : List ℕ = spaced (word ∷ id_text id ∷ []) in
     by_first word line (first_back word (id_text id ∷ []) (whole word t)) ∙ by line ∙ ap (λ (z : List ℕ). option_map make (id_of z)) (second_back word (id_text id) [] (whole word t) (whole (id_text id) (tight_id id h))) ∙ ap (option_map make) (id_back id h)
 
-fin_words : (line : List ℕ) (id : Id) (cond : Cond) → second_word line ≡ id_text id → third_word line ≡ name_of cond → IsWord id.0 → fin_in line ≡ Some (effect.Fin id cond)
+pub fin_words : (line : List ℕ) (id : Id) (cond : Cond) → second_word line ≡ id_text id → third_word line ≡ name_of cond → IsWord id.0 → fin_in line ≡ Some (effect.Fin id cond)
 fin_words line id cond b c h = rw (b, c, id_back id h, cond_back cond) refl

@@ -2,4 +2,5 @@ pub mod Cutting
 pub mod EffectsBack
 pub mod EffectsLaw
 pub mod Numbers
+pub mod PartsBack
 pub mod WordsBack
