@@ -1,7 +1,6 @@
 use super::*;
 use crate::example::{flag_example, refused_example};
 use crate::faults::{CALLS, ENDS, LINES, ROWS, STATEMENTS};
-
 use std::test::*;
 use vx_base::{
     Answer, Body, Cell, Effect, EffectList, Event, Id, Mode, Name, Opened, Pid, Rec, UnitNo,

@@ -6,10 +6,10 @@ ghost use Rattle.vx_base.specs.Services.{args_list, service_rows};
 ghost use Rattle.vx_table.specs.Reading.{BeginsCall, read_call, toks};
 ghost use Rattle.vx_lines.specs.ReadHead as spec;
 
+use crate::effect_reader::unfed;
 use crate::fields::{cond_of, id_of, pid_of, unit_of};
 use crate::number::value_up_to;
 use crate::print::print_head;
-use crate::effect_reader::unfed;
 use crate::words::{
     before_last, behind_word, first_word, fourth_word, from_space, last_word, second_word,
     third_word,
@@ -68,11 +68,7 @@ fn call_among(table: &ServiceTable<36>, tokens: &[Token]) -> Option<Call>
     }
 }
 
-fn call_of(
-    alloc: Global,
-    table: &ServiceTable<36>,
-    line: &[u8],
-) -> Result<Option<Call>, NoMemory>
+fn call_of(alloc: Global, table: &ServiceTable<36>, line: &[u8]) -> Result<Option<Call>, NoMemory>
     requires rows { table.now ≡ service_rows }
     requires short { length line.now < 4294967295 }
     ensures { IfOk result (λ call. call ≡ spec.call_of line.now) }
@@ -162,11 +158,7 @@ fn with_event(alloc: Global, event: Event, answer: Option<Answer>) -> Option<Rec
     Some(as_head(alloc, event, answer?))
 }
 
-fn run_in(
-    alloc: Global,
-    table: &ServiceTable<36>,
-    line: &[u8],
-) -> Result<Option<Rec>, NoMemory>
+fn run_in(alloc: Global, table: &ServiceTable<36>, line: &[u8]) -> Result<Option<Rec>, NoMemory>
     requires rows { table.now ≡ service_rows }
     requires short { length line.now < 4294967295 }
     ensures { IfOk result (λ rec. rec ≡ spec.run_in line.now) }

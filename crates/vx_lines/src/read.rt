@@ -106,11 +106,7 @@ fn begins_with_space(line: &[u8]) -> bool
     }
 }
 
-fn effect_line(
-    alloc: Global,
-    reading: Reading,
-    line: &[u8],
-) -> Result<Option<Reading>, NoMemory>
+fn effect_line(alloc: Global, reading: Reading, line: &[u8]) -> Result<Option<Reading>, NoMemory>
     requires { length line.now < 4294967295 }
     ensures { IfOk result (λ next. next ≡ spec.effect_line reading line.now) }
 {
@@ -211,5 +207,9 @@ pub fn read_records(
         at += len;
     }
     let recs = read_so_far(reading)?;
-    Ok(Records { recs, line, len: at })
+    Ok(Records {
+        recs,
+        line,
+        len: at,
+    })
 }
