@@ -1,6 +1,7 @@
 pub mod Cutting
 pub mod EffectsBack
 pub mod EffectsLaw
+pub mod HeadsBack
 pub mod Numbers
 pub mod PartsBack
 pub mod WordsBack

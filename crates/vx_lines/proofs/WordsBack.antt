@@ -13,7 +13,7 @@ use Rattle.vx_lines.specs.Numbers.{with_digit, digits_value, value_up_to}
 use Rattle.vx_lines.specs.Records.{spaced}
 use Rattle.vx_lines.specs.Words.{is_inner, word_len, first_word, behind_word, second_word, third_word, fourth_word, fifth_word, sixth_word}
 
-run_len : (p : ℕ → Bool) (run rest : List ℕ) → list_all p run ≡ true → stops p rest → prefix_len p (run ++ rest) ≡ length run
+pub run_len : (p : ℕ → Bool) (run rest : List ℕ) → list_all p run ≡ true → stops p rest → prefix_len p (run ++ rest) ≡ length run
 run_len p [] [] h s = refl
 run_len p [] (b ∷ bs) h s = rw s refl
 run_len p (b ∷ run) rest h s =

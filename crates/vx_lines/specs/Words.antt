@@ -45,9 +45,9 @@ last_len line = prefix_len is_inner (reverse line)
 abbrev pub last_word : List ℕ → List ℕ
 last_word line = drop (length line - last_len line) line
 
--- the line up to its last space
+-- the line before its last space
 abbrev pub before_last : List ℕ → List ℕ
-before_last line = take (length line - last_len line) line
+before_last line = take (length line - last_len line - 1) line
 
 -- Words of two or three parts, with a colon between them.
 

@@ -90,12 +90,12 @@ pub fn last_word(line: &[u8]) -> &[u8]
     &line[line.len() - last_len(line)..]
 }
 
-/// The line up to its last space.
+/// The line before its last space.
 pub fn before_last(line: &[u8]) -> &[u8]
     ensures text { result.now ≡ spec.before_last line.now }
     ensures within { length result.now ≤ length line.now }
 {
-    &line[..line.len() - last_len(line)]
+    &line[..(line.len() - last_len(line)).saturating_sub(1)]
 }
 
 fn part_len(word: &[u8]) -> usize
