@@ -147,7 +147,7 @@ by_first word line h = ap (λ (w : List ℕ). with_bytes w line) h
 nat_same : (b : ℕ) → (b == b) ≡ true
 nat_same b = grind (arith, nat_tests)
 
-bytes_same : (bs : List ℕ) → bytes_eq bs bs ≡ true
+pub bytes_same : (bs : List ℕ) → bytes_eq bs bs ≡ true
 bytes_same [] = refl
 bytes_same (b ∷ bs) = rw (nat_same b, bytes_same bs) refl
 

@@ -87,16 +87,16 @@ waits_back c is held plain = ap (λ (o : Option Call). served_by o (codes "WAIT"
 abbrev pub two_words : List ℕ → List ℕ → List ℕ → List ℕ
 two_words a b rest = 32 ∷ (a ++ 32 ∷ (b ++ 32 ∷ rest))
 
-first_two : (a b rest : List ℕ) → Whole a → first_word (two_words a b rest) ≡ a
+pub first_two : (a b rest : List ℕ) → Whole a → first_word (two_words a b rest) ≡ a
 first_two a b rest h = run_first is_inner a (32 ∷ (b ++ 32 ∷ rest)) h refl
 
-behind_two : (a b rest : List ℕ) → Whole a → Whole b → behind_word (behind_word (two_words a b rest)) ≡ 32 ∷ rest
+pub behind_two : (a b rest : List ℕ) → Whole a → Whole b → behind_word (behind_word (two_words a b rest)) ≡ 32 ∷ rest
 behind_two a b rest h k = ap behind_word (run_behind is_inner a (32 ∷ (b ++ 32 ∷ rest)) h refl) ∙ run_behind is_inner b (32 ∷ rest) k refl
 
-second_two : (a b rest : List ℕ) → Whole a → Whole b → second_word (two_words a b rest) ≡ b
+pub second_two : (a b rest : List ℕ) → Whole a → Whole b → second_word (two_words a b rest) ≡ b
 second_two a b rest h k = ap first_word (run_behind is_inner a (32 ∷ (b ++ 32 ∷ rest)) h refl) ∙ run_first is_inner b (32 ∷ rest) k refl
 
-third_two : (a b rest : List ℕ) → Whole a → Whole b → third_word (two_words a b rest) ≡ first_word (32 ∷ rest)
+pub third_two : (a b rest : List ℕ) → Whole a → Whole b → third_word (two_words a b rest) ≡ first_word (32 ∷ rest)
 third_two a b rest h k = ap first_word (behind_two a b rest h k)
 
 -- the first word of a call begins with a dollar

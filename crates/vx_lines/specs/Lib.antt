@@ -7,3 +7,4 @@ pub mod Words
 pub mod Cutting
 pub mod ReadRecords
 pub mod Spelled
+pub mod SpelledHead

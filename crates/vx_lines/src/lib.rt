@@ -17,7 +17,7 @@ mod words;
 pub use effect::{print_effects, print_spaced, print_spaced_num};
 pub use effect_reader::read_effect;
 pub use head_reader::read_head;
-pub use law::effects_are_read_back;
+pub use law::{effects_are_read_back, heads_are_read_back};
 pub use number::number_up_to;
 pub use print::print_records;
 pub use read::{LinesFail, Records, read_records};
