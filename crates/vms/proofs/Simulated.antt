@@ -11,7 +11,8 @@ use Rattle.vx_script.specs.Script.{ended_lines, script}
 use Rattle.vx_exec.specs.Taken.{IsChosenRun}
 use Rattle.vx_exec.specs.View.{Executive}
 use Rattle.vms.specs.Top.{IsSimulated}
-use Rattle.vms.specs.Transcript.{records_lines, trailer_lines, transcript}
+use Rattle.vx_journal.specs.Transcript.{trailer_lines, transcript}
+use Rattle.vx_lines.specs.Records.{records_lines}
 use Rattle.vms.specs.declared.command.Options.{Options}
 
 -- lines that were printed one part after another

@@ -24,7 +24,7 @@ use Rattle.vx_image.specs.declared.stmt.Stmt.TheVariants as stmt
 use Rattle.vx_image.specs.declared.system.System.{System}
 use Rattle.vx_grammar.specs.Grammar.{Spells}
 use Rattle.vx_record.specs.Runs.{chosen, end_after}
-use Rattle.vms.specs.Transcript.{transcript}
+use Rattle.vx_journal.specs.Transcript.{transcript}
 
 -- a call, by its service and its first two arguments
 abbrev pub calling : Service → Arg → Arg → Call

@@ -2,5 +2,4 @@ pub mod Code
 pub mod Example
 pub mod Simulated
 pub mod Top
-pub mod Transcript
 pub mod Words

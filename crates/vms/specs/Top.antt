@@ -15,7 +15,7 @@ use Rattle.vx_script.specs.declared.fault.ScriptFault.{ScriptFault}
 use Rattle.vx_exec.specs.Built.{is_built}
 use Rattle.vx_record.specs.Runs.{IsRun, chosen, end_after}
 use Rattle.vx_laws.specs.Laws.{KeepLaws}
-use Rattle.vms.specs.Transcript.{transcript}
+use Rattle.vx_journal.specs.Transcript.{transcript}
 use Rattle.vms.specs.Words.{command_of}
 use Rattle.vms.specs.declared.command.Command.{Command}
 use Rattle.vms.specs.declared.command.Command.TheVariants.{Sim, Show}

@@ -1,35 +1,11 @@
 -- What the words behind the program's name ask for.
-use Rattle.std.specs.Prelude.{ℕ, ◌+◌, ◌-◌, ◌*◌, ◌≤◌, ◌==◌, ◌&&◌, nat_le, Bool, true, false, List, [], ◌∷◌, codes, bytes_eq, Option, None, Some, option_map, if◌then◌else◌}
-use Rattle.std.specs.List.{list_all, fold}
+use Rattle.std.specs.Prelude.{ℕ, ◌≤◌, ◌==◌, List, [], ◌∷◌, codes, bytes_eq, Option, None, Some, option_map, if◌then◌else◌}
 use Rattle.std.specs.Option.{option_and_then}
-use Rattle.vx_base.specs.Name.{is_digit}
+use Rattle.vx_lines.specs.Numbers.{number_up_to}
 use Rattle.vms.specs.declared.command.Command.{Command}
 use Rattle.vms.specs.declared.command.Command.TheVariants.{Sim, Show}
 use Rattle.vms.specs.declared.command.Given.{Given}
 use Rattle.vms.specs.declared.command.Options.{Options}
-
--- Numbers: decimal digits without a sign or a leading zero.
-
--- a digit behind a number
-abbrev pub with_digit : ℕ → ℕ → ℕ
-with_digit n d = n * 10 + (d - 48)
-
-abbrev pub digits_value : List ℕ → ℕ
-digits_value digits = fold with_digit 0 digits
-
--- nothing, or a zero in front of more
-abbrev pub is_misspelled : List ℕ → Bool
-is_misspelled [] = true
-is_misspelled (d ∷ []) = false
-is_misspelled (d ∷ e ∷ digits) = d == 48
-
--- the number of digits, where it is at most so much
-abbrev pub value_up_to : ℕ → List ℕ → Option ℕ
-value_up_to most digits = if list_all is_digit digits && nat_le (digits_value digits) most then Some (digits_value digits) else None
-
--- the number that a word is, where it is at most so much
-abbrev pub number_up_to : ℕ → List ℕ → Option ℕ
-number_up_to most word = if is_misspelled word then None else value_up_to most word
 
 -- The options of `sim`: `--seed K` and `--limit N`, each at most once, in any order.
 

@@ -1,10 +1,11 @@
 //! What the words ask for.
 
 ghost use Rattle.std.specs.Prelude.{◌≡◌, ◌≤◌, IfSome};
+ghost use Rattle.vx_lines.specs.Numbers as numbers;
 ghost use Rattle.vms.specs.Words as spec;
 
-use crate::number::number_up_to;
 use vx_base::Bytes;
+use vx_lines::number_up_to;
 
 /// The options of `sim`: the seed of the schedule, and how many records a run may have, 1 to 100,000.
 #[derive(Clone, Copy, Debug, PartialEq, Eq)]
@@ -53,7 +54,7 @@ fn with_seed(given: Given, word: &[u8]) -> Option<Given>
 }
 
 fn limit_in(word: &[u8]) -> Option<u32>
-    ensures value { result ≡ spec.above_zero (spec.number_up_to 100000 word.now) }
+    ensures value { result ≡ spec.above_zero (numbers.number_up_to 100000 word.now) }
     ensures above { IfSome result (λ n. 1 ≤ n) }
     ensures within { IfSome result (λ n. n ≤ 100000) }
 {

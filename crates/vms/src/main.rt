@@ -8,10 +8,7 @@ ghost use Rattle.std.specs.Prelude.{◌≡◌, IfOk, map, string_bytes};
 
 mod call;
 mod command;
-mod effect;
 mod example;
-mod number;
-mod print;
 mod simulate;
 mod status;
 

@@ -6,11 +6,12 @@ ghost use Rattle.vx_image.specs.WellFormed.{IsWellFormed};
 ghost use Rattle.vms.specs.Top.{IsSimulated};
 
 use crate::command::Options;
-use crate::print::{print_records, print_trailer};
 use std::alloc::Global;
 use vx_base::{Bytes, End, NoMemory, Scripted};
 use vx_exec::{Exec, run_system};
 use vx_image::System;
+use vx_journal::print_trailer;
+use vx_lines::print_records;
 use vx_script::print_script;
 
 /// The transcript of the run that the seed chooses, and how the run ended.

@@ -1,14 +1,13 @@
 use super::*;
-use crate::effect::print_effects;
 use crate::example::{flag_example, refused_example};
 use crate::faults::{CALLS, ENDS, LINES, ROWS, STATEMENTS};
-use crate::print::print_records;
 use std::test::*;
 use vx_base::{
     Answer, Body, Cell, Effect, EffectList, Event, Id, Mode, Name, Opened, Pid, Rec, UnitNo,
 };
 use vx_host::{MemSink, MemSource};
 use vx_image::{Lines, Numbers, UnitDecl};
+use vx_lines::{print_effects, print_records};
 
 const FLAG_SCRIPT: &[u8] = b"IMAGE MAIN
 $SETEF 5

@@ -1,0 +1,19 @@
+-- Digits and their numbers.
+use Rattle.std.proofs.Common.{◌≡◌, ℕ, ◌<◌, ◌≤◌, List, [], ◌∷◌, Bool, true, false, ◌&&◌, nat_le, None, arith, refl, rules}
+use Rattle.std.specs.List.{fold}
+use Rattle.vx_lines.specs.Numbers.{with_digit, digits_value, value_up_to}
+
+fold-grows : (n : ℕ) (ds : List ℕ) → n ≤ fold with_digit n ds
+fold-grows n [] = omega arith
+fold-grows n (d ∷ ds) = omega (arith, fold-grows (with_digit n d) ds)
+
+and_false : (a : Bool) → (a && false) ≡ false
+and_false true = refl
+and_false false = refl
+
+-- a number that is too large stays so
+pub value_up_to-large : (most : ℕ) (run ds : List ℕ) (n : ℕ) → digits_value run ≡ fold with_digit n ds → most < n → None ≡ value_up_to most run
+value_up_to-large most run ds n e h =
+    let large : most < digits_value run = omega (arith, e, h, fold-grows n ds) in
+    let test : nat_le (digits_value run) most ≡ false = search (rules, arith) in
+    rw (test, and_false) refl

@@ -1,0 +1,131 @@
+//! Prints records.
+//!
+//! Each function appends its text. If memory runs out, it may have appended the start of it.
+
+ghost use Rattle.std.specs.Prelude.{◌≡◌, ◌++◌, ◌∷◌, [], OnOk};
+ghost use Rattle.vx_lines.specs.Records.{ended_lines, unit_name, event_text, answer_text, head_line, record_lines, records_lines};
+
+use crate::effect::{print_effects, print_id, print_spaced, print_spaced_num};
+use std::alloc::Global;
+use vx_base::{Answer, Bytes, Event, NoMemory, Rec, UnitNo};
+use vx_image::UnitDecl;
+use vx_table::call_text;
+use vx_text::print_num;
+
+/// The name of a unit; empty if there is no such unit.
+fn unit_name(units: &[UnitDecl], u: UnitNo) -> &[u8]
+    ensures { result.now ≡ unit_name units.now u }
+{
+    match units.get(u.0 as usize) {
+        Some(unit) => unit.name.text(),
+        None => &[],
+    }
+}
+
+/// Appends an event; a unit's by its name.
+fn print_event(
+    alloc: Global,
+    units: &[UnitDecl],
+    event: Event,
+    out: &mut Bytes,
+) -> Result<(), NoMemory>
+    ensures { OnOk result (out.new ≡ out.old ++ event_text units.now event) }
+{
+    match event {
+        Event::Run(p) => {
+            out.push_all(b"RUN")?;
+            print_spaced_num(alloc, p.0, out)
+        }
+        Event::Ast(p) => {
+            out.push_all(b"AST")?;
+            print_spaced_num(alloc, p.0, out)
+        }
+        Event::Rdn(p) => {
+            out.push_all(b"RDN")?;
+            print_spaced_num(alloc, p.0, out)
+        }
+        Event::Beg(u) => {
+            out.push_all(b"BEG")?;
+            print_spaced(unit_name(units, u), out)
+        }
+        Event::Don(u) => {
+            out.push_all(b"DON")?;
+            print_spaced(unit_name(units, u), out)
+        }
+        Event::Tick => out.push_all(b"TICK"),
+    }
+}
+
+fn print_answer(alloc: Global, answer: &Answer, out: &mut Bytes) -> Result<(), NoMemory>
+    ensures { OnOk result (out.new ≡ out.old ++ answer_text answer.now) }
+{
+    match answer {
+        Answer::Service(call, cond) => {
+            out.push_all(call_text(alloc, call)?.as_slice())?;
+            print_spaced(cond.name().as_bytes(), out)
+        }
+        Answer::Wait(call) => {
+            out.push_all(call_text(alloc, call)?.as_slice())?;
+            out.push_all(b" WAIT")
+        }
+        Answer::Resume(cond) => {
+            out.push_all(b"RESUME")?;
+            print_spaced(cond.name().as_bytes(), out)
+        }
+        Answer::Return => out.push_all(b"RETURN"),
+        Answer::End => out.push_all(b"END"),
+        Answer::Local => out.push_all(b"LOCAL"),
+        Answer::Handler => out.push_all(b"HANDLER"),
+        Answer::Busy => out.push_all(b"BUSY"),
+        Answer::Gone => out.push_all(b"GONE"),
+        Answer::Ast(id) | Answer::Unit(id) => print_id(alloc, *id, out),
+        Answer::Time(ticks) => print_num(alloc, out, *ticks),
+    }
+}
+
+/// Appends the head of record n, on its line.
+pub fn print_head(
+    alloc: Global,
+    units: &[UnitDecl],
+    n: u64,
+    rec: &Rec,
+    out: &mut Bytes,
+) -> Result<(), NoMemory>
+    ensures { OnOk result (out.new ≡ out.old ++ (head_line units.now n rec.now ++ 10 ∷ [])) }
+{
+    print_num(alloc, out, n)?;
+    out.push_all(b" ")?;
+    print_event(alloc, units, rec.event, out)?;
+    out.push_all(b" ")?;
+    print_answer(alloc, &rec.answer, out)?;
+    out.push_all(b"\n")
+}
+
+/// Appends record n: its head, and its effects.
+fn print_record(
+    alloc: Global,
+    units: &[UnitDecl],
+    n: u64,
+    rec: &Rec,
+    out: &mut Bytes,
+) -> Result<(), NoMemory>
+    ensures { OnOk result (out.new ≡ out.old ++ ended_lines (record_lines units.now n rec.now)) }
+{
+    print_head(alloc, units, n, rec, out)?;
+    print_effects(alloc, rec.effects.as_slice(), out)
+}
+
+/// Appends records, numbered from 1, with the names of these units.
+pub fn print_records(
+    alloc: Global,
+    units: &[UnitDecl],
+    recs: &[Rec],
+    out: &mut Bytes,
+) -> Result<(), NoMemory>
+    ensures { OnOk result (out.new ≡ out.old ++ ended_lines (records_lines units.now 1 recs.now)) }
+{
+    for (i, rec) in recs.iter().enumerate() {
+        print_record(alloc, units, i as u64 + 1, rec, out)?;
+    }
+    Ok(())
+}
