@@ -1,14 +1,13 @@
 -- Services on common clusters, as the calls on them answer and leave.
 use Rattle.std.proofs.Common.{◌≡◌, ℕ, List, Bool, true, false, ◌&&◌, ◌==◌, not, if◌then◌else◌, Some, None, refl}
-use Rattle.vx_base.specs.Clusters.{Change, associated, cluster_number, dissociated, marked, stands, unchanged}
-use Rattle.vx_base.specs.declared.cond.Cond.{Cond}
+use Rattle.vx_base.specs.Clusters.{Change, associated, cluster_number, dissociated, marked, stands}
 use Rattle.vx_base.specs.declared.cond.Cond.TheVariants.{Normal, IllEfc, NoPriv}
 use Rattle.vx_base.specs.declared.number.Pid.{Pid}
 use Rattle.vx_clusters.specs.Clusters.{answer, is_common, unless}
 use Rattle.vx_clusters.specs.declared.fail.AscFail.{AscFail}
 use Rattle.vx_clusters.specs.declared.fail.AscFail.TheVariants as fail
 use Rattle.vx_record.specs.Flags.{ascefc, dacefc, dlcefc}
-use Rattle.vx_record.specs.Parts.{Outcome, answered, commonly, refused}
+use Rattle.vx_record.specs.Parts.{answered, commonly, refused}
 use Rattle.vx_record.specs.State.{State, process_at}
 use Rattle.vx_procs.specs.Cells.{association_part, association_refusal, dissociation_part, dissociation_refusal, mark_part, mark_refusal}
 use Rattle.vx_ctl.specs.Answers.{cond_of_clusters}

@@ -11,7 +11,7 @@ use Rattle.vx_base.specs.declared.number.Pid.{Pid}
 use Rattle.vx_base.specs.declared.quota.Need.{Need}
 use Rattle.vx_record.specs.Charges.{bears_ast, charge, charged_timer, exceeds, is_attention_of, is_charged}
 use Rattle.vx_record.specs.Flags.{flag_part, with_cell, with_local_flag}
-use Rattle.vx_record.specs.State.{Process, State, IsProcess, change, limits_of, no_decl, nobody, process_at}
+use Rattle.vx_record.specs.State.{State, IsProcess, change, limits_of, no_decl, nobody, process_at}
 use Rattle.vx_record.proofs.Ground.{at_set}
 use Rattle.vx_procs.specs.Kernel.{Acts, Kernel, told, with_state}
 use Rattle.vx_procs.specs.Ready.{HasSpares}

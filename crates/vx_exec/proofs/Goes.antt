@@ -1,6 +1,6 @@
 -- What events of a process do to the state: how many processes there are then, how many ids they open, and how much they tell.
-use Rattle.std.proofs.Common.{◌≡◌, ℕ, zero, suc, ◌≢◌, ◌<◌, ◌++◌, is_some, slice_index_or, slice_set, ◌+◌, ◌-◌, ◌%◌, ◌^◌, ◌≤◌, List, [], ◌∷◌, Bool, true, false, not, ◌==◌, length, length-set, length-append, IsTrue, Option, Some, None, Result, Ok, Err, refl, ap, ◌∙◌, arith, nat_le, nat_lt, subst}
-use Rattle.std.specs.List.{AllByRecursion, filter}
+use Rattle.std.proofs.Common.{◌≡◌, ℕ, ◌≢◌, ◌<◌, ◌++◌, is_some, ◌+◌, ◌-◌, ◌%◌, ◌^◌, ◌≤◌, List, [], ◌∷◌, Bool, true, false, not, ◌==◌, length, length-set, length-append, IsTrue, Option, Some, None, Result, Ok, Err, refl, ap, ◌∙◌, arith, nat_le, nat_lt, subst}
+use Rattle.std.specs.List.{filter}
 use Rattle.std.proofs.lemmas.Bool.{leb-false}
 use Rattle.vx_base.specs.Clusters.{Common as CommonClusters, Change}
 use Rattle.vx_base.specs.Pieces.{Queued, Timer}
@@ -31,7 +31,7 @@ use Rattle.vx_base.specs.Modes.{inner, outer}
 use Rattle.vx_image.specs.Local.{advanced}
 use Rattle.vx_image.specs.declared.stop.Stop.{Stop}
 use Rattle.vx_image.specs.declared.stop.Stop.TheVariants as stop
-use Rattle.vx_record.specs.State.{Process, State, IsProcess, process_at, change, image_of, current, nobody, next_id, past_id, with_top}
+use Rattle.vx_record.specs.State.{Process, State, IsProcess, process_at, change, image_of, current, next_id, past_id, with_top}
 use Rattle.vx_record.specs.Parts.{Outcome, Part, answered, at_tested, nothing, refused, part_of, commonly, each}
 use Rattle.vx_record.specs.Asts.{charged_ast, declared_ast, with_delivery, with_frame, with_queued, new_frame, open_part}
 use Rattle.vx_record.specs.Charges.{exceeds, ast_need, timer_need}
@@ -42,10 +42,8 @@ use Rattle.vx_record.specs.Rundown.{exited, without_ast, without_frames}
 use Rattle.vx_record.specs.Services.{decl_place, number, numbered_at, place, routine, routine_or_none, access_mode, service, service_of, text, valued_at, with_number, with_variable}
 use Rattle.vx_record.specs.declared.served.Served.{Served}
 use Rattle.vx_record.specs.declared.served.Served.TheVariants.{Answered, Waits}
-use Rattle.vx_record.proofs.Lists.{either, either_by, all_set, all_weaker}
-use Rattle.vx_record.specs.Sound.{timer_id}
+use Rattle.vx_record.proofs.Lists.{either, either_by}
 use Rattle.vx_record.specs.Timers.{drop_timer, drop_timers, gettim, is_cancelled_timer, is_wake_for, new_wake, open_timer, scheduled, setimr_at, timer_set, unscheduled, with_timer}
-use Rattle.vx_record.proofs.Lists.{ordered_below, ordered_more}
 use Rattle.vx_procs.specs.Words.{left, left_kind}
 use Rattle.vx_procs.proofs.Stack.{left_after, left_effects}
 use Rattle.vx_rundown.proofs.Changed.{process_there}

@@ -1,5 +1,5 @@
 -- No two ASTs that are queued for a process have one id, since no two open things have.
-use Rattle.std.proofs.Common.{◌≡◌, ℕ, zero, suc, ◌+◌, ◌-◌, ◌<◌, ◌≤◌, List, [], ◌∷◌, ◌&&◌, ◌==◌, not, Bool, true, false, IsTrue, length, slice_index_or, ◌⊎◌, inl, inr, refl, sym, arith}
+use Rattle.std.proofs.Common.{◌≡◌, ℕ, zero, suc, ◌+◌, ◌-◌, ◌<◌, ◌≤◌, List, [], ◌∷◌, ◌&&◌, ◌==◌, not, false, IsTrue, length, slice_index_or, ◌⊎◌, inl, inr, refl, sym, arith}
 use Rattle.std.specs.List.{list_any}
 use Rattle.std.proofs.lemmas.Bool.{and_from, cases_eq, eq-eqb, ne_eqb}
 use Rattle.vx_base.specs.Flags.{one}

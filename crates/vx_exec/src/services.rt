@@ -18,8 +18,8 @@ use vx_base::{
 };
 use vx_ctl::{
     Refused, ascefc, cantim, canwak, clref, cmexec, cmkrnl, creprc, dacefc, dclast, dlcefc, forcex,
-    gettim, hiber, readef, resume, schdwk, setast, setef,
-    setimr, suspnd, waitfr, wake, wfland, wflor,
+    gettim, hiber, readef, resume, schdwk, setast, setef, setimr, suspnd, waitfr, wake, wfland,
+    wflor,
 };
 use vx_image::{Image, Label, ProcDecl};
 use vx_procs::Core;

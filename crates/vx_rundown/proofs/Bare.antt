@@ -1,6 +1,6 @@
 -- Rundown where nothing is open but ASTs, timers, wakes and common clusters: no channel, handler or request stands in the way.
-use Rattle.std.proofs.Common.{◌≡◌, ℕ, ◌-◌, Bool, true, false, cond, ◌&&◌, if◌then◌else◌, List, [], ◌∷◌, ◌++◌, IsTrue, refl, ap, sym, subst, ◌∙◌}
-use Rattle.std.specs.List.{AllByRecursion, filter, find, list_any}
+use Rattle.std.proofs.Common.{◌≡◌, ℕ, ◌-◌, Bool, ◌&&◌, if◌then◌else◌, List, [], ◌∷◌, ◌++◌, refl, ap, sym, subst, ◌∙◌}
+use Rattle.std.specs.List.{filter, find, list_any}
 use Rattle.vx_base.specs.Lists.{less}
 use Rattle.vx_base.specs.Pieces.{Handler, Queued, Request, Timer}
 use Rattle.vx_base.specs.declared.frame.Phase.{Phase}
@@ -18,7 +18,6 @@ use Rattle.vx_record.proofs.Lists.{all_get, all_set}
 use Rattle.vx_procs.specs.Ready.{IsBare, IsBareProcess}
 use Rattle.vx_rundown.specs.Leaving.{cancelled, entries_part, released}
 use Rattle.vx_rundown.specs.Modes.{modes_from, next_inner}
-use Rattle.vx_rundown.proofs.Changed.{quiet_then}
 
 -- It stays so.
 
