@@ -1,11 +1,10 @@
 -- The line of an effect is read as the effect.
-use Rattle.std.proofs.Common.{◌≡◌, ℕ, ◌+◌, ◌<◌, ◌≤◌, ◌^◌, ◌==◌, ◌&&◌, not, Bool, true, false, List, [], ◌∷◌, ◌++◌, length, take, drop, codes, bytes_eq, Option, Some, None, option_map, refl, sym, ap, ◌∙◌, arith, append-nil}
+use Rattle.std.proofs.Common.{◌≡◌, ℕ, ◌+◌, ◌<◌, ◌≤◌, ◌^◌, ◌==◌, ◌&&◌, Bool, true, false, List, [], ◌∷◌, ◌++◌, bytes_eq, Option, Some, None, option_map, refl, ap, ◌∙◌, arith}
 use Rattle.std.specs.Prelude.{decimal}
-use Rattle.std.specs.List.{list_all, prefix_len}
+use Rattle.std.specs.List.{list_all}
 use Rattle.std.proofs.lemmas.List.Folds.{list_all-append}
 use Rattle.std.proofs.lemmas.Bool.Decides.{nat_tests}
 use Rattle.vx_base.specs.Cond.{name_of}
-use Rattle.vx_base.specs.Flags.{one}
 use Rattle.vx_base.specs.Name.{is_name, is_digit, is_name_byte, is_capital}
 use Rattle.vx_base.specs.Services.{is_target}
 use Rattle.vx_base.specs.declared.call.Target.{Target}
@@ -25,11 +24,11 @@ use Rattle.vx_text.proofs.Runs.{and_parts}
 use Rattle.vx_table.specs.Reading.{mode_word, target_word}
 use Rattle.vx_table.specs.Spelling.{mode_name, target_text}
 use Rattle.vx_lines.specs.Fields.{as_id, as_pid, id_of, pid_of, number_of, bit_of, name_in, kind_of, mode_or_none, cond_or_none, is_one}
-use Rattle.vx_lines.specs.ReadEffect.{is_no_feed, unfed, effect_of, with_bytes, if_spelled, read_effect, open_in, fin_in, var_in, enb_in, new_in, iosb_in, get_in, cut_in, mbx_in}
-use Rattle.vx_lines.specs.Records.{spaced, id_text, pid_text, bit_text, opened_name, mode_text, cond_text, effect_words, effect_line}
+use Rattle.vx_lines.specs.ReadEffect.{is_no_feed, unfed, effect_of, with_bytes, if_spelled, read_effect, fin_in}
+use Rattle.vx_lines.specs.Records.{spaced, id_text, pid_text, bit_text, opened_name, mode_text, cond_text, effect_line}
 use Rattle.vx_lines.specs.Spelled.{IsWord}
-use Rattle.vx_lines.specs.Words.{◌>>=◌, is_inner, first_word, second_word, third_word, fourth_word, fifth_word, sixth_word}
-use Rattle.vx_lines.proofs.WordsBack.{Whole, run_first, first_back, second_back, third_back, fourth_back, fifth_back, sixth_back, value_back, number_all, name_all}
+use Rattle.vx_lines.specs.Words.{◌>>=◌, is_inner, first_word, second_word, third_word}
+use Rattle.vx_lines.proofs.WordsBack.{Whole, run_first, first_back, second_back, value_back, number_all, name_all}
 
 -- What stands in a word that is no text: neither a space nor a line feed.
 

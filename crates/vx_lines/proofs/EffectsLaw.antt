@@ -1,5 +1,5 @@
 -- Each effect that has a spelling is read back from it.
-use Rattle.std.proofs.Common.{◌≡◌, ℕ, ◌≤◌, Bool, true, List, [], ◌∷◌, ◌++◌, codes, Option, Some, None, option_map, refl, ap, ◌∙◌, arith}
+use Rattle.std.proofs.Common.{◌≡◌, ℕ, ◌≤◌, Bool, true, List, [], ◌∷◌, ◌++◌, codes, Option, Some, option_map, refl, ap, ◌∙◌, arith}
 use Rattle.std.specs.Prelude.{decimal}
 use Rattle.std.specs.List.{list_all}
 use Rattle.vx_base.specs.Cond.{name_of}
@@ -18,12 +18,12 @@ use Rattle.vx_base.specs.declared.request.Body.{Body}
 use Rattle.vx_text.specs.Quote.{AreBytes, quote_text}
 use Rattle.vx_table.specs.Spelling.{mode_name, target_text}
 use Rattle.vx_lines.specs.Fields.{pid_of, text_of}
-use Rattle.vx_lines.specs.ReadEffect.{is_no_feed, effect_of, with_bytes, behind_three, body_of, open_in, fin_in, flag_in, cef_in, clu_in, iosb_in, var_in, enb_in, new_in, get_in, cut_in, mbx_in, buf_in, put_in}
+use Rattle.vx_lines.specs.ReadEffect.{is_no_feed, effect_of, with_bytes, behind_three, body_of, open_in, flag_in, cef_in, clu_in, iosb_in, var_in, enb_in, new_in, get_in, cut_in, mbx_in, buf_in, put_in}
 use Rattle.vx_lines.specs.Records.{spaced, id_text, pid_text, bit_text, cluster_text, cell_text, opened_name, mode_text, cond_text, joined_text, body_text, effect_words}
-use Rattle.vx_lines.specs.Spelled.{IsWord, IsSpelledCell, IsSpelledBody, IsSpelledCluster, IsSpelled, ReadsBack}
-use Rattle.vx_lines.specs.Words.{behind_word, first_word, second_word, third_word, fourth_word, fifth_word, sixth_word}
+use Rattle.vx_lines.specs.Spelled.{IsWord, IsSpelledCell, IsSpelledBody, IsSpelledCluster, ReadsBack}
+use Rattle.vx_lines.specs.Words.{behind_word, second_word, third_word, fourth_word, fifth_word, sixth_word}
 use Rattle.vx_lines.proofs.WordsBack.{first_back, behind_back, second_back, third_back, fourth_back, fifth_back, sixth_back}
-use Rattle.vx_lines.proofs.EffectsBack.{Tight, whole, feedless, tight_number, tight_id, tight_name, tight_bit, tight_cond, tight_mode, tight_kind, tight_mode_text, tight_cond_text, tight_target, number_back, id_back, pid_back, bit_back, cond_back, mode_back, kind_back, mode_or_none_back, cond_or_none_back, name_back, target_back, by_first, read_back, feedless_spaced, only_id_back, fin_words}
+use Rattle.vx_lines.proofs.EffectsBack.{Tight, whole, feedless, tight_number, tight_id, tight_name, tight_bit, tight_cond, tight_mode, tight_kind, tight_mode_text, tight_cond_text, tight_target, number_back, id_back, pid_back, bit_back, mode_back, kind_back, mode_or_none_back, cond_or_none_back, name_back, target_back, by_first, read_back, feedless_spaced, only_id_back, fin_words}
 use Rattle.vx_lines.proofs.PartsBack.{cell_back, tight_cell, tight_cluster, cluster_back, cluster_or_none_back, tight_joined, k_back, text_back, text_feed, body_back, body_feed}
 
 -- words of which none has a space or a line feed

@@ -1,5 +1,5 @@
 -- The head of a record is read back.
-use Rattle.std.proofs.Common.{◌≡◌, ℕ, suc, ◌+◌, ◌-◌, ◌<◌, ◌≤◌, ◌^◌, ◌==◌, Bool, true, false, cond, List, [], ◌∷◌, ◌++◌, length, take, drop, reverse, codes, bytes_eq, Option, Some, None, option_map, Result, Ok, Err, refl, sym, subst, ap, ◌∙◌, arith, append_assoc, length-append}
+use Rattle.std.proofs.Common.{◌≡◌, ℕ, suc, ◌+◌, ◌-◌, ◌<◌, ◌≤◌, ◌^◌, ◌==◌, Bool, true, false, cond, List, [], ◌∷◌, ◌++◌, length, take, drop, reverse, codes, bytes_eq, Option, Some, Ok, refl, sym, ap, ◌∙◌, arith, append_assoc, length-append}
 use Rattle.std.specs.Prelude.{decimal}
 use Rattle.std.specs.List.{list_all, prefix_len}
 use Rattle.std.proofs.Math.Seq.{take-append_seam, drop-append_seam}
@@ -7,24 +7,18 @@ use Rattle.std.proofs.lemmas.List.{length-reverse, reverse-append}
 use Rattle.std.proofs.lemmas.Grind.{reverse_onto}
 use Rattle.std.proofs.lemmas.List.Folds.{list_all-append}
 use Rattle.vx_base.specs.Cond.{name_of}
-use Rattle.vx_base.specs.Services.{args_list, is_call, service_rows, service_name}
+use Rattle.vx_base.specs.Services.{args_list, is_call}
 use Rattle.vx_base.specs.declared.call.Call.{Call}
 use Rattle.vx_base.specs.declared.cond.Cond.{Cond}
 use Rattle.vx_base.specs.declared.cond.Cond.TheVariants.{Normal}
-use Rattle.vx_base.specs.declared.number.Id.{Id}
 use Rattle.vx_base.specs.declared.number.Pid.{Pid}
 use Rattle.vx_base.specs.declared.record.Answer.{Answer}
 use Rattle.vx_base.specs.declared.record.Answer.TheVariants as answer
 use Rattle.vx_base.specs.declared.record.Event.TheVariants as event
-use Rattle.vx_base.specs.declared.record.Rec.{Rec}
-use Rattle.vx_text.specs.First.{cond_named}
-use Rattle.vx_text.specs.Lex.{lex, lex_from}
-use Rattle.vx_text.specs.declared.token.LexFail.{LexFail}
-use Rattle.vx_text.specs.declared.token.Tok.{Tok}
+use Rattle.vx_text.specs.Lex.{lex}
 use Rattle.vx_text.proofs.Lexing.{lex_gap}
 use Rattle.vx_text.proofs.Runs.{and_parts}
 use Rattle.vx_table.specs.Back.{toks_of, AreHeld}
-use Rattle.vx_table.specs.Reading.{read_call}
 use Rattle.vx_table.specs.Spelling.{call_text, call_tokens}
 use Rattle.vx_table.proofs.Back.{call_back}
 use Rattle.vx_table.proofs.Texts.{call_toks}
@@ -32,7 +26,7 @@ use Rattle.vx_image.specs.declared.unit.UnitDecl.{UnitDecl}
 use Rattle.vx_lines.specs.Fields.{pid_of}
 use Rattle.vx_lines.specs.Records.{pid_text}
 use Rattle.vx_lines.specs.Spelled.{IsWord}
-use Rattle.vx_lines.specs.ReadHead.{is_plain_call, if_plain, call_among, call_of, served_as, served_by, served_in, ran_in, as_head, with_event, run_in, other_head, head_of}
+use Rattle.vx_lines.specs.ReadHead.{is_plain_call, if_plain, call_among, call_of, served_by, served_in, ran_in, as_head, with_event, run_in, other_head, head_of}
 use Rattle.vx_lines.specs.Words.{◌>>=◌, is_inner, word_len, first_word, second_word, third_word, behind_word, last_len, last_word, before_last}
 use Rattle.vx_lines.proofs.WordsBack.{Whole, run_len, run_first, run_behind}
 use Rattle.vx_lines.proofs.EffectsBack.{whole, tight_cond, tight_number, cond_back, pid_back}

@@ -1,12 +1,12 @@
 -- Each head that has a spelling is read back from it.
-use Rattle.std.proofs.Common.{◌≡◌, ℕ, ◌<◌, ◌≤◌, ◌^◌, ◌==◌, ◌&&◌, Bool, true, false, cond, List, [], ◌∷◌, ◌++◌, length, take, drop, codes, bytes_eq, Option, Some, None, option_map, refl, sym, ap, ◌∙◌, arith, append-nil, append_assoc}
+use Rattle.std.proofs.Common.{◌≡◌, ℕ, ◌<◌, ◌≤◌, ◌^◌, ◌==◌, ◌&&◌, Bool, true, false, cond, List, [], ◌∷◌, ◌++◌, drop, codes, bytes_eq, Option, Some, None, option_map, refl, sym, ap, ◌∙◌, arith, append-nil}
 use Rattle.std.specs.Prelude.{decimal}
 use Rattle.std.specs.List.{list_all}
 use Rattle.std.proofs.lemmas.List.Folds.{list_all-append}
 use Rattle.std.proofs.lemmas.Bool.Decides.{nat_tests}
 use Rattle.vx_base.specs.Cond.{name_of}
-use Rattle.vx_base.specs.Name.{is_name, is_digit}
-use Rattle.vx_base.specs.Services.{service_name, params_of, is_of_kind, is_unused, are_args, kind_of, is_call, args_list, is_operand, is_target}
+use Rattle.vx_base.specs.Name.{is_digit}
+use Rattle.vx_base.specs.Services.{service_name, params_of, is_of_kind, is_unused, are_args, kind_of, args_list, is_operand}
 use Rattle.vx_base.specs.declared.call.Arg.{Arg}
 use Rattle.vx_base.specs.declared.call.Arg.TheVariants as arg
 use Rattle.vx_base.specs.declared.call.Call.{Call}
@@ -14,7 +14,6 @@ use Rattle.vx_base.specs.declared.call.Operand.{Operand}
 use Rattle.vx_base.specs.declared.call.Operand.TheVariants as operand
 use Rattle.vx_base.specs.declared.call.Target.TheVariants.{Var}
 use Rattle.vx_base.specs.declared.cond.Cond.{Cond}
-use Rattle.vx_base.specs.declared.cond.Cond.TheVariants.{Normal}
 use Rattle.vx_base.specs.declared.number.Id.{Id}
 use Rattle.vx_base.specs.declared.number.Pid.{Pid}
 use Rattle.vx_base.specs.declared.number.UnitNo.{UnitNo}
@@ -38,10 +37,10 @@ use Rattle.vx_table.specs.Spelling.{mode_name, func_name, arg_text, args_text, o
 use Rattle.vx_lines.specs.Fields.{unit_of}
 use Rattle.vx_lines.specs.Numbers.{value_up_to}
 use Rattle.vx_lines.specs.ReadEffect.{is_no_feed, unfed}
-use Rattle.vx_lines.specs.ReadHead.{as_head, ran_in, down_in, run_in, ast_in, rdn_in, beg_in, don_in, tick_in, other_head, head_of, from_space, if_head, read_head}
+use Rattle.vx_lines.specs.ReadHead.{as_head, ran_in, down_in, run_in, ast_in, rdn_in, beg_in, don_in, other_head, head_of, from_space, if_head, read_head}
 use Rattle.vx_lines.specs.Records.{id_text, pid_text, unit_name, event_text, answer_text, head_line}
 use Rattle.vx_lines.specs.Spelled.{IsWord}
-use Rattle.vx_lines.specs.SpelledHead.{IsSpelledCall, IsSpelledUnit, IsSpelledHead, HeadsReadBack}
+use Rattle.vx_lines.specs.SpelledHead.{IsSpelledCall, IsSpelledUnit, HeadsReadBack}
 use Rattle.vx_lines.specs.Words.{◌>>=◌, is_inner, first_word, second_word, third_word, fourth_word, behind_word}
 use Rattle.vx_lines.proofs.WordsBack.{Whole, run_first, run_behind, first_back, value_back, number_all}
 use Rattle.vx_lines.proofs.EffectsBack.{whole, feedless, tight_cond, tight_id, tight_name, tight_number, tight_mode, tight_target, cond_back, id_back, pid_back, bytes_same}

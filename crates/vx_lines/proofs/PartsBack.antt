@@ -1,7 +1,7 @@
 -- Words of parts, and quoted texts, are read back.
-use Rattle.std.proofs.Common.{◌≡◌, ℕ, ◌+◌, ◌/◌, ◌%◌, ◌<◌, ◌≤◌, ◌^◌, ◌==◌, not, nat_lt, nat_le, Bool, true, false, cond, List, [], ◌∷◌, ◌++◌, length, take, drop, codes, bytes_eq, Option, Some, None, option_map, Ok, refl, sym, ap, ◌∙◌, arith, append-nil, append_assoc}
+use Rattle.std.proofs.Common.{◌≡◌, ℕ, ◌+◌, ◌/◌, ◌%◌, ◌<◌, ◌≤◌, ◌^◌, ◌==◌, nat_lt, nat_le, Bool, true, false, cond, List, [], ◌∷◌, ◌++◌, length, drop, codes, bytes_eq, Option, Some, None, option_map, Ok, refl, sym, ap, ◌∙◌, arith, append-nil, append_assoc}
 use Rattle.std.specs.Prelude.{decimal}
-use Rattle.std.specs.List.{list_all, prefix_len}
+use Rattle.std.specs.List.{list_all}
 use Rattle.std.proofs.lemmas.List.Folds.{list_all-append}
 use Rattle.std.proofs.lemmas.Bool.{le-leb}
 use Rattle.std.proofs.lemmas.Bool.Decides.{nat_tests}
@@ -13,19 +13,18 @@ use Rattle.vx_base.specs.declared.request.Body.{Body}
 use Rattle.vx_base.specs.declared.request.Body.TheVariants as body
 use Rattle.vx_text.specs.Bytes.{is_plain}
 use Rattle.vx_text.specs.Quote.{hex_digit, byte_text, inside_text, quote_text, AreBytes}
-use Rattle.vx_text.specs.Lex.{lex, lex_from, token_at}
+use Rattle.vx_text.specs.Lex.{lex, token_at}
 use Rattle.vx_text.specs.declared.token.Tok.TheVariants as tok
 use Rattle.vx_text.proofs.Canonical.{first-quote}
 use Rattle.vx_text.proofs.Lexing.{lex_gap, lex_last}
 use Rattle.vx_text.proofs.Numbers.{decimal_digits, decimal_some}
 use Rattle.vx_text.proofs.Runs.{and_parts}
 use Rattle.vx_table.specs.Back.{toks_of}
-use Rattle.vx_lines.specs.Fields.{pid_of, number_of, small_of, name_in, local_of, common_of, cell_by, cell_of, cluster_of, cluster_or_none, common_number, if_common, text_among, text_of}
-use Rattle.vx_lines.specs.Numbers.{value_up_to}
+use Rattle.vx_lines.specs.Fields.{number_of, small_of, name_in, local_of, common_of, cell_by, cell_of, cluster_of, cluster_or_none, common_number, if_common, text_among, text_of}
 use Rattle.vx_lines.specs.ReadEffect.{is_no_feed, body_of}
-use Rattle.vx_lines.specs.Records.{spaced, pid_text, cluster_text, cell_text, joined_text, body_text}
+use Rattle.vx_lines.specs.Records.{spaced, cluster_text, cell_text, joined_text, body_text}
 use Rattle.vx_lines.specs.Spelled.{IsWord, IsSpelledCell, IsSpelledCluster, IsSpelledBody}
-use Rattle.vx_lines.specs.Words.{◌>>=◌, is_no_colon, part_len, first_part, from_colon, behind_part}
+use Rattle.vx_lines.specs.Words.{◌>>=◌, is_no_colon, first_part, from_colon, behind_part}
 use Rattle.vx_lines.proofs.WordsBack.{run_first, run_behind, value_back, number_all, name_all}
 use Rattle.vx_lines.proofs.EffectsBack.{is_tight, Tight, tight_number, tight_name, number_back, pid_back, name_back}
 

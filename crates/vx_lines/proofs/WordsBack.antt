@@ -1,5 +1,5 @@
 -- Words that were printed one behind another are read back one by one.
-use Rattle.std.proofs.Common.{◌≡◌, ℕ, ◌+◌, ◌-◌, ◌/◌, ◌%◌, ◌<◌, ◌≤◌, ◌^◌, ◌==◌, ◌&&◌, not, Bool, true, false, List, [], ◌∷◌, ◌++◌, length, take, drop, nat_le, codes, Some, refl, sym, ap, ◌∙◌, arith, length-append}
+use Rattle.std.proofs.Common.{◌≡◌, ℕ, ◌+◌, ◌-◌, ◌/◌, ◌%◌, ◌<◌, ◌≤◌, ◌^◌, ◌==◌, ◌&&◌, Bool, true, List, [], ◌∷◌, ◌++◌, length, take, drop, nat_le, Some, refl, ap, ◌∙◌, arith}
 use Rattle.std.specs.Prelude.{decimal}
 use Rattle.std.specs.List.{list_all, prefix_len, fold}
 use Rattle.std.proofs.Math.Seq.{take-append_seam, drop-append_seam}
@@ -11,7 +11,7 @@ use Rattle.vx_text.proofs.Runs.{and_parts, stops}
 use Rattle.vx_text.proofs.Lexing.{name_bytes}
 use Rattle.vx_lines.specs.Numbers.{with_digit, digits_value, value_up_to}
 use Rattle.vx_lines.specs.Records.{spaced}
-use Rattle.vx_lines.specs.Words.{is_inner, word_len, first_word, behind_word, second_word, third_word, fourth_word, fifth_word, sixth_word}
+use Rattle.vx_lines.specs.Words.{is_inner, first_word, behind_word, second_word, third_word, fourth_word, fifth_word, sixth_word}
 
 pub run_len : (p : ℕ → Bool) (run rest : List ℕ) → list_all p run ≡ true → stops p rest → prefix_len p (run ++ rest) ≡ length run
 run_len p [] [] h s = refl

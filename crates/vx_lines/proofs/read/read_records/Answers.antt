@@ -1,4 +1,4 @@
-use Rattle.std.proofs.Common.{◌≡◌, ◌+◌, ◌<◌, ◌≤◌, ℕ, List, true, false, None, Some, drop, take, length, refl, sym, ap, ◌∙◌, arith, length-drop, drop-drop}
+use Rattle.std.proofs.Common.{◌≡◌, ◌+◌, ◌<◌, ◌≤◌, ℕ, true, false, None, Some, drop, take, length, refl, sym, ap, ◌∙◌, arith, length-drop, drop-drop}
 use Rattle.vx_text.proofs.Turns.{rest_of}
 use Rattle.vx_lines.specs.Cutting.{fed_len}
 use Rattle.vx_lines.specs.ReadRecords.{is_of_record, read_line, read_lines, fed_lines}
