@@ -1,5 +1,5 @@
 -- What is not built yet is not open.
-use Rattle.std.proofs.Common.{◌≡◌, List, [], ◌∷◌, IsTrue, map, refl, subst}
+use Rattle.std.proofs.Common.{◌≡◌, List, [], ◌∷◌, map, refl, subst}
 use Rattle.std.specs.List.{AllByRecursion}
 use Rattle.vx_procs.specs.Kernel.{Kernel}
 use Rattle.vx_procs.specs.Ready.{IsBare, IsBareProcess}

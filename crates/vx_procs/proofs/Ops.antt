@@ -13,7 +13,6 @@ use Rattle.vx_base.specs.Quotas.{is_within, together}
 use Rattle.vx_base.specs.declared.frame.Frame.{Frame}
 use Rattle.vx_base.specs.declared.number.Id.{Id}
 use Rattle.vx_base.specs.declared.number.Pid.{Pid}
-use Rattle.vx_base.specs.declared.mode.Mode.{Mode}
 use Rattle.vx_base.specs.declared.quota.Need.{Need}
 use Rattle.vx_record.specs.Timers.{at_time, due_again, is_due}
 use Rattle.vx_record.specs.State.{Process, State, IsProcess, process_at}

@@ -1,6 +1,6 @@
 -- Rundown where nothing is open but ASTs, timers and wakes: no channel, handler, request or cluster stands in the way.
-use Rattle.std.proofs.Common.{◌≡◌, ℕ, ◌-◌, Bool, true, false, cond, ◌&&◌, if◌then◌else◌, List, [], ◌∷◌, ◌++◌, IsTrue, refl, ap, sym, subst, ◌∙◌}
-use Rattle.std.specs.List.{AllByRecursion, filter, find, list_any}
+use Rattle.std.proofs.Common.{◌≡◌, ℕ, ◌-◌, Bool, if◌then◌else◌, List, [], ◌∷◌, ◌++◌, refl, ap, sym, subst, ◌∙◌}
+use Rattle.std.specs.List.{filter, find, list_any}
 use Rattle.vx_base.specs.Clusters.{is_association, dissociated_at}
 use Rattle.vx_base.specs.Lists.{less}
 use Rattle.vx_base.specs.Pieces.{Association, Handler, Queued, Request, Timer}

@@ -1,7 +1,5 @@
-use Rattle.std.proofs.Common.{arith, length-append, subst, sym}
 use Rattle.vx_record.specs.Rundown.{is_timer_in, is_wake_by}
 use Rattle.vx_record.specs.Timers.{drop_timers}
-use Rattle.vx_procs.specs.Kernel.{Kernel}
 use Rattle.vx_procs.proofs.Rest.{acts_both, room_first, room_second}
 use Rattle.vx_rundown.proofs.Dropped.{timers_leaving}
 use Rattle.vx_rundown.proofs.rundown.drop_entries.Goals as goal

@@ -1,4 +1,4 @@
-use Rattle.std.proofs.Common.{◌≡◌, ◌≤◌, true, position, ap, arith, sym, ◌∙◌}
+use Rattle.std.proofs.Common.{◌≤◌, position, ap, arith, sym, ◌∙◌}
 use Rattle.std.proofs.lemmas.Bool.{leb-true}
 use Rattle.vx_base.proofs.First.{amend_at, amend_none, found_at, found_passes}
 use Rattle.vx_base.specs.Roomy.{with_items}

@@ -1,4 +1,4 @@
-use Rattle.std.proofs.Common.{◌∷◌, ◌++◌, [], ap, refl, sym, subst, arith, ◌∙◌}
+use Rattle.std.proofs.Common.{◌∷◌, ◌++◌, [], ap, sym, subst, arith, ◌∙◌}
 use Rattle.vx_base.specs.declared.number.Pid.{Pid}
 use Rattle.vx_record.specs.State.{State, IsProcess}
 use Rattle.vx_record.specs.Charges.{exceeds}

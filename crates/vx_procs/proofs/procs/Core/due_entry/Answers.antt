@@ -1,4 +1,4 @@
-use Rattle.std.proofs.Common.{ℕ, length, subst, sym}
+use Rattle.std.proofs.Common.{length, subst, sym}
 use Rattle.vx_base.specs.declared.number.Pid.{Pid}
 use Rattle.vx_record.specs.State.{IsProcess}
 use Rattle.vx_record.specs.Timers.{is_due}

@@ -1,8 +1,6 @@
 use Rattle.std.proofs.Common.{◌≤◌, ap, subst, sym, ◌∙◌}
-use Rattle.vx_base.specs.Lists.{amend}
 use Rattle.vx_base.specs.Pieces.{Timer}
 use Rattle.vx_base.specs.Roomy.{Roomy}
-use Rattle.vx_record.specs.Timers.{due_again, is_due}
 use Rattle.vx_procs.specs.Kernel.{Kernel, with_state}
 use Rattle.vx_procs.specs.View.{kernel}
 use Rattle.vx_procs.specs.Words.{put_off_first}
