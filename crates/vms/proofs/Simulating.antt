@@ -10,7 +10,7 @@ use Rattle.vx_script.specs.declared.fault.ScriptFail.TheVariants as fail
 use Rattle.vx_script.specs.declared.fault.ScriptFault.{ScriptFault}
 use Rattle.vx_exec.specs.Built.{is_built}
 use Rattle.vms.specs.Simulated.{WritesRun, WritesRefusal}
-use Rattle.vms.specs.Top.{IsSimulated, fault_line, later, no_script, not_built}
+use Rattle.vms.specs.Top.{IsSimulated, fault_line, later, no_script, not_built, script_in}
 use Rattle.vms.specs.declared.command.Command.{Command}
 use Rattle.vms.specs.declared.command.Command.TheVariants.{Sim}
 use Rattle.vms.specs.declared.command.Options.{Options}
@@ -31,7 +31,7 @@ pub told : (text input : List ℕ) (failure : ScriptFail) (fault : ScriptFault) 
 told text input failure fault same is h = subst (λ z. Tells z fault) same (subst (λ z. TellsIfFault text (Err z)) is h)
 
 -- the line of a fault that was written refuses the input
-pub writes_fault : (input : List ℕ) (command : Command) (held held_after : Option (List ℕ)) (fault : ScriptFault) → Tells input fault → Appends held held_after (fault_line fault) → WritesRefusal command input held held_after
+pub writes_fault : (input : List ℕ) (command : Command) (held held_after : Option (List ℕ)) (fault : ScriptFault) → Tells (script_in command input) fault → Appends held held_after (fault_line fault) → WritesRefusal command input held held_after
 writes_fault input command held held_after fault says written = record { text = fault_line fault; refused = no_script command fault says; written = written }
 
 -- so does the line of a system that is not built

@@ -1,7 +1,7 @@
 -- The program's statuses.
 use Rattle.std.specs.Prelude.{ℕ}
 use Rattle.vms.specs.declared.status.Status.{Status}
-use Rattle.vms.specs.declared.status.Status.TheVariants.{Done, Hung, Words, Form, Limit, ReadFault, WriteFault, NoMemory, TooLong}
+use Rattle.vms.specs.declared.status.Status.TheVariants.{Done, Hung, Words, Form, Limit, Illegal, ReadFault, WriteFault, NoMemory, TooLong}
 
 abbrev pub code_of : Status → ℕ
 code_of Done = 0
@@ -9,6 +9,7 @@ code_of Hung = 1
 code_of Words = 2
 code_of Form = 3
 code_of Limit = 4
+code_of Illegal = 5
 code_of ReadFault = 6
 code_of WriteFault = 7
 code_of NoMemory = 8

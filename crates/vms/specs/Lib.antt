@@ -3,3 +3,4 @@ pub mod Example
 pub mod Simulated
 pub mod Top
 pub mod Words
+pub mod Judged

@@ -2,7 +2,7 @@
 use Rattle.std.specs.Prelude.{◌≡◌, ℕ, List, [], ◌∷◌, ◌++◌, codes, decimal, false, IsTrue, Option, None, Some}
 use Rattle.std.specs.Io.KnownBytes.{Appends, Keeps}
 use Rattle.vx_base.specs.declared.record.End.{End}
-use Rattle.vx_base.specs.declared.record.End.TheVariants.{Done}
+use Rattle.vx_base.specs.declared.record.End.TheVariants.{Done, Hung, Limit}
 use Rattle.vx_image.specs.declared.system.System.{System}
 use Rattle.vx_host.specs.Causes.{Rose}
 use Rattle.vx_host.specs.Streams.{TakesAll, Takes, TakesAtMost, AppendsFront}
@@ -15,11 +15,18 @@ use Rattle.vx_script.specs.declared.fault.ScriptFault.{ScriptFault}
 use Rattle.vx_exec.specs.Built.{is_built}
 use Rattle.vx_record.specs.Runs.{IsRun, chosen, end_after}
 use Rattle.vx_laws.specs.Laws.{KeepLaws}
+use Rattle.vx_journal.specs.ReadJournal.{script_part, IsJournal, IsBadLine}
 use Rattle.vx_journal.specs.Transcript.{transcript}
+use Rattle.vx_journal.specs.declared.journal.Journal.{Journal}
+use Rattle.vx_check.specs.Verdict.{IsVerdict}
+use Rattle.vx_check.specs.declared.verdict.Verdict.{Verdict}
+use Rattle.vx_check.specs.declared.verdict.Verdict.TheVariants as verdict
 use Rattle.vms.specs.Words.{command_of}
 use Rattle.vms.specs.declared.command.Command.{Command}
-use Rattle.vms.specs.declared.command.Command.TheVariants.{Sim, Show}
+use Rattle.vms.specs.declared.command.Command.TheVariants.{Sim, Show, Check}
 use Rattle.vms.specs.declared.command.Options.{Options}
+use Rattle.vms.specs.declared.status.Status.{Status}
+use Rattle.vms.specs.declared.status.Status.TheVariants as status
 
 -- The lines that are no transcript's.
 
@@ -53,12 +60,42 @@ kind_word kind.Size = codes "SIZE"
 abbrev pub fault_line : ScriptFault → List ℕ
 fault_line f = codes "vms: line " ++ (decimal f.line ++ 32 ∷ (kind_word f.kind ++ 10 ∷ []))
 
--- the line of a script whose system the executive does not run yet
+-- the line of a transcript's first bad line
+abbrev pub form_line : ℕ → List ℕ
+form_line line = codes "vms: line " ++ (decimal line ++ codes " FORM\n")
+
+-- the line of a script or a transcript whose system the executive does not run yet
 abbrev pub later : List ℕ
 later = codes "vms: line 1 LATER\n"
 
 abbrev pub no_memory : List ℕ
 no_memory = codes "vms: no memory\n"
+
+-- The line of a verdict, and its status.
+
+abbrev pub verdict_word : Verdict → List ℕ
+verdict_word (verdict.Complete n) = codes "complete"
+verdict_word (verdict.Hung n) = codes "hung"
+verdict_word (verdict.Limit n) = codes "limit"
+verdict_word (verdict.Prefix n) = codes "prefix"
+verdict_word (verdict.Bad n) = codes "bad"
+
+abbrev pub verdict_number : Verdict → ℕ
+verdict_number (verdict.Complete n) = n
+verdict_number (verdict.Hung n) = n
+verdict_number (verdict.Limit n) = n
+verdict_number (verdict.Prefix n) = n
+verdict_number (verdict.Bad n) = n
+
+abbrev pub verdict_line : Verdict → List ℕ
+verdict_line v = codes "check " ++ (verdict_word v ++ 32 ∷ (decimal (verdict_number v) ++ 10 ∷ []))
+
+abbrev pub status_of : Verdict → Status
+status_of (verdict.Complete n) = status.Done
+status_of (verdict.Hung n) = status.Hung
+status_of (verdict.Limit n) = status.Limit
+status_of (verdict.Prefix n) = status.Illegal
+status_of (verdict.Bad n) = status.Illegal
 
 -- Why each answer comes: by the words, and by what the source gave, which had the bytes `left` before the call and
 -- `left_after` after it, and as many faults as `faults` and `faults_after`.
@@ -86,11 +123,20 @@ pub record ReadsInput (words : List (List ℕ)) (command : Command) (left left_a
   pub asked : command_of words ≡ Some command
   pub taken : TakesAll 67108864 left left_after input
 
--- why an input is refused, and the line that tells it: it is no script, and this is its first fault; or it is the script of
--- a system that is to be simulated and that the executive does not run yet
+-- the part of an input that is read as a script: all of it, and for `check` the lines before the first that begins with $JOURNAL
+abbrev pub script_in : Command → List ℕ → List ℕ
+script_in (Sim options) input = input
+script_in Show input = input
+script_in Check input = script_part input
+
+-- why an input is refused, and the line that tells it: the part that is to be a script is none, and this is its first fault; or
+-- a system is to be simulated, or its transcript judged, that the executive does not run yet; or `check` reads what is no
+-- transcript, and this is its first bad line
 pub data IsRefused (input : List ℕ) : Command → List ℕ → Type 0 where
-  no_script : (command : Command) (fault : ScriptFault) → Tells input fault → IsRefused input command (fault_line fault)
+  no_script : (command : Command) (fault : ScriptFault) → Tells (script_in command input) fault → IsRefused input command (fault_line fault)
   not_built : (options : Options) (system : System) → Spells input system → is_built system ≡ false → IsRefused input (Sim options) later
+  no_journal : (line : ℕ) → IsBadLine input line → IsRefused input Check (form_line line)
+  not_judged : (journal : Journal) → IsJournal input journal → is_built journal.system ≡ false → IsRefused input Check later
 
 -- The input is refused, and the text is the line that tells why.
 pub record RefusesText (words : List (List ℕ)) (left left_after : Option (List ℕ)) (text : List ℕ) : Type 0 where
@@ -125,10 +171,25 @@ pub record Shows (words : List (List ℕ)) (left left_after : Option (List ℕ))
   pub says : Spells input system
   pub spells : text ≡ script system
 
--- `sim` took a run whose records keep the six laws of transcripts; or `show` took none
+-- The input is a transcript of a system that is built, and this is the verdict on it.
+pub record IsJudged (input : List ℕ) (verdict : Verdict) : Type 0 where
+  pub journal : Journal
+  pub says : IsJournal input journal
+  pub built : IsTrue (is_built journal.system)
+  pub judged : IsVerdict journal verdict
+
+-- The command is `check`, and this is the verdict on its input.
+pub record Judges (words : List (List ℕ)) (left left_after : Option (List ℕ)) (verdict : Verdict) : Type 0 where
+  pub input : List ℕ
+  pub read : ReadsInput words Check left left_after input
+  pub judged : IsJudged input verdict
+
+-- `sim` took a run whose records keep the six laws of transcripts; or `check` read one; or `show` took none
 pub data IsLawful (words : List (List ℕ)) (left left_after : Option (List ℕ)) : Type 0 where
   run_is_lawful : (options : Options) (input : List ℕ) (system : System) → ReadsInput words (Sim options) left left_after input → Spells input system
       → KeepLaws system (chosen system options.seed options.limit) → IsLawful words left left_after
+  read_is_lawful : (input : List ℕ) (journal : Journal) → ReadsInput words Check left left_after input → IsJournal input journal
+      → KeepLaws journal.system journal.recs → IsLawful words left left_after
   no_run : (input : List ℕ) → ReadsInput words Show left left_after input → IsLawful words left left_after
 
 -- The words are a command's. Nothing is said of memory: the answer states no cause.
@@ -144,6 +205,7 @@ pub data IsTextOf (words : List (List ℕ)) (left left_after : Option (List ℕ)
   of_form : (text : List ℕ) → RefusesText words left left_after text → IsTextOf words left left_after faults faults_after text
   of_run : (end : End) (text : List ℕ) → Simulates words left left_after end text → IsTextOf words left left_after faults faults_after text
   of_show : (text : List ℕ) → Shows words left left_after text → IsTextOf words left left_after faults faults_after text
+  of_verdict : (verdict : Verdict) → Judges words left left_after verdict → IsTextOf words left left_after faults faults_after (verdict_line verdict)
   of_no_memory : RunsOut words → IsTextOf words left left_after faults faults_after no_memory
 
 -- What became of the text: the sink holds `held` before the call and `held_after` after it.
@@ -160,9 +222,26 @@ pub record WritesScript (words : List (List ℕ)) (left left_after held held_aft
   pub shows : Shows words left left_after text
   pub written : Appends held held_after text
 
--- `sim` has run to the end, or `show` has shown
+-- The sink gained the line of a verdict that has this status.
+pub record WritesVerdict (words : List (List ℕ)) (left left_after held held_after : Option (List ℕ)) (status : Status) : Type 0 where
+  pub verdict : Verdict
+  pub judges : Judges words left left_after verdict
+  pub so : status_of verdict ≡ status
+  pub written : Appends held held_after (verdict_line verdict)
+
+abbrev pub status_of_end : End → Status
+status_of_end Done = status.Done
+status_of_end Hung = status.Hung
+status_of_end Limit = status.Limit
+
+-- `sim` has written a run that ended so, or `check` has read one
+pub data Ends (words : List (List ℕ)) (left left_after held held_after : Option (List ℕ)) (end : End) : Type 0 where
+  ran : WritesTranscript words left left_after held held_after end → Ends words left left_after held held_after end
+  judged : WritesVerdict words left left_after held held_after (status_of_end end) → Ends words left left_after held held_after end
+
+-- a run has ended with every process deleted, or `show` has shown
 pub data Completes (words : List (List ℕ)) (left left_after held held_after : Option (List ℕ)) : Type 0 where
-  ran : WritesTranscript words left left_after held held_after Done → Completes words left left_after held held_after
+  ended : Ends words left left_after held held_after Done → Completes words left left_after held held_after
   showed : WritesScript words left left_after held held_after → Completes words left left_after held held_after
 
 -- The sink gained the line that tells why the input is refused.

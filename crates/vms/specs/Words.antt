@@ -3,7 +3,7 @@ use Rattle.std.specs.Prelude.{ℕ, ◌≤◌, ◌==◌, List, [], ◌∷◌, cod
 use Rattle.std.specs.Option.{option_and_then}
 use Rattle.vx_lines.specs.Numbers.{number_up_to}
 use Rattle.vms.specs.declared.command.Command.{Command}
-use Rattle.vms.specs.declared.command.Command.TheVariants.{Sim, Show}
+use Rattle.vms.specs.declared.command.Command.TheVariants.{Sim, Show, Check}
 use Rattle.vms.specs.declared.command.Given.{Given}
 use Rattle.vms.specs.declared.command.Options.{Options}
 
@@ -58,16 +58,20 @@ IsLimit (Some n) = (1 ≤ n) × (n ≤ 100000)
 abbrev pub HasLimit : Command → Type 0
 HasLimit (Sim options) = (1 ≤ options.limit) × (options.limit ≤ 100000)
 HasLimit Show = Unit {0}
+HasLimit Check = Unit {0}
 
 abbrev pub sim_of : Given → Command
 sim_of given = Sim (options_of given)
 
--- `show` alone
-abbrev pub show_in : List (List ℕ) → Option Command
-show_in [] = Some Show
-show_in (word ∷ words) = None
+-- a command's word alone
+abbrev pub alone : Command → List (List ℕ) → Option Command
+alone command [] = Some command
+alone command (word ∷ words) = None
 
--- `sim` and its options, or `show`
+-- `sim` and its options, or `show`, or `check`
 abbrev pub command_of : List (List ℕ) → Option Command
 command_of [] = None
-command_of (word ∷ words) = if bytes_eq word (codes "sim") then option_map sim_of (options_in words) else (if bytes_eq word (codes "show") then show_in words else None)
+command_of (word ∷ words) =
+    if bytes_eq word (codes "sim") then option_map sim_of (options_in words) else (
+    if bytes_eq word (codes "show") then alone Show words else (
+    if bytes_eq word (codes "check") then alone Check words else None))

@@ -1,111 +1,25 @@
 //! The top call.
 
-ghost use Rattle.std.specs.Prelude.{◌≡◌, ◌≢◌, ◌⊎◌, ◌<◌, ◌≤◌, IfOk, length};
+ghost use Rattle.std.specs.Prelude.{◌≡◌, ◌⊎◌, ◌<◌, ◌≤◌, length};
 ghost use Rattle.std.specs.Io.KnownBytes.{Appends};
 ghost use Rattle.vx_host.specs.Causes.{Rose};
-ghost use Rattle.vx_host.specs.Streams.{AppendsFront};
 ghost use Rattle.vms.specs.Simulated.{WritesRun, WritesRefusal, WritesShown, BreaksInput, BreaksShown};
-ghost use Rattle.vms.specs.Top.{usage, too_long, read_fault, fault_line, kind_word, no_memory, RefusesWords, Overflows, FailsToRead, RunsOut, Completes, IsLawful, WritesTranscript, WritesFault, Breaks};
+ghost use Rattle.vms.specs.Top.{usage, too_long, read_fault, no_memory, RefusesWords, Overflows, FailsToRead, RunsOut, Completes, Ends, IsLawful, WritesVerdict, WritesFault, Breaks};
 
 use crate::command::{Command, Options, command_of};
+use crate::judge::judge;
 use crate::simulate::transcript;
 use crate::status::Status;
+use crate::tell::{fault_line, tell, tell_no_memory, tell_transcript};
 use std::alloc::Global;
 use vx_base::{Bytes, End, NoMemory};
 use vx_exec::is_built;
 use vx_grammar::read_script;
-use vx_host::{ReadFail, Sink, Source, read_all, write_all};
-use vx_script::{FaultKind, ScriptFail, ScriptFault, print_script};
-use vx_text::print_num;
+use vx_host::{ReadFail, Sink, Source, read_all};
+use vx_script::{ScriptFail, print_script};
 
 /// The most bytes of an input.
 const MOST: u32 = 67_108_864;
-
-/// Writes the text of a call, and answers its status, or `WriteFault`.
-fn tell<K: Sink>(sink: &mut K, text: &[u8], status: Status) -> Status
-    requires { status ≢ Status.WriteFault }
-    ensures status { (result ≡ status) ⊎ (result ≡ Status.WriteFault) }
-    ensures whole { result ≢ Status.WriteFault →
-        Appends (K.held sink.old) (K.held sink.new) text.now }
-    ensures front { result ≡ Status.WriteFault →
-        AppendsFront (K.held sink.old) (K.held sink.new) text.now }
-    ensures cause { result ≡ Status.WriteFault → Rose (K.faults sink.old) (K.faults sink.new) }
-    ensures later { K.faults sink.old ≤ K.faults sink.new }
-{
-    match write_all(sink, text) {
-        Ok(()) => status,
-        Err(_) => Status::WriteFault,
-    }
-}
-
-/// Writes that memory ran out.
-pub fn tell_no_memory<K: Sink>(sink: &mut K) -> Status
-    ensures status { (result ≡ Status.NoMemory) ⊎ (result ≡ Status.WriteFault) }
-    ensures whole { result ≢ Status.WriteFault →
-        Appends (K.held sink.old) (K.held sink.new) no_memory }
-    ensures front { result ≡ Status.WriteFault →
-        AppendsFront (K.held sink.old) (K.held sink.new) no_memory }
-    ensures cause { result ≡ Status.WriteFault → Rose (K.faults sink.old) (K.faults sink.new) }
-    ensures later { K.faults sink.old ≤ K.faults sink.new }
-{
-    tell(sink, b"vms: no memory\n", Status::NoMemory)
-}
-
-/// Writes the transcript of a run, and answers how the run has ended, or `WriteFault`.
-fn tell_transcript<K: Sink>(sink: &mut K, text: &[u8], end: End) -> Status
-    ensures status { (result ≡ Status.Done) ⊎ (result ≡ Status.Hung) ⊎ (result ≡ Status.Limit)
-        ⊎ (result ≡ Status.WriteFault) }
-    ensures done { result ≡ Status.Done →
-        (end ≡ End.Done) × Appends (K.held sink.old) (K.held sink.new) text.now }
-    ensures hung { result ≡ Status.Hung →
-        (end ≡ End.Hung) × Appends (K.held sink.old) (K.held sink.new) text.now }
-    ensures limit { result ≡ Status.Limit →
-        (end ≡ End.Limit) × Appends (K.held sink.old) (K.held sink.new) text.now }
-    ensures front { result ≡ Status.WriteFault →
-        AppendsFront (K.held sink.old) (K.held sink.new) text.now }
-    ensures cause { result ≡ Status.WriteFault → Rose (K.faults sink.old) (K.faults sink.new) }
-    ensures later { K.faults sink.old ≤ K.faults sink.new }
-{
-    match end {
-        End::Done => tell(sink, text, Status::Done),
-        End::Hung => tell(sink, text, Status::Hung),
-        End::Limit => tell(sink, text, Status::Limit),
-    }
-}
-
-fn kind_word(kind: FaultKind) -> &'static [u8]
-    ensures { result.now ≡ kind_word kind }
-{
-    match kind {
-        FaultKind::Byte => b"BYTE",
-        FaultKind::Quote => b"QUOTE",
-        FaultKind::Number => b"NUMBER",
-        FaultKind::Name => b"NAME",
-        FaultKind::Word => b"WORD",
-        FaultKind::Service => b"SERVICE",
-        FaultKind::Argument => b"ARGUMENT",
-        FaultKind::Range => b"RANGE",
-        FaultKind::Twice => b"TWICE",
-        FaultKind::Unknown => b"UNKNOWN",
-        FaultKind::Extra => b"EXTRA",
-        FaultKind::Missing => b"MISSING",
-        FaultKind::End => b"END",
-        FaultKind::Size => b"SIZE",
-    }
-}
-
-/// The line of a fault.
-fn fault_line(alloc: Global, fault: ScriptFault) -> Result<Bytes, NoMemory>
-    ensures { IfOk result (λ text. text ≡ fault_line fault) }
-{
-    let mut text = Bytes::new(alloc);
-    text.push_all(b"vms: line ")?;
-    print_num(alloc, &mut text, u64::from(fault.line))?;
-    text.push_all(b" ")?;
-    text.push_all(kind_word(fault.kind))?;
-    text.push_all(b"\n")?;
-    Ok(text)
-}
 
 /// Simulates an input that was read whole, and writes its transcript or why there is none.
 fn simulate<K: Sink>(alloc: Global, options: Options, input: &Bytes, sink: &mut K) -> Status
@@ -182,16 +96,20 @@ fn answer_call<S: Source, K: Sink>(
     source: &mut S,
     sink: &mut K,
 ) -> Status
-    // The transcript of the run that the seed chooses was written, one clause for each end; or the canonical script.
+    // The transcript of the run that the seed chooses was written, or the verdict on the one that was read, one clause for each
+    // end; or the canonical script; or the verdict that the transcript is cut, or not the machine's.
     ensures done { result ≡ Status.Done →
         Completes words.now (S.left source.old) (S.left source.new)
         (K.held sink.old) (K.held sink.new) }
     ensures hung { result ≡ Status.Hung →
-        WritesTranscript words.now (S.left source.old) (S.left source.new)
+        Ends words.now (S.left source.old) (S.left source.new)
         (K.held sink.old) (K.held sink.new) End.Hung }
     ensures limit { result ≡ Status.Limit →
-        WritesTranscript words.now (S.left source.old) (S.left source.new)
+        Ends words.now (S.left source.old) (S.left source.new)
         (K.held sink.old) (K.held sink.new) End.Limit }
+    ensures illegal { result ≡ Status.Illegal →
+        WritesVerdict words.now (S.left source.old) (S.left source.new)
+        (K.held sink.old) (K.held sink.new) Status.Illegal }
 
     // A line was written, each with its cause.
     ensures words { result ≡ Status.Words →
@@ -228,6 +146,7 @@ fn answer_call<S: Source, K: Sink>(
         Ok(input) => match command {
             Command::Sim(options) => simulate(alloc, options, &input, sink),
             Command::Show => show(alloc, &input, sink),
+            Command::Check => judge(alloc, &input, sink),
         },
         Err(ReadFail::Fault) => tell(sink, b"vms: read fault\n", Status::ReadFault),
         Err(ReadFail::TooLong) => tell(sink, b"vms: input too long\n", Status::TooLong),
@@ -243,18 +162,22 @@ pub fn quiet_call<S: Source, K: Sink>(
     source: &mut S,
     sink: &mut K,
 ) -> Status
-    // The transcript of the run that the seed chooses was written, one clause for each end; or the canonical script.
+    // The transcript of the run that the seed chooses was written, or the verdict on the one that was read, one clause for each
+    // end; or the canonical script; or the verdict that the transcript is cut, or not the machine's.
     ensures done { result ≡ Status.Done →
         Completes words.now (S.left source.old) (S.left source.new)
         (K.held sink.old) (K.held sink.new) }
     ensures hung { result ≡ Status.Hung →
-        WritesTranscript words.now (S.left source.old) (S.left source.new)
+        Ends words.now (S.left source.old) (S.left source.new)
         (K.held sink.old) (K.held sink.new) End.Hung }
     ensures limit { result ≡ Status.Limit →
-        WritesTranscript words.now (S.left source.old) (S.left source.new)
+        Ends words.now (S.left source.old) (S.left source.new)
         (K.held sink.old) (K.held sink.new) End.Limit }
+    ensures illegal { result ≡ Status.Illegal →
+        WritesVerdict words.now (S.left source.old) (S.left source.new)
+        (K.held sink.old) (K.held sink.new) Status.Illegal }
 
-    // The records that `sim` wrote keep the six laws of transcripts.
+    // The records that `sim` wrote, and those that `check` found to be the machine's, keep the six laws of transcripts.
     ensures lawful { (result ≡ Status.Done) ⊎ (result ≡ Status.Hung) ⊎ (result ≡ Status.Limit) →
         IsLawful words.now (S.left source.old) (S.left source.new) }
 

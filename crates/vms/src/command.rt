@@ -21,6 +21,8 @@ pub enum Command {
     Sim(Options),
     /// `show`: read a script, and write it canonically.
     Show,
+    /// `check`: read a transcript, and write the verdict on it.
+    Check,
 }
 
 /// The options that the words name; None for one that they leave out.
@@ -131,6 +133,9 @@ pub fn command_of(words: &[Bytes]) -> Option<Command>
     }
     if word.as_slice() == b"show".as_slice() && rest.is_empty() {
         return Some(Command::Show);
+    }
+    if word.as_slice() == b"check".as_slice() && rest.is_empty() {
+        return Some(Command::Check);
     }
     None
 }

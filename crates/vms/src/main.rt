@@ -9,15 +9,18 @@ ghost use Rattle.std.specs.Prelude.{◌≡◌, IfOk, map, string_bytes};
 mod call;
 mod command;
 mod example;
+mod judge;
 mod simulate;
 mod status;
+mod tell;
 
-use call::{quiet_call, tell_no_memory};
+use call::quiet_call;
 use status::Status;
 use std::alloc::Global;
 use std::env;
 use std::io::ErrorKind;
 use std::process::ExitCode;
+use tell::tell_no_memory;
 use vx_base::{Bytes, NoMemory};
 use vx_host::{Sink, StdSink, StdSource, write_all};
 

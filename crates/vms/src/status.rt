@@ -5,16 +5,20 @@ ghost use Rattle.std.specs.Prelude.{◌≡◌};
 /// What a call answers.
 #[derive(Clone, Copy, Debug, PartialEq, Eq)]
 pub enum Status {
-    /// The run ended with every process deleted, and its transcript was written; or the canonical script was written.
+    /// The run ended with every process deleted, and its transcript was written or found to be the machine's; or the canonical
+    /// script was written.
     Done,
-    /// The run ended with nothing enabled and a process that is not deleted, and its transcript was written.
+    /// The run ended with nothing enabled and a process that is not deleted, and its transcript was written or found to be the
+    /// machine's.
     Hung,
     /// The words are no command.
     Words,
-    /// The input is no script, or the executive does not run its system yet.
+    /// The input is no script, or for `check` no transcript, or the executive does not run its system yet.
     Form,
-    /// The run reached its limit with an event enabled, and its transcript was written.
+    /// The run reached its limit with an event enabled, and its transcript was written or found to be the machine's.
     Limit,
+    /// The transcript is cut, or is not the machine's.
+    Illegal,
     /// The source failed.
     ReadFault,
     /// The sink failed, after the start of a text.
@@ -38,6 +42,7 @@ impl Status {
             Status::Words => 2,
             Status::Form => 3,
             Status::Limit => 4,
+            Status::Illegal => 5,
             Status::ReadFault => 6,
             Status::WriteFault => 7,
             Status::NoMemory => 8,

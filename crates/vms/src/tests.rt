@@ -453,7 +453,7 @@ fn ends_and_several_faults(rt: HostRuntime) -> Result<(), Fail> {
 }
 
 // What an image may do for its system to be built: each local statement, and each service that is run.
-const BUILT: [&[u8]; 26] = [
+const BUILT: [&[u8]; 28] = [
     b"LET A = 1\nLET A = A + 1\nLET B = A - 1\nGOTO L\nIF A EQ 1 GOTO L\nPUT 0 \"x\"\nBYTE A 0 1\nIOSB A 1 COUNT\nRETURN",
     b"$SETEF A",
     b"$CLREF SS$_NORMAL",
@@ -479,14 +479,14 @@ const BUILT: [&[u8]; 26] = [
     b"$CANTIM",
     b"$SCHDWK ,1",
     b"$CANWAK",
+    b"$DCLEXH L",
+    b"$CANEXH",
     b"$EXIT",
 ];
 
 // The other services.
-const UNBUILT: [&[u8]; 11] = [
+const UNBUILT: [&[u8]; 9] = [
     b"$DELPRC",
-    b"$DCLEXH L",
-    b"$CANEXH",
     b"$ASSIGN A,N",
     b"$DASSGN 1",
     b"$CREMBX A,N",

@@ -77,6 +77,13 @@ impl Chans {
         Ok((row.device(), row.mode()))
     }
 
+    /// How many channels there are, assigned or free: 64.
+    pub fn len(&self) -> usize
+        ensures { result ≡ length self.now }
+    {
+        self.rows.len()
+    }
+
     /// Frees a channel that is assigned ($DASSGN). Takes no memory.
     pub fn free(&mut self, chan: u32)
         requires number { IsTrue (is_channel_number chan) }

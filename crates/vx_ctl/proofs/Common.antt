@@ -4,7 +4,6 @@ use Rattle.vx_base.specs.Clusters.{Change, associated, cluster_number, dissociat
 use Rattle.vx_base.specs.declared.cond.Cond.TheVariants.{Normal, IllEfc, NoPriv}
 use Rattle.vx_base.specs.declared.number.Pid.{Pid}
 use Rattle.vx_clusters.specs.Clusters.{answer, is_common, unless}
-use Rattle.vx_clusters.specs.declared.fail.AscFail.{AscFail}
 use Rattle.vx_clusters.specs.declared.fail.AscFail.TheVariants as fail
 use Rattle.vx_record.specs.Flags.{ascefc, dacefc, dlcefc}
 use Rattle.vx_record.specs.Parts.{answered, commonly, refused}

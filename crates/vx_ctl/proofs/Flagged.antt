@@ -1,5 +1,5 @@
 -- An event flag that is set or cleared leaves processes, their rooms and charges, and timers as they were.
-use Rattle.std.proofs.Common.{◌≡◌, ℕ, ◌+◌, ◌-◌, ◌≤◌, List, [], ◌∷◌, Bool, length, length-set, not, slice_index_or, refl, ap, sym, subst, ◌∙◌, arith}
+use Rattle.std.proofs.Common.{◌≡◌, ℕ, ◌+◌, ◌-◌, List, [], ◌∷◌, Bool, length, length-set, not, slice_index_or, refl, ap, sym, subst, ◌∙◌, arith}
 use Rattle.vx_base.specs.Lists.{tally}
 use Rattle.vx_base.specs.Pieces.{Queued}
 use Rattle.vx_base.specs.Quotas.{is_within, together}

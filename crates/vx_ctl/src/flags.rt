@@ -12,7 +12,7 @@ use vx_base::{Cell, Cond, Effect, Pid, Routine};
 use vx_procs::Core;
 
 /// The last number that an event flag may have.
-pub(crate) const LAST_FLAG: u32 = 127;
+pub const LAST_FLAG: u32 = 127;
 
 /// The condition that tells how a flag, or an enable, was.
 pub(crate) fn how_it_was(on: bool) -> Cond
@@ -22,7 +22,7 @@ pub(crate) fn how_it_was(on: bool) -> Cond
 }
 
 /// Sets or clears an event flag that a number names.
-pub(crate) fn put_cell<R: Routine>(core: &mut Core<R>, cell: Cell, on: bool)
+pub fn put_cell<R: Routine>(core: &mut Core<R>, cell: Cell, on: bool)
     requires there { IsCell core.old.state cell }
     requires room { Fits core.old (flag_part core.old.state cell on).effects }
     ensures { Acts (flag_part core.old.state cell on) core.old core.new }

@@ -15,8 +15,8 @@ use vx_base::{Cond, Effect, Mode, Opened, Pid, Routine, outer_of};
 use vx_procs::{Core, drop_timers, timer_need};
 use vx_timers::Which;
 
-// The mode of an AST, if there is one.
-fn mode_of_ast<R: Routine>(mode: Mode, routine: &Option<R>) -> Option<Mode>
+/// The mode of an AST, if there is one.
+pub fn mode_of_ast<R: Routine>(mode: Mode, routine: &Option<R>) -> Option<Mode>
     ensures { result ≡ mode_of_ast mode (option_map R.tagged routine.now) }
 {
     match routine {

@@ -63,9 +63,9 @@ pub fn wait_condition<R: Routine>(core: &Core<R>, p: Pid, wait: Wait) -> Option<
     }
 }
 
-// A service that waits answers at once where its wait is satisfied, and else leaves the wait in the top frame.
-fn awaited<R: Routine>(core: &mut Core<R>, p: Pid, wait: Wait) -> Served
-    requires ready { IsReady core.old p }
+/// A service that waits answers at once where its wait is satisfied, and else leaves the wait in the top frame.
+pub fn awaited<R: Routine>(core: &mut Core<R>, p: Pid, wait: Wait) -> Served
+    requires made { IsProcess core.old.state p }
     requires block { WaitStands wait }
     ensures { DoesQuietly (awaited core.old.state p wait) result core.old core.new }
 {

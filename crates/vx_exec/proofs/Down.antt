@@ -1,10 +1,12 @@
--- What a step of rundown does to the state: no id is opened, and in each mode it drops at most the timers, wakes and queued ASTs
--- there are, and dissociates two clusters, which may go; and then it drops the wakes for the process.
-use Rattle.std.proofs.Common.{ℕ, ◌+◌, ◌*◌, ◌≤◌, List, [], ◌∷◌, ◌++◌, Bool, length, length-append, refl, sym, ap, subst, arith}
-use Rattle.std.specs.List.{filter}
-use Rattle.std.proofs.Math.Nat.{mul-le-mul_left, mul-le-mul_right}
+-- What a step of rundown does to the state: no id is opened; in each mode it cancels at most the requests there are, drops the timers,
+-- wakes and queued ASTs, frees the channels, and dissociates two clusters, which may go; a handler that is entered ends it, or else at last the
+-- handlers and the wakes for the process are dropped.
+use Rattle.std.proofs.Common.{◌≡◌, ℕ, suc, ◌+◌, ◌*◌, ◌≤◌, List, [], ◌∷◌, ◌++◌, Bool, not, ◌&&◌, length, length-append, length-set, Option, Some, None, refl, sym, ap, subst, ◌∙◌, arith}
+use Rattle.std.specs.List.{filter, find}
+use Rattle.std.proofs.Math.Nat.{mul-le-mul_left, mul-le-mul_right, suc-mul}
+use Rattle.vx_base.specs.Channels.{channels_of, is_reached, reached_from}
 use Rattle.vx_base.specs.Lists.{less}
-use Rattle.vx_base.specs.Pieces.{Queued, Timer}
+use Rattle.vx_base.specs.Pieces.{Channel, Handler, Queued, Timer}
 use Rattle.vx_base.specs.declared.effects.Effect.{Effect}
 use Rattle.vx_base.specs.declared.frame.Phase.{Phase}
 use Rattle.vx_base.specs.declared.frame.Phase.TheVariants as phase
@@ -12,155 +14,280 @@ use Rattle.vx_base.specs.declared.mode.Mode.{Mode}
 use Rattle.vx_base.specs.declared.mode.Mode.TheVariants.{Kernel, Exec, Super, User}
 use Rattle.vx_base.specs.declared.number.Pid.{Pid}
 use Rattle.vx_base.specs.declared.record.Answer.{Answer}
+use Rattle.vx_record.specs.Channels.{box_gone, goes_unused, is_assigned, swept_box, swept_device, with_channel}
+use Rattle.vx_record.specs.Mailboxes.{mailbox_at}
+use Rattle.vx_base.specs.declared.request.Device.{Device}
+use Rattle.vx_base.specs.declared.request.Device.TheVariants as device
+use Rattle.vx_record.specs.Parts.{Outcome, Part, each, followed_by, and_then, nothing, part_of}
+use Rattle.vx_record.specs.Rundown.{any_handler, cancel_modes, cancel_one, cancelled_in, draining, drop_ast, drop_asts, drop_handler, drop_handlers, entered, entering, free_one, gone, handling, in_phase, inner_modes, is_ast_reached, is_busy, is_handler_of, is_timer_in, part_with, release, rundown, rundown_from, run_down, without_ast, without_handler, gone_part, is_wake_by}
 use Rattle.vx_record.specs.State.{Process, State, IsProcess, process_at, change}
-use Rattle.vx_record.specs.Parts.{Outcome, Part, each, followed_by, and_then}
-use Rattle.vx_record.specs.Rundown.{draining, drop_ast, drop_asts, handling, in_phase, inner_modes, is_ast_reached, is_timer_in, part_with, rundown, rundown_from, run_down, without_ast, gone_part, is_wake_by}
 use Rattle.vx_record.specs.Timers.{drop_timer, drop_timers, this_timer, is_wake_for}
 use Rattle.vx_record.proofs.Lists.{either}
 use Rattle.vx_clusters.proofs.Few.{dissociate_few}
 use Rattle.vx_procs.specs.Cells.{dissociation_part}
-use Rattle.vx_procs.specs.Ready.{IsBare}
-use Rattle.vx_rundown.specs.Leaving.{cancelled, released, entries_part}
-use Rattle.vx_rundown.proofs.Bare.{cancelled_bare, cancelled_entries, drained, gone_wakes, in_phase_bare, mode_done}
+use Rattle.vx_procs.proofs.Firsts.{less_few}
+use Rattle.vx_rundown.specs.Steps.{drained, passed, passed_by, then_by, then_on}
 use Rattle.vx_rundown.proofs.Changed.{process_there}
-use Rattle.vx_rundown.proofs.Released.{released_bare}
+use Rattle.vx_rundown.proofs.Freed.{free_all}
+use Rattle.vx_rundown.proofs.Modes.{drain_is, mode_is}
+use Rattle.vx_exec.proofs.Cancels.{mode_cancels}
+use Rattle.vx_exec.proofs.Ends.{Ends, ends_more}
 use Rattle.vx_exec.proofs.Few.{filter_few}
 use Rattle.vx_exec.proofs.Goes.{Goes, Stays, goes_stays, made_stays, stays_changed, stays_common, stays_still, stays_then}
 
--- how much a mode tells at most: of the ASTs queued for a process, the timers and wakes there are, and two clusters
-abbrev load : State → Pid → ℕ
-load s p = length (process_at s p).asts + 2 * length s.timers + 4
+-- how much a mode tells at most: of the requests that are outstanding six for each as it is cancelled, and the AST that it queues then;
+-- of the ASTs queued for a process, the timers and wakes and channels there are; and two clusters
+abbrev pub load : State → Pid → ℕ
+load s p = length (process_at s p).asts + 7 * length s.requests + 2 * length s.timers + length (process_at s p).channels + 4
 
--- it stays, has no more to drop, and tells at most so much
-record Falls (p : Pid) (bound : ℕ) (s t : State) (told : List Effect) : Type 0 where
+-- it stays, has no more to drop but so many ASTs that were queued, and tells at most so much
+record Falls (p : Pid) (queued bound : ℕ) (s t : State) (told : List Effect) : Type 0 where
   pub stays : Stays s t
-  pub asts : length (process_at t p).asts ≤ length (process_at s p).asts
+  pub asts : length (process_at t p).asts ≤ length (process_at s p).asts + queued
+  pub handlers : length (process_at t p).handlers ≤ length (process_at s p).handlers
+  pub channels : length (process_at t p).channels ≡ length (process_at s p).channels
   pub timers : length t.timers ≤ length s.timers
+  pub requests : length t.requests ≤ length s.requests
+  pub attention : t.attention ≡ s.attention
   pub few : length told ≤ bound
 
-pub less_few : {A : Type 0} (p : A → Bool) (xs : List A) → length (less p xs) ≤ length xs
-less_few p [] = omega arith
-less_few p (x ∷ xs) = let rest = less_few p xs in either (λ ys. length ys ≤ length (x ∷ xs)) (p x) xs (x ∷ less p xs) (omega arith) (omega (arith, rest))
+falls_still : (p : Pid) (s : State) → Falls p 0 0 s s []
+falls_still p s = record { stays = stays_still s; asts = omega arith; handlers = omega arith; channels = refl; timers = omega arith; requests = omega arith; attention = refl; few = omega arith }
 
-falls_still : (p : Pid) (s : State) → Falls p 0 s s []
-falls_still p s = record { stays = stays_still s; asts = omega arith; timers = omega arith; few = omega arith }
-
-falls_then : (p : Pid) (m n : ℕ) (s t u : State) (told more : List Effect) → Falls p m s t told → Falls p n t u more → Falls p (m + n) s u (told ++ more)
-falls_then p m n s t u told more a b = record {
+falls_then : (p : Pid) (i j m n : ℕ) (s t u : State) (told more : List Effect) → Falls p i m s t told → Falls p j n t u more → Falls p (i + j) (m + n) s u (told ++ more)
+falls_then p i j m n s t u told more a b = record {
   stays = stays_then s t u a.stays b.stays;
   asts = omega (arith, a.asts, b.asts);
+  handlers = omega (arith, a.handlers, b.handlers);
+  channels = b.channels ∙ a.channels;
   timers = omega (arith, a.timers, b.timers);
+  requests = omega (arith, a.requests, b.requests);
+  attention = b.attention ∙ a.attention;
   few = omega (arith, a.few, b.few, length-append told more);
 }
 
-falls_more : (p : Pid) (m n : ℕ) (s t : State) (told : List Effect) → m ≤ n → Falls p m s t told → Falls p n s t told
-falls_more p m n s t told more h = record { stays = h.stays; asts = h.asts; timers = h.timers; few = omega (arith, h.few, more) }
+falls_more : (p : Pid) (i m n : ℕ) (s t : State) (told : List Effect) → m ≤ n → Falls p i m s t told → Falls p i n s t told
+falls_more p i m n s t told more h = record { stays = h.stays; asts = h.asts; handlers = h.handlers; channels = h.channels; timers = h.timers; requests = h.requests; attention = h.attention; few = omega (arith, h.few, more) }
 
-falls_made : (p : Pid) (n : ℕ) (s t : State) (told : List Effect) → IsProcess s p → Falls p n s t told → IsProcess t p
-falls_made p n s t told made h = made_stays p s t h.stays made
+falls_queued : (p : Pid) (i j n : ℕ) (s t : State) (told : List Effect) → i ≤ j → Falls p i n s t told → Falls p j n s t told
+falls_queued p i j n s t told more h = record { stays = h.stays; asts = omega (arith, h.asts, more); handlers = h.handlers; channels = h.channels; timers = h.timers; requests = h.requests; attention = h.attention; few = h.few }
 
-changed_falls : (p : Pid) (s : State) (f : Process → Process) → IsProcess s p → length (f (process_at s p)).asts ≤ length (process_at s p).asts → Falls p 0 s (change s p f) []
-changed_falls p s f made asts = record { stays = stays_changed s p f; asts = omega (arith, asts, ap (λ (pr : Process). length pr.asts) (process_there s p f made)); timers = omega arith; few = omega arith }
+falls_made : (p : Pid) (i n : ℕ) (s t : State) (told : List Effect) → IsProcess s p → Falls p i n s t told → IsProcess t p
+falls_made p i n s t told made h = made_stays p s t h.stays made
 
-phase_falls : (p : Pid) (s : State) (ph : Phase) → IsProcess s p → Falls p 0 s (change s p (in_phase ph)) []
-phase_falls p s ph made = changed_falls p s (in_phase ph) made (omega arith)
+-- one process is changed, and an effect is told or none
+changed_falls : (p : Pid) (s : State) (f : Process → Process) (told : List Effect) → IsProcess s p → length (f (process_at s p)).asts ≤ length (process_at s p).asts → length (f (process_at s p)).handlers ≤ length (process_at s p).handlers → length (f (process_at s p)).channels ≡ length (process_at s p).channels → Falls p 0 (length told) s (change s p f) told
+changed_falls p s f told made asts handlers channels =
+    let at = process_there s p f made in
+    record {
+      stays = stays_changed s p f;
+      asts = omega (arith, asts, ap (λ (pr : Process). length pr.asts) at);
+      handlers = omega (arith, handlers, ap (λ (pr : Process). length pr.handlers) at);
+      channels = omega (arith, channels, ap (λ (pr : Process). length pr.channels) at);
+      timers = omega arith;
+      requests = omega arith;
+      attention = refl;
+      few = omega arith;
+    }
 
--- one AST, and one timer
+phase_falls : (p : Pid) (s : State) (ph : Phase) → IsProcess s p → Falls p 0 0 s (change s p (in_phase ph)) []
+phase_falls p s ph made = changed_falls p s (in_phase ph) [] made (omega arith) (omega arith) refl
 
-ast_falls : (p : Pid) (s : State) (q : Queued) → IsProcess s p → Falls p 1 s (drop_ast p s q).after (drop_ast p s q).effects
-ast_falls p s q made = let h = changed_falls p s (without_ast q.id) made (less_few _ (process_at s p).asts) in record { stays = h.stays; asts = h.asts; timers = h.timers; few = omega arith }
+-- parts for each of a list, one effect each
+each_falls : {A : Type 0} (p : Pid) (f : State → A → Part) → ((s : State) (x : A) → IsProcess s p → Falls p 0 1 s (f s x).after (f s x).effects) → (xs : List A) (s : State) → IsProcess s p → Falls p 0 (length xs) s (each f xs s).after (each f xs s).effects
+each_falls p f one [] s made = falls_still p s
+each_falls p f one (x ∷ xs) s made =
+    let a = f s x in
+    let first = one s x made in
+    falls_more p 0 (1 + length xs) (length (x ∷ xs)) s _ _ (omega arith) (falls_then p 0 0 1 (length xs) s a.after _ _ _ first (each_falls p f one xs a.after (falls_made p 0 1 s a.after _ made first)))
 
-timer_falls : (p : Pid) (s : State) (t : Timer) → Falls p 1 s (drop_timer s t).after (drop_timer s t).effects
-timer_falls p s t = record {
-  stays = record { procs = refl; next = refl };
+-- one AST, one handler, one timer, one channel
+
+ast_falls : (p : Pid) (s : State) (q : Queued) → IsProcess s p → Falls p 0 1 s (drop_ast p s q).after (drop_ast p s q).effects
+ast_falls p s q made = changed_falls p s (without_ast q.id) (drop_ast p s q).effects made (less_few _ (process_at s p).asts) (omega arith) refl
+
+handler_falls : (p : Pid) (s : State) (h : Handler) → IsProcess s p → Falls p 0 1 s (drop_handler p s h).after (drop_handler p s h).effects
+handler_falls p s h made = changed_falls p s (without_handler h.id) (drop_handler p s h).effects made (omega arith) (less_few _ (process_at s p).handlers) refl
+
+timer_falls : (p : Pid) (s : State) (t : Timer) → IsProcess s p → Falls p 0 1 s (drop_timer s t).after (drop_timer s t).effects
+timer_falls p s t made = record {
+  stays = record { procs = refl; next = refl; units = refl };
   asts = omega arith;
+  handlers = omega arith;
+  channels = refl;
   timers = less_few (this_timer t.id) s.timers;
+  requests = omega arith;
+  attention = refl;
   few = omega arith;
 }
 
+-- a mailbox may go
+swept_falls : (p : Pid) (s : State) (row : Option Channel) → Falls p 0 1 s (swept_box s row).after (swept_box s row).effects
+swept_falls p s None = falls_more p 0 0 1 s s [] (omega arith) (falls_still p s)
+swept_falls p s (Some ch) = by_device ch.device
+  where
+    by_device : (d : Device) → Falls p 0 1 s (swept_device s d).after (swept_device s d).effects
+    by_device (device.Unit u) = falls_more p 0 0 1 s s [] (omega arith) (falls_still p s)
+    by_device (device.Mailbox b) =
+        either (λ (a : Part). Falls p 0 1 s a.after a.effects) (not (is_assigned s b) && goes_unused (mailbox_at s b)) (box_gone s b) (nothing s)
+        (record { stays = record { procs = refl; next = refl; units = refl }; asts = omega arith; handlers = omega arith; channels = refl; timers = omega arith; requests = omega arith; attention = refl; few = omega arith })
+        (falls_more p 0 0 1 s s [] (omega arith) (falls_still p s))
+
+free_falls : (p : Pid) (s : State) (n : ℕ) → IsProcess s p → Falls p 0 1 s (free_one p s n).after (free_one p s n).effects
+free_falls p s n made =
+    let t = change s p (with_channel n None) in
+    falls_then p 0 0 0 1 s t _ [] _ (changed_falls p s (with_channel n None) [] made (omega arith) (omega arith) (length-set (process_at s p).channels _ None)) (swept_falls p t _)
+
 -- all of a mode
 
-asts_each : (p : Pid) (qs : List Queued) (s : State) → IsProcess s p → Falls p (length qs) s (each (drop_ast p) qs s).after (each (drop_ast p) qs s).effects
-asts_each p [] s made = falls_still p s
-asts_each p (q ∷ qs) s made =
-    let one = ast_falls p s q made in
-    let t = (drop_ast p s q).after in
-    falls_more p (1 + length qs) (length (q ∷ qs)) s _ _ (omega arith) (falls_then p 1 (length qs) s t _ _ _ one (asts_each p qs t (falls_made p 1 s t _ made one)))
+reached_few : (m : Mode) (j : ℕ) (rows : List (Option Channel)) → length (reached_from j m rows) ≤ length rows
+reached_few m j [] = omega arith
+reached_few m j (row ∷ rows) =
+    let rest = reached_few m (j + 1) rows in
+    either (λ (ns : List ℕ). length ns ≤ length (row ∷ rows)) (is_reached m row) (j ∷ reached_from (j + 1) m rows) (reached_from (j + 1) m rows) (omega (arith, rest)) (omega (arith, rest))
 
-timers_each : (p : Pid) (ts : List Timer) (s : State) → Falls p (length ts) s (each drop_timer ts s).after (each drop_timer ts s).effects
-timers_each p [] s = falls_still p s
-timers_each p (t ∷ ts) s = falls_more p (1 + length ts) (length (t ∷ ts)) s _ _ (omega arith) (falls_then p 1 (length ts) s (drop_timer s t).after _ _ _ (timer_falls p s t) (timers_each p ts (drop_timer s t).after))
+freed_fall : (p : Pid) (m : Mode) (s : State) → IsProcess s p → Falls p 0 (length (process_at s p).channels) s (free_all p m s).after (free_all p m s).effects
+freed_fall p m s made = falls_more p 0 _ _ s _ _ (reached_few m 1 (process_at s p).channels) (each_falls p (free_one p) (free_falls p) (channels_of m (process_at s p).channels) s made)
 
-asts_fall : (p : Pid) (m : Mode) (s : State) → IsProcess s p → Falls p (length (process_at s p).asts) s (drop_asts p m s).after (drop_asts p m s).effects
-asts_fall p m s made = falls_more p _ _ s _ _ (filter_few (is_ast_reached m) (process_at s p).asts) (asts_each p (filter (is_ast_reached m) (process_at s p).asts) s made)
+asts_fall : (p : Pid) (m : Mode) (s : State) → IsProcess s p → Falls p 0 (length (process_at s p).asts) s (drop_asts p m s).after (drop_asts p m s).effects
+asts_fall p m s made = falls_more p 0 _ _ s _ _ (filter_few (is_ast_reached m) (process_at s p).asts) (each_falls p (drop_ast p) (ast_falls p) (filter (is_ast_reached m) (process_at s p).asts) s made)
+
+handlers_fall : (p : Pid) (s : State) → IsProcess s p → Falls p 0 (length (process_at s p).handlers) s (drop_handlers s p any_handler).after (drop_handlers s p any_handler).effects
+handlers_fall p s made = falls_more p 0 _ _ s _ _ (filter_few any_handler (process_at s p).handlers) (each_falls p (drop_handler p) (handler_falls p) (filter any_handler (process_at s p).handlers) s made)
+
+timers_fall : (p : Pid) (test : Timer → Bool) (s : State) → IsProcess s p → Falls p 0 (length s.timers) s (drop_timers test s).after (drop_timers test s).effects
+timers_fall p test s made = falls_more p 0 _ _ s _ _ (filter_few test s.timers) (each_falls p drop_timer (timer_falls p) (filter test s.timers) s made)
 
 -- a cluster is dissociated, and may go
-parted_falls : (p : Pid) (efn : ℕ) (s : State) → Falls p 2 s (dissociation_part s p efn).after (dissociation_part s p efn).effects
-parted_falls p efn s = record { stays = stays_common s _; asts = omega arith; timers = omega arith; few = dissociate_few s.common p efn }
+parted_falls : (p : Pid) (efn : ℕ) (s : State) → Falls p 0 2 s (dissociation_part s p efn).after (dissociation_part s p efn).effects
+parted_falls p efn s = record { stays = stays_common s _; asts = omega arith; handlers = omega arith; channels = refl; timers = omega arith; requests = omega arith; attention = refl; few = dissociate_few s.common p efn }
 
-released_fall : (p : Pid) (m : Mode) (s : State) → IsProcess s p → Falls p (length (process_at s p).asts + 4) s (released p m s).after (released p m s).effects
+released_fall : (p : Pid) (m : Mode) (s : State) → IsProcess s p → Falls p 0 (length (process_at s p).channels + length (process_at s p).asts + 4) s (release s p m).after (release s p m).effects
 released_fall p m s made =
-    let n = length (process_at s p).asts in
-    let a = drop_asts p m s in
+    let i = length (process_at s p).channels in
+    let f = free_all p m s in
+    let one = freed_fall p m s made in
+    let n = length (process_at f.after p).asts in
+    let a = drop_asts p m f.after in
     let b = part_with p 2 a.after in
     let c = part_with p 3 b.after in
-    falls_more p (n + 2 + 2) (n + 4) s c.after _ (omega arith) (falls_then p (n + 2) 2 s b.after c.after _ _ (falls_then p n 2 s a.after b.after _ _ (asts_fall p m s made) (parted_falls p 64 a.after)) (parted_falls p 96 b.after))
+    let two = falls_then p 0 0 i n s f.after a.after _ _ one (asts_fall p m f.after (falls_made p 0 i s f.after _ made one)) in
+    let three = falls_then p 0 0 (i + n) 2 s a.after b.after _ _ two (parted_falls p 64 a.after) in
+    falls_more p 0 (i + n + 2 + 2) (i + length (process_at s p).asts + 4) s c.after _ (omega (arith, one.asts)) (falls_then p 0 0 (i + n + 2) 2 s b.after c.after _ _ three (parted_falls p 96 b.after))
 
-timers_fall : (p : Pid) (test : Timer → Bool) (s : State) → Falls p (length s.timers) s (drop_timers test s).after (drop_timers test s).effects
-timers_fall p test s = falls_more p _ _ s _ _ (filter_few test s.timers) (timers_each p (filter test s.timers) s)
+-- the channels of a mode, and then its timers, and the wakes that the process scheduled
+cancelled_falls : (p : Pid) (m : Mode) (s : State) → s.attention ≡ [] → IsProcess s p → Falls p (length s.requests) (6 * length s.requests + 2 * length s.timers) s (cancelled_in s p m).after (cancelled_in s p m).effects
+cancelled_falls p m s none made =
+    let r = length s.requests in
+    let c = each (cancel_one p) (channels_of m (process_at s p).channels) s in
+    let h = mode_cancels p m s none in
+    let first : Falls p r (6 * r) s c.after c.effects = record {
+      stays = h.ends.stays;
+      asts = h.lessens.asts;
+      handlers = h.lessens.handlers;
+      channels = h.lessens.channels;
+      timers = h.lessens.timers;
+      requests = h.lessens.requests;
+      attention = h.ends.attention;
+      few = h.ends.few;
+    } in
+    let made_c = falls_made p r (6 * r) s c.after _ made first in
+    let a = drop_timers (is_timer_in p m) c.after in
+    let t = length c.after.timers in
+    let one = timers_fall p (is_timer_in p m) c.after made_c in
+    let two = falls_then p r 0 (6 * r) t s c.after a.after c.effects a.effects first one in
+    let b = drop_timers (is_wake_by p) a.after in
+    let made_a = falls_made p 0 t c.after a.after _ made_c one in
+    let last = timers_fall p (is_wake_by p) a.after made_a in
+    let three = falls_then p (r + 0) 0 (6 * r + t) (length a.after.timers) s a.after b.after (c.effects ++ a.effects) b.effects two last in
+    let four = phase_falls p b.after (phase.Draining m) (falls_made p 0 (length a.after.timers) a.after b.after _ made_a last) in
+    let all = falls_then p (r + 0 + 0) 0 (6 * r + t + length a.after.timers) 0 s b.after (draining p m b.after) ((c.effects ++ a.effects) ++ b.effects) [] three four in
+    falls_queued p (r + 0 + 0 + 0) r _ s _ _ (omega arith) (falls_more p (r + 0 + 0 + 0) (6 * r + t + length a.after.timers + 0) (6 * r + 2 * length s.timers) s _ _ (omega (arith, first.timers, one.timers)) all)
 
-entries_fall : (p : Pid) (m : Mode) (s : State) → Falls p (2 * length s.timers) s (entries_part p m s).after (entries_part p m s).effects
-entries_fall p m s =
-    let a = drop_timers (is_timer_in p m) s in
-    let one = timers_fall p (is_timer_in p m) s in
-    let two = timers_fall p (is_wake_by p) a.after in
-    falls_more p (length s.timers + length a.after.timers) (2 * length s.timers) s _ _ (omega (arith, one.timers)) (falls_then p (length s.timers) (length a.after.timers) s a.after _ _ _ one two)
+drained_falls : (p : Pid) (m : Mode) (s : State) → IsProcess s p → Falls p 0 (length (process_at s p).channels + length (process_at s p).asts + 4) s (drained p m s).after (drained p m s).effects
+drained_falls p m s made =
+    let n = length (process_at s p).channels + length (process_at s p).asts + 4 in
+    either (λ (o : Outcome (Option Answer)). Falls p 0 n s o.after o.effects) (is_busy s p m) _ _ (falls_more p 0 0 n s s [] (omega arith) (falls_still p s)) (released_fall p m s made)
 
-cancelled_falls : (p : Pid) (m : Mode) (s : State) → IsBare s → IsProcess s p → Falls p (2 * length s.timers) s (cancelled p m s).after (cancelled p m s).effects
-cancelled_falls p m s b made =
-    let t = handling p m s in
-    let n = 2 * length s.timers in
-    let one = phase_falls p s (phase.Handlers m) made in
-    let drops = entries_part p m t in
-    let two = falls_more p (0 + n) n s drops.after _ (omega arith) (falls_then p 0 n s t drops.after _ _ one (entries_fall p m t)) in
-    let last = phase_falls p drops.after (phase.Draining m) (falls_made p n s drops.after _ made two) in
-    let all = falls_more p (n + 0) n s _ _ (omega arith) (falls_then p n 0 s drops.after (draining p m drops.after) _ _ two last) in
-    subst (λ (a : Part). Falls p n s a.after a.effects) (sym (cancelled_entries t p m (in_phase_bare s p (phase.Handlers m) b))) all
+-- a mode is passed
 
--- the last: the wakes for the process end
-gone_falls : (p : Pid) (s : State) → IsProcess s p → (let o = and_then (drop_timers (is_wake_for p) s) (gone_part p) in Falls p (length s.timers + 1) s o.after o.effects)
+passed_falls : (p : Pid) (m : Mode) (s : State) → s.attention ≡ [] → IsProcess s p → Falls p (length s.requests) (load s p) s (passed p m s).after (passed p m s).effects
+passed_falls p m s none made = by (find (is_handler_of m) (process_at s p).handlers)
+  where
+    by : (o : Option Handler) → Falls p (length s.requests) (load s p) s (passed_by p m o (handling p m s)).after (passed_by p m o (handling p m s)).effects
+    by None =
+        let r = length s.requests in
+        let i = 6 * r + 2 * length s.timers in
+        let t = handling p m s in
+        let first = phase_falls p s (phase.Handlers m) made in
+        let c = cancelled_in t p m in
+        let made_t = falls_made p 0 0 s t [] made first in
+        let two : Falls p (0 + r) (0 + i) s c.after ([] ++ c.effects) = falls_then p 0 r 0 i s t c.after [] c.effects first (cancelled_falls p m t none made_t) in
+        let d = drained p m c.after in
+        let n = length (process_at c.after p).channels + length (process_at c.after p).asts + 4 in
+        let three = drained_falls p m c.after (falls_made p (0 + r) (0 + i) s c.after _ made two) in
+        let all = falls_then p (0 + r) 0 (0 + i) n s c.after d.after _ _ two three in
+        falls_queued p (0 + r + 0) r (load s p) s d.after _ (omega arith) (falls_more p (0 + r + 0) (0 + i + n) (load s p) s d.after _ (omega (arith, two.asts, two.channels)) all)
+    by (Some h) =
+        let t = handling p m s in
+        let first = phase_falls p s (phase.Handlers m) made in
+        let e = entered t p h in
+        let two = changed_falls p t (entering _ h.id) e.effects (falls_made p 0 0 s t [] made first) (omega arith) (less_few _ (process_at t p).handlers) refl in
+        falls_queued p 0 (length s.requests) (load s p) s e.after _ (omega arith) (falls_more p 0 (0 + 1) (load s p) s e.after _ (omega arith) (falls_then p 0 0 0 1 s t e.after [] _ first two))
+
+-- the last: the handlers and the wakes for the process end
+gone_falls : (p : Pid) (s : State) → IsProcess s p → Falls p 0 (length (process_at s p).handlers + length s.timers + 1) s (gone s p).after (gone s p).effects
 gone_falls p s made =
-    let a = drop_timers (is_wake_for p) s in
-    let one = timers_fall p (is_wake_for p) s in
-    let h = phase_falls p a.after phase.Deleted (falls_made p (length s.timers) s a.after a.effects made one) in
-    falls_then p (length s.timers) 1 s a.after _ a.effects _ one (record { stays = h.stays; asts = h.asts; timers = h.timers; few = omega arith })
+    let i = length (process_at s p).handlers in
+    let a = drop_handlers s p any_handler in
+    let one = handlers_fall p s made in
+    let made_a = falls_made p 0 i s a.after _ made one in
+    let b = drop_timers (is_wake_for p) a.after in
+    let two = falls_then p 0 0 i (length a.after.timers) s a.after b.after _ _ one (timers_fall p (is_wake_for p) a.after made_a) in
+    let c = gone_part p b.after in
+    let last = changed_falls p b.after (in_phase phase.Deleted) c.effects (falls_made p 0 (i + length a.after.timers) s b.after _ made two) (omega arith) (omega arith) refl in
+    falls_more p 0 (i + length a.after.timers + 1) (i + length s.timers + 1) s c.after _ (omega (arith, one.timers)) (falls_then p 0 0 (i + length a.after.timers) 1 s b.after c.after _ _ two last)
 
 -- mode after mode
 
+-- so many modes queue the AST of each request once at most
+abbrev heavy : State → Pid → ℕ → ℕ
+heavy s p n = load s p + n * length s.requests
+
 abbrev down_most : State → Pid → List Mode → ℕ
-down_most s p ms = length ms * load s p + length s.timers + 1
+down_most s p ms = length ms * heavy s p (length ms) + length (process_at s p).handlers + length s.timers + 1
 
-followed_falls : (p : Pid) (m : Mode) (n : ℕ) (s t : State) (told : List Effect) (ms : List Mode) → Falls p n s t told → IsProcess s p → (let u = (released p m t).after in Falls p (down_most u p ms) u (run_down p ms u).after (run_down p ms u).effects) → (let o = followed_by (released p m t) (run_down p ms) in Falls p (n + (length (process_at s p).asts + 4 + down_most s p ms)) s o.after (told ++ o.effects))
-followed_falls p m n s t told ms first made rest =
-    let drops = released p m t in
-    let u = drops.after in
-    let two = released_fall p m t (falls_made p n s t told made first) in
-    let after_both = falls_then p n (length (process_at t p).asts + 4) s t u told drops.effects first two in
-    let less_load : load u p ≤ load s p = omega (arith, after_both.asts, after_both.timers) in
-    let bound : down_most u p ms ≤ down_most s p ms = omega (arith, mul-le-mul_left (length ms) less_load, after_both.timers) in
-    let later = falls_then p (length (process_at t p).asts + 4) (down_most u p ms) t u (run_down p ms u).after drops.effects (run_down p ms u).effects two rest in
-    falls_more p _ _ s _ _ (omega (arith, first.asts, bound)) (falls_then p n _ s t _ told _ first later)
+-- a mode, and those that follow where it gives no answer
+then_ends : (p : Pid) (n : ℕ) (s : State) (ms : List Mode) (o : Outcome (Option Answer)) → n ≤ load s p → Falls p (length s.requests) n s o.after o.effects → Ends (down_most o.after p ms) o.after (part_of (run_down p ms o.after)) → Ends (load s p + length ms * heavy s p (suc (length ms)) + length (process_at s p).handlers + length s.timers + 1) s (part_of (then_on o (run_down p ms)))
+then_ends p n s ms o few one rest = by o.answer
+  where
+    by : (x : Option Answer) → Ends (load s p + length ms * heavy s p (suc (length ms)) + length (process_at s p).handlers + length s.timers + 1) s (part_of (then_by x (record { effects = o.effects; after = o.after }) (run_down p ms)))
+    by None =
+        let u = o.after in
+        let k = length ms in
+        let each_less = mul-le-mul_left k one.requests in
+        let count : suc k * length s.requests ≡ k * length s.requests + length s.requests = suc-mul k (length s.requests) in
+        let lighter : heavy u p k ≤ heavy s p (suc k) = omega (arith, one.asts, one.requests, one.timers, one.channels, each_less, count) in
+        let bound = mul-le-mul_left k lighter in
+        record {
+          stays = stays_then s u _ one.stays rest.stays;
+          attention = rest.attention ∙ one.attention;
+          few = omega (arith, one.few, few, rest.few, bound, one.handlers, one.timers, length-append o.effects (run_down p ms u).effects);
+        }
+    by (Some x) = record { stays = one.stays; attention = one.attention; few = omega (arith, one.few, few) }
 
-run_down_falls : (p : Pid) (ms : List Mode) (s : State) → IsBare s → IsProcess s p → Falls p (down_most s p ms) s (run_down p ms s).after (run_down p ms s).effects
-run_down_falls p [] s b made =
-    subst (λ (o : Outcome Answer). Falls p (down_most s p []) s o.after o.effects) (sym (gone_wakes s p b)) (falls_more p (length s.timers + 1) (down_most s p []) s _ _ (omega arith) (gone_falls p s made))
-run_down_falls p (m ∷ ms) s b made =
-    let a = cancelled p m s in
-    let first = cancelled_falls p m s b made in
-    let u = (released p m a.after).after in
-    let made_a = falls_made p (2 * length s.timers) s a.after a.effects made first in
-    let rest = run_down_falls p ms u (released_bare p m a.after (cancelled_bare p m s b)) (falls_made p _ a.after u _ made_a (released_fall p m a.after made_a)) in
-    subst (λ (o : Outcome Answer). Falls p (down_most s p (m ∷ ms)) s o.after o.effects) (sym (mode_done s p m ms b)) (falls_more p _ (down_most s p (m ∷ ms)) s _ _ (omega arith) (followed_falls p m (2 * length s.timers) s a.after a.effects ms first made rest))
+run_down_ends : (p : Pid) (ms : List Mode) (s : State) → s.attention ≡ [] → IsProcess s p → Ends (down_most s p ms) s (part_of (run_down p ms s))
+run_down_ends p [] s none made =
+    let last = gone_falls p s made in
+    record { stays = last.stays; attention = last.attention; few = omega (arith, last.few) }
+run_down_ends p (m ∷ ms) s none made =
+    let o = passed p m s in
+    let k = length ms in
+    let one = passed_falls p m s none made in
+    let rest = run_down_ends p ms o.after (one.attention ∙ none) (falls_made p (length s.requests) (load s p) s o.after _ made one) in
+    let count : suc k * heavy s p (suc k) ≡ k * heavy s p (suc k) + heavy s p (suc k) = suc-mul k (heavy s p (suc k)) in
+    subst (λ (r : Outcome Answer). Ends (down_most s p (m ∷ ms)) s (part_of r)) (sym (mode_is s p m ms))
+    (ends_more (load s p + k * heavy s p (suc k) + length (process_at s p).handlers + length s.timers + 1) (down_most s p (m ∷ ms)) s _ (omega (arith, count)) (then_ends p (load s p) s ms o (omega arith) one rest))
 
 -- of four modes at most
 
@@ -176,21 +303,41 @@ inner_few Exec = omega arith
 inner_few Super = omega arith
 inner_few User = omega arith
 
-falls_goes : (p : Pid) (n bound : ℕ) (s : State) (o : Outcome Answer) → n ≤ bound → Falls p n s o.after o.effects → Goes bound s o.after o.effects
-falls_goes p n bound s o few h = goes_stays bound s o.after o.effects h.stays (omega (arith, h.few, few))
+-- how much a step of rundown tells at most
+abbrev pub rundown_most : State → Pid → ℕ
+rundown_most s p = 4 * (length (process_at s p).asts + 11 * length s.requests + 2 * length s.timers + length (process_at s p).channels + 4) + length (process_at s p).handlers + length s.timers + 1
 
-rundown_from_goes : (p : Pid) (s : State) (ph : Phase) → IsBare s → IsProcess s p → (let o = rundown_from p ph s in Goes (4 * load s p + length s.timers + 1) s o.after o.effects)
-rundown_from_goes p s (phase.Handlers m) b made =
-    let few = mul-le-mul_right (load s p) (modes_few m) in
-    falls_goes p (down_most s p (m ∷ inner_modes m)) (4 * load s p + length s.timers + 1) s (run_down p (m ∷ inner_modes m) s) (omega (arith, few)) (run_down_falls p (m ∷ inner_modes m) s b made)
-rundown_from_goes p s (phase.Draining m) b made =
-    let few = mul-le-mul_right (load s p) (inner_few m) in
-    let u = (released p m s).after in
-    let rest = run_down_falls p (inner_modes m) u (released_bare p m s b) (falls_made p _ s u _ made (released_fall p m s made)) in
-    let falls = followed_falls p m 0 s s [] (inner_modes m) (falls_still p s) made rest in
-    subst (λ (o : Outcome Answer). Goes (4 * load s p + length s.timers + 1) s o.after o.effects) (sym (drained s p m (run_down p (inner_modes m)) b)) (falls_goes p (0 + (length (process_at s p).asts + 4 + down_most s p (inner_modes m))) (4 * load s p + length s.timers + 1) s (followed_by (released p m s) (run_down p (inner_modes m))) (omega (arith, few)) falls)
-rundown_from_goes p s phase.Alive b made = goes_stays (4 * load s p + length s.timers + 1) s s [] (stays_still s) (omega arith)
-rundown_from_goes p s phase.Deleted b made = goes_stays (4 * load s p + length s.timers + 1) s s [] (stays_still s) (omega arith)
+-- so many modes, of four at most
+few_modes : (s : State) (p : Pid) (n : ℕ) → n ≤ 4 → n * heavy s p n ≤ 4 * (load s p + 4 * length s.requests)
+few_modes s p n few =
+    let lighter : heavy s p n ≤ load s p + 4 * length s.requests = let less_each = mul-le-mul_right (length s.requests) few in omega (arith, less_each) in
+    let a = mul-le-mul_left n lighter in
+    let b = mul-le-mul_right (load s p + 4 * length s.requests) few in
+    omega (arith, a, b)
 
-pub rundown_goes : (p : Pid) (s : State) → IsBare s → IsProcess s p → Goes (4 * load s p + length s.timers + 1) s (rundown s p).after (rundown s p).effects
-rundown_goes p s b made = rundown_from_goes p s (process_at s p).phase b made
+ends_goes : (n bound : ℕ) (s : State) (o : Outcome Answer) → n ≤ bound → Ends n s (part_of o) → Goes bound s o.after o.effects
+ends_goes n bound s o few h = goes_stays bound s o.after o.effects h.stays (omega (arith, h.few, few))
+
+rundown_from_goes : (p : Pid) (s : State) (ph : Phase) → s.attention ≡ [] → IsProcess s p → (let o = rundown_from p ph s in Goes (rundown_most s p) s o.after o.effects)
+rundown_from_goes p s (phase.Handlers m) none made =
+    let ms = m ∷ inner_modes m in
+    let few = few_modes s p (length ms) (modes_few m) in
+    ends_goes (down_most s p ms) (rundown_most s p) s (run_down p ms s) (omega (arith, few)) (run_down_ends p ms s none made)
+rundown_from_goes p s (phase.Draining m) none made =
+    let ms = inner_modes m in
+    let k = length ms in
+    let o = drained p m s in
+    let n = length (process_at s p).channels + length (process_at s p).asts + 4 in
+    let one = drained_falls p m s made in
+    let rest = run_down_ends p ms o.after (one.attention ∙ none) (falls_made p 0 n s o.after _ made one) in
+    let all = then_ends p n s ms o (omega arith) (falls_queued p 0 (length s.requests) n s o.after _ (omega arith) one) rest in
+    let inner : suc k ≤ 4 = let three = inner_few m in omega (arith, three) in
+    let few = few_modes s p (suc k) inner in
+    let count : suc k * heavy s p (suc k) ≡ k * heavy s p (suc k) + heavy s p (suc k) = suc-mul k (heavy s p (suc k)) in
+    subst (λ (r : Outcome Answer). Goes (rundown_most s p) s r.after r.effects) (sym (drain_is s p m (run_down p ms)))
+    (ends_goes (load s p + k * heavy s p (suc k) + length (process_at s p).handlers + length s.timers + 1) (rundown_most s p) s (then_on o (run_down p ms)) (omega (arith, few, count)) all)
+rundown_from_goes p s phase.Alive none made = goes_stays (rundown_most s p) s s [] (stays_still s) (omega arith)
+rundown_from_goes p s phase.Deleted none made = goes_stays (rundown_most s p) s s [] (stays_still s) (omega arith)
+
+pub rundown_goes : (p : Pid) (s : State) → s.attention ≡ [] → IsProcess s p → Goes (rundown_most s p) s (rundown s p).after (rundown s p).effects
+rundown_goes p s none made = rundown_from_goes p s (process_at s p).phase none made

@@ -1,10 +1,11 @@
--- What is enabled where only processes and time have events.
-use Rattle.std.proofs.Common.{◌≡◌, ℕ, zero, suc, ◌+◌, ◌-◌, ◌<◌, ◌≤◌, List, [], ◌∷◌, ◌++◌, length, length-append, drop, IsTrue, Option, Some, None, Contains, option_to_list, slice_get, slice_index_or, nat_lt, ◌⊎◌, inl, inr, Bool, false, refl, sym, ap, subst, ◌∙◌, arith}
-use Rattle.std.proofs.lemmas.Bool.{cases_eq}
+-- What is enabled: each process has one event or none, and so has each unit, and time.
+use Rattle.std.proofs.Common.{◌≡◌, ℕ, zero, suc, ◌+◌, ◌-◌, ◌<◌, ◌≤◌, List, [], ◌∷◌, ◌++◌, length, length-append, drop, IsTrue, Option, Some, None, IfSome, IsSome, Contains, option_to_list, slice_get, slice_index_or, nat_lt, ◌⊎◌, inl, inr, Bool, true, false, if◌then◌else◌, refl, sym, ap, subst, ◌∙◌, arith}
+use Rattle.std.proofs.lemmas.Bool.{cases_eq, leb-true}
 use Rattle.std.proofs.lemmas.Bool.Decides.{nat_tests}
 use Rattle.std.proofs.lemmas.List.{drop_more}
 use Rattle.std.specs.List.{AllByRecursion}
-use Rattle.vx_base.specs.Pieces.{DeviceUnit, Queued, Timer}
+use Rattle.vx_base.specs.Pieces.{DeviceUnit, Queued, Request, Timer}
+use Rattle.vx_base.specs.Queues.{front, in_service}
 use Rattle.vx_base.specs.declared.frame.Frame.{Frame}
 use Rattle.vx_base.specs.declared.frame.Wait.{Wait}
 use Rattle.vx_base.specs.declared.number.Pid.{Pid}
@@ -12,28 +13,27 @@ use Rattle.vx_base.specs.declared.number.UnitNo.{UnitNo}
 use Rattle.vx_base.specs.declared.record.Event.{Event}
 use Rattle.vx_base.specs.declared.record.Event.TheVariants as event
 use Rattle.vx_frames.specs.Frames.{top_of}
-use Rattle.vx_record.specs.State.{Process, State, IsProcess, process_at, nobody, pid}
+use Rattle.vx_record.specs.State.{Process, State, IsProcess, process_at, no_unit, nobody, pid}
 use Rattle.vx_record.specs.Asts.{deliverable_ast}
-use Rattle.vx_record.specs.Events.{ast_or_run, can_run, can_run_down, enabled, process_events, processes_from, run_events, tick_events, units_from}
+use Rattle.vx_record.specs.Events.{ast_or_run, beg_event, can_run, can_run_down, don_or_beg, enabled, process_events, processes_from, run_events, tick_events, unit_events, units_from}
 use Rattle.vx_record.specs.Runs.{next_seed, picked}
 use Rattle.vx_record.specs.Sound.{WaitStands, WaitsStand}
 use Rattle.vx_record.proofs.Changes.{stands_at}
 use Rattle.vx_record.proofs.Lists.{either, all_append, all_at}
 use Rattle.vx_exec.specs.Picks.{picked_event}
-use Rattle.vx_exec.specs.Ready.{HasOwner}
+use Rattle.vx_exec.specs.Ready.{HasOwner, process_of}
 use Rattle.vx_exec.specs.Sound.{IsWhole}
-use Rattle.vx_exec.proofs.Calls.{units_none}
 
--- Each event that is enabled is the one of its process, or time's.
+-- Each event that is enabled is the one of its process or its unit, or time's.
 
--- it is the event of a process that is there, or time's, where there are timers
+-- it is the event of a process or of a unit that is there, or time's, where there are timers
 abbrev pub IsAbled : State → Event → Type 0
 IsAbled s (event.Run p) = IsProcess s p × (process_events s p ≡ event.Run p ∷ [])
 IsAbled s (event.Ast p) = IsProcess s p × (process_events s p ≡ event.Ast p ∷ [])
 IsAbled s (event.Rdn p) = IsProcess s p × (process_events s p ≡ event.Rdn p ∷ [])
 IsAbled s event.Tick = 0 < length s.timers
-IsAbled s (event.Beg u) = ⊥
-IsAbled s (event.Don u) = ⊥
+IsAbled s (event.Beg u) = (u.0 < length s.units) × (unit_events s u ≡ event.Beg u ∷ [])
+IsAbled s (event.Don u) = (u.0 < length s.units) × (unit_events s u ≡ event.Don u ∷ [])
 
 -- a process has one of four lists of events
 run_shape : (P : List Event → Type 0) (s : State) (p : Pid) → P [] → P (event.Run p ∷ []) → P (event.Rdn p ∷ []) → P (run_events s p)
@@ -59,35 +59,87 @@ tick_abled : (s : State) (ts : List Timer) → length ts ≤ length s.timers →
 tick_abled s [] few = tt
 tick_abled s (t ∷ ts) few = (omega (arith, few), tt)
 
--- there are no units
-no_units : (us : List DeviceUnit) → length us ≡ 0 → us ≡ []
-no_units [] e = refl
-no_units (u ∷ us) e = absurd (omega (arith, e))
+-- a unit has one of three lists of events
 
-pub enabled_parts : (s : State) → IsWhole s → enabled s ≡ processes_from s 1 s.procs ++ tick_events s.timers
-enabled_parts s whole =
-    let none : s.units ≡ [] = no_units s.units (whole.sound.units ∙ ap length (units_none s.system whole.built)) in
-    ap (λ (us : List DeviceUnit). processes_from s 1 s.procs ++ (units_from s 0 us ++ tick_events s.timers)) none
+beg_shape : (P : List Event → Type 0) (u : UnitNo) (o : Option Request) → P [] → P (event.Beg u ∷ []) → P (beg_event u o)
+beg_shape P u None none begs = none
+beg_shape P u (Some r) none begs = begs
 
-pub all_abled : (s : State) → IsWhole s → AllByRecursion (IsAbled s) (enabled s)
-all_abled s whole =
-    rw (enabled_parts s whole) (all_append (IsAbled s) (processes_from s 1 s.procs) (tick_events s.timers) (processes_abled s 1 s.procs (omega arith) refl) (tick_abled s s.timers (omega arith)))
+don_shape : (P : List Event → Type 0) (s : State) (u : UnitNo) (o : Option Request) → P [] → P (event.Beg u ∷ []) → P (event.Don u ∷ []) → P (don_or_beg s u o)
+don_shape P s u None none begs ends = beg_shape P u (front u s.requests) none begs
+don_shape P s u (Some r) none begs ends = ends
 
-pub abled_of : (s : State) (e : Event) → IsWhole s → Contains (enabled s) e → IsAbled s e
-abled_of s e whole there = subst (IsAbled s) there.2 (all_at (IsAbled s) (enabled s) there.0 e (all_abled s whole) there.1)
+unit_abled : (s : State) (u : UnitNo) → u.0 < length s.units → AllByRecursion (IsAbled s) (unit_events s u)
+unit_abled s u there = don_shape (λ es. unit_events s u ≡ es → AllByRecursion (IsAbled s) es) s u (in_service u s.requests) (λ e. tt) (λ e. ((there, e), tt)) (λ e. ((there, e), tt)) refl
+
+units_abled : (s : State) (n : ℕ) (us : List DeviceUnit) → n + length us ≡ length s.units → AllByRecursion (IsAbled s) (units_from s n us)
+units_abled s n [] e = tt
+units_abled s n (u ∷ us) e = all_append (IsAbled s) (unit_events s (record { 0 = n })) (units_from s (n + 1) us) (unit_abled s (record { 0 = n }) (omega (arith, e))) (units_abled s (n + 1) us (omega (arith, e)))
+
+-- the events of units and of time
+abbrev later : State → List Event
+later s = units_from s 0 s.units ++ tick_events s.timers
+
+pub all_abled : (s : State) → AllByRecursion (IsAbled s) (enabled s)
+all_abled s =
+    all_append (IsAbled s) (processes_from s 1 s.procs) (later s) (processes_abled s 1 s.procs (omega arith) refl)
+    (all_append (IsAbled s) (units_from s 0 s.units) (tick_events s.timers) (units_abled s 0 s.units (omega arith)) (tick_abled s s.timers (omega arith)))
+
+pub abled_of : (s : State) (e : Event) → Contains (enabled s) e → IsAbled s e
+abled_of s e there = subst (IsAbled s) there.2 (all_at (IsAbled s) (enabled s) there.0 e (all_abled s) there.1)
+
+-- a process that can be run down has no frame
+
+idle_run : (s : State) (p : Pid) (fs : List Frame) → (if can_run s p fs then event.Run p ∷ [] else (if can_run_down s p fs then event.Rdn p ∷ [] else [])) ≡ event.Rdn p ∷ [] → fs ≡ []
+idle_run s p [] e = refl
+idle_run s p (f ∷ fs) e = elim (can_run s p (f ∷ fs)) as (λ b. (if b then event.Run p ∷ [] else []) ≡ event.Rdn p ∷ [] → (f ∷ fs) ≡ []) [ true ↦ λ is. absurd (cc) | false ↦ λ is. absurd (cc) ] e
+
+idle_from : (s : State) (p : Pid) (o : Option Queued) → ast_or_run s p o ≡ event.Rdn p ∷ [] → (process_at s p).frames ≡ []
+idle_from s p None e = idle_run s p (process_at s p).frames e
+idle_from s p (Some q) e = absurd (cc)
+
+idle_of : (s : State) (p : Pid) → process_events s p ≡ event.Rdn p ∷ [] → (process_at s p).frames ≡ []
+idle_of s p = either (λ (es : List Event). es ≡ event.Rdn p ∷ [] → (process_at s p).frames ≡ []) (process_at s p).suspended [] (ast_or_run s p (deliverable_ast s p)) (λ e. absurd (cc)) (idle_from s p (deliverable_ast s p))
+
+-- a unit that begins a service has a front request, and one that ends a service serves one
+
+begs_front : (u : UnitNo) (o : Option Request) → beg_event u o ≡ event.Beg u ∷ [] → IsSome o
+begs_front u None e = absurd (cc)
+begs_front u (Some r) e = refl
+
+begs_at : (s : State) (u : UnitNo) (o : Option Request) → don_or_beg s u o ≡ event.Beg u ∷ [] → IsSome (front u s.requests)
+begs_at s u None e = begs_front u (front u s.requests) e
+begs_at s u (Some r) e = absurd (cc)
+
+never_ends : (u : UnitNo) (o : Option Request) → beg_event u o ≡ event.Don u ∷ [] → ⊥
+never_ends u None e = cc
+never_ends u (Some r) e = cc
+
+ends_at : (s : State) (u : UnitNo) (o : Option Request) → don_or_beg s u o ≡ event.Don u ∷ [] → IsSome o
+ends_at s u None e = absurd (never_ends u (front u s.requests) e)
+ends_at s u (Some r) e = refl
 
 owner_of : (s : State) (e : Event) → IsAbled s e → HasOwner s e
 owner_of s (event.Run p) h = h.0
 owner_of s (event.Ast p) h = h.0
-owner_of s (event.Rdn p) h = h.0
+owner_of s (event.Rdn p) h = record { made = h.0; idle = idle_of s p h.1 }
 owner_of s event.Tick h = tt
-owner_of s (event.Beg u) h = h
-owner_of s (event.Don u) h = h
+owner_of s (event.Beg u) h = begs_at s u (in_service u s.requests) h.1
+owner_of s (event.Don u) h = ends_at s u (in_service u s.requests) h.1
 
-pub enabled_owned : (s : State) (e : Event) → IsWhole s → Contains (enabled s) e → HasOwner s e
-enabled_owned s e whole there = owner_of s e (abled_of s e whole there)
+pub enabled_owned : (s : State) (e : Event) → Contains (enabled s) e → HasOwner s e
+enabled_owned s e there = owner_of s e (abled_of s e there)
 
--- And the one of a process that is there is enabled.
+-- so its process is there
+pub owner_made : (s : State) (e : Event) → HasOwner s e → IfSome (process_of e) (IsProcess s)
+owner_made s (event.Run p) h = h
+owner_made s (event.Ast p) h = h
+owner_made s (event.Rdn p) h = h.made
+owner_made s event.Tick h = tt
+owner_made s (event.Beg u) h = tt
+owner_made s (event.Don u) h = tt
+
+-- And the one of a process or a unit that is there is enabled.
 
 in_left : (xs ys : List Event) (e : Event) → Contains xs e → Contains (xs ++ ys) e
 in_left [] ys e h = absurd (omega (arith, h.1))
@@ -112,12 +164,26 @@ in_tick : (ts : List Timer) → 0 < length ts → Contains (tick_events ts) even
 in_tick [] some = absurd (omega (arith, some))
 in_tick (t ∷ ts) some = (zero, omega arith, refl)
 
-pub process_enabled : (s : State) (p : Pid) (e : Event) → IsWhole s → IsProcess s p → process_events s p ≡ e ∷ [] → Contains (enabled s) e
-process_enabled s p e whole made is =
-    rw (enabled_parts s whole) (in_left (processes_from s 1 s.procs) (tick_events s.timers) e (in_processes s 1 s.procs p e made.above (omega (arith, made.within)) is))
+in_units : (s : State) (n : ℕ) (us : List DeviceUnit) (u : UnitNo) (e : Event) → n ≤ u.0 → u.0 < n + length us → unit_events s u ≡ e ∷ [] → Contains (units_from s n us) e
+in_units s n [] u e above within is = absurd (omega (arith, above, within))
+in_units s n (x ∷ us) u e above within is =
+    elim (cases_eq n u.0) [
+      | inl same ↦
+          let here : unit_events s (record { 0 = n }) ≡ e ∷ [] = ap (λ (i : ℕ). unit_events s (record { 0 = i })) same ∙ is in
+          in_left (unit_events s (record { 0 = n })) (units_from s (n + 1) us) e (rw here (zero, omega arith, refl))
+      | inr other ↦ in_right (unit_events s (record { 0 = n })) (units_from s (n + 1) us) e (in_units s (n + 1) us u e (omega (arith, above, other)) (omega (arith, within)) is)
+    ]
 
-pub tick_enabled : (s : State) → IsWhole s → 0 < length s.timers → Contains (enabled s) event.Tick
-tick_enabled s whole some = rw (enabled_parts s whole) (in_right (processes_from s 1 s.procs) (tick_events s.timers) event.Tick (in_tick s.timers some))
+pub process_enabled : (s : State) (p : Pid) (e : Event) → IsProcess s p → process_events s p ≡ e ∷ [] → Contains (enabled s) e
+process_enabled s p e made is = in_left (processes_from s 1 s.procs) (later s) e (in_processes s 1 s.procs p e made.above (omega (arith, made.within)) is)
+
+unit_enabled : (s : State) (u : UnitNo) (e : Event) → u.0 < length s.units → unit_events s u ≡ e ∷ [] → Contains (enabled s) e
+unit_enabled s u e there is =
+    in_right (processes_from s 1 s.procs) (later s) e (in_left (units_from s 0 s.units) (tick_events s.timers) e (in_units s 0 s.units u e (omega arith) (omega (arith, there)) is))
+
+pub tick_enabled : (s : State) → 0 < length s.timers → Contains (enabled s) event.Tick
+tick_enabled s some =
+    in_right (processes_from s 1 s.procs) (later s) event.Tick (in_right (units_from s 0 s.units) (tick_events s.timers) event.Tick (in_tick s.timers some))
 
 -- The test of one event.
 
@@ -126,33 +192,38 @@ own_of s p e (inl is) h = let own = subst (IsAbled s) is h in (own.0, own.1 ∙ 
 own_of s p e (inr (inl is)) h = let own = subst (IsAbled s) is h in (own.0, own.1 ∙ ap (λ (x : Event). x ∷ []) (sym is))
 own_of s p e (inr (inr is)) h = let own = subst (IsAbled s) is h in (own.0, own.1 ∙ ap (λ (x : Event). x ∷ []) (sym is))
 
-pub own_iff : (s : State) (p : Pid) (e asked : Event) (b : Bool) → IsWhole s → (e ≡ event.Run p) ⊎ ((e ≡ event.Ast p) ⊎ (e ≡ event.Rdn p)) → asked ≡ e → (IsTrue b → IsProcess s p) → (IsTrue b → process_events s p ≡ asked ∷ []) → (IsProcess s p → process_events s p ≡ asked ∷ [] → IsTrue b) → (IsTrue b → Contains (enabled s) e) × (Contains (enabled s) e → IsTrue b)
-own_iff s p e asked b whole is same made has only =
-    let list : asked ∷ [] ≡ e ∷ [] = ap (λ (x : Event). x ∷ []) same in
-    (λ t. process_enabled s p e whole (made t) (has t ∙ list), λ there. let own = own_of s p e is (abled_of s e whole there) in only own.0 (own.1 ∙ sym list))
+own_unit : (s : State) (u : UnitNo) (e : Event) → (e ≡ event.Beg u) ⊎ (e ≡ event.Don u) → IsAbled s e → (u.0 < length s.units) × (unit_events s u ≡ e ∷ [])
+own_unit s u e (inl is) h = let own = subst (IsAbled s) is h in (own.0, own.1 ∙ ap (λ (x : Event). x ∷ []) (sym is))
+own_unit s u e (inr is) h = let own = subst (IsAbled s) is h in (own.0, own.1 ∙ ap (λ (x : Event). x ∷ []) (sym is))
 
-pub tick_iff : (s : State) (e : Event) (n : ℕ) → IsWhole s → e ≡ event.Tick → n ≡ length s.timers → (IsTrue (nat_lt 0 n) → Contains (enabled s) e) × (Contains (enabled s) e → IsTrue (nat_lt 0 n))
-tick_iff s e n whole is count = (
-  λ t. let some : 0 < n = grind (arith, nat_tests, t) in rw is (tick_enabled s whole (omega (arith, some, count))),
-  λ there. let some : 0 < length s.timers = subst (IsAbled s) is (abled_of s e whole there) in let more : 0 < n = omega (arith, some, count) in grind (arith, nat_tests, more),
+pub own_iff : (s : State) (p : Pid) (e asked : Event) (b : Bool) → (e ≡ event.Run p) ⊎ ((e ≡ event.Ast p) ⊎ (e ≡ event.Rdn p)) → asked ≡ e → (IsTrue b → IsProcess s p) → (IsTrue b → process_events s p ≡ asked ∷ []) → (IsProcess s p → process_events s p ≡ asked ∷ [] → IsTrue b) → (IsTrue b → Contains (enabled s) e) × (Contains (enabled s) e → IsTrue b)
+own_iff s p e asked b is same made has only =
+    let list : asked ∷ [] ≡ e ∷ [] = ap (λ (x : Event). x ∷ []) same in
+    (λ t. process_enabled s p e (made t) (has t ∙ list), λ there. let own = own_of s p e is (abled_of s e there) in only own.0 (own.1 ∙ sym list))
+
+pub tick_iff : (s : State) (e : Event) (n : ℕ) → e ≡ event.Tick → n ≡ length s.timers → (IsTrue (nat_lt 0 n) → Contains (enabled s) e) × (Contains (enabled s) e → IsTrue (nat_lt 0 n))
+tick_iff s e n is count = (
+  λ t. let some : 0 < n = grind (arith, nat_tests, t) in rw is (tick_enabled s (omega (arith, some, count))),
+  λ there. let some : 0 < length s.timers = subst (IsAbled s) is (abled_of s e there) in let more : 0 < n = omega (arith, some, count) in grind (arith, nat_tests, more),
 )
 
-pub units_iff : (s : State) (e : Event) → IsWhole s → ((u : UnitNo) × (e ≡ event.Beg u)) ⊎ ((u : UnitNo) × (e ≡ event.Don u)) → (IsTrue false → Contains (enabled s) e) × (Contains (enabled s) e → IsTrue false)
-units_iff s e whole is = (λ t. absurd (cc), λ there. absurd (none_of is (abled_of s e whole there)))
-  where
-    none_of : ((u : UnitNo) × (e ≡ event.Beg u)) ⊎ ((u : UnitNo) × (e ≡ event.Don u)) → IsAbled s e → ⊥
-    none_of (inl begs) h = subst (IsAbled s) begs.1 h
-    none_of (inr ends) h = subst (IsAbled s) ends.1 h
+pub unit_iff : (s : State) (u : UnitNo) (e asked : Event) (b : Bool) → (e ≡ event.Beg u) ⊎ (e ≡ event.Don u) → asked ≡ e → (IsTrue b → u.0 < length s.units) → (IsTrue b → unit_events s u ≡ asked ∷ []) → (u.0 < length s.units → unit_events s u ≡ asked ∷ [] → IsTrue b) → (IsTrue b → Contains (enabled s) e) × (Contains (enabled s) e → IsTrue b)
+unit_iff s u e asked b is same there has only =
+    let list : asked ∷ [] ≡ e ∷ [] = ap (λ (x : Event). x ∷ []) same in
+    (λ t. unit_enabled s u e (there t) (has t ∙ list), λ able. let own = own_unit s u e is (abled_of s e able) in only own.0 (own.1 ∙ sym list))
 
 -- Loops over processes.
 
 pub waits_at : (s : State) (p : Pid) → IsProcess s p → IsWhole s → WaitsStand (process_at s p).frames
 waits_at s p made whole = (stands_at s p whole.sound made).waits
 
-pub events_step : (s : State) (place : ℕ) (r : Option Event) → place < length s.procs → option_to_list r ≡ process_events s (pid (place + 1)) → processes_from s (place + 1) (drop place s.procs) ≡ option_to_list r ++ processes_from s (place + 1 + 1) (drop (place + 1) s.procs)
-events_step s place r within is =
-    let rest = processes_from s (place + 1 + 1) (drop (place + 1) s.procs) in
-    ap (λ (prs : List Process). processes_from s (place + 1) prs) (drop_more s.procs place nobody within) ∙ ap (λ (es : List Event). es ++ rest) (sym is)
+-- the events of the processes, or of the units, from one on: those of the first, and the rest
+
+pub processes_now : (s : State) (place : ℕ) → place < length s.procs → processes_from s (place + 1) (drop place s.procs) ≡ process_events s (pid (place + 1)) ++ processes_from s (place + 1 + 1) (drop (place + 1) s.procs)
+processes_now s place within = ap (λ (prs : List Process). processes_from s (place + 1) prs) (drop_more s.procs place nobody within)
+
+pub units_now : (s : State) (place : ℕ) → place < length s.units → units_from s place (drop place s.units) ≡ unit_events s (record { 0 = place }) ++ units_from s (place + 1) (drop (place + 1) s.units)
+units_now s place within = ap (λ (us : List DeviceUnit). units_from s place us) (drop_more s.units place no_unit within)
 
 pub procs_step : (s : State) (place : ℕ) → place < length s.procs → drop place s.procs ≡ process_at s (pid (place + 1)) ∷ drop (place + 1) s.procs
 procs_step s place within =
@@ -179,34 +250,46 @@ pub pick_there : (x : ℕ) (es : List Event) → 0 < length es → slice_get es 
 pick_there x [] some = absurd (omega arith)
 pick_there x (e ∷ es) some = get_some (e ∷ es) (picked (next_seed x) (length (e ∷ es))) e (omega arith)
 
--- One process further, counting events, and looking for the one at a place.
+-- One process or unit further, counting events, and looking for the one at a place.
 
-pub count_step : (s : State) (place count n all : ℕ) → place < length s.procs → n ≡ length (process_events s (pid (place + 1))) → count + length (processes_from s (place + 1) (drop place s.procs)) ≡ all → count + n + length (processes_from s (place + 1 + 1) (drop (place + 1) s.procs)) ≡ all
-count_step s place count n all within is so_far =
-    let here = process_events s (pid (place + 1)) in
-    let rest = processes_from s (place + 1 + 1) (drop (place + 1) s.procs) in
-    let split : length (processes_from s (place + 1) (drop place s.procs)) ≡ length (here ++ rest) = ap (λ (prs : List Process). length (processes_from s (place + 1) prs)) (drop_more s.procs place nobody within) in
-    omega (arith, split, length-append here rest, is, so_far)
+pub count_step : (now here later : List Event) (count n all : ℕ) → now ≡ here ++ later → n ≡ length here → count + length now ≡ all → count + n + length later ≡ all
+count_step now here later count n all split is so_far = omega (arith, ap (λ (es : List Event). length es) split, length-append here later, is, so_far)
 
 past_first : (e : Event) (es : List Event) (left after : ℕ) (found : Option Event) → ¬ (left ≡ 0) → after ≡ left - 1 → slice_get (e ∷ es) left ≡ found → slice_get es after ≡ found
 past_first e es zero after found other is at = absurd (other refl)
 past_first e es (suc n) after found other is at = let same : after ≡ n = omega arith in rw same at
 
--- the events of the processes from one on, with others behind
-abbrev pub later_events : State → ℕ → List Event → List Event
-later_events s place ys = processes_from s (place + 1) (drop place s.procs) ++ ys
+-- the events of the processes, or of the units, from one on, with others behind
 
-pub some_step : (s : State) (ys : List Event) (place left after : ℕ) (event : Event) (found : Option Event) → place < length s.procs → option_to_list (Some event) ≡ process_events s (pid (place + 1)) → ¬ (left ≡ 0) → after ≡ left - 1 → slice_get (later_events s place ys) left ≡ found → slice_get (later_events s (place + 1) ys) after ≡ found
-some_step s ys place left after event found within is other one so_far =
-    past_first event (later_events s (place + 1) ys) left after found other one (ap (λ (es : List Event). slice_get (es ++ ys) left) (sym (events_step s place (Some event) within is)) ∙ so_far)
+abbrev pub later_processes : State → ℕ → List Event → List Event
+later_processes s place ys = processes_from s (place + 1) (drop place s.procs) ++ ys
 
-pub some_here : (s : State) (ys : List Event) (place left : ℕ) (event : Event) (found : Option Event) → place < length s.procs → option_to_list (Some event) ≡ process_events s (pid (place + 1)) → left ≡ 0 → slice_get (later_events s place ys) left ≡ found → Some event ≡ found
-some_here s ys place left event found within is none so_far =
-    ap (λ (n : ℕ). slice_get (event ∷ later_events s (place + 1) ys) n) (sym none) ∙ (ap (λ (es : List Event). slice_get (es ++ ys) left) (sym (events_step s place (Some event) within is)) ∙ so_far)
+abbrev pub later_units : State → ℕ → List Event → List Event
+later_units s place ys = units_from s place (drop place s.units) ++ ys
 
-pub none_step : (s : State) (ys : List Event) (place left after : ℕ) (found : Option Event) → place < length s.procs → option_to_list None ≡ process_events s (pid (place + 1)) → after ≡ left → slice_get (later_events s place ys) left ≡ found → slice_get (later_events s (place + 1) ys) after ≡ found
-none_step s ys place left after found within is same so_far =
-    rw same (ap (λ (es : List Event). slice_get (es ++ ys) left) (sym (events_step s place None within is)) ∙ so_far)
+with_others : (now rest own here ys : List Event) → now ≡ own ++ rest → here ≡ own → now ++ ys ≡ (here ++ rest) ++ ys
+with_others now rest own here ys split is = ap (λ (es : List Event). es ++ ys) (split ∙ ap (λ (es : List Event). es ++ rest) (sym is))
+
+pub some_process : (s : State) (ys : List Event) (place : ℕ) (e : Event) → place < length s.procs → option_to_list (Some e) ≡ process_events s (pid (place + 1)) → later_processes s place ys ≡ e ∷ later_processes s (place + 1) ys
+some_process s ys place e within is = with_others _ _ _ (e ∷ []) ys (processes_now s place within) is
+
+pub no_process : (s : State) (ys : List Event) (place : ℕ) → place < length s.procs → option_to_list None ≡ process_events s (pid (place + 1)) → later_processes s place ys ≡ later_processes s (place + 1) ys
+no_process s ys place within is = with_others _ _ _ [] ys (processes_now s place within) is
+
+pub some_unit : (s : State) (ys : List Event) (place : ℕ) (e : Event) → place < length s.units → option_to_list (Some e) ≡ unit_events s (record { 0 = place }) → later_units s place ys ≡ e ∷ later_units s (place + 1) ys
+some_unit s ys place e within is = with_others _ _ _ (e ∷ []) ys (units_now s place within) is
+
+pub no_unit_event : (s : State) (ys : List Event) (place : ℕ) → place < length s.units → option_to_list None ≡ unit_events s (record { 0 = place }) → later_units s place ys ≡ later_units s (place + 1) ys
+no_unit_event s ys place within is = with_others _ _ _ [] ys (units_now s place within) is
+
+pub some_step : (now later : List Event) (left after : ℕ) (e : Event) (found : Option Event) → now ≡ e ∷ later → ¬ (left ≡ 0) → after ≡ left - 1 → slice_get now left ≡ found → slice_get later after ≡ found
+some_step now later left after e found is other one so_far = past_first e later left after found other one (ap (λ (es : List Event). slice_get es left) (sym is) ∙ so_far)
+
+pub some_here : (now later : List Event) (left : ℕ) (e : Event) (found : Option Event) → now ≡ e ∷ later → left ≡ 0 → slice_get now left ≡ found → Some e ≡ found
+some_here now later left e found is none so_far = ap (λ (n : ℕ). slice_get (e ∷ later) n) (sym none) ∙ (ap (λ (es : List Event). slice_get es left) (sym is) ∙ so_far)
+
+pub none_step : (now later : List Event) (left after : ℕ) (found : Option Event) → now ≡ later → after ≡ left → slice_get now left ≡ found → slice_get later after ≡ found
+none_step now later left after found is same so_far = rw same (ap (λ (es : List Event). slice_get es left) (sym is) ∙ so_far)
 
 drop_end : {A : Type 0} (xs : List A) (n : ℕ) → length xs ≤ n → drop n xs ≡ []
 drop_end [] zero few = refl
@@ -214,5 +297,12 @@ drop_end [] (suc n) few = refl
 drop_end (x ∷ xs) zero few = absurd (omega (arith, few))
 drop_end (x ∷ xs) (suc n) few = drop_end xs n (omega (arith, few))
 
-pub none_later : (s : State) (ys : List Event) (place left : ℕ) (found : Option Event) → length s.procs ≤ place → slice_get (later_events s place ys) left ≡ found → slice_get ys left ≡ found
-none_later s ys place left found past so_far = ap (λ (prs : List Process). slice_get (processes_from s (place + 1) prs ++ ys) left) (sym (drop_end s.procs place past)) ∙ so_far
+pub past_processes : (s : State) (ys : List Event) (place left : ℕ) (found : Option Event) → length s.procs ≤ place → slice_get (later_processes s place ys) left ≡ found → slice_get ys left ≡ found
+past_processes s ys place left found past so_far = ap (λ (prs : List Process). slice_get (processes_from s (place + 1) prs ++ ys) left) (sym (drop_end s.procs place past)) ∙ so_far
+
+pub past_units : (s : State) (ys : List Event) (place left : ℕ) (found : Option Event) → length s.units ≤ place → slice_get (later_units s place ys) left ≡ found → slice_get ys left ≡ found
+past_units s ys place left found past so_far = ap (λ (us : List DeviceUnit). slice_get (units_from s place us ++ ys) left) (sym (drop_end s.units place past)) ∙ so_far
+
+-- there are 32 units at most
+pub few_units : (s : State) → IsWhole s → length s.units ≤ 32
+few_units s whole = omega (arith, whole.sound.units, leb-true (length s.system.units) 32 whole.formed.few_units)

@@ -11,7 +11,7 @@ use Rattle.vx_record.specs.Parts.{each}
 use Rattle.vx_record.specs.Timers.{at_time, fire, fired, fire_timer, is_due, next_time, que_timer, tick}
 use Rattle.vx_record.proofs.Lists.{either}
 
-few_flags : (s : State) (o : Option Cell) → length (flag_where_named s o true).effects ≤ 1
+pub few_flags : (s : State) (o : Option Cell) → length (flag_where_named s o true).effects ≤ 1
 few_flags s None = omega arith
 few_flags s (Some c) = omega arith
 

@@ -17,13 +17,13 @@ use Rattle.vx_record.proofs.Lists.{either}
 use Rattle.vx_exec.proofs.Few.{few_ticked}
 use Rattle.vx_exec.proofs.Goes.{Goes, Stays, goes_stays, stays_changed, stays_common, stays_still, stays_then}
 
-flag_stays : (s : State) (o : Option Cell) → Stays s (flag_where_named s o true).after
+pub flag_stays : (s : State) (o : Option Cell) → Stays s (flag_where_named s o true).after
 flag_stays s None = stays_still s
 flag_stays s (Some (Local q n)) = stays_changed s q (with_local_flag n true)
 flag_stays s (Some (Common g name n)) = stays_common s _
 
 timers_stay : (s : State) (ts : List Timer) → Stays s (record s { timers = ts })
-timers_stay s ts = record { procs = refl; next = refl }
+timers_stay s ts = record { procs = refl; next = refl; units = refl }
 
 ast_stays : (s : State) (t : Timer) (mode : Mode) (o : Option Entry) → Stays s (que_timer s t mode o).after
 ast_stays s t mode None = stays_still s
@@ -48,5 +48,5 @@ pub tick_goes : (s : State) → Goes (3 * length s.timers) s (tick s).after (tic
 tick_goes s =
     let now = next_time s in
     let t = at_time s now in
-    let on : Stays s t = record { procs = refl; next = refl } in
+    let on : Stays s t = record { procs = refl; next = refl; units = refl } in
     goes_stays (3 * length s.timers) s (tick s).after (tick s).effects (stays_then s t _ on (each_stays (filter (is_due now) s.timers) t)) (few_ticked s)

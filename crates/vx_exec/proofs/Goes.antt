@@ -1,15 +1,15 @@
 -- What events of a process do to the state: how many processes there are then, how many ids they open, and how much they tell.
-use Rattle.std.proofs.Common.{◌≡◌, ℕ, ◌≢◌, ◌<◌, ◌++◌, is_some, ◌+◌, ◌-◌, ◌%◌, ◌^◌, ◌≤◌, List, [], ◌∷◌, Bool, true, false, not, ◌==◌, length, length-set, length-append, IsTrue, Option, Some, None, Result, Ok, Err, refl, ap, ◌∙◌, arith, nat_le, nat_lt, subst}
-use Rattle.std.specs.List.{filter}
+use Rattle.std.proofs.Common.{◌≡◌, ℕ, ◌≢◌, ◌<◌, ◌++◌, is_some, ◌+◌, ◌-◌, ◌%◌, ◌^◌, ◌≤◌, List, [], ◌∷◌, Bool, true, false, not, ◌==◌, length, length-set, length-append, IsTrue, Option, Some, None, Result, Ok, Err, refl, ap, ◌∙◌, ◌*◌, arith, nat_le, nat_lt, slice_index_or, subst}
+use Rattle.std.specs.List.{filter, find}
 use Rattle.std.proofs.lemmas.Bool.{leb-false}
 use Rattle.vx_base.specs.Clusters.{Common as CommonClusters, Change}
-use Rattle.vx_base.specs.Pieces.{Queued, Timer}
+use Rattle.vx_base.specs.Pieces.{DeviceUnit, Handler, Queued, Timer}
 use Rattle.vx_base.specs.declared.call.Args.{Args}
 use Rattle.vx_base.specs.declared.call.Call.{Call}
 use Rattle.vx_base.specs.declared.call.Target.{Target}
 use Rattle.vx_base.specs.declared.call.Target.TheVariants as target
 use Rattle.vx_base.specs.declared.cond.Cond.{Cond}
-use Rattle.vx_base.specs.declared.cond.Cond.TheVariants.{Normal, ExQuota, NoSlot}
+use Rattle.vx_base.specs.declared.cond.Cond.TheVariants.{Normal, ExQuota, IvSsRq, NoSlot}
 use Rattle.vx_base.specs.declared.effects.Cell.{Cell}
 use Rattle.vx_base.specs.declared.effects.Cell.TheVariants.{Local, Common}
 use Rattle.vx_base.specs.declared.effects.Effect.{Effect}
@@ -23,22 +23,23 @@ use Rattle.vx_base.specs.declared.frame.Wait.TheVariants as wait
 use Rattle.vx_base.specs.declared.mode.Mode.{Mode}
 use Rattle.vx_base.specs.declared.mode.Mode.TheVariants.{Kernel, Exec}
 use Rattle.vx_base.specs.declared.number.Pid.{Pid}
+use Rattle.vx_base.specs.declared.number.UnitNo.{UnitNo}
 use Rattle.vx_base.specs.declared.routine.Entry.{Entry}
 use Rattle.vx_base.specs.declared.routine.Entry.TheVariants as entry
 use Rattle.vx_base.specs.declared.service.Service.{Service}
-use Rattle.vx_base.specs.declared.service.Service.TheVariants.{SetEf, ClrEf, ReadEf, WaitFr, WflOr, WflAnd, DclAst, SetAst, CmExec, CmKrnl, SetImr, Hiber, Wake, Suspnd, Resume, ForceX, CrePrc, Exit, GetTim, AscEfc, DacEfc, DlcEfc, CanTim, SchdWk, CanWak}
-use Rattle.vx_base.specs.Modes.{inner, outer}
+use Rattle.vx_base.specs.declared.service.Service.TheVariants.{SetEf, ClrEf, ReadEf, WaitFr, WflOr, WflAnd, DclAst, SetAst, CmExec, CmKrnl, SetImr, Hiber, Wake, Suspnd, Resume, ForceX, CrePrc, Exit, GetTim, AscEfc, DacEfc, DlcEfc, CanTim, SchdWk, CanWak, DclExh, CanExh}
+use Rattle.vx_base.specs.Modes.{inner, is_kernel, outer}
 use Rattle.vx_image.specs.Local.{advanced}
 use Rattle.vx_image.specs.declared.stop.Stop.{Stop}
 use Rattle.vx_image.specs.declared.stop.Stop.TheVariants as stop
-use Rattle.vx_record.specs.State.{Process, State, IsProcess, process_at, change, image_of, current, next_id, past_id, with_top}
+use Rattle.vx_record.specs.State.{Process, State, IsProcess, process_at, change, image_of, current, next_id, no_unit, past_id, unit_at, with_top}
 use Rattle.vx_record.specs.Parts.{Outcome, Part, answered, at_tested, nothing, refused, part_of, commonly, each}
 use Rattle.vx_record.specs.Asts.{charged_ast, declared_ast, with_delivery, with_frame, with_queued, new_frame, open_part}
 use Rattle.vx_record.specs.Charges.{exceeds, ast_need, timer_need}
 use Rattle.vx_record.specs.Control.{changed_process, created, creprc, exit_ast, forced, new_part, next_pid, process_test, with_suspension, with_wake}
 use Rattle.vx_record.specs.Events.{below_top, delivered, moved_behind, moved_to, or_normal, put_back, r0_of, reader, resumed_with, returned, returned_from, run, run_frame, run_on, served_call, started}
 use Rattle.vx_record.specs.Flags.{at_flag, at_named, awaited_at, cell, flag_part, put_flag_at, readef, readef_at, refused_value, refused_wait, wait_condition, waits_on, with_local_flag, with_wait}
-use Rattle.vx_record.specs.Rundown.{exited, without_ast, without_frames}
+use Rattle.vx_record.specs.Rundown.{cancel_found, cancel_handlers, canexh, dclexh, drop_handler, drop_handlers, exited, handler_declared, is_handler_of, is_handler_with, new_handler, with_handler, without_ast, without_frames, without_handler}
 use Rattle.vx_record.specs.Services.{decl_place, number, numbered_at, place, routine, routine_or_none, access_mode, service, service_of, text, valued_at, with_number, with_variable}
 use Rattle.vx_record.specs.declared.served.Served.{Served}
 use Rattle.vx_record.specs.declared.served.Served.TheVariants.{Answered, Waits}
@@ -53,40 +54,47 @@ use Rattle.vx_ctl.proofs.Common.{associates, dissociates, marks}
 use Rattle.vx_exec.proofs.Few.{filter_few}
 use Rattle.vx_exec.proofs.Calls.{IsBuiltStop, advanced_built}
 
--- from s to t: no process comes or goes, and no id is opened
+-- from s to t: no process comes or goes, no id is opened, and units stay as they are
 pub record Stays (s t : State) : Type 0 where
   pub procs : length t.procs ≡ length s.procs
   pub next : t.next ≡ s.next
+  pub units : t.units ≡ s.units
 
--- no process goes, and there are 1,000 at most; at most one id is opened; and so many effects are told at most
+-- no process goes, and there are 1,000 at most; at most one id is opened; no unit makes more than one service; and so many effects are
+-- told at most
 pub record Goes (bound : ℕ) (s t : State) (told : List Effect) : Type 0 where
   pub grows : length s.procs ≤ length t.procs
   pub within : length s.procs ≤ 1000 → length t.procs ≤ 1000
   pub later : s.next ≤ t.next
   pub soon : t.next ≤ s.next + 1
+  pub services : (u : UnitNo) → (unit_at t u).services ≤ (unit_at s u).services + 1
   pub few : length told ≤ bound
 
 -- how much a process tells at most where it runs
 abbrev pub run_most : State → Pid → ℕ
-run_most s p = length (process_at s p).frames + length s.timers + 4
+run_most s p = length (process_at s p).frames + length s.timers + length (process_at s p).handlers + 6 * length s.requests + 4
 
 abbrev pub GoesBy : {A : Type 0} → Pid → State → Outcome A → Type 0
 GoesBy p s o = Goes (run_most s p) s o.after o.effects
 
 pub stays_still : (s : State) → Stays s s
-stays_still s = record { procs = refl; next = refl }
+stays_still s = record { procs = refl; next = refl; units = refl }
 
 pub stays_then : (s t u : State) → Stays s t → Stays t u → Stays s u
-stays_then s t u a b = record { procs = b.procs ∙ a.procs; next = b.next ∙ a.next }
+stays_then s t u a b = record { procs = b.procs ∙ a.procs; next = b.next ∙ a.next; units = b.units ∙ a.units }
 
 pub stays_changed : (s : State) (q : Pid) (f : Process → Process) → Stays s (change s q f)
-stays_changed s q f = record { procs = length-set s.procs (q.0 - 1) (f (process_at s q)); next = refl }
+stays_changed s q f = record { procs = length-set s.procs (q.0 - 1) (f (process_at s q)); next = refl; units = refl }
 
 pub made_stays : (p : Pid) (s t : State) → Stays s t → IsProcess s p → IsProcess t p
 made_stays p s t k made = record { above = made.above; within = omega (arith, made.within, k.procs) }
 
+-- units that are the same have made as many services
+pub same_services : (s t : State) → t.units ≡ s.units → (u : UnitNo) → (unit_at t u).services ≤ (unit_at s u).services + 1
+same_services s t same u = let count = ap (λ (us : List DeviceUnit). (slice_index_or us u.0 no_unit).services) same in omega (arith, count)
+
 pub goes_stays : (bound : ℕ) (s t : State) (told : List Effect) → Stays s t → length told ≤ bound → Goes bound s t told
-goes_stays bound s t told k few = record { grows = omega (arith, k.procs); within = λ h. omega (arith, k.procs, h); later = omega (arith, k.next); soon = omega (arith, k.next); few = few }
+goes_stays bound s t told k few = record { grows = omega (arith, k.procs); within = λ h. omega (arith, k.procs, h); later = omega (arith, k.next); soon = omega (arith, k.next); services = same_services s t k.units; few = few }
 
 pub goes_still : (p : Pid) (s : State) → Goes (run_most s p) s s []
 goes_still p s = goes_stays (run_most s p) s s [] (stays_still s) (omega arith)
@@ -95,8 +103,8 @@ pub goes_changed : (p q : Pid) (s : State) (f : Process → Process) (told : Lis
 goes_changed p q s f told few = goes_stays (run_most s p) s (change s q f) told (stays_changed s q f) few
 
 -- with one id opened
-goes_opened : (bound : ℕ) (s t : State) (told : List Effect) → length t.procs ≡ length s.procs → t.next ≡ s.next + 1 → length told ≤ bound → Goes bound s t told
-goes_opened bound s t told procs next few = record { grows = omega (arith, procs); within = λ h. omega (arith, procs, h); later = omega (arith, next); soon = omega (arith, next); few = few }
+goes_opened : (bound : ℕ) (s t : State) (told : List Effect) → length t.procs ≡ length s.procs → t.next ≡ s.next + 1 → t.units ≡ s.units → length told ≤ bound → Goes bound s t told
+goes_opened bound s t told procs next units few = record { grows = omega (arith, procs); within = λ h. omega (arith, procs, h); later = omega (arith, next); soon = omega (arith, next); services = same_services s t units; few = few }
 
 -- after a beginning that tells nothing, and leaves no more to tell
 pub goes_after : (p : Pid) (s t u : State) (told : List Effect) → Stays s t → run_most t p ≤ run_most s p → Goes (run_most t p) t u told → Goes (run_most s p) s u told
@@ -105,6 +113,7 @@ goes_after p s t u told a most b = record {
   within = λ h. b.within (omega (arith, a.procs, h));
   later = omega (arith, a.next, b.later);
   soon = omega (arith, a.next, b.soon);
+  services = λ n. let count = ap (λ (us : List DeviceUnit). (slice_index_or us n.0 no_unit).services) a.units in let more = b.services n in omega (arith, count, more);
   few = omega (arith, most, b.few);
 }
 
@@ -112,7 +121,7 @@ goes_after p s t u told a most b = record {
 goes_on : (bound : ℕ) (q : Pid) (s t : State) (f : Process → Process) (told : List Effect) → Goes bound s t told → Goes bound s (change t q f) told
 goes_on bound q s t f told b =
     let same = length-set t.procs (q.0 - 1) (f (process_at t q)) in
-    record { grows = omega (arith, same, b.grows); within = λ h. let few = b.within h in omega (arith, same, few); later = b.later; soon = b.soon; few = b.few }
+    record { grows = omega (arith, same, b.grows); within = λ h. let few = b.within h in omega (arith, same, few); later = b.later; soon = b.soon; services = b.services; few = b.few }
 
 -- Services.
 
@@ -120,11 +129,11 @@ named_goes : {A : Type 0} (p : Pid) (s : State) (refuse : Cond → Outcome A) (g
 named_goes p s refuse go None r g = r _
 named_goes p s refuse go (Some c) r g = g c
 
-flag_goes : {A : Type 0} (p : Pid) (s : State) (efn : ℕ) (refuse : Cond → Outcome A) (go : Cell → Outcome A) → ((c : Cond) → GoesBy p s (refuse c)) → ((c : Cell) → GoesBy p s (go c)) → GoesBy p s (at_flag s p efn refuse go)
+pub flag_goes : {A : Type 0} (p : Pid) (s : State) (efn : ℕ) (refuse : Cond → Outcome A) (go : Cell → Outcome A) → ((c : Cond) → GoesBy p s (refuse c)) → ((c : Cell) → GoesBy p s (go c)) → GoesBy p s (at_flag s p efn refuse go)
 flag_goes p s efn refuse go r g = either (λ (o : Outcome _). GoesBy p s o) (nat_lt 127 efn) _ _ (r _) (named_goes p s refuse go (cell s p efn) r g)
 
 pub stays_common : (s : State) (c : CommonClusters) → Stays s (record s { common = c })
-stays_common s c = record { procs = refl; next = refl }
+stays_common s c = record { procs = refl; next = refl; units = refl }
 
 -- common clusters are changed
 common_goes : (p : Pid) (s : State) (c : Change) → length c.effects ≤ 4 → Goes (run_most s p) s (commonly s c).after c.effects
@@ -169,13 +178,13 @@ exited_goes p s code told few = rw (exited_after s p code) (goes_changed p p s (
 declared_goes : (p : Pid) (s : State) (mode : Mode) (tag : Entry) → Goes (run_most s p) s (declared_ast s p mode tag).after (declared_ast s p mode tag).effects
 declared_goes p s mode tag =
     let q = charged_ast (next_id s) mode tag in
-    goes_opened (run_most s p) s (declared_ast s p mode tag).after (declared_ast s p mode tag).effects (length-set s.procs (p.0 - 1) (with_queued q (process_at s p))) refl (omega arith)
+    goes_opened (run_most s p) s (declared_ast s p mode tag).after (declared_ast s p mode tag).effects (length-set s.procs (p.0 - 1) (with_queued q (process_at s p))) refl refl (omega arith)
 
 -- a flag is cleared, and a timer is set
 timer_goes : (p : Pid) (s a : State) (efn delta : ℕ) (tag : Option Entry) (reqid : ℕ) (told : List Effect) → Stays s a → length told ≤ 1 → Goes (run_most s p) s (open_timer a p efn delta tag reqid).after (told ++ (open_timer a p efn delta tag reqid).effects)
 timer_goes p s a efn delta tag reqid told k few =
     let part = open_timer a p efn delta tag reqid in
-    goes_opened (run_most s p) s part.after (told ++ part.effects) k.procs (omega (arith, k.next)) (omega (arith, few, length-append told part.effects))
+    goes_opened (run_most s p) s part.after (told ++ part.effects) k.procs (omega (arith, k.next)) k.units (omega (arith, few, length-append told part.effects))
 
 set_goes : (p : Pid) (s : State) (efn delta : ℕ) (tag : Option Entry) (reqid : ℕ) (c : Cell) → GoesBy p s (setimr_at s p efn delta tag reqid c)
 set_goes p s efn delta tag reqid (Local q n) =
@@ -186,7 +195,7 @@ set_goes p s efn delta tag reqid (Common g name n) =
     (timer_goes p s (flag_part s (Common g name n) false).after efn delta tag reqid (effect.Flag (Common g name n) false ∷ []) (stays_common s _) (omega arith))
 
 -- a wait goes into the top frame, where it is not satisfied
-awaited_goes : (p : Pid) (s : State) (w : Wait) (o : Option Cond) → GoesBy p s (awaited_at s p w o)
+pub awaited_goes : (p : Pid) (s : State) (w : Wait) (o : Option Cond) → GoesBy p s (awaited_at s p w o)
 awaited_goes p s w None = goes_changed p p s (with_wait (Some w)) [] (omega arith)
 awaited_goes p s w (Some c) = goes_still p s
 
@@ -195,7 +204,7 @@ masked_goes : (p : Pid) (s : State) (efn mask : ℕ) (all : Bool) → GoesBy p s
 masked_goes p s efn mask all = let w = wait.Flags efn mask all in flag_goes p s efn (refused_wait s) (waits_on s p w) (λ c. goes_still p s) (λ c. awaited_goes p s w (wait_condition s p w))
 
 -- what is done to a process that a test found
-tested_goes : (p : Pid) (s : State) (go : Pid → Outcome Cond) (r : Result Pid Cond) → ((q : Pid) → GoesBy p s (go q)) → GoesBy p s (at_tested s go r)
+pub tested_goes : (p : Pid) (s : State) (go : Pid → Outcome Cond) (r : Result Pid Cond) → ((q : Pid) → GoesBy p s (go q)) → GoesBy p s (at_tested s go r)
 tested_goes p s go (Ok q) g = g q
 tested_goes p s go (Err c) g = goes_still p s
 
@@ -207,28 +216,28 @@ control_goes p s f r = tested_goes p s (changed_process s f) r (λ q. goes_chang
 forced_goes : (p : Pid) (s : State) (code : ℕ) (q : Pid) → GoesBy p s (forced s code q)
 forced_goes p s code q =
     let ast = exit_ast (next_id s) code in
-    goes_opened (run_most s p) s (forced s code q).after (forced s code q).effects (length-set s.procs (q.0 - 1) (with_queued ast (process_at s q))) refl (omega arith)
+    goes_opened (run_most s p) s (forced s code q).after (forced s code q).effects (length-set s.procs (q.0 - 1) (with_queued ast (process_at s q))) refl refl (omega arith)
 
 -- a variable takes the number of a new process
-numbered_goes : (p : Pid) (s : State) (t : Target) (part : Part) (r : Result ℕ Cond) → length s.procs ≤ length part.after.procs → (length s.procs ≤ 1000 → length part.after.procs ≤ 1000) → part.after.next ≡ s.next → length part.effects ≤ 1 → GoesBy p s (numbered_at p t part r)
-numbered_goes p s t part (Ok n) grows within next few =
+pub numbered_goes : (p : Pid) (s : State) (t : Target) (part : Part) (r : Result ℕ Cond) → length s.procs ≤ length part.after.procs → (length s.procs ≤ 1000 → length part.after.procs ≤ 1000) → part.after.next ≡ s.next → part.after.units ≡ s.units → length part.effects ≤ 1 → GoesBy p s (numbered_at p t part r)
+numbered_goes p s t part (Ok n) grows within next units few =
     goes_on (run_most s p) p s part.after (with_variable t n) (part.effects ++ effect.Var p t n ∷ [])
-    (record { grows = grows; within = within; later = omega (arith, next); soon = omega (arith, next); few = omega (arith, few, length-append part.effects (effect.Var p t n ∷ [])) })
-numbered_goes p s t part (Err c) grows within next few = record { grows = grows; within = within; later = omega (arith, next); soon = omega (arith, next); few = omega (arith, few) }
+    (record { grows = grows; within = within; later = omega (arith, next); soon = omega (arith, next); services = same_services s part.after units; few = omega (arith, few, length-append part.effects (effect.Var p t n ∷ [])) })
+numbered_goes p s t part (Err c) grows within next units few = record { grows = grows; within = within; later = omega (arith, next); soon = omega (arith, next); services = same_services s part.after units; few = omega (arith, few) }
 
 -- a process is made, where there are fewer than 1,000
 created_goes : (p : Pid) (s : State) (t : Target) (place : ℕ) → GoesBy p s (with_number p t (creprc s p place))
 created_goes p s t place =
     let more = length-append s.procs (created s p place ∷ []) in
     either_by (λ (o : Outcome (Result ℕ Cond)). GoesBy p s (with_number p t o)) (nat_le 1000 (length s.procs)) (answered (Err NoSlot) (nothing s)) (answered (Ok (next_pid s).0) (new_part s p place))
-    (λ many. numbered_goes p s t (nothing s) (Err NoSlot) (omega arith) (λ h. h) refl (omega arith))
-    (λ few. numbered_goes p s t (new_part s p place) (Ok (next_pid s).0) (omega (arith, more)) (λ h. omega (arith, more, leb-false 1000 (length s.procs) few)) refl (omega arith))
+    (λ many. numbered_goes p s t (nothing s) (Err NoSlot) (omega arith) (λ h. h) refl refl (omega arith))
+    (λ few. numbered_goes p s t (new_part s p place) (Ok (next_pid s).0) (omega (arith, more)) (λ h. omega (arith, more, leb-false 1000 (length s.procs) few)) refl refl (omega arith))
 
 -- timers and wakes end
 
 drops_stay : (ts : List Timer) (s : State) → Stays s (each drop_timer ts s).after
 drops_stay [] s = stays_still s
-drops_stay (t ∷ ts) s = let u = (drop_timer s t).after in stays_then s u _ (record { procs = refl; next = refl }) (drops_stay ts u)
+drops_stay (t ∷ ts) s = let u = (drop_timer s t).after in stays_then s u _ (record { procs = refl; next = refl; units = refl }) (drops_stay ts u)
 
 drops_few : (ts : List Timer) (s : State) → length (each drop_timer ts s).effects ≤ length ts
 drops_few [] s = omega arith
@@ -246,7 +255,39 @@ scheduled_goes : (p : Pid) (s : State) (delta repeat : ℕ) (q : Pid) → GoesBy
 scheduled_goes p s delta repeat q =
     let part = open_part s opened.Wake p None repeat (with_timer (past_id s) (new_wake s p q delta repeat)) in
     either (λ (o : Outcome Cond). GoesBy p s o) (exceeds s p (ast_need true)) (refused s ExQuota) (answered Normal part) (goes_still p s)
-    (goes_opened (run_most s p) s part.after part.effects refl refl (omega arith))
+    (goes_opened (run_most s p) s part.after part.effects refl refl refl (omega arith))
+
+-- an exit handler is declared, and some are cancelled
+
+handler_goes : (p : Pid) (s : State) (tag : Entry) → GoesBy p s (dclexh s p tag)
+handler_goes p s tag =
+    let part = handler_declared s p tag in
+    either (λ (o : Outcome Cond). GoesBy p s o) (is_kernel (current s p)) (refused s IvSsRq) (answered Normal part) (goes_still p s)
+    (goes_opened (run_most s p) s part.after part.effects (length-set s.procs (p.0 - 1) (with_handler (new_handler s p tag) (process_at s p))) refl refl (omega arith))
+
+handlers_stay : (p : Pid) (hs : List Handler) (s : State) → Stays s (each (drop_handler p) hs s).after
+handlers_stay p [] s = stays_still s
+handlers_stay p (h ∷ hs) s = let u = (drop_handler p s h).after in stays_then s u _ (stays_changed s p (without_handler h.id)) (handlers_stay p hs u)
+
+handlers_few : (p : Pid) (hs : List Handler) (s : State) → length (each (drop_handler p) hs s).effects ≤ length hs
+handlers_few p [] s = omega arith
+handlers_few p (h ∷ hs) s = let rest = handlers_few p hs (drop_handler p s h).after in omega (arith, rest)
+
+found_goes : (p : Pid) (s : State) (o : Option Handler) → GoesBy p s (cancel_found s p o)
+found_goes p s None = goes_still p s
+found_goes p s (Some h) = goes_changed p p s (without_handler h.id) (effect.Drop h.id ∷ []) (omega arith)
+
+cancelled_goes : (p : Pid) (s : State) (tag : Option Entry) → GoesBy p s (cancel_handlers s p tag)
+cancelled_goes p s None =
+    let test = is_handler_of (current s p) in
+    let hs = filter test (process_at s p).handlers in
+    let few = handlers_few p hs s in
+    let fewer = filter_few test (process_at s p).handlers in
+    goes_stays (run_most s p) s (drop_handlers s p test).after (drop_handlers s p test).effects (handlers_stay p hs s) (omega (arith, few, fewer))
+cancelled_goes p s (Some tag) = found_goes p s (find (is_handler_with (current s p) tag) (process_at s p).handlers)
+
+canexh_goes : (p : Pid) (s : State) (tag : Option Entry) → GoesBy p s (canexh s p tag)
+canexh_goes p s tag = either (λ (o : Outcome Cond). GoesBy p s o) (is_kernel (current s p)) (refused s IvSsRq) (cancel_handlers s p tag) (goes_still p s) (cancelled_goes p s tag)
 
 service_goes : (p : Pid) (s : State) (a : Args) (v : Service) → is_built_service v ≡ true → GoesBy p s (service_of s p a v)
 service_goes p s a SetEf built = flag_goes p s (number a.a0) (refused s) (put_flag_at s true) (λ c. goes_still p s) (put_goes p s true)
@@ -300,6 +341,8 @@ service_goes p s a ForceX built = tested_goes p s (forced s (number a.a1)) (proc
 service_goes p s a CrePrc built = created_goes p s (place a.a0) (decl_place s (text a.a1))
 service_goes p s a Exit built =
     let few = exited_few s p (number a.a0) in exited_goes p s (number a.a0) (exited s p (number a.a0)).effects (omega (arith, few))
+service_goes p s a DclExh built = handler_goes p s (routine s p a.a0 0)
+service_goes p s a CanExh built = canexh_goes p s (routine_or_none s p a.a0 0)
 service_goes p s a _ built = absurd (cc)
 
 pub call_goes : (p : Pid) (s : State) (c : Call) → is_built_service c.service ≡ true → GoesBy p s (service s p c)
@@ -325,13 +368,13 @@ pub top_few : (f : Frame → Frame) (fs : List Frame) → length (with_top f fs)
 top_few f [] = omega arith
 top_few f (x ∷ xs) = omega arith
 
-top_most : (p : Pid) (s : State) (f : Process → Process) → IsProcess s p → length (f (process_at s p)).frames ≤ length (process_at s p).frames → run_most (change s p f) p ≤ run_most s p
-top_most p s f made few = omega (arith, few, ap (λ (pr : Process). length pr.frames) (process_there s p f made))
+top_most : (p : Pid) (s : State) (f : Process → Process) → IsProcess s p → length (f (process_at s p)).frames ≤ length (process_at s p).frames → length (f (process_at s p)).handlers ≤ length (process_at s p).handlers → run_most (change s p f) p ≤ run_most s p
+top_most p s f made few handlers = let at = process_there s p f made in omega (arith, few, handlers, ap (λ (pr : Process). length pr.frames) at, ap (λ (pr : Process). length pr.handlers) at)
 
 run_on_goes : (p : Pid) (s t : State) (n : ℕ) (x : Stop) → IsBuiltStop (image_of s p) n x → IsProcess t p → GoesBy p t (run_on t p n x)
 run_on_goes p s t n (stop.Call c) built made =
     let u = change t p (moved_behind n) in
-    goes_after p t u _ _ (stays_changed t p (moved_behind n)) (top_most p t (moved_behind n) made (top_few _ (process_at t p).frames)) (served_goes p u c (service u p c) (service u p c).answer (call_goes p u c built.0))
+    goes_after p t u _ _ (stays_changed t p (moved_behind n)) (top_most p t (moved_behind n) made (top_few _ (process_at t p).frames) (omega arith)) (served_goes p u c (service u p c) (service u p c).answer (call_goes p u c built.0))
 run_on_goes p s t n stop.Return built made = returned_goes p t (process_at t p).frames
 run_on_goes p s t n stop.End built made = returned_goes p t (process_at t p).frames
 run_on_goes p s t n stop.Local built made = goes_still p t
@@ -341,7 +384,7 @@ run_frame_goes p s f None built made =
     let a = advanced (image_of s p) (reader p f) (process_at s p).store f.pc in
     let t = change s p (moved_to a.store a.place) in
     let moved = stays_changed s p (moved_to a.store a.place) in
-    goes_after p s t _ _ moved (top_most p s (moved_to a.store a.place) made (top_few _ (process_at s p).frames)) (run_on_goes p s t a.place a.stop (advanced_built s p (reader p f) (process_at s p).store f.pc built) (made_stays p s t moved made))
+    goes_after p s t _ _ moved (top_most p s (moved_to a.store a.place) made (top_few _ (process_at s p).frames) (omega arith)) (run_on_goes p s t a.place a.stop (advanced_built s p (reader p f) (process_at s p).store f.pc built) (made_stays p s t moved made))
 run_frame_goes p s f (Some w) built made = goes_changed p p s (resumed_with w (or_normal (wait_condition s p w))) [] (omega arith)
 
 pub run_goes : (p : Pid) (s : State) (fs : List Frame) → IsTrue (is_built s.system) → IsProcess s p → GoesBy p s (run s p fs)
@@ -357,4 +400,4 @@ started_goes p s q (entry.Host prm) = goes_changed p p s (with_frame (new_frame 
 
 pub delivered_goes : (p : Pid) (s : State) (o : Option Queued) → IsProcess s p → GoesBy p s (delivered s p o)
 delivered_goes p s None made = goes_still p s
-delivered_goes p s (Some q) made = let t = change s p (without_ast q.id) in goes_after p s t _ _ (stays_changed s p (without_ast q.id)) (top_most p s (without_ast q.id) made (omega arith)) (started_goes p t q q.tag)
+delivered_goes p s (Some q) made = let t = change s p (without_ast q.id) in goes_after p s t _ _ (stays_changed s p (without_ast q.id)) (top_most p s (without_ast q.id) made (omega arith) (omega arith)) (started_goes p t q q.tag)

@@ -1,6 +1,9 @@
+pub mod Asks
 pub mod Calls
+pub mod Cancels
 pub mod Down
 pub mod Enabled
+pub mod Ends
 pub mod Few
 pub mod Fired
 pub mod Goes

@@ -1,32 +1,40 @@
 -- What an event relies on, once room was made; and what the executive keeps.
-use Rattle.std.proofs.Common.{◌≡◌, ℕ, ◌+◌, ◌^◌, ◌<◌, ◌≤◌, List, [], ◌∷◌, Bool, true, ◌&&◌, nat_lt, nat_le, length, IsTrue, None, Contains, refl, sym, subst, arith}
+use Rattle.std.proofs.Common.{◌≡◌, ℕ, ◌+◌, ◌^◌, ◌<◌, ◌≤◌, List, [], ◌∷◌, Bool, true, ◌&&◌, nat_lt, nat_le, length, map, IsTrue, IfSome, Option, Some, None, Contains, refl, ap, sym, subst, arith}
+use Rattle.std.specs.List.{AllByRecursion}
 use Rattle.std.proofs.lemmas.Bool.{and_parts, leb-true, ltb-true}
 use Rattle.std.proofs.lemmas.Bool.Decides.{nat_tests}
 use Rattle.vx_base.specs.Log.{HasRoom}
+use Rattle.vx_base.specs.Pieces.{DeviceUnit, Request}
+use Rattle.vx_base.specs.Queues.{front, in_service}
 use Rattle.vx_base.specs.declared.number.Pid.{Pid}
 use Rattle.vx_base.specs.declared.record.Event.{Event}
 use Rattle.vx_base.specs.declared.record.Event.TheVariants as event
+use Rattle.vx_image.specs.Units.{first_unit}
 use Rattle.vx_image.specs.WellFormed.{IsImage, IsWellFormed, are_limits, decl_names, is_decl, is_image}
 use Rattle.vx_image.specs.declared.decl.ProcDecl.{ProcDecl}
 use Rattle.vx_image.specs.declared.image.Image.{Image}
 use Rattle.vx_image.specs.declared.system.System.{System}
+use Rattle.vx_image.specs.declared.unit.UnitDecl.{UnitDecl}
 use Rattle.vx_record.specs.Asts.{deliverable_ast}
-use Rattle.vx_record.specs.Events.{enabled, step}
+use Rattle.vx_record.specs.Events.{beg, enabled, step}
 use Rattle.vx_record.specs.Runs.{are_deleted, born_from, born_of, end_of, end_with, first}
-use Rattle.vx_record.specs.State.{State, IsProcess, decl_of, image_of, process_at, no_image, no_decl}
+use Rattle.vx_record.specs.State.{State, IsProcess, decl_of, image_of, process_at, no_image, no_decl, no_unit}
 use Rattle.vx_record.proofs.Changes.{stands_at}
 use Rattle.vx_record.proofs.Lists.{all_at, all_get, either}
 use Rattle.vx_record.proofs.SoundCalls.{all_from_list}
 use Rattle.vx_record.proofs.SoundSteps.{first_sound, step_sound}
 use Rattle.vx_record.proofs.SystemKept.{step_keeps_system}
 use Rattle.vx_procs.specs.Kernel.{Fits, Kernel}
-use Rattle.vx_procs.specs.Ready.{HasNewcomer, HasSpares, IsBare}
+use Rattle.vx_procs.specs.Ready.{HasHandlerRoom}
+use Rattle.vx_io.specs.Finishing.{AreRequests}
+use Rattle.vx_rundown.specs.Leaving.{IsLeaving}
 use Rattle.vx_exec.specs.Built.{is_built}
-use Rattle.vx_exec.specs.Ready.{HasOwner, IsNext, IsReadyFor, most}
+use Rattle.vx_exec.specs.Ready.{HasBegun, HasOwner, IsIdle, IsNext, IsOpen, IsReadyFor, IsRoomMade, most}
 use Rattle.vx_exec.specs.Sound.{IsGoing, IsWhole}
 use Rattle.vx_exec.proofs.Down.{rundown_goes}
 use Rattle.vx_exec.proofs.Enabled.{enabled_owned}
-use Rattle.vx_exec.proofs.Kept.{own_ids_at}
+use Rattle.vx_exec.proofs.Ends.{beg_goes, don_goes}
+use Rattle.vx_exec.proofs.Kept.{left_at, no_requests, own_handlers_at, own_ids_at}
 use Rattle.vx_exec.proofs.Fired.{tick_goes}
 use Rattle.vx_exec.proofs.Goes.{Goes, delivered_goes, run_goes}
 
@@ -42,19 +50,8 @@ image_formed : (s : State) (p : Pid) → IsWellFormed s.system → IsImage (imag
 image_formed s p formed =
     (decl_names s.system, all_get (λ (i : Image). is_image (decl_names s.system) i ≡ true) s.system.images (decl_of s p).image no_image refl (all_from_list (is_image (decl_names s.system)) s.system.images formed.images))
 
--- once room was made
-
-pub record HasBegun (k : Kernel) : Type 0 where
-  pub spares : HasSpares k
-  pub timer : length k.state.timers + 1 ≤ k.timers
-  pub newcomer : HasNewcomer k
-  pub cluster : length k.state.common.clusters + 1 ≤ k.clusters
-  pub association : length k.state.common.associations + 1 ≤ k.associations
-  pub time : k.state.time < 2 ^ 63
-  pub bare : IsBare k.state
-
-next_of : (k : Kernel) (p : Pid) (limit taken : ℕ) → IsGoing k.state limit taken → IsProcess k.state p → HasBegun k → IsNext k p
-next_of k p limit taken going made begun =
+next_of : (k : Kernel) (e : Event) (p : Pid) (limit taken : ℕ) → IsGoing k.state limit taken → IsProcess k.state p → HasBegun k e → HasHandlerRoom k p → IsNext k p
+next_of k e p limit taken going made begun handler =
     let whole = going.whole in
     let stands = stands_at k.state p whole.sound made in
     record {
@@ -69,6 +66,8 @@ next_of k p limit taken going made begun =
           newcomer = begun.newcomer;
           cluster = begun.cluster;
           association = begun.association;
+          request = begun.request;
+          handler = handler;
           ids = omega (arith, going.ids, going.within, going.limited);
           time = begun.time;
           bare = begun.bare;
@@ -76,39 +75,74 @@ next_of k p limit taken going made begun =
         built = whole.built;
         decls = leb-true (length k.state.system.decls) 1000 whole.formed.few_decls;
         order = whole.sound.timer_ids;
+        handler_ids = own_handlers_at k.state p whole.sound made;
       };
       waits = stands.waits;
       ids = own_ids_at k.state p whole.sound made;
     }
 
-pub ready_for : (k : Kernel) (e : Event) (limit taken : ℕ) → IsGoing k.state limit taken → HasOwner k.state e → HasBegun k → IsReadyFor k e
-ready_for k (event.Run p) limit taken going made begun = next_of k p limit taken going made begun
-ready_for k (event.Ast p) limit taken going made begun = next_of k p limit taken going made begun
-ready_for k (event.Rdn p) limit taken going made begun = next_of k p limit taken going made begun
+leaving_of : (k : Kernel) (e : Event) (p : Pid) (limit taken : ℕ) → IsGoing k.state limit taken → IsIdle k.state p → HasBegun k e → IsLeaving k p
+leaving_of k e p limit taken going owner begun =
+    let whole = going.whole in
+    let stands = stands_at k.state p whole.sound owner.made in
+    record {
+      made = owner.made;
+      declared = stands.decl;
+      image = decl_image k.state p whole.formed stands.decl;
+      left = left_at k.state p whole.sound owner begun.bare.boxes;
+      order = whole.sound.timer_ids;
+      spares = begun.spares;
+      requests = no_requests k.state whole begun.bare.boxes;
+      bare = begun.bare;
+    }
+
+-- requests stand
+requests_of : (s : State) → IsWhole s → AreRequests s
+requests_of s whole = record { stand = whole.sound.requests; order = whole.sound.request_ids }
+
+pub ready_for : (k : Kernel) (e : Event) (limit taken : ℕ) → IsGoing k.state limit taken → HasOwner k.state e → IsRoomMade k e → IsReadyFor k e
+ready_for k (event.Run p) limit taken going made begun = next_of k (event.Run p) p limit taken going made begun begun.handler
+ready_for k (event.Ast p) limit taken going made begun = next_of k (event.Ast p) p limit taken going made begun begun.handler
+ready_for k (event.Rdn p) limit taken going owner begun = leaving_of k (event.Rdn p) p limit taken going owner begun
 ready_for k event.Tick limit taken going made begun = record { order = going.whole.sound.timer_ids; counted = begun.time }
-ready_for k (event.Beg u) limit taken going made begun = made
-ready_for k (event.Don u) limit taken going made begun = made
+ready_for k (event.Beg u) limit taken going waits begun = record { prepared = begun.0; requests = requests_of k.state going.whole }
+ready_for k (event.Don u) limit taken going serves begun =
+    let few = going.services u in
+    record { serves = serves; requests = requests_of k.state going.whole; count = omega (arith, few, going.within, going.limited) }
 
 -- Each step.
 
-step_goes : (s : State) (e : Event) → IsWhole s → IsBare s → HasOwner s e → Goes (most s e) s (step s e).after (step s e).effects
-step_goes s (event.Run p) whole bare made = run_goes p s (process_at s p).frames whole.built made
-step_goes s (event.Ast p) whole bare made = delivered_goes p s (deliverable_ast s p) made
-step_goes s (event.Rdn p) whole bare made = rundown_goes p s bare made
-step_goes s event.Tick whole bare made = tick_goes s
-step_goes s (event.Beg u) whole bare made = absurd made
-step_goes s (event.Don u) whole bare made = absurd made
+step_goes : (k : Kernel) (e : Event) → IsWhole k.state → HasOwner k.state e → IsRoomMade k e → Goes (most k.state e) k.state (step k.state e).after (step k.state e).effects
+step_goes k (event.Run p) whole made begun = run_goes p k.state (process_at k.state p).frames whole.built made
+step_goes k (event.Ast p) whole made begun = delivered_goes p k.state (deliverable_ast k.state p) made
+step_goes k (event.Rdn p) whole owner begun = rundown_goes p k.state begun.bare.attention owner.made
+step_goes k event.Tick whole made begun = tick_goes k.state
+step_goes k (event.Beg u) whole waits begun = beg_goes k.state (front u k.state.requests)
+step_goes k (event.Don u) whole serves begun = don_goes k.state u (in_service u k.state.requests)
 
-pub step_room : (k : Kernel) (e : Event) (n : ℕ) → IsWhole k.state → IsBare k.state → HasOwner k.state e → most k.state e ≤ n → HasRoom k.log n → Fits k (step k.state e).effects
-step_room k e n whole bare made enough room =
-    let goes = step_goes k.state e whole bare made in
-    omega (arith, goes.few, enough, room)
+-- what is told has room
+told_room : (k : Kernel) (e : Event) → IsWhole k.state → HasOwner k.state e → IsRoomMade k e → HasRoom k.log (most k.state e) → Fits k (step k.state e).effects
+told_room k e whole owner begun room = let goes = step_goes k e whole owner begun in omega (arith, goes.few, room)
 
-pub going_after : (s t : State) (e : Event) (limit taken : ℕ) → IsGoing s limit taken → IsBare s → Contains (enabled s) e → taken < limit → t ≡ (step s e).after → IsGoing t limit (taken + 1)
-going_after s t e limit taken going bare there below leaves =
+begs_nothing : (s : State) (o : Option Request) → (beg s o).effects ≡ []
+begs_nothing s None = refl
+begs_nothing s (Some r) = refl
+
+pub step_open : (k : Kernel) (e : Event) → IsWhole k.state → HasOwner k.state e → IsRoomMade k e → IsOpen k e
+step_open k (event.Run p) whole owner begun = (begun.empty, told_room k (event.Run p) whole owner begun begun.room)
+step_open k (event.Ast p) whole owner begun = (begun.empty, told_room k (event.Ast p) whole owner begun begun.room)
+step_open k (event.Rdn p) whole owner begun = (begun.empty, told_room k (event.Rdn p) whole owner begun begun.room)
+step_open k event.Tick whole owner begun = (begun.empty, told_room k event.Tick whole owner begun begun.room)
+step_open k (event.Beg u) whole owner begun =
+    let none = begs_nothing k.state (front u k.state.requests) in
+    (begun.1, omega (arith, ap length begun.1, ap length none))
+step_open k (event.Don u) whole owner begun = tt
+
+pub going_after : (k : Kernel) (t : State) (e : Event) (limit taken : ℕ) → IsGoing k.state limit taken → IsRoomMade k e → Contains (enabled k.state) e → taken < limit → t ≡ (step k.state e).after → IsGoing t limit (taken + 1)
+going_after k t e limit taken going begun there below leaves =
+    let s = k.state in
     let whole = going.whole in
-    let u = (step s e).after in
-    let goes = step_goes s e whole bare (enabled_owned s e whole there) in
+    let goes = step_goes k e whole (enabled_owned s e there) begun in
     let same = step_keeps_system s e in
     subst (λ (u : State). IsGoing u limit (taken + 1)) (sym leaves) (record {
       whole = record {
@@ -118,6 +152,7 @@ going_after s t e limit taken going bare there below leaves =
         few = goes.within whole.few;
       };
       ids = omega (arith, goes.soon, going.ids);
+      services = λ n. let more = goes.services n in let few = going.services n in omega (arith, more, few);
       within = omega arith;
       limited = going.limited;
     })
@@ -138,6 +173,10 @@ born_few place (d ∷ ds) =
     let rest = born_few (place + 1) ds in
     either (λ prs. length prs ≤ length (d ∷ ds)) d.start (born_of place d ∷ born_from (place + 1) ds) (born_from (place + 1) ds) (omega (arith, rest)) (omega (arith, rest))
 
+none_served : (ds : List UnitDecl) → AllByRecursion (λ (x : DeviceUnit). x.services ≤ 0) (map first_unit ds)
+none_served [] = tt
+none_served (d ∷ ds) = (omega arith, none_served ds)
+
 pub first_going : (system : System) (limit : ℕ) → IsWellFormed system → IsTrue (is_built system) → limit ≤ 100000 → IsGoing (first system) limit 0
 first_going system limit formed built limited = record {
   whole = record {
@@ -147,6 +186,7 @@ first_going system limit formed built limited = record {
     few = omega (arith, born_few 0 system.decls, leb-true (length system.decls) 1000 formed.few_decls);
   };
   ids = omega arith;
+  services = λ u. all_get (λ (x : DeviceUnit). x.services ≤ 0) (map first_unit system.units) u.0 no_unit (omega arith) (none_served system.units);
   within = omega arith;
   limited = limited;
 }

@@ -4,7 +4,7 @@ use Rattle.std.proofs.lemmas.Bool.{and_parts, eqb-true, leb-true}
 use Rattle.std.specs.List.{find, list_all}
 use Rattle.vx_base.specs.Cond.{number_of}
 use Rattle.vx_base.specs.Modes.{rank, reaches}
-use Rattle.vx_base.specs.Pieces.{Enables, Queued, is_enabled_in}
+use Rattle.vx_base.specs.Pieces.{Enables, Handler, Queued, is_enabled_in}
 use Rattle.vx_base.specs.Queues.{deliverable, first_of_mode, is_free, is_of_mode, may_start, or_else}
 use Rattle.vx_base.specs.declared.call.Call.{Call}
 use Rattle.vx_base.specs.declared.cond.Cond.{Cond}
@@ -40,15 +40,13 @@ use Rattle.vx_record.proofs.Lists.{either_by, find_passes}
 use Rattle.vx_record.proofs.SoundCalls.{StopFits, advanced_fits}
 use Rattle.vx_record.proofs.Ground.{at_set}
 use Rattle.vx_procs.specs.Kernel.{Acts, Does, DoesQuietly, Fits, Kernel, changed, told, with_state}
-use Rattle.vx_procs.specs.Ready.{IsBareProcess}
-use Rattle.vx_procs.specs.Words.{advanced_at, advanced_from, moved_as, without_started}
+use Rattle.vx_procs.specs.Words.{advanced_at, advanced_from, handlers_have_own_ids, moved_as, without_started}
 use Rattle.vx_procs.proofs.Rest as rest
-use Rattle.vx_rundown.proofs.Bare.{bare_still}
 use Rattle.vx_rundown.proofs.Changed.{made_still, process_there}
 use Rattle.vx_exec.specs.Built.{IsBuiltCall, is_built, is_built_service}
 use Rattle.vx_exec.specs.Ready.{IsSet, started_as}
 use Rattle.vx_exec.proofs.Calls.{IsBuiltStop, advanced_built}
-use Rattle.vx_exec.proofs.Down.{less_few}
+use Rattle.vx_procs.proofs.Firsts.{less_few}
 use Rattle.vx_exec.proofs.Goes.{call_goes, top_few}
 
 pub told_none : (k : Kernel) → k ≡ told k []
@@ -140,14 +138,15 @@ pub record IsFewer (x y : Process) : Type 0 where
   pub frames : length y.frames ≤ length x.frames
   pub asts : length y.asts ≤ length x.asts
 
-pub set_changed : (k l : Kernel) (p : Pid) (f : Process → Process) → IsSet k p → l ≡ changed k p f → (IsBareProcess (process_at k.state p) → IsBareProcess (f (process_at k.state p))) → (f (process_at k.state p)).decl ≡ (process_at k.state p).decl → IsFewer (process_at k.state p) (f (process_at k.state p)) → IsSet l p
-set_changed k l p f set there bare decl fewer =
+pub set_changed : (k l : Kernel) (p : Pid) (f : Process → Process) → IsSet k p → l ≡ changed k p f → (f (process_at k.state p)).handlers ≡ (process_at k.state p).handlers → (f (process_at k.state p)).decl ≡ (process_at k.state p).decl → IsFewer (process_at k.state p) (f (process_at k.state p)) → IsSet l p
+set_changed k l p f set there handlers decl fewer =
     let s = k.state in
     let t = change s p f in
     let ready = set.ready in
     let at : process_at t p ≡ f (process_at s p) = process_there s p f ready.made in
     let its : (process_at t p).decl ≡ (process_at s p).decl = ap (λ (x : Process). x.decl) at ∙ decl in
     let image : image_of t p ≡ image_of s p = ap (image_at s.system) its in
+    let declared : (process_at t p).handlers ≡ (process_at s p).handlers = ap (λ (x : Process). x.handlers) at ∙ handlers in
     let here : IsSet (changed k p f) p = record {
       ready = record {
         made = made_still s p p f ready.made;
@@ -163,19 +162,22 @@ set_changed k l p f set there bare decl fewer =
         newcomer = omega (arith, ready.newcomer, length-set s.procs (p.0 - 1) (f (process_at s p)));
         cluster = ready.cluster;
         association = ready.association;
+        request = ready.request;
+        handler = omega (arith, ready.handler, ap (λ (hs : List Handler). length hs) declared);
         ids = ready.ids;
         time = ready.time;
-        bare = bare_still s p f bare ready.bare;
+        bare = record { attention = ready.bare.attention; boxes = ready.bare.boxes };
       };
       built = set.built;
       decls = set.decls;
       order = set.order;
+      handler_ids = subst (λ (hs : List Handler). IsTrue (handlers_have_own_ids hs)) (sym declared) set.handler_ids;
     } in
     subst (λ (x : Kernel). IsSet x p) (sym there) here
 
 pub set_moved : (k l : Kernel) (p : Pid) (store : Storage) (place : ℕ) → IsSet k p → l ≡ changed k p (moved_to store place) → IsSet l p
 set_moved k l p store place set there =
-    set_changed k l p (moved_to store place) set there (λ e. record { channels = e.channels; handlers = e.handlers }) refl (record { frames = top_few _ (process_at k.state p).frames; asts = omega arith })
+    set_changed k l p (moved_to store place) set there refl refl (record { frames = top_few _ (process_at k.state p).frames; asts = omega arith })
 
 pub call_made : (k l : Kernel) (p : Pid) (c : Call) (s : Served) → IsSet k p → is_built_service c.service ≡ true → Does (service k.state p c) s k l → IsProcess l.state p
 call_made k l p c s set built did =
@@ -227,15 +229,15 @@ fewer_asts : (o : Option Queued) (pr : Process) → length (without_started o pr
 fewer_asts None pr = omega arith
 fewer_asts (Some q) pr = less_few _ pr.asts
 
-bare_started : (o : Option Queued) (pr : Process) → IsBareProcess pr → IsBareProcess (without_started o pr)
-bare_started None pr e = e
-bare_started (Some q) pr e = record { channels = e.channels; handlers = e.handlers }
+same_handlers : (o : Option Queued) (pr : Process) → (without_started o pr).handlers ≡ pr.handlers
+same_handlers None pr = refl
+same_handlers (Some q) pr = refl
 
 pub set_taken : (k l : Kernel) (p : Pid) → IsSet k p → l ≡ changed k p (without_started (deliverable_ast k.state p)) → IsSet l p
 set_taken k l p set there =
     let o = deliverable_ast k.state p in
     let pr = process_at k.state p in
-    set_changed k l p (without_started o) set there (bare_started o pr) (same_decl o pr) (record { frames = omega (arith, ap length (same_frames o pr)); asts = fewer_asts o pr })
+    set_changed k l p (without_started o) set there (same_handlers o pr) (same_decl o pr) (record { frames = omega (arith, ap length (same_frames o pr)); asts = fewer_asts o pr })
 
 -- it is in a mode that is not further out than that of the process
 

@@ -13,11 +13,11 @@ use Rattle.vx_exec.specs.Picks.{moved_seed, picked_event}
 use Rattle.vx_exec.specs.Taken.{EndsRun, IsChosenRun, TakesRun}
 use Rattle.vx_exec.specs.View.{Executive, Plan, plan}
 
-steps_more : (s : State) (rs : List Rec) (r : Rec) → AreSteps s rs → IsStep (after_from s rs) r → AreSteps s (rs ++ r ∷ [])
+pub steps_more : (s : State) (rs : List Rec) (r : Rec) → AreSteps s rs → IsStep (after_from s rs) r → AreSteps s (rs ++ r ∷ [])
 steps_more s [] r h k = (k, tt)
 steps_more s (x ∷ rs) r h k = (h.0, steps_more (step s x.event).after rs r h.1 k)
 
-after_more : (s : State) (rs : List Rec) (r : Rec) → after_from s (rs ++ r ∷ []) ≡ (step (after_from s rs) r.event).after
+pub after_more : (s : State) (rs : List Rec) (r : Rec) → after_from s (rs ++ r ∷ []) ≡ (step (after_from s rs) r.event).after
 after_more s [] r = refl
 after_more s (x ∷ rs) r = after_more (step s x.event).after rs r
 

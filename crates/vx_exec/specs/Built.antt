@@ -2,7 +2,7 @@
 use Rattle.std.specs.Prelude.{ℕ, ◌<◌, List, [], ◌∷◌, Bool, true, false, ◌&&◌, IsTrue, ⊤}
 use Rattle.std.specs.List.{list_all}
 use Rattle.vx_base.specs.declared.service.Service.{Service}
-use Rattle.vx_base.specs.declared.service.Service.TheVariants.{SetEf, ClrEf, ReadEf, WaitFr, WflOr, WflAnd, DclAst, SetAst, CmExec, CmKrnl, SetImr, Hiber, Wake, Suspnd, Resume, ForceX, CrePrc, Exit, GetTim, AscEfc, DacEfc, DlcEfc, CanTim, SchdWk, CanWak}
+use Rattle.vx_base.specs.declared.service.Service.TheVariants.{SetEf, ClrEf, ReadEf, WaitFr, WflOr, WflAnd, DclAst, SetAst, CmExec, CmKrnl, SetImr, Hiber, Wake, Suspnd, Resume, ForceX, CrePrc, Exit, GetTim, AscEfc, DacEfc, DlcEfc, CanTim, SchdWk, CanWak, DclExh, CanExh}
 use Rattle.vx_base.specs.Services.{is_call}
 use Rattle.vx_image.specs.declared.image.Image.{Image}
 use Rattle.vx_image.specs.declared.stmt.Stmt.{Stmt}
@@ -12,8 +12,8 @@ use Rattle.vx_image.specs.declared.stop.Stop.TheVariants as stop
 use Rattle.vx_image.specs.declared.system.System.{System}
 use Rattle.vx_image.specs.declared.unit.UnitDecl.{UnitDecl}
 
--- the services on event flags, common clusters and waits, ASTs and modes, timers and scheduled wakes, and those that control processes
--- but $DELPRC
+-- the services on event flags, common clusters and waits, ASTs and modes, timers and scheduled wakes, exit handlers, and those that
+-- control processes but $DELPRC
 abbrev pub is_built_service : Service → Bool
 is_built_service SetEf = true
 is_built_service ClrEf = true
@@ -40,6 +40,8 @@ is_built_service ForceX = true
 is_built_service CrePrc = true
 is_built_service Exit = true
 is_built_service GetTim = true
+is_built_service DclExh = true
+is_built_service CanExh = true
 is_built_service _ = false
 
 -- each statement but the other services

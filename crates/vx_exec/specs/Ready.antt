@@ -1,28 +1,35 @@
 -- What an event relies on, once room was made for it.
-use Rattle.std.specs.Prelude.{ℕ, true, ◌+◌, ◌*◌, ◌≤◌, IsTrue, length, ⊤, ◌^◌, ◌<◌}
+use Rattle.std.specs.Prelude.{◌≡◌, ℕ, [], Option, Some, None, true, IfSome, ◌+◌, ◌*◌, ◌≤◌, IsSome, IsTrue, length, ⊤, ◌^◌, ◌<◌}
+use Rattle.vx_base.specs.Queues.{front, in_service}
 use Rattle.vx_base.specs.declared.mode.Mode.{Mode}
 use Rattle.vx_base.specs.declared.number.Id.{Id}
+use Rattle.vx_base.specs.Log.{HasRoom}
 use Rattle.vx_base.specs.declared.number.Pid.{Pid}
+use Rattle.vx_base.specs.declared.number.UnitNo.{UnitNo}
 use Rattle.vx_base.specs.declared.record.Event.{Event}
 use Rattle.vx_base.specs.declared.record.Event.TheVariants as event
 use Rattle.vx_base.specs.declared.routine.Entry.{Entry}
-use Rattle.vx_record.specs.State.{State, IsProcess, process_at}
-use Rattle.vx_record.specs.Events.{started}
+use Rattle.vx_record.specs.State.{State, IsProcess, process_at, unit_at}
+use Rattle.vx_record.specs.Events.{started, step}
 use Rattle.vx_record.specs.Parts.{Part}
 use Rattle.vx_record.specs.Sound.{AreOrdered, WaitsStand, timer_id}
-use Rattle.vx_procs.specs.Kernel.{Kernel}
-use Rattle.vx_procs.specs.Ready.{IsReady}
-use Rattle.vx_procs.specs.Words.{have_own_ids}
+use Rattle.vx_io.specs.Finishing.{AreRequests}
+use Rattle.vx_procs.specs.Kernel.{Fits, IsPrepared, Kernel, opened}
+use Rattle.vx_procs.specs.Ready.{HasHandlerRoom, HasNewcomer, HasSpares, IsBare, IsReady}
+use Rattle.vx_procs.specs.Words.{handlers_have_own_ids, have_own_ids}
+use Rattle.vx_rundown.specs.Leaving.{IsLeaving}
 use Rattle.vx_exec.specs.Built.{is_built}
 
--- A process is ready, in a system that the executive runs so far and that declares at most 1,000 processes; timers stand in id order.
+-- A process is ready, in a system that the executive runs so far and that declares at most 1,000 processes; timers stand in id order, and
+-- no two of its exit handlers have one id.
 pub record IsSet (k : Kernel) (p : Pid) : Type 0 where
   pub ready : IsReady k p
   pub built : IsTrue (is_built k.state.system)
   pub decls : length k.state.system.decls ≤ 1000
   pub order : AreOrdered timer_id 0 k.state.next k.state.timers
+  pub handler_ids : IsTrue (handlers_have_own_ids (process_at k.state p).handlers)
 
--- What an event of a process relies on: its frames wait for status blocks that it has, and no two of its queued ASTs have one id.
+-- What an event of a process relies on where it runs or an AST starts: its frames wait for status blocks that it has, and no two of its queued ASTs have one id.
 pub record IsNext (k : Kernel) (p : Pid) : Type 0 where
   pub set : IsSet k p
   pub waits : WaitsStand (process_at k.state p).frames
@@ -33,31 +40,89 @@ pub record IsTimely (k : Kernel) : Type 0 where
   pub order : AreOrdered timer_id 0 k.state.next k.state.timers
   pub counted : k.state.time < 2 ^ 63
 
--- the process of an event is there; of units there are no events
+-- the process is there, and has no frame
+pub record IsIdle (s : State) (p : Pid) : Type 0 where
+  pub made : IsProcess s p
+  pub idle : (process_at s p).frames ≡ []
+
+-- the process of an event is there, and in rundown it has no frame; a unit that begins a service has a front request, and one that
+-- ends a service serves a request
 abbrev pub HasOwner : State → Event → Type 0
 HasOwner s (event.Run p) = IsProcess s p
 HasOwner s (event.Ast p) = IsProcess s p
-HasOwner s (event.Rdn p) = IsProcess s p
+HasOwner s (event.Rdn p) = IsIdle s p
 HasOwner s event.Tick = ⊤
-HasOwner s other = ⊥
+HasOwner s (event.Beg u) = IsSome (front u s.requests)
+HasOwner s (event.Don u) = IsSome (in_service u s.requests)
 
--- what it relies on
+-- the process of an event
+abbrev pub process_of : Event → Option Pid
+process_of (event.Run p) = Some p
+process_of (event.Ast p) = Some p
+process_of (event.Rdn p) = Some p
+process_of other = None
+
+-- What a BEG relies on: what the end of the service needs is there; requests stand, and their ids rise.
+pub record IsToBegin (k : Kernel) (u : UnitNo) : Type 0 where
+  pub prepared : IsPrepared k u
+  pub requests : AreRequests k.state
+
+-- What a DON relies on: the unit serves a request; requests stand, and their ids rise; and the services can be counted on.
+pub record IsToEnd (k : Kernel) (u : UnitNo) : Type 0 where
+  pub serves : IsSome (in_service u k.state.requests)
+  pub requests : AreRequests k.state
+  pub count : (unit_at k.state u).services < 4294967295
+
+-- what an event relies on
 abbrev pub IsReadyFor : Kernel → Event → Type 0
 IsReadyFor k (event.Run p) = IsNext k p
 IsReadyFor k (event.Ast p) = IsNext k p
-IsReadyFor k (event.Rdn p) = IsNext k p
+IsReadyFor k (event.Rdn p) = IsLeaving k p
 IsReadyFor k event.Tick = IsTimely k
-IsReadyFor k other = ⊥
+IsReadyFor k (event.Beg u) = IsToBegin k u
+IsReadyFor k (event.Don u) = IsToEnd k u
 
--- How many effects an event has at most. A process leaves its frames, or cancels timers, and tells four effects more; in rundown it
--- drops timers, wakes and ASTs in four modes, dissociates two clusters in each, which may go, drops the wakes for it, and is gone; a
--- timer that is due fires, sets its flag and queues its AST.
+-- How many effects an event has at most. A process leaves its frames, or cancels timers, exit handlers or requests, six effects for a
+-- request, and tells four effects more; in rundown it cancels requests and drops timers, wakes and ASTs in four modes, frees its channels, dissociates two
+-- clusters in each, which may go, drops its exit handlers and the wakes for it, and is gone; a timer that is due fires, sets its flag
+-- and queues its AST. A request that begins to be served tells nothing, and one that finishes tells five effects.
 abbrev pub most : State → Event → ℕ
-most s (event.Run p) = length (process_at s p).frames + length s.timers + 4
-most s (event.Ast p) = length (process_at s p).frames + length s.timers + 4
-most s (event.Rdn p) = 4 * (length (process_at s p).asts + 2 * length s.timers + 4) + length s.timers + 1
+most s (event.Run p) = length (process_at s p).frames + length s.timers + length (process_at s p).handlers + 6 * length s.requests + 4
+most s (event.Ast p) = length (process_at s p).frames + length s.timers + length (process_at s p).handlers + 6 * length s.requests + 4
+most s (event.Rdn p) = 4 * (length (process_at s p).asts + 11 * length s.requests + 2 * length s.timers + length (process_at s p).channels + 4) + length (process_at s p).handlers + length s.timers + 1
 most s event.Tick = 3 * length s.timers
-most s other = 0
+most s (event.Beg u) = 0
+most s (event.Don u) = 5
+
+-- Once room was made for an event: there are spares, and room for what it tells; nothing is told yet.
+pub record HasBegun (k : Kernel) (e : Event) : Type 0 where
+  pub spares : HasSpares k
+  pub timer : length k.state.timers + 1 ≤ k.timers
+  pub newcomer : HasNewcomer k
+  pub cluster : length k.state.common.clusters + 1 ≤ k.clusters
+  pub association : length k.state.common.associations + 1 ≤ k.associations
+  pub request : length k.state.requests + 1 ≤ k.requests
+  pub handler : IfSome (process_of e) (HasHandlerRoom k)
+  pub empty : k.log.items ≡ []
+  pub room : HasRoom k.log (most k.state e)
+  pub time : k.state.time < 2 ^ 63
+  pub bare : IsBare k.state
+
+-- a BEG has what the end of its service needs; and so a DON needs nothing
+abbrev pub IsRoomMade : Kernel → Event → Type 0
+IsRoomMade k (event.Beg u) = IsPrepared k u × (k.log.items ≡ [])
+IsRoomMade k (event.Don u) = ⊤
+IsRoomMade k other = HasBegun k other
+
+-- nothing is told yet, and what an event tells fits; but a DON has a log of its own
+abbrev pub IsOpen : Kernel → Event → Type 0
+IsOpen k (event.Don u) = ⊤
+IsOpen k other = (k.log.items ≡ []) × Fits k (step k.state other).effects
+
+-- the log of a DON is the one that was made by the BEG before
+abbrev pub opened_for : Kernel → Event → Kernel
+opened_for k (event.Don u) = opened k u
+opened_for k other = k
 
 -- what an AST with this id and mode does that starts at an entry
 abbrev pub started_as : State → Pid → Id → Mode → Entry → Part

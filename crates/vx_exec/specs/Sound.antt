@@ -1,8 +1,9 @@
 -- What an executive keeps of its state.
 use Rattle.std.specs.Prelude.{ℕ, ◌+◌, ◌≤◌, IsTrue, length}
+use Rattle.vx_base.specs.declared.number.UnitNo.{UnitNo}
 use Rattle.vx_image.specs.WellFormed.{IsWellFormed}
 use Rattle.vx_record.specs.Sound.{IsSound}
-use Rattle.vx_record.specs.State.{State}
+use Rattle.vx_record.specs.State.{State, unit_at}
 use Rattle.vx_exec.specs.Built.{is_built}
 
 -- What the state names is there, in a system that is well formed and that the executive runs so far, with at most 1,000
@@ -13,9 +14,11 @@ pub record IsWhole (s : State) : Type 0 where
   pub built : IsTrue (is_built s.system)
   pub few : length s.procs ≤ 1000
 
--- Each record opens at most one id, and no more records were made than the limit allows.
+-- Each record opens at most one id, and no unit made more services than there are records; no more records were made than the limit
+-- allows.
 pub record IsGoing (s : State) (limit taken : ℕ) : Type 0 where
   pub whole : IsWhole s
   pub ids : s.next ≤ taken + 1
+  pub services : (u : UnitNo) → (unit_at s u).services ≤ taken
   pub within : taken ≤ limit
   pub limited : limit ≤ 100000

@@ -1,5 +1,7 @@
 -- What an executive stands for.
-use Rattle.std.specs.Prelude.{ℕ}
+use Rattle.std.specs.Prelude.{ℕ, Bool, true, false}
+use Rattle.vx_base.specs.declared.record.Event.{Event}
+use Rattle.vx_base.specs.declared.record.Event.TheVariants as event
 use Rattle.vx_image.specs.declared.system.System.{System}
 use Rattle.vx_record.specs.State.{State}
 
@@ -16,3 +18,8 @@ pub record Plan : Type 0 where
 
 abbrev pub plan : Executive → Plan
 plan e = record { system = e.state.system; limit = e.limit }
+
+-- whether an event ends the service of a unit
+abbrev pub is_don : Event → Bool
+is_don (event.Don u) = true
+is_don other = false

@@ -1,13 +1,14 @@
 //! Which events are enabled.
 
-ghost use Rattle.std.specs.Prelude.{◌≡◌, ◌≤◌, ◌↔◌, [], ◌∷◌, Contains, IsTrue, length, option_to_list, slice_get};
+ghost use Rattle.std.specs.Prelude.{◌≡◌, ◌<◌, ◌≤◌, ◌↔◌, [], ◌∷◌, ◌++◌, Contains, IsTrue, length, option_to_list, slice_get};
 ghost use Rattle.vx_record.specs.State.{IsProcess, process_at};
-ghost use Rattle.vx_record.specs.Events.{can_run, can_run_down, enabled, process_events, processes_from, tick_events};
+ghost use Rattle.vx_record.specs.Events.{can_run, can_run_down, enabled, process_events, processes_from, tick_events, unit_events, units_from};
 ghost use Rattle.vx_record.specs.Runs.{are_deleted};
 ghost use Rattle.vx_record.specs.Sound.{WaitsStand};
+ghost use Rattle.vx_exec.specs.Ready.{process_of};
 ghost use Rattle.vx_exec.specs.Sound.{IsWhole};
 
-use vx_base::{Event, Phase, Pid, Routine};
+use vx_base::{Event, Phase, Pid, Routine, UnitNo};
 use vx_ctl::wait_condition;
 use vx_procs::Core;
 
@@ -77,6 +78,16 @@ fn events_of<R: Routine>(core: &Core<R>, p: Pid) -> u32
     }
 }
 
+/// The process of an event, if it is one of a process.
+pub(crate) fn process_of(event: Event) -> Option<Pid>
+    ensures { result ≡ process_of event }
+{
+    match event {
+        Event::Run(p) | Event::Ast(p) | Event::Rdn(p) => Some(p),
+        Event::Beg(_) | Event::Don(_) | Event::Tick => None,
+    }
+}
+
 // How many events processes have.
 #[tactic(auto, using(crate::proofs::Enabled::waits_at))]
 fn process_count<R: Routine>(core: &Core<R>) -> u32
@@ -91,13 +102,50 @@ fn process_count<R: Routine>(core: &Core<R>) -> u32
     count
 }
 
+// The event of a unit, if it has one: it ends the service of the request that it serves, or begins the first that waits.
+fn unit_event<R: Routine>(core: &Core<R>, u: UnitNo) -> Option<Event>
+    ensures { option_to_list result ≡ unit_events core.now.state u }
+{
+    if core.in_service(u).is_some() {
+        return Some(Event::Don(u));
+    }
+    if core.front(u).is_some() {
+        Some(Event::Beg(u))
+    } else {
+        None
+    }
+}
+
+// How many events a unit has: one or none.
+fn events_of_unit<R: Routine>(core: &Core<R>, u: UnitNo) -> u32
+    ensures count { result ≡ length (unit_events core.now.state u) }
+    ensures few { result ≤ 1 }
+{
+    match unit_event(core, u) {
+        Some(_) => 1,
+        None => 0,
+    }
+}
+
+// How many events units have.
+fn unit_count<R: Routine>(core: &Core<R>) -> u32
+    requires { IsWhole core.now.state }
+    ensures count { result ≡ length (units_from core.now.state 0 core.now.state.units) }
+    ensures few { result ≤ 32 }
+{
+    let mut count: u32 = 0;
+    for place in 0..core.unit_count() as u32 {
+        count += events_of_unit(core, UnitNo(place));
+    }
+    count
+}
+
 /// How many events are enabled.
-#[tactic(auto, using(crate::proofs::Enabled::enabled_parts))]
 pub(crate) fn count<R: Routine>(core: &Core<R>) -> u32
     requires { IsWhole core.now.state }
     ensures { result ≡ length (enabled core.now.state) }
 {
-    let count = process_count(core);
+    let count = process_count(core) + unit_count(core);
     if core.timer_count() == 0 {
         count
     } else {
@@ -116,7 +164,25 @@ fn tick_at<R: Routine>(core: &Core<R>, place: u32) -> Option<Event>
     }
 }
 
-/// The enabled event at a place from 0: the processes in number order, each with one event or none, and then time.
+// The event at a place from 0 among those of the units, in the script's order, and then of time.
+fn unit_event_at<R: Routine>(core: &Core<R>, i: u32) -> Option<Event>
+    requires { IsWhole core.now.state }
+    ensures { result ≡ slice_get (units_from core.now.state 0 core.now.state.units ++ tick_events core.now.state.timers) i }
+{
+    let mut left = i;
+    for place in 0..core.unit_count() as u32 {
+        if let Some(event) = unit_event(core, UnitNo(place)) {
+            if left == 0 {
+                return Some(event);
+            }
+            left -= 1;
+        }
+    }
+    tick_at(core, left)
+}
+
+/// The enabled event at a place from 0: the processes in number order, then the units in the script's order, each with one
+/// event or none, and then time.
 #[tactic(auto, using(crate::proofs::Enabled::waits_at))]
 pub(crate) fn enabled_at<R: Routine>(core: &Core<R>, i: u32) -> Option<Event>
     requires { IsWhole core.now.state }
@@ -131,7 +197,7 @@ pub(crate) fn enabled_at<R: Routine>(core: &Core<R>, i: u32) -> Option<Event>
             left -= 1;
         }
     }
-    tick_at(core, left)
+    unit_event_at(core, left)
 }
 
 // Whether an event is the event of a process, if that is there.
@@ -150,7 +216,22 @@ fn has_event<R: Routine>(core: &Core<R>, p: Pid, event: Event) -> bool
     }
 }
 
-/// Whether an event is enabled. It asks of the process of that event alone.
+// Whether an event is the event of a unit, if that is there.
+fn has_unit_event<R: Routine>(core: &Core<R>, u: UnitNo, event: Event) -> bool
+    ensures made { IsTrue result → u.0 < length core.now.state.units }
+    ensures has { IsTrue result → unit_events core.now.state u ≡ event ∷ [] }
+    ensures only { u.0 < length core.now.state.units → unit_events core.now.state u ≡ event ∷ [] → IsTrue result }
+{
+    if core.unit_count() <= u.0 as usize {
+        return false;
+    }
+    match unit_event(core, u) {
+        Some(own) => own == event,
+        None => false,
+    }
+}
+
+/// Whether an event is enabled. It asks of the process or the unit of that event alone.
 pub(crate) fn is_enabled<R: Routine>(core: &Core<R>, event: Event) -> bool
     requires { IsWhole core.now.state }
     ensures { IsTrue result ↔ Contains (enabled core.now.state) event }
@@ -158,7 +239,7 @@ pub(crate) fn is_enabled<R: Routine>(core: &Core<R>, event: Event) -> bool
     match event {
         Event::Run(p) | Event::Ast(p) | Event::Rdn(p) => has_event(core, p, event),
         Event::Tick => core.timer_count() > 0,
-        Event::Beg(_) | Event::Don(_) => false,
+        Event::Beg(u) | Event::Don(u) => has_unit_event(core, u, event),
     }
 }
 

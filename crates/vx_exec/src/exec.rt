@@ -1,6 +1,6 @@
 //! The executive.
 
-ghost use Rattle.std.specs.Prelude.{◌≡◌, ◌≤◌, ◌+◌, ◌↔◌, Contains, IfOk, IsTrue, None, OnErr, OnOk, length, slice_get};
+ghost use Rattle.std.specs.Prelude.{◌≡◌, ◌≤◌, ◌+◌, ◌↔◌, Contains, IfOk, IsOk, IsTrue, None, OnErr, OnOk, length, slice_get};
 ghost use Rattle.vx_image.specs.WellFormed.{IsWellFormed};
 ghost use Rattle.vx_record.specs.State.{IsProcess, decl_of, process_at};
 ghost use Rattle.vx_record.specs.Events.{enabled, step};
@@ -8,11 +8,11 @@ ghost use Rattle.vx_record.specs.Runs.{end_of, first, record_of};
 ghost use Rattle.vx_exec.specs.Built.{is_built};
 ghost use Rattle.vx_exec.specs.Picks.{moved_seed, picked_event};
 ghost use Rattle.vx_exec.specs.Standing.{code_of, standing_of};
-ghost use Rattle.vx_exec.specs.View.{plan};
+ghost use Rattle.vx_exec.specs.View.{is_don, plan};
 
 use crate::events::{are_deleted, count, enabled_at, is_enabled};
 use crate::machine::step;
-use crate::room::most;
+use crate::room::make_room;
 use crate::seed::Seed;
 use crate::standing::{Standing, standing_of};
 use std::alloc::Global;
@@ -65,14 +65,14 @@ impl<R: Routine> Exec<R> {
         count(&self.core)
     }
 
-    /// The enabled event at a place from 0: the processes in number order, and then time.
+    /// The enabled event at a place from 0: the processes in number order, the units in the script's order, and then time.
     pub fn enabled(&self, i: u32) -> Option<Event>
         ensures { result ≡ slice_get (enabled self.now.state) i }
     {
         enabled_at(&self.core, i)
     }
 
-    /// Whether an event is enabled. It takes the same time however many processes there are.
+    /// Whether an event is enabled. It takes the same time however many processes and units there are.
     pub fn is_enabled(&self, event: Event) -> bool
         ensures { IsTrue result ↔ Contains (enabled self.now.state) event }
     {
@@ -95,7 +95,7 @@ impl<R: Routine> Exec<R> {
         enabled_at(&self.core, next.index(n))
     }
 
-    /// Takes an enabled event, and gives its record. Where memory is short, nothing has changed.
+    /// Takes an enabled event, and gives its record. Where memory is short, nothing has changed. A DON needs none, and never fails.
     pub fn step(&mut self, event: Event) -> Result<Rec, NoMemory>
         requires enabled { Contains (enabled self.old.state) event }
         requires going { end_of self.old.limit self.old.taken self.old.state ≡ None }
@@ -105,13 +105,10 @@ impl<R: Routine> Exec<R> {
           taken = self.old.taken + 1;
         }) }
         ensures err { OnErr result (self.new ≡ self.old) }
+        ensures don_never_fails { IsTrue (is_don event) → IsOk result }
         ensures plan { plan self.new ≡ plan self.old }
     {
-        let effects = match most(&self.core, event) {
-            Some(effects) => effects,
-            None => return Err(NoMemory),
-        };
-        self.core.begin(effects)?;
+        make_room(&mut self.core, event)?;
         let answer = step(&mut self.core, event);
         self.taken += 1;
         Ok(Rec {

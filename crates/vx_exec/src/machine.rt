@@ -1,6 +1,6 @@
 //! What each event does.
 
-ghost use Rattle.std.specs.Prelude.{◌≡◌, ◌<◌, IsTrue};
+ghost use Rattle.std.specs.Prelude.{◌≡◌, ◌<◌, [], IsTrue};
 ghost use Rattle.vx_base.specs.Modes.{reaches};
 ghost use Rattle.vx_base.specs.Services.{is_call};
 ghost use Rattle.vx_record.specs.State.{IsProcess, current, process_at};
@@ -11,12 +11,13 @@ ghost use Rattle.vx_record.specs.Sound.{WaitStands};
 ghost use Rattle.vx_procs.specs.Kernel.{Acts, Does, DoesQuietly, Fits};
 ghost use Rattle.vx_procs.specs.Words.{advanced_at};
 ghost use Rattle.vx_exec.specs.Built.{IsBuiltCall, is_built_service};
-ghost use Rattle.vx_exec.specs.Ready.{IsNext, IsReadyFor, IsSet, started_as};
+ghost use Rattle.vx_exec.specs.Ready.{IsNext, IsOpen, IsReadyFor, IsSet, opened_for, started_as};
 
 use crate::services::serve;
 use vx_base::{Answer, Call, Cond, Effect, Entry, Event, FrameKind, Id, Mode, Pid, Routine, Wait};
 use vx_ctl::{tick, wait_condition};
 use vx_image::Stop;
+use vx_io::{begin, done};
 use vx_procs::Core;
 use vx_record::Served;
 use vx_rundown::rundown_step;
@@ -160,17 +161,19 @@ fn deliver<R: Routine>(core: &mut Core<R>, p: Pid) -> Answer
     Answer::Ast(id)
 }
 
-/// Does an event.
+/// Does an event. Takes no memory.
 pub(crate) fn step<R: Routine>(core: &mut Core<R>, event: Event) -> Answer
     requires ready { IsReadyFor core.old event }
-    requires room { Fits core.old (step core.old.state event).effects }
-    ensures { Does (step core.old.state event) result core.old core.new }
+    requires open { IsOpen core.old event }
+    ensures does { Does (step core.old.state event) result (opened_for core.old event) core.new }
+    ensures untold { (opened_for core.old event).log.items ≡ [] }
 {
     match event {
         Event::Run(p) => run(core, p),
         Event::Ast(p) => deliver(core, p),
         Event::Rdn(p) => rundown_step(core, p),
         Event::Tick => Answer::Time(tick(core)),
-        Event::Beg(_) | Event::Don(_) => unreachable!(),
+        Event::Beg(u) => begin(core, u),
+        Event::Don(u) => done(core, u),
     }
 }

@@ -1,26 +1,74 @@
-//! Room for what one event tells.
+//! Room for one event, which is made before it.
 
-ghost use Rattle.std.specs.Prelude.{◌≤◌, IfSome};
-ghost use Rattle.vx_exec.specs.Ready.{HasOwner, most};
+ghost use Rattle.std.specs.Prelude.{◌≡◌, ◌≤◌, IfSome, IsOk, IsSome, IsTrue, OnOk};
+ghost use Rattle.vx_base.specs.Queues.{front};
+ghost use Rattle.vx_exec.specs.Ready.{HasBegun, HasOwner, IsRoomMade, most};
+ghost use Rattle.vx_exec.specs.View.{is_don};
+ghost use Rattle.vx_base.specs.declared.record.Event.TheVariants.{Beg};
 
-use vx_base::{Event, Routine};
+use crate::events::process_of;
+use vx_base::{Event, NoMemory, Routine, UnitNo};
 use vx_procs::Core;
 
-/// A count that an event's effects do not exceed; None where 32 bits do not count them.
-pub(crate) fn most<R: Routine>(core: &Core<R>, event: Event) -> Option<u32>
+// A count that an event's effects do not exceed; None where 32 bits do not count them.
+fn most<R: Routine>(core: &Core<R>, event: Event) -> Option<u32>
     requires { HasOwner core.now.state event }
     ensures { IfSome result (λ n. most core.now.state event ≤ n) }
 {
     let most = match event {
         Event::Run(p) | Event::Ast(p) => {
-            core.frame_count(p) as u128 + core.timer_count() as u128 + 4
+            let listed = core.timer_count() as u128 + 6 * core.request_count() as u128;
+            core.frame_count(p) as u128 + core.handler_count(p) as u128 + listed + 4
         }
         Event::Rdn(p) => {
             let timers = core.timer_count() as u128;
-            4 * (core.ast_count(p) as u128 + 2 * timers + 4) + timers + 1
+            let listed = core.ast_count(p) as u128 + 11 * core.request_count() as u128;
+            let load = listed + 2 * timers + core.channel_count(p) as u128 + 4;
+            4 * load + core.handler_count(p) as u128 + timers + 1
         }
         Event::Tick => 3 * core.timer_count() as u128,
-        Event::Beg(_) | Event::Don(_) => 0,
+        Event::Beg(_) => 0,
+        Event::Don(_) => 5,
     };
     u32::try_from(most).ok()
+}
+
+// Makes the spares, and room for what an event tells.
+fn make_spares<R: Routine>(core: &mut Core<R>, event: Event) -> Result<(), NoMemory>
+    requires { HasOwner core.old.state event }
+    ensures same { core.new.state ≡ core.old.state }
+    ensures made { OnOk result (HasBegun core.new event) }
+{
+    match most(core, event) {
+        Some(effects) => core.begin(effects, process_of(event)),
+        None => Err(NoMemory),
+    }
+}
+
+// Makes an empty log for a BEG, and what the end of the service needs that it begins.
+fn prepare<R: Routine>(core: &mut Core<R>, u: UnitNo) -> Result<(), NoMemory>
+    requires { IsSome (front u core.old.state.requests) }
+    ensures same { core.new.state ≡ core.old.state }
+    ensures made { OnOk result (IsRoomMade core.new (Beg u)) }
+{
+    core.begin(0, None)?;
+    core.prepare(u)
+}
+
+/// Makes room for an event. A BEG is given what the end of its service needs, so a DON needs nothing, and cannot fail. Where
+/// memory is short, no state shows it.
+pub(crate) fn make_room<R: Routine>(core: &mut Core<R>, event: Event) -> Result<(), NoMemory>
+    requires { HasOwner core.old.state event }
+    ensures same { core.new.state ≡ core.old.state }
+    ensures made { OnOk result (IsRoomMade core.new event) }
+    ensures don_never_fails { IsTrue (is_don event) → IsOk result }
+{
+    match event {
+        Event::Run(_) => make_spares(core, event),
+        Event::Ast(_) => make_spares(core, event),
+        Event::Rdn(_) => make_spares(core, event),
+        Event::Tick => make_spares(core, event),
+        Event::Beg(u) => prepare(core, u),
+        Event::Don(_) => Ok(()),
+    }
 }

@@ -24,7 +24,7 @@ use vx_ctl::{
 use vx_image::{Image, Label, ProcDecl};
 use vx_procs::Core;
 use vx_record::Served;
-use vx_rundown::exit;
+use vx_rundown::{canexh, dclexh, exit};
 
 // The number that an argument is.
 fn number(arg: &Arg) -> u32
@@ -140,6 +140,18 @@ fn routine<R: Routine>(core: &Core<R>, p: Pid, arg: &Arg, prm: u32) -> R
         _ => label_place(core.image(p), b"".as_slice()),
     };
     R::scripted(Entry::Label(place, prm))
+}
+
+// The tag of the routine at the label that an argument names, if it names one.
+#[tactic(auto, using(crate::proofs::Served::few_labels))]
+fn entry_or_none<R: Routine>(core: &Core<R>, p: Pid, arg: &Arg) -> Option<Entry>
+    requires set { IsSet core.now p }
+    ensures { result ≡ routine_or_none core.now.state p arg.now 0 }
+{
+    match arg {
+        Arg::Label(Some(name)) => Some(Entry::Label(label_place(core.image(p), name.text()), 0)),
+        _ => None,
+    }
 }
 
 // The condition of a service, refused or not. A routine that was handed back goes.
@@ -272,6 +284,26 @@ fn enter_kernel<R: Routine>(core: &mut Core<R>, p: Pid, args: &Args) -> Served
     Served::Answered(cond_of(answer))
 }
 
+// $DCLEXH of the routine at a label.
+fn declare_handler<R: Routine>(core: &mut Core<R>, p: Pid, args: &Args) -> Served
+    requires set { IsSet core.old p }
+    requires room { Fits core.old (service_of core.old.state p args.now Service.DclExh).effects }
+    ensures { Does (service_of core.old.state p args.now Service.DclExh) result core.old core.new }
+{
+    let routine: R = routine(core, p, &args.a0, 0);
+    Served::Answered(dclexh(core, p, routine))
+}
+
+// $CANEXH of the routine at a label, or of all.
+fn cancel_handlers<R: Routine>(core: &mut Core<R>, p: Pid, args: &Args) -> Served
+    requires set { IsSet core.old p }
+    requires room { Fits core.old (service_of core.old.state p args.now Service.CanExh).effects }
+    ensures { Does (service_of core.old.state p args.now Service.CanExh) result core.old core.new }
+{
+    let tag = entry_or_none(core, p, &args.a0);
+    Served::Answered(canexh(core, p, tag))
+}
+
 // $WAKE of the process that a number names.
 fn wake_named<R: Routine>(core: &mut Core<R>, p: Pid, n: u32) -> Served
     requires { IsSet core.old p }
@@ -355,10 +387,10 @@ pub(crate) fn serve<R: Routine>(core: &mut Core<R>, p: Pid, call: &Call) -> Serv
         Service::ForceX => Served::Answered(forcex(core, p, n, number(&args.a1))),
         Service::CrePrc => create_named(core, p, args),
         Service::Exit => Served::Answered(exit(core, p, n)),
+        Service::DclExh => declare_handler(core, p, args),
+        Service::CanExh => cancel_handlers(core, p, args),
         // these are not built yet
         Service::DelPrc
-        | Service::DclExh
-        | Service::CanExh
         | Service::Assign
         | Service::Dassgn
         | Service::CreMbx

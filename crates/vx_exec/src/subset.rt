@@ -37,6 +37,8 @@ fn is_built_service(service: Service) -> bool
             | Service::CrePrc
             | Service::Exit
             | Service::GetTim
+            | Service::DclExh
+            | Service::CanExh
     )
 }
 
@@ -74,7 +76,8 @@ fn are_built_images(images: &[Image]) -> bool
 }
 
 /// Whether the executive runs a system so far: it has no units, and its images call of the services those on event flags, common
-/// clusters and waits, ASTs and modes, timers and scheduled wakes, $EXIT, and those that control processes but $DELPRC.
+/// clusters and waits, ASTs and modes, timers and scheduled wakes, $EXIT and exit handlers, and those that control
+/// processes but $DELPRC.
 pub fn is_built(system: &System) -> bool
     ensures { result ≡ is_built system.now }
 {

@@ -1,1 +1,3 @@
 pub mod Transcript
+pub mod TrailerLines
+pub mod ReadJournal

@@ -25,7 +25,7 @@ fn standing_word(standing: Standing) -> &'static [u8]
     }
 }
 
-fn print_standing(
+pub fn print_standing(
     alloc: Global,
     p: Pid,
     name: Name,
@@ -80,7 +80,7 @@ fn print_processes(alloc: Global, exec: &Exec<Scripted>, out: &mut Bytes) -> Res
 }
 
 /// Appends the line `$END`.
-fn print_end(alloc: Global, end: End, taken: u32, out: &mut Bytes) -> Result<(), NoMemory>
+pub fn print_end(alloc: Global, end: End, taken: u32, out: &mut Bytes) -> Result<(), NoMemory>
     ensures { OnOk result (out.new ≡ out.old ++ (end_line end taken ++ 10 ∷ [])) }
 {
     out.push_all(b"$END")?;

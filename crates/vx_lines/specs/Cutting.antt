@@ -1,4 +1,4 @@
--- How the reader cuts off a line. Private contracts cite this alone.
+-- How a reader cuts off a line.
 use Rattle.std.specs.Prelude.{ℕ, ◌+◌, nat_lt, List, length, if◌then◌else◌}
 use Rattle.std.specs.List.{prefix_len}
 use Rattle.vx_lines.specs.ReadEffect.{is_no_feed}

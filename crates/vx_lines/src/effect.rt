@@ -2,156 +2,185 @@
 //!
 //! Each function appends its text. If memory runs out, it may have appended the start of it.
 
-ghost use Rattle.std.specs.Prelude.{◌≡◌, ◌++◌, ◌∷◌, [], decimal, map, OnOk};
-ghost use Rattle.vx_lines.specs.Records.{ended_lines, spaced, id_text, bit_text, cluster_text, cell_text, opened_name, mode_text, cond_text, joined_text, body_text, effect_words, effect_line};
+ghost use Rattle.std.specs.Prelude.{◌≡◌, ◌++◌, ◌∷◌, [], map, OnOk};
+ghost use Rattle.vx_base.specs.declared.effects.Effect.TheVariants as variant;
+ghost use Rattle.vx_lines.specs.Records.{ended_lines, spaced, effect_words, effect_line};
 
+use crate::effect_parts::{
+    cond_text, mode_text, opened_name, print_body, print_cell, print_cluster, print_joined,
+    print_of_id, print_of_name, print_of_pid, print_spaced, print_spaced_bit, print_spaced_id,
+    print_spaced_num,
+};
 use std::alloc::Global;
-use vx_base::{Body, Bytes, Cell, Cond, Effect, Id, Mode, Name, NoMemory, Opened, Pid};
+use vx_base::{Body, Bytes, Cell, Cond, Effect, Id, Mode, Name, NoMemory, Opened, Pid, Target};
 use vx_table::{mode_name, print_target};
-use vx_text::{print_num, print_quote};
+use vx_text::print_quote;
 
-/// Appends a space and a text.
-pub fn print_spaced(text: &[u8], out: &mut Bytes) -> Result<(), NoMemory>
-    ensures { OnOk result (out.new ≡ out.old ++ 32 ∷ text.now) }
-{
-    out.push_all(b" ")?;
-    out.push_all(text)
-}
-
-/// Appends a space and a number.
-pub fn print_spaced_num(alloc: Global, n: u32, out: &mut Bytes) -> Result<(), NoMemory>
-    ensures { OnOk result (out.new ≡ out.old ++ 32 ∷ decimal n) }
-{
-    out.push_all(b" ")?;
-    print_num(alloc, out, u64::from(n))
-}
-
-/// Appends an id.
-pub fn print_id(alloc: Global, id: Id, out: &mut Bytes) -> Result<(), NoMemory>
-    ensures { OnOk result (out.new ≡ out.old ++ id_text id) }
-{
-    out.push_all(b"#")?;
-    print_num(alloc, out, u64::from(id.0))
-}
-
-fn print_spaced_id(alloc: Global, id: Id, out: &mut Bytes) -> Result<(), NoMemory>
-    ensures { OnOk result (out.new ≡ out.old ++ 32 ∷ id_text id) }
-{
-    out.push_all(b" ")?;
-    print_id(alloc, id, out)
-}
-
-fn print_spaced_bit(alloc: Global, bit: bool, out: &mut Bytes) -> Result<(), NoMemory>
-    ensures { OnOk result (out.new ≡ out.old ++ 32 ∷ bit_text bit) }
-{
-    print_spaced_num(alloc, u32::from(bit), out)
-}
-
-fn print_cluster(alloc: Global, group: u32, name: &Name, out: &mut Bytes) -> Result<(), NoMemory>
-    ensures { OnOk result (out.new ≡ out.old ++ cluster_text group name.now) }
-{
-    print_num(alloc, out, u64::from(group))?;
-    out.push_all(b":")?;
-    out.push_all(name.text())
-}
-
-fn print_cell(alloc: Global, cell: &Cell, out: &mut Bytes) -> Result<(), NoMemory>
-    ensures { OnOk result (out.new ≡ out.old ++ cell_text cell.now) }
-{
-    match cell {
-        Cell::Local(p, efn) => {
-            print_num(alloc, out, u64::from(p.0))?;
-            out.push_all(b":")?;
-            print_num(alloc, out, u64::from(*efn))
-        }
-        Cell::Common(group, name, n) => {
-            print_cluster(alloc, *group, name, out)?;
-            out.push_all(b":")?;
-            print_num(alloc, out, u64::from(*n))
-        }
-    }
-}
-
-fn opened_name(kind: Opened) -> &'static [u8]
-    ensures { result.now ≡ opened_name kind }
-{
-    match kind {
-        Opened::Bio => b"BIO",
-        Opened::Dio => b"DIO",
-        Opened::Attn => b"ATTN",
-        Opened::Timer => b"TIMER",
-        Opened::Wake => b"WAKE",
-        Opened::Ast => b"AST",
-        Opened::Force => b"FORCE",
-        Opened::Exh => b"EXH",
-    }
-}
-
-fn mode_text(mode: Option<Mode>) -> &'static [u8]
-    ensures { result.now ≡ mode_text mode }
-{
-    match mode {
-        None => b"-",
-        Some(mode) => mode_name(mode),
-    }
-}
-
-fn cond_text(cond: Option<Cond>) -> &'static [u8]
-    ensures { result.now ≡ cond_text cond }
-{
-    match cond {
-        None => b"-",
-        Some(cond) => cond.name().as_bytes(),
-    }
-}
-
-fn print_body(alloc: Global, body: &Body, out: &mut Bytes) -> Result<(), NoMemory>
-    ensures { OnOk result (out.new ≡ out.old ++ body_text body.now) }
-{
-    match body {
-        Body::Text(bytes) => print_quote(alloc, out, bytes.as_slice()),
-        Body::Eof => out.push_all(b"EOF"),
-    }
-}
-
-fn print_joined(
+// OPEN, an id, what it is, its process, the mode and the number.
+fn print_open(
     alloc: Global,
+    id: Id,
+    kind: Opened,
+    p: Pid,
+    mode: Option<Mode>,
+    n: u32,
+    out: &mut Bytes,
+) -> Result<(), NoMemory>
+    ensures { OnOk result (out.new ≡ out.old ++ spaced (effect_words (variant.Open id kind p mode n))) }
+{
+    print_of_id(alloc, b"OPEN", id, out)?;
+    print_spaced(opened_name(kind), out)?;
+    print_spaced_num(alloc, p.0, out)?;
+    print_spaced(mode_text(mode), out)?;
+    print_spaced_num(alloc, n, out)
+}
+
+// FIN, an id and a condition.
+fn print_fin(alloc: Global, id: Id, cond: Cond, out: &mut Bytes) -> Result<(), NoMemory>
+    ensures { OnOk result (out.new ≡ out.old ++ spaced (effect_words (variant.Fin id cond))) }
+{
+    print_of_id(alloc, b"FIN", id, out)?;
+    print_spaced(cond.name().as_bytes(), out)
+}
+
+// FLAG, an event flag and its state.
+fn print_flag(alloc: Global, cell: &Cell, bit: bool, out: &mut Bytes) -> Result<(), NoMemory>
+    ensures { OnOk result (out.new ≡ out.old ++ spaced (effect_words (variant.Flag cell.now bit))) }
+{
+    out.push_all(b" FLAG ")?;
+    print_cell(alloc, cell, out)?;
+    print_spaced_bit(alloc, bit, out)
+}
+
+// IOSB, a process, a status block, and the three fields.
+fn print_iosb(
+    alloc: Global,
+    p: Pid,
+    i: u32,
+    cond: Option<Cond>,
+    count: u32,
+    info: u32,
+    out: &mut Bytes,
+) -> Result<(), NoMemory>
+    ensures { OnOk result (out.new ≡ out.old ++ spaced (effect_words (variant.Iosb p i cond count info))) }
+{
+    print_of_pid(alloc, b"IOSB", p, out)?;
+    print_spaced_num(alloc, i, out)?;
+    print_spaced(cond_text(cond), out)?;
+    print_spaced_num(alloc, count, out)?;
+    print_spaced_num(alloc, info, out)
+}
+
+// BUF, a process, a buffer and its quoted bytes.
+fn print_buf(alloc: Global, p: Pid, b: u32, bytes: &[u8], out: &mut Bytes) -> Result<(), NoMemory>
+    ensures { OnOk result (out.new ≡ out.old ++ spaced (effect_words (variant.Buf p b bytes.now))) }
+{
+    print_of_pid(alloc, b"BUF", p, out)?;
+    print_spaced_num(alloc, b, out)?;
+    out.push_all(b" ")?;
+    print_quote(alloc, out, bytes)
+}
+
+// VAR, a process, a variable and its value.
+fn print_var(alloc: Global, p: Pid, v: Target, n: u32, out: &mut Bytes) -> Result<(), NoMemory>
+    ensures { OnOk result (out.new ≡ out.old ++ spaced (effect_words (variant.Var p v n))) }
+{
+    print_of_pid(alloc, b"VAR", p, out)?;
+    out.push_all(b" ")?;
+    print_target(v, out)?;
+    print_spaced_num(alloc, n, out)
+}
+
+// MPUT, a mailbox, the id of a write and what is written.
+fn print_put(
+    alloc: Global,
+    name: &Name,
+    id: Id,
+    body: &Body,
+    out: &mut Bytes,
+) -> Result<(), NoMemory>
+    ensures { OnOk result (out.new ≡ out.old ++ spaced (effect_words (variant.MPut name.now id body.now))) }
+{
+    print_of_name(b"MPUT", name, out)?;
+    print_spaced_id(alloc, id, out)?;
+    out.push_all(b" ")?;
+    print_body(alloc, body, out)
+}
+
+// MGET, a mailbox, and the ids of a write and of a read.
+fn print_get(alloc: Global, name: &Name, w: Id, r: Id, out: &mut Bytes) -> Result<(), NoMemory>
+    ensures { OnOk result (out.new ≡ out.old ++ spaced (effect_words (variant.MGet name.now w r))) }
+{
+    print_of_name(b"MGET", name, out)?;
+    print_spaced_id(alloc, w, out)?;
+    print_spaced_id(alloc, r, out)
+}
+
+// MCUT, a mailbox and the id of a write.
+fn print_cut(alloc: Global, name: &Name, w: Id, out: &mut Bytes) -> Result<(), NoMemory>
+    ensures { OnOk result (out.new ≡ out.old ++ spaced (effect_words (variant.MCut name.now w))) }
+{
+    print_of_name(b"MCUT", name, out)?;
+    print_spaced_id(alloc, w, out)
+}
+
+// MBX, a mailbox, and whether it is there.
+fn print_mbx(alloc: Global, name: &Name, bit: bool, out: &mut Bytes) -> Result<(), NoMemory>
+    ensures { OnOk result (out.new ≡ out.old ++ spaced (effect_words (variant.Mbx name.now bit))) }
+{
+    print_of_name(b"MBX", name, out)?;
+    print_spaced_bit(alloc, bit, out)
+}
+
+// CEF, a common cluster, and whether it is there.
+fn print_cef(
+    alloc: Global,
+    group: u32,
+    name: &Name,
+    bit: bool,
+    out: &mut Bytes,
+) -> Result<(), NoMemory>
+    ensures { OnOk result (out.new ≡ out.old ++ spaced (effect_words (variant.Cef group name.now bit))) }
+{
+    out.push_all(b" CEF ")?;
+    print_cluster(alloc, group, name, out)?;
+    print_spaced_bit(alloc, bit, out)
+}
+
+// CLU, a process, the number of its cluster, and the common cluster.
+fn print_clu(
+    alloc: Global,
+    p: Pid,
+    k: u32,
     cluster: &Option<(u32, Name)>,
     out: &mut Bytes,
 ) -> Result<(), NoMemory>
-    ensures { OnOk result (out.new ≡ out.old ++ joined_text cluster.now) }
+    ensures { OnOk result (out.new ≡ out.old ++ spaced (effect_words (variant.Clu p k cluster.now))) }
 {
-    match cluster {
-        None => out.push_all(b"-"),
-        Some((group, name)) => print_cluster(alloc, *group, name, out),
-    }
+    print_of_pid(alloc, b"CLU", p, out)?;
+    print_spaced_num(alloc, k, out)?;
+    out.push_all(b" ")?;
+    print_joined(alloc, cluster, out)
 }
 
-// The effects that have an id alone: a word and the id.
-fn print_of_id(alloc: Global, word: &[u8], id: Id, out: &mut Bytes) -> Result<(), NoMemory>
-    ensures { OnOk result (out.new ≡ out.old ++ spaced (word.now ∷ id_text id ∷ [])) }
+// ENB, a process, a mode, and whether ASTs are delivered.
+fn print_enb(alloc: Global, p: Pid, mode: Mode, bit: bool, out: &mut Bytes) -> Result<(), NoMemory>
+    ensures { OnOk result (out.new ≡ out.old ++ spaced (effect_words (variant.Enb p mode bit))) }
 {
-    print_spaced(word, out)?;
-    print_spaced_id(alloc, id, out)
+    print_of_pid(alloc, b"ENB", p, out)?;
+    print_spaced(mode_name(mode), out)?;
+    print_spaced_bit(alloc, bit, out)
 }
 
-// The effects that begin with a process.
-fn print_of_pid(alloc: Global, word: &[u8], p: Pid, out: &mut Bytes) -> Result<(), NoMemory>
-    ensures { OnOk result (out.new ≡ out.old ++ spaced (word.now ∷ decimal p.0 ∷ [])) }
+// NEW, a process and its name.
+fn print_new(alloc: Global, p: Pid, name: &Name, out: &mut Bytes) -> Result<(), NoMemory>
+    ensures { OnOk result (out.new ≡ out.old ++ spaced (effect_words (variant.New p name.now))) }
 {
-    print_spaced(word, out)?;
-    print_spaced_num(alloc, p.0, out)
-}
-
-// The effects that begin with a name.
-fn print_of_name(word: &[u8], name: &Name, out: &mut Bytes) -> Result<(), NoMemory>
-    ensures { OnOk result (out.new ≡ out.old ++ spaced (word.now ∷ name.now ∷ [])) }
-{
-    print_spaced(word, out)?;
+    print_of_pid(alloc, b"NEW", p, out)?;
     print_spaced(name.text(), out)
 }
 
-// The words of an effect, each after a space.
+// The words of an effect, each behind a space.
 fn print_words(alloc: Global, effect: &Effect, out: &mut Bytes) -> Result<(), NoMemory>
     ensures { OnOk result (out.new ≡ out.old ++ spaced (effect_words effect.now)) }
 {
@@ -162,92 +191,32 @@ fn print_words(alloc: Global, effect: &Effect, out: &mut Bytes) -> Result<(), No
             p,
             mode,
             n,
-        } => {
-            print_of_id(alloc, b"OPEN", *id, out)?;
-            print_spaced(opened_name(*kind), out)?;
-            print_spaced_num(alloc, p.0, out)?;
-            print_spaced(mode_text(*mode), out)?;
-            print_spaced_num(alloc, *n, out)
-        }
-        Effect::Fin { id, cond } => {
-            print_of_id(alloc, b"FIN", *id, out)?;
-            print_spaced(cond.name().as_bytes(), out)
-        }
+        } => print_open(alloc, *id, *kind, *p, *mode, *n, out),
+        Effect::Fin { id, cond } => print_fin(alloc, *id, *cond, out),
         Effect::Mark(id) => print_of_id(alloc, b"MARK", *id, out),
         Effect::Que(id) => print_of_id(alloc, b"QUE", *id, out),
         Effect::Fire(id) => print_of_id(alloc, b"FIRE", *id, out),
         Effect::Drop(id) => print_of_id(alloc, b"DROP", *id, out),
         Effect::Enter(id) => print_of_id(alloc, b"ENTER", *id, out),
         Effect::Leave(id) => print_of_id(alloc, b"LEAVE", *id, out),
-        Effect::Flag { cell, bit } => {
-            out.push_all(b" FLAG ")?;
-            print_cell(alloc, cell, out)?;
-            print_spaced_bit(alloc, *bit, out)
-        }
+        Effect::Flag { cell, bit } => print_flag(alloc, cell, *bit, out),
         Effect::Iosb {
             p,
             i,
             cond,
             count,
             info,
-        } => {
-            print_of_pid(alloc, b"IOSB", *p, out)?;
-            print_spaced_num(alloc, *i, out)?;
-            print_spaced(cond_text(*cond), out)?;
-            print_spaced_num(alloc, *count, out)?;
-            print_spaced_num(alloc, *info, out)
-        }
-        Effect::Buf { p, b, bytes } => {
-            print_of_pid(alloc, b"BUF", *p, out)?;
-            print_spaced_num(alloc, *b, out)?;
-            out.push_all(b" ")?;
-            print_quote(alloc, out, bytes.as_slice())
-        }
-        Effect::Var { p, v, n } => {
-            print_of_pid(alloc, b"VAR", *p, out)?;
-            out.push_all(b" ")?;
-            print_target(*v, out)?;
-            print_spaced_num(alloc, *n, out)
-        }
-        Effect::MPut { name, id, body } => {
-            print_of_name(b"MPUT", name, out)?;
-            print_spaced_id(alloc, *id, out)?;
-            out.push_all(b" ")?;
-            print_body(alloc, body, out)
-        }
-        Effect::MGet { name, w, r } => {
-            print_of_name(b"MGET", name, out)?;
-            print_spaced_id(alloc, *w, out)?;
-            print_spaced_id(alloc, *r, out)
-        }
-        Effect::MCut { name, w } => {
-            print_of_name(b"MCUT", name, out)?;
-            print_spaced_id(alloc, *w, out)
-        }
-        Effect::Mbx { name, bit } => {
-            print_of_name(b"MBX", name, out)?;
-            print_spaced_bit(alloc, *bit, out)
-        }
-        Effect::Cef { group, name, bit } => {
-            out.push_all(b" CEF ")?;
-            print_cluster(alloc, *group, name, out)?;
-            print_spaced_bit(alloc, *bit, out)
-        }
-        Effect::Clu { p, k, cluster } => {
-            print_of_pid(alloc, b"CLU", *p, out)?;
-            print_spaced_num(alloc, *k, out)?;
-            out.push_all(b" ")?;
-            print_joined(alloc, cluster, out)
-        }
-        Effect::Enb { p, mode, bit } => {
-            print_of_pid(alloc, b"ENB", *p, out)?;
-            print_spaced(mode_name(*mode), out)?;
-            print_spaced_bit(alloc, *bit, out)
-        }
-        Effect::New { p, name } => {
-            print_of_pid(alloc, b"NEW", *p, out)?;
-            print_spaced(name.text(), out)
-        }
+        } => print_iosb(alloc, *p, *i, *cond, *count, *info, out),
+        Effect::Buf { p, b, bytes } => print_buf(alloc, *p, *b, bytes.as_slice(), out),
+        Effect::Var { p, v, n } => print_var(alloc, *p, *v, *n, out),
+        Effect::MPut { name, id, body } => print_put(alloc, name, *id, body, out),
+        Effect::MGet { name, w, r } => print_get(alloc, name, *w, *r, out),
+        Effect::MCut { name, w } => print_cut(alloc, name, *w, out),
+        Effect::Mbx { name, bit } => print_mbx(alloc, name, *bit, out),
+        Effect::Cef { group, name, bit } => print_cef(alloc, *group, name, *bit, out),
+        Effect::Clu { p, k, cluster } => print_clu(alloc, *p, *k, cluster, out),
+        Effect::Enb { p, mode, bit } => print_enb(alloc, *p, *mode, *bit, out),
+        Effect::New { p, name } => print_new(alloc, *p, name, out),
         Effect::Gone(p) => print_of_pid(alloc, b"GONE", *p, out),
     }
 }

@@ -5,7 +5,8 @@
 ghost use Rattle.std.specs.Prelude.{◌≡◌, ◌++◌, ◌∷◌, [], OnOk};
 ghost use Rattle.vx_lines.specs.Records.{ended_lines, unit_name, event_text, answer_text, head_line, record_lines, records_lines};
 
-use crate::effect::{print_effects, print_id, print_spaced, print_spaced_num};
+use crate::effect::print_effects;
+use crate::effect_parts::{print_id, print_spaced, print_spaced_num};
 use std::alloc::Global;
 use vx_base::{Answer, Bytes, Event, NoMemory, Rec, UnitNo};
 use vx_image::UnitDecl;
@@ -13,7 +14,7 @@ use vx_table::call_text;
 use vx_text::print_num;
 
 /// The name of a unit; empty if there is no such unit.
-fn unit_name(units: &[UnitDecl], u: UnitNo) -> &[u8]
+pub fn unit_name(units: &[UnitDecl], u: UnitNo) -> &[u8]
     ensures { result.now ≡ unit_name units.now u }
 {
     match units.get(u.0 as usize) {

@@ -39,7 +39,7 @@ pub struct Records {
 }
 
 /// Records that are read whole, and one whose effects are being read.
-#[derive(Debug, Drop)]
+#[derive(Drop)]
 pub struct Reading {
     pub recs: Recs,
     pub current: Option<Rec>,
@@ -167,7 +167,8 @@ fn line_len(text: &[u8]) -> usize
     text.iter().take_while(|b| **b != b'\n').count()
 }
 
-fn fed_len(text: &[u8]) -> usize
+/// How many bytes the first line of a text has, with its line feed.
+pub fn fed_len(text: &[u8]) -> usize
     ensures len { result ≡ fed_len text.now }
     ensures within { result ≤ length text.now }
 {

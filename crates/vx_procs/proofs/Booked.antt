@@ -8,7 +8,7 @@ use Rattle.vx_base.specs.Lists.{amend, less, tally}
 use Rattle.vx_base.specs.Pieces.{Queued, Timer}
 use Rattle.vx_base.specs.declared.number.Pid.{Pid}
 use Rattle.vx_base.specs.declared.quota.Need.{Need}
-use Rattle.vx_record.specs.State.{Process, State, IsProcess, process_at, no_decl}
+use Rattle.vx_record.specs.State.{Process, State, IsProcess, limits_of, process_at, no_decl}
 use Rattle.vx_record.specs.Charges.{charge, bears_ast, is_attention_of, is_same, charged_timer, is_charged, is_timer_of}
 use Rattle.vx_record.proofs.Lists.{either, false_from}
 use Rattle.vx_procs.specs.Held.{Books, IsBooked, books_at, no_books, spare}
@@ -97,8 +97,8 @@ counts_of s before p b h = record {
 }
 
 -- the process that is changed
-pub here_by : (s : State) (before after : Option Pid) (p : Pid) (pr : Process) (ts : List Timer) (b c : Books) → IsProcess s p → IsBooked s before p b → pr.decl ≡ (process_at s p).decl → length pr.frames + spare after p ≤ c.room.frames → length pr.asts + (tally (bears_ast p) s.requests + (tally (is_attention_of p) s.attention + tally (charged_timer p) ts)) + spare after p ≤ c.room.asts → c.account.limits ≡ b.account.limits → Counts s p pr.asts ts c.account.used → IsBooked (record s { procs = slice_set s.procs (p.0 - 1) pr; timers = ts }) after p c
-here_by s before after p pr ts b c made h decl frames asts limits counts =
+pub here_by : (s : State) (after : Option Pid) (p : Pid) (pr : Process) (ts : List Timer) (b c : Books) → IsProcess s p → b.account.limits ≡ limits_of s p → pr.decl ≡ (process_at s p).decl → length pr.frames + spare after p ≤ c.room.frames → length pr.asts + (tally (bears_ast p) s.requests + (tally (is_attention_of p) s.attention + tally (charged_timer p) ts)) + spare after p ≤ c.room.asts → c.account.limits ≡ b.account.limits → Counts s p pr.asts ts c.account.used → IsBooked (record s { procs = slice_set s.procs (p.0 - 1) pr; timers = ts }) after p c
+here_by s after p pr ts b c made has decl frames asts limits counts =
     let t : State = record s { procs = slice_set s.procs (p.0 - 1) pr; timers = ts } in
     let at = put_there s p pr ts made in
     let queued : (process_at t p).asts ≡ pr.asts = ap (λ (x : Process). x.asts) at in
@@ -108,7 +108,7 @@ here_by s before after p pr ts b c made h decl frames asts limits counts =
       used = need_eq c.account.used (charge t p)
           (counts.ast ∙ ap (λ (xs : List Queued). tally (bears_ast p) s.requests + (tally (is_attention_of p) s.attention + (tally (charged_timer p) ts + tally is_charged xs))) (sym queued))
           counts.bio counts.dio counts.byt counts.tqe;
-      limits = limits ∙ (h.limits ∙ ap (λ (n : ℕ). (slice_index_or s.system.decls n no_decl).limits) (sym (ap (λ (x : Process). x.decl) at ∙ decl)));
+      limits = limits ∙ (has ∙ ap (λ (n : ℕ). (slice_index_or s.system.decls n no_decl).limits) (sym (ap (λ (x : Process). x.decl) at ∙ decl)));
     }
 
 -- any other, as timers come and go

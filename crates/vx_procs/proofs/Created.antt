@@ -6,9 +6,11 @@ use Rattle.std.proofs.lemmas.List.{append-nil, get_or_append_left, length-map, m
 use Rattle.std.proofs.Math.Seq.{get_or-append_seam}
 use Rattle.vx_base.specs.Flags.{one}
 use Rattle.vx_base.specs.Lists.{tally}
-use Rattle.vx_base.specs.Pieces.{Alarm, OfTimer, OfWake, Queued, Timer}
+use Rattle.vx_base.specs.Log.{Log}
+use Rattle.vx_base.specs.Pieces.{Alarm, OfTimer, OfWake, Queued, Request, Timer}
 use Rattle.vx_base.specs.Quotas.{no_need}
 use Rattle.vx_base.specs.declared.number.Pid.{Pid}
+use Rattle.vx_base.specs.declared.quota.Need.{Need}
 use Rattle.vx_record.specs.State.{Process, State, IsProcess, process_at, nobody, no_decl, pid}
 use Rattle.vx_record.specs.Charges.{charge, charged_timer, is_charged, is_timer, is_timer_of, takes_ast}
 use Rattle.vx_record.specs.Control.{created}
@@ -19,12 +21,14 @@ use Rattle.vx_procs.specs.Fresh.{IsFresh}
 use Rattle.vx_procs.specs.Held.{AreHeld, Books, IsBooked, IsOwn, IsTargetMade, books_at, no_books}
 use Rattle.vx_procs.specs.Kernel.{Kernel, Room, with_state}
 use Rattle.vx_procs.specs.Ready.{HasNewcomer}
-use Rattle.vx_procs.specs.View.{process, state, kernel, newcomers, books, books_of, room_of, IsHeld}
+use Rattle.vx_procs.specs.Requests.{IsOwnRequest}
+use Rattle.vx_procs.specs.View.{process, state, kernel, logs, newcomers, books, books_of, room_of, IsHeld}
 use Rattle.vx_procs.specs.Words.{with_created}
 use Rattle.vx_procs.specs.declared.procs.Core.TheInside.{Inside}
 use Rattle.vx_procs.specs.declared.process.Proc.{Proc}
 use Rattle.vx_procs.proofs.Booked.{apart, need_eq, spare_few}
 use Rattle.vx_procs.proofs.Changed.{booked_quiet}
+use Rattle.vx_procs.proofs.Bills.{HasNone, other_charge}
 
 -- The spare process.
 
@@ -68,6 +72,19 @@ none_own s q (t ∷ ts) above h =
     let other : q.0 ≢ t.p.0 = λ e. omega (arith, above, h.0.made.within, e) in
     (omega (arith, rest.0, ap one (apart t.p q (takes_ast t.what) other)), omega (arith, rest.1, ap one (apart t.p q (is_timer t.what) other)))
 
+-- and no request
+none_asked : (s : State) (q : Pid) (rs : List Request) → length s.procs < q.0 → AllByRecursion (λ r. IsOwnRequest s r.req) rs → HasNone s q rs
+none_asked s q [] above h = record { ast = refl; bio = refl; dio = refl; byt = refl }
+none_asked s q (r ∷ rs) above h =
+    let rest = none_asked s q rs above h.1 in
+    let other = other_charge s q r (λ e. omega (arith, above, h.0.made.within, e)) in
+    record {
+      ast = omega (arith, rest.ast, ap (λ (n : Need). n.ast) other);
+      bio = omega (arith, rest.bio, ap (λ (n : Need). n.bio) other);
+      dio = omega (arith, rest.dio, ap (λ (n : Need). n.dio) other);
+      byt = omega (arith, rest.byt, ap (λ (n : Need). n.byt) other);
+    }
+
 grown : (s : State) (pr : Process) (q : Pid) → IsProcess s q → IsProcess (record s { procs = s.procs ++ pr ∷ [] }) q
 grown s pr q m = record { above = m.above; within = omega (arith, m.within, length-append s.procs (pr ∷ [])) }
 
@@ -79,8 +96,8 @@ last_at : {A : Type 0} (xs : List A) (y d : A) → slice_index_or (xs ++ y ∷ [
 last_at xs y d = let e : length xs + 1 - 1 ≡ length xs = omega arith in ap (λ (n : ℕ). slice_index_or (xs ++ y ∷ []) n d) e ∙ get_or-append_seam xs y [] d
 
 -- one process more, with its books
-held_with : (s : State) (bs : List Books) (short : Option Pid) (pr : Process) (b : Books) → AreHeld s short bs → length bs ≡ length s.procs → IsBooked (record s { procs = s.procs ++ pr ∷ [] }) short (pid (length s.procs + 1)) b → AreHeld (record s { procs = s.procs ++ pr ∷ [] }) short (bs ++ b ∷ [])
-held_with s bs short pr b h same new =
+held_with : (s : State) (bs : List Books) (ls : List (Option Log)) (short : Option Pid) (pr : Process) (b : Books) → AreHeld s short bs ls → length bs ≡ length s.procs → IsBooked (record s { procs = s.procs ++ pr ∷ [] }) short (pid (length s.procs + 1)) b → AreHeld (record s { procs = s.procs ++ pr ∷ [] }) short (bs ++ b ∷ []) ls
+held_with s bs ls short pr b h same new =
     let t : State = record s { procs = s.procs ++ pr ∷ [] } in
     record {
       booked = λ q m. elim (cases_eq q.0 (length s.procs + 1)) [
@@ -97,6 +114,8 @@ held_with s bs short pr b h same new =
             (booked_quiet s (s.procs ++ pr ∷ []) short q (books_at bs q) (record { decl = ap (λ (x : Process). x.decl) at; asts = ap (λ (x : Process). x.asts) at; frames = omega (arith, ap (λ (x : Process). length x.frames) at) }) (h.booked q was))
       ];
       timers = all_weaker (IsOwn s) (IsOwn t) (λ x own. record { made = grown s pr x.p own.made; target = target_grown s pr x.what own.target; ahead = own.ahead; soon = own.soon }) s.timers h.timers;
+      requests = all_weaker (λ r. IsOwnRequest s r.req) (λ r. IsOwnRequest t r.req) (λ r own. record { made = grown s pr r.req.p own.made; device = own.device; fits = own.fits; iosb = own.iosb; buf = own.buf }) s.requests h.requests;
+      served = h.served;
       marked = some_weaker (IsProcess s) (IsProcess t) (λ q m. grown s pr q m) short h.marked;
     }
 
@@ -109,11 +128,12 @@ fresh_booked c r h fresh =
     let at : process_at t q ≡ process r = last_at s.procs (process r) nobody in
     let queued : (process_at t q).asts ≡ [] = ap (λ (x : Process). x.asts) at ∙ fresh.none in
     let none = none_own s q c.timers.items (omega arith) h.timers in
+    let idle = none_asked s q c.requests.items (omega arith) h.requests in
     let few = spare_few c.short q in
     record {
       frames = omega (arith, fresh.frame, few, ap (λ (x : Process). length x.frames) at);
-      asts = omega (arith, fresh.ast, few, none.0, ap (λ (qs : List Queued). length qs) queued);
-      used = ap (λ (a : Quotas). a.used) fresh.account ∙ need_eq no_need (charge t q) (omega (arith, none.0, ap (λ (qs : List Queued). tally is_charged qs) queued)) refl refl refl (sym none.1);
+      asts = omega (arith, fresh.ast, few, none.0, idle.ast, ap (λ (qs : List Queued). length qs) queued);
+      used = ap (λ (a : Quotas). a.used) fresh.account ∙ need_eq no_need (charge t q) (omega (arith, none.0, idle.ast, ap (λ (qs : List Queued). tally is_charged qs) queued)) (sym idle.bio) (sym idle.dio) (sym idle.byt) (sym none.1);
       limits = ap (λ (a : Quotas). a.limits) fresh.account ∙ ap (λ (n : ℕ). (slice_index_or c.system.decls n no_decl).limits) (sym (ap (λ (x : Process). x.decl) at));
     }
 
@@ -122,10 +142,10 @@ held_created c d r items fresh h =
     let s = state c in
     let procs : map process d.procs.items ≡ s.procs ++ process r ∷ [] = ap (map process) items ∙ map-append process c.procs.items (r ∷ []) in
     let kept : map books_of d.procs.items ≡ books c ++ books_of r ∷ [] = ap (map books_of) items ∙ map-append books_of c.procs.items (r ∷ []) in
-    let held = held_with s (books c) c.short (process r) (books_of r) h (length-map c.procs.items books_of ∙ sym (length-map c.procs.items process)) (fresh_booked c r h fresh) in
-    subst (λ (ps : List Process). AreHeld (record s { procs = ps }) c.short (map books_of d.procs.items)) (sym procs)
-    (subst (λ (bs : List Books). AreHeld (record s { procs = s.procs ++ process r ∷ [] }) c.short bs) (sym kept) held)
+    let held = held_with s (books c) (logs c) c.short (process r) (books_of r) h (length-map c.procs.items books_of ∙ sym (length-map c.procs.items process)) (fresh_booked c r h fresh) in
+    subst (λ (ps : List Process). AreHeld (record s { procs = ps }) c.short (map books_of d.procs.items) (logs c)) (sym procs)
+    (subst (λ (bs : List Books). AreHeld (record s { procs = s.procs ++ process r ∷ [] }) c.short bs (logs c)) (sym kept) held)
 
 -- the same processes, with other room for them
 pub held_same : {R : Type 0} (c d : Inside R) → d.procs.items ≡ c.procs.items → IsHeld c → IsHeld (record c { procs = d.procs; spare = d.spare })
-held_same c d items h = subst (λ (xs : List (Proc _)). AreHeld (record (state c) { procs = map process xs }) c.short (map books_of xs)) (sym items) h
+held_same c d items h = subst (λ (xs : List (Proc _)). AreHeld (record (state c) { procs = map process xs }) c.short (map books_of xs) (logs c)) (sym items) h

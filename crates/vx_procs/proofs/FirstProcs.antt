@@ -1,10 +1,11 @@
 -- The processes that are there from the start, one declaration after another.
 use Rattle.vx_procs.proofs.Booked.{need_eq}
-use Rattle.std.proofs.Common.{◌≡◌, ℕ, zero, suc, ◌+◌, ◌-◌, ◌<◌, ◌≤◌, None, arith, List, [], ◌∷◌, ◌++◌, true, false, if◌then◌else◌, map, drop, length, slice_index_or, refl, ap, sym, subst, ◌∙◌}
+use Rattle.std.proofs.Common.{◌≡◌, ℕ, zero, suc, ◌+◌, ◌-◌, ◌<◌, ◌≤◌, None, Option, arith, List, [], ◌∷◌, ◌++◌, true, false, if◌then◌else◌, map, drop, length, slice_index_or, refl, ap, sym, subst, ◌∙◌}
 use Rattle.std.proofs.lemmas.List.{append_assoc, drop_more}
 use Rattle.vx_image.specs.declared.decl.ProcDecl.{ProcDecl}
 use Rattle.std.specs.List.{AllByRecursion}
-use Rattle.vx_base.specs.Pieces.{Queued}
+use Rattle.vx_base.specs.Log.{Log}
+use Rattle.vx_base.specs.Pieces.{DeviceUnit, Queued}
 use Rattle.vx_base.specs.Quotas.{no_need}
 use Rattle.vx_base.specs.Lists.{tally}
 use Rattle.vx_image.specs.declared.system.System.{System}
@@ -48,9 +49,9 @@ fresh_at decls [] i h within = absurd (omega arith)
 fresh_at decls (x ∷ xs) zero h within = (h.0.frame, h.0.none, h.0.ast, h.0.account)
 fresh_at decls (x ∷ xs) (suc i) h within = fresh_at decls xs i h.1 (omega arith)
 
-pub first_held : {R : Type 0} (system : System) (xs : List (Proc R)) → AllByRecursion (IsFresh system.decls) xs → AreHeld (record (first system) { procs = map process xs }) None (map books_of xs)
-first_held system xs h =
-    let s : State = record (first system) { procs = map process xs } in
+pub first_held : {R : Type 0} (system : System) (us : List DeviceUnit) (ls : List (Option Log)) (xs : List (Proc R)) → AllByRecursion (IsFresh system.decls) xs → AreHeld (record (first system) { procs = map process xs; units = us }) None (map books_of xs) ls
+first_held system us ls xs h =
+    let s : State = record (first system) { procs = map process xs; units = us } in
     record {
       booked = λ p m.
           let f = fresh_at system.decls xs (p.0 - 1) h (omega (arith, m.above, m.within)) in
@@ -62,5 +63,7 @@ first_held system xs h =
             limits = ap (λ (a : Quotas). a.limits) f.3;
           };
       timers = tt;
+      requests = tt;
+      served = λ u. omega arith;
       marked = tt;
     }

@@ -1,4 +1,5 @@
 pub mod Bare
+pub mod Bills
 pub mod Booked
 pub mod Cells
 pub mod Changed
@@ -6,9 +7,12 @@ pub mod Ended
 pub mod Created
 pub mod FirstProcs
 pub mod Firsts
+pub mod Left
 pub mod Moments
 pub mod Ops
+pub mod Own
 pub mod Quiet
+pub mod Requested
 pub mod Rest
 pub mod Stack
 pub mod Started

@@ -25,23 +25,25 @@ use Rattle.vx_procs.specs.Held.{Books, IsBooked, IsOwn, IsTargetMade, books_at, 
 use Rattle.vx_procs.specs.Kernel.{IsWithinRoom, Kernel, Room, room_at}
 use Rattle.vx_procs.specs.Ready.{HasSpares, IsMoment, promised}
 use Rattle.vx_procs.specs.Words.{alarm_ast, alarm_need, deliverable_of, fired_need, have_own_ids, IsWoken, with_queued_if, without_started}
+use Rattle.vx_procs.specs.Requests.{IsOwnRequest}
 use Rattle.vx_timers.specs.Seen.{falls_of}
 use Rattle.vx_procs.specs.View.{process, state, kernel, books, books_of, room_of, IsHeld}
 use Rattle.vx_procs.specs.declared.procs.Core.TheInside.{Inside}
 use Rattle.vx_procs.specs.declared.process.Proc.{Proc}
 use Rattle.vx_procs.proofs.Booked.{Counts, apart, counts_of, here_by, others_by, one_few, room_books, spare_used, spared, tally-amend, tally-append, tally-less}
 use Rattle.vx_procs.proofs.Changed.{held_set, made_in, seen, seen_books}
-use Rattle.vx_procs.proofs.Started.{own_found, started_found}
+use Rattle.vx_procs.proofs.Own.{find_own}
+use Rattle.vx_procs.proofs.Started.{started_found}
 
 -- the books of the process that the code reads
-booked_here : {R : Type 0} (c : Inside R) (p : Pid) (r : Proc R) → IsHeld c → IsProcess (state c) p → r ≡ slice_index_or c.procs.items (p.0 - 1) r → IsBooked (state c) c.short p (books_of r)
+pub booked_here : {R : Type 0} (c : Inside R) (p : Pid) (r : Proc R) → IsHeld c → IsProcess (state c) p → r ≡ slice_index_or c.procs.items (p.0 - 1) r → IsBooked (state c) c.short p (books_of r)
 booked_here c p r h made is = subst (λ (b : Books). IsBooked (state c) c.short p b) (sym (seen_books c p r made is)) (h.booked p made)
 
-spares_in : {R : Type 0} (c : Inside R) (k : Kernel) → kernel c ≡ k → HasSpares k → HasSpares (kernel c)
+pub spares_in : {R : Type 0} (c : Inside R) (k : Kernel) → kernel c ≡ k → HasSpares k → HasSpares (kernel c)
 spares_in c k view spares = subst (λ (x : Kernel). HasSpares x) (sym view) spares
 
 -- there is a spare place of each kind for that process
-spares_here : {R : Type 0} (c : Inside R) (p : Pid) (r : Proc R) → HasSpares (kernel c) → IsProcess (state c) p → r ≡ slice_index_or c.procs.items (p.0 - 1) r → (length (process r).frames + 1 ≤ (room_of r).frames) × (length (process r).asts + promised (state c) p + 1 ≤ (room_of r).asts)
+pub spares_here : {R : Type 0} (c : Inside R) (p : Pid) (r : Proc R) → HasSpares (kernel c) → IsProcess (state c) p → r ≡ slice_index_or c.procs.items (p.0 - 1) r → (length (process r).frames + 1 ≤ (room_of r).frames) × (length (process r).asts + promised (state c) p + 1 ≤ (room_of r).asts)
 spares_here c p r spares made is =
     let has = spares p made in
     let was = seen c p r made is in
@@ -49,12 +51,12 @@ spares_here c p r spares made is =
     (omega (arith, has.frame, ap (λ (x : Room). x.frames) rooms, ap (λ (x : Process). length x.frames) was), omega (arith, has.ast, ap (λ (x : Room). x.asts) rooms, ap (λ (x : Process). length x.asts) was))
 
 -- what the process is charged, as the code sees it
-counts_here : {R : Type 0} (c : Inside R) (p : Pid) (r : Proc R) → IsHeld c → IsProcess (state c) p → r ≡ slice_index_or c.procs.items (p.0 - 1) r → Counts (state c) p (process r).asts c.timers.items r.account.used
+pub counts_here : {R : Type 0} (c : Inside R) (p : Pid) (r : Proc R) → IsHeld c → IsProcess (state c) p → r ≡ slice_index_or c.procs.items (p.0 - 1) r → Counts (state c) p (process r).asts c.timers.items r.account.used
 counts_here c p r h made is =
     subst (λ (x : Process). Counts (state c) p x.asts c.timers.items r.account.used) (sym (seen c p r made is)) (counts_of (state c) c.short p (books_of r) (booked_here c p r h made is))
 
 -- each other process, where p alone used its spares
-others_spared : {R : Type 0} (c : Inside R) (p : Pid) → HasSpares (kernel c) → (q : Pid) → IsProcess (state c) q → q.0 ≢ p.0 → IsBooked (state c) c.short q (books_at (books c) q) → IsBooked (state c) (Some p) q (books_at (books c) q)
+pub others_spared : {R : Type 0} (c : Inside R) (p : Pid) → HasSpares (kernel c) → (q : Pid) → IsProcess (state c) q → q.0 ≢ p.0 → IsBooked (state c) c.short q (books_at (books c) q) → IsBooked (state c) (Some p) q (books_at (books c) q)
 others_spared c p spares q m other b = let kept = spared c (Some p) q spares m in others_by (state c) c.short (Some p) c.timers.items q (books_at (books c) q) b kept.0 kept.1 refl refl
 
 pub held_framed : {R : Type 0} (f : Frame) (c : Inside R) (k : Kernel) (p : Pid) (r new : Proc R) → kernel c ≡ k → IsProcess k.state p → HasSpares k → r ≡ slice_index_or c.procs.items (p.0 - 1) r → process new ≡ with_frame f (process r) → books_of new ≡ books_of r → IsHeld c → IsHeld (record c { procs = with_item c.procs (p.0 - 1) new; short = Some p })
@@ -67,7 +69,7 @@ held_framed f c k p r new view is_made has is e same h =
     let queued : (process new).asts ≡ (process r).asts = ap (λ (x : Process). x.asts) e in
     let counts = counts_here c p r h made is in
     held_set c (Some p) p new c.timers.items h made
-    (here_by s c.short (Some p) p (process new) c.timers.items (books_of r) (books_of new) made (booked_here c p r h made is)
+    (here_by s (Some p) p (process new) c.timers.items (books_of r) (books_of new) made (booked_here c p r h made is).limits
     (ap (λ (x : Process). x.decl) e ∙ ap (λ (x : Process). x.decl) was)
     (omega (arith, spare_room.0, spare_used p, ap (λ (x : Process). length x.frames) e, ap (λ (x : Books). x.room.frames) same))
     (omega (arith, spare_room.1, spare_used p, ap (λ (xs : List Queued). length xs) queued, ap (λ (x : Books). x.room.asts) same))
@@ -84,7 +86,7 @@ record IsPaid (before after : Need) (n : ℕ) : Type 0 where
   dio : after.dio ≡ before.dio
   byt : after.byt ≡ before.byt
 
-charged_limits : (a : Quotas) (need : Need) → (charged a need).limits ≡ a.limits
+pub charged_limits : (a : Quotas) (need : Need) → (charged a need).limits ≡ a.limits
 charged_limits a need = elim (has_left a need) as (λ t. (cond t (record a { used = together a.used need }) a).limits ≡ a.limits) [ true ↦ refl | false ↦ refl ]
 
 paid : (a : Quotas) (b : Bool) → (b ≡ true → has_left a (ast_need true) ≡ true) → IsPaid a.used (charged a (ast_need b)).used (one b)
@@ -104,7 +106,7 @@ paid a false h =
     ]
 
 -- what exceeds no limit is left
-left_for : {R : Type 0} (c : Inside R) (k : Kernel) (p : Pid) (r : Proc R) (need : Need) → kernel c ≡ k → IsHeld c → IsProcess (state c) p → r ≡ slice_index_or c.procs.items (p.0 - 1) r → exceeds k.state p need ≡ false → has_left r.account need ≡ true
+pub left_for : {R : Type 0} (c : Inside R) (k : Kernel) (p : Pid) (r : Proc R) (need : Need) → kernel c ≡ k → IsHeld c → IsProcess (state c) p → r ≡ slice_index_or c.procs.items (p.0 - 1) r → exceeds k.state p need ≡ false → has_left r.account need ≡ true
 left_for c k p r need view h made is within =
     let b = booked_here c p r h made is in
     let here : exceeds (state c) p need ≡ false = ap (λ (x : Kernel). exceeds x.state p need) view ∙ within in
@@ -125,7 +127,7 @@ held_queued q c k p r new view is_made has within is e room account h =
     let used : new.account.used ≡ (charged r.account (ast_need q.charged)).used = ap (λ (a : Quotas). a.used) account in
     let more : tally is_charged (process new).asts ≡ tally is_charged (process r).asts + (one q.charged + 0) = ap (λ (xs : List Queued). tally is_charged xs) queued ∙ tally-append is_charged (process r).asts (q ∷ []) in
     held_set c (Some p) p new c.timers.items h made
-    (here_by s c.short (Some p) p (process new) c.timers.items (books_of r) (books_of new) made (booked_here c p r h made is)
+    (here_by s (Some p) p (process new) c.timers.items (books_of r) (books_of new) made (booked_here c p r h made is).limits
     (ap (λ (x : Process). x.decl) e ∙ ap (λ (x : Process). x.decl) was)
     (omega (arith, spare_room.0, spare_used p, ap (λ (x : Process). length x.frames) e, ap (λ (x : Room). x.frames) room))
     (omega (arith, spare_room.1, spare_used p, ap (λ (xs : List Queued). length xs) queued, length-append (process r).asts (q ∷ []), ap (λ (x : Room). x.asts) room))
@@ -185,7 +187,7 @@ held_freed o c k p r new view is_made is decl frames out room account h =
     let used : new.account.used ≡ (freed o r.account).used = ap (λ (a : Quotas). a.used) account in
     let owed_there : length (process_at s p).asts ≡ length (process r).asts = ap (λ (x : Process). length x.asts) (sym was) in
     held_set c c.short p new c.timers.items h made
-    (here_by s c.short c.short p (process new) c.timers.items (books_of r) (books_of new) made b
+    (here_by s c.short p (process new) c.timers.items (books_of r) (books_of new) made b.limits
     (decl ∙ ap (λ (x : Process). x.decl) was)
     (omega (arith, b.frames, frames, ap (λ (x : Process). length x.frames) was, ap (λ (x : Room). x.frames) room))
     (omega (arith, b.asts, out.few, owed_there, ap (λ (x : Room). x.asts) room))
@@ -217,7 +219,7 @@ out_from pr None e own = record { few = omega arith; counted = omega arith }
 out_from pr (Some q) e own =
     let same : Queued → Bool = λ r. r.id.0 == q.id.0 in
     let found = started_found pr q e in
-    subst (λ (o : Option Queued). IsOut is_charged o pr.asts (less same pr.asts)) (own_found _ pr.asts q own found.1) (out_less is_charged same pr.asts)
+    subst (λ (o : Option Queued). IsOut is_charged o pr.asts (less same pr.asts)) (find_own (λ (r : Queued). r.id) _ pr.asts q own found.1) (out_less is_charged same pr.asts)
 
 pub out_started : (pr : Process) → IsTrue (have_own_ids pr.asts) → IsOut is_charged (deliverable_of pr) pr.asts (without_started (deliverable_of pr) pr).asts
 out_started pr own = out_from pr (deliverable_of pr) refl own
@@ -295,11 +297,11 @@ within_alarm a u ast tqe = let bill = alarm_billed a in within_need (alarm_need 
 pub within_fired : (a : Alarm) (u : Need) → one (takes_ast a) ≤ u.ast → one (is_timer a) ≤ u.tqe → IsTrue (is_within (fired_need a) u)
 within_fired a u ast tqe = let back = fired_back a in within_need (fired_need a) u (omega (arith, back.ast, ast)) (omega (arith, back.tqe, tqe)) back.bio back.dio back.byt
 
-queued_decl : (o : Option Queued) (pr : Process) → (with_queued_if o pr).decl ≡ pr.decl
+pub queued_decl : (o : Option Queued) (pr : Process) → (with_queued_if o pr).decl ≡ pr.decl
 queued_decl None pr = refl
 queued_decl (Some q) pr = refl
 
-queued_frames : (o : Option Queued) (pr : Process) → (with_queued_if o pr).frames ≡ pr.frames
+pub queued_frames : (o : Option Queued) (pr : Process) → (with_queued_if o pr).frames ≡ pr.frames
 queued_frames None pr = refl
 queued_frames (Some q) pr = refl
 
@@ -323,7 +325,7 @@ held_out test asts c p t r new ts found own left is decl frames more longer few 
     ap (λ (xs : List Timer). tally (is_timer_of p) xs + one (is_timer t.what)) items ∙ (ap (λ b. tally (is_timer_of p) (less test c.timers.items) + one b) (sym (timer_own p t t.what own refl)) ∙ tally-less (is_timer_of p) test c.timers.items t (sym found)) in
     let queued : length (process_at s p).asts ≡ length (process r).asts = ap (λ (x : Process). length x.asts) (sym was) in
     held_set c c.short p new ts.items h made
-    (here_by s c.short c.short p (process new) ts.items (books_of r) (books_of new) made b
+    (here_by s c.short p (process new) ts.items (books_of r) (books_of new) made b.limits
     (decl ∙ ap (λ (x : Process). x.decl) was)
     (omega (arith, b.frames, ap (λ (xs : List Frame). length xs) frames, ap (λ (x : Process). length x.frames) was, ap (λ (x : Room). x.frames) room))
     (omega (arith, b.asts, longer, few, charges, queued, ap (λ (x : Room). x.asts) room))
@@ -450,7 +452,7 @@ held_timed t c k p r new ts view is_made has own is_own within is e room account
     omega (arith, more, there, same) in
     let few = one_few (takes_ast t.what) in
     held_set c (Some p) p new ts.items h made
-    (here_by s c.short (Some p) p (process new) ts.items (books_of r) (books_of new) made (booked_here c p r h made is)
+    (here_by s (Some p) p (process new) ts.items (books_of r) (books_of new) made (booked_here c p r h made is).limits
     (ap (λ (x : Process). x.decl) e ∙ ap (λ (x : Process). x.decl) was)
     (omega (arith, spare_room.0, spare_used p, ap (λ (x : Process). length x.frames) e, ap (λ (x : Room). x.frames) room))
     (omega (arith, spare_room.1, spare_used p, ap (λ (x : Process). length x.asts) e, charges, few, ap (λ (x : Room). x.asts) room))
@@ -499,6 +501,8 @@ held_later now n c ts later past few h =
           (ap (λ (xs : List Timer). tally (charged_timer q) xs) items ∙ tally-amend (charged_timer q) (is_due now) (due_again n) (λ x. refl) c.timers.items)
           (ap (λ (xs : List Timer). tally (is_timer_of q) xs) items ∙ tally-amend (is_timer_of q) (is_due now) (due_again n) (λ x. refl) c.timers.items);
       timers = subst (λ (xs : List Timer). AllByRecursion (IsOwn (record s { timers = ts.items })) xs) (sym items) (own_again s now n ts.items c.timers.items past few h.timers);
+      requests = all_weaker (λ r. IsOwnRequest s r.req) (λ r. IsOwnRequest (record s { timers = ts.items }) r.req) (λ r o. record { made = o.made; device = o.device; fits = o.fits; iosb = o.iosb; buf = o.buf }) c.requests.items h.requests;
+      served = h.served;
       marked = h.marked;
     }
 
@@ -514,6 +518,8 @@ held_then now c k view moment h =
     record {
       booked = λ q m. let b = h.booked q m in record { frames = b.frames; asts = b.asts; used = b.used; limits = b.limits };
       timers = own_then (state c) now c.timers.items here.forward here.ahead h.timers;
+      requests = all_weaker (λ r. IsOwnRequest (state c) r.req) (λ r. IsOwnRequest (at_time (state c) now) r.req) (λ r o. record { made = o.made; device = o.device; fits = o.fits; iosb = o.iosb; buf = o.buf }) c.requests.items h.requests;
+      served = h.served;
       marked = h.marked;
     }
 
@@ -526,16 +532,15 @@ spares_none c k view none h =
     record { frame = omega (arith, b.frames, ap (λ (x : Room). x.frames) (room_books c q m)); ast = omega (arith, b.asts, ap (λ (x : Room). x.asts) (room_books c q m)) } in
     subst (λ (x : Kernel). HasSpares x) view here
 
-pub held_roomier : {R : Type 0} (c : Inside R) (p : Pid) (r new : Proc R) → c.short ≡ Some p → r ≡ slice_index_or c.procs.items (p.0 - 1) r → process new ≡ process r → new.account ≡ r.account → IsWithinRoom (room_of r) (room_of new) → IsHeld c → IsHeld (record c { procs = with_item c.procs (p.0 - 1) new })
-held_roomier c p r new short is e account kept h =
+pub held_roomier : {R : Type 0} (c : Inside R) (p : Pid) (r new : Proc R) → IsProcess (state c) p → r ≡ slice_index_or c.procs.items (p.0 - 1) r → process new ≡ process r → new.account ≡ r.account → IsWithinRoom (room_of r) (room_of new) → IsHeld c → IsHeld (record c { procs = with_item c.procs (p.0 - 1) new })
+held_roomier c p r new made is e account kept h =
     let s = state c in
-    let made : IsProcess s p = subst (λ (o : Option Pid). IfSome o (IsProcess s)) short h.marked in
     let was = seen c p r made is in
     let b = booked_here c p r h made is in
     let counts = counts_here c p r h made is in
     let queued : length (process_at s p).asts ≡ length (process r).asts = ap (λ (x : Process). length x.asts) (sym was) in
     held_set c c.short p new c.timers.items h made
-    (here_by s c.short c.short p (process new) c.timers.items (books_of r) (books_of new) made b
+    (here_by s c.short p (process new) c.timers.items (books_of r) (books_of new) made b.limits
     (ap (λ (x : Process). x.decl) e ∙ ap (λ (x : Process). x.decl) was)
     (omega (arith, b.frames, kept.frames, ap (λ (x : Process). length x.frames) e, ap (λ (x : Process). length x.frames) was))
     (omega (arith, b.asts, kept.asts, queued, ap (λ (x : Process). length x.asts) e))
@@ -551,7 +556,7 @@ held_mended c p r new short is e account frames asts h =
     let b = booked_here c p r h made is in
     let counts = counts_here c p r h made is in
     held_set c None p new c.timers.items h made
-    (here_by s c.short None p (process new) c.timers.items (books_of r) (books_of new) made b
+    (here_by s None p (process new) c.timers.items (books_of r) (books_of new) made b.limits
     (ap (λ (x : Process). x.decl) e ∙ ap (λ (x : Process). x.decl) was)
     frames
     (omega (arith, asts, counts.ast, ap (λ (a : Quotas). a.used.ast) account))

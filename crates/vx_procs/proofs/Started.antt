@@ -1,7 +1,7 @@
 -- The AST that may start is the first of its mode, and where ids are distinct the first with its id.
-use Rattle.std.proofs.Common.{◌≡◌, List, [], ◌∷◌, Bool, true, false, cond, not, ◌==◌, ◌≤◌, length, eq-eqb, arith, IsTrue, Option, Some, None, inl, inr, ◌⊎◌, refl, ap, sym, ◌∙◌}
-use Rattle.std.specs.List.{find, list_any}
-use Rattle.std.proofs.lemmas.Bool.{and_parts, eqb-true, not-true, or_parts}
+use Rattle.std.proofs.Common.{◌≡◌, List, [], ◌∷◌, true, false, cond, ◌==◌, ◌≤◌, length, arith, IsTrue, Option, Some, None, inl, inr, ◌⊎◌, refl, ap, sym, ◌∙◌}
+use Rattle.std.specs.List.{find}
+use Rattle.std.proofs.lemmas.Bool.{eqb-true}
 use Rattle.vx_base.specs.Lists.{less}
 use Rattle.vx_base.specs.Modes.{rank}
 use Rattle.vx_base.specs.Pieces.{Queued, Enables}
@@ -16,36 +16,10 @@ use Rattle.vx_frames.specs.Frames as stack
 use Rattle.vx_record.specs.Asts.{deliverable_at}
 use Rattle.vx_record.specs.State.{Process}
 use Rattle.vx_procs.specs.Words.{deliverable_of, have_own_ids, without_started}
-
--- what does not hold of any does not hold of the one that is found
-none_found : (p g : Queued → Bool) (xs : List Queued) (q : Queued) → list_any g xs ≡ false → find p xs ≡ Some q → g q ≡ false
-none_found p g [] q none found = absurd (cc)
-none_found p g (x ∷ xs) q none found =
-    let parts = or_parts (g x) (list_any g xs) none in
-    let P : Bool → Type 0 = λ b. cond b (Some x) (find p xs) ≡ Some q → g q ≡ false in
-    elim (p x) as P [
-      | true ↦ λ is. let same : x ≡ q = cc in ap g (sym same) ∙ parts.0
-      | false ↦ λ more. none_found p g xs q parts.1 more
-    ] found
-
--- where no two have one id, the first of a mode is the first with its id
-less_own : (m : Mode) (xs : List Queued) (q : Queued) → IsTrue (have_own_ids xs) → find (is_of_mode m) xs ≡ Some q → less (is_of_mode m) xs ≡ less (λ r. r.id.0 == q.id.0) xs
-less_own m [] q own found = refl
-less_own m (x ∷ xs) q own found =
-    let parts = and_parts (not (list_any (λ r. x.id.0 == r.id.0) xs)) (have_own_ids xs) own in
-    let P : Bool → Type 0 = λ b. cond b (Some x) (find (is_of_mode m) xs) ≡ Some q → cond b xs (x ∷ less (is_of_mode m) xs) ≡ cond (x.id.0 == q.id.0) xs (x ∷ less (λ r. r.id.0 == q.id.0) xs) in
-    elim (is_of_mode m x) as P [
-      | true ↦ λ is.
-          let same : x ≡ q = cc in
-          let here : (x.id.0 == q.id.0) ≡ true = eq-eqb x.id.0 q.id.0 (ap (λ (y : Queued). y.id.0) same) in
-          rw here refl
-      | false ↦ λ more.
-          let other : (x.id.0 == q.id.0) ≡ false = none_found (is_of_mode m) (λ r. x.id.0 == r.id.0) xs q (not-true _ parts.0) more in
-          rw other (ap (λ ys. x ∷ ys) (less_own m xs q parts.1 more))
-    ] found
+use Rattle.vx_procs.proofs.Own.{less_own}
 
 own_by_mode : (m : Mode) (asts : List Queued) (q : Queued) → IsTrue (have_own_ids asts) → find (is_of_mode m) asts ≡ Some q → less_first_like (Some q) asts ≡ less (λ r. r.id.0 == q.id.0) asts
-own_by_mode m asts q own found = ap (λ r. less (λ (a : Queued). rank a.mode == r) asts) (eqb-true _ _ (found_passes (is_of_mode m) asts q found)) ∙ less_own m asts q own found
+own_by_mode m asts q own found = ap (λ r. less (λ (a : Queued). rank a.mode == r) asts) (eqb-true _ _ (found_passes (is_of_mode m) asts q found)) ∙ sym (less_own (λ (r : Queued). r.id) (is_of_mode m) asts q own found)
 
 first_found : (enables : Enables) (current : Mode) (active : Option Mode) (asts : List Queued) (m : Mode) (q : Queued) → first_of_mode enables current active asts m ≡ Some q → find (is_of_mode m) asts ≡ Some q
 first_found enables current active asts m q e = elim (may_start enables current active m) as (λ b. cond b (find (is_of_mode m) asts) None ≡ Some q → find (is_of_mode m) asts ≡ Some q) [ true ↦ λ is. is | false ↦ λ is. absurd (cc) ] e
@@ -115,18 +89,3 @@ started_found pr q =
       | true ↦ λ e. absurd (cc)
       | false ↦ λ e. found_at pr pr.frames q e
     ]
-
--- where no two have one id, what is found is the first with its id
-pub own_found : (test : Queued → Bool) (xs : List Queued) (q : Queued) → IsTrue (have_own_ids xs) → find test xs ≡ Some q → find (λ r. r.id.0 == q.id.0) xs ≡ Some q
-own_found test [] q own e = absurd (cc)
-own_found test (x ∷ xs) q own e =
-    let parts = and_parts (not (list_any (λ r. x.id.0 == r.id.0) xs)) (have_own_ids xs) own in
-    elim (test x) as (λ b. cond b (Some x) (find test xs) ≡ Some q → cond (x.id.0 == q.id.0) (Some x) (find (λ r. r.id.0 == q.id.0) xs) ≡ Some q) [
-      | true ↦ λ is.
-          let same : x ≡ q = cc in
-          let here : (x.id.0 == q.id.0) ≡ true = eq-eqb x.id.0 q.id.0 (ap (λ (y : Queued). y.id.0) same) in
-          rw here (ap Some same)
-      | false ↦ λ more.
-          let other : (x.id.0 == q.id.0) ≡ false = none_found test (λ r. x.id.0 == r.id.0) xs q (not-true _ parts.0) more in
-          rw other (own_found test xs q parts.1 more)
-    ] e

@@ -1,15 +1,20 @@
 -- What the executive keeps beside its state, and what is true of it.
-use Rattle.std.specs.Prelude.{◌≡◌, ℕ, ◌+◌, ◌-◌, ◌<◌, ◌≤◌, List, Bool, false, ◌==◌, not, Option, Some, None, IfSome, length, slice_index_or, ⊤}
+use Rattle.std.specs.Prelude.{◌≡◌, ℕ, ◌+◌, ◌-◌, ◌<◌, ◌≤◌, List, Bool, false, ◌==◌, not, Option, Some, None, IfSome, is_some, length, slice_index_or, ⊤}
 use Rattle.std.specs.List.{AllByRecursion}
 use Rattle.vx_base.specs.Flags.{one}
-use Rattle.vx_base.specs.Pieces.{Timer, Alarm, OfTimer, OfWake}
+use Rattle.vx_base.specs.Lists.{tally}
+use Rattle.vx_base.specs.Log.{Log}
+use Rattle.vx_base.specs.Pieces.{Request, Timer, Alarm, OfTimer, OfWake}
+use Rattle.vx_base.specs.Queues.{is_served_by}
 use Rattle.vx_base.specs.Quotas.{no_need}
 use Rattle.vx_base.specs.declared.number.Pid.{Pid}
+use Rattle.vx_base.specs.declared.number.UnitNo.{UnitNo}
 use Rattle.vx_record.specs.State.{State, IsProcess, IsWithin, process_at, limits_of}
 use Rattle.vx_record.specs.Charges.{charge}
 use Rattle.vx_quota.specs.Account.{Quotas}
 use Rattle.vx_procs.specs.Kernel.{Room, no_room}
 use Rattle.vx_procs.specs.Ready.{owed}
+use Rattle.vx_procs.specs.Requests.{IsOwnRequest}
 
 -- of each process its room and its account
 pub record Books : Type 0 where
@@ -50,7 +55,13 @@ pub record IsOwn (s : State) (t : Timer) : Type 0 where
   pub ahead : s.time ≤ t.due
   pub soon : t.due < s.time + 4294967296
 
-pub record AreHeld (s : State) (short : Option Pid) (books : List Books) : Type 0 where
+-- a unit serves one request at most, and only where there is a log for the end of its service
+abbrev pub AreServed : List Request → List (Option Log) → Type 0
+AreServed requests logs = (u : UnitNo) → tally (is_served_by u) requests ≤ one (is_some (slice_index_or logs u.0 None))
+
+pub record AreHeld (s : State) (short : Option Pid) (books : List Books) (logs : List (Option Log)) : Type 0 where
   pub booked : (p : Pid) → IsProcess s p → IsBooked s short p (books_at books p)
   pub timers : AllByRecursion (IsOwn s) s.timers
+  pub requests : AllByRecursion (λ r. IsOwnRequest s r.req) s.requests
+  pub served : AreServed s.requests logs
   pub marked : IfSome short (IsProcess s)

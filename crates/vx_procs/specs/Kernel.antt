@@ -1,26 +1,30 @@
 -- What callers see of the executive: its plain state, the log of the event under way, and how much there is room for.
-use Rattle.std.specs.Prelude.{◌≡◌, ℕ, ◌-◌, ◌≤◌, List, [], length, slice_index_or}
+use Rattle.std.specs.Prelude.{◌≡◌, ℕ, ◌-◌, ◌≤◌, List, [], Option, Some, None, IsTrue, is_some, length, slice_index_or, slice_set}
 use Rattle.vx_base.specs.Log.{Log, HasRoom, logged}
 use Rattle.vx_base.specs.declared.effects.Effect.{Effect}
 use Rattle.vx_base.specs.declared.number.Pid.{Pid}
+use Rattle.vx_base.specs.declared.number.UnitNo.{UnitNo}
 use Rattle.vx_record.specs.State.{Process, State, change}
 use Rattle.vx_record.specs.Parts.{Outcome, Part}
 
--- how many frames and how many ASTs a process has room for in all
+-- how many frames, how many ASTs and how many exit handlers a process has room for in all
 pub record Room : Type 0 where
   pub frames : ℕ
   pub asts : ℕ
+  pub handlers : ℕ
 
 abbrev pub no_room : Room
-no_room = record { frames = 0; asts = 0 }
+no_room = record { frames = 0; asts = 0; handlers = 0 }
 
 -- the one room is in the other
 pub record IsWithinRoom (a b : Room) : Type 0 where
   pub frames : a.frames ≤ b.frames
   pub asts : a.asts ≤ b.asts
+  pub handlers : a.handlers ≤ b.handlers
 
--- the state; the effects so far; the room of each process, in number order, and then of the spare process, if there is one; and for
--- how many timers, common clusters and associations with them there is room in all
+-- the state; the effects so far; the room of each process, in number order, and then of the spare process, if there is one; for
+-- how many timers, common clusters, associations with them and requests there is room in all; and of each unit the log in which the
+-- end of its next service is told, where that was made
 pub record Kernel : Type 0 where
   pub state : State
   pub log : Log
@@ -28,9 +32,28 @@ pub record Kernel : Type 0 where
   pub timers : ℕ
   pub clusters : ℕ
   pub associations : ℕ
+  pub requests : ℕ
+  pub logs : List (Option Log)
 
 abbrev pub room_at : Kernel → Pid → Room
 room_at k p = slice_index_or k.rooms (p.0 - 1) no_room
+
+-- the log that was made for the end of a unit's next service
+abbrev pub log_for : Kernel → UnitNo → Option Log
+log_for k u = slice_index_or k.logs u.0 None
+
+-- what the end of a unit's next service needs is there
+abbrev pub IsPrepared : Kernel → UnitNo → Type 0
+IsPrepared k u = IsTrue (is_some (log_for k u))
+
+-- that log is the log of the event under way, and the unit has none
+
+abbrev pub log_or : Log → Option Log → Log
+log_or log None = log
+log_or log (Some other) = other
+
+abbrev pub opened : Kernel → UnitNo → Kernel
+opened k u = record k { log = log_or k.log (log_for k u); logs = slice_set k.logs u.0 None }
 
 -- another state, with all else as it was
 abbrev pub with_state : Kernel → State → Kernel

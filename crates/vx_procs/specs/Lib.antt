@@ -1,9 +1,13 @@
 pub mod Cells
+pub mod Channels
 pub mod Counts
 pub mod Fresh
+pub mod Handlers
 pub mod Held
 pub mod Kernel
 pub mod Ready
+pub mod Requests
+pub mod Units
 pub mod Unused
 pub mod View
 pub mod Words

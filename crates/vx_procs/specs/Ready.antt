@@ -1,12 +1,10 @@
 -- Room that was made before, and what a call of a service relies on.
-use Rattle.std.specs.Prelude.{◌≡◌, ℕ, ◌+◌, ◌^◌, ◌<◌, ◌≤◌, [], length}
+use Rattle.std.specs.Prelude.{◌≡◌, ℕ, ◌+◌, ◌^◌, ◌<◌, ◌≤◌, [], None, length, replicate}
 use Rattle.std.specs.List.{AllByRecursion}
-use Rattle.vx_base.specs.Channels.{channels_of}
-use Rattle.vx_base.specs.declared.mode.Mode.{Mode}
 use Rattle.vx_base.specs.declared.number.Pid.{Pid}
 use Rattle.vx_base.specs.Lists.{tally}
 use Rattle.vx_image.specs.WellFormed.{IsImage}
-use Rattle.vx_record.specs.State.{Process, State, IsProcess, process_at, image_of}
+use Rattle.vx_record.specs.State.{State, IsProcess, process_at, image_of}
 use Rattle.vx_record.specs.Charges.{bears_ast, is_attention_of, charged_timer}
 use Rattle.vx_procs.specs.Kernel.{Kernel, room_at}
 use Rattle.vx_procs.specs.Words.{HasDecl, HasImage}
@@ -29,19 +27,18 @@ pub record HasSpare (k : Kernel) (p : Pid) : Type 0 where
 abbrev pub HasSpares : Kernel → Type 0
 HasSpares k = (p : Pid) → IsProcess k.state p → HasSpare k p
 
+-- process p has room for an exit handler more
+abbrev pub HasHandlerRoom : Kernel → Pid → Type 0
+HasHandlerRoom k p = length (process_at k.state p).handlers < (room_at k p).handlers
+
 -- there is a spare process
 abbrev pub HasNewcomer : Kernel → Type 0
 HasNewcomer k = length k.state.procs < length k.rooms
 
--- a process has no channel and no exit handler
-pub record IsBareProcess (pr : Process) : Type 0 where
-  pub channels : (m : Mode) → channels_of m pr.channels ≡ []
-  pub handlers : pr.handlers ≡ []
-
--- What is not built yet is not open: channels and exit handlers, and requests.
+-- What is not built yet is not open: there is no attention entry and no mailbox.
 pub record IsBare (s : State) : Type 0 where
-  pub requests : s.requests ≡ []
-  pub procs : AllByRecursion IsBareProcess s.procs
+  pub attention : s.attention ≡ []
+  pub boxes : s.boxes ≡ replicate 64 None
 
 -- Time may come to this moment: it is not behind, and less than 2^32 ticks ahead, and no entry is due before it.
 pub record IsMoment (s : State) (now : ℕ) : Type 0 where
@@ -49,7 +46,7 @@ pub record IsMoment (s : State) (now : ℕ) : Type 0 where
   pub soon : now < s.time + 4294967296
   pub ahead : AllByRecursion (λ t. now ≤ t.due) s.timers
 
--- The process is there, with its image; there is a spare of each kind, a process among them, an id left, and a time that can be
+-- The process is there, with its image; there is a spare of each kind, a process among them, room for an exit handler, an id left, and a time that can be
 -- counted on; nothing is open that is not built.
 pub record IsReady (k : Kernel) (p : Pid) : Type 0 where
   pub made : IsProcess k.state p
@@ -60,7 +57,9 @@ pub record IsReady (k : Kernel) (p : Pid) : Type 0 where
   pub timer : length k.state.timers + 1 ≤ k.timers
   pub cluster : length k.state.common.clusters + 1 ≤ k.clusters
   pub association : length k.state.common.associations + 1 ≤ k.associations
+  pub request : length k.state.requests + 1 ≤ k.requests
   pub newcomer : HasNewcomer k
+  pub handler : HasHandlerRoom k p
   pub ids : k.state.next < 4294967295
   pub time : k.state.time < 2 ^ 63
   pub bare : IsBare k.state

@@ -1,13 +1,15 @@
 -- What the processes of the code stand for.
-use Rattle.std.specs.Prelude.{List, [], ◌++◌, nat_lt, if◌then◌else◌, None, map, option_to_list, replicate, vec_len, vec_capacity}
-use Rattle.vx_image.specs.Units.{first_unit}
+use Rattle.std.specs.Prelude.{List, [], ◌++◌, nat_lt, if◌then◌else◌, Option, None, map, option_to_list, replicate, vec_len, vec_capacity}
+use Rattle.vx_base.specs.Log.{Log}
+use Rattle.vx_base.specs.Pieces.{DeviceUnit}
 use Rattle.vx_record.specs.State.{Process, State}
 use Rattle.vx_procs.specs.Kernel.{Kernel, Room}
 use Rattle.vx_procs.specs.Held.{Books, AreHeld}
+use Rattle.vx_procs.specs.Units.{Kept}
 use Rattle.vx_procs.specs.declared.procs.Core.TheInside.{Inside}
 use Rattle.vx_procs.specs.declared.process.Proc.{Proc}
 
--- a process, with no channels and no exit handlers
+-- a process
 abbrev pub process : {R : Type 0} → Proc R → Process
 process pr = record {
   decl = pr.decl;
@@ -18,8 +20,8 @@ process pr = record {
   frames = pr.frames.items;
   enables = pr.asts.enables;
   asts = pr.asts.items;
-  channels = replicate 64 None;
-  handlers = [];
+  channels = pr.chans;
+  handlers = pr.exits.items;
   cluster_0 = pr.cluster_0;
   cluster_1 = pr.cluster_1;
   wake_pending = pr.wake_pending;
@@ -30,12 +32,20 @@ process pr = record {
 }
 
 abbrev pub room_of : {R : Type 0} → Proc R → Room
-room_of pr = record { frames = pr.frames.capacity; asts = pr.asts.capacity }
+room_of pr = record { frames = pr.frames.capacity; asts = pr.asts.capacity; handlers = pr.exits.capacity }
 
 abbrev pub books_of : {R : Type 0} → Proc R → Books
 books_of pr = record { room = room_of pr; account = pr.account }
 
--- the whole, with no requests, attention entries and mailboxes, and with the units as they are at first
+-- a unit, and the log for the end of its service
+
+abbrev pub unit_of : Kept → DeviceUnit
+unit_of k = k.unit
+
+abbrev pub log_of : Kept → Option Log
+log_of k = k.log
+
+-- the whole, with no attention entries and mailboxes
 abbrev pub state : {R : Type 0} → Inside R → State
 state c = record {
   system = c.system;
@@ -43,16 +53,19 @@ state c = record {
   next = c.next;
   procs = map process c.procs.items;
   common = c.clusters.common;
-  requests = [];
+  requests = c.requests.items;
   timers = c.timers.items;
   attention = [];
   boxes = replicate 64 None;
-  units = map first_unit c.system.units;
+  units = map unit_of c.units.items;
 }
 
 -- the room of the spare process, if there is one and a place for it
 abbrev pub newcomers : {R : Type 0} → Inside R → List Room
 newcomers c = if nat_lt (vec_len c.procs) (vec_capacity c.procs) then option_to_list c.spare else []
+
+abbrev pub logs : {R : Type 0} → Inside R → List (Option Log)
+logs c = map log_of c.units.items
 
 abbrev pub kernel : {R : Type 0} → Inside R → Kernel
 kernel c = record {
@@ -62,10 +75,12 @@ kernel c = record {
   timers = c.timers.capacity;
   clusters = c.clusters.cluster_capacity;
   associations = c.clusters.association_capacity;
+  requests = c.requests.capacity;
+  logs = logs c;
 }
 
 abbrev pub books : {R : Type 0} → Inside R → List Books
 books c = map books_of c.procs.items
 
 abbrev pub IsHeld : {R : Type 0} → Inside R → Type 0
-IsHeld c = AreHeld (state c) c.short (books c)
+IsHeld c = AreHeld (state c) c.short (books c) (logs c)

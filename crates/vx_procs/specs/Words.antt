@@ -2,7 +2,7 @@
 use Rattle.std.specs.Prelude.{ℕ, ◌<◌, List, [], ◌∷◌, ◌++◌, Bool, true, false, ◌&&◌, ◌==◌, not, if◌then◌else◌, Option, Some, None, is_some, option_map, length, slice_index_or, ⊤}
 use Rattle.std.specs.List.{list_any}
 use Rattle.vx_base.specs.Lists.{amend, less}
-use Rattle.vx_base.specs.Pieces.{Queued, Timer, Alarm, OfTimer, OfWake}
+use Rattle.vx_base.specs.Pieces.{Handler, Queued, Timer, Alarm, OfTimer, OfWake}
 use Rattle.vx_base.specs.declared.effects.Effect.{Effect}
 use Rattle.vx_base.specs.declared.effects.Effect.TheVariants as effect
 use Rattle.vx_base.specs.declared.frame.Frame.{Frame}
@@ -47,10 +47,16 @@ with_created s p place = record s { procs = s.procs ++ created s p place ∷ [] 
 abbrev pub deliverable_of : Process → Option Queued
 deliverable_of pr = if pr.suspended then None else deliverable_at pr pr.frames
 
--- no two of these ASTs have one id
+-- no two of these have one id
+abbrev pub have_own : {A : Type 0} → (A → Id) → List A → Bool
+have_own id [] = true
+have_own id (x ∷ xs) = not (list_any (λ y. (id x).0 == (id y).0) xs) && have_own id xs
+
 abbrev pub have_own_ids : List Queued → Bool
-have_own_ids [] = true
-have_own_ids (q ∷ qs) = not (list_any (λ r. q.id.0 == r.id.0) qs) && have_own_ids qs
+have_own_ids qs = have_own (λ q. q.id) qs
+
+abbrev pub handlers_have_own_ids : List Handler → Bool
+handlers_have_own_ids hs = have_own (λ h. h.id) hs
 
 -- the process without the AST that starts, if one does
 abbrev pub without_started : Option Queued → Process → Process

@@ -9,12 +9,15 @@ ghost use Rattle.vx_procs.specs.View.{process};
 ghost use Rattle.vx_procs.specs.Fresh.{IsFresh};
 ghost use Rattle.vx_procs.specs.Words.{born_if_started};
 
+use crate::kept::first_units;
 use crate::process::Proc;
 use crate::procs::Core;
 use std::alloc::Global;
-use vx_base::{Effects, NoMemory, Reserved, Routine};
+use vx_base::{Effects, NoMemory, Routine};
 use vx_clusters::Clusters;
 use vx_image::{ProcDecl, ProcDecls, System};
+use vx_reqs::Reqs;
+use vx_timers::Timers;
 
 // Adds the process of a declaration at a place, where it is there from the start.
 fn add_started<R: Routine>(
@@ -53,6 +56,7 @@ impl<R: Routine> Core<R> {
         ensures { IfOk result (λ core. core.state ≡ first system) }
     {
         let procs = first_procs(alloc, &system.decls)?;
+        let units = first_units(alloc, &system.units)?;
         Ok(Core {
             system,
             time: 0,
@@ -60,7 +64,9 @@ impl<R: Routine> Core<R> {
             procs,
             clusters: Clusters::new(alloc),
             spare: None,
-            timers: Reserved::new(alloc),
+            timers: Timers::new(alloc),
+            requests: Reqs::new(alloc),
+            units,
             log: Effects::new(alloc),
             short: None,
             alloc,

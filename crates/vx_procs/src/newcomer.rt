@@ -12,17 +12,22 @@ use std::alloc::Global;
 use std::marker::Model;
 use vx_ast::AstQueue;
 use vx_base::{Frame, FrameKind, Mode, NoMemory, Phase, Routine};
+use vx_chans::Chans;
+use vx_exits::Exits;
 use vx_flags::Flags;
 use vx_frames::Frames;
 use vx_image::{ProcDecl, Store};
 use vx_quota::Account;
 
-/// What a process takes memory for, unused: its store, room for two frames or more, and for one AST or more. Contracts see the room.
+/// What a process takes memory for, unused: its store, its channels, its exit handlers, room for two frames or more, and for one AST or
+/// more. Contracts see the room.
 #[derive(Drop)]
 pub(crate) struct Newcomer<R: Routine> {
     store: Store,
     frames: Frames,
     asts: AstQueue<R>,
+    chans: Chans,
+    exits: Exits<R>,
 }
 
 impl<R: Routine> Model for Newcomer<R> {
@@ -32,7 +37,7 @@ impl<R: Routine> Model for Newcomer<R> {
 
     ghost use Rattle.vx_procs.specs.Unused.{IsUnused};
 
-    ghost view = { λ n. record { frames = n.frames.capacity; asts = n.asts.capacity } };
+    ghost view = { λ n. record { frames = n.frames.capacity; asts = n.asts.capacity; handlers = n.exits.capacity } };
 
     ghost invariant = { IsUnused };
 }
@@ -82,6 +87,8 @@ impl<R: Routine> Newcomer<R> {
             store: Store::new(alloc)?,
             frames: room_for_frames(alloc)?,
             asts: room_for_asts(alloc)?,
+            chans: Chans::new(alloc)?,
+            exits: Exits::new(alloc),
         })
     }
 
@@ -95,6 +102,8 @@ impl<R: Routine> Newcomer<R> {
             store,
             mut frames,
             asts,
+            chans,
+            exits,
         } = self;
         frames.push(main_frame(decl.mode));
         Proc {
@@ -105,6 +114,8 @@ impl<R: Routine> Newcomer<R> {
             store,
             frames,
             asts,
+            chans,
+            exits,
             cluster_0: Flags::new(),
             cluster_1: Flags::new(),
             wake_pending: false,

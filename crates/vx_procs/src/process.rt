@@ -17,11 +17,15 @@ ghost use Rattle.vx_record.specs.Rundown.{is_ast_reached, leaving, without_frame
 ghost use Rattle.vx_procs.specs.View.{books_of, process, room_of};
 ghost use Rattle.vx_procs.specs.Kernel.{IsWithinRoom};
 ghost use Rattle.vx_procs.specs.Counts.{CountsAsts, freed};
+ghost use Rattle.vx_reqs.specs.Requests.{promised_of};
+ghost use Rattle.vx_procs.specs.Requests.{promised_ast};
 ghost use Rattle.vx_procs.specs.Words.{advanced_of, alarm_ast, alarm_need, deliverable_of, fired_need, have_own_ids, left, moved_as, with_queued_if, without_reached, without_started};
 
 use crate::frames::{leave_all, place_top, wait_at_top};
 use vx_ast::{AstQueue, Delivery};
 use vx_base::{Cond, Effects, Id, Mode, Need, NoMemory, Phase, Pid, Privs, Routine, Target, Wait};
+use vx_chans::Chans;
+use vx_exits::Exits;
 use vx_flags::Flags;
 use vx_frames::Frames;
 use vx_image::{Image, Stop, Store, advance};
@@ -29,7 +33,7 @@ use vx_quota::Account;
 use vx_timers::{Due, What};
 
 /// A process: the place of its declaration, from 0; its group, member and privileges; what it stores; its frames; its AST
-/// enables and queued ASTs; its event flags 0 to 31 and 32 to 63; whether a wake pends, it is suspended, and $DELPRC named
+/// enables and queued ASTs; its channels and its exit handlers; its event flags 0 to 31 and 32 to 63; whether a wake pends, it is suspended, and $DELPRC named
 /// it; its exit code and its phase.
 #[derive(Drop)]
 pub(crate) struct Proc<R: Routine> {
@@ -40,6 +44,8 @@ pub(crate) struct Proc<R: Routine> {
     pub(crate) store: Store,
     pub(crate) frames: Frames,
     pub(crate) asts: AstQueue<R>,
+    pub(crate) chans: Chans,
+    pub(crate) exits: Exits<R>,
     pub(crate) cluster_0: Flags,
     pub(crate) cluster_1: Flags,
     pub(crate) wake_pending: bool,
@@ -291,6 +297,26 @@ impl<R: Routine> Proc<R> {
                 self.account.release(ast_need(true));
                 false
             }
+        }
+    }
+
+    /// A request that it made ends: its AST, if it has one, is queued, and tells whether it has. The AST stays charged, what else
+    /// the request was charged is given back.
+    pub(crate) fn end_request(&mut self, id: Id, need: Need, ast: Option<(Mode, R)>) -> bool
+        requires free { length (process self.old).asts + one (is_some ast) ≤ (room_of self.old).asts }
+        requires charged { IsTrue (is_within need self.old.account.used) }
+        ensures queued { result ≡ is_some ast }
+        ensures after { process self.new ≡ with_queued_if (promised_ast id (option_map (promised_of R.tagged) ast)) (process self.old) }
+        ensures room { room_of self.new ≡ room_of self.old }
+        ensures account { self.new.account ≡ released self.old.account need }
+    {
+        self.account.release(need);
+        match ast {
+            Some((mode, routine)) => {
+                self.asts.put(id, mode, routine, true);
+                true
+            }
+            None => false,
         }
     }
 

@@ -1,10 +1,12 @@
 //! What the executive keeps.
 
-ghost use Rattle.std.specs.Prelude.{◌≡◌, ◌+◌, ◌<◌, ◌≤◌, ◌^◌, [], ◌∷◌, OnOk, length};
+ghost use Rattle.std.specs.Prelude.{◌≡◌, ◌+◌, ◌<◌, ◌≤◌, ◌^◌, [], ◌∷◌, IfSome, OnOk, length};
 ghost use Rattle.vx_base.specs.Log.{HasRoom};
 ghost use Rattle.vx_procs.specs.Kernel.{Fits, told};
-ghost use Rattle.vx_procs.specs.Ready.{HasNewcomer, HasSpares, IsBare};
+ghost use Rattle.vx_record.specs.State.{IsProcess};
+ghost use Rattle.vx_procs.specs.Ready.{HasHandlerRoom, HasNewcomer, HasSpares, IsBare};
 
+use crate::kept::KeptUnit;
 use crate::newcomer::Newcomer;
 use crate::process::Proc;
 use std::alloc::Global;
@@ -13,14 +15,15 @@ use std::mem;
 use vx_base::{Effect, EffectList, Effects, NoMemory, Pid, Routine};
 use vx_clusters::Clusters;
 use vx_image::System;
+use vx_reqs::Reqs;
 use vx_timers::Timers;
 
 /// The time, in ticks, from which on no timer can be set: due times are counted in 64 bits.
 const LAST_TIME: u64 = 9_223_372_036_854_775_808;
 
 /// What the script says, the time in ticks, the next id, the processes in the order of their numbers from 1, the common event
-/// flag clusters, timers, and the log of the event under way. Contracts see the plain state, the log, and how much there is room
-/// for: `specs/Kernel.antt`.
+/// flag clusters, timers, requests, units, and the log of the event under way. Contracts see the plain state, the log, and how much
+/// there is room for: `specs/Kernel.antt`.
 #[derive(Drop)]
 pub struct Core<R: Routine> {
     pub(crate) system: System,
@@ -31,6 +34,8 @@ pub struct Core<R: Routine> {
     // what the next process takes memory for, if it is made
     pub(crate) spare: Option<Newcomer<R>>,
     pub(crate) timers: Timers<R>,
+    pub(crate) requests: Reqs<R>,
+    pub(crate) units: Vec<KeptUnit>,
     pub(crate) log: Effects,
     // the process whose spares may have been used since they were made
     pub(crate) short: Option<Pid>,
@@ -50,16 +55,19 @@ impl<R: Routine> Model for Core<R> {
 }
 
 impl<R: Routine> Core<R> {
-    /// Makes good what spare room the last event used, and makes room for a timer, a process, a cluster and an association more and
-    /// for as many effects as are told. Nothing that the state says is changed, even where memory is short. (A time beyond 2^63 has
-    /// no room for timers either.)
-    pub fn begin(&mut self, effects: u32) -> Result<(), NoMemory>
+    /// Makes good what spare room the last event used, and makes room for a timer, a process, a cluster, an association and a request
+    /// more, for an exit handler more of the process whose event it is, and for as many effects as are told. Nothing that the state
+    /// says is changed, even where memory is short. (A time beyond 2^63 has no room for timers either.)
+    pub fn begin(&mut self, effects: u32, caller: Option<Pid>) -> Result<(), NoMemory>
+        requires { IfSome caller (IsProcess self.old.state) }
         ensures same { self.new.state ≡ self.old.state }
         ensures spares { OnOk result (HasSpares self.new) }
         ensures timer { OnOk result (length self.new.state.timers + 1 ≤ self.new.timers) }
         ensures cluster { OnOk result (length self.new.state.common.clusters + 1 ≤ self.new.clusters) }
         ensures association { OnOk result (length self.new.state.common.associations + 1 ≤ self.new.associations) }
+        ensures request { OnOk result (length self.new.state.requests + 1 ≤ self.new.requests) }
         ensures newcomer { OnOk result (HasNewcomer self.new) }
+        ensures handler { OnOk result (IfSome caller (HasHandlerRoom self.new)) }
         ensures empty { OnOk result (self.new.log.items ≡ []) }
         ensures room { OnOk result (HasRoom self.new.log effects) }
         ensures time { OnOk result (self.new.state.time < 2 ^ 63) }
@@ -72,8 +80,10 @@ impl<R: Routine> Core<R> {
         log.reserve(effects)?;
         self.timers.reserve(1)?;
         self.clusters.reserve()?;
+        self.requests.reserve()?;
         self.make_spare()?;
         self.mend()?;
+        self.make_caller_room(caller)?;
         self.log = log;
         Ok(())
     }
@@ -84,6 +94,7 @@ impl<R: Routine> Core<R> {
         ensures timers { self.new.timers ≡ self.old.timers }
         ensures clusters { self.new.clusters ≡ self.old.clusters }
         ensures associations { self.new.associations ≡ self.old.associations }
+        ensures requests { self.new.requests ≡ self.old.requests }
         ensures newcomer { OnOk result (HasNewcomer self.new) }
     {
         self.procs.reserve(1)?;
@@ -100,6 +111,7 @@ impl<R: Routine> Core<R> {
         ensures timers { self.new.timers ≡ self.old.timers }
         ensures clusters { self.new.clusters ≡ self.old.clusters }
         ensures associations { self.new.associations ≡ self.old.associations }
+        ensures requests { self.new.requests ≡ self.old.requests }
         ensures rooms { length self.new.rooms ≡ length self.old.rooms }
         ensures spares { OnOk result (HasSpares self.new) }
     {
@@ -109,6 +121,40 @@ impl<R: Routine> Core<R> {
         self.procs[p.0 as usize - 1].reserve()?;
         self.short = None;
         Ok(())
+    }
+
+    // Makes room for an exit handler more of a process.
+    fn make_handler_room(&mut self, p: Pid) -> Result<(), NoMemory>
+        requires { IsProcess self.old.state p }
+        ensures same { self.new.state ≡ self.old.state }
+        ensures timers { self.new.timers ≡ self.old.timers }
+        ensures clusters { self.new.clusters ≡ self.old.clusters }
+        ensures associations { self.new.associations ≡ self.old.associations }
+        ensures requests { self.new.requests ≡ self.old.requests }
+        ensures rooms { length self.new.rooms ≡ length self.old.rooms }
+        ensures spares { HasSpares self.old → HasSpares self.new }
+        ensures room { OnOk result (HasHandlerRoom self.new p) }
+    {
+        self.procs[p.0 as usize - 1].exits.reserve()?;
+        Ok(())
+    }
+
+    // Makes room for an exit handler more of the process whose event it is, if it is one of a process.
+    fn make_caller_room(&mut self, caller: Option<Pid>) -> Result<(), NoMemory>
+        requires { IfSome caller (IsProcess self.old.state) }
+        ensures same { self.new.state ≡ self.old.state }
+        ensures timers { self.new.timers ≡ self.old.timers }
+        ensures clusters { self.new.clusters ≡ self.old.clusters }
+        ensures associations { self.new.associations ≡ self.old.associations }
+        ensures requests { self.new.requests ≡ self.old.requests }
+        ensures rooms { length self.new.rooms ≡ length self.old.rooms }
+        ensures spares { HasSpares self.old → HasSpares self.new }
+        ensures room { OnOk result (IfSome caller (HasHandlerRoom self.new)) }
+    {
+        match caller {
+            Some(p) => self.make_handler_room(p),
+            None => Ok(()),
+        }
     }
 
     /// Tells an effect. Takes no memory.

@@ -3,7 +3,7 @@
 ghost use Rattle.std.specs.Prelude.{◌≡◌, ◌<◌, ◌≤◌, length, option_map};
 ghost use Rattle.vx_frames.specs.Frames.{top_of};
 ghost use Rattle.vx_image.specs.Local.{place_of};
-ghost use Rattle.vx_image.specs.Storage.{status_at};
+ghost use Rattle.vx_image.specs.Storage.{buffer_at, status_at};
 ghost use Rattle.vx_base.specs.Pieces.{is_enabled_in};
 ghost use Rattle.vx_base.specs.Frames.{active_mode};
 ghost use Rattle.vx_record.specs.State.{IsProcess, process_at, decl_of, image_of, limits_of, current};
@@ -12,7 +12,6 @@ ghost use Rattle.vx_record.specs.Charges.{exceeds};
 ghost use Rattle.vx_record.specs.Control.{decl_at, is_deleted};
 ghost use Rattle.vx_record.specs.Events.{r0_of};
 ghost use Rattle.vx_record.specs.Flags.{is_filled};
-ghost use Rattle.vx_record.specs.Rundown.{is_busy};
 ghost use Rattle.vx_procs.specs.View.{process};
 ghost use Rattle.vx_procs.specs.Words.{decl_in, image_in, HasDecl, HasImage};
 
@@ -288,6 +287,16 @@ impl<R: Routine> Core<R> {
         self.process_of(p).store.iosb(iosb).0.is_some()
     }
 
+    /// The 2,048 bytes of one of its buffers, 0 to 31.
+    pub fn buffer(&self, p: Pid, b: u32) -> &[u8]
+        requires made { IsProcess self.now.state p }
+        requires within { b ≤ 31 }
+        ensures bytes { result.now ≡ buffer_at (process_at self.now.state p).store b }
+        ensures size { length result.now ≡ 2048 }
+    {
+        self.process_of(p).store.buf(b)
+    }
+
     /// How many frames it has.
     pub fn frame_count(&self, p: Pid) -> usize
         requires { IsProcess self.now.state p }
@@ -304,12 +313,20 @@ impl<R: Routine> Core<R> {
         self.process_of(p).asts.len()
     }
 
-    /// Whether a request of a process of a mode or an outer one is outstanding.
-    pub fn is_busy(&self, p: Pid, mode: Mode) -> bool
-        ensures { result ≡ is_busy self.now.state p mode }
+    /// How many exit handlers it has.
+    pub fn handler_count(&self, p: Pid) -> usize
+        requires { IsProcess self.now.state p }
+        ensures { result ≡ length (process_at self.now.state p).handlers }
     {
-        let (_p, _mode, _next) = (p, mode, self.next);
-        false
+        self.process_of(p).exits.len()
+    }
+
+    /// How many channels a process has, assigned or free.
+    pub fn channel_count(&self, p: Pid) -> usize
+        requires { IsProcess self.now.state p }
+        ensures { result ≡ length (process_at self.now.state p).channels }
+    {
+        self.process_of(p).chans.len()
     }
 
     /// How many timers there are.

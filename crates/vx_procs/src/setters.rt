@@ -1,6 +1,6 @@
 //! Changes of one process.
 
-ghost use Rattle.std.specs.Prelude.{◌≡◌, ◌<◌, true, false, IsTrue, option_map};
+ghost use Rattle.std.specs.Prelude.{◌≡◌, ◌<◌, ◌≤◌, true, false, IsTrue, length, option_map};
 ghost use Rattle.std.specs.List.{find};
 ghost use Rattle.vx_base.specs.Pieces.{is_enabled_in};
 ghost use Rattle.vx_frames.specs.Frames.{may_stand_on, top_of};
@@ -10,6 +10,7 @@ ghost use Rattle.vx_record.specs.Charges.{ast_need, exceeds};
 ghost use Rattle.vx_record.specs.Asts.{deliverable_ast, with_delivery, with_frame, with_queued};
 ghost use Rattle.vx_record.specs.Control.{with_suspension, with_wake};
 ghost use Rattle.vx_record.specs.Events.{below_top, moved_behind, put_back, resumed_with, with_r0};
+ghost use Rattle.vx_record.specs.Finish.{with_stored_bytes, with_stored_status};
 ghost use Rattle.vx_record.specs.Flags.{with_wait};
 ghost use Rattle.vx_record.specs.Rundown.{exited, in_phase, is_ast_reached};
 ghost use Rattle.vx_record.specs.Services.{with_variable};
@@ -74,6 +75,28 @@ impl<R: Routine> Core<R> {
         ensures { self.new ≡ changed self.old p (with_r0 n) }
     {
         self.procs[p.0 as usize - 1].store.set(Target::R0, n)
+    }
+
+    /// Puts at most 2,048 bytes over the start of a buffer of a process, 0 to 31.
+    pub fn set_buffer(&mut self, p: Pid, b: u32, bytes: &[u8])
+        requires made { IsProcess self.old.state p }
+        requires within { b ≤ 31 }
+        requires size { length bytes.now ≤ 2048 }
+        ensures { self.new ≡ changed self.old p (with_stored_bytes b bytes.now) }
+    {
+        self.procs[p.0 as usize - 1].store.put(b, bytes)
+    }
+
+    /// Fills an I/O status block of a process, 1 to 32, or clears it where the condition is none and the numbers are 0.
+    pub fn set_status(&mut self, p: Pid, i: u32, cond: Option<Cond>, count: u32, info: u32)
+        requires made { IsProcess self.old.state p }
+        requires above { 1 ≤ i }
+        requires within { i ≤ 32 }
+        ensures { self.new ≡ changed self.old p (with_stored_status i (record { cond = cond; count = count; info = info })) }
+    {
+        self.procs[p.0 as usize - 1]
+            .store
+            .set_iosb(i, cond, count, info)
     }
 
     /// Enables or disables AST delivery in a mode of a process ($SETAST), and tells how it was.

@@ -17,7 +17,7 @@ ghost use Rattle.vx_procs.specs.Words.{alarm_need, due_entry, fired_ast, IsWoken
 use crate::process::due_need;
 use crate::procs::Core;
 use vx_base::{Effect, Id, Mode, Pid, Routine};
-use vx_timers::{Due, Falls, What, Which, first_due, least, put_off, take_first};
+use vx_timers::{Due, Falls, What, Which};
 
 impl<R: Routine> Core<R> {
     /// Moves the time.
@@ -33,7 +33,7 @@ impl<R: Routine> Core<R> {
         ensures due { result ≡ option_map (λ t. t.due) (least_due self.now.state.timers) }
         ensures own { AllByRecursion (IsOwn self.now.state) self.now.state.timers }
     {
-        least(&self.timers)
+        self.timers.least()
     }
 
     /// The moment of the next tick: when the first entry is due, and now if there is none.
@@ -110,7 +110,7 @@ impl<R: Routine> Core<R> {
         ensures made { IfSome result (λ t. IsProcess self.now.state t.1) }
         ensures woken { IfSome result (λ t. IsWoken (length self.now.state.procs) t.2) }
     {
-        let due = first_due(&self.timers, now)?;
+        let due = self.timers.first_due(now)?;
         Some((due.id(), due.p(), due.falls()))
     }
 
@@ -120,7 +120,7 @@ impl<R: Routine> Core<R> {
         ensures queued { result ≡ fired_ast (find (is_due now) self.old.state.timers) }
         ensures after { self.new ≡ with_state self.old (moved_on self.old.state now (find (is_due now) self.old.state.timers)) }
     {
-        let Some(due) = take_first(&mut self.timers, Which::Due(now)) else {
+        let Some(due) = self.timers.take_first(Which::Due(now)) else {
             return false;
         };
         let (id, p) = (due.id(), due.p());
@@ -133,7 +133,7 @@ impl<R: Routine> Core<R> {
         requires counted { now + ticks < 2 ^ 64 }
         ensures { self.new ≡ with_state self.old (put_off_first now ticks self.old.state) }
     {
-        put_off(&mut self.timers, now, ticks)
+        self.timers.put_off(now, ticks)
     }
 
     // Takes out the first of the entries that are looked for, gives its charge back, and gives its id.
@@ -141,7 +141,7 @@ impl<R: Routine> Core<R> {
         ensures id { result ≡ option_map (λ t. t.id) (find (passes which) self.old.state.timers) }
         ensures after { self.new ≡ with_state self.old (without_timer (passes which) self.old.state) }
     {
-        let due = take_first(&mut self.timers, which)?;
+        let due = self.timers.take_first(which)?;
         let (id, p) = (due.id(), due.p());
         self.procs[p.0 as usize - 1].release(due_need(&due));
         Some(id)

@@ -9,4 +9,5 @@ mod found;
 mod outstanding;
 mod reqs;
 
+pub use outstanding::Outstanding;
 pub use reqs::Reqs;

@@ -10,7 +10,7 @@ use vx_base::{Device, Id, Mode, Pid, Req, Routine, UnitNo};
 /// A request with its AST, if it has one, whether its unit serves it, and whether it is to be aborted. Contracts see the
 /// plain `Request` of `vx_base`.
 #[derive(Drop)]
-pub(crate) struct Outstanding<R: Routine> {
+pub struct Outstanding<R: Routine> {
     req: Req,
     ast: Option<(Mode, R)>,
     served: bool,
@@ -43,7 +43,7 @@ impl<R: Routine> Outstanding<R> {
     }
 
     /// The request itself.
-    pub(crate) fn req(&self) -> &Req
+    pub fn req(&self) -> &Req
         ensures { result.now ≡ self.now.req }
     {
         &self.req
@@ -63,6 +63,13 @@ impl<R: Routine> Outstanding<R> {
         self.ast.is_some()
     }
 
+    /// Whether its unit serves it.
+    pub(crate) fn is_served(&self) -> bool
+        ensures { result ≡ self.now.served }
+    {
+        self.served
+    }
+
     /// Whether it is to be aborted.
     pub(crate) fn is_marked(&self) -> bool
         ensures { result ≡ self.now.marked }
@@ -71,7 +78,7 @@ impl<R: Routine> Outstanding<R> {
     }
 
     /// The request, its AST, and whether it is to be aborted.
-    pub(crate) fn parts(self) -> (Req, Option<(Mode, R)>, bool)
+    pub fn parts(self) -> (Req, Option<(Mode, R)>, bool)
         ensures req { result.0 ≡ self.req }
         ensures ast { option_map (promised_of R.tagged) result.1 ≡ self.ast }
         ensures marked { result.2 ≡ self.marked }

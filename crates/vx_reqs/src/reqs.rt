@@ -58,6 +58,17 @@ impl<R: Routine> Reqs<R> {
         self.items.put(Outstanding::new(req, ast));
     }
 
+    /// What a unit would be asked next, as `front` has it.
+    pub fn next(&self, u: UnitNo) -> Option<&Req>
+        ensures { option_map (λ r. r.now) result ≡ option_map (λ r. r.req) (front u self.now.items) }
+    {
+        if is_serving(self.items.as_slice(), u) {
+            return None;
+        }
+        let front = waiting_for(self.items.as_slice(), u)?;
+        Some(front.req())
+    }
+
     /// The request that a unit would take next: the first that waits for it. None exactly where the unit serves one, or
     /// none waits for it.
     pub fn front(&self, u: UnitNo) -> Option<Id>
@@ -99,6 +110,13 @@ impl<R: Routine> Reqs<R> {
         Some(found.req())
     }
 
+    /// How many requests there are.
+    pub fn len(&self) -> usize
+        ensures { result ≡ length self.now.items }
+    {
+        self.items.len()
+    }
+
     /// Whether there is a request with an id.
     pub fn has(&self, id: Id) -> bool
         ensures { result ≡ list_any (has_id id) self.now.items }
@@ -106,16 +124,13 @@ impl<R: Routine> Reqs<R> {
         self.items.as_slice().iter().any(|o| o.has_id(id))
     }
 
-    /// Takes out the request with an id, with its AST, and whether it was marked. None exactly where there is none.
-    pub fn finish(&mut self, id: Id) -> Option<(Req, Option<(Mode, R)>, bool)>
-        ensures req { option_map (λ done. done.0) result ≡ option_map (λ r. r.req) (find (has_id id) self.old.items) }
-        ensures ast { option_map (λ done. option_map (promised_of R.tagged) done.1) result ≡ option_map (λ r. r.ast) (find (has_id id) self.old.items) }
-        ensures marked { option_map (λ done. done.2) result ≡ option_map (λ r. r.marked) (find (has_id id) self.old.items) }
+    /// Takes out the request with an id. None exactly where there is none.
+    pub fn finish(&mut self, id: Id) -> Option<Outstanding<R>>
+        ensures found { result ≡ find (has_id id) self.old.items }
         ensures after { self.new ≡ record self.old { items = less (has_id id) self.old.items } }
     {
         let place = place_of_id(self.items.as_slice(), id);
-        let done = self.items.take(place)?;
-        Some(done.parts())
+        self.items.take(place)
     }
 
     /// The least id above `after` among the requests of a process on a channel. None exactly where there is none.
@@ -155,6 +170,16 @@ impl<R: Routine> Reqs<R> {
         ensures { result ≡ list_any (keeps_open p mode) self.now.items }
     {
         self.items.as_slice().iter().any(|o| o.keeps_open(p, mode))
+    }
+
+    /// Whether there is a request with an id, and its unit serves it.
+    pub fn is_served(&self, id: Id) -> bool
+        ensures { result ≡ is_found (λ r. r.served) (find (has_id id) self.now.items) }
+    {
+        match with_id(self.items.as_slice(), id) {
+            Some(found) => found.is_served(),
+            None => false,
+        }
     }
 
     /// Whether there is a request with an id, and it has an AST.

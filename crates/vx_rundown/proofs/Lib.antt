@@ -1,5 +1,6 @@
-pub mod Bare
 pub mod Changed
-pub mod Dropped
-pub mod Released
-pub mod Running
+pub mod Entering
+pub mod Freed
+pub mod Left
+pub mod Modes
+pub mod Shelf

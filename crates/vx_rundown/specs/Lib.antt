@@ -1,2 +1,2 @@
 pub mod Leaving
-pub mod Modes
+pub mod Steps

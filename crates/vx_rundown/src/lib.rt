@@ -1,10 +1,13 @@
-//! How processes leave: exit ($EXIT), and rundown, step by step.
+//! How processes leave: exit ($EXIT), exit handlers ($DCLEXH, $CANEXH), and rundown, step by step.
 //!
 //! Each call does what the machine's definitions say: it logs their effects and leaves their state. No call takes memory.
 #![tactic(auto)]
 
+mod handlers;
 mod leave;
+mod mode;
 mod rundown;
 
+pub use handlers::{canexh, dclexh};
 pub use leave::exit;
 pub use rundown::rundown_step;

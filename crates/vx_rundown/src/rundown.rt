@@ -1,17 +1,16 @@
 //! Rundown of a process that has no frame left.
 
-ghost use Rattle.std.specs.Prelude.{◌≡◌, IsTrue};
-ghost use Rattle.vx_record.specs.Rundown.{drop_asts, gone, rundown, run_down};
-ghost use Rattle.vx_record.specs.Sound.{AreOrdered, timer_id};
+ghost use Rattle.std.specs.Prelude.{◌≡◌, [], IsTrue};
+ghost use Rattle.vx_record.specs.Rundown.{gone, rundown, run_down};
 ghost use Rattle.vx_record.specs.State.{process_at};
-ghost use Rattle.vx_procs.specs.Kernel.{Acts, Does, Fits};
-ghost use Rattle.vx_procs.specs.Ready.{IsReady};
-ghost use Rattle.vx_procs.specs.Words.{have_own_ids};
-ghost use Rattle.vx_rundown.specs.Leaving.{IsLeaving, cancelled, entries_part, released};
-ghost use Rattle.vx_rundown.specs.Modes.{modes_from, next_inner};
+ghost use Rattle.vx_procs.specs.Kernel.{Does, Fits};
+ghost use Rattle.vx_rundown.specs.Leaving.{IsLeaving};
+ghost use Rattle.vx_rundown.specs.Steps.{modes_from, next_inner};
 
+use crate::handlers::drop_handlers;
+use crate::mode::{drain, pass};
 use vx_base::{Answer, Effect, Mode, Phase, Pid, Routine};
-use vx_procs::{Core, drop_timers};
+use vx_procs::{Core, Sought, drop_timers};
 use vx_timers::Which;
 
 // The mode next to a mode, further in.
@@ -26,92 +25,48 @@ fn next_inner(mode: Mode) -> Option<Mode>
     }
 }
 
-// What a process set of a mode and outer ones ends, in id order: its timers, and then the wakes that it scheduled.
-fn drop_entries<R: Routine>(core: &mut Core<R>, p: Pid, mode: Mode)
-    requires leaving { IsLeaving core.old.state p }
-    requires room { Fits core.old (entries_part p mode core.old.state).effects }
-    ensures { Acts (entries_part p mode core.old.state) core.old core.new }
-{
-    drop_timers(core, Which::TimersOf(p, mode));
-    drop_timers(core, Which::WakesBy(p));
-}
-
-// The queued ASTs of a mode and outer ones end, in order of queuing, and their routines are never entered.
-fn drop_asts<R: Routine>(core: &mut Core<R>, p: Pid, mode: Mode)
-    requires leaving { IsLeaving core.old.state p }
-    requires room { Fits core.old (drop_asts p mode core.old.state).effects }
-    ensures { Acts (drop_asts p mode core.old.state) core.old core.new }
-{
-    'asts: while let Some(id) = core.drop_ast(p, mode) {
-        core.tell(Effect::Drop(id));
-    }
-}
-
-// The queued ASTs of a mode and outer ones end, and the common clusters of the process are dissociated: 2, whose first flag is 64, and
-// then 3.
-fn release<R: Routine>(core: &mut Core<R>, p: Pid, mode: Mode)
-    requires leaving { IsLeaving core.old.state p }
-    requires room { Fits core.old (released p mode core.old.state).effects }
-    ensures { Acts (released p mode core.old.state) core.old core.new }
-{
-    drop_asts(core, p, mode);
-    let _second = core.dissociate(p, 64);
-    let _third = core.dissociate(p, 96);
-}
-
-// No handler is declared in a mode: what the process opened in it is cancelled.
-fn cancel<R: Routine>(core: &mut Core<R>, p: Pid, mode: Mode)
-    requires leaving { IsLeaving core.old.state p }
-    requires room { Fits core.old (cancelled p mode core.old.state).effects }
-    ensures { Acts (cancelled p mode core.old.state) core.old core.new }
-{
-    core.set_phase(p, Phase::Handlers(mode));
-    drop_entries(core, p, mode);
-    core.set_phase(p, Phase::Draining(mode));
-}
-
-// The last of a process: the wakes that are scheduled for it end, and it is deleted.
+// The last of a process: its exit handlers and the wakes that are scheduled for it end, and it is deleted.
 fn end<R: Routine>(core: &mut Core<R>, p: Pid) -> Answer
-    requires leaving { IsLeaving core.old.state p }
+    requires leaving { IsLeaving core.old p }
     requires room { Fits core.old (gone core.old.state p).effects }
     ensures { Does (gone core.old.state p) result core.old core.new }
 {
+    drop_handlers(core, p, Sought::Any);
     drop_timers(core, Which::WakesFor(p));
     core.tell(Effect::Gone(p));
     core.set_phase(p, Phase::Deleted);
     Answer::Gone
 }
 
-// Runs a process down, mode after mode, from a mode inward. No handler is declared, and nothing else is open but its timers,
-// wakes, ASTs and common clusters.
+// Runs a process down, mode after mode, from a mode inward, to the next answer.
 fn run_down<R: Routine>(core: &mut Core<R>, p: Pid, outermost: Option<Mode>) -> Answer
-    requires leaving { IsLeaving core.old.state p }
+    requires leaving { IsLeaving core.old p }
     requires room { Fits core.old (run_down p (modes_from outermost) core.old.state).effects }
     ensures { Does (run_down p (modes_from outermost) core.old.state) result core.old core.new }
 {
     let mut next = outermost;
     'modes: while let Some(mode) = next {
-        cancel(core, p, mode);
-        release(core, p, mode);
+        if let Some(answer) = pass(core, p, mode) {
+            return answer;
+        }
         next = next_inner(mode);
     }
     end(core, p)
 }
 
-/// One step of the rundown of a process, from where it stands to its end.
+/// One step of the rundown of a process, from where it stands to the next answer: a handler is entered, a mode waits for its requests,
+/// or the process is gone.
 pub fn rundown_step<R: Routine>(core: &mut Core<R>, p: Pid) -> Answer
-    requires ready { IsReady core.old p }
-    requires ids { IsTrue (have_own_ids (process_at core.old.state p).asts) }
-    requires order { AreOrdered timer_id 0 core.old.state.next core.old.state.timers }
+    requires leaving { IsLeaving core.old p }
     requires room { Fits core.old (rundown core.old.state p).effects }
     ensures { Does (rundown core.old.state p) result core.old core.new }
 {
     match core.phase(p) {
         Phase::Handlers(mode) => run_down(core, p, Some(mode)),
-        Phase::Draining(mode) => {
-            release(core, p, mode);
-            run_down(core, p, next_inner(mode))
-        }
+        Phase::Draining(mode) => match drain(core, p, mode) {
+            Some(answer) => answer,
+            None => run_down(core, p, next_inner(mode)),
+        },
         Phase::Alive | Phase::Deleted => Answer::Gone,
     }
 }

@@ -6,7 +6,7 @@ use Rattle.vx_script.specs.Steps.{first_line, line_len, without_return, fail_of,
 use Rattle.vx_text.specs.Lex.{lex, Fails}
 use Rattle.vx_text.specs.declared.token.LexFail.{LexFail}
 use Rattle.vx_text.specs.declared.token.LexFail.TheVariants as lex_fail
-use Rattle.vx_script.specs.Reading.{read_lines, read_script, take_line, closed, nothing_read}
+use Rattle.vx_script.specs.Reading.{read_lines, take_line, closed}
 use Rattle.vx_script.specs.Results.{◌>>=◌, at_line, ScriptFails}
 use Rattle.vx_script.specs.declared.fault.ScriptFail.{ScriptFail}
 use Rattle.vx_script.specs.declared.fault.ScriptFail.TheVariants as fail
@@ -57,10 +57,6 @@ pub no_line : (line : ℕ) (r : Reading) (text : List ℕ) → length text ≡ 0
 unfolding read_lines lines_of
 no_line line r [] h = refl
 no_line line r (b ∷ bytes) h = absurd (omega arith)
-
-pub begins : (text : List ℕ) → read_lines 1 nothing_read (lines_of text) ≡ read_script text
-unfolding read_script
-begins text = refl
 
 -- what stopped a line stops the text
 pub stopped : {A B : Type 0} (e : ScriptFail) (r : Result A ScriptFault) (f : A → Result B ScriptFault) → ScriptFails e r → ScriptFails e (r >>= f)

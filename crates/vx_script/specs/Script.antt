@@ -1,5 +1,5 @@
 -- The canonical script of a system, line by line.
-use Rattle.std.specs.Prelude.{ℕ, ◌+◌, ◌==◌, nat_le, List, [], ◌∷◌, ◌++◌, map, flat_map, take, drop, codes, decimal, Bool, slice_index_or, if◌then◌else◌}
+use Rattle.std.specs.Prelude.{ℕ, ◌+◌, ◌==◌, nat_le, List, [], ◌∷◌, ◌++◌, map, flat_map, take, drop, codes, decimal, slice_index_or, if◌then◌else◌}
 use Rattle.std.specs.List.{prefix_len}
 use Rattle.vx_base.specs.Flags.{one}
 use Rattle.vx_base.specs.declared.call.Operand.{Operand}

@@ -6,9 +6,12 @@ use Rattle.vx_text.specs.declared.token.LexFail.{LexFail}
 use Rattle.vx_text.specs.declared.token.LexFail.TheVariants as lex_fail
 use Rattle.vx_script.specs.Fields.{kind_of}
 use Rattle.vx_script.specs.Lines.{begins_with}
+use Rattle.vx_script.specs.Results.{ScriptFails}
 use Rattle.vx_script.specs.declared.fault.FaultKind.{FaultKind}
 use Rattle.vx_script.specs.declared.fault.LineFail.{LineFail}
 use Rattle.vx_script.specs.declared.fault.LineFail.TheVariants as line_fail
+use Rattle.vx_script.specs.declared.fault.ScriptFail.{ScriptFail}
+use Rattle.vx_script.specs.declared.fault.ScriptFault.{ScriptFault}
 
 -- what stands before the first line feed, or before a return in front of it
 abbrev pub first_line : List ℕ → List ℕ
@@ -39,3 +42,13 @@ LineFails (line_fail.Fault kind) read = read ≡ Err kind
 abbrev pub ReadsLine : {X : Type 0} → Result X LineFail → Result X FaultKind → Type 0
 ReadsLine (Ok x) read = read ≡ Ok x
 ReadsLine (Err e) read = LineFails e read
+
+-- What a function of a line left behind is what reading gives, unless the line has a fault or memory ran out.
+abbrev pub LeavesLine : {X : Type 0} → Result (Unit {0}) LineFail → X → Result X FaultKind → Type 0
+LeavesLine (Ok _) left read = read ≡ Ok left
+LeavesLine (Err e) left read = LineFails e read
+
+-- The same of a function of a script.
+abbrev pub LeavesScript : {X : Type 0} → Result (Unit {0}) ScriptFail → X → Result X ScriptFault → Type 0
+LeavesScript (Ok _) left read = read ≡ Ok left
+LeavesScript (Err e) left read = ScriptFails e read

@@ -6,7 +6,7 @@ ghost use Rattle.vx_script.specs.Declarations as spec;
 ghost use Rattle.vx_script.specs.Fields as field;
 ghost use Rattle.vx_script.specs.Steps.{ReadsLine};
 
-use crate::draft::{DraftImage, DraftLines};
+use crate::draft::DraftImage;
 use crate::fault::{FaultKind, LineFail};
 use crate::fields::{behind, end_at, name_at, number_at, text_at};
 use crate::keys::{NO_KEYS, keys_at};
@@ -18,7 +18,7 @@ use vx_names::{NumberedRegister, Register};
 use vx_text::{Tok, Token};
 
 /// What a unit is.
-#[derive(Clone, Copy, Debug, PartialEq, Eq)]
+#[derive(Clone, Copy)]
 pub enum Device {
     Line,
     Block,
@@ -175,11 +175,7 @@ pub fn image_line(
     let name = unused_name(images.place(name), name)?;
     end_at(behind(tokens, 1))?;
     room_for(MOST_IMAGES, images.len())?;
-    Ok(DraftImage {
-        name,
-        labels: Register::new(alloc),
-        lines: DraftLines::new(alloc),
-    })
+    Ok(DraftImage::new(alloc, name))
 }
 
 /// PROCESS name image key=value ..

@@ -9,7 +9,7 @@ use vx_image::{Label, Rel, Stmt};
 use vx_names::{Named, Register};
 
 /// A statement, in which a label stands by its name.
-#[derive(Debug, Drop)]
+#[derive(Drop)]
 pub enum Draft {
     /// Goes on at a label.
     Goto(Name),
@@ -20,7 +20,7 @@ pub enum Draft {
 }
 
 /// A statement, and the number of its line.
-#[derive(Debug, Drop)]
+#[derive(Drop)]
 pub struct DraftLine {
     pub line: u32,
     pub draft: Draft,
@@ -30,7 +30,7 @@ pub struct DraftLine {
 pub const MOST_STMTS: usize = 10_000;
 
 /// At most 10,000 statements, which contracts see as their list.
-#[derive(Debug, Drop)]
+#[derive(Drop)]
 pub struct DraftLines {
     items: Vec<DraftLine>,
 }
@@ -93,4 +93,17 @@ pub struct DraftImage {
     pub name: Name,
     pub labels: Register<Label>,
     pub lines: DraftLines,
+}
+
+impl DraftImage {
+    /// An image without labels and statements. Takes no memory.
+    pub fn new(alloc: Global, name: Name) -> DraftImage
+        ensures { result ≡ record { name = name; labels = []; lines = [] } }
+    {
+        DraftImage {
+            name,
+            labels: Register::new(alloc),
+            lines: DraftLines::new(alloc),
+        }
+    }
 }

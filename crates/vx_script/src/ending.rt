@@ -161,12 +161,12 @@ fn image_of(alloc: Global, image: DraftImage) -> Result<Image, NoMemory>
     })
 }
 
-/// What was read, with an image that is ended.
-pub fn with_image(alloc: Global, mut parts: Parts, image: DraftImage) -> Result<Parts, NoMemory>
-    ensures { IfOk result (λ p. p ≡ spec.with_image parts image) }
+/// Adds an image that is ended, with what it names.
+pub fn with_image(alloc: Global, parts: &mut Parts, image: DraftImage) -> Result<(), NoMemory>
+    ensures { OnOk result (parts.new ≡ spec.with_image parts.old image) }
 {
     push_creations(image.lines.as_slice(), &mut parts.creations)?;
     parts.unlabelled = least_line(parts.unlabelled, first_unlabelled(&image));
     parts.images.push(image_of(alloc, image)?)?;
-    Ok(parts)
+    Ok(())
 }

@@ -65,7 +65,7 @@ impl From<NoMemory> for ScriptFail {
 }
 
 /// Why a line is not read.
-#[derive(Clone, Copy, Debug, PartialEq, Eq)]
+#[derive(Clone, Copy)]
 pub enum LineFail {
     /// It has a fault of this kind.
     Fault(FaultKind),

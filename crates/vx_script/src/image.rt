@@ -1,9 +1,9 @@
 //! The lines of an image.
 
-ghost use Rattle.std.specs.Prelude.{◌≡◌, Ok};
+ghost use Rattle.std.specs.Prelude.{◌≡◌, None, Ok};
 ghost use Rattle.vx_table.specs.Reading.{toks};
 ghost use Rattle.vx_script.specs.Reading as spec;
-ghost use Rattle.vx_script.specs.Steps.{ReadsLine};
+ghost use Rattle.vx_script.specs.Steps.{LeavesLine};
 
 use crate::declaration::{room_for, unused_name};
 use crate::draft::{DraftImage, DraftLine, MOST_STMTS};
@@ -18,98 +18,104 @@ use vx_image::Label;
 use vx_text::{Tok, Token};
 
 // A statement, where one stands.
-fn with_stmt(line: u32, mut image: DraftImage, tokens: &[Token]) -> Result<DraftImage, LineFail>
-    ensures { ReadsLine result (spec.with_stmt line image (toks tokens.now)) }
+fn with_stmt(line: u32, image: &mut DraftImage, tokens: &[Token]) -> Result<(), LineFail>
+    ensures { LeavesLine result image.new (spec.with_stmt line image.old (toks tokens.now)) }
 {
     if tokens.is_empty() {
-        return Ok(image);
+        return Ok(());
     }
     let draft = stmt_of(tokens)?;
     room_for(MOST_STMTS, image.lines.len() as usize)?;
     image.lines.push(DraftLine { line, draft })?;
-    Ok(image)
+    Ok(())
 }
 
 // A label, which names the next statement.
-fn with_label(mut image: DraftImage, name: Name) -> Result<DraftImage, LineFail>
-    ensures { ReadsLine result (Ok (spec.with_label image name)) }
+fn with_label(image: &mut DraftImage, name: Name) -> Result<(), LineFail>
+    ensures { LeavesLine result image.new (Ok (spec.with_label image.old name)) }
 {
     let place = image.lines.len();
     image.labels.push(Label { name, place })?;
-    Ok(image)
+    Ok(())
 }
 
 // A label, and the statement behind it if any.
-fn labelled(
-    line: u32,
-    image: DraftImage,
-    name: Name,
-    tokens: &[Token],
-) -> Result<DraftImage, LineFail>
-    ensures { ReadsLine result (spec.labelled line image name (toks tokens.now)) }
+fn labelled(line: u32, image: &mut DraftImage, name: Name, tokens: &[Token]) -> Result<(), LineFail>
+    ensures { LeavesLine result image.new (spec.labelled line image.old name (toks tokens.now)) }
 {
     unused_name(image.labels.place(name), name)?;
-    let image = with_label(image, name)?;
+    with_label(image, name)?;
     with_stmt(line, image, tokens)
 }
 
-// The image goes on.
-fn going_on(parts: Parts, image: DraftImage) -> Reading
-    ensures { result ≡ spec.goes_on parts image }
+/// An image stands open.
+pub fn keep_open(image: DraftImage, reading: &mut Reading)
+    ensures { reading.new ≡ spec.goes_on reading.old.parts image }
 {
-    Reading {
-        parts,
-        current: Some(image),
-    }
+    reading.current = Some(image);
 }
 
 fn ended(
     alloc: Global,
-    parts: Parts,
+    parts: &mut Parts,
     image: DraftImage,
     tokens: &[Token],
-) -> Result<Reading, LineFail>
-    ensures { ReadsLine result (spec.ended parts image (toks tokens.now)) }
+) -> Result<(), LineFail>
+    ensures { LeavesLine result (spec.between_images parts.new) (spec.ended parts.old image (toks tokens.now)) }
 {
     end_at(tokens)?;
-    Ok(Reading {
-        parts: with_image(alloc, parts, image)?,
-        current: None,
-    })
+    with_image(alloc, parts, image)?;
+    Ok(())
+}
+
+// A line that begins with a label; the tokens are those behind its colon.
+fn label_line(
+    line: u32,
+    reading: &mut Reading,
+    mut image: DraftImage,
+    label: Name,
+    tokens: &[Token],
+) -> Result<(), LineFail>
+    ensures { LeavesLine result reading.new (spec.going_on reading.old.parts (spec.labelled line image label (toks tokens.now))) }
+{
+    let added = labelled(line, &mut image, label, tokens);
+    keep_open(image, reading);
+    added
 }
 
 // A line that begins with a word; the tokens are all of the line's.
 fn word_line(
     alloc: Global,
     line: u32,
-    parts: Parts,
+    reading: &mut Reading,
     image: DraftImage,
     word: Name,
     tokens: &[Token],
-) -> Result<Reading, LineFail>
-    ensures { ReadsLine result (spec.word_line line parts image word (toks tokens.now)) }
+) -> Result<(), LineFail>
+    requires { reading.old.current ≡ None }
+    ensures { LeavesLine result reading.new (spec.word_line line reading.old.parts image word (toks tokens.now)) }
 {
     if begins_with_sign(b':', behind(tokens, 1)) {
-        let image = labelled(line, image, word, behind(tokens, 2))?;
-        Ok(going_on(parts, image))
+        label_line(line, reading, image, word, behind(tokens, 2))
     } else if word.text() == b"END".as_slice() {
-        ended(alloc, parts, image, behind(tokens, 1))
+        ended(alloc, &mut reading.parts, image, behind(tokens, 1))
     } else {
-        other_line(line, parts, image, tokens)
+        other_line(line, reading, image, tokens)
     }
 }
 
 // A line that is a statement alone, or has no tokens.
 fn other_line(
     line: u32,
-    parts: Parts,
-    image: DraftImage,
+    reading: &mut Reading,
+    mut image: DraftImage,
     tokens: &[Token],
-) -> Result<Reading, LineFail>
-    ensures { ReadsLine result (spec.going_on parts (spec.with_stmt line image (toks tokens.now))) }
+) -> Result<(), LineFail>
+    ensures { LeavesLine result reading.new (spec.going_on reading.old.parts (spec.with_stmt line image (toks tokens.now))) }
 {
-    let image = with_stmt(line, image, tokens)?;
-    Ok(going_on(parts, image))
+    let added = with_stmt(line, &mut image, tokens);
+    keep_open(image, reading);
+    added
 }
 
 fn first_word(tokens: &[Token]) -> Option<Name>
@@ -128,14 +134,15 @@ fn first_word(tokens: &[Token]) -> Option<Name>
 pub fn inside(
     alloc: Global,
     line: u32,
-    parts: Parts,
+    reading: &mut Reading,
     image: DraftImage,
     tokens: &[Token],
-) -> Result<Reading, LineFail>
-    ensures { ReadsLine result (spec.inside line parts image (toks tokens.now)) }
+) -> Result<(), LineFail>
+    requires { reading.old.current ≡ None }
+    ensures { LeavesLine result reading.new (spec.inside line reading.old.parts image (toks tokens.now)) }
 {
     match first_word(tokens) {
-        Some(word) => word_line(alloc, line, parts, image, word, tokens),
-        None => other_line(line, parts, image, tokens),
+        Some(word) => word_line(alloc, line, reading, image, word, tokens),
+        None => other_line(line, reading, image, tokens),
     }
 }

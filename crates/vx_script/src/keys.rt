@@ -12,7 +12,7 @@ use vx_table::mode_word;
 use vx_text::{Tok, Token};
 
 /// A key.
-#[derive(Clone, Copy, Debug, PartialEq, Eq)]
+#[derive(Clone, Copy)]
 pub enum Key {
     Uic,
     Mode,
@@ -26,14 +26,14 @@ pub enum Key {
 }
 
 /// A user identification code.
-#[derive(Clone, Copy, Debug, PartialEq, Eq)]
+#[derive(Clone, Copy)]
 pub struct Uic {
     pub group: u32,
     pub member: u32,
 }
 
 /// The values of the keys that stand.
-#[derive(Clone, Copy, Debug)]
+#[derive(Clone, Copy)]
 pub struct Keys {
     pub uic: Option<Uic>,
     pub mode: Option<Mode>,
@@ -47,7 +47,7 @@ pub struct Keys {
 }
 
 /// Keys with one more, and how many tokens stand behind its name.
-#[derive(Clone, Copy, Debug)]
+#[derive(Clone, Copy)]
 pub struct TakenKey {
     pub keys: Keys,
     pub used: usize,

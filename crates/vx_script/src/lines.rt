@@ -4,7 +4,7 @@ use crate::keys::Keys;
 use vx_base::{Bytes, Name};
 
 /// An INPUT line: one more line of a line unit.
-#[derive(Debug, Drop)]
+#[derive(Drop)]
 pub struct InputLine {
     pub line: u32,
     pub unit: Name,
@@ -12,7 +12,7 @@ pub struct InputLine {
 }
 
 /// A FAULT line: the number, from 1, of a unit's service that fails.
-#[derive(Clone, Copy, Debug)]
+#[derive(Clone, Copy)]
 pub struct FaultLine {
     pub line: u32,
     pub unit: Name,
@@ -20,7 +20,7 @@ pub struct FaultLine {
 }
 
 /// A PROCESS line.
-#[derive(Clone, Copy, Debug)]
+#[derive(Clone, Copy)]
 pub struct DeclLine {
     pub line: u32,
     pub name: Name,
@@ -29,7 +29,7 @@ pub struct DeclLine {
 }
 
 /// A $CREPRC, and the process declaration that it names.
-#[derive(Clone, Copy, Debug)]
+#[derive(Clone, Copy)]
 pub struct Creation {
     pub line: u32,
     pub name: Name,

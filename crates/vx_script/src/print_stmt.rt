@@ -4,6 +4,7 @@ ghost use Rattle.std.specs.Prelude.{OnOk, [], ◌++◌, ◌∷◌, ◌≡◌};
 ghost use Rattle.vx_script.specs.Script as spec;
 ghost use Rattle.vx_script.specs.Script.{spaced};
 ghost use Rattle.vx_script.specs.Statements.{rel_name, field_name};
+ghost use Rattle.vx_image.specs.declared.stmt.Stmt.TheVariants as stmt;
 ghost use Rattle.vx_table.specs.Spelling.{operand_text, target_text};
 
 use crate::print_word::{print_number, print_place, print_text, print_value, print_word};
@@ -62,6 +63,83 @@ fn print_goto(labels: &[Label], place: u32, out: &mut Bytes) -> Result<(), NoMem
     print_word(label_name(labels, place), out)
 }
 
+// LET, a target, =, a value, a sign and a value.
+fn print_sum(
+    alloc: Global,
+    target: Target,
+    x: Operand,
+    sign: &[u8],
+    y: Operand,
+    out: &mut Bytes,
+) -> Result<(), NoMemory>
+    ensures { OnOk result (out.new ≡ out.old
+        ++ spaced (spec.let_words target x ++ sign.now ∷ operand_text y ∷ [])) }
+{
+    print_let(alloc, target, x, out)?;
+    print_word(sign, out)?;
+    print_value(alloc, y, out)
+}
+
+// IF, two values with how they compare, GOTO and a label.
+fn print_if(
+    alloc: Global,
+    labels: &[Label],
+    x: Operand,
+    rel: Rel,
+    y: Operand,
+    place: u32,
+    out: &mut Bytes,
+) -> Result<(), NoMemory>
+    ensures { OnOk result (out.new ≡ out.old ++ spaced (spec.stmt_words labels.now (stmt.If x rel y place))) }
+{
+    print_word(b"IF", out)?;
+    print_value(alloc, x, out)?;
+    print_word(rel_name(rel), out)?;
+    print_value(alloc, y, out)?;
+    print_goto(labels, place, out)
+}
+
+// PUT, a buffer and a quoted text.
+fn print_put(alloc: Global, buffer: u8, bytes: &[u8], out: &mut Bytes) -> Result<(), NoMemory>
+    ensures { OnOk result (out.new ≡ out.old ++ spaced (spec.stmt_words [] (stmt.Put buffer bytes.now))) }
+{
+    print_word(b"PUT", out)?;
+    print_number(alloc, u32::from(buffer), out)?;
+    print_text(alloc, bytes, out)
+}
+
+// BYTE, a target, a buffer and a value.
+fn print_byte(
+    alloc: Global,
+    target: Target,
+    buffer: u8,
+    x: Operand,
+    out: &mut Bytes,
+) -> Result<(), NoMemory>
+    ensures { OnOk result (out.new ≡ out.old ++ spaced (spec.stmt_words [] (stmt.Byte target buffer x))) }
+{
+    print_word(b"BYTE", out)?;
+    print_place(target, out)?;
+    print_number(alloc, u32::from(buffer), out)?;
+    print_value(alloc, x, out)
+}
+
+// IOSB, a target, the number of a status block and a field of it.
+fn print_iosb(
+    alloc: Global,
+    target: Target,
+    block: u8,
+    field: Field,
+    out: &mut Bytes,
+) -> Result<(), NoMemory>
+    ensures { OnOk result (out.new ≡ out.old ++ spaced (spec.stmt_words [] (stmt.Iosb target block field))) }
+{
+    print_word(b"IOSB", out)?;
+    print_place(target, out)?;
+    print_number(alloc, u32::from(block), out)?;
+    print_word(field_name(field), out)
+}
+
 // The words of a statement, each behind a space.
 fn print_words(
     alloc: Global,
@@ -73,41 +151,13 @@ fn print_words(
 {
     match stmt {
         Stmt::Let(t, x) => print_let(alloc, *t, *x, out),
-        Stmt::Add(t, x, y) => {
-            print_let(alloc, *t, *x, out)?;
-            print_word(b"+", out)?;
-            print_value(alloc, *y, out)
-        }
-        Stmt::Sub(t, x, y) => {
-            print_let(alloc, *t, *x, out)?;
-            print_word(b"-", out)?;
-            print_value(alloc, *y, out)
-        }
+        Stmt::Add(t, x, y) => print_sum(alloc, *t, *x, b"+", *y, out),
+        Stmt::Sub(t, x, y) => print_sum(alloc, *t, *x, b"-", *y, out),
         Stmt::Goto(k) => print_goto(labels, *k, out),
-        Stmt::If(x, r, y, k) => {
-            print_word(b"IF", out)?;
-            print_value(alloc, *x, out)?;
-            print_word(rel_name(*r), out)?;
-            print_value(alloc, *y, out)?;
-            print_goto(labels, *k, out)
-        }
-        Stmt::Put(b, bytes) => {
-            print_word(b"PUT", out)?;
-            print_number(alloc, u32::from(*b), out)?;
-            print_text(alloc, bytes.as_slice(), out)
-        }
-        Stmt::Byte(t, b, x) => {
-            print_word(b"BYTE", out)?;
-            print_place(*t, out)?;
-            print_number(alloc, u32::from(*b), out)?;
-            print_value(alloc, *x, out)
-        }
-        Stmt::Iosb(t, i, f) => {
-            print_word(b"IOSB", out)?;
-            print_place(*t, out)?;
-            print_number(alloc, u32::from(*i), out)?;
-            print_word(field_name(*f), out)
-        }
+        Stmt::If(x, r, y, k) => print_if(alloc, labels, *x, *r, *y, *k, out),
+        Stmt::Put(b, bytes) => print_put(alloc, *b, bytes.as_slice(), out),
+        Stmt::Byte(t, b, x) => print_byte(alloc, *t, *b, *x, out),
+        Stmt::Iosb(t, i, f) => print_iosb(alloc, *t, *i, *f, out),
         Stmt::Return => print_word(b"RETURN", out),
         Stmt::Service(call) => print_word(call_text(alloc, call)?.as_slice(), out),
     }

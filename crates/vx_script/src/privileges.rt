@@ -10,7 +10,7 @@ use vx_base::Privs;
 use vx_text::{Tok, Token};
 
 /// A privilege.
-#[derive(Clone, Copy, Debug, PartialEq, Eq)]
+#[derive(Clone, Copy)]
 pub enum Privilege {
     CmExec,
     CmKrnl,
@@ -21,7 +21,7 @@ pub enum Privilege {
 }
 
 /// Privileges, and how many tokens name them.
-#[derive(Clone, Copy, Debug)]
+#[derive(Clone, Copy)]
 pub struct TakenPrivs {
     pub privs: Privs,
     pub used: usize,

@@ -1,14 +1,15 @@
 //! A script, line by line.
 
-ghost use Rattle.std.specs.Prelude.{◌≡◌, ◌+◌, ◌<◌, ◌≤◌, length, drop};
+ghost use Rattle.std.specs.Prelude.{◌≡◌, ◌+◌, ◌<◌, ◌≤◌, None, length, drop};
 ghost use Rattle.vx_table.specs.Reading.{toks};
-ghost use Rattle.vx_script.specs.Steps.{ReadsLine, fail_of, first_line, line_len, without_return};
+ghost use Rattle.vx_script.specs.Steps.{LeavesLine, LeavesScript, fail_of, first_line, line_len, without_return};
+ghost use Rattle.vx_script.specs.Lines.{lines_of};
 ghost use Rattle.vx_script.specs.Reading as spec;
 ghost use Rattle.vx_script.specs.Results.{ReadsScript, at_line};
 
 use crate::declaration::{fault_line, image_line, input_line, process_line, unit_line};
 use crate::fault::{FaultKind, LineFail, ScriptFail, ScriptFault};
-use crate::image::inside;
+use crate::image::{inside, keep_open};
 use crate::parts::{Parts, Reading};
 use crate::resolve::resolve;
 use std::alloc::Global;
@@ -17,79 +18,69 @@ use vx_image::System;
 use vx_names::{NumberedRegister, Register};
 use vx_text::{LexFail, Tok, Token, tokens};
 
-// Nothing stands open.
-fn between_images(parts: Parts) -> Reading
-    ensures { result ≡ spec.between_images parts }
-{
-    Reading {
-        parts,
-        current: None,
-    }
-}
-
-fn with_unit(alloc: Global, mut parts: Parts, tokens: &[Token]) -> Result<Reading, LineFail>
-    ensures { ReadsLine result (spec.with_unit parts (toks tokens.now)) }
+fn with_unit(alloc: Global, parts: &mut Parts, tokens: &[Token]) -> Result<(), LineFail>
+    ensures { LeavesLine result (spec.between_images parts.new) (spec.with_unit parts.old (toks tokens.now)) }
 {
     let unit = unit_line(alloc, &parts.units, tokens)?;
     parts.units.push(unit)?;
-    Ok(between_images(parts))
+    Ok(())
 }
 
-fn with_input(line: u32, mut parts: Parts, tokens: &[Token]) -> Result<Reading, LineFail>
-    ensures { ReadsLine result (spec.with_input line parts (toks tokens.now)) }
+fn with_input(line: u32, parts: &mut Parts, tokens: &[Token]) -> Result<(), LineFail>
+    ensures { LeavesLine result (spec.between_images parts.new) (spec.with_input line parts.old (toks tokens.now)) }
 {
     let input = input_line(line, tokens)?;
     parts.inputs.push(input)?;
-    Ok(between_images(parts))
+    Ok(())
 }
 
-fn with_fault(line: u32, mut parts: Parts, tokens: &[Token]) -> Result<Reading, LineFail>
-    ensures { ReadsLine result (spec.with_fault line parts (toks tokens.now)) }
+fn with_fault(line: u32, parts: &mut Parts, tokens: &[Token]) -> Result<(), LineFail>
+    ensures { LeavesLine result (spec.between_images parts.new) (spec.with_fault line parts.old (toks tokens.now)) }
 {
     let fault = fault_line(line, &parts.faults, tokens)?;
     parts.faults.push(fault)?;
-    Ok(between_images(parts))
+    Ok(())
 }
 
-fn with_process(line: u32, mut parts: Parts, tokens: &[Token]) -> Result<Reading, LineFail>
-    ensures { ReadsLine result (spec.with_process line parts (toks tokens.now)) }
+fn with_process(line: u32, parts: &mut Parts, tokens: &[Token]) -> Result<(), LineFail>
+    ensures { LeavesLine result (spec.between_images parts.new) (spec.with_process line parts.old (toks tokens.now)) }
 {
     let decl = process_line(line, &parts.decls, tokens)?;
     parts.decls.push(decl)?;
-    Ok(between_images(parts))
+    Ok(())
 }
 
-fn opened(alloc: Global, parts: Parts, tokens: &[Token]) -> Result<Reading, LineFail>
-    ensures { ReadsLine result (spec.opened parts (toks tokens.now)) }
+// Nothing stands open when the line begins.
+fn opened(alloc: Global, reading: &mut Reading, tokens: &[Token]) -> Result<(), LineFail>
+    ensures { LeavesLine result reading.new (spec.opened reading.old.parts (toks tokens.now)) }
 {
-    let image = image_line(alloc, &parts.images, tokens)?;
-    Ok(Reading {
-        parts,
-        current: Some(image),
-    })
+    let image = image_line(alloc, &reading.parts.images, tokens)?;
+    keep_open(image, reading);
+    Ok(())
 }
 
-// A line that begins with a word; the tokens are those behind it.
+// A line that begins with a word, where nothing stands open; the tokens are those behind the word.
 fn outer_line(
     alloc: Global,
     line: u32,
-    parts: Parts,
+    reading: &mut Reading,
     word: &Name,
     tokens: &[Token],
-) -> Result<Reading, LineFail>
-    ensures { ReadsLine result (spec.outer_line line parts word.now (toks tokens.now)) }
+) -> Result<(), LineFail>
+    requires { reading.old.current ≡ None }
+    ensures { LeavesLine result reading.new (spec.outer_line line reading.old.parts word.now (toks tokens.now)) }
 {
     let word = word.text();
     if word == b"UNIT".as_slice() {
-        with_unit(alloc, parts, tokens)
+        with_unit(alloc, &mut reading.parts, tokens)
     } else if word == b"INPUT".as_slice() {
-        with_input(line, parts, tokens)
+        with_input(line, &mut reading.parts, tokens)
     } else if word == b"FAULT".as_slice() {
-        with_fault(line, parts, tokens)
+        with_fault(line, &mut reading.parts, tokens)
     } else if word == b"IMAGE".as_slice() {
-        opened(alloc, parts, tokens)
+        opened(alloc, reading, tokens)
     } else if word == b"PROCESS".as_slice() {
-        with_process(line, parts, tokens)
+        with_process(line, &mut reading.parts, tokens)
     } else {
         Err(LineFail::Fault(FaultKind::Word))
     }
@@ -97,14 +88,20 @@ fn outer_line(
 
 // A line that stands in no image.
 #[tactic(auto, unfolding(crate::specs::Reading::outside))]
-fn outside(alloc: Global, line: u32, parts: Parts, tokens: &[Token]) -> Result<Reading, LineFail>
-    ensures { ReadsLine result (spec.outside line parts (toks tokens.now)) }
+fn outside(
+    alloc: Global,
+    line: u32,
+    reading: &mut Reading,
+    tokens: &[Token],
+) -> Result<(), LineFail>
+    requires { reading.old.current ≡ None }
+    ensures { LeavesLine result reading.new (spec.outside line reading.old.parts (toks tokens.now)) }
 {
     let [first, rest @ ..] = tokens else {
-        return Ok(between_images(parts));
+        return Ok(());
     };
     match &first.tok {
-        Tok::Word(word) => outer_line(alloc, line, parts, word, rest),
+        Tok::Word(word) => outer_line(alloc, line, reading, word, rest),
         _ => Err(LineFail::Fault(FaultKind::Word)),
     }
 }
@@ -112,15 +109,14 @@ fn outside(alloc: Global, line: u32, parts: Parts, tokens: &[Token]) -> Result<R
 fn accepted(
     alloc: Global,
     line: u32,
-    reading: Reading,
+    reading: &mut Reading,
     tokens: &[Token],
-) -> Result<Reading, LineFail>
-    ensures { ReadsLine result (spec.accepted line reading (toks tokens.now)) }
+) -> Result<(), LineFail>
+    ensures { LeavesLine result reading.new (spec.accepted line reading.old (toks tokens.now)) }
 {
-    let Reading { parts, current } = reading;
-    match current {
-        None => outside(alloc, line, parts, tokens),
-        Some(image) => inside(alloc, line, parts, image, tokens),
+    match reading.current.take() {
+        None => outside(alloc, line, reading, tokens),
+        Some(image) => inside(alloc, line, reading, image, tokens),
     }
 }
 
@@ -137,9 +133,9 @@ fn line_fail(fail: LexFail) -> LineFail
 }
 
 #[tactic(auto, unfolding(crate::specs::Reading::take_line))]
-fn take_line(alloc: Global, line: u32, reading: Reading, text: &[u8]) -> Result<Reading, LineFail>
+fn take_line(alloc: Global, line: u32, reading: &mut Reading, text: &[u8]) -> Result<(), LineFail>
     requires { length text.now < 4294967295 }
-    ensures { ReadsLine result (spec.take_line line reading text.now) }
+    ensures { LeavesLine result reading.new (spec.take_line line reading.old text.now) }
 {
     match tokens(alloc, text) {
         Ok(tokens) => accepted(alloc, line, reading, &tokens),
@@ -147,12 +143,12 @@ fn take_line(alloc: Global, line: u32, reading: Reading, text: &[u8]) -> Result<
     }
 }
 
-fn next_line(alloc: Global, line: u32, reading: Reading, text: &[u8]) -> Result<Reading, ScriptFail>
+fn next_line(alloc: Global, line: u32, reading: &mut Reading, text: &[u8]) -> Result<(), ScriptFail>
     requires { length text.now < 4294967295 }
-    ensures { ReadsScript result (at_line line (spec.take_line line reading text.now)) }
+    ensures { LeavesScript result reading.new (at_line line (spec.take_line line reading.old text.now)) }
 {
     match take_line(alloc, line, reading, text) {
-        Ok(next) => Ok(next),
+        Ok(()) => Ok(()),
         Err(LineFail::Fault(kind)) => Err(ScriptFail::Fault(ScriptFault { line, kind })),
         Err(LineFail::NoMemory) => Err(ScriptFail::NoMemory),
     }
@@ -198,16 +194,15 @@ fn bytes_behind(text: &[u8], len: usize) -> &[u8]
     if len < text.len() { &text[len..] } else { &[] }
 }
 
-fn closed(alloc: Global, line: u32, reading: Reading) -> Result<System, ScriptFail>
-    ensures { ReadsScript result (spec.closed line reading.parts reading.current) }
+fn closed(alloc: Global, line: u32, reading: &mut Reading) -> Result<System, ScriptFail>
+    ensures { ReadsScript result (spec.closed line reading.old.parts reading.old.current) }
 {
-    let Reading { parts, current } = reading;
-    match current {
+    match &reading.current {
         Some(_) => Err(ScriptFail::Fault(ScriptFault {
             line,
             kind: FaultKind::End,
         })),
-        None => resolve(alloc, parts),
+        None => resolve(alloc, &mut reading.parts),
     }
 }
 
@@ -229,19 +224,30 @@ fn nothing_read(alloc: Global) -> Reading
     }
 }
 
+// Reads the lines of a text, where nothing was read before.
+fn read_lines(alloc: Global, reading: &mut Reading, text: &[u8]) -> Result<System, ScriptFail>
+    requires { length text.now < 4294967295 }
+    ensures { ReadsScript result (spec.read_lines 1 reading.old (lines_of text.now)) }
+{
+    let mut line: u32 = 1;
+    let mut rest = text;
+    while !rest.is_empty() {
+        let len = line_len(rest);
+        next_line(alloc, line, reading, first_line(rest, len))?;
+        line += 1;
+        rest = bytes_behind(rest, len + 1);
+    }
+    closed(alloc, line, reading)
+}
+
 /// Reads a text line by line. `vx_grammar::read_script` is the call for users: its contract is the grammar.
+#[tactic(auto, unfolding(crate::specs::Reading::read_script))]
 pub fn parse_script(alloc: Global, text: &[u8]) -> Result<System, ScriptFail>
     requires { length text.now < 4294967295 }
     ensures { ReadsScript result (spec.read_script text.now) }
 {
     let mut reading = nothing_read(alloc);
-    let mut line: u32 = 1;
-    let mut rest = text;
-    while !rest.is_empty() {
-        let len = line_len(rest);
-        reading = next_line(alloc, line, reading, first_line(rest, len))?;
-        line += 1;
-        rest = bytes_behind(rest, len + 1);
-    }
-    closed(alloc, line, reading)
+    let system = read_lines(alloc, &mut reading, text);
+    drop(reading);
+    system
 }

@@ -14,6 +14,7 @@ use crate::lines::{DeclLine, FaultLine, InputLine};
 use crate::parts::Parts;
 use crate::privileges::NO_PRIVS;
 use std::alloc::Global;
+use std::mem;
 use vx_base::{Mode, Name, Need, NoMemory};
 use vx_image::{Image, Images, Lines, Numbers, ProcDecl, ProcDecls, System, UnitDecl, UnitDecls};
 use vx_names::Register;
@@ -215,23 +216,25 @@ fn decls_of(alloc: Global, parts: &Parts) -> Result<ProcDecls, NoMemory>
     Ok(decls)
 }
 
-fn system_of(alloc: Global, parts: Parts) -> Result<System, NoMemory>
-    ensures { IfOk result (λ s. s ≡ spec.system_of parts) }
+// The system; the parts keep no image.
+fn system_of(alloc: Global, parts: &mut Parts) -> Result<System, NoMemory>
+    ensures { IfOk result (λ s. s ≡ spec.system_of parts.old) }
 {
-    let units = units_of(alloc, &parts)?;
-    let decls = decls_of(alloc, &parts)?;
+    let units = units_of(alloc, parts)?;
+    let decls = decls_of(alloc, parts)?;
+    let images = mem::replace(&mut parts.images, Register::new(alloc));
     Ok(System {
         units,
-        images: Images::from_vec(parts.images.into_vec()),
+        images: Images::from_vec(images.into_vec()),
         decls,
     })
 }
 
-/// The system of what was read, or the first line that names what is not there.
-pub fn resolve(alloc: Global, parts: Parts) -> Result<System, ScriptFail>
-    ensures { ReadsScript result (spec.resolve parts) }
+/// The system of what was read, or the first line that names what is not there. The parts keep no image.
+pub fn resolve(alloc: Global, parts: &mut Parts) -> Result<System, ScriptFail>
+    ensures { ReadsScript result (spec.resolve parts.old) }
 {
-    match first_unknown(&parts) {
+    match first_unknown(parts) {
         Some(line) => Err(ScriptFail::Fault(ScriptFault {
             line,
             kind: FaultKind::Unknown,

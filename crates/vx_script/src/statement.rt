@@ -195,6 +195,13 @@ fn return_stmt(tokens: &[Token]) -> Result<Draft, FaultKind>
     Ok(Draft::Plain(Stmt::Return))
 }
 
+// A statement that takes no memory to read, or its fault.
+fn as_line(read: Result<Draft, FaultKind>) -> Result<Draft, LineFail>
+    ensures { ReadsLine result read }
+{
+    Ok(read?)
+}
+
 // A local statement, by its word.
 #[tactic(auto, unfolding(crate::specs::Statements::local_stmt))]
 fn local_stmt(word: &Name, tokens: &[Token]) -> Result<Draft, LineFail>
@@ -202,19 +209,19 @@ fn local_stmt(word: &Name, tokens: &[Token]) -> Result<Draft, LineFail>
 {
     let word = word.text();
     if word == b"LET".as_slice() {
-        Ok(let_stmt(tokens)?)
+        as_line(let_stmt(tokens))
     } else if word == b"GOTO".as_slice() {
-        Ok(goto_stmt(tokens)?)
+        as_line(goto_stmt(tokens))
     } else if word == b"IF".as_slice() {
-        Ok(if_stmt(tokens)?)
+        as_line(if_stmt(tokens))
     } else if word == b"PUT".as_slice() {
         put_stmt(tokens)
     } else if word == b"BYTE".as_slice() {
-        Ok(byte_stmt(tokens)?)
+        as_line(byte_stmt(tokens))
     } else if word == b"IOSB".as_slice() {
-        Ok(iosb_stmt(tokens)?)
+        as_line(iosb_stmt(tokens))
     } else if word == b"RETURN".as_slice() {
-        Ok(return_stmt(tokens)?)
+        as_line(return_stmt(tokens))
     } else {
         Err(LineFail::Fault(FaultKind::Word))
     }
@@ -249,7 +256,7 @@ pub fn stmt_of(tokens: &[Token]) -> Result<Draft, LineFail>
     };
     match &first.tok {
         Tok::Word(word) => local_stmt(word, rest),
-        Tok::Service(_) => Ok(call_stmt(tokens)?),
+        Tok::Service(_) => as_line(call_stmt(tokens)),
         _ => Err(LineFail::Fault(FaultKind::Word)),
     }
 }

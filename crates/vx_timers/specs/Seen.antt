@@ -1,5 +1,5 @@
 -- What falls due as the code keeps it, seen as plain data.
-use Rattle.std.specs.Prelude.{ℕ, Bool, Option, Some, None, option_map, nat_le, if◌then◌else◌}
+use Rattle.std.specs.Prelude.{Bool, option_map}
 use Rattle.vx_base.specs.Pieces.{Timer, Alarm, OfTimer, OfWake}
 use Rattle.vx_base.specs.declared.routine.Entry.{Entry}
 use Rattle.vx_record.specs.Rundown.{is_timer_in, is_wake_by}
@@ -15,12 +15,6 @@ use Rattle.vx_timers.specs.declared.due.Which.TheVariants as which
 abbrev pub alarm_of : {R : Type 0} → (R → Entry) → What R → Alarm
 alarm_of tag (what.Timer efn reqid mode routine) = OfTimer efn reqid mode (option_map tag routine)
 alarm_of tag (what.Wake target repeat) = OfWake target repeat
-
--- the lesser of two times, where each may be missing
-abbrev pub lesser_of : Option ℕ → Option ℕ → Option ℕ
-lesser_of None b = b
-lesser_of (Some a) None = Some a
-lesser_of (Some a) (Some b) = if nat_le a b then Some a else Some b
 
 -- what an entry does when it falls due
 abbrev pub falls_of : Alarm → Falls

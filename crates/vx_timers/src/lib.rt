@@ -6,7 +6,9 @@
 #![tactic(auto)]
 
 mod due;
+mod places;
+mod round;
 mod timers;
 
 pub use due::{Due, Falls, What, Which};
-pub use timers::{Timers, first_due, least, put_off, take_first};
+pub use timers::Timers;

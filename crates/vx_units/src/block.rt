@@ -4,7 +4,7 @@ ghost use Rattle.std.specs.Prelude.{◌≡◌, ◌≢◌, ◌<◌, ◌≤◌, �
 ghost use Rattle.std.specs.List.{list_any};
 ghost use Rattle.vx_image.specs.Units.{first_unit};
 ghost use Rattle.vx_base.specs.Serving.{fails, is_past_end};
-ghost use Rattle.vx_units.specs.Units.{Serving, idle, bytes_of, block_at};
+ghost use Rattle.vx_units.specs.Units.{Serving, idle, bytes_of, block_at, outputs_of};
 
 use crate::line::is_in;
 use crate::unit::DeviceUnit;
@@ -76,6 +76,14 @@ impl BlockUnit {
         } else {
             None
         }
+    }
+
+    /// The lines that were written to it: none.
+    pub fn outputs(&self) -> &[Bytes]
+        ensures { result.now ≡ outputs_of self.now.unit.contents }
+    {
+        let _services = self.services;
+        &[]
     }
 
     /// How many services there were.

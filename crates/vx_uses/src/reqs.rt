@@ -24,7 +24,7 @@ fn a_request_is_served_and_finished(rt: HostRuntime) -> Result<(), Fail> {
     reqs.reserve().ok().ok_or("memory")?;
     reqs.accept(req, Some((Mode::User, Scripted::scripted(Entry::Host(4)))));
     assert_eq!(rt; reqs.begin(UnitNo(0)), Some(Id(3)));
-    let (_, ast, marked) = reqs.finish(Id(3)).ok_or("a request")?;
+    let (_, ast, marked) = reqs.finish(Id(3)).ok_or("a request")?.parts();
     assert!(rt; ast.is_some() && !marked);
     Ok(())
 }

@@ -2,7 +2,7 @@
 
 use std::test::*;
 use vx_base::{Id, Pid, Scripted};
-use vx_timers::{Due, Timers, What, Which, least, take_first};
+use vx_timers::{Due, Timers, What, Which};
 
 #[test]
 fn the_least_due_time_comes_first(rt: HostRuntime) -> Result<(), Fail> {
@@ -15,8 +15,8 @@ fn the_least_due_time_comes_first(rt: HostRuntime) -> Result<(), Fail> {
         };
         timers.put(Due::new(Id(id), Pid(1), due, wake));
     }
-    assert_eq!(rt; least(&timers), Some(10));
-    let due = take_first(&mut timers, Which::Due(10)).ok_or("a wake")?;
+    assert_eq!(rt; timers.least(), Some(10));
+    let due = timers.take_first(Which::Due(10)).ok_or("a wake")?;
     assert_eq!(rt; due.id(), Id(2));
     Ok(())
 }

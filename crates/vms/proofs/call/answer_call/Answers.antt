@@ -1,7 +1,7 @@
 use Rattle.std.proofs.Common.{Some, ap, sym, refl, ◌∙◌}
 use Rattle.std.proofs.KnownBytes.{Keeps-refl}
 use Rattle.vms.specs.Top.{usage, too_long, read_fault, no_memory, of_words, of_overflow, of_read_fault, of_no_memory}
-use Rattle.vms.proofs.Breaking.{asks, breaks_input, breaks_shown}
+use Rattle.vms.proofs.Breaking.{asks, breaks_input, breaks_judged, breaks_shown}
 use Rattle.vms.proofs.call.answer_call.Goals as goal
 
 pub returns-in_default-clause-write_fault : goal.returns-in_default-clause-write_fault
@@ -16,10 +16,15 @@ returns-in-Sim-clause-write_fault g c =
     let asked = asks c.args.words.now _ _ c.command_of.ensures.command c.in-Some.is ∙ ap (λ z. Some z) c.in-Sim.is in
     λ e. breaks_input c.args.words.now c.in-Sim.options _ _ _ _ _ _ c.in-Ok.input (record { asked = asked; taken = c.in-Ok.ensures.all }) (c.simulate.ensures.front e)
 
-pub returns-in-Ok-clause-write_fault : goal.returns-in-Ok-clause-write_fault
-returns-in-Ok-clause-write_fault g c =
+pub returns-in-Show-clause-write_fault : goal.returns-in-Show-clause-write_fault
+returns-in-Show-clause-write_fault g c =
     let asked = asks c.args.words.now _ _ c.command_of.ensures.command c.in-Some.is ∙ ap (λ z. Some z) c.in-Show.is in
     λ e. breaks_shown c.args.words.now _ _ _ _ _ _ c.in-Ok.input (record { asked = asked; taken = c.in-Ok.ensures.all }) (c.show.ensures.front e)
+
+pub returns-in-Ok-clause-write_fault : goal.returns-in-Ok-clause-write_fault
+returns-in-Ok-clause-write_fault g c =
+    let asked = asks c.args.words.now _ _ c.command_of.ensures.command c.in-Some.is ∙ ap (λ z. Some z) c.in-Check.is in
+    λ e. breaks_judged c.args.words.now _ _ _ _ _ _ c.in-Ok.input (record { asked = asked; taken = c.in-Ok.ensures.all }) (c.judge.ensures.front e)
 
 pub returns-in-Err-Fault-clause-write_fault : goal.returns-in-Err-Fault-clause-write_fault
 returns-in-Err-Fault-clause-write_fault g c =

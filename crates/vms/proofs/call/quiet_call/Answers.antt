@@ -1,12 +1,12 @@
 use Rattle.std.proofs.Common.{inl, inr}
-use Rattle.vms.proofs.Lawful.{completed_lawful, transcript_lawful}
+use Rattle.vms.proofs.Lawful.{completed_lawful, ended_lawful}
 use Rattle.vms.proofs.call.quiet_call.Goals as goal
 
 pub returns-clause-lawful : goal.returns-clause-lawful
 returns-clause-lawful g c = λ e. elim e [
   | inl done ↦ completed_lawful _ _ _ _ _ (c.answer_call.ensures.done done)
   | inr other ↦ elim other [
-    | inl hung ↦ transcript_lawful _ _ _ _ _ _ (c.answer_call.ensures.hung hung)
-    | inr limit ↦ transcript_lawful _ _ _ _ _ _ (c.answer_call.ensures.limit limit)
+    | inl hung ↦ ended_lawful _ _ _ _ _ _ (c.answer_call.ensures.hung hung)
+    | inr limit ↦ ended_lawful _ _ _ _ _ _ (c.answer_call.ensures.limit limit)
   ]
 ]

@@ -1,19 +1,17 @@
-use Rattle.std.proofs.Common.{ap, refl, ◌∙◌}
-use Rattle.vx_base.specs.declared.frame.Phase.TheVariants as phase
-use Rattle.vx_record.specs.Rundown.{gone_part, in_phase}
+use Rattle.vx_record.specs.Rundown.{any_handler, drop_handlers}
 use Rattle.vx_record.specs.Timers.{drop_timers, is_wake_for}
-use Rattle.vx_procs.specs.Kernel.{Kernel, changed}
-use Rattle.vx_procs.proofs.Rest.{acts_both}
-use Rattle.vx_rundown.proofs.Bare.{gone_wakes}
-use Rattle.vx_rundown.proofs.Dropped.{timers_leaving}
+use Rattle.vx_rundown.proofs.Left.{leaving_acted, leaving_handlers, leaving_timers}
 use Rattle.vx_rundown.proofs.rundown.end.Goals as goal
 
-pub set_phase-requires : goal.set_phase-requires
-set_phase-requires g c = rw (c.tell.ensures, c.drop_timers.ensures) (timers_leaving c.args.p (is_wake_for c.args.p) c.args.core.now.state c.requires.leaving).made
+pub drop_timers-requires-clause-order : goal.drop_timers-requires-clause-order
+drop_timers-requires-clause-order g c =
+    let k = c.args.core.now in
+    (leaving_acted k c.drop_handlers.new.core c.args.p (drop_handlers k.state c.args.p any_handler) c.drop_handlers.ensures (leaving_handlers c.args.p any_handler k c.requires.leaving)).order
 
-pub returns : goal.returns
-returns g c =
-    let s = c.args.core.now.state in
-    let p = c.args.p in
-    let last = c.set_phase.ensures ∙ ap (λ (k : Kernel). changed k p (in_phase phase.Deleted)) c.tell.ensures in
-    rw (gone_wakes s p c.requires.leaving.bare) (record { answers = refl; leaves = acts_both c.args.core.now c.drop_timers.new.core c.set_phase.new.self (drop_timers (is_wake_for p) s) (gone_part p) c.drop_timers.ensures last })
+pub set_phase-requires : goal.set_phase-requires
+set_phase-requires g c =
+    let k = c.args.core.now in
+    let l = c.drop_handlers.new.core in
+    let h = leaving_acted k l c.args.p (drop_handlers k.state c.args.p any_handler) c.drop_handlers.ensures (leaving_handlers c.args.p any_handler k c.requires.leaving) in
+    let last = leaving_acted l c.drop_timers.new.core c.args.p (drop_timers (is_wake_for c.args.p) l.state) c.drop_timers.ensures (leaving_timers c.args.p (is_wake_for c.args.p) l h) in
+    rw c.tell.ensures last.made

@@ -1,7 +1,7 @@
 use Rattle.std.proofs.Common.{length}
 use Rattle.vx_record.specs.Rundown.{run_down}
-use Rattle.vx_rundown.specs.Modes.{modes_from}
-use Rattle.vx_rundown.proofs.Running.{IsRunning}
+use Rattle.vx_rundown.specs.Steps.{modes_from}
+use Rattle.vx_rundown.proofs.Modes.{IsRunning}
 use Rattle.vx_rundown.proofs.rundown.run_down.Given as goal
 
 abbrev pub invariant-modes : goal.invariant-modes

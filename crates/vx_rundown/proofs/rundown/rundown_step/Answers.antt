@@ -1,28 +1,16 @@
+use Rattle.std.proofs.Common.{Option, subst}
+use Rattle.vx_base.specs.declared.record.Answer.{Answer}
+use Rattle.vx_procs.specs.Kernel.{Does}
 use Rattle.vx_procs.proofs.Rest.{answering_end}
-use Rattle.vx_rundown.proofs.Running.{drain_on, drain_room, leaving_of}
+use Rattle.vx_rundown.specs.Steps.{drained}
+use Rattle.vx_rundown.proofs.Modes.{drain_on}
 use Rattle.vx_rundown.proofs.rundown.rundown_step.Goals as goal
 
-pub run_down-requires-clause-leaving : goal.run_down-requires-clause-leaving
-run_down-requires-clause-leaving g c = leaving_of c.args.core.now c.args.p c.requires.ready c.requires.ids c.requires.order
+pub run_down-requires-in-None-clause-leaving : goal.run_down-requires-in-None-clause-leaving
+run_down-requires-in-None-clause-leaving g c =
+    (drain_on c.args.p c.in-Draining.mode c.next_inner.result c.args.core.now c.drain.new.core c.requires.leaving c.in-Draining.ensures c.next_inner.ensures c.requires.room (subst (λ (x : Option Answer). Does (drained c.args.p c.in-Draining.mode c.args.core.now.state) x c.args.core.now c.drain.new.core) c.in-None.is c.drain.ensures)).leaving
 
-pub release-requires-clause-leaving : goal.release-requires-clause-leaving
-release-requires-clause-leaving g c = leaving_of c.args.core.now c.args.p c.requires.ready c.requires.ids c.requires.order
-
-pub release-requires-clause-room : goal.release-requires-clause-room
-release-requires-clause-room g c = drain_room c.args.p c.in-Draining.mode c.args.core.now (leaving_of c.args.core.now c.args.p c.requires.ready c.requires.ids c.requires.order) c.in-Draining.ensures c.requires.room
-
-pub run_down-requires-in-Draining-clause-leaving : goal.run_down-requires-in-Draining-clause-leaving
-run_down-requires-in-Draining-clause-leaving g c =
-    let leaving = leaving_of c.args.core.now c.args.p c.requires.ready c.requires.ids c.requires.order in
-    (drain_on c.args.p c.in-Draining.mode c.next_inner.result c.args.core.now c.release.new.core leaving c.in-Draining.ensures c.next_inner.ensures c.requires.room c.release.ensures).leaving
-
-pub run_down-requires-in-Draining-clause-room : goal.run_down-requires-in-Draining-clause-room
-run_down-requires-in-Draining-clause-room g c =
-    let leaving = leaving_of c.args.core.now c.args.p c.requires.ready c.requires.ids c.requires.order in
-    (drain_on c.args.p c.in-Draining.mode c.next_inner.result c.args.core.now c.release.new.core leaving c.in-Draining.ensures c.next_inner.ensures c.requires.room c.release.ensures).rest.doing.room
-
-pub returns-in-Draining : goal.returns-in-Draining
-returns-in-Draining g c =
-    let leaving = leaving_of c.args.core.now c.args.p c.requires.ready c.requires.ids c.requires.order in
-    let on = drain_on c.args.p c.in-Draining.mode c.next_inner.result c.args.core.now c.release.new.core leaving c.in-Draining.ensures c.next_inner.ensures c.requires.room c.release.ensures in
-    answering_end _ _ _ _ _ _ on.rest c.run_down-in-Draining.ensures
+pub returns-in-None : goal.returns-in-None
+returns-in-None g c =
+    let on = drain_on c.args.p c.in-Draining.mode c.next_inner.result c.args.core.now c.drain.new.core c.requires.leaving c.in-Draining.ensures c.next_inner.ensures c.requires.room (subst (λ (x : Option Answer). Does (drained c.args.p c.in-Draining.mode c.args.core.now.state) x c.args.core.now c.drain.new.core) c.in-None.is c.drain.ensures) in
+    answering_end _ _ _ _ _ _ on.rest c.run_down-in-None.ensures

@@ -13,7 +13,7 @@ use Rattle.vx_procs.proofs.Ops.{charged_one, charged_tqe, held_dropped, own_time
 use Rattle.vx_procs.proofs.procs.Core.drop_timer.Goals as goal
 
 pub invariant_of-self : goal.invariant_of-self
-invariant_of-self g c = rw (same_timers (passes c.args.which) c.self.inside.timers c.take_first.new.timers c.in_err-due.ensures.found c.in_err-due.ensures.after) c.self.invariant
+invariant_of-self g c = rw (same_timers (passes c.args.which) c.self.inside.timers c.take_first.new.self c.in_err-due.ensures.found c.in_err-due.ensures.after) c.self.invariant
 
 pub overflow_sub-p : goal.overflow_sub-p
 overflow_sub-p g c =

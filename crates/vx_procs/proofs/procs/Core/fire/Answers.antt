@@ -18,11 +18,11 @@ use Rattle.vx_procs.proofs.Ops.{charged_one, charged_tqe, held_fired, own_timer,
 use Rattle.vx_procs.proofs.procs.Core.fire.Goals as goal
 
 pub invariant_of-self : goal.invariant_of-self
-invariant_of-self g c = rw (same_timers (is_due c.args.now) c.self.inside.timers c.take_first.new.timers c.in_default.ensures.found c.in_default.ensures.after) c.self.invariant
+invariant_of-self g c = rw (same_timers (is_due c.args.now) c.self.inside.timers c.take_first.new.self c.in_default.ensures.found c.in_default.ensures.after) c.self.invariant
 
 pub returns-in_default-clause-after : goal.returns-in_default-clause-after
 returns-in_default-clause-after g c =
-    let same = same_timers (is_due c.args.now) c.self.inside.timers c.take_first.new.timers c.in_default.ensures.found c.in_default.ensures.after in
+    let same = same_timers (is_due c.args.now) c.self.inside.timers c.take_first.new.self c.in_default.ensures.found c.in_default.ensures.after in
     let k = c.args.self.now in
     ap (λ (ts : Roomy Timer). kernel (record c.self.inside { timers = ts })) same ∙ (c.self.view_is ∙ ap (λ (o : Option Timer). with_state k (moved_on k.state c.args.now o)) (found_in (is_due c.args.now) c.self.inside k None c.self.view_is c.in_default.ensures.found))
 

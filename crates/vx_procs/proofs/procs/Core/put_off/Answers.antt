@@ -8,7 +8,7 @@ use Rattle.vx_procs.proofs.Ops.{held_later}
 use Rattle.vx_procs.proofs.procs.Core.put_off.Goals as goal
 
 pub invariant_of-self : goal.invariant_of-self
-invariant_of-self g c = held_later c.args.now c.args.ticks c.self.inside c.put_off.new.timers c.put_off.ensures (subst (λ (k : Kernel). c.args.now ≤ k.state.time) (sym c.self.view_is) c.requires.past) c.ranges.ticks.fits c.self.invariant
+invariant_of-self g c = held_later c.args.now c.args.ticks c.self.inside c.put_off.new.self c.put_off.ensures (subst (λ (k : Kernel). c.args.now ≤ k.state.time) (sym c.self.view_is) c.requires.past) c.ranges.ticks.fits c.self.invariant
 
 pub returns : goal.returns
 returns g c =

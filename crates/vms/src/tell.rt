@@ -1,0 +1,140 @@
+//! Writes the text of a call.
+
+ghost use Rattle.std.specs.Prelude.{◌≡◌, ◌≢◌, ◌⊎◌, ◌≤◌, IfOk};
+ghost use Rattle.std.specs.Io.KnownBytes.{Appends};
+ghost use Rattle.vx_host.specs.Causes.{Rose};
+ghost use Rattle.vx_host.specs.Streams.{AppendsFront};
+ghost use Rattle.vms.specs.Top.{fault_line, form_line, kind_word, no_memory, verdict_line, verdict_number, verdict_word};
+
+use crate::status::Status;
+use std::alloc::Global;
+use vx_base::{Bytes, End, NoMemory};
+use vx_check::Verdict;
+use vx_host::{Sink, write_all};
+use vx_script::{FaultKind, ScriptFault};
+use vx_text::print_num;
+
+/// Writes the text of a call, and answers its status, or `WriteFault`.
+pub fn tell<K: Sink>(sink: &mut K, text: &[u8], status: Status) -> Status
+    requires { status ≢ Status.WriteFault }
+    ensures status { (result ≡ status) ⊎ (result ≡ Status.WriteFault) }
+    ensures whole { result ≢ Status.WriteFault →
+        Appends (K.held sink.old) (K.held sink.new) text.now }
+    ensures front { result ≡ Status.WriteFault →
+        AppendsFront (K.held sink.old) (K.held sink.new) text.now }
+    ensures cause { result ≡ Status.WriteFault → Rose (K.faults sink.old) (K.faults sink.new) }
+    ensures later { K.faults sink.old ≤ K.faults sink.new }
+{
+    match write_all(sink, text) {
+        Ok(()) => status,
+        Err(_) => Status::WriteFault,
+    }
+}
+
+/// Writes that memory ran out.
+pub fn tell_no_memory<K: Sink>(sink: &mut K) -> Status
+    ensures status { (result ≡ Status.NoMemory) ⊎ (result ≡ Status.WriteFault) }
+    ensures whole { result ≢ Status.WriteFault →
+        Appends (K.held sink.old) (K.held sink.new) no_memory }
+    ensures front { result ≡ Status.WriteFault →
+        AppendsFront (K.held sink.old) (K.held sink.new) no_memory }
+    ensures cause { result ≡ Status.WriteFault → Rose (K.faults sink.old) (K.faults sink.new) }
+    ensures later { K.faults sink.old ≤ K.faults sink.new }
+{
+    tell(sink, b"vms: no memory\n", Status::NoMemory)
+}
+
+/// Writes the transcript of a run, and answers how the run has ended, or `WriteFault`.
+pub fn tell_transcript<K: Sink>(sink: &mut K, text: &[u8], end: End) -> Status
+    ensures status { (result ≡ Status.Done) ⊎ (result ≡ Status.Hung) ⊎ (result ≡ Status.Limit)
+        ⊎ (result ≡ Status.WriteFault) }
+    ensures done { result ≡ Status.Done →
+        (end ≡ End.Done) × Appends (K.held sink.old) (K.held sink.new) text.now }
+    ensures hung { result ≡ Status.Hung →
+        (end ≡ End.Hung) × Appends (K.held sink.old) (K.held sink.new) text.now }
+    ensures limit { result ≡ Status.Limit →
+        (end ≡ End.Limit) × Appends (K.held sink.old) (K.held sink.new) text.now }
+    ensures front { result ≡ Status.WriteFault →
+        AppendsFront (K.held sink.old) (K.held sink.new) text.now }
+    ensures cause { result ≡ Status.WriteFault → Rose (K.faults sink.old) (K.faults sink.new) }
+    ensures later { K.faults sink.old ≤ K.faults sink.new }
+{
+    match end {
+        End::Done => tell(sink, text, Status::Done),
+        End::Hung => tell(sink, text, Status::Hung),
+        End::Limit => tell(sink, text, Status::Limit),
+    }
+}
+
+fn kind_word(kind: FaultKind) -> &'static [u8]
+    ensures { result.now ≡ kind_word kind }
+{
+    match kind {
+        FaultKind::Byte => b"BYTE",
+        FaultKind::Quote => b"QUOTE",
+        FaultKind::Number => b"NUMBER",
+        FaultKind::Name => b"NAME",
+        FaultKind::Word => b"WORD",
+        FaultKind::Service => b"SERVICE",
+        FaultKind::Argument => b"ARGUMENT",
+        FaultKind::Range => b"RANGE",
+        FaultKind::Twice => b"TWICE",
+        FaultKind::Unknown => b"UNKNOWN",
+        FaultKind::Extra => b"EXTRA",
+        FaultKind::Missing => b"MISSING",
+        FaultKind::End => b"END",
+        FaultKind::Size => b"SIZE",
+    }
+}
+
+/// The line of a script's fault.
+pub fn fault_line(alloc: Global, fault: ScriptFault) -> Result<Bytes, NoMemory>
+    ensures { IfOk result (λ text. text ≡ fault_line fault) }
+{
+    let mut text = Bytes::new(alloc);
+    text.push_all(b"vms: line ")?;
+    print_num(alloc, &mut text, u64::from(fault.line))?;
+    text.push_all(b" ")?;
+    text.push_all(kind_word(fault.kind))?;
+    text.push_all(b"\n")?;
+    Ok(text)
+}
+
+/// The line of a transcript's first bad line.
+pub fn form_line(alloc: Global, line: u32) -> Result<Bytes, NoMemory>
+    ensures { IfOk result (λ text. text ≡ form_line line) }
+{
+    let mut text = Bytes::new(alloc);
+    text.push_all(b"vms: line ")?;
+    print_num(alloc, &mut text, u64::from(line))?;
+    text.push_all(b" FORM\n")?;
+    Ok(text)
+}
+
+/// The word of a verdict, and the number behind it.
+fn verdict_parts(verdict: Verdict) -> (&'static [u8], u32)
+    ensures word { result.0.now ≡ verdict_word verdict }
+    ensures number { result.1 ≡ verdict_number verdict }
+{
+    match verdict {
+        Verdict::Complete(n) => (b"complete", n),
+        Verdict::Hung(n) => (b"hung", n),
+        Verdict::Limit(n) => (b"limit", n),
+        Verdict::Prefix(n) => (b"prefix", n),
+        Verdict::Bad(n) => (b"bad", n),
+    }
+}
+
+/// The line of a verdict.
+pub fn verdict_line(alloc: Global, verdict: Verdict) -> Result<Bytes, NoMemory>
+    ensures { IfOk result (λ text. text ≡ verdict_line verdict) }
+{
+    let (word, n) = verdict_parts(verdict);
+    let mut text = Bytes::new(alloc);
+    text.push_all(b"check ")?;
+    text.push_all(word)?;
+    text.push_all(b" ")?;
+    print_num(alloc, &mut text, u64::from(n))?;
+    text.push_all(b"\n")?;
+    Ok(text)
+}

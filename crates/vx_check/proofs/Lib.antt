@@ -1,0 +1,3 @@
+pub mod EndedText
+pub mod Judging
+pub mod OneVerdict

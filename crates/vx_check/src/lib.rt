@@ -1,0 +1,13 @@
+//! Transcripts judged: whether the records are a run of the script's system, and the trailer is the machine's after them.
+//!
+//! `check` takes the records one after another through an executive: each costs the question whether its event is enabled, one
+//! step, and a comparison. `specs/Verdict.antt` says what the verdict is, in the machine's words alone.
+#![tactic(auto)]
+
+mod checking;
+mod law;
+mod verdict;
+
+pub use checking::check;
+pub use law::{an_ended_text_is_the_transcript, no_transcript_has_two_verdicts};
+pub use verdict::Verdict;

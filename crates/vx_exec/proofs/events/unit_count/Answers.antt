@@ -1,0 +1,12 @@
+use Rattle.std.proofs.Common.{◌<◌, length, arith}
+use Rattle.vx_exec.proofs.Enabled.{count_step, few_units, units_now}
+use Rattle.vx_exec.proofs.events.unit_count.Goals as goal
+
+pub loop-place-preserved : goal.loop-place-preserved
+loop-place-preserved g c =
+    let s = c.args.core.now.state in
+    let within : c.loop-place.place < length s.units = omega (arith, c.unit_count-place-end.ensures, c.loop-place-test.true, few_units s c.requires) in
+    record {
+      few = omega (arith, c.events_of_unit-count.ensures.few, c.loop-place.invariant.few);
+      counted = count_step _ _ _ c.loop-place.count c.events_of_unit-count.result _ (units_now s c.loop-place.place within) c.events_of_unit-count.ensures.count c.loop-place.invariant.counted;
+    }

@@ -1,0 +1,82 @@
+//! Services that ask a unit for something, and that wait for it.
+
+ghost use Rattle.std.specs.Prelude.{◌≡◌, IfErr, is_some, option_map};
+ghost use Rattle.vx_record.specs.State.{IsProcess};
+ghost use Rattle.vx_record.specs.Requests.{qio, qiow, synch};
+ghost use Rattle.vx_procs.specs.Kernel.{Does, DoesQuietly, Fits};
+ghost use Rattle.vx_procs.specs.Ready.{IsReady};
+ghost use Rattle.vx_ctl.specs.Answers.{cond_of};
+ghost use Rattle.vx_io.specs.Asking.{AreOpen, asked, served_of};
+
+use crate::accept::accept;
+use crate::asking::{Asking, request_test};
+use vx_base::{Buffer, Cond, Pid, Routine, Wait};
+use vx_ctl::{LAST_FLAG, Refused, awaited};
+use vx_procs::Core;
+use vx_record::Served;
+
+/// $QIO: asks the unit of a channel to read or to write, with an AST or without. Its event flag and its status block are cleared, a
+/// write's bytes are taken now, into the room that is given for them, and the request waits for its unit. BADPARAM, ILLEFC, UNASEFC,
+/// IVCHAN, NOPRIV, ILLIOFUNC and EXQUOTA, in this order. A refusal hands the routine back.
+#[tactic(auto, using(crate::proofs::Parted::told_none))]
+pub fn qio<R: Routine>(
+    core: &mut Core<R>,
+    p: Pid,
+    ask: Asking,
+    ast: Option<R>,
+    room: Buffer,
+) -> Result<Cond, Refused<R>>
+    requires ready { IsReady core.old p }
+    requires open { AreOpen core.old.state p }
+    requires room { Fits core.old (qio core.old.state p (asked ask (option_map R.tagged ast))).effects }
+    ensures does { Does (qio core.old.state p (asked ask (option_map R.tagged ast))) (cond_of result) core.old core.new }
+    ensures handed { IfErr result (λ refused. refused.ast ≡ ast) }
+{
+    let to = match request_test(core, p, &ask, &ast) {
+        Ok(to) => to,
+        Err(cond) => return Err(Refused { cond, ast }),
+    };
+    accept(core, p, ask, to, ast, room);
+    Ok(Cond::Normal)
+}
+
+/// $QIOW: as $QIO, and then waits as $SYNCH does.
+#[tactic(auto, using(crate::proofs::Parted::told_none))]
+pub fn qiow<R: Routine>(
+    core: &mut Core<R>,
+    p: Pid,
+    ask: Asking,
+    ast: Option<R>,
+    room: Buffer,
+) -> Result<Served, Refused<R>>
+    requires ready { IsReady core.old p }
+    requires open { AreOpen core.old.state p }
+    requires room { Fits core.old (qiow core.old.state p (asked ask (option_map R.tagged ast))).effects }
+    ensures does { Does (qiow core.old.state p (asked ask (option_map R.tagged ast))) (served_of result) core.old core.new }
+    ensures handed { IfErr result (λ refused. refused.ast ≡ ast) }
+{
+    let to = match request_test(core, p, &ask, &ast) {
+        Ok(to) => to,
+        Err(cond) => return Err(Refused { cond, ast }),
+    };
+    accept(core, p, ask, to, ast, room);
+    Ok(awaited(core, p, Wait::Synch(ask.efn, ask.iosb)))
+}
+
+/// $SYNCH: waits for an event flag and, where one is named, for a filled I/O status block: BADPARAM above block 32, ILLEFC above flag
+/// 127, UNASEFC where the number names no flag. If both are there it answers at once.
+pub fn synch<R: Routine>(core: &mut Core<R>, p: Pid, efn: u32, iosb: u32) -> Served
+    requires { IsProcess core.old.state p }
+    ensures { DoesQuietly (synch core.old.state p efn iosb) result core.old core.new }
+{
+    if iosb > 32 {
+        return Served::Answered(Cond::BadParam);
+    }
+    if efn > LAST_FLAG {
+        return Served::Answered(Cond::IllEfc);
+    }
+    if core.cell(p, efn).is_none() {
+        return Served::Answered(Cond::UnasEfc);
+    }
+    awaited(core, p, Wait::Synch(efn, iosb))
+}

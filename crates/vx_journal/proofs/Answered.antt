@@ -1,0 +1,48 @@
+-- What the reading of a script, and then of what stands behind it, answers of a text.
+use Rattle.std.proofs.Common.{◌≡◌, ℕ, List, Result, Ok, Err, IfOk, refl, sym, ap, subst, ◌∙◌}
+use Rattle.vx_image.specs.WellFormed.{IsWellFormed}
+use Rattle.vx_image.specs.declared.system.System.{System}
+use Rattle.vx_grammar.specs.FirstFault.{Tells}
+use Rattle.vx_grammar.specs.Grammar.{Spells}
+use Rattle.vx_script.specs.Results.{ReadsScript, ScriptFails}
+use Rattle.vx_script.specs.declared.fault.ScriptFail.{ScriptFail}
+use Rattle.vx_script.specs.declared.fault.ScriptFail.TheVariants as script_fail
+use Rattle.vx_script.specs.declared.fault.ScriptFault.{ScriptFault}
+use Rattle.vx_journal.proofs.JournalText.{whole_text}
+use Rattle.vx_journal.specs.ReadJournal.{FailsScript, IsJournal, ReadsJournal, failure_of, journal_of, script_part}
+use Rattle.vx_journal.specs.declared.journal.Journal.{Journal}
+use Rattle.vx_journal.specs.declared.journal.JournalFail.{JournalFail}
+use Rattle.vx_journal.specs.declared.journal.JournalFail.TheVariants as fail
+
+-- Where the script part, which is this text, says a system.
+
+pub is_read : (text part : List ℕ) (system : System) (r : Result Journal JournalFail) → part ≡ script_part text → Spells part system → ReadsJournal r (journal_of system text) → IfOk r (IsJournal text)
+is_read text part system (Ok j) same says reads =
+    let kept : j.system ≡ system = (whole_text system text j reads).0 in
+    record {
+      says = subst (λ s. Spells (script_part text) s) (sym kept) (subst (λ z. Spells z system) same says);
+      reads = subst (λ (s : System). journal_of s text ≡ Ok j) (sym kept) reads;
+    }
+is_read text part system (Err e) same says reads = tt
+
+pub is_formed : (text : List ℕ) (system : System) (r : Result Journal JournalFail) → IsWellFormed system → ReadsJournal r (journal_of system text) → IfOk r (λ j. IsWellFormed j.system)
+is_formed text system (Ok j) formed reads = subst (λ (s : System). IsWellFormed s) (sym (whole_text system text j reads).0) formed
+is_formed text system (Err e) formed reads = tt
+
+pub is_only : (text part : List ℕ) (system : System) (r : Result Journal JournalFail) → part ≡ script_part text → ((s : System) → Spells part s → ReadsScript (Ok system) (Ok s)) → ReadsJournal r (journal_of system text) → (s : System) → Spells (script_part text) s → ReadsJournal r (journal_of s text)
+is_only text part system r same only reads s says =
+    let is : s ≡ system = cc (only s (subst (λ z. Spells z s) (sym same) says)) in
+    subst (λ z. ReadsJournal r (journal_of z text)) (sym is) reads
+
+pub no_fault : (text part : List ℕ) (system : System) (r : Result Journal JournalFail) → part ≡ script_part text → ((fault : ScriptFault) → Tells part fault → ReadsScript (Ok system) (Err fault)) → (fault : ScriptFault) → Tells (script_part text) fault → FailsScript fault r
+no_fault text part system r same only fault tells = absurd (cc (only fault (subst (λ z. Tells z fault) (sym same) tells)))
+
+-- Where it has a fault.
+
+pub script_only : (text part : List ℕ) (e : ScriptFail) (f : JournalFail) → part ≡ script_part text → f ≡ failure_of e → ((s : System) → Spells part s → ScriptFails e (Ok s)) → (s : System) → Spells (script_part text) s → ReadsJournal (Err f) (journal_of s text)
+script_only text part (script_fail.Fault fault) f same is only s says = absurd (cc (only s (subst (λ z. Spells z s) (sym same) says)))
+script_only text part script_fail.NoMemory f same is only s says = subst (λ z. ReadsJournal (Err z) (journal_of s text)) (sym is) tt
+
+pub script_faults : (text part : List ℕ) (e : ScriptFail) (f : JournalFail) → part ≡ script_part text → f ≡ failure_of e → ((fault : ScriptFault) → Tells part fault → ScriptFails {Y = System} e (Err fault)) → (fault : ScriptFault) → Tells (script_part text) fault → FailsScript fault (Err f)
+script_faults text part (script_fail.Fault g) f same is only fault tells = subst (λ z. FailsScript fault (Err z)) (sym is) (sym (cc (only fault (subst (λ z. Tells z fault) (sym same) tells))))
+script_faults text part script_fail.NoMemory f same is only fault tells = subst (λ z. FailsScript fault (Err z)) (sym is) tt

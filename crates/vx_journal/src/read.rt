@@ -1,0 +1,148 @@
+//! Reads a transcript.
+
+ghost use Rattle.std.specs.Prelude.{◌≡◌, ◌+◌, ◌<◌, ◌≤◌, IfOk, length};
+ghost use Rattle.vx_image.specs.WellFormed.{IsWellFormed};
+ghost use Rattle.vx_image.specs.declared.system.System.{System as SystemOf};
+ghost use Rattle.vx_grammar.specs.FirstFault.{Tells};
+ghost use Rattle.vx_grammar.specs.Grammar.{Spells};
+ghost use Rattle.vx_lines.specs.ReadRecords.{Reads};
+ghost use Rattle.vx_script.specs.declared.fault.ScriptFault.{ScriptFault as ScriptFaultOf};
+ghost use Rattle.vx_journal.specs.ReadJournal as spec;
+
+use crate::journal::{Journal, JournalFail};
+use crate::trailer::read_trailer;
+use std::alloc::Global;
+use vx_base::{Bytes, NoMemory};
+use vx_grammar::read_script;
+use vx_image::System;
+use vx_lines::{LinesFail, Records, fed_len, read_records};
+use vx_script::print_script;
+
+/// How many bytes stand before the first line that begins with `$JOURNAL`.
+fn script_len(text: &[u8]) -> usize
+    ensures len { result ≡ spec.script_len text.now }
+    ensures within { result ≤ length text.now }
+{
+    let mut at = 0;
+    while at < text.len() {
+        let rest = &text[at..];
+        let len = fed_len(rest);
+        if rest[..len].starts_with(b"$JOURNAL") {
+            return at;
+        }
+        at += len;
+    }
+    at
+}
+
+/// The number of the line behind a front of a text that begins with this line, or of the first line in which the text differs.
+fn line_behind(line: u32, front: &[u8], text: &[u8]) -> Result<u32, LinesFail>
+    requires { line + length text.now ≤ 4294967295 }
+    ensures read { Reads result (spec.line_behind line front.now text.now) }
+    ensures within { IfOk result (λ _. length front.now ≤ length text.now) }
+    ensures lines { IfOk result (λ n. n ≤ line + length front.now) }
+{
+    let mut number = line;
+    for (i, b) in front.iter().enumerate() {
+        if i >= text.len() || text[i] != *b {
+            return Err(LinesFail::Bad(number));
+        }
+        if *b == b'\n' {
+            number += 1;
+        }
+    }
+    Ok(number)
+}
+
+fn copy_of(alloc: Global, text: &[u8]) -> Result<Bytes, NoMemory>
+    ensures { IfOk result (λ copy. copy ≡ text.now) }
+{
+    let mut copy = Bytes::new(alloc);
+    copy.push_all(text)?;
+    Ok(copy)
+}
+
+/// Reads what stands behind the header, whose first line has this number.
+fn behind_header(
+    alloc: Global,
+    system: System,
+    line: u32,
+    text: &[u8],
+) -> Result<Journal, LinesFail>
+    requires formed { IsWellFormed system }
+    requires short { line + length text.now < 4294967295 }
+    ensures { Reads result (spec.behind_header system line text.now) }
+{
+    let units = system.units.as_slice();
+    let Records { recs, line, len } = read_records(alloc, units, line, text)?;
+    let trailer = &text[len..];
+    let part = read_trailer(alloc, units, line, trailer)?;
+    let trailer = copy_of(alloc, trailer)?;
+    Ok(Journal {
+        system,
+        recs,
+        part,
+        trailer,
+    })
+}
+
+/// Reads what stands behind the canonical script.
+fn behind_script(
+    alloc: Global,
+    system: System,
+    line: u32,
+    text: &[u8],
+) -> Result<Journal, LinesFail>
+    requires formed { IsWellFormed system }
+    requires short { line + length text.now ≤ 4294967295 }
+    ensures { Reads result (spec.behind_script system line text.now) }
+{
+    if text.starts_with(b"$JOURNAL 1\n") {
+        behind_header(alloc, system, line + 1, &text[11..])
+    } else {
+        Err(LinesFail::Bad(line))
+    }
+}
+
+/// Reads a text whose script part says this system.
+#[tactic(auto, unfolding(crate::specs::ReadJournal::journal_of))]
+fn journal_of(alloc: Global, system: System, text: &[u8]) -> Result<Journal, LinesFail>
+    requires formed { IsWellFormed system }
+    requires short { length text.now < 4294967295 }
+    ensures { Reads result (spec.journal_of system text.now) }
+{
+    let script = print_script(alloc, &system)?;
+    let line = line_behind(1, script.as_slice(), text)?;
+    behind_script(alloc, system, line, &text[script.as_slice().len()..])
+}
+
+/// Reads a text whose script part says this system, and tells its first bad line.
+fn read_behind(alloc: Global, system: System, text: &[u8]) -> Result<Journal, JournalFail>
+    requires formed { IsWellFormed system }
+    requires short { length text.now < 4294967295 }
+    ensures read { spec.ReadsJournal result (spec.journal_of system text.now) }
+{
+    match journal_of(alloc, system, text) {
+        Ok(journal) => Ok(journal),
+        Err(LinesFail::Bad(line)) => Err(JournalFail::Form(line)),
+        Err(LinesFail::NoMemory) => Err(JournalFail::NoMemory),
+    }
+}
+
+/// Reads a transcript, whole or cut behind a record; or tells the first fault of its script, or the first line that may not stand
+/// where it does. The script part is what stands before the first line that begins with `$JOURNAL`.
+pub fn read_journal(alloc: Global, text: &[u8]) -> Result<Journal, JournalFail>
+    requires { length text.now < 4294967295 }
+    // What is read is what the text says, and the failure is the text's, unless memory runs out.
+    ensures journal { IfOk result (λ j. spec.IsJournal text.now j) }
+    ensures failure { spec.TellsIfFailed text.now result }
+    ensures only { (s : SystemOf) → Spells (spec.script_part text.now) s → spec.ReadsJournal result (spec.journal_of s text.now) }
+    ensures only_fault { (fault : ScriptFaultOf) → Tells (spec.script_part text.now) fault → spec.FailsScript fault result }
+    ensures well_formed { IfOk result (λ j. IsWellFormed j.system) }
+{
+    let len = script_len(text);
+    match read_script(alloc, &text[..len]) {
+        Ok(system) => read_behind(alloc, system, text),
+        Err(failure) => Err(JournalFail::from(failure)),
+    }
+}

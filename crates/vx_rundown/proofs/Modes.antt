@@ -1,0 +1,233 @@
+-- Rundown mode by mode.
+use Rattle.std.proofs.Common.{◌≡◌, ℕ, ◌≤◌, List, [], ◌∷◌, ◌++◌, true, false, cond, length, length-append, Option, Some, None, ap, sym, subst, ◌∙◌, refl, arith}
+use Rattle.std.specs.List.{filter, find}
+use Rattle.std.proofs.lemmas.List.{append_assoc}
+use Rattle.vx_base.specs.Channels.{channels_of}
+use Rattle.vx_base.specs.Pieces.{Attention, Handler, Request}
+use Rattle.vx_base.specs.declared.effects.Effect.{Effect}
+use Rattle.vx_base.specs.declared.frame.Phase.{Phase}
+use Rattle.vx_base.specs.declared.frame.Phase.TheVariants as phase
+use Rattle.vx_base.specs.declared.mode.Mode.{Mode}
+use Rattle.vx_base.specs.declared.mode.Mode.TheVariants.{Kernel, Exec, Super, User}
+use Rattle.vx_base.specs.declared.number.Pid.{Pid}
+use Rattle.vx_base.specs.declared.record.Answer.{Answer}
+use Rattle.vx_base.specs.declared.record.Answer.TheVariants as answer
+use Rattle.vx_record.specs.Cancel.{cancel_channel, cancel_request, drop_attention, is_attention_on, is_request_on}
+use Rattle.vx_record.specs.Parts.{Outcome, Part, and_then, answered, each, followed_by, nothing, part_of}
+use Rattle.vx_record.specs.Rundown.{cancel_modes, cancel_one, cancelled_in, drain, draining, drop_asts, handling, in_phase, inner_modes, is_busy, is_handler_of, is_timer_in, is_wake_by, part_with, release, run_down, run_handlers, rundown, rundown_from}
+use Rattle.vx_record.specs.State.{State, process_at}
+use Rattle.vx_record.specs.Timers.{drop_timers}
+use Rattle.vx_procs.specs.Kernel.{Acts, Does, Fits, Kernel as KernelOf, changed, with_state}
+use Rattle.vx_procs.proofs.Rest.{IsAnswering, IsDoing, answering_begun, answering_on, doing_begun, doing_on, doing_room}
+use Rattle.vx_rundown.specs.Leaving.{IsLeaving}
+use Rattle.vx_rundown.specs.Steps.{drained, modes_from, next_inner, passed, passed_by, then_by, then_on}
+use Rattle.vx_rundown.proofs.Freed.{free_all, leaving_channels}
+use Rattle.vx_rundown.proofs.Left.{leaving_acted, leaving_asts, leaving_phase, leaving_timers}
+
+-- Cancelling: no request stands, so timers and wakes alone end.
+
+cancelled_none : (s : State) (p : Pid) (n : ℕ) → s.requests ≡ [] → s.attention ≡ [] → cancel_channel s p n ≡ nothing s
+cancelled_none s p n no_request no_attention =
+    let requests : List Request → Part = λ rs. and_then (each cancel_request (filter (is_request_on p n) rs) s) (λ a. each drop_attention (filter (is_attention_on p n) a.attention) a) in
+    let attentions : List Attention → Part = λ xs. each drop_attention (filter (is_attention_on p n) xs) s in
+    ap requests no_request ∙ ap attentions no_attention
+
+cancelled_each : (p : Pid) (ns : List ℕ) (s : State) → s.requests ≡ [] → s.attention ≡ [] → each (cancel_one p) ns s ≡ nothing s
+cancelled_each p [] s r a = refl
+cancelled_each p (n ∷ ns) s r a =
+    ap (λ (d : Part). let c = each (cancel_one p) ns d.after in let x : Part = record { effects = d.effects ++ c.effects; after = c.after } in x) (cancelled_none s p n r a) ∙ cancelled_each p ns s r a
+
+abbrev pub entries_part : Pid → Mode → State → Part
+entries_part p m s = and_then (drop_timers (is_timer_in p m) s) (drop_timers (is_wake_by p))
+
+pub cancel_is : (s : State) (p : Pid) (m : Mode) → s.requests ≡ [] → s.attention ≡ [] → cancel_modes s p m ≡ entries_part p m s
+cancel_is s p m r x = ap (λ (a : Part). and_then (and_then a (drop_timers (is_timer_in p m))) (drop_timers (is_wake_by p))) (cancelled_each p (channels_of m (process_at s p).channels) s r x)
+
+pub leaving_cancel : (p : Pid) (m : Mode) (k : KernelOf) → IsLeaving k p → IsLeaving (with_state k (cancel_modes k.state p m).after) p
+leaving_cancel p m k h =
+    let t = (drop_timers (is_timer_in p m) k.state).after in
+    subst (λ (a : Part). IsLeaving (with_state k a.after) p) (sym (cancel_is k.state p m h.requests h.bare.attention)) (leaving_timers p (is_wake_by p) (with_state k t) (leaving_timers p (is_timer_in p m) k h))
+
+-- Releasing: one part after another.
+
+parted_leaving : (p : Pid) (n : ℕ) (k : KernelOf) → IsLeaving k p → IsLeaving (with_state k (part_with p n k.state).after) p
+parted_leaving p n k h = record {
+  made = record { above = h.made.above; within = h.made.within };
+  declared = h.declared;
+  image = h.image;
+  left = h.left;
+  order = h.order;
+  spares = λ q m. let has = h.spares q (record { above = m.above; within = m.within }) in record { frame = has.frame; ast = has.ast };
+  requests = h.requests;
+  bare = record { attention = h.bare.attention; boxes = h.bare.boxes };
+}
+
+abbrev asts_on : Pid → Mode → State → Part
+asts_on p m s = and_then (and_then (drop_asts p m s) (part_with p 2)) (part_with p 3)
+
+abbrev parted : Pid → State → Part
+parted p s = and_then (part_with p 2 s) (part_with p 3)
+
+pub release_first : (p : Pid) (m : Mode) (s : State) → release s p m ≡ and_then (free_all p m s) (λ a. and_then (drop_asts p m a) (parted p))
+release_first p m s =
+    let f = free_all p m s in
+    let a = drop_asts p m f.after in
+    let b = part_with p 2 a.after in
+    let c = part_with p 3 b.after in
+    ap (λ (es : List Effect). let x : Part = record { effects = es; after = c.after } in x)
+    (append_assoc (f.effects ++ a.effects) b.effects c.effects ∙ append_assoc f.effects a.effects (b.effects ++ c.effects))
+
+pub leaving_release : (p : Pid) (m : Mode) (k : KernelOf) → IsLeaving k p → IsLeaving (with_state k (release k.state p m).after) p
+leaving_release p m k h =
+    let f = with_state k (free_all p m k.state).after in
+    let a = with_state f (drop_asts p m f.state).after in
+    let b = with_state a (part_with p 2 a.state).after in
+    parted_leaving p 3 b (parted_leaving p 2 a (leaving_asts p m f (leaving_channels p m k h)))
+
+-- A mode is drained, and passed.
+
+pub drain_is : (s : State) (p : Pid) (m : Mode) (next : State → Outcome Answer) → drain p m next s ≡ then_on (drained p m s) next
+drain_is s p m next =
+    elim (is_busy s p m) as (λ b. cond b (answered answer.Busy (nothing s)) (followed_by (release s p m) next) ≡ then_on (cond b (answered (Some answer.Busy) (nothing s)) (answered None (release s p m))) next) [ true ↦ refl | false ↦ refl ]
+
+-- a part, and what a mode comes to behind it
+after_part : (a : Part) (f : State → Outcome (Option Answer)) (next : State → Outcome Answer) → followed_by a (λ s. then_on (f s) next) ≡ then_on (followed_by a f) next
+after_part a f next = by (f a.after).answer
+  where
+    by : (o : Option Answer) → followed_by a (λ s. then_by o (part_of (f a.after)) next) ≡ then_by o (part_of (followed_by a f)) next
+    by None = let b = f a.after in ap (λ (es : List Effect). let x : Outcome Answer = record { answer = (next b.after).answer; effects = es; after = (next b.after).after } in x) (sym (append_assoc a.effects b.effects (next b.after).effects))
+    by (Some x) = refl
+
+pub mode_is : (s : State) (p : Pid) (m : Mode) (ms : List Mode) → run_down p (m ∷ ms) s ≡ then_on (passed p m s) (run_down p ms)
+mode_is s p m ms = by (find (is_handler_of m) (process_at s p).handlers)
+  where
+    by : (o : Option Handler) → run_handlers (handling p m s) p m (run_down p ms) o ≡ then_on (passed_by p m o (handling p m s)) (run_down p ms)
+    by None =
+        let t = handling p m s in
+        let a = cancelled_in t p m in
+        ap (λ (o : Outcome Answer). let x : Outcome Answer = record { answer = o.answer; effects = a.effects ++ o.effects; after = o.after } in x) (drain_is a.after p m (run_down p ms)) ∙ after_part a (drained p m) (run_down p ms)
+    by (Some h) = refl
+
+-- what comes before the next mode is told first
+
+pub then_few : (o : Outcome (Option Answer)) (next : State → Outcome Answer) → length o.effects ≤ length (then_on o next).effects
+then_few o next = by o.answer
+  where
+    by : (x : Option Answer) → length o.effects ≤ length (then_by x (part_of o) next).effects
+    by None = omega (arith, length-append o.effects (next o.after).effects)
+    by (Some x) = omega arith
+
+-- where a mode answers, that is the answer
+pub then_ends : (o : Outcome (Option Answer)) (next : State → Outcome Answer) (x : Answer) (k l : KernelOf) → Does o (Some x) k l → Does (then_on o next) x k l
+then_ends o next x k l did = subst (λ (y : Option Answer). Does (then_by y (part_of o) next) x k l) did.answers (record { answers = refl; leaves = did.leaves })
+
+pub then_goes : (o : Outcome (Option Answer)) (next : State → Outcome Answer) (k l : KernelOf) → Does o None k l → then_on o next ≡ followed_by (part_of o) next
+then_goes o next k l did = ap (λ (y : Option Answer). then_by y (part_of o) next) (sym did.answers)
+
+-- The state where a mode was passed.
+
+draining_is : (s : State) (p : Pid) (m : Mode) → cancelled_in s p m ≡ record { effects = (cancel_modes s p m).effects ++ []; after = draining p m (cancel_modes s p m).after }
+draining_is s p m = refl
+
+drained_leaving : (p : Pid) (m : Mode) (k : KernelOf) → IsLeaving k p → IsLeaving (with_state k (drained p m k.state).after) p
+drained_leaving p m k h = elim (is_busy k.state p m) as (λ b. IsLeaving (with_state k (cond b (answered (Some answer.Busy) (nothing k.state)) (answered None (release k.state p m))).after) p) [ true ↦ h | false ↦ leaving_release p m k h ]
+
+pub leaving_drained : (p : Pid) (m : Mode) (k l : KernelOf) (x : Option Answer) → Does (drained p m k.state) x k l → IsLeaving k p → IsLeaving l p
+leaving_drained p m k l x did h = leaving_acted k l p (part_of (drained p m k.state)) did.leaves (drained_leaving p m k h)
+
+cancelled_leaving : (p : Pid) (m : Mode) (k : KernelOf) → IsLeaving k p → IsLeaving (with_state k (cancelled_in k.state p m).after) p
+cancelled_leaving p m k h = leaving_phase (with_state k (cancel_modes k.state p m).after) p (phase.Draining m) (leaving_cancel p m k h)
+
+-- no handler of the mode was there
+pub leaving_passed : (p : Pid) (m : Mode) (k l : KernelOf) → Does (passed p m k.state) None k l → IsLeaving k p → IsLeaving l p
+leaving_passed p m k l did h = by (find (is_handler_of m) (process_at k.state p).handlers) did
+  where
+    by : (o : Option Handler) → Does (passed_by p m o (handling p m k.state)) None k l → IsLeaving l p
+    by None did =
+        let t = changed k p (in_phase (phase.Handlers m)) in
+        let u = with_state t (cancelled_in t.state p m).after in
+        leaving_acted k l p (part_of (passed_by p m None (handling p m k.state))) did.leaves (drained_leaving p m u (cancelled_leaving p m t (leaving_phase k p (phase.Handlers m) h)))
+    by (Some x) did = absurd (cc (did.answers))
+
+-- The loop: what is left of a rundown.
+
+pub record IsRunning (p : Pid) (whole : Outcome Answer) (first : KernelOf) (ms : List Mode) (k : KernelOf) : Type 0 where
+  pub leaving : IsLeaving k p
+  pub rest : IsAnswering whole first (run_down p ms k.state) k
+
+pub running_begun : (p : Pid) (ms : List Mode) (k : KernelOf) → IsLeaving k p → Fits k (run_down p ms k.state).effects → IsRunning p (run_down p ms k.state) k ms k
+running_begun p ms k leaving room = record { leaving = leaving; rest = answering_begun (run_down p ms k.state) k room }
+
+pub inner_next : (m : Mode) → modes_from (next_inner m) ≡ inner_modes m
+inner_next Kernel = refl
+inner_next Exec = refl
+inner_next Super = refl
+inner_next User = refl
+
+pub pass_room : (p : Pid) (m : Mode) (whole : Outcome Answer) (first k : KernelOf) → IsRunning p whole first (modes_from (Some m)) k → Fits k (passed p m k.state).effects
+pass_room p m whole first k h = omega (arith, h.rest.doing.room, ap (λ (o : Outcome Answer). length o.effects) (mode_is k.state p m (inner_modes m)), then_few (passed p m k.state) (run_down p (inner_modes m)))
+
+pub pass_ends : (p : Pid) (m : Mode) (x : Answer) (whole : Outcome Answer) (first k l : KernelOf) → IsRunning p whole first (modes_from (Some m)) k → Does (passed p m k.state) (Some x) k l → Does whole x first l
+pass_ends p m x whole first k l h did =
+    let here : Does (run_down p (m ∷ inner_modes m) k.state) x k l = subst (λ (o : Outcome Answer). Does o x k l) (sym (mode_is k.state p m (inner_modes m))) (then_ends (passed p m k.state) (run_down p (inner_modes m)) x k l did) in
+    record { answers = here.answers ∙ h.rest.answers; leaves = here.leaves ∙ h.rest.doing.leaves }
+
+pub pass_more : (p : Pid) (m : Mode) (n : Option Mode) (whole : Outcome Answer) (first k l : KernelOf) → IsRunning p whole first (modes_from (Some m)) k → Does (passed p m k.state) None k l → n ≡ next_inner m → IsRunning p whole first (modes_from n) l
+pass_more p m n whole first k l h did next =
+    let splits = mode_is k.state p m (inner_modes m) ∙ then_goes (passed p m k.state) (run_down p (inner_modes m)) k l did in
+    let on = answering_on whole first k l (run_down p (m ∷ inner_modes m) k.state) (part_of (passed p m k.state)) (run_down p (inner_modes m)) splits did.leaves h.rest in
+    let is : modes_from n ≡ inner_modes m = ap modes_from next ∙ inner_next m in
+    record {
+      leaving = leaving_passed p m k l did h.leaving;
+      rest = subst (λ (ms : List Mode). IsAnswering whole first (run_down p ms l.state) l) (sym is) on;
+    }
+
+-- A rundown that goes on with a mode that is drained.
+
+drains_is : (s : State) (p : Pid) (m : Mode) → phase.Draining m ≡ (process_at s p).phase → rundown s p ≡ then_on (drained p m s) (run_down p (inner_modes m))
+drains_is s p m is = ap (λ (ph : Phase). rundown_from p ph s) (sym is) ∙ drain_is s p m (run_down p (inner_modes m))
+
+pub drain_room : (p : Pid) (m : Mode) (k : KernelOf) → phase.Draining m ≡ (process_at k.state p).phase → Fits k (rundown k.state p).effects → Fits k (drained p m k.state).effects
+drain_room p m k is room = omega (arith, room, ap (λ (o : Outcome Answer). length o.effects) (drains_is k.state p m is), then_few (drained p m k.state) (run_down p (inner_modes m)))
+
+pub drain_ends : (p : Pid) (m : Mode) (x : Answer) (k l : KernelOf) → phase.Draining m ≡ (process_at k.state p).phase → Does (drained p m k.state) (Some x) k l → Does (rundown k.state p) x k l
+drain_ends p m x k l is did = subst (λ (o : Outcome Answer). Does o x k l) (sym (drains_is k.state p m is)) (then_ends (drained p m k.state) (run_down p (inner_modes m)) x k l did)
+
+pub drain_on : (p : Pid) (m : Mode) (n : Option Mode) (k l : KernelOf) → IsLeaving k p → phase.Draining m ≡ (process_at k.state p).phase → n ≡ next_inner m → Fits k (rundown k.state p).effects → Does (drained p m k.state) None k l → IsRunning p (rundown k.state p) k (modes_from n) l
+drain_on p m n k l h is next room did =
+    let splits = drains_is k.state p m is ∙ then_goes (drained p m k.state) (run_down p (inner_modes m)) k l did in
+    let on = answering_on (rundown k.state p) k k l (rundown k.state p) (part_of (drained p m k.state)) (run_down p (inner_modes m)) splits did.leaves (answering_begun (rundown k.state p) k room) in
+    let same : modes_from n ≡ inner_modes m = ap modes_from next ∙ inner_next m in
+    record {
+      leaving = leaving_drained p m k l None did h;
+      rest = subst (λ (ms : List Mode). IsAnswering (rundown k.state p) k (run_down p ms l.state) l) (sym same) on;
+    }
+
+-- The parts of a release, one after another.
+
+abbrev after_freed : Pid → Mode → State → Part
+after_freed p m a = and_then (drop_asts p m a) (parted p)
+
+pub free_room : (p : Pid) (m : Mode) (k : KernelOf) → Fits k (release k.state p m).effects → Fits k (free_all p m k.state).effects
+free_room p m k room = doing_room (release k.state p m) k k (release k.state p m) (free_all p m k.state) (after_freed p m) (release_first p m k.state) (doing_begun (release k.state p m) k room)
+
+freed_done : (p : Pid) (m : Mode) (k l : KernelOf) → Fits k (release k.state p m).effects → Acts (free_all p m k.state) k l → IsDoing (release k.state p m) k (after_freed p m l.state) l
+freed_done p m k l room did = doing_on (release k.state p m) k k l (release k.state p m) (free_all p m k.state) (after_freed p m) (release_first p m k.state) did (doing_begun (release k.state p m) k room)
+
+pub asts_room : (p : Pid) (m : Mode) (k l : KernelOf) → Fits k (release k.state p m).effects → Acts (free_all p m k.state) k l → Fits l (drop_asts p m l.state).effects
+asts_room p m k l room did = doing_room (release k.state p m) k l (after_freed p m l.state) (drop_asts p m l.state) (parted p) refl (freed_done p m k l room did)
+
+asts_done : (p : Pid) (m : Mode) (k l n : KernelOf) → Fits k (release k.state p m).effects → Acts (free_all p m k.state) k l → Acts (drop_asts p m l.state) l n → IsDoing (release k.state p m) k (parted p n.state) n
+asts_done p m k l n room did drops = doing_on (release k.state p m) k l n (after_freed p m l.state) (drop_asts p m l.state) (parted p) refl drops (freed_done p m k l room did)
+
+pub second_room : (p : Pid) (m : Mode) (k l n : KernelOf) → Fits k (release k.state p m).effects → Acts (free_all p m k.state) k l → Acts (drop_asts p m l.state) l n → Fits n (part_with p 2 n.state).effects
+second_room p m k l n room did drops = doing_room (release k.state p m) k n (parted p n.state) (part_with p 2 n.state) (part_with p 3) refl (asts_done p m k l n room did drops)
+
+second_done : (p : Pid) (m : Mode) (k l n o : KernelOf) → Fits k (release k.state p m).effects → Acts (free_all p m k.state) k l → Acts (drop_asts p m l.state) l n → Acts (part_with p 2 n.state) n o → IsDoing (release k.state p m) k (part_with p 3 o.state) o
+second_done p m k l n o room did drops second = doing_on (release k.state p m) k n o (parted p n.state) (part_with p 2 n.state) (part_with p 3) refl second (asts_done p m k l n room did drops)
+
+pub third_room : (p : Pid) (m : Mode) (k l n o : KernelOf) → Fits k (release k.state p m).effects → Acts (free_all p m k.state) k l → Acts (drop_asts p m l.state) l n → Acts (part_with p 2 n.state) n o → Fits o (part_with p 3 o.state).effects
+third_room p m k l n o room did drops second = (second_done p m k l n o room did drops second).room
+
+pub release_done : (p : Pid) (m : Mode) (k l n o q : KernelOf) → Fits k (release k.state p m).effects → Acts (free_all p m k.state) k l → Acts (drop_asts p m l.state) l n → Acts (part_with p 2 n.state) n o → Acts (part_with p 3 o.state) o q → Acts (release k.state p m) k q
+release_done p m k l n o q room did drops second third = third ∙ (second_done p m k l n o room did drops second).leaves
