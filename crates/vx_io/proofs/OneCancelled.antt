@@ -1,5 +1,5 @@
 -- One request that is cancelled: it is marked, or it finishes.
-use Rattle.std.proofs.Common.{◌≡◌, ◌-◌, List, [], ◌∷◌, Bool, true, false, ◌||◌, length, length-set, Option, Some, None, option_map, refl, ap, sym, subst, ◌∙◌, arith}
+use Rattle.std.proofs.Common.{◌≡◌, ℕ, ◌-◌, List, [], ◌∷◌, Bool, true, false, ◌||◌, length, length-set, Option, Some, None, option_map, refl, ap, sym, subst, ◌∙◌, arith}
 use Rattle.std.specs.List.{find, list_any}
 use Rattle.std.proofs.lemmas.Bool.{eqb-true}
 use Rattle.vx_base.specs.Pieces.{Request}
@@ -81,7 +81,7 @@ out_there k l id x d reply out ends =
     subst (λ (y : Reply). IsEnding l.state d.req y) (sym ends) (subst (λ (y : Kernel). IsEnding y.state d.req cancelled) (sym out.after) (subst (λ (y : Finished). IsEnding (ended s r) y.req cancelled) (sym out.is) here))
 
 -- no request is stored in a mailbox
-unit_part : (s : State) (r : Request) (n : _) (d : Device) → IsUnitOf n d → and_then (withdraw s r d) (λ a. finish a r (ending Cancel 0 0 [])) ≡ finish s r (ending Cancel 0 0 [])
+unit_part : (s : State) (r : Request) (n : ℕ) (d : Device) → IsUnitOf n d → and_then (withdraw s r d) (λ a. finish a r (ending Cancel 0 0 [])) ≡ finish s r (ending Cancel 0 0 [])
 unit_part s r n (device.Unit u) own = refl
 unit_part s r n (device.Mailbox b) own = absurd own
 

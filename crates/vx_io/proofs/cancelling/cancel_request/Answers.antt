@@ -1,3 +1,4 @@
+use Rattle.std.proofs.Common.{◌∙◌}
 use Rattle.vx_io.proofs.OneCancelled.{is_serving, is_there, mark_room, marked_as, never_out, out_as, out_of, out_room, out_there}
 use Rattle.vx_io.proofs.cancelling.cancel_request.Goals as goal
 
