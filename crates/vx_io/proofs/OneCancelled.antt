@@ -64,9 +64,13 @@ out_of k l id x d given after = record {
 pub never_out : (s : State) (id : Id) (x : IsToCancel s id) → None ≡ option_map finished (find (this_request id) s.requests) → ⊥
 never_out s id x given = let none : None ≡ Some (finished x.r) = given ∙ ap (option_map finished) x.found in absurd (cc)
 
--- what it ends with
+-- what it ends with, and with no bytes
+
+abbrev pub cancelled_with : List ℕ → Reply
+cancelled_with bytes = record { cond = Cancel; count = 0; bytes = bytes }
+
 abbrev pub cancelled : Reply
-cancelled = record { cond = Cancel; count = 0; bytes = [] }
+cancelled = cancelled_with []
 
 pub out_there : (k l : Kernel) (id : Id) (x : IsToCancel k.state id) (d : Finished) (reply : Reply) → IsOut k l x.r d → reply ≡ cancelled → IsEnding l.state d.req reply
 out_there k l id x d reply out ends =
