@@ -1,13 +1,12 @@
 -- The requests of a channel, cancelled one after another.
-use Rattle.std.proofs.Common.{◌≡◌, ◌<◌, ℕ, ◌+◌, List, [], ◌∷◌, ◌++◌, Bool, true, false, cond, not, ◌&&◌, ◌||◌, length, Option, Some, None, IfSome, option_map, refl, ap, sym, subst, ◌∙◌, arith}
+use Rattle.std.proofs.Common.{◌≡◌, ◌<◌, ℕ, ◌+◌, List, [], ◌∷◌, ◌++◌, Bool, true, false, cond, not, ◌&&◌, length, Option, Some, None, IfSome, option_map, refl, ap, sym, subst, ◌∙◌, arith}
 use Rattle.std.specs.List.{filter, find, list_any}
-use Rattle.std.proofs.lemmas.Bool.{and_parts, eqb-true}
+use Rattle.std.proofs.lemmas.Bool.{and_parts}
 use Rattle.std.proofs.lemmas.List.{append-nil}
 use Rattle.vx_base.specs.Lists.{amend, less}
 use Rattle.vx_base.specs.Pieces.{Attention, Request}
 use Rattle.vx_base.specs.declared.cond.Cond.TheVariants.{Cancel}
 use Rattle.vx_base.specs.declared.effects.Effect.{Effect}
-use Rattle.vx_base.specs.declared.effects.Effect.TheVariants as effect
 use Rattle.vx_base.specs.declared.number.Id.{Id}
 use Rattle.vx_base.specs.declared.number.Pid.{Pid}
 use Rattle.vx_record.specs.State.{State}
@@ -16,7 +15,7 @@ use Rattle.vx_record.specs.Finish.{ending, this_request}
 use Rattle.vx_record.specs.Parts.{Part, and_then, each, nothing, part_if}
 use Rattle.vx_record.specs.Sound.{AreOrdered, request_id}
 use Rattle.vx_record.proofs.Cancelled.{finish_requests, withdraw_requests}
-use Rattle.vx_record.proofs.Lists.{apart_bools, either, either_by, find_passes, not_fails, not_holds, ordered_amend, ordered_less}
+use Rattle.vx_record.proofs.Lists.{either_by, find_passes, not_fails, not_holds, ordered_amend, ordered_less}
 use Rattle.vx_reqs.specs.Requests.{is_to_cancel}
 use Rattle.vx_procs.specs.Kernel.{Acts, Fits, Kernel}
 use Rattle.vx_procs.specs.Requests.{IsOwnRequest}

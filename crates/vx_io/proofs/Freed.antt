@@ -1,6 +1,6 @@
 -- A channel to a unit is freed behind what was cancelled on it.
-use Rattle.std.proofs.Common.{◌≡◌, ℕ, [], IsSome, IsTrue, Option, Some, None, Result, Ok, refl, ap, sym, subst, ◌∙◌}
-use Rattle.vx_base.specs.Channels.{channel_at, is_channel_number}
+use Rattle.std.proofs.Common.{◌≡◌, ℕ, [], IsSome, Option, Some, None, Result, Ok, refl, ap, sym, subst, ◌∙◌}
+use Rattle.vx_base.specs.Channels.{channel_at}
 use Rattle.vx_base.specs.Pieces.{Channel}
 use Rattle.vx_base.specs.declared.cond.Cond.{Cond}
 use Rattle.vx_base.specs.declared.cond.Cond.TheVariants.{Normal}
@@ -34,9 +34,6 @@ clear_room k p chan ch test room =
 
 pub clear_made : (k l : Kernel) (p : Pid) (chan : ℕ) (u : UnitNo) (mode : Mode) → IsClearing k l p chan u mode → IsProcess k.state p → IsProcess l.state p
 clear_made k l p chan u mode h made = subst (λ (x : Kernel). IsProcess x.state p) (sym h.did) (made_kept k.state (cancel_channel k.state p chan).after p (channel_kept p chan k.state h.none) made)
-
-pub clear_number : (k l : Kernel) (p : Pid) (chan : ℕ) (u : UnitNo) (mode : Mode) → IsClearing k l p chan u mode → IsTrue (is_channel_number chan)
-clear_number k l p chan u mode h = (tested_channel k.state p chan (to_unit u mode) h.test).0
 
 row_kept : (k l : Kernel) (p : Pid) (chan : ℕ) (u : UnitNo) (mode : Mode) → IsClearing k l p chan u mode → channel_at (process_at (cancel_channel k.state p chan).after p).channels chan ≡ Some (to_unit u mode)
 row_kept k l p chan u mode h =

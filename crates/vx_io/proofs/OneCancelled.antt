@@ -1,5 +1,5 @@
 -- One request that is cancelled: it is marked, or it finishes.
-use Rattle.std.proofs.Common.{◌≡◌, ℕ, ◌-◌, List, [], ◌∷◌, Bool, true, false, ◌||◌, length, length-set, Option, Some, None, option_map, refl, ap, sym, subst, ◌∙◌, arith}
+use Rattle.std.proofs.Common.{◌≡◌, ℕ, List, [], ◌∷◌, Bool, true, false, ◌||◌, length, Option, Some, None, option_map, refl, ap, sym, ◌∙◌, arith}
 use Rattle.std.specs.List.{find, list_any}
 use Rattle.std.proofs.lemmas.Bool.{eqb-true}
 use Rattle.vx_base.specs.Pieces.{Request}
@@ -9,19 +9,18 @@ use Rattle.vx_base.specs.declared.number.Id.{Id}
 use Rattle.vx_base.specs.declared.request.Device.{Device}
 use Rattle.vx_base.specs.declared.request.Device.TheVariants as device
 use Rattle.vx_base.specs.declared.request.Reply.{Reply}
-use Rattle.vx_record.specs.State.{State, process_at}
+use Rattle.vx_record.specs.State.{State}
 use Rattle.vx_record.specs.Cancel.{cancel_request, cancelled_request, mark_part, withdraw}
 use Rattle.vx_record.specs.Finish.{ending, finish, this_request}
 use Rattle.vx_record.specs.Parts.{Part, and_then, tells}
 use Rattle.vx_record.proofs.Lists.{either_by, find_passes}
 use Rattle.vx_reqs.specs.Requests.{is_found}
 use Rattle.vx_procs.specs.Kernel.{Acts, Fits, Kernel, with_state}
-use Rattle.vx_procs.specs.Requests.{IsUnitOf, ended, ended_if, finished, request_ast, to_abort}
-use Rattle.vx_procs.specs.Words.{with_queued_if}
+use Rattle.vx_procs.specs.Requests.{IsUnitOf, ended, ended_if, finished, to_abort}
 use Rattle.vx_procs.specs.declared.requests.Finished.{Finished}
 use Rattle.vx_procs.proofs.Rest.{acted}
 use Rattle.vx_io.specs.Cancelling.{IsToCancel, cancel_found}
-use Rattle.vx_io.specs.Finishing.{IsEnding, finishing}
+use Rattle.vx_io.specs.Finishing.{finishing}
 use Rattle.vx_io.proofs.Cancelled.{served_part, waiting_part}
 use Rattle.vx_io.proofs.QueuedFirst.{finish_same}
 
@@ -61,9 +60,6 @@ out_of k l id x d given after = record {
   after = after ∙ ap (λ (o : Option Request). with_state k (ended_if k.state o)) x.found;
 }
 
-pub never_out : (s : State) (id : Id) (x : IsToCancel s id) → None ≡ option_map finished (find (this_request id) s.requests) → ⊥
-never_out s id x given = let none : None ≡ Some (finished x.r) = given ∙ ap (option_map finished) x.found in absurd (cc)
-
 -- what it ends with, and with no bytes
 
 abbrev pub cancelled_with : List ℕ → Reply
@@ -71,18 +67,6 @@ cancelled_with bytes = record { cond = Cancel; count = 0; bytes = bytes }
 
 abbrev pub cancelled : Reply
 cancelled = cancelled_with []
-
-pub out_there : (k l : Kernel) (id : Id) (x : IsToCancel k.state id) (d : Finished) (reply : Reply) → IsOut k l x.r d → reply ≡ cancelled → IsEnding l.state d.req reply
-out_there k l id x d reply out ends =
-    let s = k.state in
-    let r = x.r in
-    let here : IsEnding (ended s r) r.req cancelled = record {
-      made = record { above = x.own.made.above; within = omega (arith, x.own.made.within, length-set s.procs (r.req.p.0 - 1) (with_queued_if (request_ast r) (process_at s r.req.p))) };
-      iosb = x.own.iosb;
-      buf = x.own.buf;
-      size = omega arith;
-    } in
-    subst (λ (y : Reply). IsEnding l.state d.req y) (sym ends) (subst (λ (y : Kernel). IsEnding y.state d.req cancelled) (sym out.after) (subst (λ (y : Finished). IsEnding (ended s r) y.req cancelled) (sym out.is) here))
 
 -- no request is stored in a mailbox
 unit_part : (s : State) (r : Request) (n : ℕ) (d : Device) → IsUnitOf n d → and_then (withdraw s r d) (λ a. finish a r (ending Cancel 0 0 [])) ≡ finish s r (ending Cancel 0 0 [])
@@ -99,12 +83,6 @@ out_part k l id x d reply waits out ends =
     ∙ (finish_same s r (ending Cancel 0 0 []) (record { above = x.own.made.above; within = x.own.made.within })
     ∙ (sym (waiting_part s r waits ∙ unit_part s r (length s.units) r.req.device x.own.device)
     ∙ ap (cancel_found s) (sym x.found)))))
-
-pub out_room : (k l : Kernel) (id : Id) (x : IsToCancel k.state id) (d : Finished) (reply : Reply) → x.r.served ≡ false → IsOut k l x.r d → reply ≡ cancelled → Fits k (cancel_found k.state (find (this_request id) k.state.requests)).effects → Fits l (finishing d (reply, 0) l.state).effects
-out_room k l id x d reply waits out ends room =
-    let part = finishing d (reply, 0) l.state in
-    let here : Fits (with_state k (ended k.state x.r)) part.effects = omega (arith, room, ap (λ (y : Part). length y.effects) (out_part k l id x d reply waits out ends)) in
-    subst (λ (y : Kernel). Fits y part.effects) (sym out.after) here
 
 pub out_as : (k l n : Kernel) (id : Id) (x : IsToCancel k.state id) (d : Finished) (reply : Reply) → x.r.served ≡ false → IsOut k l x.r d → reply ≡ cancelled → Acts (finishing d (reply, 0) l.state) l n → Acts (cancel_found k.state (find (this_request id) k.state.requests)) k n
 out_as k l n id x d reply waits out ends did =
