@@ -12,21 +12,24 @@ ghost use Rattle.vx_exec.specs.View.{is_don, plan};
 
 use crate::events::{are_deleted, count, enabled_at, is_enabled};
 use crate::machine::step;
-use crate::room::make_room;
+use crate::room::{make_buffer, make_room};
 use crate::seed::Seed;
 use crate::standing::{Standing, standing_of};
 use std::alloc::Global;
 use std::marker::Model;
-use vx_base::{End, Event, Name, NoMemory, Pid, Rec, Routine};
+use vx_base::{Buffer, End, Event, Name, NoMemory, Pid, Rec, Routine};
 use vx_image::System;
 use vx_procs::Core;
 
-/// The executive of one system: what it keeps, how many records its runs may have, and how many its steps have made.
+/// The executive of one system: what it keeps, how many records its runs may have, and how many its steps have made. Spare room for
+/// the bytes of a write is made before a process runs.
 #[derive(Drop)]
 pub struct Exec<R: Routine> {
     core: Core<R>,
     limit: u32,
     taken: u32,
+    alloc: Global,
+    spare: Option<Buffer>,
 }
 
 impl<R: Routine> Model for Exec<R> {
@@ -55,6 +58,8 @@ impl<R: Routine> Exec<R> {
             core,
             limit,
             taken: 0,
+            alloc,
+            spare: None,
         })
     }
 
@@ -108,8 +113,9 @@ impl<R: Routine> Exec<R> {
         ensures don_never_fails { IsTrue (is_don event) → IsOk result }
         ensures plan { plan self.new ≡ plan self.old }
     {
+        make_buffer(self.alloc, &mut self.spare, event)?;
         make_room(&mut self.core, event)?;
-        let answer = step(&mut self.core, event);
+        let answer = step(&mut self.core, event, &mut self.spare);
         self.taken += 1;
         Ok(Rec {
             event,
