@@ -7,7 +7,6 @@ pub mod Ends
 pub mod Few
 pub mod Fired
 pub mod Goes
-pub mod Kept
 pub mod Ready
 pub mod Running
 pub mod Runs

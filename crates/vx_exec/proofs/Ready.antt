@@ -28,13 +28,13 @@ use Rattle.vx_procs.specs.Kernel.{Fits, Kernel}
 use Rattle.vx_procs.specs.Ready.{HasHandlerRoom}
 use Rattle.vx_io.specs.Finishing.{AreRequests}
 use Rattle.vx_rundown.specs.Leaving.{IsLeaving}
+use Rattle.vx_rundown.proofs.Standing.{own_handlers_at, own_ids_at}
 use Rattle.vx_exec.specs.Built.{is_built}
 use Rattle.vx_exec.specs.Ready.{HasBegun, HasOwner, IsIdle, IsNext, IsOpen, IsReadyFor, IsRoomMade, most}
 use Rattle.vx_exec.specs.Sound.{IsGoing, IsWhole}
 use Rattle.vx_exec.proofs.Down.{rundown_goes}
 use Rattle.vx_exec.proofs.Enabled.{enabled_owned}
 use Rattle.vx_exec.proofs.Ends.{beg_goes, don_goes}
-use Rattle.vx_exec.proofs.Kept.{left_at, no_requests, own_handlers_at, own_ids_at}
 use Rattle.vx_exec.proofs.Fired.{tick_goes}
 use Rattle.vx_exec.proofs.Goes.{Goes, delivered_goes, run_goes}
 
@@ -89,10 +89,9 @@ leaving_of k e p limit taken going owner begun =
       made = owner.made;
       declared = stands.decl;
       image = decl_image k.state p whole.formed stands.decl;
-      left = left_at k.state p whole.sound owner begun.bare.boxes;
-      order = whole.sound.timer_ids;
+      idle = owner.idle;
+      sound = whole.sound;
       spares = begun.spares;
-      requests = no_requests k.state whole begun.bare.boxes;
       bare = begun.bare;
     }
 

@@ -6,7 +6,7 @@ use Rattle.vx_rundown.proofs.rundown.end.Goals as goal
 pub drop_timers-requires-clause-order : goal.drop_timers-requires-clause-order
 drop_timers-requires-clause-order g c =
     let k = c.args.core.now in
-    (leaving_acted k c.drop_handlers.new.core c.args.p (drop_handlers k.state c.args.p any_handler) c.drop_handlers.ensures (leaving_handlers c.args.p any_handler k c.requires.leaving)).order
+    (leaving_acted k c.drop_handlers.new.core c.args.p (drop_handlers k.state c.args.p any_handler) c.drop_handlers.ensures (leaving_handlers c.args.p any_handler k c.requires.leaving)).sound.timer_ids
 
 pub set_phase-requires : goal.set_phase-requires
 set_phase-requires g c =
