@@ -6,6 +6,7 @@ ghost use Rattle.vx_record.specs.Parts.{nothing};
 ghost use Rattle.vx_record.specs.Timers.{gettim};
 ghost use Rattle.vx_record.specs.Control.{creprc, resume, suspnd, wake};
 ghost use Rattle.vx_record.specs.Cancel.{cancel, dassgn};
+ghost use Rattle.vx_record.specs.Channels.{assign};
 ghost use Rattle.vx_procs.specs.Ready.{IsReady};
 ghost use Rattle.vx_io.specs.Asking.{AreOpen};
 ghost use Rattle.vx_record.specs.Services.{access_mode, at_once, decl_place, function, label_place, number, place, routine, routine_or_none, service, service_of, text, valued, with_number, with_value};
@@ -235,14 +236,20 @@ fn create_named<R: Routine>(core: &mut Core<R>, p: Pid, args: &Args) -> Served
     create(core, p, decl, place(&args.a0))
 }
 
-// $ASSIGN of the device that an argument names: a variable takes the number of the channel.
-fn assign_named<R: Routine>(core: &mut Core<R>, p: Pid, args: &Args) -> Served
+// $ASSIGN of the device of a name, in a mode: a variable takes the number of the channel.
+#[tactic(auto, using(crate::proofs::Running::told_none))]
+fn assign_device<R: Routine>(
+    core: &mut Core<R>,
+    p: Pid,
+    name: &[u8],
+    mode: Mode,
+    v: Target,
+) -> Served
     requires set { IsSet core.old p }
-    requires room { Fits core.old (service_of core.old.state p args.now Service.Assign).effects }
-    ensures { Does (service_of core.old.state p args.now Service.Assign) result core.old core.new }
+    requires room { Fits core.old (with_number p v (assign core.old.state p name.now mode)).effects }
+    ensures { Does (with_number p v (assign core.old.state p name.now mode)) result core.old core.new }
 {
-    let v = place(&args.a0);
-    match assign(core, p, text(&args.a1), access_mode(&args.a2)) {
+    match assign(core, p, name, mode) {
         Ok(n) => {
             core.tell(Effect::Var { p, v, n });
             core.set_variable(p, v, n);
@@ -250,6 +257,16 @@ fn assign_named<R: Routine>(core: &mut Core<R>, p: Pid, args: &Args) -> Served
         }
         Err(cond) => Served::Answered(cond),
     }
+}
+
+// $ASSIGN of the device that an argument names.
+fn assign_named<R: Routine>(core: &mut Core<R>, p: Pid, args: &Args) -> Served
+    requires set { IsSet core.old p }
+    requires room { Fits core.old (service_of core.old.state p args.now Service.Assign).effects }
+    ensures { Does (service_of core.old.state p args.now Service.Assign) result core.old core.new }
+{
+    let mode = access_mode(&args.a2);
+    assign_device(core, p, text(&args.a1), mode, place(&args.a0))
 }
 
 // What the arguments of a request ask, but for its AST.
