@@ -39,12 +39,12 @@ request_changed s p f alike r stands =
     request_moves g h (base_changed s p f alike) r (λ d. device_moves g h refl (λ b x. x) r.req.device d) (λ x. rooted_changed g h r.req.p r.req.chan r.req.chan_mode r.req.device same x) stands
 
 pub open_changed : (s : State) (p : Pid) (f : Process → Process) → (f (process_at s p)).decl ≡ (process_at s p).decl → (f (process_at s p)).channels ≡ (process_at s p).channels → AreOpen s p → AreOpen (change s p f) p
-open_changed s p f decl channels open =
+open_changed s p f decl channels was =
     let g = ground s in
     let h = ground (change s p f) in
     let alike : IsAlike (process_at s p) (f (process_at s p)) = record { decl = decl; channels = channels } in
     let same = (alike_at s p p f alike).channels in
     record {
-      channels = subst (λ (rows : List (Option Channel)). AllByRecursion (ChannelStands h) rows) (sym same) (all_weaker (ChannelStands g) (ChannelStands h) (row_moves g h refl (λ b x. x)) (process_at s p).channels open.channels);
-      requests = record { stand = all_weaker (RequestStands g) (RequestStands h) (request_changed s p f alike) s.requests open.requests.stand; order = open.requests.order };
+      channels = subst (λ (rows : List (Option Channel)). AllByRecursion (ChannelStands h) rows) (sym same) (all_weaker (ChannelStands g) (ChannelStands h) (row_moves g h refl (λ b x. x)) (process_at s p).channels was.channels);
+      requests = record { stand = all_weaker (RequestStands g) (RequestStands h) (request_changed s p f alike) s.requests was.requests.stand; order = was.requests.order };
     }

@@ -80,7 +80,7 @@ next_of k e p limit taken going made begun handler =
         built = whole.built;
         decls = leb-true (length k.state.system.decls) 1000 whole.formed.few_decls;
         units = leb-true (length k.state.system.units) 32 whole.formed.few_units;
-        open = record { channels = stands.channels; requests = requests_of k.state whole };
+        opened = record { channels = stands.channels; requests = requests_of k.state whole };
         order = whole.sound.timer_ids;
         handler_ids = own_handlers_at k.state p whole.sound made;
       };

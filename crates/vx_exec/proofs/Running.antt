@@ -191,7 +191,7 @@ set_changed k l p f set there handlers decl channels fewer =
       built = set.built;
       decls = set.decls;
       units = set.units;
-      open = open_changed s p f decl channels set.open;
+      opened = open_changed s p f decl channels set.opened;
       order = set.order;
       handler_ids = subst (λ (hs : List Handler). IsTrue (handlers_have_own_ids hs)) (sym declared) set.handler_ids;
     } in
@@ -203,7 +203,7 @@ set_moved k l p store place set there =
 
 pub call_made : (k l : Kernel) (p : Pid) (c : Call) (s : Served) → IsSet k p → is_built_service c.service ≡ true → Does (service k.state p c) s k l → IsProcess l.state p
 call_made k l p c s set built did =
-    let on : IsOnUnits k.state p = record { rows = unit_channels k.state (process_at k.state p).channels set.ready.bare.boxes set.open.channels; attention = set.ready.bare.attention } in
+    let on : IsOnUnits k.state p = record { rows = unit_channels k.state (process_at k.state p).channels set.ready.bare.boxes set.opened.channels; attention = set.ready.bare.attention } in
     let goes = call_goes p k.state c built on in
     subst (λ (x : Kernel). IsProcess x.state p) (sym did.leaves) (record { above = set.ready.made.above; within = omega (arith, set.ready.made.within, goes.grows) })
 

@@ -28,7 +28,7 @@ pub record IsSet (k : Kernel) (p : Pid) : Type 0 where
   pub built : IsTrue (is_built k.state.system)
   pub decls : length k.state.system.decls ≤ 1000
   pub units : length k.state.system.units ≤ 32
-  pub open : AreOpen k.state p
+  pub opened : AreOpen k.state p
   pub order : AreOrdered timer_id 0 k.state.next k.state.timers
   pub handler_ids : IsTrue (handlers_have_own_ids (process_at k.state p).handlers)
 
