@@ -5,10 +5,7 @@ ghost use Rattle.vx_record.specs.Flags.{readef};
 ghost use Rattle.vx_record.specs.Parts.{nothing};
 ghost use Rattle.vx_record.specs.Timers.{gettim};
 ghost use Rattle.vx_record.specs.Control.{creprc, resume, suspnd, wake};
-ghost use Rattle.vx_record.specs.Cancel.{cancel, dassgn};
 ghost use Rattle.vx_record.specs.Channels.{assign};
-ghost use Rattle.vx_procs.specs.Ready.{IsReady};
-ghost use Rattle.vx_io.specs.Asking.{AreOpen};
 ghost use Rattle.vx_record.specs.Services.{access_mode, at_once, decl_place, function, label_place, number, place, routine, routine_or_none, service, service_of, text, valued, with_number, with_value};
 ghost use Rattle.vx_base.specs.Services.{is_call, is_of_kind};
 ghost use Rattle.vx_base.specs.declared.service.Kind.TheVariants.{Name as name_kind};
@@ -28,7 +25,7 @@ use vx_ctl::{
     wflor,
 };
 use vx_image::{Image, Label, ProcDecl};
-use vx_io::{Asking, assign, qio, qiow, synch};
+use vx_io::{Asking, assign, cancel, dassgn, qio, qiow, synch};
 use vx_procs::Core;
 use vx_record::Served;
 use vx_rundown::{canexh, dclexh, exit};
@@ -461,25 +458,6 @@ fn delete_cluster<R: Routine>(core: &mut Core<R>, p: Pid, args: &Args) -> Served
 {
     let name = cluster_name(&args.a0);
     Served::Answered(dlcefc(core, p, name))
-}
-
-// until vx_io has them
-fn cancel<R: Routine>(core: &mut Core<R>, p: Pid, chan: u32) -> Cond
-    requires ready { IsReady core.old p }
-    requires open { AreOpen core.old.state p }
-    requires room { Fits core.old (cancel core.old.state p chan).effects }
-    ensures { Does (cancel core.old.state p chan) result core.old core.new }
-{
-    unreachable!()
-}
-
-fn dassgn<R: Routine>(core: &mut Core<R>, p: Pid, chan: u32) -> Cond
-    requires ready { IsReady core.old p }
-    requires open { AreOpen core.old.state p }
-    requires room { Fits core.old (dassgn core.old.state p chan).effects }
-    ensures { Does (dassgn core.old.state p chan) result core.old core.new }
-{
-    unreachable!()
 }
 
 /// Does the service of a call. Its place is put behind the statement before, and R0 set after it. A request takes the spare room.

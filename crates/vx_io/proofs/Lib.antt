@@ -1,5 +1,9 @@
 pub mod Asked
+pub mod Cancelled
 pub mod Ended
+pub mod Freed
+pub mod Kept
+pub mod OneCancelled
 pub mod Opening
 pub mod Parted
 pub mod QueuedFirst

@@ -1,6 +1,6 @@
 //! Requests: what they need, accepted, marked and finished.
 
-ghost use Rattle.std.specs.Prelude.{◌≡◌, ◌+◌, ◌≤◌, false, not, option_map, IsTrue, is_some, length};
+ghost use Rattle.std.specs.Prelude.{◌≡◌, ◌+◌, ◌≤◌, [], false, not, option_map, IfSome, IsTrue, is_some, length};
 ghost use Rattle.std.specs.List.{find, list_any};
 ghost use Rattle.vx_base.specs.Queues.{front, in_service};
 ghost use Rattle.vx_record.specs.Charges.{exceeds, is_attention, is_direct, moved_bytes, request_need};
@@ -8,14 +8,14 @@ ghost use Rattle.vx_record.specs.Finish.{this_request};
 ghost use Rattle.vx_record.specs.Requests.{with_request};
 ghost use Rattle.vx_record.specs.Rundown.{is_busy};
 ghost use Rattle.vx_record.specs.Runs.{first};
-ghost use Rattle.vx_reqs.specs.Requests.{comes_after, is_found, least_id, promised_of};
+ghost use Rattle.vx_reqs.specs.Requests.{is_found, is_to_cancel, promised_of};
 ghost use Rattle.vx_procs.specs.Kernel.{with_state};
 ghost use Rattle.vx_procs.specs.Ready.{HasSpares};
 ghost use Rattle.vx_procs.specs.Requests.{IsOwnRequest, ended_if, finished, to_abort};
 
 use crate::process::ast_need;
 use crate::procs::Core;
-use vx_base::{Device, Func, Id, Mode, Need, Pid, Req, Routine, UnitNo};
+use vx_base::{Bytes, Device, Func, Id, Mode, Need, Pid, Req, Routine, UnitNo};
 use vx_image::System;
 
 /// A request that was finished: what was accepted, whether it was to be aborted, and whether an AST was queued for it.
@@ -164,18 +164,20 @@ impl<R: Routine> Core<R> {
         self.requests.front(u)
     }
 
-    /// The least id above `after` among the requests of a process on a channel. None exactly where there is none.
-    pub fn next_on_channel(&self, p: Pid, chan: u32, after: Id) -> Option<Id>
-        ensures { result ≡ least_id (comes_after p (Some chan) after) self.now.state.requests }
+    /// The first request of a process on a channel that is still to be cancelled: it waits, or it is in service and not yet
+    /// marked. None exactly where there is none.
+    pub fn to_cancel(&self, p: Pid, chan: u32) -> Option<Id>
+        ensures id { result ≡ option_map (λ r. r.req.id) (find (is_to_cancel p chan) self.now.state.requests) }
+        ensures own { IfSome (find (is_to_cancel p chan) self.now.state.requests) (λ r. IsOwnRequest self.now.state r.req) }
     {
-        self.requests.next_on_channel(p, chan, after)
+        self.requests.to_cancel(p, chan)
     }
 
-    /// The least id above `after` among the requests of a process. None exactly where there is none.
-    pub fn next_of(&self, p: Pid, after: Id) -> Option<Id>
-        ensures { result ≡ least_id (comes_after p None after) self.now.state.requests }
+    /// No bytes, as a request has that is cancelled. Takes no memory.
+    pub fn no_bytes(&self) -> Bytes
+        ensures { result ≡ [] }
     {
-        self.requests.next_of(p, after)
+        Bytes::new(self.alloc)
     }
 
     /// Whether a request of a process is outstanding on a channel of a mode or an outer one: rundown waits for these.

@@ -1,5 +1,5 @@
 -- The outstanding requests.
-use Rattle.std.specs.Prelude.{ℕ, List, [], ◌∷◌, Bool, true, false, ◌&&◌, ◌==◌, nat_lt, nat_le, Option, Some, None, if◌then◌else◌}
+use Rattle.std.specs.Prelude.{ℕ, List, Bool, true, false, ◌&&◌, ◌==◌, not, Option, Some, None, if◌then◌else◌}
 use Rattle.std.specs.List.{list_any}
 use Rattle.vx_base.specs.Lists.{amend}
 use Rattle.vx_base.specs.Modes.{reaches}
@@ -28,29 +28,13 @@ has_id id r = r.req.id.0 == id.0
 abbrev pub is_of : Pid → Request → Bool
 is_of p r = r.req.p.0 == p.0
 
--- the request was made on this channel; any was, where no channel is named
-abbrev pub is_on_channel : Option ℕ → Request → Bool
-is_on_channel None r = true
-is_on_channel (Some chan) r = r.req.chan == chan
-
--- a request of process p, on that channel if one is named, with an id above another
-abbrev pub comes_after : Pid → Option ℕ → Id → Request → Bool
-comes_after p chan after r = is_of p r && (is_on_channel chan r && nat_lt after.0 r.req.id.0)
+-- a request of process p on that channel that waits, or is in service and not yet marked
+abbrev pub is_to_cancel : Pid → ℕ → Request → Bool
+is_to_cancel p chan r = (is_of p r && (r.req.chan == chan)) && not (r.served && r.marked)
 
 -- a request of process p on a channel of that mode or an outer one
 abbrev pub keeps_open : Pid → Mode → Request → Bool
 keeps_open p m r = is_of p r && reaches r.req.chan_mode m
-
--- the lesser of two ids, where each may be missing
-abbrev pub lesser_of : Option Id → Option Id → Option Id
-lesser_of None b = b
-lesser_of (Some a) None = Some a
-lesser_of (Some a) (Some b) = if nat_le a.0 b.0 then Some a else Some b
-
--- the least id among the requests that pass
-abbrev pub least_id : (Request → Bool) → List Request → Option Id
-least_id p [] = None
-least_id p (r ∷ rs) = if p r then lesser_of (Some r.req.id) (least_id p rs) else least_id p rs
 
 -- a request that passes was found
 abbrev pub is_found : (Request → Bool) → Option Request → Bool

@@ -1,15 +1,15 @@
 //! Requests found in their list.
 
-ghost use Rattle.std.specs.Prelude.{◌≡◌, ◌<◌, Bool, IfSome, if◌then◌else◌, length, option_map, position};
+ghost use Rattle.std.specs.Prelude.{◌≡◌, ◌<◌, Bool, IfSome, length, option_map, position};
 ghost use Rattle.std.specs.List.{find, list_any};
 ghost use Rattle.vx_base.specs.Lists.{amend};
 ghost use Rattle.vx_base.specs.Pieces.{Request};
 ghost use Rattle.vx_base.specs.Queues.{is_served_by, waits_for};
 ghost use Rattle.vx_base.specs.Roomy.{with_items};
-ghost use Rattle.vx_reqs.specs.Requests.{has_id, as_served, as_marked, comes_after, lesser_of, least_id, keeps_open};
+ghost use Rattle.vx_reqs.specs.Requests.{has_id, as_served, as_marked, is_to_cancel};
 
 use crate::outstanding::Outstanding;
-use vx_base::{Id, Mode, Pid, Reserved, Routine, UnitNo, at_place};
+use vx_base::{Id, Pid, Reserved, Routine, UnitNo, at_place};
 
 /// Where the request with an id stands.
 pub(crate) fn place_of_id<R: Routine>(items: &[Outstanding<R>], id: Id) -> Option<usize>
@@ -35,6 +35,14 @@ fn place_served<R: Routine>(items: &[Outstanding<R>], u: UnitNo) -> Option<usize
     items.iter().position(|o| o.is_served_by(u))
 }
 
+// Where the first request of a process on a channel stands that is still to be cancelled.
+fn place_to_cancel<R: Routine>(items: &[Outstanding<R>], p: Pid, chan: u32) -> Option<usize>
+    ensures place { result ≡ position (is_to_cancel p chan) items.now }
+    ensures within { IfSome result (λ i. i < length items.now) }
+{
+    items.iter().position(|o| o.is_to_cancel(p, chan))
+}
+
 /// The request with an id.
 pub(crate) fn with_id<R: Routine>(items: &[Outstanding<R>], id: Id) -> Option<&Outstanding<R>>
     ensures { option_map (λ o. o.now) result ≡ find (has_id id) items.now }
@@ -57,6 +65,17 @@ pub(crate) fn waiting_for<R: Routine>(
     ensures { option_map (λ o. o.now) result ≡ find (waits_for u) items.now }
 {
     at_place(items, place_waiting(items, u))
+}
+
+/// The first request of a process on a channel that is still to be cancelled.
+pub(crate) fn to_cancel<R: Routine>(
+    items: &[Outstanding<R>],
+    p: Pid,
+    chan: u32,
+) -> Option<&Outstanding<R>>
+    ensures { option_map (λ o. o.now) result ≡ find (is_to_cancel p chan) items.now }
+{
+    at_place(items, place_to_cancel(items, p, chan))
 }
 
 /// Whether a unit serves a request.
@@ -86,48 +105,4 @@ pub(crate) fn mark_at<R: Routine>(items: &mut Reserved<Outstanding<R>>, place: O
         Some(place) => items.at_mut(place).mark(),
         None => (),
     }
-}
-
-// The lesser of two ids, where each may be missing.
-fn lesser_of(a: Option<Id>, b: Option<Id>) -> Option<Id>
-    ensures { result ≡ lesser_of a b }
-{
-    match (a, b) {
-        (None, b) => b,
-        (a, None) => a,
-        (Some(a), Some(b)) => Some(if a.0 <= b.0 { a } else { b }),
-    }
-}
-
-// The least id so far, with a request more.
-fn with_next<R: Routine>(
-    least: Option<Id>,
-    o: &Outstanding<R>,
-    p: Pid,
-    chan: Option<u32>,
-    after: Id,
-) -> Option<Id>
-    ensures { result ≡ (if comes_after p chan after o.now then lesser_of least (Some o.now.req.id) else least) }
-{
-    if o.comes_after(p, chan, after) {
-        lesser_of(least, Some(o.id()))
-    } else {
-        least
-    }
-}
-
-/// The least id above `after` among the requests of a process, on a channel if one is named.
-pub(crate) fn next_id<R: Routine>(
-    items: &[Outstanding<R>],
-    p: Pid,
-    chan: Option<u32>,
-    after: Id,
-) -> Option<Id>
-    ensures { result ≡ least_id (comes_after p chan after) items.now }
-{
-    let mut least = None;
-    for o in items {
-        least = with_next(least, o, p, chan, after);
-    }
-    least
 }

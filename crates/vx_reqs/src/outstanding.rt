@@ -2,7 +2,7 @@
 
 ghost use Rattle.std.specs.Prelude.{◌≡◌, false, is_some, option_map};
 ghost use Rattle.vx_base.specs.Queues.{is_unit, is_served_by, waits_for};
-ghost use Rattle.vx_reqs.specs.Requests.{has_id, as_served, as_marked, comes_after, keeps_open};
+ghost use Rattle.vx_reqs.specs.Requests.{has_id, as_served, as_marked, is_to_cancel, keeps_open};
 
 use std::marker::Model;
 use vx_base::{Device, Id, Mode, Pid, Req, Routine, UnitNo};
@@ -127,15 +127,11 @@ impl<R: Routine> Outstanding<R> {
         is_unit(self.req.device, u) && !self.served
     }
 
-    /// Whether it is of a process, on that channel if one is named, and has an id above another.
-    pub(crate) fn comes_after(&self, p: Pid, chan: Option<u32>, after: Id) -> bool
-        ensures { result ≡ comes_after p chan after self.now }
+    /// Whether it is of a process, on that channel, and still to be cancelled.
+    pub(crate) fn is_to_cancel(&self, p: Pid, chan: u32) -> bool
+        ensures { result ≡ is_to_cancel p chan self.now }
     {
-        let on_channel = match chan {
-            None => true,
-            Some(chan) => self.req.chan == chan,
-        };
-        self.req.p.0 == p.0 && on_channel && after.0 < self.req.id.0
+        self.req.p.0 == p.0 && self.req.chan == chan && !(self.served && self.marked)
     }
 
     /// Whether it is of a process, and on a channel of a mode or an outer one.

@@ -4,10 +4,10 @@ ghost use Rattle.std.specs.Prelude.{◌≡◌, ◌<◌, ◌≤◌, ◌+◌, ◌+
 ghost use Rattle.std.specs.List.{find, list_any};
 ghost use Rattle.vx_base.specs.Lists.{less, amend};
 ghost use Rattle.vx_base.specs.Queues.{front, in_service};
-ghost use Rattle.vx_reqs.specs.Requests.{promised_of, has_id, is_found, as_marked, begun, comes_after, least_id, keeps_open};
+ghost use Rattle.vx_reqs.specs.Requests.{promised_of, has_id, is_found, as_marked, begun, is_to_cancel, keeps_open};
 
 use crate::found::{
-    is_serving, mark_at, next_id, place_of_id, place_waiting, serve_at, served_by, waiting_for,
+    is_serving, mark_at, place_of_id, place_waiting, serve_at, served_by, to_cancel, waiting_for,
     with_id,
 };
 use crate::outstanding::Outstanding;
@@ -133,18 +133,13 @@ impl<R: Routine> Reqs<R> {
         self.items.take(place)
     }
 
-    /// The least id above `after` among the requests of a process on a channel. None exactly where there is none.
-    pub fn next_on_channel(&self, p: Pid, chan: u32, after: Id) -> Option<Id>
-        ensures { result ≡ least_id (comes_after p (Some chan) after) self.now.items }
+    /// The first request of a process on a channel that is still to be cancelled: it waits, or it is in service and not yet
+    /// marked. None exactly where there is none.
+    pub fn to_cancel(&self, p: Pid, chan: u32) -> Option<Id>
+        ensures { result ≡ option_map (λ r. r.req.id) (find (is_to_cancel p chan) self.now.items) }
     {
-        next_id(self.items.as_slice(), p, Some(chan), after)
-    }
-
-    /// The least id above `after` among the requests of a process. None exactly where there is none.
-    pub fn next_of(&self, p: Pid, after: Id) -> Option<Id>
-        ensures { result ≡ least_id (comes_after p None after) self.now.items }
-    {
-        next_id(self.items.as_slice(), p, None, after)
+        let found = to_cancel(self.items.as_slice(), p, chan)?;
+        Some(found.id())
     }
 
     /// Marks the request with an id: it is to be aborted when its unit has served it ($CANCEL). Answers false, and changes

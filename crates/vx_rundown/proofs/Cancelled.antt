@@ -35,7 +35,6 @@ use Rattle.vx_record.specs.Rundown.{cancel_one}
 use Rattle.vx_record.specs.Sound.{AreOrdered, IsSound, RequestStands, ground, request_id}
 use Rattle.vx_record.specs.State.{Process, State, IsProcess, change, nobody, process_at}
 use Rattle.vx_io.proofs.QueuedFirst.{finish_same}
-use Rattle.vx_io.specs.Finishing.{AreRequests, finishing}
 use Rattle.vx_procs.specs.Kernel.{Acts, Fits, Kernel, with_state}
 use Rattle.vx_procs.specs.Ready.{IsBare, owed}
 use Rattle.vx_procs.specs.Requests.{ended, finished, promised_ast, request_ast}
@@ -194,9 +193,6 @@ leaving_cancelled p n k h =
 pub leaving_cancels : (p : Pid) (ns : List ℕ) (k : Kernel) → IsLeaving k p → IsLeaving (with_state k (each (cancel_one p) ns k.state).after) p
 leaving_cancels p [] k h = h
 leaving_cancels p (n ∷ ns) k h = leaving_cancels p ns (with_state k (cancel_channel k.state p n).after) (leaving_cancelled p n k h)
-
-pub are_requests : (s : State) → IsSound s → AreRequests s
-are_requests s h = record { stand = h.requests; order = h.request_ids }
 
 -- The channels of a mode that come after a number.
 

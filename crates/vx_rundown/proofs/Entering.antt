@@ -1,5 +1,5 @@
 -- A mode whose newest exit handler is entered, and one that has none.
-use Rattle.std.proofs.Common.{◌≡◌, ℕ, zero, suc, ◌-◌, List, [], ◌∷◌, ◌==◌, length, length-append, slice_index_or, slice_set, Option, Some, None, option_map, IsTrue, arith, refl, sym, ap, subst, ◌∙◌}
+use Rattle.std.proofs.Common.{◌≡◌, ℕ, zero, suc, ◌-◌, List, [], ◌∷◌, ◌==◌, length, length-append, slice_index_or, slice_set, Option, Some, None, option_map, true, IsTrue, arith, refl, sym, ap, subst, ◌∙◌}
 use Rattle.std.specs.List.{find}
 use Rattle.std.proofs.lemmas.Bool.{eqb-true}
 use Rattle.vx_base.specs.Lists.{less}

@@ -3,27 +3,16 @@
 ghost use Rattle.std.specs.Prelude.{◌≡◌};
 ghost use Rattle.vx_base.specs.Channels.{channels_of};
 ghost use Rattle.vx_record.specs.Parts.{each};
-ghost use Rattle.vx_record.specs.Cancel.{cancel_channel};
 ghost use Rattle.vx_record.specs.Rundown.{cancel_modes, cancel_one, drop_asts, free_one, release};
 ghost use Rattle.vx_record.specs.State.{process_at};
-ghost use Rattle.vx_io.specs.Finishing.{AreRequests};
 ghost use Rattle.vx_procs.specs.Kernel.{Acts, Does, Fits};
-ghost use Rattle.vx_procs.specs.Ready.{IsBare};
 ghost use Rattle.vx_rundown.specs.Leaving.{IsLeaving};
 ghost use Rattle.vx_rundown.specs.Steps.{drained, entered_as, passed};
 
 use vx_base::{Answer, Effect, Entry, Frame, FrameKind, Id, Mode, Phase, Pid, Routine};
+use vx_io::cancel_channel;
 use vx_procs::{Core, Sought, drop_timers};
 use vx_timers::Which;
-
-// Stands for vx_io::cancel_channel.
-fn cancel_channel<R: Routine>(core: &mut Core<R>, p: Pid, chan: u32)
-    requires requests { AreRequests core.old.state }
-    requires bare { IsBare core.old.state }
-    requires room { Fits core.old (cancel_channel core.old.state p chan).effects }
-    ensures { Acts (cancel_channel core.old.state p chan) core.old core.new }
-{
-}
 
 // What a process asked on its channels of a mode and outer ones is cancelled, channel after channel.
 fn cancel_channels<R: Routine>(core: &mut Core<R>, p: Pid, mode: Mode)

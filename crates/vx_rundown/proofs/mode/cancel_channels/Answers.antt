@@ -1,4 +1,4 @@
-use Rattle.vx_rundown.proofs.Cancelled.{are_requests, cancelling_begun, cancelling_end, cancelling_fewer, cancelling_more, cancelling_room}
+use Rattle.vx_rundown.proofs.Cancelled.{cancelling_begun, cancelling_end, cancelling_fewer, cancelling_more, cancelling_room}
 use Rattle.vx_rundown.proofs.mode.cancel_channels.Goals as goal
 
 pub channels-init : goal.channels-init
@@ -7,11 +7,11 @@ channels-init g c = cancelling_begun c.args.p c.args.mode c.args.core.now c.requ
 pub next_channel-requires : goal.next_channel-requires
 next_channel-requires g c = c.channels.invariant.leaving.made
 
-pub cancel_channel-requires-clause-requests : goal.cancel_channel-requires-clause-requests
-cancel_channel-requires-clause-requests g c = are_requests c.channels.core.state c.channels.invariant.leaving.sound
+pub cancel_channel-requires-clause-order : goal.cancel_channel-requires-clause-order
+cancel_channel-requires-clause-order g c = c.channels.invariant.leaving.sound.request_ids
 
-pub cancel_channel-requires-clause-bare : goal.cancel_channel-requires-clause-bare
-cancel_channel-requires-clause-bare g c = c.channels.invariant.leaving.bare
+pub cancel_channel-requires-clause-attention : goal.cancel_channel-requires-clause-attention
+cancel_channel-requires-clause-attention g c = c.channels.invariant.leaving.bare.attention
 
 pub cancel_channel-requires-clause-room : goal.cancel_channel-requires-clause-room
 cancel_channel-requires-clause-room g c = cancelling_room c.args.p c.args.mode c.args.core.now c.channels.core c.channels.after c.in-Some.n c.channels.invariant c.in-Some.ensures

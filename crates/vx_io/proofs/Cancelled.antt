@@ -1,0 +1,217 @@
+-- The requests of a channel, cancelled one after another.
+use Rattle.std.proofs.Common.{◌≡◌, ◌<◌, ℕ, ◌+◌, List, [], ◌∷◌, ◌++◌, Bool, true, false, cond, not, ◌&&◌, length, Option, Some, None, IfSome, option_map, refl, ap, sym, subst, ◌∙◌, arith}
+use Rattle.std.specs.List.{filter, find, list_any}
+use Rattle.std.proofs.lemmas.Bool.{and_parts}
+use Rattle.std.proofs.lemmas.List.{append-nil}
+use Rattle.vx_base.specs.Lists.{amend, less}
+use Rattle.vx_base.specs.Pieces.{Attention, Request}
+use Rattle.vx_base.specs.declared.cond.Cond.TheVariants.{Cancel}
+use Rattle.vx_base.specs.declared.effects.Effect.{Effect}
+use Rattle.vx_base.specs.declared.number.Id.{Id}
+use Rattle.vx_base.specs.declared.number.Pid.{Pid}
+use Rattle.vx_record.specs.State.{State}
+use Rattle.vx_record.specs.Cancel.{cancel_channel, cancel_request, cancelled_request, drop_attention, drop_attentions, is_attention_on, is_request_on, mark_part, with_abort, withdraw}
+use Rattle.vx_record.specs.Finish.{ending, this_request}
+use Rattle.vx_record.specs.Parts.{Part, and_then, each, nothing, part_if}
+use Rattle.vx_record.specs.Sound.{AreOrdered, request_id}
+use Rattle.vx_record.proofs.Cancelled.{finish_requests, withdraw_requests}
+use Rattle.vx_record.proofs.Lists.{either_by, find_passes, not_fails, not_holds, ordered_amend, ordered_less}
+use Rattle.vx_reqs.specs.Requests.{is_to_cancel}
+use Rattle.vx_procs.specs.Kernel.{Acts, Fits, Kernel}
+use Rattle.vx_procs.specs.Requests.{IsOwnRequest}
+use Rattle.vx_procs.proofs.Ended.{found_id, found_none}
+use Rattle.vx_procs.proofs.Firsts.{amend_like, filter_found, filter_none, find_same, less_same}
+use Rattle.vx_procs.proofs.Rest.{IsDoing, acted, doing_begun, doing_end, doing_on, doing_room}
+use Rattle.vx_io.specs.Cancelling.{IsToCancel, cancel_found}
+use Rattle.vx_io.proofs.Kept.{IsKept, request_kept, requests_kept}
+
+-- what is still to be done on a channel
+abbrev pub cancel_rest : Pid → ℕ → State → Part
+cancel_rest p chan s = each cancel_request (filter (is_to_cancel p chan) s.requests) s
+
+-- A request that was marked has nothing done to it, so those that are still to be cancelled are all.
+
+spent : (s : State) (r : Request) → (r.served && r.marked) ≡ true → cancel_request s r ≡ nothing s
+spent s r e =
+    let both = and_parts r.served r.marked e in
+    ap (λ b. cond b (part_if (not r.marked) (mark_part s r) s) (cancelled_request s r)) both.0 ∙ ap (λ b. part_if (not b) (mark_part s r) s) both.1
+
+all_to_cancel : (p : Pid) (chan : ℕ) (rs : List Request) (s : State) → each cancel_request (filter (is_request_on p chan) rs) s ≡ each cancel_request (filter (is_to_cancel p chan) rs) s
+all_to_cancel p chan [] s = refl
+all_to_cancel p chan (r ∷ rs) s =
+    let on = filter (is_request_on p chan) rs in
+    let left = filter (is_to_cancel p chan) rs in
+    let a = cancel_request s r in
+    let before : Part → Part → Part = λ x y. record { effects = x.effects ++ y.effects; after = y.after } in
+    elim (is_request_on p chan r) as (λ b. each cancel_request (cond b (r ∷ on) on) s ≡ each cancel_request (cond (b && not (r.served && r.marked)) (r ∷ left) left) s) [
+      | true ↦
+          either_by (λ (xs : List Request). and_then a (each cancel_request on) ≡ each cancel_request xs s) (not (r.served && r.marked)) (r ∷ left) left
+          (λ going. ap (before a) (all_to_cancel p chan rs a.after))
+          (λ done. ap (λ (x : Part). and_then x (each cancel_request on)) (spent s r (not_fails (r.served && r.marked) done)) ∙ all_to_cancel p chan rs s)
+      | false ↦ all_to_cancel p chan rs s
+    ]
+
+none_dropped : (s : State) (p : Pid) (chan : ℕ) → s.attention ≡ [] → drop_attentions s p chan ≡ nothing s
+none_dropped s p chan none = ap (λ (xs : List Attention). each drop_attention (filter (is_attention_on p chan) xs) s) none
+
+-- a part that leaves another state, and tells no more
+pub then_quietly : (a : Part) (f : State → Part) (t : State) → f a.after ≡ nothing t → and_then a f ≡ record { effects = a.effects; after = t }
+then_quietly a f t e =
+    let joined : Part → Part = λ b. record { effects = a.effects ++ b.effects; after = b.after } in
+    let told : List Effect → Part = λ xs. record { effects = xs; after = t } in
+    ap joined e ∙ ap told (append-nil a.effects)
+
+pub channel_rest : (p : Pid) (chan : ℕ) (s : State) → s.attention ≡ [] → cancel_channel s p chan ≡ cancel_rest p chan s
+channel_rest p chan s none =
+    let on = filter (is_request_on p chan) s.requests in
+    let a = each cancel_request on s in
+    then_quietly a (λ t. drop_attentions t p chan) a.after (none_dropped a.after p chan ((requests_kept s on).attention ∙ none)) ∙ all_to_cancel p chan s.requests s
+
+pub channel_kept : (p : Pid) (chan : ℕ) (s : State) → s.attention ≡ [] → IsKept s (cancel_channel s p chan).after
+channel_kept p chan s none = subst (λ (x : Part). IsKept s x.after) (sym (channel_rest p chan s none)) (requests_kept s (filter (is_to_cancel p chan) s.requests))
+
+-- The first of them, and then the rest.
+
+amend_gone : {A : Type 0} (test : A → Bool) (f : A → A) (xs : List A) (x : A) → find test xs ≡ Some x → test (f x) ≡ false → filter test (amend test f xs) ≡ filter test (less test xs)
+amend_gone test f [] x e gone = refl
+amend_gone test f (y ∷ ys) x e gone =
+    elim (test y) as (λ b. test y ≡ b → cond b (Some y) (find test ys) ≡ Some x → filter test (cond b (f y ∷ ys) (y ∷ amend test f ys)) ≡ filter test (cond b ys (y ∷ less test ys))) [
+      | true ↦ λ is found.
+          let same : y ≡ x = cc in
+          let out : test (f y) ≡ false = ap (λ z. test (f z)) same ∙ gone in
+          ap (λ b. cond b (f y ∷ filter test ys) (filter test ys)) out
+      | false ↦ λ is found. ap (λ zs. cond (test y) (y ∷ zs) zs) (amend_gone test f ys x found gone)
+    ] refl e
+
+-- one that is served and was marked now is not to be cancelled
+marked_out : (p : Pid) (chan : ℕ) (r : Request) → r.served ≡ true → is_to_cancel p chan (with_abort r) ≡ false
+marked_out p chan r served =
+    ap (λ b. is_request_on p chan r && not (b && true)) served ∙ never (is_request_on p chan r)
+  where
+    never : (b : Bool) → (b && false) ≡ false
+    never true = refl
+    never false = refl
+
+is_going : (p : Pid) (chan : ℕ) (r : Request) → is_to_cancel p chan r ≡ true → (r.served && r.marked) ≡ false
+is_going p chan r e = not_holds (r.served && r.marked) (and_parts (is_request_on p chan r) (not (r.served && r.marked)) e).1
+
+unmarked : (served marked : Bool) → (served && marked) ≡ false → served ≡ true → marked ≡ false
+unmarked true marked e is = e
+unmarked false marked e is = absurd (cc)
+
+pub served_part : (s : State) (r : Request) → r.served ≡ true → (r.served && r.marked) ≡ false → cancel_request s r ≡ mark_part s r
+served_part s r served going =
+    ap (λ b. cond b (part_if (not r.marked) (mark_part s r) s) (cancelled_request s r)) served ∙ ap (λ b. part_if (not b) (mark_part s r) s) (unmarked r.served r.marked going served)
+
+pub waiting_part : (s : State) (r : Request) → r.served ≡ false → cancel_request s r ≡ cancelled_request s r
+waiting_part s r waits = ap (λ b. cond b (part_if (not r.marked) (mark_part s r) s) (cancelled_request s r)) waits
+
+cancelled_requests : (s : State) (r : Request) → (cancelled_request s r).after.requests ≡ less (this_request r.req.id) s.requests
+cancelled_requests s r = finish_requests (withdraw s r r.req.device).after r (ending Cancel 0 0 []) ∙ ap (less (this_request r.req.id)) (withdraw_requests s r r.req.device)
+
+-- the list after it: without the request, or with it marked
+pub record IsLeft (p : Pid) (chan : ℕ) (s t : State) : Type 0 where
+  pub filtered : filter (is_to_cancel p chan) t.requests ≡ filter (is_to_cancel p chan) (less (is_to_cancel p chan) s.requests)
+  pub order : AreOrdered request_id 0 s.next t.requests
+
+left_by : (p : Pid) (chan : ℕ) (s t : State) (xs : List Request) → t.requests ≡ xs → filter (is_to_cancel p chan) xs ≡ filter (is_to_cancel p chan) (less (is_to_cancel p chan) s.requests) → AreOrdered request_id 0 s.next xs → IsLeft p chan s t
+left_by p chan s t xs is filtered order = record { filtered = ap (filter (is_to_cancel p chan)) is ∙ filtered; order = subst (AreOrdered request_id 0 s.next) (sym is) order }
+
+left_after : (p : Pid) (chan : ℕ) (s : State) (r : Request) → AreOrdered request_id 0 s.next s.requests → find (is_to_cancel p chan) s.requests ≡ Some r → IsLeft p chan s (cancel_request s r).after
+left_after p chan s r order found =
+    let test = is_to_cancel p chan in
+    let going = is_going p chan r (find_passes test s.requests r found) in
+    elim r.served as (λ b. r.served ≡ b → IsLeft p chan s (cancel_request s r).after) [
+      | true ↦ λ served.
+          left_by p chan s (cancel_request s r).after (amend test with_abort s.requests)
+          (ap (λ (x : Part). x.after.requests) (served_part s r served going) ∙ amend_like request_id test with_abort 0 s.next s.requests r order found)
+          (amend_gone test with_abort s.requests r found (marked_out p chan r served))
+          (ordered_amend request_id test with_abort (λ x. refl) 0 s.next s.requests order)
+      | false ↦ λ waits.
+          left_by p chan s (cancel_request s r).after (less test s.requests)
+          (ap (λ (x : Part). x.after.requests) (waiting_part s r waits) ∙ (cancelled_requests s r ∙ less_same request_id test 0 s.next s.requests r order found))
+          refl
+          (ordered_less request_id test 0 s.next s.requests order)
+    ] refl
+
+rest_first : (p : Pid) (chan : ℕ) (s : State) (r : Request) → AreOrdered request_id 0 s.next s.requests → find (is_to_cancel p chan) s.requests ≡ Some r → cancel_rest p chan s ≡ and_then (cancel_request s r) (cancel_rest p chan)
+rest_first p chan s r order found =
+    let test = is_to_cancel p chan in
+    let a = cancel_request s r in
+    ap (λ xs. each cancel_request xs s) (filter_found test s.requests r found)
+    ∙ ap (λ (xs : List Request). and_then a (each cancel_request xs)) (sym (left_after p chan s r order found).filtered)
+
+-- The loop.
+pub record IsCancelling (p : Pid) (chan : ℕ) (first k : Kernel) : Type 0 where
+  pub order : AreOrdered request_id 0 k.state.next k.state.requests
+  pub doing : IsDoing (cancel_channel first.state p chan) first (cancel_rest p chan k.state) k
+
+-- the first request that is still to be cancelled, by its id
+record IsNext (p : Pid) (chan : ℕ) (s : State) (id : Id) : Type 0 where
+  r : Request
+  found : find (is_to_cancel p chan) s.requests ≡ Some r
+  by_id : find (this_request id) s.requests ≡ Some r
+
+next_found : (p : Pid) (chan : ℕ) (s : State) (id : Id) → AreOrdered request_id 0 s.next s.requests → Some id ≡ option_map (λ r. r.req.id) (find (is_to_cancel p chan) s.requests) → IsNext p chan s id
+next_found p chan s id order given =
+    let found = found_id (λ (r : Request). r.req.id) (find (is_to_cancel p chan) s.requests) id given in
+    record {
+      r = found.0;
+      found = found.1.0;
+      by_id = ap (λ (i : Id). find (this_request i) s.requests) (sym found.1.1) ∙ find_same request_id (is_to_cancel p chan) 0 s.next s.requests found.0 order found.1.0;
+    }
+
+pub cancelling_begun : (p : Pid) (chan : ℕ) (k : Kernel) → AreOrdered request_id 0 k.state.next k.state.requests → k.state.attention ≡ [] → Fits k (cancel_channel k.state p chan).effects → IsCancelling p chan k k
+cancelling_begun p chan k order none room =
+    let whole = cancel_channel k.state p chan in
+    record { order = order; doing = subst (λ (x : Part). IsDoing whole k x k) (channel_rest p chan k.state none) (doing_begun whole k room) }
+
+some_own : (s : State) (o : Option Request) (r : Request) → o ≡ Some r → IfSome o (λ x. IsOwnRequest s x.req) → IsOwnRequest s r.req
+some_own s None r e own = absurd (cc)
+some_own s (Some x) r e own = let same : x ≡ r = cc in subst (λ (y : Request). IsOwnRequest s y.req) same own
+
+pub cancelling_next : (p : Pid) (chan : ℕ) (first k : Kernel) (id : Id) → IsCancelling p chan first k → Some id ≡ option_map (λ r. r.req.id) (find (is_to_cancel p chan) k.state.requests) → IfSome (find (is_to_cancel p chan) k.state.requests) (λ r. IsOwnRequest k.state r.req) → IsToCancel k.state id
+cancelling_next p chan first k id h given own =
+    let x = next_found p chan k.state id h.order given in
+    record {
+      r = x.r;
+      found = x.by_id;
+      own = some_own k.state (find (is_to_cancel p chan) k.state.requests) x.r x.found own;
+      going = is_going p chan x.r (find_passes (is_to_cancel p chan) k.state.requests x.r x.found);
+    }
+
+pub cancelling_room : (p : Pid) (chan : ℕ) (first k : Kernel) (id : Id) → IsCancelling p chan first k → Some id ≡ option_map (λ r. r.req.id) (find (is_to_cancel p chan) k.state.requests) → Fits k (cancel_found k.state (find (this_request id) k.state.requests)).effects
+cancelling_room p chan first k id h given =
+    let x = next_found p chan k.state id h.order given in
+    let room = doing_room (cancel_channel first.state p chan) first k (cancel_rest p chan k.state) (cancel_request k.state x.r) (cancel_rest p chan) (rest_first p chan k.state x.r h.order x.found) h.doing in
+    subst (λ (o : Option Request). Fits k (cancel_found k.state o).effects) (sym x.by_id) room
+
+next_done : (p : Pid) (chan : ℕ) (k l : Kernel) (id : Id) (x : IsNext p chan k.state id) → Acts (cancel_found k.state (find (this_request id) k.state.requests)) k l → l ≡ acted k (cancel_request k.state x.r)
+next_done p chan k l id x did = did ∙ ap (λ (o : Option Request). acted k (cancel_found k.state o)) x.by_id
+
+pub cancelling_on : (p : Pid) (chan : ℕ) (first k l : Kernel) (id : Id) → IsCancelling p chan first k → Some id ≡ option_map (λ r. r.req.id) (find (is_to_cancel p chan) k.state.requests) → Acts (cancel_found k.state (find (this_request id) k.state.requests)) k l → IsCancelling p chan first l
+cancelling_on p chan first k l id h given did =
+    let s = k.state in
+    let x = next_found p chan s id h.order given in
+    let there = next_done p chan k l id x did in
+    let t = (cancel_request s x.r).after in
+    let order : AreOrdered request_id 0 t.next t.requests = subst (λ (n : ℕ). AreOrdered request_id 0 n t.requests) (sym (request_kept s x.r).next) (left_after p chan s x.r h.order x.found).order in
+    record {
+      order = subst (λ (y : Kernel). AreOrdered request_id 0 y.state.next y.state.requests) (sym there) order;
+      doing = doing_on (cancel_channel first.state p chan) first k l (cancel_rest p chan s) (cancel_request s x.r) (cancel_rest p chan) (rest_first p chan s x.r h.order x.found) there h.doing;
+    }
+
+pub cancelling_fewer : (p : Pid) (chan : ℕ) (first k l : Kernel) (id : Id) → IsCancelling p chan first k → Some id ≡ option_map (λ r. r.req.id) (find (is_to_cancel p chan) k.state.requests) → Acts (cancel_found k.state (find (this_request id) k.state.requests)) k l → length (filter (is_to_cancel p chan) l.state.requests) < length (filter (is_to_cancel p chan) k.state.requests)
+cancelling_fewer p chan first k l id h given did =
+    let s = k.state in
+    let x = next_found p chan s id h.order given in
+    let there = next_done p chan k l id x did in
+    let left : filter (is_to_cancel p chan) l.state.requests ≡ filter (is_to_cancel p chan) (less (is_to_cancel p chan) s.requests) =
+    ap (λ (y : Kernel). filter (is_to_cancel p chan) y.state.requests) there ∙ (left_after p chan s x.r h.order x.found).filtered in
+    let all = filter_found (is_to_cancel p chan) s.requests x.r x.found in
+    omega (arith, ap (λ (rs : List Request). length rs) left, ap (λ (rs : List Request). length rs) all)
+
+pub cancelling_end : (p : Pid) (chan : ℕ) (first k : Kernel) → IsCancelling p chan first k → None ≡ option_map (λ r. r.req.id) (find (is_to_cancel p chan) k.state.requests) → Acts (cancel_channel first.state p chan) first k
+cancelling_end p chan first k h given =
+    let none = found_none (λ (r : Request). r.req.id) (find (is_to_cancel p chan) k.state.requests) given in
+    doing_end (cancel_channel first.state p chan) first k k (cancel_rest p chan k.state) (ap (λ xs. each cancel_request xs k.state) (filter_none (is_to_cancel p chan) k.state.requests none)) refl h.doing

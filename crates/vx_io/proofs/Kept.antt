@@ -1,0 +1,90 @@
+-- What cancelling requests keeps: the processes and their channels, and that there is no attention entry.
+use Rattle.std.proofs.Common.{◌≡◌, ℕ, ◌-◌, List, [], ◌∷◌, Bool, true, not, ◌&&◌, ◌==◌, nat_lt, length, length-set, Option, Some, None, refl, ◌∙◌, arith}
+use Rattle.std.specs.List.{list_any}
+use Rattle.vx_base.specs.Pieces.{Promised, Request}
+use Rattle.vx_base.specs.declared.cond.Cond.TheVariants.{Cancel}
+use Rattle.vx_base.specs.declared.effects.Cell.{Cell}
+use Rattle.vx_base.specs.declared.effects.Cell.TheVariants.{Common, Local}
+use Rattle.vx_base.specs.declared.number.Pid.{Pid}
+use Rattle.vx_base.specs.declared.request.Device.{Device}
+use Rattle.vx_base.specs.declared.request.Device.TheVariants as device
+use Rattle.vx_base.specs.declared.request.Req.{Req}
+use Rattle.vx_record.specs.Asts.{charged_ast, with_queued}
+use Rattle.vx_record.specs.Cancel.{cancel_request, cancelled_request, mark_part, withdraw}
+use Rattle.vx_record.specs.Finish.{Ending, buf_part, done_ast_part, done_flag_part, ending, fin_part, finish, iosb_part, is_read, put_status, status_of, this_request, with_stored_bytes, with_stored_status}
+use Rattle.vx_record.specs.Flags.{cell, flag_where_named, with_local_flag}
+use Rattle.vx_record.specs.Mailboxes.{mailbox_at, mcut_part, this_message}
+use Rattle.vx_record.specs.Parts.{Part, each, nothing}
+use Rattle.vx_record.specs.State.{Process, State, IsProcess, change, process_at}
+use Rattle.vx_record.proofs.Fits.{field_same}
+use Rattle.vx_record.proofs.Lists.{either}
+
+pub record IsKept (s t : State) : Type 0 where
+  pub many : length t.procs ≡ length s.procs
+  pub channels : (q : Pid) → (process_at t q).channels ≡ (process_at s q).channels
+  pub attention : t.attention ≡ s.attention
+  pub next : t.next ≡ s.next
+
+still : (s : State) → IsKept s s
+still s = record { many = refl; channels = λ q. refl; attention = refl; next = refl }
+
+kept_then : (s t u : State) → IsKept s t → IsKept t u → IsKept s u
+kept_then s t u a b = record { many = b.many ∙ a.many; channels = λ q. b.channels q ∙ a.channels q; attention = b.attention ∙ a.attention; next = b.next ∙ a.next }
+
+pub made_kept : (s t : State) (p : Pid) → IsKept s t → IsProcess s p → IsProcess t p
+made_kept s t p h made = record { above = made.above; within = omega (arith, made.within, h.many) }
+
+-- a process is changed
+changed_kept : (s : State) (p : Pid) (f : Process → Process) → (f (process_at s p)).channels ≡ (process_at s p).channels → IsKept s (change s p f)
+changed_kept s p f same = record {
+  many = length-set s.procs (p.0 - 1) (f (process_at s p));
+  channels = λ q. field_same (λ (pr : Process). pr.channels) f s p q same;
+  attention = refl;
+  next = refl;
+}
+
+-- The parts of a request's end.
+
+buffer_kept : (s : State) (r : Req) (e : Ending) → IsKept s (buf_part s r e).after
+buffer_kept s r e = either (λ (x : Part). IsKept s x.after) (is_read r.func && nat_lt 0 e.0.count) _ (nothing s) (changed_kept s r.p (with_stored_bytes r.buf e.0.bytes) refl) (still s)
+
+status_kept : (s : State) (r : Req) (e : Ending) → IsKept s (iosb_part s r.p r.iosb (status_of e)).after
+status_kept s r e = either (λ (x : Part). IsKept s x.after) (not (r.iosb == 0)) (put_status s r.p r.iosb (status_of e)) (nothing s) (changed_kept s r.p (with_stored_status r.iosb (status_of e)) refl) (still s)
+
+flag_kept : (s : State) (o : Option Cell) → IsKept s (flag_where_named s o true).after
+flag_kept s None = still s
+flag_kept s (Some (Local q n)) = changed_kept s q (with_local_flag n true) (either (λ (x : Process). x.channels ≡ (process_at s q).channels) (nat_lt n 32) _ _ refl refl)
+flag_kept s (Some (Common group name n)) = record { many = refl; channels = λ q. refl; attention = refl; next = refl }
+
+ast_kept : (s : State) (r : Req) (o : Option Promised) → IsKept s (done_ast_part s r o).after
+ast_kept s r None = still s
+ast_kept s r (Some ast) = changed_kept s r.p (with_queued (charged_ast r.id ast.mode ast.tag)) refl
+
+finish_kept : (s : State) (r : Request) (e : Ending) → IsKept s (finish s r e).after
+finish_kept s r e =
+    let a = (fin_part s r.req.id e.0.cond).after in
+    let b = (buf_part a r.req e).after in
+    let c = (iosb_part b r.req.p r.req.iosb (status_of e)).after in
+    let d = (done_flag_part c r.req).after in
+    let first : IsKept s a = record { many = refl; channels = λ q. refl; attention = refl; next = refl } in
+    let two = kept_then s a b first (buffer_kept a r.req e) in
+    let three = kept_then s b c two (status_kept b r.req e) in
+    let four = kept_then s c d three (flag_kept c (cell c r.req.p r.req.efn)) in
+    kept_then s d (finish s r e).after four (ast_kept d r.req r.ast)
+
+withdrawn_kept : (s : State) (r : Request) (d : Device) → IsKept s (withdraw s r d).after
+withdrawn_kept s r (device.Unit u) = still s
+withdrawn_kept s r (device.Mailbox b) =
+    either (λ (x : Part). IsKept s x.after) (list_any (this_message r.req.id) (mailbox_at s b).messages) (mcut_part s b r.req.id) (nothing s) (record { many = refl; channels = λ q. refl; attention = refl; next = refl }) (still s)
+
+pub request_kept : (s : State) (r : Request) → IsKept s (cancel_request s r).after
+request_kept s r =
+    let P = λ (x : Part). IsKept s x.after in
+    let w = (withdraw s r r.req.device).after in
+    either P r.served _ (cancelled_request s r)
+    (either P (not r.marked) (mark_part s r) (nothing s) (record { many = refl; channels = λ q. refl; attention = refl; next = refl }) (still s))
+    (kept_then s w (finish w r (ending Cancel 0 0 [])).after (withdrawn_kept s r r.req.device) (finish_kept w r (ending Cancel 0 0 [])))
+
+pub requests_kept : (s : State) (rs : List Request) → IsKept s (each cancel_request rs s).after
+requests_kept s [] = still s
+requests_kept s (r ∷ rs) = let t = (cancel_request s r).after in kept_then s t (each cancel_request rs t).after (request_kept s r) (requests_kept t rs)
