@@ -292,12 +292,7 @@ fn take_spare(spare: &mut Option<Buffer>) -> Buffer
 }
 
 // $QIO, with the routine at a label or with none.
-fn ask<R: Routine>(
-    core: &mut Core<R>,
-    p: Pid,
-    args: &Args,
-    spare: &mut Option<Buffer>,
-) -> Served
+fn ask<R: Routine>(core: &mut Core<R>, p: Pid, args: &Args, spare: &mut Option<Buffer>) -> Served
     requires set { IsSet core.old p }
     requires spare { IsSome spare.old }
     requires room { Fits core.old (service_of core.old.state p args.now Service.Qio).effects }
