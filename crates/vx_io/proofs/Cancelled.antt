@@ -15,7 +15,7 @@ use Rattle.vx_record.specs.Finish.{ending, this_request}
 use Rattle.vx_record.specs.Parts.{Part, and_then, each, nothing, part_if}
 use Rattle.vx_record.specs.Sound.{AreOrdered, request_id}
 use Rattle.vx_record.proofs.Cancelled.{finish_requests, withdraw_requests}
-use Rattle.vx_record.proofs.Lists.{either_by, find_passes, not_fails, not_holds, ordered_amend, ordered_less}
+use Rattle.vx_record.proofs.Lists.{either, either_by, find_passes, not_fails, not_holds, ordered_amend, ordered_less}
 use Rattle.vx_reqs.specs.Requests.{is_to_cancel}
 use Rattle.vx_procs.specs.Kernel.{Acts, Fits, Kernel}
 use Rattle.vx_procs.specs.Requests.{IsOwnRequest}
@@ -28,6 +28,24 @@ use Rattle.vx_io.proofs.Kept.{IsKept, request_kept, requests_kept}
 -- what is still to be done on a channel
 abbrev pub cancel_rest : Pid → ℕ → State → Part
 cancel_rest p chan s = each cancel_request (filter (is_to_cancel p chan) s.requests) s
+
+-- Ids rise still.
+
+cancelled_requests : (s : State) (r : Request) → (cancelled_request s r).after.requests ≡ less (this_request r.req.id) s.requests
+cancelled_requests s r = finish_requests (withdraw s r r.req.device).after r (ending Cancel 0 0 []) ∙ ap (less (this_request r.req.id)) (withdraw_requests s r r.req.device)
+
+request_order : (s : State) (r : Request) → AreOrdered request_id 0 s.next s.requests → AreOrdered request_id 0 (cancel_request s r).after.next (cancel_request s r).after.requests
+request_order s r order =
+    let P = λ (x : Part). AreOrdered request_id 0 s.next x.after.requests in
+    let here : AreOrdered request_id 0 s.next (cancel_request s r).after.requests =
+    either P r.served _ (cancelled_request s r)
+    (either P (not r.marked) (mark_part s r) (nothing s) (ordered_amend request_id (this_request r.req.id) with_abort (λ x. refl) 0 s.next s.requests order) order)
+    (subst (AreOrdered request_id 0 s.next) (sym (cancelled_requests s r)) (ordered_less request_id (this_request r.req.id) 0 s.next s.requests order)) in
+    subst (λ (n : ℕ). AreOrdered request_id 0 n (cancel_request s r).after.requests) (sym (request_kept s r).next) here
+
+requests_order : (rs : List Request) (s : State) → AreOrdered request_id 0 s.next s.requests → AreOrdered request_id 0 (each cancel_request rs s).after.next (each cancel_request rs s).after.requests
+requests_order [] s order = order
+requests_order (r ∷ rs) s order = requests_order rs (cancel_request s r).after (request_order s r order)
 
 -- A request that was marked has nothing done to it, so those that are still to be cancelled are all.
 
@@ -70,6 +88,10 @@ channel_rest p chan s none =
 pub channel_kept : (p : Pid) (chan : ℕ) (s : State) → s.attention ≡ [] → IsKept s (cancel_channel s p chan).after
 channel_kept p chan s none = subst (λ (x : Part). IsKept s x.after) (sym (channel_rest p chan s none)) (requests_kept s (filter (is_to_cancel p chan) s.requests))
 
+pub channel_order : (p : Pid) (chan : ℕ) (s : State) → s.attention ≡ [] → AreOrdered request_id 0 s.next s.requests → AreOrdered request_id 0 (cancel_channel s p chan).after.next (cancel_channel s p chan).after.requests
+channel_order p chan s none order =
+    subst (λ (x : Part). AreOrdered request_id 0 x.after.next x.after.requests) (sym (channel_rest p chan s none)) (requests_order (filter (is_to_cancel p chan) s.requests) s order)
+
 -- The first of them, and then the rest.
 
 amend_gone : {A : Type 0} (test : A → Bool) (f : A → A) (xs : List A) (x : A) → find test xs ≡ Some x → test (f x) ≡ false → filter test (amend test f xs) ≡ filter test (less test xs)
@@ -106,32 +128,18 @@ served_part s r served going =
 pub waiting_part : (s : State) (r : Request) → r.served ≡ false → cancel_request s r ≡ cancelled_request s r
 waiting_part s r waits = ap (λ b. cond b (part_if (not r.marked) (mark_part s r) s) (cancelled_request s r)) waits
 
-cancelled_requests : (s : State) (r : Request) → (cancelled_request s r).after.requests ≡ less (this_request r.req.id) s.requests
-cancelled_requests s r = finish_requests (withdraw s r r.req.device).after r (ending Cancel 0 0 []) ∙ ap (less (this_request r.req.id)) (withdraw_requests s r r.req.device)
-
--- the list after it: without the request, or with it marked
-pub record IsLeft (p : Pid) (chan : ℕ) (s t : State) : Type 0 where
-  pub filtered : filter (is_to_cancel p chan) t.requests ≡ filter (is_to_cancel p chan) (less (is_to_cancel p chan) s.requests)
-  pub order : AreOrdered request_id 0 s.next t.requests
-
-left_by : (p : Pid) (chan : ℕ) (s t : State) (xs : List Request) → t.requests ≡ xs → filter (is_to_cancel p chan) xs ≡ filter (is_to_cancel p chan) (less (is_to_cancel p chan) s.requests) → AreOrdered request_id 0 s.next xs → IsLeft p chan s t
-left_by p chan s t xs is filtered order = record { filtered = ap (filter (is_to_cancel p chan)) is ∙ filtered; order = subst (AreOrdered request_id 0 s.next) (sym is) order }
-
-left_after : (p : Pid) (chan : ℕ) (s : State) (r : Request) → AreOrdered request_id 0 s.next s.requests → find (is_to_cancel p chan) s.requests ≡ Some r → IsLeft p chan s (cancel_request s r).after
+-- those that are left to be cancelled after it
+left_after : (p : Pid) (chan : ℕ) (s : State) (r : Request) → AreOrdered request_id 0 s.next s.requests → find (is_to_cancel p chan) s.requests ≡ Some r → filter (is_to_cancel p chan) (cancel_request s r).after.requests ≡ filter (is_to_cancel p chan) (less (is_to_cancel p chan) s.requests)
 left_after p chan s r order found =
     let test = is_to_cancel p chan in
     let going = is_going p chan r (find_passes test s.requests r found) in
-    elim r.served as (λ b. r.served ≡ b → IsLeft p chan s (cancel_request s r).after) [
+    elim r.served as (λ b. r.served ≡ b → filter test (cancel_request s r).after.requests ≡ filter test (less test s.requests)) [
       | true ↦ λ served.
-          left_by p chan s (cancel_request s r).after (amend test with_abort s.requests)
-          (ap (λ (x : Part). x.after.requests) (served_part s r served going) ∙ amend_like request_id test with_abort 0 s.next s.requests r order found)
-          (amend_gone test with_abort s.requests r found (marked_out p chan r served))
-          (ordered_amend request_id test with_abort (λ x. refl) 0 s.next s.requests order)
+          let marked = ap (λ (x : Part). x.after.requests) (served_part s r served going) ∙ amend_like request_id test with_abort 0 s.next s.requests r order found in
+          ap (filter test) marked ∙ amend_gone test with_abort s.requests r found (marked_out p chan r served)
       | false ↦ λ waits.
-          left_by p chan s (cancel_request s r).after (less test s.requests)
-          (ap (λ (x : Part). x.after.requests) (waiting_part s r waits) ∙ (cancelled_requests s r ∙ less_same request_id test 0 s.next s.requests r order found))
-          refl
-          (ordered_less request_id test 0 s.next s.requests order)
+          let out = ap (λ (x : Part). x.after.requests) (waiting_part s r waits) ∙ (cancelled_requests s r ∙ less_same request_id test 0 s.next s.requests r order found) in
+          ap (filter test) out
     ] refl
 
 rest_first : (p : Pid) (chan : ℕ) (s : State) (r : Request) → AreOrdered request_id 0 s.next s.requests → find (is_to_cancel p chan) s.requests ≡ Some r → cancel_rest p chan s ≡ and_then (cancel_request s r) (cancel_rest p chan)
@@ -139,7 +147,7 @@ rest_first p chan s r order found =
     let test = is_to_cancel p chan in
     let a = cancel_request s r in
     ap (λ xs. each cancel_request xs s) (filter_found test s.requests r found)
-    ∙ ap (λ (xs : List Request). and_then a (each cancel_request xs)) (sym (left_after p chan s r order found).filtered)
+    ∙ ap (λ (xs : List Request). and_then a (each cancel_request xs)) (sym (left_after p chan s r order found))
 
 -- The loop.
 pub record IsCancelling (p : Pid) (chan : ℕ) (first k : Kernel) : Type 0 where
@@ -194,10 +202,8 @@ cancelling_on p chan first k l id h given did =
     let s = k.state in
     let x = next_found p chan s id h.order given in
     let there = next_done p chan k l id x did in
-    let t = (cancel_request s x.r).after in
-    let order : AreOrdered request_id 0 t.next t.requests = subst (λ (n : ℕ). AreOrdered request_id 0 n t.requests) (sym (request_kept s x.r).next) (left_after p chan s x.r h.order x.found).order in
     record {
-      order = subst (λ (y : Kernel). AreOrdered request_id 0 y.state.next y.state.requests) (sym there) order;
+      order = subst (λ (y : Kernel). AreOrdered request_id 0 y.state.next y.state.requests) (sym there) (request_order s x.r h.order);
       doing = doing_on (cancel_channel first.state p chan) first k l (cancel_rest p chan s) (cancel_request s x.r) (cancel_rest p chan) (rest_first p chan s x.r h.order x.found) there h.doing;
     }
 
@@ -207,7 +213,7 @@ cancelling_fewer p chan first k l id h given did =
     let x = next_found p chan s id h.order given in
     let there = next_done p chan k l id x did in
     let left : filter (is_to_cancel p chan) l.state.requests ≡ filter (is_to_cancel p chan) (less (is_to_cancel p chan) s.requests) =
-    ap (λ (y : Kernel). filter (is_to_cancel p chan) y.state.requests) there ∙ (left_after p chan s x.r h.order x.found).filtered in
+    ap (λ (y : Kernel). filter (is_to_cancel p chan) y.state.requests) there ∙ left_after p chan s x.r h.order x.found in
     let all = filter_found (is_to_cancel p chan) s.requests x.r x.found in
     omega (arith, ap (λ (rs : List Request). length rs) left, ap (λ (rs : List Request). length rs) all)
 

@@ -109,7 +109,11 @@ fn unit_test<R: Routine>(
 }
 
 /// The unit and the mode of a channel that a process may use now. (A channel to a mailbox cannot be: none is built yet.)
-pub(crate) fn unit_channel<R: Routine>(core: &Core<R>, p: Pid, n: u32) -> Result<(UnitNo, Mode), Cond>
+pub(crate) fn unit_channel<R: Routine>(
+    core: &Core<R>,
+    p: Pid,
+    n: u32,
+) -> Result<(UnitNo, Mode), Cond>
     requires made { IsProcess core.now.state p }
     requires channels { AllByRecursion (ChannelStands (ground core.now.state)) (process_at core.now.state p).channels }
     requires boxes { core.now.state.boxes ≡ replicate 64 None }
