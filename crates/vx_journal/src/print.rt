@@ -121,7 +121,9 @@ fn print_unit(
 ) -> Result<(), NoMemory>
     requires { u.0 < length exec.now.state.units }
     ensures { OnOk result (out.new ≡ out.old
-        ++ ended_lines (output_lines (unit_name exec.now.state.system.units u) (outputs_of (unit_at exec.now.state u).contents))) }
+        ++ ended_lines (output_lines
+        (unit_name exec.now.state.system.units u)
+        (outputs_of (unit_at exec.now.state u).contents))) }
 {
     let name = unit_name(exec.system().units.as_slice(), u);
     print_outputs(alloc, name, exec.outputs(u), out)
