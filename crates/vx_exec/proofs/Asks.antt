@@ -32,7 +32,7 @@ use Rattle.vx_record.specs.State.{State, change, current, process_at}
 use Rattle.vx_record.specs.declared.served.Served.{Served}
 use Rattle.vx_record.proofs.Lists.{all_get, either}
 use Rattle.vx_record.proofs.SoundCalls.{all_from_list}
-use Rattle.vx_rundown.specs.Leaving.{is_to_unit, is_unit}
+use Rattle.vx_rundown.proofs.Standing.{is_to_unit, is_unit}
 use Rattle.vx_exec.proofs.Ends.{Ends, each_ends, ends_more, ends_then, finish_ends, iosb_ends, none_ends}
 use Rattle.vx_exec.proofs.Few.{filter_few}
 use Rattle.vx_exec.proofs.Goes.{Goes, GoesBy, Stays, awaited_goes, flag_goes, goes_stays, goes_still, numbered_goes, run_most, same_services, stays_changed, stays_common, stays_still, stays_then}

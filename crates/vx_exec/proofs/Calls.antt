@@ -14,12 +14,10 @@ use Rattle.vx_image.specs.declared.stmt.Stmt.{Stmt}
 use Rattle.vx_image.specs.declared.stmt.Stmt.TheVariants as stmt
 use Rattle.vx_image.specs.declared.stop.Stop.{Stop}
 use Rattle.vx_image.specs.declared.stop.Stop.TheVariants as stop
-use Rattle.vx_image.specs.declared.unit.UnitDecl.{UnitDecl}
-use Rattle.vx_image.specs.declared.system.System.{System}
 use Rattle.vx_record.specs.State.{State, image_of, decl_of, no_image}
 use Rattle.vx_record.proofs.Lists.{all_get}
 use Rattle.vx_record.proofs.SoundCalls.{all_from_list}
-use Rattle.vx_exec.specs.Built.{is_built_service, is_built_stmt, is_built_image, are_no_units, is_built}
+use Rattle.vx_exec.specs.Built.{is_built_service, is_built_stmt, is_built_image, is_built}
 
 -- a service at which local statements stop is built, and its statement is the image's
 abbrev pub IsBuiltStop : Image → ℕ → Stop → Type 0
@@ -66,8 +64,7 @@ run_built (suc n) image who store place h =
 
 pub image_built : (s : State) (p : Pid) → IsTrue (is_built s.system) → is_built_image (image_of s p) ≡ true
 image_built s p built =
-    let parts = and_parts (are_no_units s.system.units) (list_all is_built_image s.system.images) built in
-    all_get (λ (i : Image). is_built_image i ≡ true) s.system.images (decl_of s p).image no_image refl (all_from_list is_built_image s.system.images parts.1)
+    all_get (λ (i : Image). is_built_image i ≡ true) s.system.images (decl_of s p).image no_image refl (all_from_list is_built_image s.system.images built)
 
 pub advanced_built : (s : State) (p : Pid) (who : Reader) (store : Storage) (place : ℕ) → IsTrue (is_built s.system) → IsBuiltAt (image_of s p) (advanced (image_of s p) who store place)
 advanced_built s p who store place built = run_built 1000 (image_of s p) who store place (all_from_list is_built_stmt (image_of s p).stmts (image_built s p built))
@@ -79,10 +76,3 @@ names_second a kinds = (and_parts (is_of_kind kind.Name a.a1) _ (and_parts (is_o
 
 pub names_first : (a : Args) → IsTrue (are_args (params_of DlcEfc) (args_list a)) → IsTrue (is_of_kind kind.Name a.a0)
 names_first a kinds = (and_parts (is_of_kind kind.Name a.a0) _ kinds).0
-
-no_units : (us : List UnitDecl) → are_no_units us ≡ true → us ≡ []
-no_units [] e = refl
-no_units (u ∷ us) e = absurd (cc)
-
-pub units_none : (system : System) → IsTrue (is_built system) → system.units ≡ []
-units_none system built = no_units system.units (and_parts (are_no_units system.units) (list_all is_built_image system.images) built).0

@@ -1,13 +1,10 @@
--- What events of a process do to the state: how many processes there are then, how many ids they open, and how much they tell.
-use Rattle.std.proofs.Common.{◌≡◌, ℕ, ◌≢◌, ◌<◌, ◌++◌, is_some, ◌+◌, ◌-◌, ◌%◌, ◌^◌, ◌≤◌, List, [], ◌∷◌, Bool, true, false, not, ◌==◌, length, length-set, length-append, IsTrue, Option, Some, None, Result, Ok, Err, refl, ap, ◌∙◌, ◌*◌, arith, nat_le, nat_lt, slice_index_or, subst}
+-- What services of a process do to the state: how many processes there are then, how many ids they open, and how much they tell.
+use Rattle.std.proofs.Common.{◌≡◌, ℕ, ◌++◌, is_some, ◌+◌, ◌-◌, ◌≤◌, List, ◌∷◌, Bool, true, false, length, length-set, length-append, Option, Some, None, Result, Ok, Err, refl, ap, ◌∙◌, ◌*◌, arith, nat_le, nat_lt, slice_index_or, []}
 use Rattle.std.specs.List.{filter, find}
 use Rattle.std.proofs.lemmas.Bool.{leb-false}
 use Rattle.vx_base.specs.Clusters.{Common as CommonClusters, Change}
-use Rattle.vx_base.specs.Pieces.{DeviceUnit, Handler, Queued, Timer}
-use Rattle.vx_base.specs.declared.call.Args.{Args}
-use Rattle.vx_base.specs.declared.call.Call.{Call}
+use Rattle.vx_base.specs.Pieces.{DeviceUnit, Handler, Timer}
 use Rattle.vx_base.specs.declared.call.Target.{Target}
-use Rattle.vx_base.specs.declared.call.Target.TheVariants as target
 use Rattle.vx_base.specs.declared.cond.Cond.{Cond}
 use Rattle.vx_base.specs.declared.cond.Cond.TheVariants.{Normal, ExQuota, IvSsRq, NoSlot}
 use Rattle.vx_base.specs.declared.effects.Cell.{Cell}
@@ -21,38 +18,24 @@ use Rattle.vx_base.specs.declared.frame.FrameKind.TheVariants as kind
 use Rattle.vx_base.specs.declared.frame.Wait.{Wait}
 use Rattle.vx_base.specs.declared.frame.Wait.TheVariants as wait
 use Rattle.vx_base.specs.declared.mode.Mode.{Mode}
-use Rattle.vx_base.specs.declared.mode.Mode.TheVariants.{Kernel, Exec}
 use Rattle.vx_base.specs.declared.number.Pid.{Pid}
 use Rattle.vx_base.specs.declared.number.UnitNo.{UnitNo}
 use Rattle.vx_base.specs.declared.routine.Entry.{Entry}
-use Rattle.vx_base.specs.declared.routine.Entry.TheVariants as entry
-use Rattle.vx_base.specs.declared.service.Service.{Service}
-use Rattle.vx_base.specs.declared.service.Service.TheVariants.{SetEf, ClrEf, ReadEf, WaitFr, WflOr, WflAnd, DclAst, SetAst, CmExec, CmKrnl, SetImr, Hiber, Wake, Suspnd, Resume, ForceX, CrePrc, Exit, GetTim, AscEfc, DacEfc, DlcEfc, CanTim, SchdWk, CanWak, DclExh, CanExh}
-use Rattle.vx_base.specs.Modes.{inner, is_kernel, outer}
-use Rattle.vx_image.specs.Local.{advanced}
-use Rattle.vx_image.specs.declared.stop.Stop.{Stop}
-use Rattle.vx_image.specs.declared.stop.Stop.TheVariants as stop
-use Rattle.vx_record.specs.State.{Process, State, IsProcess, process_at, change, image_of, current, next_id, no_unit, past_id, unit_at, with_top}
+use Rattle.vx_base.specs.declared.service.Service.TheVariants.{Wake}
+use Rattle.vx_base.specs.Modes.{is_kernel}
+use Rattle.vx_record.specs.State.{Process, State, IsProcess, process_at, change, current, next_id, no_unit, past_id, unit_at, with_top}
 use Rattle.vx_record.specs.Parts.{Outcome, Part, answered, at_tested, nothing, refused, part_of, commonly, each}
-use Rattle.vx_record.specs.Asts.{charged_ast, declared_ast, with_delivery, with_frame, with_queued, new_frame, open_part}
+use Rattle.vx_record.specs.Asts.{charged_ast, declared_ast, with_queued, open_part}
 use Rattle.vx_record.specs.Charges.{exceeds, ast_need, timer_need}
-use Rattle.vx_record.specs.Control.{changed_process, created, creprc, exit_ast, forced, new_part, next_pid, process_test, with_suspension, with_wake}
-use Rattle.vx_record.specs.Events.{below_top, delivered, moved_behind, moved_to, or_normal, put_back, r0_of, reader, resumed_with, returned, returned_from, run, run_frame, run_on, served_call, started}
+use Rattle.vx_record.specs.Control.{changed_process, created, creprc, exit_ast, forced, new_part, next_pid}
 use Rattle.vx_record.specs.Flags.{at_flag, at_named, awaited_at, cell, flag_part, put_flag_at, readef, readef_at, refused_value, refused_wait, wait_condition, waits_on, with_local_flag, with_wait}
-use Rattle.vx_record.specs.Rundown.{cancel_found, cancel_handlers, canexh, dclexh, drop_handler, drop_handlers, exited, handler_declared, is_handler_of, is_handler_with, new_handler, with_handler, without_ast, without_frames, without_handler}
-use Rattle.vx_record.specs.Services.{decl_place, number, numbered_at, place, routine, routine_or_none, access_mode, service, service_of, text, valued_at, with_number, with_variable}
-use Rattle.vx_record.specs.declared.served.Served.{Served}
-use Rattle.vx_record.specs.declared.served.Served.TheVariants.{Answered, Waits}
+use Rattle.vx_record.specs.Rundown.{cancel_found, cancel_handlers, canexh, dclexh, drop_handler, drop_handlers, exited, handler_declared, is_handler_of, is_handler_with, new_handler, with_handler, without_frames, without_handler}
+use Rattle.vx_record.specs.Services.{numbered_at, place, valued_at, with_number, with_variable}
 use Rattle.vx_record.proofs.Lists.{either, either_by}
-use Rattle.vx_record.specs.Timers.{drop_timer, drop_timers, gettim, is_cancelled_timer, is_wake_for, new_wake, open_timer, scheduled, setimr_at, timer_set, unscheduled, with_timer}
+use Rattle.vx_record.specs.Timers.{drop_timer, drop_timers, new_wake, open_timer, scheduled, setimr_at, timer_set, with_timer}
 use Rattle.vx_procs.specs.Words.{left, left_kind}
 use Rattle.vx_procs.proofs.Stack.{left_after, left_effects}
-use Rattle.vx_rundown.proofs.Changed.{process_there}
-use Rattle.vx_exec.specs.Built.{is_built_service, is_built}
-use Rattle.vx_clusters.proofs.Few.{associate_few, dissociate_few, mark_few}
-use Rattle.vx_ctl.proofs.Common.{associates, dissociates, marks}
 use Rattle.vx_exec.proofs.Few.{filter_few}
-use Rattle.vx_exec.proofs.Calls.{IsBuiltStop, advanced_built}
 
 -- from s to t: no process comes or goes, no id is opened, and units stay as they are
 pub record Stays (s t : State) : Type 0 where
@@ -118,7 +101,7 @@ goes_after p s t u told a most b = record {
 }
 
 -- with one process changed at the end
-goes_on : (bound : ℕ) (q : Pid) (s t : State) (f : Process → Process) (told : List Effect) → Goes bound s t told → Goes bound s (change t q f) told
+pub goes_on : (bound : ℕ) (q : Pid) (s t : State) (f : Process → Process) (told : List Effect) → Goes bound s t told → Goes bound s (change t q f) told
 goes_on bound q s t f told b =
     let same = length-set t.procs (q.0 - 1) (f (process_at t q)) in
     record { grows = omega (arith, same, b.grows); within = λ h. let few = b.within h in omega (arith, same, few); later = b.later; soon = b.soon; services = b.services; few = b.few }
@@ -136,15 +119,15 @@ pub stays_common : (s : State) (c : CommonClusters) → Stays s (record s { comm
 stays_common s c = record { procs = refl; next = refl; units = refl }
 
 -- common clusters are changed
-common_goes : (p : Pid) (s : State) (c : Change) → length c.effects ≤ 4 → Goes (run_most s p) s (commonly s c).after c.effects
+pub common_goes : (p : Pid) (s : State) (c : Change) → length c.effects ≤ 4 → Goes (run_most s p) s (commonly s c).after c.effects
 common_goes p s c few = goes_stays (run_most s p) s (commonly s c).after c.effects (stays_common s c.after) (omega (arith, few))
 
-put_goes : (p : Pid) (s : State) (on : Bool) (c : Cell) → GoesBy p s (put_flag_at s on c)
+pub put_goes : (p : Pid) (s : State) (on : Bool) (c : Cell) → GoesBy p s (put_flag_at s on c)
 put_goes p s on (Local q n) = goes_changed p q s (with_local_flag n on) (effect.Flag (Local q n) on ∷ []) (omega arith)
 put_goes p s on (Common group name n) = goes_stays (run_most s p) s _ (effect.Flag (Common group name n) on ∷ []) (stays_common s _) (omega arith)
 
 -- local flags, and no clusters: what $READEF reads it does not change
-read_goes : (p : Pid) (s : State) (t : Target) (o : Outcome (Result (Cond × ℕ) Cond)) (r : Result (Cond × ℕ) Cond) → o.after ≡ s → o.effects ≡ [] → GoesBy p s (valued_at p t (part_of o) r)
+pub read_goes : (p : Pid) (s : State) (t : Target) (o : Outcome (Result (Cond × ℕ) Cond)) (r : Result (Cond × ℕ) Cond) → o.after ≡ s → o.effects ≡ [] → GoesBy p s (valued_at p t (part_of o) r)
 read_goes p s t o (Ok x) same none =
     rw (same, none) (goes_changed p p s (with_variable t x.1) (effect.Var p t x.1 ∷ []) (omega arith))
 read_goes p s t o (Err c) same none = rw (same, none) (goes_still p s)
@@ -153,7 +136,7 @@ quiet_named : (s : State) (o : Option Cell) → ((at_named (refused_value s) (re
 quiet_named s None = (refl, refl)
 quiet_named s (Some c) = (refl, refl)
 
-quiet_read : (s : State) (p : Pid) (efn : ℕ) → ((readef s p efn).after ≡ s) × ((readef s p efn).effects ≡ [])
+pub quiet_read : (s : State) (p : Pid) (efn : ℕ) → ((readef s p efn).after ≡ s) × ((readef s p efn).effects ≡ [])
 quiet_read s p efn = either (λ (o : Outcome (Result (Cond × ℕ) Cond)). (o.after ≡ s) × (o.effects ≡ [])) (nat_lt 127 efn) _ _ (refl, refl) (quiet_named s (cell s p efn))
 
 left_few : (fs : List Frame) → length (left fs) ≤ length fs
@@ -169,13 +152,13 @@ left_few (f ∷ fs) = let rest = left_few fs in let one = kind_few f.kind in ome
 exited_after : (s : State) (p : Pid) (code : ℕ) → (exited s p code).after ≡ change s p (without_frames code)
 exited_after s p code = left_after (process_at s p).frames (change s p (without_frames code))
 
-exited_few : (s : State) (p : Pid) (code : ℕ) → length (exited s p code).effects ≤ length (process_at s p).frames
+pub exited_few : (s : State) (p : Pid) (code : ℕ) → length (exited s p code).effects ≤ length (process_at s p).frames
 exited_few s p code = omega (arith, left_few (process_at s p).frames, ap length (left_effects (process_at s p).frames (change s p (without_frames code))))
 
-exited_goes : (p : Pid) (s : State) (code : ℕ) (told : List Effect) → length told ≤ run_most s p → Goes (run_most s p) s (exited s p code).after told
+pub exited_goes : (p : Pid) (s : State) (code : ℕ) (told : List Effect) → length told ≤ run_most s p → Goes (run_most s p) s (exited s p code).after told
 exited_goes p s code told few = rw (exited_after s p code) (goes_changed p p s (without_frames code) told few)
 
-declared_goes : (p : Pid) (s : State) (mode : Mode) (tag : Entry) → Goes (run_most s p) s (declared_ast s p mode tag).after (declared_ast s p mode tag).effects
+pub declared_goes : (p : Pid) (s : State) (mode : Mode) (tag : Entry) → Goes (run_most s p) s (declared_ast s p mode tag).after (declared_ast s p mode tag).effects
 declared_goes p s mode tag =
     let q = charged_ast (next_id s) mode tag in
     goes_opened (run_most s p) s (declared_ast s p mode tag).after (declared_ast s p mode tag).effects (length-set s.procs (p.0 - 1) (with_queued q (process_at s p))) refl refl (omega arith)
@@ -186,7 +169,7 @@ timer_goes p s a efn delta tag reqid told k few =
     let part = open_timer a p efn delta tag reqid in
     goes_opened (run_most s p) s part.after (told ++ part.effects) k.procs (omega (arith, k.next)) k.units (omega (arith, few, length-append told part.effects))
 
-set_goes : (p : Pid) (s : State) (efn delta : ℕ) (tag : Option Entry) (reqid : ℕ) (c : Cell) → GoesBy p s (setimr_at s p efn delta tag reqid c)
+pub set_goes : (p : Pid) (s : State) (efn delta : ℕ) (tag : Option Entry) (reqid : ℕ) (c : Cell) → GoesBy p s (setimr_at s p efn delta tag reqid c)
 set_goes p s efn delta tag reqid (Local q n) =
     either (λ (o : Outcome Cond). GoesBy p s o) (exceeds s p (timer_need (is_some tag))) (refused s ExQuota) (answered Normal (timer_set s p efn delta tag reqid (Local q n))) (goes_still p s)
     (timer_goes p s (change s q (with_local_flag n false)) efn delta tag reqid (effect.Flag (Local q n) false ∷ []) (stays_changed s q (with_local_flag n false)) (omega arith))
@@ -200,7 +183,7 @@ awaited_goes p s w None = goes_changed p p s (with_wait (Some w)) [] (omega arit
 awaited_goes p s w (Some c) = goes_still p s
 
 -- a wait for flags by a mask
-masked_goes : (p : Pid) (s : State) (efn mask : ℕ) (all : Bool) → GoesBy p s (at_flag s p efn (refused_wait s) (waits_on s p (wait.Flags efn mask all)))
+pub masked_goes : (p : Pid) (s : State) (efn mask : ℕ) (all : Bool) → GoesBy p s (at_flag s p efn (refused_wait s) (waits_on s p (wait.Flags efn mask all)))
 masked_goes p s efn mask all = let w = wait.Flags efn mask all in flag_goes p s efn (refused_wait s) (waits_on s p w) (λ c. goes_still p s) (λ c. awaited_goes p s w (wait_condition s p w))
 
 -- what is done to a process that a test found
@@ -209,11 +192,11 @@ tested_goes p s go (Ok q) g = g q
 tested_goes p s go (Err c) g = goes_still p s
 
 -- a process that a number names is changed
-control_goes : (p : Pid) (s : State) (f : Process → Process) (r : Result Pid Cond) → GoesBy p s (at_tested s (changed_process s f) r)
+pub control_goes : (p : Pid) (s : State) (f : Process → Process) (r : Result Pid Cond) → GoesBy p s (at_tested s (changed_process s f) r)
 control_goes p s f r = tested_goes p s (changed_process s f) r (λ q. goes_changed p q s f [] (omega arith))
 
 -- a process is to exit
-forced_goes : (p : Pid) (s : State) (code : ℕ) (q : Pid) → GoesBy p s (forced s code q)
+pub forced_goes : (p : Pid) (s : State) (code : ℕ) (q : Pid) → GoesBy p s (forced s code q)
 forced_goes p s code q =
     let ast = exit_ast (next_id s) code in
     goes_opened (run_most s p) s (forced s code q).after (forced s code q).effects (length-set s.procs (q.0 - 1) (with_queued ast (process_at s q))) refl refl (omega arith)
@@ -226,7 +209,7 @@ numbered_goes p s t part (Ok n) grows within next units few =
 numbered_goes p s t part (Err c) grows within next units few = record { grows = grows; within = within; later = omega (arith, next); soon = omega (arith, next); services = same_services s part.after units; few = omega (arith, few) }
 
 -- a process is made, where there are fewer than 1,000
-created_goes : (p : Pid) (s : State) (t : Target) (place : ℕ) → GoesBy p s (with_number p t (creprc s p place))
+pub created_goes : (p : Pid) (s : State) (t : Target) (place : ℕ) → GoesBy p s (with_number p t (creprc s p place))
 created_goes p s t place =
     let more = length-append s.procs (created s p place ∷ []) in
     either_by (λ (o : Outcome (Result ℕ Cond)). GoesBy p s (with_number p t o)) (nat_le 1000 (length s.procs)) (answered (Err NoSlot) (nothing s)) (answered (Ok (next_pid s).0) (new_part s p place))
@@ -243,7 +226,7 @@ drops_few : (ts : List Timer) (s : State) → length (each drop_timer ts s).effe
 drops_few [] s = omega arith
 drops_few (t ∷ ts) s = let rest = drops_few ts (drop_timer s t).after in omega (arith, rest)
 
-dropped_goes : (p : Pid) (s : State) (test : Timer → Bool) → GoesBy p s (answered Normal (drop_timers test s))
+pub dropped_goes : (p : Pid) (s : State) (test : Timer → Bool) → GoesBy p s (answered Normal (drop_timers test s))
 dropped_goes p s test =
     let ts = filter test s.timers in
     let few = drops_few ts s in
@@ -251,7 +234,7 @@ dropped_goes p s test =
     goes_stays (run_most s p) s (drop_timers test s).after (drop_timers test s).effects (drops_stay ts s) (omega (arith, few, fewer))
 
 -- a wake is scheduled
-scheduled_goes : (p : Pid) (s : State) (delta repeat : ℕ) (q : Pid) → GoesBy p s (scheduled s p delta repeat q)
+pub scheduled_goes : (p : Pid) (s : State) (delta repeat : ℕ) (q : Pid) → GoesBy p s (scheduled s p delta repeat q)
 scheduled_goes p s delta repeat q =
     let part = open_part s opened.Wake p None repeat (with_timer (past_id s) (new_wake s p q delta repeat)) in
     either (λ (o : Outcome Cond). GoesBy p s o) (exceeds s p (ast_need true)) (refused s ExQuota) (answered Normal part) (goes_still p s)
@@ -259,7 +242,7 @@ scheduled_goes p s delta repeat q =
 
 -- an exit handler is declared, and some are cancelled
 
-handler_goes : (p : Pid) (s : State) (tag : Entry) → GoesBy p s (dclexh s p tag)
+pub handler_goes : (p : Pid) (s : State) (tag : Entry) → GoesBy p s (dclexh s p tag)
 handler_goes p s tag =
     let part = handler_declared s p tag in
     either (λ (o : Outcome Cond). GoesBy p s o) (is_kernel (current s p)) (refused s IvSsRq) (answered Normal part) (goes_still p s)
@@ -286,118 +269,9 @@ cancelled_goes p s None =
     goes_stays (run_most s p) s (drop_handlers s p test).after (drop_handlers s p test).effects (handlers_stay p hs s) (omega (arith, few, fewer))
 cancelled_goes p s (Some tag) = found_goes p s (find (is_handler_with (current s p) tag) (process_at s p).handlers)
 
-canexh_goes : (p : Pid) (s : State) (tag : Option Entry) → GoesBy p s (canexh s p tag)
+pub canexh_goes : (p : Pid) (s : State) (tag : Option Entry) → GoesBy p s (canexh s p tag)
 canexh_goes p s tag = either (λ (o : Outcome Cond). GoesBy p s o) (is_kernel (current s p)) (refused s IvSsRq) (cancel_handlers s p tag) (goes_still p s) (cancelled_goes p s tag)
-
-service_goes : (p : Pid) (s : State) (a : Args) (v : Service) → is_built_service v ≡ true → GoesBy p s (service_of s p a v)
-service_goes p s a SetEf built = flag_goes p s (number a.a0) (refused s) (put_flag_at s true) (λ c. goes_still p s) (put_goes p s true)
-service_goes p s a ClrEf built = flag_goes p s (number a.a0) (refused s) (put_flag_at s false) (λ c. goes_still p s) (put_goes p s false)
-service_goes p s a ReadEf built = let quiet = quiet_read s p (number a.a0) in read_goes p s (place a.a1) (readef s p (number a.a0)) (readef s p (number a.a0)).answer quiet.0 quiet.1
-service_goes p s a WaitFr built = masked_goes p s (number a.a0) (2 ^ (number a.a0 % 32)) false
-service_goes p s a WflOr built = masked_goes p s (number a.a0) (number a.a1) false
-service_goes p s a WflAnd built = masked_goes p s (number a.a0) (number a.a1) true
-service_goes p s a AscEfc built =
-    let efn = number a.a0 in
-    let name = text a.a1 in
-    let perm = number a.a2 in
-    let pr = process_at s p in
-    subst (λ (o : Outcome Cond). GoesBy p s o) (associates s p efn name perm) (common_goes p s _ (associate_few s.common p pr.group efn name (not (perm == 0)) pr.privs.prmceb))
-service_goes p s a DacEfc built =
-    let efn = number a.a0 in
-    let few = dissociate_few s.common p efn in
-    subst (λ (o : Outcome Cond). GoesBy p s o) (dissociates s p efn) (common_goes p s _ (omega (arith, few)))
-service_goes p s a DlcEfc built =
-    let name = text a.a0 in
-    let pr = process_at s p in
-    let few = mark_few s.common pr.group name pr.privs.prmceb in
-    subst (λ (o : Outcome Cond). GoesBy p s o) (marks s p name) (common_goes p s _ (omega (arith, few)))
-service_goes p s a DclAst built =
-    let mode = outer (access_mode a.a2) (current s p) in
-    let tag = routine s p a.a0 (number a.a1) in
-    either (λ (o : Outcome Cond). GoesBy p s o) (exceeds s p (ast_need true)) (refused s ExQuota) (answered Normal (declared_ast s p mode tag)) (goes_still p s) (declared_goes p s mode tag)
-service_goes p s a SetAst built =
-    let mode = current s p in
-    let on = not (number a.a0 == 0) in
-    goes_changed p p s (with_delivery mode on) (effect.Enb p mode on ∷ []) (omega arith)
-service_goes p s a CmExec built =
-    let tag = routine s p a.a0 (number a.a1) in
-    either (λ (o : Outcome Cond). GoesBy p s o) _ _ _ (goes_changed p p s (with_frame (new_frame s p kind.Change (inner (current s p) Exec) tag 0)) [] (omega arith)) (goes_still p s)
-service_goes p s a CmKrnl built =
-    let tag = routine s p a.a0 (number a.a1) in
-    either (λ (o : Outcome Cond). GoesBy p s o) _ _ _ (goes_changed p p s (with_frame (new_frame s p kind.Change Kernel tag 0)) [] (omega arith)) (goes_still p s)
-service_goes p s a SetImr built =
-    flag_goes p s (number a.a0) (refused s) (setimr_at s p (number a.a0) (number a.a1) (routine_or_none s p a.a2 (number a.a3)) (number a.a3)) (λ c. goes_still p s) (set_goes p s (number a.a0) (number a.a1) (routine_or_none s p a.a2 (number a.a3)) (number a.a3))
-service_goes p s a CanTim built = dropped_goes p s (is_cancelled_timer p (number a.a0) (outer (access_mode a.a1) (current s p)))
-service_goes p s a SchdWk built = tested_goes p s (scheduled s p (number a.a1) (number a.a2)) (process_test s p (number a.a0)) (scheduled_goes p s (number a.a1) (number a.a2))
-service_goes p s a CanWak built = tested_goes p s (unscheduled s) (process_test s p (number a.a0)) (λ q. dropped_goes p s (is_wake_for q))
-service_goes p s a GetTim built = goes_changed p p s (with_variable (place a.a0) (gettim s)) (effect.Var p (place a.a0) (gettim s) ∷ []) (omega arith)
-service_goes p s a Hiber built =
-    either (λ (o : Outcome Served). GoesBy p s o) (process_at s p).wake_pending (answered (Answered Normal) (nothing (change s p (with_wake false)))) (answered Waits (nothing (change s p (with_wait (Some wait.Hiber)))))
-    (goes_changed p p s (with_wake false) [] (omega arith)) (goes_changed p p s (with_wait (Some wait.Hiber)) [] (omega arith))
-service_goes p s a Wake built = control_goes p s (with_wake true) (process_test s p (number a.a0))
-service_goes p s a Suspnd built = control_goes p s (with_suspension true) (process_test s p (number a.a0))
-service_goes p s a Resume built = control_goes p s (with_suspension false) (process_test s p (number a.a0))
-service_goes p s a ForceX built = tested_goes p s (forced s (number a.a1)) (process_test s p (number a.a0)) (forced_goes p s (number a.a1))
-service_goes p s a CrePrc built = created_goes p s (place a.a0) (decl_place s (text a.a1))
-service_goes p s a Exit built =
-    let few = exited_few s p (number a.a0) in exited_goes p s (number a.a0) (exited s p (number a.a0)).effects (omega (arith, few))
-service_goes p s a DclExh built = handler_goes p s (routine s p a.a0 0)
-service_goes p s a CanExh built = canexh_goes p s (routine_or_none s p a.a0 0)
-service_goes p s a _ built = absurd (cc)
-
-pub call_goes : (p : Pid) (s : State) (c : Call) → is_built_service c.service ≡ true → GoesBy p s (service s p c)
-call_goes p s c built = service_goes p s c.args c.service built
-
--- RUN.
-
-served_goes : (p : Pid) (s : State) (c : Call) (o : Outcome Served) (answer : Served) → GoesBy p s o → GoesBy p s (served_call p c o answer)
-served_goes p s c o (Answered cond) h = goes_on (run_most s p) p s o.after (with_variable target.R0 _) o.effects h
-served_goes p s c o Waits h = h
-
-returned_from_goes : (p : Pid) (s : State) (f : Frame) (k : FrameKind) → GoesBy p s (returned_from s p f k)
-returned_from_goes p s f kind.Main = let few = exited_few s p (r0_of s p) in exited_goes p s (r0_of s p) (exited s p (r0_of s p)).effects (omega (arith, few))
-returned_from_goes p s f (kind.Ast id) = goes_changed p p s (put_back f.saved_r0) (effect.Leave id ∷ []) (omega arith)
-returned_from_goes p s f kind.Change = goes_changed p p s below_top [] (omega arith)
-returned_from_goes p s f kind.Handler = goes_changed p p s below_top [] (omega arith)
-
-returned_goes : (p : Pid) (s : State) (fs : List Frame) → GoesBy p s (returned s p fs)
-returned_goes p s [] = goes_still p s
-returned_goes p s (f ∷ fs) = returned_from_goes p s f f.kind
 
 pub top_few : (f : Frame → Frame) (fs : List Frame) → length (with_top f fs) ≤ length fs
 top_few f [] = omega arith
 top_few f (x ∷ xs) = omega arith
-
-top_most : (p : Pid) (s : State) (f : Process → Process) → IsProcess s p → length (f (process_at s p)).frames ≤ length (process_at s p).frames → length (f (process_at s p)).handlers ≤ length (process_at s p).handlers → run_most (change s p f) p ≤ run_most s p
-top_most p s f made few handlers = let at = process_there s p f made in omega (arith, few, handlers, ap (λ (pr : Process). length pr.frames) at, ap (λ (pr : Process). length pr.handlers) at)
-
-run_on_goes : (p : Pid) (s t : State) (n : ℕ) (x : Stop) → IsBuiltStop (image_of s p) n x → IsProcess t p → GoesBy p t (run_on t p n x)
-run_on_goes p s t n (stop.Call c) built made =
-    let u = change t p (moved_behind n) in
-    goes_after p t u _ _ (stays_changed t p (moved_behind n)) (top_most p t (moved_behind n) made (top_few _ (process_at t p).frames) (omega arith)) (served_goes p u c (service u p c) (service u p c).answer (call_goes p u c built.0))
-run_on_goes p s t n stop.Return built made = returned_goes p t (process_at t p).frames
-run_on_goes p s t n stop.End built made = returned_goes p t (process_at t p).frames
-run_on_goes p s t n stop.Local built made = goes_still p t
-
-run_frame_goes : (p : Pid) (s : State) (f : Frame) (o : Option Wait) → IsTrue (is_built s.system) → IsProcess s p → GoesBy p s (run_frame s p f o)
-run_frame_goes p s f None built made =
-    let a = advanced (image_of s p) (reader p f) (process_at s p).store f.pc in
-    let t = change s p (moved_to a.store a.place) in
-    let moved = stays_changed s p (moved_to a.store a.place) in
-    goes_after p s t _ _ moved (top_most p s (moved_to a.store a.place) made (top_few _ (process_at s p).frames) (omega arith)) (run_on_goes p s t a.place a.stop (advanced_built s p (reader p f) (process_at s p).store f.pc built) (made_stays p s t moved made))
-run_frame_goes p s f (Some w) built made = goes_changed p p s (resumed_with w (or_normal (wait_condition s p w))) [] (omega arith)
-
-pub run_goes : (p : Pid) (s : State) (fs : List Frame) → IsTrue (is_built s.system) → IsProcess s p → GoesBy p s (run s p fs)
-run_goes p s [] built made = goes_still p s
-run_goes p s (f ∷ fs) built made = run_frame_goes p s f f.wait built made
-
--- AST.
-
-started_goes : (p : Pid) (s : State) (q : Queued) (tag : Entry) → Goes (run_most s p) s (started s p q tag).after (started s p q tag).effects
-started_goes p s q (entry.Exit code) = let few = exited_few s p code in exited_goes p s code (effect.Leave q.id ∷ (exited s p code).effects) (omega (arith, few))
-started_goes p s q (entry.Label k prm) = goes_changed p p s (with_frame (new_frame s p (kind.Ast q.id) q.mode (entry.Label k prm) (r0_of s p))) [] (omega arith)
-started_goes p s q (entry.Host prm) = goes_changed p p s (with_frame (new_frame s p (kind.Ast q.id) q.mode (entry.Host prm) (r0_of s p))) [] (omega arith)
-
-pub delivered_goes : (p : Pid) (s : State) (o : Option Queued) → IsProcess s p → GoesBy p s (delivered s p o)
-delivered_goes p s None made = goes_still p s
-delivered_goes p s (Some q) made = let t = change s p (without_ast q.id) in goes_after p s t _ _ (stays_changed s p (without_ast q.id)) (top_most p s (without_ast q.id) made (omega arith) (omega arith)) (started_goes p t q q.tag)

@@ -1,4 +1,5 @@
 pub mod Asks
+pub mod Called
 pub mod Calls
 pub mod Cancels
 pub mod Down
@@ -7,7 +8,7 @@ pub mod Ends
 pub mod Few
 pub mod Fired
 pub mod Goes
-pub mod Kept
+pub mod Open
 pub mod Ready
 pub mod Running
 pub mod Runs

@@ -25,18 +25,19 @@ use Rattle.vx_record.proofs.SoundCalls.{all_from_list}
 use Rattle.vx_record.proofs.SoundSteps.{first_sound, step_sound}
 use Rattle.vx_record.proofs.SystemKept.{step_keeps_system}
 use Rattle.vx_procs.specs.Kernel.{Fits, Kernel}
-use Rattle.vx_procs.specs.Ready.{HasHandlerRoom}
+use Rattle.vx_procs.specs.Ready.{HasHandlerRoom, IsBare}
 use Rattle.vx_io.specs.Finishing.{AreRequests}
 use Rattle.vx_rundown.specs.Leaving.{IsLeaving}
+use Rattle.vx_rundown.proofs.Standing.{own_handlers_at, own_ids_at, unit_channels}
 use Rattle.vx_exec.specs.Built.{is_built}
 use Rattle.vx_exec.specs.Ready.{HasBegun, HasOwner, IsIdle, IsNext, IsOpen, IsReadyFor, IsRoomMade, most}
 use Rattle.vx_exec.specs.Sound.{IsGoing, IsWhole}
 use Rattle.vx_exec.proofs.Down.{rundown_goes}
 use Rattle.vx_exec.proofs.Enabled.{enabled_owned}
 use Rattle.vx_exec.proofs.Ends.{beg_goes, don_goes}
-use Rattle.vx_exec.proofs.Kept.{left_at, no_requests, own_handlers_at, own_ids_at}
 use Rattle.vx_exec.proofs.Fired.{tick_goes}
-use Rattle.vx_exec.proofs.Goes.{Goes, delivered_goes, run_goes}
+use Rattle.vx_exec.proofs.Called.{IsOnUnits, delivered_goes, run_goes}
+use Rattle.vx_exec.proofs.Goes.{Goes}
 
 -- the image of a process of a well formed system
 decl_image : (s : State) (p : Pid) → IsWellFormed s.system → (process_at s p).decl < length s.system.decls → (decl_of s p).image < length s.system.images
@@ -49,6 +50,10 @@ decl_image s p formed declared =
 image_formed : (s : State) (p : Pid) → IsWellFormed s.system → IsImage (image_of s p)
 image_formed s p formed =
     (decl_names s.system, all_get (λ (i : Image). is_image (decl_names s.system) i ≡ true) s.system.images (decl_of s p).image no_image refl (all_from_list (is_image (decl_names s.system)) s.system.images formed.images))
+
+-- requests stand
+requests_of : (s : State) → IsWhole s → AreRequests s
+requests_of s whole = record { stand = whole.sound.requests; order = whole.sound.request_ids }
 
 next_of : (k : Kernel) (e : Event) (p : Pid) (limit taken : ℕ) → IsGoing k.state limit taken → IsProcess k.state p → HasBegun k e → HasHandlerRoom k p → IsNext k p
 next_of k e p limit taken going made begun handler =
@@ -74,6 +79,8 @@ next_of k e p limit taken going made begun handler =
         };
         built = whole.built;
         decls = leb-true (length k.state.system.decls) 1000 whole.formed.few_decls;
+        units = leb-true (length k.state.system.units) 32 whole.formed.few_units;
+        opened = record { channels = stands.channels; requests = requests_of k.state whole };
         order = whole.sound.timer_ids;
         handler_ids = own_handlers_at k.state p whole.sound made;
       };
@@ -89,16 +96,11 @@ leaving_of k e p limit taken going owner begun =
       made = owner.made;
       declared = stands.decl;
       image = decl_image k.state p whole.formed stands.decl;
-      left = left_at k.state p whole.sound owner begun.bare.boxes;
-      order = whole.sound.timer_ids;
+      idle = owner.idle;
+      sound = whole.sound;
       spares = begun.spares;
-      requests = no_requests k.state whole begun.bare.boxes;
       bare = begun.bare;
     }
-
--- requests stand
-requests_of : (s : State) → IsWhole s → AreRequests s
-requests_of s whole = record { stand = whole.sound.requests; order = whole.sound.request_ids }
 
 pub ready_for : (k : Kernel) (e : Event) (limit taken : ℕ) → IsGoing k.state limit taken → HasOwner k.state e → IsRoomMade k e → IsReadyFor k e
 ready_for k (event.Run p) limit taken going made begun = next_of k (event.Run p) p limit taken going made begun begun.handler
@@ -112,8 +114,11 @@ ready_for k (event.Don u) limit taken going serves begun =
 
 -- Each step.
 
+on_units : (s : State) (p : Pid) → IsWhole s → IsProcess s p → IsBare s → IsOnUnits s p
+on_units s p whole made bare = record { rows = unit_channels s (process_at s p).channels bare.boxes (stands_at s p whole.sound made).channels; attention = bare.attention }
+
 step_goes : (k : Kernel) (e : Event) → IsWhole k.state → HasOwner k.state e → IsRoomMade k e → Goes (most k.state e) k.state (step k.state e).after (step k.state e).effects
-step_goes k (event.Run p) whole made begun = run_goes p k.state (process_at k.state p).frames whole.built made
+step_goes k (event.Run p) whole made begun = run_goes p k.state (process_at k.state p).frames whole.built made (on_units k.state p whole made begun.bare)
 step_goes k (event.Ast p) whole made begun = delivered_goes p k.state (deliverable_ast k.state p) made
 step_goes k (event.Rdn p) whole owner begun = rundown_goes p k.state begun.bare.attention owner.made
 step_goes k event.Tick whole made begun = tick_goes k.state

@@ -6,6 +6,7 @@ use Rattle.vx_base.specs.Cond.{number_of}
 use Rattle.vx_base.specs.Modes.{rank, reaches}
 use Rattle.vx_base.specs.Pieces.{Enables, Handler, Queued, is_enabled_in}
 use Rattle.vx_base.specs.Queues.{deliverable, first_of_mode, is_free, is_of_mode, may_start, or_else}
+use Rattle.vx_base.specs.declared.call.Args.{Args}
 use Rattle.vx_base.specs.declared.call.Call.{Call}
 use Rattle.vx_base.specs.declared.cond.Cond.{Cond}
 use Rattle.vx_base.specs.declared.frame.Frame.{Frame}
@@ -32,7 +33,8 @@ use Rattle.vx_record.specs.Parts.{Outcome, Part, answered, nothing}
 use Rattle.vx_record.specs.Asts.{deliverable_ast, deliverable_at}
 use Rattle.vx_record.specs.Events.{called, delivered, moved_to, r0_of, reader, returned, returned_from, run, run_advanced, run_frame, run_on, served_call, started, with_r0}
 use Rattle.vx_record.specs.Rundown.{exited, without_ast}
-use Rattle.vx_record.specs.Services.{at_once, service}
+use Rattle.vx_record.specs.Requests.{Asked, qio, qiow}
+use Rattle.vx_record.specs.Services.{asked, at_once, number, routine_or_none, service, service_of}
 use Rattle.vx_record.specs.Timers.{setimr}
 use Rattle.vx_record.specs.declared.served.Served.{Served}
 use Rattle.vx_record.specs.declared.served.Served.TheVariants.{Answered, Waits}
@@ -43,11 +45,18 @@ use Rattle.vx_procs.specs.Kernel.{Acts, Does, DoesQuietly, Fits, Kernel, changed
 use Rattle.vx_procs.specs.Words.{advanced_at, advanced_from, handlers_have_own_ids, moved_as, without_started}
 use Rattle.vx_procs.proofs.Rest as rest
 use Rattle.vx_rundown.proofs.Changed.{made_still, process_there}
+use Rattle.vx_base.specs.declared.service.Service.TheVariants.{Qio, QioW}
+use Rattle.vx_io.specs.Asking.{asked as given}
+use Rattle.vx_io.specs.declared.asking.Asking.{Asking}
+use Rattle.vx_exec.specs.Asked.{asking_of}
 use Rattle.vx_exec.specs.Built.{IsBuiltCall, is_built, is_built_service}
 use Rattle.vx_exec.specs.Ready.{IsSet, started_as}
 use Rattle.vx_exec.proofs.Calls.{IsBuiltStop, advanced_built}
 use Rattle.vx_procs.proofs.Firsts.{less_few}
-use Rattle.vx_exec.proofs.Goes.{call_goes, top_few}
+use Rattle.vx_rundown.proofs.Standing.{unit_channels}
+use Rattle.vx_exec.proofs.Called.{IsOnUnits, call_goes}
+use Rattle.vx_exec.proofs.Goes.{top_few}
+use Rattle.vx_exec.proofs.Open.{open_changed}
 
 pub told_none : (k : Kernel) → k ≡ told k []
 told_none k = rest.told_none k
@@ -60,6 +69,17 @@ once o c k l h = record { answers = ap Answered h.answers; leaves = h.leaves }
 
 pub timer_call : (k l : Kernel) (p : Pid) (efn efn' delta delta' : ℕ) (tag tag' : Option Entry) (reqid reqid' : ℕ) (cond : Cond) → efn ≡ efn' → delta ≡ delta' → tag ≡ tag' → reqid ≡ reqid' → Does (setimr k.state p efn delta tag reqid) cond k l → Does (at_once (setimr k.state p efn' delta' tag' reqid')) (Answered cond) k l
 timer_call k l p efn efn' delta delta' tag tag' reqid reqid' cond a b c d h = rw (← a, ← b, ← c, ← d) (once (setimr k.state p efn delta tag reqid) cond k l h)
+
+-- What a call of $QIO or $QIOW asks is what its arguments say.
+
+pub asked_same : (s : State) (p : Pid) (a : Args) (q : Asking) (tag : Option Entry) → q ≡ asking_of a → tag ≡ routine_or_none s p a.a4 (number a.a5) → given q tag ≡ asked s p a
+asked_same s p a q tag what routine = ap (λ (x : Asking). given x tag) what ∙ ap (λ (o : Option Entry). given (asking_of a) o) routine
+
+pub asked_once : (k l : Kernel) (p : Pid) (a : Args) (q : Asked) (cond : Cond) → q ≡ asked k.state p a → Does (qio k.state p q) cond k l → Does (service_of k.state p a Qio) (Answered cond) k l
+asked_once k l p a q cond same h = subst (λ (x : Asked). Does (at_once (qio k.state p x)) (Answered cond) k l) same (once (qio k.state p q) cond k l h)
+
+pub asked_waits : (k l : Kernel) (p : Pid) (a : Args) (q : Asked) (answer : Served) → q ≡ asked k.state p a → Does (qiow k.state p q) answer k l → Does (service_of k.state p a QioW) answer k l
+asked_waits k l p a q answer same h = subst (λ (x : Asked). Does (qiow k.state p x) answer k l) same h
 
 -- A call.
 
@@ -138,8 +158,8 @@ pub record IsFewer (x y : Process) : Type 0 where
   pub frames : length y.frames ≤ length x.frames
   pub asts : length y.asts ≤ length x.asts
 
-pub set_changed : (k l : Kernel) (p : Pid) (f : Process → Process) → IsSet k p → l ≡ changed k p f → (f (process_at k.state p)).handlers ≡ (process_at k.state p).handlers → (f (process_at k.state p)).decl ≡ (process_at k.state p).decl → IsFewer (process_at k.state p) (f (process_at k.state p)) → IsSet l p
-set_changed k l p f set there handlers decl fewer =
+pub set_changed : (k l : Kernel) (p : Pid) (f : Process → Process) → IsSet k p → l ≡ changed k p f → (f (process_at k.state p)).handlers ≡ (process_at k.state p).handlers → (f (process_at k.state p)).decl ≡ (process_at k.state p).decl → (f (process_at k.state p)).channels ≡ (process_at k.state p).channels → IsFewer (process_at k.state p) (f (process_at k.state p)) → IsSet l p
+set_changed k l p f set there handlers decl channels fewer =
     let s = k.state in
     let t = change s p f in
     let ready = set.ready in
@@ -170,6 +190,8 @@ set_changed k l p f set there handlers decl fewer =
       };
       built = set.built;
       decls = set.decls;
+      units = set.units;
+      opened = open_changed s p f decl channels set.opened;
       order = set.order;
       handler_ids = subst (λ (hs : List Handler). IsTrue (handlers_have_own_ids hs)) (sym declared) set.handler_ids;
     } in
@@ -177,11 +199,12 @@ set_changed k l p f set there handlers decl fewer =
 
 pub set_moved : (k l : Kernel) (p : Pid) (store : Storage) (place : ℕ) → IsSet k p → l ≡ changed k p (moved_to store place) → IsSet l p
 set_moved k l p store place set there =
-    set_changed k l p (moved_to store place) set there refl refl (record { frames = top_few _ (process_at k.state p).frames; asts = omega arith })
+    set_changed k l p (moved_to store place) set there refl refl refl (record { frames = top_few _ (process_at k.state p).frames; asts = omega arith })
 
 pub call_made : (k l : Kernel) (p : Pid) (c : Call) (s : Served) → IsSet k p → is_built_service c.service ≡ true → Does (service k.state p c) s k l → IsProcess l.state p
 call_made k l p c s set built did =
-    let goes = call_goes p k.state c built in
+    let on : IsOnUnits k.state p = record { rows = unit_channels k.state (process_at k.state p).channels set.ready.bare.boxes set.opened.channels; attention = set.ready.bare.attention } in
+    let goes = call_goes p k.state c built on in
     subst (λ (x : Kernel). IsProcess x.state p) (sym did.leaves) (record { above = set.ready.made.above; within = omega (arith, set.ready.made.within, goes.grows) })
 
 -- The top frame goes on, where it waits for nothing.
@@ -229,6 +252,10 @@ fewer_asts : (o : Option Queued) (pr : Process) → length (without_started o pr
 fewer_asts None pr = omega arith
 fewer_asts (Some q) pr = less_few _ pr.asts
 
+same_channels : (o : Option Queued) (pr : Process) → (without_started o pr).channels ≡ pr.channels
+same_channels None pr = refl
+same_channels (Some q) pr = refl
+
 same_handlers : (o : Option Queued) (pr : Process) → (without_started o pr).handlers ≡ pr.handlers
 same_handlers None pr = refl
 same_handlers (Some q) pr = refl
@@ -237,7 +264,7 @@ pub set_taken : (k l : Kernel) (p : Pid) → IsSet k p → l ≡ changed k p (wi
 set_taken k l p set there =
     let o = deliverable_ast k.state p in
     let pr = process_at k.state p in
-    set_changed k l p (without_started o) set there (same_handlers o pr) (same_decl o pr) (record { frames = omega (arith, ap length (same_frames o pr)); asts = fewer_asts o pr })
+    set_changed k l p (without_started o) set there (same_handlers o pr) (same_decl o pr) (same_channels o pr) (record { frames = omega (arith, ap length (same_frames o pr)); asts = fewer_asts o pr })
 
 -- it is in a mode that is not further out than that of the process
 

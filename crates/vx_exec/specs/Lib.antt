@@ -1,3 +1,4 @@
+pub mod Asked
 pub mod Built
 pub mod Picks
 pub mod Ready

@@ -13,6 +13,7 @@ use Rattle.vx_record.specs.State.{State, IsProcess, process_at, unit_at}
 use Rattle.vx_record.specs.Events.{started, step}
 use Rattle.vx_record.specs.Parts.{Part}
 use Rattle.vx_record.specs.Sound.{AreOrdered, WaitsStand, timer_id}
+use Rattle.vx_io.specs.Asking.{AreOpen}
 use Rattle.vx_io.specs.Finishing.{AreRequests}
 use Rattle.vx_procs.specs.Kernel.{Fits, IsPrepared, Kernel, opened}
 use Rattle.vx_procs.specs.Ready.{HasHandlerRoom, HasNewcomer, HasSpares, IsBare, IsReady}
@@ -20,12 +21,14 @@ use Rattle.vx_procs.specs.Words.{handlers_have_own_ids, have_own_ids}
 use Rattle.vx_rundown.specs.Leaving.{IsLeaving}
 use Rattle.vx_exec.specs.Built.{is_built}
 
--- A process is ready, in a system that the executive runs so far and that declares at most 1,000 processes; timers stand in id order, and
--- no two of its exit handlers have one id.
+-- A process is ready, in a system that the executive runs so far and that declares at most 1,000 processes and 32 units; the devices of
+-- its channels stand, and so do requests; timers stand in id order, and no two of its exit handlers have one id.
 pub record IsSet (k : Kernel) (p : Pid) : Type 0 where
   pub ready : IsReady k p
   pub built : IsTrue (is_built k.state.system)
   pub decls : length k.state.system.decls ≤ 1000
+  pub units : length k.state.system.units ≤ 32
+  pub opened : AreOpen k.state p
   pub order : AreOrdered timer_id 0 k.state.next k.state.timers
   pub handler_ids : IsTrue (handlers_have_own_ids (process_at k.state p).handlers)
 
@@ -113,6 +116,11 @@ abbrev pub IsRoomMade : Kernel → Event → Type 0
 IsRoomMade k (event.Beg u) = IsPrepared k u × (k.log.items ≡ [])
 IsRoomMade k (event.Don u) = ⊤
 IsRoomMade k other = HasBegun k other
+
+-- there is spare room for the bytes of a write, where a process runs
+abbrev pub HasBuffer : Event → Option ⊤ → Type 0
+HasBuffer (event.Run p) spare = IsSome spare
+HasBuffer other spare = ⊤
 
 -- nothing is told yet, and what an event tells fits; but a DON has a log of its own
 abbrev pub IsOpen : Kernel → Event → Type 0

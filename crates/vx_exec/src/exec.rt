@@ -1,8 +1,9 @@
 //! The executive.
 
-ghost use Rattle.std.specs.Prelude.{◌≡◌, ◌≤◌, ◌+◌, ◌↔◌, Contains, IfOk, IsOk, IsTrue, None, OnErr, OnOk, length, slice_get};
+ghost use Rattle.std.specs.Prelude.{◌≡◌, ◌<◌, ◌≤◌, ◌+◌, ◌↔◌, Contains, IfOk, IsOk, IsTrue, None, OnErr, OnOk, length, slice_get};
 ghost use Rattle.vx_image.specs.WellFormed.{IsWellFormed};
-ghost use Rattle.vx_record.specs.State.{IsProcess, decl_of, process_at};
+ghost use Rattle.vx_record.specs.State.{IsProcess, decl_of, process_at, unit_at};
+ghost use Rattle.vx_units.specs.Units.{outputs_of};
 ghost use Rattle.vx_record.specs.Events.{enabled, step};
 ghost use Rattle.vx_record.specs.Runs.{end_of, first, record_of};
 ghost use Rattle.vx_exec.specs.Built.{is_built};
@@ -12,21 +13,24 @@ ghost use Rattle.vx_exec.specs.View.{is_don, plan};
 
 use crate::events::{are_deleted, count, enabled_at, is_enabled};
 use crate::machine::step;
-use crate::room::make_room;
+use crate::room::{make_buffer, make_room};
 use crate::seed::Seed;
 use crate::standing::{Standing, standing_of};
 use std::alloc::Global;
 use std::marker::Model;
-use vx_base::{End, Event, Name, NoMemory, Pid, Rec, Routine};
+use vx_base::{Buffer, Bytes, End, Event, Name, NoMemory, Pid, Rec, Routine, UnitNo};
 use vx_image::System;
 use vx_procs::Core;
 
-/// The executive of one system: what it keeps, how many records its runs may have, and how many its steps have made.
+/// The executive of one system: what it keeps, how many records its runs may have, and how many its steps have made. Spare room for
+/// the bytes of a write is made before a process runs.
 #[derive(Drop)]
 pub struct Exec<R: Routine> {
     core: Core<R>,
     limit: u32,
     taken: u32,
+    alloc: Global,
+    spare: Option<Buffer>,
 }
 
 impl<R: Routine> Model for Exec<R> {
@@ -55,6 +59,8 @@ impl<R: Routine> Exec<R> {
             core,
             limit,
             taken: 0,
+            alloc,
+            spare: None,
         })
     }
 
@@ -108,8 +114,9 @@ impl<R: Routine> Exec<R> {
         ensures don_never_fails { IsTrue (is_don event) → IsOk result }
         ensures plan { plan self.new ≡ plan self.old }
     {
+        make_buffer(self.alloc, &mut self.spare, event)?;
         make_room(&mut self.core, event)?;
-        let answer = step(&mut self.core, event);
+        let answer = step(&mut self.core, event, &mut self.spare);
         self.taken += 1;
         Ok(Rec {
             event,
@@ -162,6 +169,21 @@ impl<R: Routine> Exec<R> {
         ensures { result ≡ length self.now.state.procs }
     {
         self.core.process_count() as u32
+    }
+
+    /// How many units there are.
+    pub fn unit_count(&self) -> u32
+        ensures { result ≡ length self.now.state.units }
+    {
+        self.core.unit_count() as u32
+    }
+
+    /// The lines that were written to a unit, oldest first; a block unit has none.
+    pub fn outputs(&self, u: UnitNo) -> &[Bytes]
+        requires { u.0 < length self.now.state.units }
+        ensures { result.now ≡ outputs_of (unit_at self.now.state u).contents }
+    {
+        self.core.outputs(u)
     }
 
     /// The name of a process, how it stands, and its exit code, 0 unless it is gone.

@@ -1,6 +1,6 @@
 //! What each event does.
 
-ghost use Rattle.std.specs.Prelude.{◌≡◌, ◌<◌, [], IsTrue};
+ghost use Rattle.std.specs.Prelude.{◌≡◌, ◌<◌, [], IsSome, IsTrue};
 ghost use Rattle.vx_base.specs.Modes.{reaches};
 ghost use Rattle.vx_base.specs.Services.{is_call};
 ghost use Rattle.vx_record.specs.State.{IsProcess, current, process_at};
@@ -11,10 +11,12 @@ ghost use Rattle.vx_record.specs.Sound.{WaitStands};
 ghost use Rattle.vx_procs.specs.Kernel.{Acts, Does, DoesQuietly, Fits};
 ghost use Rattle.vx_procs.specs.Words.{advanced_at};
 ghost use Rattle.vx_exec.specs.Built.{IsBuiltCall, is_built_service};
-ghost use Rattle.vx_exec.specs.Ready.{IsNext, IsOpen, IsReadyFor, IsSet, opened_for, started_as};
+ghost use Rattle.vx_exec.specs.Ready.{HasBuffer, IsNext, IsOpen, IsReadyFor, IsSet, opened_for, started_as};
 
 use crate::services::serve;
-use vx_base::{Answer, Call, Cond, Effect, Entry, Event, FrameKind, Id, Mode, Pid, Routine, Wait};
+use vx_base::{
+    Answer, Buffer, Call, Cond, Effect, Entry, Event, FrameKind, Id, Mode, Pid, Routine, Wait,
+};
 use vx_ctl::{tick, wait_condition};
 use vx_image::Stop;
 use vx_io::{begin, done};
@@ -43,8 +45,15 @@ fn end_wait<R: Routine>(core: &mut Core<R>, p: Pid, wait: Wait) -> Answer
 }
 
 // A service is called by the statement at a place. R0 takes its condition last.
-fn call_service<R: Routine>(core: &mut Core<R>, p: Pid, place: u32, call: Call) -> Answer
+fn call_service<R: Routine>(
+    core: &mut Core<R>,
+    p: Pid,
+    place: u32,
+    call: Call,
+    spare: &mut Option<Buffer>,
+) -> Answer
     requires set { IsSet core.old p }
+    requires spare { IsSome spare.old }
     requires built { IsTrue (is_built_service call.service) }
     requires kinds { IsTrue (is_call call) }
     requires place { place < 10000 }
@@ -52,7 +61,7 @@ fn call_service<R: Routine>(core: &mut Core<R>, p: Pid, place: u32, call: Call) 
     ensures { Does (run_on core.old.state p place (Stop.Call call)) result core.old core.new }
 {
     core.move_behind(p, place);
-    match serve(core, p, &call) {
+    match serve(core, p, &call, spare) {
         Served::Answered(cond) => {
             core.set_r0(p, cond.number());
             Answer::Service(call, cond)
@@ -89,33 +98,42 @@ fn leave<R: Routine>(core: &mut Core<R>, p: Pid) -> Answer
 }
 
 // What local statements stopped at, at a place.
-fn stop_at<R: Routine>(core: &mut Core<R>, p: Pid, place: u32, stop: Stop) -> Answer
+fn stop_at<R: Routine>(
+    core: &mut Core<R>,
+    p: Pid,
+    place: u32,
+    stop: Stop,
+    spare: &mut Option<Buffer>,
+) -> Answer
     requires set { IsSet core.old p }
+    requires spare { IsSome spare.old }
     requires built { IsBuiltCall place stop }
     requires room { Fits core.old (run_on core.old.state p place stop).effects }
     ensures { Does (run_on core.old.state p place stop) result core.old core.new }
 {
     match stop {
-        Stop::Call(call) => call_service(core, p, place, call),
+        Stop::Call(call) => call_service(core, p, place, call, spare),
         Stop::Return | Stop::End => leave(core, p),
         Stop::Local => Answer::Local,
     }
 }
 
 // The top frame, which waits for nothing, goes on.
-fn go_on<R: Routine>(core: &mut Core<R>, p: Pid) -> Answer
+fn go_on<R: Routine>(core: &mut Core<R>, p: Pid, spare: &mut Option<Buffer>) -> Answer
     requires set { IsSet core.old p }
+    requires spare { IsSome spare.old }
     requires room { Fits core.old (run_advanced core.old.state p (advanced_at core.old.state p)).effects }
     ensures { Does (run_advanced core.old.state p (advanced_at core.old.state p)) result core.old core.new }
 {
     let (place, stop) = core.run_local(p);
-    stop_at(core, p, place, stop)
+    stop_at(core, p, place, stop, spare)
 }
 
 // RUN.
 #[tactic(auto, using(crate::proofs::Running::quietly))]
-fn run<R: Routine>(core: &mut Core<R>, p: Pid) -> Answer
+fn run<R: Routine>(core: &mut Core<R>, p: Pid, spare: &mut Option<Buffer>) -> Answer
     requires next { IsNext core.old p }
+    requires spare { IsSome spare.old }
     requires room { Fits core.old (run core.old.state p (process_at core.old.state p).frames).effects }
     ensures { Does (run core.old.state p (process_at core.old.state p).frames) result core.old core.new }
 {
@@ -124,7 +142,7 @@ fn run<R: Routine>(core: &mut Core<R>, p: Pid) -> Answer
     };
     match frame.wait {
         Some(wait) => end_wait(core, p, wait),
-        None => go_on(core, p),
+        None => go_on(core, p, spare),
     }
 }
 
@@ -161,15 +179,20 @@ fn deliver<R: Routine>(core: &mut Core<R>, p: Pid) -> Answer
     Answer::Ast(id)
 }
 
-/// Does an event. Takes no memory.
-pub(crate) fn step<R: Routine>(core: &mut Core<R>, event: Event) -> Answer
+/// Does an event, with the spare room for the bytes of a write where a process runs. Takes no memory.
+pub(crate) fn step<R: Routine>(
+    core: &mut Core<R>,
+    event: Event,
+    spare: &mut Option<Buffer>,
+) -> Answer
     requires ready { IsReadyFor core.old event }
+    requires spare { HasBuffer event spare.old }
     requires open { IsOpen core.old event }
     ensures does { Does (step core.old.state event) result (opened_for core.old event) core.new }
     ensures untold { (opened_for core.old event).log.items ≡ [] }
 {
     match event {
-        Event::Run(p) => run(core, p),
+        Event::Run(p) => run(core, p, spare),
         Event::Ast(p) => deliver(core, p),
         Event::Rdn(p) => rundown_step(core, p),
         Event::Tick => Answer::Time(tick(core)),

@@ -2,12 +2,13 @@
 
 ghost use Rattle.std.specs.Prelude.{◌≡◌, ◌≤◌, IfSome, IsOk, IsSome, IsTrue, OnOk};
 ghost use Rattle.vx_base.specs.Queues.{front};
-ghost use Rattle.vx_exec.specs.Ready.{HasBegun, HasOwner, IsRoomMade, most};
+ghost use Rattle.vx_exec.specs.Ready.{HasBegun, HasBuffer, HasOwner, IsRoomMade, most};
 ghost use Rattle.vx_exec.specs.View.{is_don};
 ghost use Rattle.vx_base.specs.declared.record.Event.TheVariants.{Beg};
 
 use crate::events::process_of;
-use vx_base::{Event, NoMemory, Routine, UnitNo};
+use std::alloc::Global;
+use vx_base::{Buffer, Event, NoMemory, Routine, UnitNo};
 use vx_procs::Core;
 
 // A count that an event's effects do not exceed; None where 32 bits do not count them.
@@ -53,6 +54,31 @@ fn prepare<R: Routine>(core: &mut Core<R>, u: UnitNo) -> Result<(), NoMemory>
 {
     core.begin(0, None)?;
     core.prepare(u)
+}
+
+// Makes spare room for the bytes of a write, where there is none.
+fn make_spare(alloc: Global, spare: &mut Option<Buffer>) -> Result<(), NoMemory>
+    ensures { OnOk result (IsSome spare.new) }
+{
+    if spare.is_none() {
+        *spare = Some(Buffer::new(alloc)?);
+    }
+    Ok(())
+}
+
+/// Makes spare room for the bytes of a write before a process runs, and for no other event.
+pub(crate) fn make_buffer(
+    alloc: Global,
+    spare: &mut Option<Buffer>,
+    event: Event,
+) -> Result<(), NoMemory>
+    ensures made { OnOk result (HasBuffer event spare.new) }
+    ensures don_never_fails { IsTrue (is_don event) → IsOk result }
+{
+    match event {
+        Event::Run(_) => make_spare(alloc, spare),
+        _ => Ok(()),
+    }
 }
 
 /// Makes room for an event. A BEG is given what the end of its service needs, so a DON needs nothing, and cannot fail. Where

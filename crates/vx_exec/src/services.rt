@@ -1,20 +1,23 @@
 //! Calls of services, with the values of their arguments computed.
 
-ghost use Rattle.std.specs.Prelude.{◌≡◌, ◌<◌, ◌≤◌, IfSome, IsTrue, bytes_eq, length, option_map, position};
+ghost use Rattle.std.specs.Prelude.{◌≡◌, ◌<◌, ◌≤◌, IfSome, IsSome, IsTrue, bytes_eq, length, option_map, position};
 ghost use Rattle.vx_record.specs.Flags.{readef};
 ghost use Rattle.vx_record.specs.Parts.{nothing};
 ghost use Rattle.vx_record.specs.Timers.{gettim};
 ghost use Rattle.vx_record.specs.Control.{creprc, resume, suspnd, wake};
-ghost use Rattle.vx_record.specs.Services.{access_mode, at_once, decl_place, label_place, number, place, routine, routine_or_none, service, service_of, text, valued, with_number, with_value};
+ghost use Rattle.vx_record.specs.Channels.{assign};
+ghost use Rattle.vx_record.specs.Services.{access_mode, at_once, decl_place, function, label_place, number, place, routine, routine_or_none, service, service_of, text, valued, with_number, with_value};
 ghost use Rattle.vx_base.specs.Services.{is_call, is_of_kind};
 ghost use Rattle.vx_base.specs.declared.service.Kind.TheVariants.{Name as name_kind};
 ghost use Rattle.vx_procs.specs.Kernel.{Does, DoesQuietly, Fits};
 ghost use Rattle.vx_ctl.specs.Answers.{cond_of};
 ghost use Rattle.vx_exec.specs.Built.{is_built_service};
+ghost use Rattle.vx_exec.specs.Asked.{asking_of};
 ghost use Rattle.vx_exec.specs.Ready.{IsSet};
 
 use vx_base::{
-    Arg, Args, Call, Cond, Effect, Entry, Mode, Name, Operand, Pid, Routine, Service, Target,
+    Arg, Args, Buffer, Call, Cond, Effect, Entry, Func, Mode, Name, Operand, Pid, Routine, Service,
+    Target,
 };
 use vx_ctl::{
     Refused, ascefc, cantim, canwak, clref, cmexec, cmkrnl, creprc, dacefc, dclast, dlcefc, forcex,
@@ -22,6 +25,7 @@ use vx_ctl::{
     wflor,
 };
 use vx_image::{Image, Label, ProcDecl};
+use vx_io::{Asking, assign, cancel, dassgn, qio, qiow, synch};
 use vx_procs::Core;
 use vx_record::Served;
 use vx_rundown::{canexh, dclexh, exit};
@@ -64,6 +68,16 @@ fn access_mode(arg: &Arg) -> Mode
     match arg {
         Arg::Mode(mode) => *mode,
         _ => Mode::Kernel,
+    }
+}
+
+// The function that an argument is.
+fn function(arg: &Arg) -> Func
+    ensures { result ≡ function arg.now }
+{
+    match arg {
+        Arg::Func(func) => *func,
+        _ => Func::Read,
     }
 }
 
@@ -219,6 +233,97 @@ fn create_named<R: Routine>(core: &mut Core<R>, p: Pid, args: &Args) -> Served
     create(core, p, decl, place(&args.a0))
 }
 
+// $ASSIGN of the device of a name, in a mode: a variable takes the number of the channel.
+#[tactic(auto, using(crate::proofs::Running::told_none))]
+fn assign_device<R: Routine>(
+    core: &mut Core<R>,
+    p: Pid,
+    name: &[u8],
+    mode: Mode,
+    v: Target,
+) -> Served
+    requires set { IsSet core.old p }
+    requires room { Fits core.old (with_number p v (assign core.old.state p name.now mode)).effects }
+    ensures { Does (with_number p v (assign core.old.state p name.now mode)) result core.old core.new }
+{
+    match assign(core, p, name, mode) {
+        Ok(n) => {
+            core.tell(Effect::Var { p, v, n });
+            core.set_variable(p, v, n);
+            Served::Answered(Cond::Normal)
+        }
+        Err(cond) => Served::Answered(cond),
+    }
+}
+
+// $ASSIGN of the device that an argument names.
+fn assign_named<R: Routine>(core: &mut Core<R>, p: Pid, args: &Args) -> Served
+    requires set { IsSet core.old p }
+    requires room { Fits core.old (service_of core.old.state p args.now Service.Assign).effects }
+    ensures { Does (service_of core.old.state p args.now Service.Assign) result core.old core.new }
+{
+    let mode = access_mode(&args.a2);
+    assign_device(core, p, text(&args.a1), mode, place(&args.a0))
+}
+
+// What the arguments of a request ask, but for its AST.
+fn asking(args: &Args) -> Asking
+    ensures { result ≡ asking_of args.now }
+{
+    Asking {
+        efn: number(&args.a0),
+        chan: number(&args.a1),
+        func: function(&args.a2),
+        iosb: number(&args.a3),
+        buf: number(&args.a6),
+        len: number(&args.a7),
+        blk: number(&args.a8),
+    }
+}
+
+// The spare room for the bytes of a write.
+fn take_spare(spare: &mut Option<Buffer>) -> Buffer
+    requires { IsSome spare.old }
+{
+    match spare.take() {
+        Some(buffer) => buffer,
+        None => unreachable!(),
+    }
+}
+
+// $QIO, with the routine at a label or with none.
+fn ask<R: Routine>(core: &mut Core<R>, p: Pid, args: &Args, spare: &mut Option<Buffer>) -> Served
+    requires set { IsSet core.old p }
+    requires spare { IsSome spare.old }
+    requires room { Fits core.old (service_of core.old.state p args.now Service.Qio).effects }
+    ensures { Does (service_of core.old.state p args.now Service.Qio) result core.old core.new }
+{
+    let asked = asking(args);
+    let routine: Option<R> = routine_or_none(core, p, &args.a4, number(&args.a5));
+    let answer = qio(core, p, asked, routine, take_spare(spare));
+    Served::Answered(cond_of(answer))
+}
+
+// $QIOW, with the routine at a label or with none.
+fn ask_and_wait<R: Routine>(
+    core: &mut Core<R>,
+    p: Pid,
+    args: &Args,
+    spare: &mut Option<Buffer>,
+) -> Served
+    requires set { IsSet core.old p }
+    requires spare { IsSome spare.old }
+    requires room { Fits core.old (service_of core.old.state p args.now Service.QioW).effects }
+    ensures { Does (service_of core.old.state p args.now Service.QioW) result core.old core.new }
+{
+    let asked = asking(args);
+    let routine: Option<R> = routine_or_none(core, p, &args.a4, number(&args.a5));
+    match qiow(core, p, asked, routine, take_spare(spare)) {
+        Ok(served) => served,
+        Err(refused) => Served::Answered(refused.cond),
+    }
+}
+
 // $GETTIM: a variable takes the time.
 fn read_time<R: Routine>(core: &mut Core<R>, p: Pid, v: Target) -> Served
     requires set { IsSet core.old p }
@@ -350,10 +455,16 @@ fn delete_cluster<R: Routine>(core: &mut Core<R>, p: Pid, args: &Args) -> Served
     Served::Answered(dlcefc(core, p, name))
 }
 
-/// Does the service of a call. Its place is put behind the statement before, and R0 set after it.
+/// Does the service of a call. Its place is put behind the statement before, and R0 set after it. A request takes the spare room.
 #[tactic(auto, using(crate::proofs::Running::quietly, crate::proofs::Calls::names_second, crate::proofs::Calls::names_first))]
-pub(crate) fn serve<R: Routine>(core: &mut Core<R>, p: Pid, call: &Call) -> Served
+pub(crate) fn serve<R: Routine>(
+    core: &mut Core<R>,
+    p: Pid,
+    call: &Call,
+    spare: &mut Option<Buffer>,
+) -> Served
     requires set { IsSet core.old p }
+    requires spare { IsSome spare.old }
     requires built { IsTrue (is_built_service call.now.service) }
     requires kinds { IsTrue (is_call call.now) }
     requires room { Fits core.old (service core.old.state p call.now).effects }
@@ -389,15 +500,13 @@ pub(crate) fn serve<R: Routine>(core: &mut Core<R>, p: Pid, call: &Call) -> Serv
         Service::Exit => Served::Answered(exit(core, p, n)),
         Service::DclExh => declare_handler(core, p, args),
         Service::CanExh => cancel_handlers(core, p, args),
+        Service::Assign => assign_named(core, p, args),
+        Service::Dassgn => Served::Answered(dassgn(core, p, n)),
+        Service::Qio => ask(core, p, args, spare),
+        Service::QioW => ask_and_wait(core, p, args, spare),
+        Service::Synch => synch(core, p, n, number(&args.a1)),
+        Service::Cancel => Served::Answered(cancel(core, p, n)),
         // these are not built yet
-        Service::DelPrc
-        | Service::Assign
-        | Service::Dassgn
-        | Service::CreMbx
-        | Service::DelMbx
-        | Service::Qio
-        | Service::QioW
-        | Service::Synch
-        | Service::Cancel => unreachable!(),
+        Service::DelPrc | Service::CreMbx | Service::DelMbx => unreachable!(),
     }
 }

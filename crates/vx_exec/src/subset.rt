@@ -2,10 +2,10 @@
 
 ghost use Rattle.std.specs.Prelude.{◌≡◌};
 ghost use Rattle.std.specs.List.{list_all};
-ghost use Rattle.vx_exec.specs.Built.{are_no_units, is_built, is_built_image, is_built_service, is_built_stmt};
+ghost use Rattle.vx_exec.specs.Built.{is_built, is_built_image, is_built_service, is_built_stmt};
 
 use vx_base::Service;
-use vx_image::{Image, Stmt, System, UnitDecl};
+use vx_image::{Image, Stmt, System};
 
 fn is_built_service(service: Service) -> bool
     ensures { result ≡ is_built_service service }
@@ -39,6 +39,12 @@ fn is_built_service(service: Service) -> bool
             | Service::GetTim
             | Service::DclExh
             | Service::CanExh
+            | Service::Assign
+            | Service::Dassgn
+            | Service::Qio
+            | Service::QioW
+            | Service::Synch
+            | Service::Cancel
     )
 }
 
@@ -63,23 +69,16 @@ fn is_built_image(image: &Image) -> bool
     are_built_stmts(image.stmts.as_slice())
 }
 
-fn are_no_units(units: &[UnitDecl]) -> bool
-    ensures { result ≡ are_no_units units.now }
-{
-    units.is_empty()
-}
-
 fn are_built_images(images: &[Image]) -> bool
     ensures { result ≡ list_all is_built_image images.now }
 {
     images.iter().all(|image| is_built_image(image))
 }
 
-/// Whether the executive runs a system so far: it has no units, and its images call of the services those on event flags, common
-/// clusters and waits, ASTs and modes, timers and scheduled wakes, $EXIT and exit handlers, and those that control
-/// processes but $DELPRC.
+/// Whether the executive runs a system so far: its images call neither $DELPRC nor the services that make and delete mailboxes, $CREMBX
+/// and $DELMBX.
 pub fn is_built(system: &System) -> bool
     ensures { result ≡ is_built system.now }
 {
-    are_no_units(system.units.as_slice()) && are_built_images(system.images.as_slice())
+    are_built_images(system.images.as_slice())
 }

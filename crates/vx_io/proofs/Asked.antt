@@ -1,5 +1,5 @@
 -- What the tests of a request come to, where the channel is to a unit.
-use Rattle.std.proofs.Common.{◌≡◌, ℕ, zero, suc, ◌-◌, ◌≤◌, arith, List, [], ◌∷◌, Bool, true, false, nat_lt, replicate, if◌then◌else◌, Option, Some, None, Result, Ok, Err, is_none, is_some, option_map, slice_index_or, refl, ap, sym, subst, ◌∙◌}
+use Rattle.std.proofs.Common.{◌≡◌, ℕ, zero, suc, ◌-◌, ◌≤◌, arith, List, Bool, true, false, nat_lt, replicate, if◌then◌else◌, Option, Some, None, Result, Ok, Err, is_none, is_some, option_map, slice_index_or, refl, ap, subst, ◌∙◌}
 use Rattle.std.specs.List.{AllByRecursion}
 use Rattle.vx_base.specs.Channels.{channel_at, is_channel_number}
 use Rattle.vx_base.specs.Modes.{is_inner}

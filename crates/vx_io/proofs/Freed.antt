@@ -1,5 +1,5 @@
 -- A channel to a unit is freed behind what was cancelled on it.
-use Rattle.std.proofs.Common.{◌≡◌, ℕ, [], IsSome, Option, Some, None, Result, Ok, refl, ap, sym, subst, ◌∙◌}
+use Rattle.std.proofs.Common.{◌≡◌, ℕ, [], IsSome, Option, Some, None, Ok, refl, ap, sym, subst, ◌∙◌}
 use Rattle.vx_base.specs.Channels.{channel_at}
 use Rattle.vx_base.specs.Pieces.{Channel}
 use Rattle.vx_base.specs.declared.cond.Cond.{Cond}
@@ -9,7 +9,7 @@ use Rattle.vx_base.specs.declared.number.Pid.{Pid}
 use Rattle.vx_base.specs.declared.number.UnitNo.{UnitNo}
 use Rattle.vx_record.specs.Cancel.{cancel_channel, dassgn, dassgn_at}
 use Rattle.vx_record.specs.Channels.{channel_test, free_channel, swept_box, with_channel}
-use Rattle.vx_record.specs.Parts.{Outcome, Part, and_then, answered, at_tested}
+use Rattle.vx_record.specs.Parts.{Outcome, and_then, answered, at_tested}
 use Rattle.vx_record.specs.State.{State, IsProcess, change, process_at}
 use Rattle.vx_record.proofs.SoundRequests.{tested_channel}
 use Rattle.vx_procs.specs.Kernel.{Acts, Does, Fits, Kernel, changed, told, with_state}

@@ -1,5 +1,5 @@
 -- What cancelling requests keeps: the processes and their channels, and that there is no attention entry.
-use Rattle.std.proofs.Common.{◌≡◌, ℕ, ◌-◌, List, [], ◌∷◌, Bool, true, not, ◌&&◌, ◌==◌, nat_lt, length, length-set, Option, Some, None, refl, ◌∙◌, arith}
+use Rattle.std.proofs.Common.{◌≡◌, ◌-◌, List, [], ◌∷◌, true, not, ◌&&◌, ◌==◌, nat_lt, length, length-set, Option, Some, None, refl, ◌∙◌, arith}
 use Rattle.std.specs.List.{list_any}
 use Rattle.vx_base.specs.Pieces.{Promised, Request}
 use Rattle.vx_base.specs.declared.cond.Cond.TheVariants.{Cancel}
@@ -11,7 +11,7 @@ use Rattle.vx_base.specs.declared.request.Device.TheVariants as device
 use Rattle.vx_base.specs.declared.request.Req.{Req}
 use Rattle.vx_record.specs.Asts.{charged_ast, with_queued}
 use Rattle.vx_record.specs.Cancel.{cancel_request, cancelled_request, mark_part, withdraw}
-use Rattle.vx_record.specs.Finish.{Ending, buf_part, done_ast_part, done_flag_part, ending, fin_part, finish, iosb_part, is_read, put_status, status_of, this_request, with_stored_bytes, with_stored_status}
+use Rattle.vx_record.specs.Finish.{Ending, buf_part, done_ast_part, done_flag_part, ending, fin_part, finish, iosb_part, is_read, put_status, status_of, with_stored_bytes, with_stored_status}
 use Rattle.vx_record.specs.Flags.{cell, flag_where_named, with_local_flag}
 use Rattle.vx_record.specs.Mailboxes.{mailbox_at, mcut_part, this_message}
 use Rattle.vx_record.specs.Parts.{Part, each, nothing}

@@ -1,5 +1,5 @@
 -- One request that is cancelled: it is marked, or it finishes.
-use Rattle.std.proofs.Common.{◌≡◌, ℕ, List, [], ◌∷◌, Bool, true, false, ◌||◌, length, Option, Some, None, option_map, refl, ap, sym, ◌∙◌, arith}
+use Rattle.std.proofs.Common.{◌≡◌, ℕ, List, [], ◌∷◌, Bool, true, false, ◌||◌, length, Option, Some, option_map, refl, ap, sym, ◌∙◌, arith}
 use Rattle.std.specs.List.{find, list_any}
 use Rattle.std.proofs.lemmas.Bool.{eqb-true}
 use Rattle.vx_base.specs.Pieces.{Request}
@@ -10,7 +10,7 @@ use Rattle.vx_base.specs.declared.request.Device.{Device}
 use Rattle.vx_base.specs.declared.request.Device.TheVariants as device
 use Rattle.vx_base.specs.declared.request.Reply.{Reply}
 use Rattle.vx_record.specs.State.{State}
-use Rattle.vx_record.specs.Cancel.{cancel_request, cancelled_request, mark_part, withdraw}
+use Rattle.vx_record.specs.Cancel.{mark_part, withdraw}
 use Rattle.vx_record.specs.Finish.{ending, finish, this_request}
 use Rattle.vx_record.specs.Parts.{Part, and_then, tells}
 use Rattle.vx_record.proofs.Lists.{either_by, find_passes}

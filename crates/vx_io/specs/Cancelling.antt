@@ -1,5 +1,5 @@
 -- A request that is cancelled, and what that relies on.
-use Rattle.std.specs.Prelude.{◌≡◌, Bool, false, ◌&&◌, Option, Some, None}
+use Rattle.std.specs.Prelude.{◌≡◌, false, ◌&&◌, Option, Some, None}
 use Rattle.std.specs.List.{find}
 use Rattle.vx_base.specs.Pieces.{Request}
 use Rattle.vx_base.specs.declared.number.Id.{Id}

@@ -4,7 +4,6 @@ use Rattle.std.specs.List.{starts_with}
 use Rattle.vx_base.specs.declared.record.End.{End}
 use Rattle.vx_base.specs.declared.record.End.TheVariants.{Done, Hung, Limit}
 use Rattle.vx_image.specs.declared.unit.UnitDecl.{UnitDecl}
-use Rattle.vx_text.specs.Quote.{quote_text}
 use Rattle.vx_lines.specs.Fields.{number_of, pid_of, name_in, unit_of, text_of}
 use Rattle.vx_lines.specs.ReadEffect.{unfed}
 use Rattle.vx_lines.specs.ReadHead.{from_space}
@@ -13,17 +12,13 @@ use Rattle.vx_lines.specs.Records.{unit_name}
 use Rattle.vx_lines.specs.Words.{◌>>=◌, first_word, behind_word, second_word, third_word, fourth_word}
 use Rattle.vx_exec.specs.declared.standing.Standing.{Standing}
 use Rattle.vx_exec.specs.declared.standing.Standing.TheVariants as standing
-use Rattle.vx_journal.specs.Transcript.{standing_line, end_line}
+use Rattle.vx_journal.specs.Transcript.{standing_line, output_line, end_line}
 use Rattle.vx_journal.specs.declared.journal.Part.{Part}
 use Rattle.vx_journal.specs.declared.journal.Part.TheVariants.{Cut, Ended}
 use Rattle.vx_journal.specs.declared.trailer.TrailerLine.{TrailerLine}
 use Rattle.vx_journal.specs.declared.trailer.TrailerLine.TheVariants as trailer
 use Rattle.vx_journal.specs.declared.trailer.Place.{Place}
 use Rattle.vx_journal.specs.declared.trailer.Place.TheVariants as place
-
--- a line that a unit has put out
-abbrev pub output_line : List ℕ → List ℕ → List ℕ
-output_line name bytes = codes "OUT " ++ (name ++ 32 ∷ quote_text bytes)
 
 abbrev pub trailer_line : List UnitDecl → TrailerLine → List ℕ
 trailer_line units (trailer.Process p name standing code) = standing_line p.0 name standing code

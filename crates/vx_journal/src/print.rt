@@ -2,15 +2,17 @@
 //!
 //! Each function appends its text. If memory runs out, it may have appended the start of it.
 
-ghost use Rattle.std.specs.Prelude.{◌≡◌, ◌++◌, ◌∷◌, [], OnOk};
-ghost use Rattle.vx_lines.specs.Records.{ended_lines};
-ghost use Rattle.vx_record.specs.State.{IsProcess, process_at};
-ghost use Rattle.vx_journal.specs.Transcript.{standing_word, standing_line, process_line, process_lines, end_word, end_line, trailer_lines};
+ghost use Rattle.std.specs.Prelude.{◌≡◌, ◌<◌, ◌++◌, ◌∷◌, [], OnOk, length};
+ghost use Rattle.vx_lines.specs.Records.{ended_lines, unit_name};
+ghost use Rattle.vx_record.specs.State.{IsProcess, process_at, unit_at};
+ghost use Rattle.vx_units.specs.Units.{outputs_of};
+ghost use Rattle.vx_journal.specs.Transcript.{standing_word, standing_line, process_line, process_lines, output_line, output_lines, unit_lines, end_word, end_line, trailer_lines};
 
 use std::alloc::Global;
-use vx_base::{Bytes, End, Name, NoMemory, Pid, Scripted};
+use vx_base::{Bytes, End, Name, NoMemory, Pid, Scripted, UnitNo};
 use vx_exec::{Exec, Standing};
-use vx_lines::{print_spaced, print_spaced_num};
+use vx_lines::{print_spaced, print_spaced_num, unit_name};
+use vx_text::print_quote;
 
 fn standing_word(standing: Standing) -> &'static [u8]
     ensures { result.now ≡ standing_word standing }
@@ -79,6 +81,65 @@ fn print_processes(alloc: Global, exec: &Exec<Scripted>, out: &mut Bytes) -> Res
     Ok(())
 }
 
+/// Appends a line that a unit has put out.
+pub fn print_output(
+    alloc: Global,
+    name: &[u8],
+    bytes: &[u8],
+    out: &mut Bytes,
+) -> Result<(), NoMemory>
+    ensures { OnOk result (out.new ≡ out.old ++ (output_line name.now bytes.now ++ 10 ∷ [])) }
+{
+    out.push_all(b"OUT")?;
+    print_spaced(name, out)?;
+    out.push_all(b" ")?;
+    print_quote(alloc, out, bytes)?;
+    out.push_all(b"\n")
+}
+
+/// Appends the OUT lines of a unit.
+fn print_outputs(
+    alloc: Global,
+    name: &[u8],
+    outputs: &[Bytes],
+    out: &mut Bytes,
+) -> Result<(), NoMemory>
+    ensures { OnOk result (out.new ≡ out.old ++ ended_lines (output_lines name.now outputs.now)) }
+{
+    for bytes in outputs {
+        print_output(alloc, name, bytes.as_slice(), out)?;
+    }
+    Ok(())
+}
+
+/// Appends the OUT lines of unit u.
+fn print_unit(
+    alloc: Global,
+    exec: &Exec<Scripted>,
+    u: UnitNo,
+    out: &mut Bytes,
+) -> Result<(), NoMemory>
+    requires { u.0 < length exec.now.state.units }
+    ensures { OnOk result (out.new ≡ out.old
+        ++ ended_lines (output_lines
+        (unit_name exec.now.state.system.units u)
+        (outputs_of (unit_at exec.now.state u).contents))) }
+{
+    let name = unit_name(exec.system().units.as_slice(), u);
+    print_outputs(alloc, name, exec.outputs(u), out)
+}
+
+/// Appends the OUT lines.
+fn print_units(alloc: Global, exec: &Exec<Scripted>, out: &mut Bytes) -> Result<(), NoMemory>
+    ensures { OnOk result (out.new ≡ out.old
+        ++ ended_lines (unit_lines exec.now.state.system.units 0 exec.now.state.units)) }
+{
+    for u in 0..exec.unit_count() {
+        print_unit(alloc, exec, UnitNo(u), out)?;
+    }
+    Ok(())
+}
+
 /// Appends the line `$END`.
 pub fn print_end(alloc: Global, end: End, taken: u32, out: &mut Bytes) -> Result<(), NoMemory>
     ensures { OnOk result (out.new ≡ out.old ++ (end_line end taken ++ 10 ∷ [])) }
@@ -100,5 +161,6 @@ pub fn print_trailer(
         ++ ended_lines (trailer_lines exec.now.state end exec.now.taken)) }
 {
     print_processes(alloc, exec, out)?;
+    print_units(alloc, exec, out)?;
     print_end(alloc, end, exec.taken(), out)
 }

@@ -5,16 +5,15 @@ ghost use Rattle.vx_lines.specs.ReadRecords.{Reads};
 ghost use Rattle.vx_journal.specs.TrailerLines as spec;
 
 use crate::journal::Part;
-use crate::print::{print_end, print_standing};
+use crate::print::{print_end, print_output, print_standing};
 use std::alloc::Global;
 use vx_base::{Bytes, End, Name, NoMemory, Pid, UnitNo};
 use vx_exec::Standing;
 use vx_image::UnitDecl;
 use vx_lines::{
     LinesFail, behind_word, fed_len, first_word, fourth_word, from_space, name_of, number_of,
-    pid_of, print_spaced, second_word, text_of, third_word, unfed, unit_name, unit_of,
+    pid_of, second_word, text_of, third_word, unfed, unit_name, unit_of,
 };
-use vx_text::print_quote;
 
 /// A line of a trailer.
 #[derive(Debug, Drop)]
@@ -114,16 +113,6 @@ fn line_of(alloc: Global, units: &[UnitDecl], line: &[u8]) -> Result<Option<Trai
         return Ok(output_in(units, words, text));
     }
     Ok(end_in(words))
-}
-
-fn print_output(alloc: Global, name: &[u8], bytes: &[u8], out: &mut Bytes) -> Result<(), NoMemory>
-    ensures { OnOk result (out.new ≡ out.old ++ (spec.output_line name.now bytes.now ++ 10 ∷ [])) }
-{
-    out.push_all(b"OUT")?;
-    print_spaced(name, out)?;
-    out.push_all(b" ")?;
-    print_quote(alloc, out, bytes)?;
-    out.push_all(b"\n")
 }
 
 fn print_line(

@@ -1,5 +1,5 @@
 -- A mode whose newest exit handler is entered, and one that has none.
-use Rattle.std.proofs.Common.{◌≡◌, ℕ, zero, suc, ◌-◌, List, [], ◌∷◌, ◌==◌, length, length-append, slice_index_or, slice_set, Option, Some, None, option_map, IsTrue, arith, refl, sym, ap, subst, ◌∙◌}
+use Rattle.std.proofs.Common.{◌≡◌, ℕ, zero, suc, ◌-◌, List, [], ◌∷◌, ◌==◌, length, length-append, slice_index_or, slice_set, Option, Some, None, option_map, true, IsTrue, arith, refl, sym, ap, subst, ◌∙◌}
 use Rattle.std.specs.List.{find}
 use Rattle.std.proofs.lemmas.Bool.{eqb-true}
 use Rattle.vx_base.specs.Lists.{less}
@@ -19,7 +19,8 @@ use Rattle.vx_exits.specs.Exits.{known}
 use Rattle.vx_record.proofs.Lists.{find_passes}
 use Rattle.vx_record.specs.Asts.{new_frame, with_frame}
 use Rattle.vx_record.specs.Parts.{Outcome, followed_by, part_of}
-use Rattle.vx_record.specs.Rundown.{cancel_modes, cancelled_in, draining, entered, handler_frame, handling, in_phase, is_handler_of}
+use Rattle.vx_record.proofs.Moves.{end_handler}
+use Rattle.vx_record.specs.Rundown.{cancel_modes, cancelled_in, draining, drop_handler, entered, handler_frame, handling, in_phase, is_handler_of, this_handler}
 use Rattle.vx_base.specs.declared.routine.Entry.TheVariants as entry
 use Rattle.vx_image.specs.Local.{place_of}
 use Rattle.vx_image.specs.declared.system.System.{System}
@@ -34,8 +35,9 @@ use Rattle.vx_procs.proofs.Rest.{IsAnswering, acted, answering_begun, answering_
 use Rattle.vx_rundown.specs.Leaving.{IsLeaving}
 use Rattle.vx_rundown.specs.Steps.{drained, entered_as, frame_of, passed, passed_by}
 use Rattle.vx_rundown.proofs.Changed.{process_there}
-use Rattle.vx_rundown.proofs.Left.{handler_less, leaving_acted, leaving_changed, leaving_phase}
+use Rattle.vx_rundown.proofs.Left.{handler_follows, leaving_acted, leaving_by, leaving_draining, leaving_handling}
 use Rattle.vx_rundown.proofs.Modes.{leaving_cancel}
+use Rattle.vx_rundown.proofs.Standing.{own_handlers_at}
 
 rank_same : (a b : Mode) → rank a ≡ rank b → a ≡ b
 rank_same Kernel Kernel e = refl
@@ -127,10 +129,15 @@ entered_state s p m h made found own =
 
 -- Where one was taken out.
 
-pub enter_leaving : (k l n : KernelOf) (p : Pid) (m : Mode) → IsLeaving k p → l ≡ changed k p (in_phase (phase.Handlers m)) → n ≡ changed l p (without_sought (Of m)) → IsLeaving n p
-enter_leaving k l n p m h there out =
-    let here = subst (λ (x : KernelOf). IsLeaving x p) (sym there) (leaving_phase k p (phase.Handlers m) h) in
-    subst (λ (x : KernelOf). IsLeaving x p) (sym out) (leaving_changed l p (without_sought (Of m)) (handler_less (is_handler_of m) (process_at l.state p)) here)
+pub enter_leaving : (k l n : KernelOf) (p : Pid) (m : Mode) (id : Id) (tag : Entry) → IsLeaving k p → l ≡ changed k p (in_phase (phase.Handlers m)) → Some (id, tag) ≡ option_map known (find (is_sought (Of m)) (process_at l.state p).handlers) → n ≡ changed l p (without_sought (Of m)) → IsLeaving n p
+enter_leaving k l n p m id tag h there found out =
+    let here = subst (λ (x : KernelOf). IsLeaving x p) (sym there) (leaving_handling k p m h) in
+    let hs = (process_at l.state p).handlers in
+    let f = found_known (find (is_handler_of m) hs) id tag found in
+    let ends = drop_handler p l.state f.handler in
+    let left = leaving_by true l p ends.effects ends.after (end_handler l.state p (is_handler_of m) f.handler here.made f.there) (handler_follows p l.state f.handler) here in
+    let same : less (this_handler f.handler.id) hs ≡ less (is_handler_of m) hs = less_own (λ (x : Handler). x.id) (is_handler_of m) hs f.handler (own_handlers_at l.state p here.sound here.made) f.there in
+    subst (λ (x : KernelOf). IsLeaving x p) (sym out) (subst (λ (xs : List Handler). IsLeaving (changed l p (λ pr. record pr { handlers = xs })) p) same left)
 
 pub enter_room : (k l n : KernelOf) (p : Pid) (m : Mode) (id : Id) (tag : Entry) → IsLeaving k p → l ≡ changed k p (in_phase (phase.Handlers m)) → Some (id, tag) ≡ option_map known (find (is_sought (Of m)) (process_at l.state p).handlers) → n ≡ changed l p (without_sought (Of m)) → Fits k (passed p m k.state).effects → Fits n (effect.Enter id ∷ [])
 enter_room k l n p m id tag h there found out room =
@@ -142,8 +149,8 @@ enter_done k l n q p m id tag x h there found out did =
     let f = newest k l p m id tag h.made there found in
     let t = handling p m k.state in
     let u = change t p (without_sought (Of m)) in
-    let made : IsProcess t p = (leaving_phase k p (phase.Handlers m) h).made in
-    let left = (leaving_phase k p (phase.Handlers m) h).left in
+    let begun = leaving_handling k p m h in
+    let made : IsProcess t p = begun.made in
     let at : find (is_handler_of m) (process_at t p).handlers ≡ Some f.handler = ap (λ (pr : Process). find (is_handler_of m) pr.handlers) (process_there k.state p (in_phase (phase.Handlers m)) h.made) ∙ f.there in
     let whole : passed p m k.state ≡ passed_by p m (Some f.handler) t = ap (λ (o : Option Handler). passed_by p m o t) f.there in
     let told_as : Id → State → KernelOf = λ i s. told (with_state k s) (effect.Enter i ∷ []) in
@@ -151,7 +158,7 @@ enter_done k l n q p m id tag x h there found out did =
     did.leaves ∙ (ap (λ (y : KernelOf). acted y (part_of (entered_as y.state p id m tag))) out ∙ ap (λ (y : KernelOf). let z = changed y p (without_sought (Of m)) in acted z (part_of (entered_as z.state p id m tag))) there) in
     let is : Does (passed_by p m (Some f.handler) t) (Some x) k q = record {
       answers = ap (λ (y : Answer). Some y) did.answers;
-      leaves = here ∙ (ap (λ (i : Id). told_as i (change u p (with_frame (frame_of u p m tag)))) (sym f.id) ∙ (ap (λ (y : Entry). told_as f.handler.id (change u p (with_frame (frame_of u p m y)))) (sym f.tag) ∙ ap (told_as f.handler.id) (entered_state t p m f.handler made at left.handler_ids)));
+      leaves = here ∙ (ap (λ (i : Id). told_as i (change u p (with_frame (frame_of u p m tag)))) (sym f.id) ∙ (ap (λ (y : Entry). told_as f.handler.id (change u p (with_frame (frame_of u p m y)))) (sym f.tag) ∙ ap (told_as f.handler.id) (entered_state t p m f.handler made at (own_handlers_at t p begun.sound made))));
     } in
     subst (λ (o : Outcome (Option Answer)). Does o (Some x) k q) (sym whole) is
 
@@ -163,7 +170,7 @@ none_in k l p m h there found =
     ap (λ (o : Option Handler). passed_by p m o (handling p m k.state)) none
 
 pub pass_begun : (k l n : KernelOf) (p : Pid) (m : Mode) → IsLeaving k p → l ≡ changed k p (in_phase (phase.Handlers m)) → n ≡ l → IsLeaving n p
-pass_begun k l n p m h there kept = subst (λ (x : KernelOf). IsLeaving x p) (sym (kept ∙ there)) (leaving_phase k p (phase.Handlers m) h)
+pass_begun k l n p m h there kept = subst (λ (x : KernelOf). IsLeaving x p) (sym (kept ∙ there)) (leaving_handling k p m h)
 
 pub cancel_room : (k l n : KernelOf) (p : Pid) (m : Mode) → IsLeaving k p → l ≡ changed k p (in_phase (phase.Handlers m)) → None ≡ option_map known (find (is_sought (Of m)) (process_at l.state p).handlers) → n ≡ l → Fits k (passed p m k.state).effects → Fits n (cancel_modes n.state p m).effects
 cancel_room k l n p m h there found kept room =
@@ -186,7 +193,7 @@ drained_at k l n o r p m there kept did drains =
 pub drain_leaving : (k l n o r : KernelOf) (p : Pid) (m : Mode) → IsLeaving k p → l ≡ changed k p (in_phase (phase.Handlers m)) → n ≡ l → Acts (cancel_modes n.state p m) n o → r ≡ changed o p (in_phase (phase.Draining m)) → IsLeaving r p
 drain_leaving k l n o r p m h there kept did drains =
     let here = leaving_acted n o p (cancel_modes n.state p m) did (leaving_cancel p m n (pass_begun k l n p m h there kept)) in
-    subst (λ (x : KernelOf). IsLeaving x p) (sym drains) (leaving_phase o p (phase.Draining m) here)
+    subst (λ (x : KernelOf). IsLeaving x p) (sym drains) (leaving_draining o p m here)
 
 pub cancel_made : (k l n o : KernelOf) (p : Pid) (m : Mode) → IsLeaving k p → l ≡ changed k p (in_phase (phase.Handlers m)) → n ≡ l → Acts (cancel_modes n.state p m) n o → IsProcess o.state p
 cancel_made k l n o p m h there kept did = (leaving_acted n o p (cancel_modes n.state p m) did (leaving_cancel p m n (pass_begun k l n p m h there kept))).made

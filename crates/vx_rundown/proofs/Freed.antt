@@ -1,10 +1,10 @@
 -- The channels of a mode and outer ones are freed, the first of them at a time.
-use Rattle.std.proofs.Common.{◌≡◌, ℕ, zero, suc, ◌+◌, ◌-◌, ◌<◌, ◌≤◌, List, [], ◌∷◌, ◌++◌, true, false, cond, nat_lt, length, length-set, slice_index_or, slice_set, Option, Some, None, IsSome, IsTrue, is_some, arith, refl, ap, sym, subst, ◌∙◌}
-use Rattle.std.specs.List.{find, list_all}
-use Rattle.std.proofs.lemmas.Bool.{and_from, and_parts}
+use Rattle.std.proofs.Common.{◌≡◌, ℕ, zero, suc, ◌+◌, ◌-◌, ◌<◌, ◌≤◌, List, [], ◌∷◌, ◌++◌, Bool, ◌&&◌, true, false, cond, nat_lt, length, length-set, slice_index_or, slice_set, Option, Some, None, IsSome, IsTrue, is_some, arith, refl, ap, sym, subst, ◌∙◌}
+use Rattle.std.specs.List.{AllByRecursion, find, list_all}
+use Rattle.std.proofs.lemmas.Bool.{and_parts}
 use Rattle.std.proofs.lemmas.Bool.Decides.{nat_tests}
 use Rattle.vx_base.specs.Channels.{channel_at, channels_of, is_channel_number, is_reached, next_of_mode, reached_from}
-use Rattle.vx_base.specs.Pieces.{Channel}
+use Rattle.vx_base.specs.Pieces.{Attention, Channel}
 use Rattle.vx_base.specs.declared.mode.Mode.{Mode}
 use Rattle.vx_base.specs.declared.number.Pid.{Pid}
 use Rattle.vx_base.specs.declared.request.Device.{Device}
@@ -13,11 +13,19 @@ use Rattle.vx_record.specs.Channels.{free_channel, swept_box, with_channel}
 use Rattle.vx_record.specs.Parts.{Part, each, nothing}
 use Rattle.vx_record.specs.Rundown.{free_one}
 use Rattle.vx_record.specs.State.{Process, State, process_at, change}
+use Rattle.vx_record.proofs.Changes.{stands_at}
+use Rattle.vx_record.proofs.Lists.{all_weaker, either}
+use Rattle.vx_record.proofs.Moves.{MovesBy, channel}
+use Rattle.vx_record.proofs.SoundChannels.{IsClear, is_on_box}
+use Rattle.vx_record.specs.Cancel.{is_attention_on, is_request_on}
+use Rattle.vx_record.specs.Sound.{IsSound, RequestStands, ground}
 use Rattle.vx_procs.specs.Kernel.{Acts, Fits, Kernel, changed, with_state}
+use Rattle.vx_procs.specs.Ready.{IsBare}
 use Rattle.vx_procs.proofs.Rest.{IsDoing, acted, doing_begun, doing_end}
-use Rattle.vx_rundown.specs.Leaving.{IsLeaving, is_to_unit}
+use Rattle.vx_rundown.specs.Leaving.{IsLeaving}
 use Rattle.vx_rundown.proofs.Changed.{process_there}
-use Rattle.vx_rundown.proofs.Left.{IsLess, leaving_changed}
+use Rattle.vx_rundown.proofs.Left.{change_follows, leaving_by}
+use Rattle.vx_rundown.proofs.Standing.{is_to_unit, is_unit, unit_channels, unit_stands}
 
 -- Numbers.
 
@@ -92,13 +100,6 @@ found_none m rows found = cases (channels_of m rows) (found ∙ next_is m rows)
 
 -- Freeing.
 
-all_units_set : (rows : List (Option Channel)) (i : ℕ) → IsTrue (list_all is_to_unit rows) → IsTrue (list_all is_to_unit (slice_set rows i None))
-all_units_set [] i h = h
-all_units_set (row ∷ rows) zero h = (and_parts (is_to_unit row) (list_all is_to_unit rows) h).1
-all_units_set (row ∷ rows) (suc i) h =
-    let parts = and_parts (is_to_unit row) (list_all is_to_unit rows) h in
-    and_from (is_to_unit row) (list_all is_to_unit (slice_set rows i None)) parts.0 (all_units_set rows i parts.1)
-
 unit_at_row : (rows : List (Option Channel)) (i : ℕ) → IsTrue (list_all is_to_unit rows) → IsTrue (is_to_unit (slice_index_or rows i None))
 unit_at_row [] i h = refl
 unit_at_row (row ∷ rows) zero h = (and_parts (is_to_unit row) (list_all is_to_unit rows) h).0
@@ -113,30 +114,51 @@ swept_unit s (Some ch) h = by_device ch.device h
     by_device (device.Unit u) h = refl
     by_device (device.Mailbox b) h = absurd (cc)
 
-free_less : (n : ℕ) (pr : Process) → IsLess pr (with_channel n None pr)
-free_less n pr = record {
-  decl = refl;
-  asts = omega arith;
-  left = λ x. record { idle = x.idle; ids = x.ids; handler_ids = x.handler_ids; numbers = length-set pr.channels (n - 1) None ∙ x.numbers; channels = all_units_set pr.channels (n - 1) x.channels };
+freed_alone : (k : Kernel) (p : Pid) (n : ℕ) → IsLeaving k p → free_channel k.state p n ≡ nothing (change k.state p (with_channel n None))
+freed_alone k p n h =
+    let rows = (process_at k.state p).channels in
+    let units = unit_channels k.state rows h.bare.boxes (stands_at k.state p h.sound h.made).channels in
+    swept_unit (change k.state p (with_channel n None)) (channel_at rows n) (unit_at_row rows (n - 1) units)
+
+-- no request is on a mailbox, and nothing is attended, so nothing hangs on a channel
+
+off_box : (b : Bool) (d : Device) → IsTrue (is_unit d) → (is_on_box d && b) ≡ false
+off_box b (device.Unit u) h = refl
+off_box b (device.Mailbox c) h = absurd (cc)
+
+clear_of : (s : State) (p : Pid) (n : ℕ) → IsSound s → IsBare s → IsClear s p n
+clear_of s p n sound bare = record {
+  requests = all_weaker (RequestStands (ground s)) (λ r. (is_on_box r.req.device && is_request_on p n r) ≡ false) (λ r h. off_box (is_request_on p n r) r.req.device (unit_stands s r.req.device bare.boxes h.stands)) s.requests sound.requests;
+  attention = subst (λ (xs : List Attention). AllByRecursion (λ a. is_attention_on p n a ≡ false) xs) (sym bare.attention) tt;
 }
 
-pub leaving_freed : (k : Kernel) (p : Pid) (n : ℕ) → IsLeaving k p → IsLeaving (changed k p (with_channel n None)) p
-leaving_freed k p n h = leaving_changed k p (with_channel n None) (free_less n (process_at k.state p)) h
-
-freed_alone : (k : Kernel) (p : Pid) (n : ℕ) → IsLeaving k p → free_channel k.state p n ≡ nothing (change k.state p (with_channel n None))
-freed_alone k p n h = swept_unit (change k.state p (with_channel n None)) (channel_at (process_at k.state p).channels n) (unit_at_row (process_at k.state p).channels (n - 1) h.left.channels)
+pub leaving_freed : (k : Kernel) (p : Pid) (n : ℕ) → IsTrue (is_channel_number n) → IsLeaving k p → IsLeaving (changed k p (with_channel n None)) p
+leaving_freed k p n number h =
+    let s = k.state in
+    let moves : MovesBy true s None [] (change s p (with_channel n None)) None = channel s None p n None (λ e i. (h.made, (number, clear_of s p n h.sound h.bare))) in
+    leaving_by false k p [] (change s p (with_channel n None)) moves (change_follows false s p (with_channel n None) (record { decl = refl; frames = refl; channels = λ e. absurd (cc); asts = omega arith })) h
 
 abbrev pub free_all : Pid → Mode → State → Part
 free_all p m s = each (free_one p) (channels_of m (process_at s p).channels) s
 
-freed_each : (p : Pid) (ns : List ℕ) (k : Kernel) → IsLeaving k p → IsLeaving (with_state k (each (free_one p) ns k.state).after) p
-freed_each p [] k h = h
-freed_each p (n ∷ ns) k h =
-    let t = change k.state p (with_channel n None) in
-    subst (λ (a : Part). IsLeaving (with_state k (each (free_one p) ns a.after).after) p) (sym (freed_alone k p n h)) (freed_each p ns (changed k p (with_channel n None)) (leaving_freed k p n h))
+-- numbers that are reached are of channels
+reached_numbers : (m : Mode) (j : ℕ) (rows : List (Option Channel)) → 1 ≤ j → j + length rows ≤ 65 → AllByRecursion (λ n. IsTrue (is_channel_number n)) (reached_from j m rows)
+reached_numbers m j [] above below = tt
+reached_numbers m j (row ∷ rows) above below =
+    let most : j ≤ 64 = omega (arith, below) in
+    let number : IsTrue (is_channel_number j) = grind (arith, nat_tests) in
+    let rest = reached_numbers m (j + 1) rows (omega arith) (omega (arith, below)) in
+    either (AllByRecursion (λ n. IsTrue (is_channel_number n))) (is_reached m row) (j ∷ reached_from (j + 1) m rows) (reached_from (j + 1) m rows) (number, rest) rest
+
+freed_each : (p : Pid) (ns : List ℕ) (k : Kernel) → AllByRecursion (λ n. IsTrue (is_channel_number n)) ns → IsLeaving k p → IsLeaving (with_state k (each (free_one p) ns k.state).after) p
+freed_each p [] k numbers h = h
+freed_each p (n ∷ ns) k numbers h =
+    subst (λ (a : Part). IsLeaving (with_state k (each (free_one p) ns a.after).after) p) (sym (freed_alone k p n h)) (freed_each p ns (changed k p (with_channel n None)) numbers.1 (leaving_freed k p n numbers.0 h))
 
 pub leaving_channels : (p : Pid) (m : Mode) (k : Kernel) → IsLeaving k p → IsLeaving (with_state k (free_all p m k.state).after) p
-leaving_channels p m k h = freed_each p (channels_of m (process_at k.state p).channels) k h
+leaving_channels p m k h =
+    let rows = (process_at k.state p).channels in
+    freed_each p (channels_of m rows) k (reached_numbers m 1 rows (omega arith) (omega (arith, (stands_at k.state p h.sound h.made).numbers))) h
 
 -- The loop.
 pub record IsFreeing (p : Pid) (m : Mode) (first k : Kernel) : Type 0 where
@@ -155,7 +177,7 @@ reached_here p m k n found =
 pub freeing_number : (p : Pid) (m : Mode) (k : Kernel) (n : ℕ) → IsLeaving k p → Some n ≡ next_of_mode m 0 (process_at k.state p).channels → IsTrue (is_channel_number n)
 freeing_number p m k n h found =
     let at = (reached_here p m k n found).1 in
-    let most : n ≤ 64 = omega (arith, at.within, h.left.numbers) in
+    let most : n ≤ 64 = omega (arith, at.within, (stands_at k.state p h.sound h.made).numbers) in
     let least : 1 ≤ n = at.above in
     grind (arith, nat_tests)
 
@@ -177,7 +199,7 @@ pub freeing_more : (p : Pid) (m : Mode) (first k l : Kernel) (n : ℕ) → IsFre
 freeing_more p m first k l n h found there =
     let t = change k.state p (with_channel n None) in
     let here : IsFreeing p m first (changed k p (with_channel n None)) = record {
-      leaving = leaving_freed k p n h.leaving;
+      leaving = leaving_freed k p n (freeing_number p m k n h.leaving found) h.leaving;
       doing = record {
         leaves = ap (λ (a : Part). acted k a) (sym (free_first p m k n h.leaving found)) ∙ h.doing.leaves;
         room = subst (λ (a : Part). Fits k a.effects) (free_first p m k n h.leaving found) h.doing.room;

@@ -1,6 +1,8 @@
+pub mod Cancelled
 pub mod Changed
 pub mod Entering
 pub mod Freed
 pub mod Left
 pub mod Modes
 pub mod Shelf
+pub mod Standing

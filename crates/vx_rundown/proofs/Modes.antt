@@ -3,7 +3,7 @@ use Rattle.std.proofs.Common.{◌≡◌, ℕ, ◌≤◌, List, [], ◌∷◌, �
 use Rattle.std.specs.List.{filter, find}
 use Rattle.std.proofs.lemmas.List.{append_assoc}
 use Rattle.vx_base.specs.Channels.{channels_of}
-use Rattle.vx_base.specs.Pieces.{Attention, Handler, Request}
+use Rattle.vx_base.specs.Pieces.{Handler}
 use Rattle.vx_base.specs.declared.effects.Effect.{Effect}
 use Rattle.vx_base.specs.declared.frame.Phase.{Phase}
 use Rattle.vx_base.specs.declared.frame.Phase.TheVariants as phase
@@ -12,58 +12,65 @@ use Rattle.vx_base.specs.declared.mode.Mode.TheVariants.{Kernel, Exec, Super, Us
 use Rattle.vx_base.specs.declared.number.Pid.{Pid}
 use Rattle.vx_base.specs.declared.record.Answer.{Answer}
 use Rattle.vx_base.specs.declared.record.Answer.TheVariants as answer
-use Rattle.vx_record.specs.Cancel.{cancel_channel, cancel_request, drop_attention, is_attention_on, is_request_on}
 use Rattle.vx_record.specs.Parts.{Outcome, Part, and_then, answered, each, followed_by, nothing, part_of}
-use Rattle.vx_record.specs.Rundown.{cancel_modes, cancel_one, cancelled_in, drain, draining, drop_asts, handling, in_phase, inner_modes, is_busy, is_handler_of, is_timer_in, is_wake_by, part_with, release, run_down, run_handlers, rundown, rundown_from}
+use Rattle.vx_record.specs.Rundown.{cancel_modes, cancelled_in, drain, draining, drop_asts, handling, in_phase, inner_modes, is_busy, is_handler_of, is_timer_in, is_wake_by, part_with, release, run_down, run_handlers, rundown, rundown_from}
 use Rattle.vx_record.specs.State.{State, process_at}
 use Rattle.vx_record.specs.Timers.{drop_timers}
 use Rattle.vx_procs.specs.Kernel.{Acts, Does, Fits, Kernel as KernelOf, changed, with_state}
 use Rattle.vx_procs.proofs.Rest.{IsAnswering, IsDoing, answering_begun, answering_on, doing_begun, doing_on, doing_room}
 use Rattle.vx_rundown.specs.Leaving.{IsLeaving}
 use Rattle.vx_rundown.specs.Steps.{drained, modes_from, next_inner, passed, passed_by, then_by, then_on}
+use Rattle.vx_rundown.proofs.Cancelled.{cancel_all, leaving_cancels}
 use Rattle.vx_rundown.proofs.Freed.{free_all, leaving_channels}
-use Rattle.vx_rundown.proofs.Left.{leaving_acted, leaving_asts, leaving_phase, leaving_timers}
+use Rattle.vx_rundown.proofs.Left.{leaving_acted, leaving_asts, leaving_draining, leaving_handling, leaving_parted, leaving_timers}
 
--- Cancelling: no request stands, so timers and wakes alone end.
-
-cancelled_none : (s : State) (p : Pid) (n : ℕ) → s.requests ≡ [] → s.attention ≡ [] → cancel_channel s p n ≡ nothing s
-cancelled_none s p n no_request no_attention =
-    let requests : List Request → Part = λ rs. and_then (each cancel_request (filter (is_request_on p n) rs) s) (λ a. each drop_attention (filter (is_attention_on p n) a.attention) a) in
-    let attentions : List Attention → Part = λ xs. each drop_attention (filter (is_attention_on p n) xs) s in
-    ap requests no_request ∙ ap attentions no_attention
-
-cancelled_each : (p : Pid) (ns : List ℕ) (s : State) → s.requests ≡ [] → s.attention ≡ [] → each (cancel_one p) ns s ≡ nothing s
-cancelled_each p [] s r a = refl
-cancelled_each p (n ∷ ns) s r a =
-    ap (λ (d : Part). let c = each (cancel_one p) ns d.after in let x : Part = record { effects = d.effects ++ c.effects; after = c.after } in x) (cancelled_none s p n r a) ∙ cancelled_each p ns s r a
-
-abbrev pub entries_part : Pid → Mode → State → Part
-entries_part p m s = and_then (drop_timers (is_timer_in p m) s) (drop_timers (is_wake_by p))
-
-pub cancel_is : (s : State) (p : Pid) (m : Mode) → s.requests ≡ [] → s.attention ≡ [] → cancel_modes s p m ≡ entries_part p m s
-cancel_is s p m r x = ap (λ (a : Part). and_then (and_then a (drop_timers (is_timer_in p m))) (drop_timers (is_wake_by p))) (cancelled_each p (channels_of m (process_at s p).channels) s r x)
+-- Cancelling: the channels, the timers, the wakes.
 
 pub leaving_cancel : (p : Pid) (m : Mode) (k : KernelOf) → IsLeaving k p → IsLeaving (with_state k (cancel_modes k.state p m).after) p
 leaving_cancel p m k h =
-    let t = (drop_timers (is_timer_in p m) k.state).after in
-    subst (λ (a : Part). IsLeaving (with_state k a.after) p) (sym (cancel_is k.state p m h.requests h.bare.attention)) (leaving_timers p (is_wake_by p) (with_state k t) (leaving_timers p (is_timer_in p m) k h))
+    let c = with_state k (cancel_all p m k.state).after in
+    let t = with_state k (drop_timers (is_timer_in p m) c.state).after in
+    leaving_timers p (is_wake_by p) t (leaving_timers p (is_timer_in p m) c (leaving_cancels p (channels_of m (process_at k.state p).channels) k h))
+
+-- the parts of it
+
+abbrev after_channels : Pid → Mode → State → Part
+after_channels p m a = and_then (drop_timers (is_timer_in p m) a) (drop_timers (is_wake_by p))
+
+cancel_first : (p : Pid) (m : Mode) (s : State) → cancel_modes s p m ≡ and_then (cancel_all p m s) (after_channels p m)
+cancel_first p m s =
+    let c = cancel_all p m s in
+    let t = drop_timers (is_timer_in p m) c.after in
+    let w = drop_timers (is_wake_by p) t.after in
+    ap (λ (es : List Effect). let x : Part = record { effects = es; after = w.after } in x) (append_assoc c.effects t.effects w.effects)
+
+pub channels_room : (p : Pid) (m : Mode) (k : KernelOf) → Fits k (cancel_modes k.state p m).effects → Fits k (cancel_all p m k.state).effects
+channels_room p m k room = doing_room (cancel_modes k.state p m) k k (cancel_modes k.state p m) (cancel_all p m k.state) (after_channels p m) (cancel_first p m k.state) (doing_begun (cancel_modes k.state p m) k room)
+
+channels_done : (p : Pid) (m : Mode) (k l : KernelOf) → Fits k (cancel_modes k.state p m).effects → Acts (cancel_all p m k.state) k l → IsDoing (cancel_modes k.state p m) k (after_channels p m l.state) l
+channels_done p m k l room did = doing_on (cancel_modes k.state p m) k k l (cancel_modes k.state p m) (cancel_all p m k.state) (after_channels p m) (cancel_first p m k.state) did (doing_begun (cancel_modes k.state p m) k room)
+
+pub timers_room : (p : Pid) (m : Mode) (k l : KernelOf) → Fits k (cancel_modes k.state p m).effects → Acts (cancel_all p m k.state) k l → Fits l (drop_timers (is_timer_in p m) l.state).effects
+timers_room p m k l room did = doing_room (cancel_modes k.state p m) k l (after_channels p m l.state) (drop_timers (is_timer_in p m) l.state) (drop_timers (is_wake_by p)) refl (channels_done p m k l room did)
+
+timers_done : (p : Pid) (m : Mode) (k l n : KernelOf) → Fits k (cancel_modes k.state p m).effects → Acts (cancel_all p m k.state) k l → Acts (drop_timers (is_timer_in p m) l.state) l n → IsDoing (cancel_modes k.state p m) k (drop_timers (is_wake_by p) n.state) n
+timers_done p m k l n room did drops = doing_on (cancel_modes k.state p m) k l n (after_channels p m l.state) (drop_timers (is_timer_in p m) l.state) (drop_timers (is_wake_by p)) refl drops (channels_done p m k l room did)
+
+pub wakes_room : (p : Pid) (m : Mode) (k l n : KernelOf) → Fits k (cancel_modes k.state p m).effects → Acts (cancel_all p m k.state) k l → Acts (drop_timers (is_timer_in p m) l.state) l n → Fits n (drop_timers (is_wake_by p) n.state).effects
+wakes_room p m k l n room did drops = (timers_done p m k l n room did drops).room
+
+pub cancel_done : (p : Pid) (m : Mode) (k l n o : KernelOf) → Fits k (cancel_modes k.state p m).effects → Acts (cancel_all p m k.state) k l → Acts (drop_timers (is_timer_in p m) l.state) l n → Acts (drop_timers (is_wake_by p) n.state) n o → Acts (cancel_modes k.state p m) k o
+cancel_done p m k l n o room did drops last = last ∙ (timers_done p m k l n room did drops).leaves
+
+-- rundown can rely on what it did, after each of them
+
+pub after_all : (p : Pid) (m : Mode) (k l : KernelOf) → IsLeaving k p → Acts (cancel_all p m k.state) k l → IsLeaving l p
+after_all p m k l h did = leaving_acted k l p (cancel_all p m k.state) did (leaving_cancels p (channels_of m (process_at k.state p).channels) k h)
+
+pub after_timers : (p : Pid) (m : Mode) (k l n : KernelOf) → IsLeaving k p → Acts (cancel_all p m k.state) k l → Acts (drop_timers (is_timer_in p m) l.state) l n → IsLeaving n p
+after_timers p m k l n h did drops = leaving_acted l n p (drop_timers (is_timer_in p m) l.state) drops (leaving_timers p (is_timer_in p m) l (after_all p m k l h did))
 
 -- Releasing: one part after another.
-
-parted_leaving : (p : Pid) (n : ℕ) (k : KernelOf) → IsLeaving k p → IsLeaving (with_state k (part_with p n k.state).after) p
-parted_leaving p n k h = record {
-  made = record { above = h.made.above; within = h.made.within };
-  declared = h.declared;
-  image = h.image;
-  left = h.left;
-  order = h.order;
-  spares = λ q m. let has = h.spares q (record { above = m.above; within = m.within }) in record { frame = has.frame; ast = has.ast };
-  requests = h.requests;
-  bare = record { attention = h.bare.attention; boxes = h.bare.boxes };
-}
-
-abbrev asts_on : Pid → Mode → State → Part
-asts_on p m s = and_then (and_then (drop_asts p m s) (part_with p 2)) (part_with p 3)
 
 abbrev parted : Pid → State → Part
 parted p s = and_then (part_with p 2 s) (part_with p 3)
@@ -82,7 +89,7 @@ leaving_release p m k h =
     let f = with_state k (free_all p m k.state).after in
     let a = with_state f (drop_asts p m f.state).after in
     let b = with_state a (part_with p 2 a.state).after in
-    parted_leaving p 3 b (parted_leaving p 2 a (leaving_asts p m f (leaving_channels p m k h)))
+    leaving_parted p 3 b (leaving_parted p 2 a (leaving_asts p m f (leaving_channels p m k h)))
 
 -- A mode is drained, and passed.
 
@@ -126,9 +133,6 @@ then_goes o next k l did = ap (λ (y : Option Answer). then_by y (part_of o) nex
 
 -- The state where a mode was passed.
 
-draining_is : (s : State) (p : Pid) (m : Mode) → cancelled_in s p m ≡ record { effects = (cancel_modes s p m).effects ++ []; after = draining p m (cancel_modes s p m).after }
-draining_is s p m = refl
-
 drained_leaving : (p : Pid) (m : Mode) (k : KernelOf) → IsLeaving k p → IsLeaving (with_state k (drained p m k.state).after) p
 drained_leaving p m k h = elim (is_busy k.state p m) as (λ b. IsLeaving (with_state k (cond b (answered (Some answer.Busy) (nothing k.state)) (answered None (release k.state p m))).after) p) [ true ↦ h | false ↦ leaving_release p m k h ]
 
@@ -136,7 +140,7 @@ pub leaving_drained : (p : Pid) (m : Mode) (k l : KernelOf) (x : Option Answer) 
 leaving_drained p m k l x did h = leaving_acted k l p (part_of (drained p m k.state)) did.leaves (drained_leaving p m k h)
 
 cancelled_leaving : (p : Pid) (m : Mode) (k : KernelOf) → IsLeaving k p → IsLeaving (with_state k (cancelled_in k.state p m).after) p
-cancelled_leaving p m k h = leaving_phase (with_state k (cancel_modes k.state p m).after) p (phase.Draining m) (leaving_cancel p m k h)
+cancelled_leaving p m k h = leaving_draining (with_state k (cancel_modes k.state p m).after) p m (leaving_cancel p m k h)
 
 -- no handler of the mode was there
 pub leaving_passed : (p : Pid) (m : Mode) (k l : KernelOf) → Does (passed p m k.state) None k l → IsLeaving k p → IsLeaving l p
@@ -146,7 +150,7 @@ leaving_passed p m k l did h = by (find (is_handler_of m) (process_at k.state p)
     by None did =
         let t = changed k p (in_phase (phase.Handlers m)) in
         let u = with_state t (cancelled_in t.state p m).after in
-        leaving_acted k l p (part_of (passed_by p m None (handling p m k.state))) did.leaves (drained_leaving p m u (cancelled_leaving p m t (leaving_phase k p (phase.Handlers m) h)))
+        leaving_acted k l p (part_of (passed_by p m None (handling p m k.state))) did.leaves (drained_leaving p m u (cancelled_leaving p m t (leaving_handling k p m h)))
     by (Some x) did = absurd (cc (did.answers))
 
 -- The loop: what is left of a rundown.

@@ -3,23 +3,37 @@
 ghost use Rattle.std.specs.Prelude.{◌≡◌};
 ghost use Rattle.vx_base.specs.Channels.{channels_of};
 ghost use Rattle.vx_record.specs.Parts.{each};
-ghost use Rattle.vx_record.specs.Rundown.{cancel_modes, drop_asts, free_one, release};
+ghost use Rattle.vx_record.specs.Rundown.{cancel_modes, cancel_one, drop_asts, free_one, release};
 ghost use Rattle.vx_record.specs.State.{process_at};
 ghost use Rattle.vx_procs.specs.Kernel.{Acts, Does, Fits};
 ghost use Rattle.vx_rundown.specs.Leaving.{IsLeaving};
 ghost use Rattle.vx_rundown.specs.Steps.{drained, entered_as, passed};
 
 use vx_base::{Answer, Effect, Entry, Frame, FrameKind, Id, Mode, Phase, Pid, Routine};
+use vx_io::cancel_channel;
 use vx_procs::{Core, Sought, drop_timers};
 use vx_timers::Which;
 
-// What a process opened in a mode and outer ones is cancelled: its timers, and then the wakes that it scheduled. (No request is built
-// yet.)
+// What a process asked on its channels of a mode and outer ones is cancelled, channel after channel.
+fn cancel_channels<R: Routine>(core: &mut Core<R>, p: Pid, mode: Mode)
+    requires leaving { IsLeaving core.old p }
+    requires room { Fits core.old (each (cancel_one p) (channels_of mode (process_at core.old.state p).channels) core.old.state).effects }
+    ensures { Acts (each (cancel_one p) (channels_of mode (process_at core.old.state p).channels) core.old.state) core.old core.new }
+{
+    let mut after = 0;
+    'channels: while let Some(n) = core.next_channel(p, mode, after) {
+        cancel_channel(core, p, n);
+        after = n;
+    }
+}
+
+// What a process opened in a mode and outer ones is cancelled: its requests, its timers, and then the wakes that it scheduled.
 fn cancel_modes<R: Routine>(core: &mut Core<R>, p: Pid, mode: Mode)
     requires leaving { IsLeaving core.old p }
     requires room { Fits core.old (cancel_modes core.old.state p mode).effects }
     ensures { Acts (cancel_modes core.old.state p mode) core.old core.new }
 {
+    cancel_channels(core, p, mode);
     drop_timers(core, Which::TimersOf(p, mode));
     drop_timers(core, Which::WakesBy(p));
 }

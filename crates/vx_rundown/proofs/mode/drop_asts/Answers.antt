@@ -1,9 +1,10 @@
 use Rattle.vx_record.specs.Rundown.{is_ast_reached}
 use Rattle.vx_rundown.proofs.Shelf.{asts, drop_begun, drop_end, drop_fewer, drop_more, drop_room}
+use Rattle.vx_rundown.proofs.Standing.{own_ids_at}
 use Rattle.vx_rundown.proofs.mode.drop_asts.Goals as goal
 
 pub asts-init : goal.asts-init
-asts-init g c = drop_begun asts c.args.p (is_ast_reached c.args.mode) c.args.core.now c.requires.leaving.made c.requires.leaving.left.ids c.requires.room
+asts-init g c = drop_begun asts c.args.p (is_ast_reached c.args.mode) c.args.core.now c.requires.leaving.made (own_ids_at c.args.core.now.state c.args.p c.requires.leaving.sound c.requires.leaving.made) c.requires.room
 
 pub drop_ast-requires : goal.drop_ast-requires
 drop_ast-requires g c = c.asts.invariant.made

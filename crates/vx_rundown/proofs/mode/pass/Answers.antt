@@ -4,7 +4,7 @@ use Rattle.vx_rundown.proofs.Entering.{cancel_made, cancel_room, drain_fits, dra
 use Rattle.vx_rundown.proofs.mode.pass.Goals as goal
 
 pub enter-requires-in-Some-clause-leaving : goal.enter-requires-in-Some-clause-leaving
-enter-requires-in-Some-clause-leaving g c = enter_leaving c.args.core.now c.set_phase.new.self c.take_handler.new.self c.args.p c.args.mode c.requires.leaving c.set_phase.ensures c.take_handler.ensures.after
+enter-requires-in-Some-clause-leaving g c = enter_leaving c.args.core.now c.set_phase.new.self c.take_handler.new.self c.args.p c.args.mode c.in-Some.id (g.R.Routine.tagged c.in-Some.routine) c.requires.leaving c.set_phase.ensures c.in-Some.ensures.handler c.take_handler.ensures.after
 
 pub enter-requires-in-Some-clause-room : goal.enter-requires-in-Some-clause-room
 enter-requires-in-Some-clause-room g c = enter_room c.args.core.now c.set_phase.new.self c.take_handler.new.self c.args.p c.args.mode c.in-Some.id (g.R.Routine.tagged c.in-Some.routine) c.requires.leaving c.set_phase.ensures c.in-Some.ensures.handler c.take_handler.ensures.after c.requires.room

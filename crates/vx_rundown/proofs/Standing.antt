@@ -1,25 +1,29 @@
--- No two ASTs that are queued for a process have one id, and no two of its exit handlers, since no two open things have.
-use Rattle.std.proofs.Common.{◌≡◌, ℕ, zero, suc, ◌+◌, ◌-◌, ◌<◌, ◌≤◌, List, [], ◌∷◌, ◌&&◌, ◌==◌, not, true, false, IsTrue, Option, Some, None, is_some, length, replicate, slice_index_or, ◌⊎◌, inl, inr, refl, sym, ap, ◌∙◌, arith}
+-- What of a process follows from a state whose references stand: no two of its queued ASTs have one id, and no two of its exit handlers;
+-- and where no mailbox stands, each of its channels is to a unit.
+use Rattle.std.proofs.Common.{◌≡◌, ℕ, zero, suc, ◌+◌, ◌-◌, ◌<◌, ◌≤◌, List, [], ◌∷◌, Bool, ◌&&◌, ◌==◌, not, true, false, IsTrue, Option, Some, None, is_some, length, replicate, slice_index_or, ◌⊎◌, inl, inr, refl, sym, ap, ◌∙◌, arith}
 use Rattle.std.specs.List.{AllByRecursion, list_all, list_any}
 use Rattle.std.proofs.lemmas.Bool.{and_from, cases_eq, eq-eqb, ne_eqb}
 use Rattle.vx_base.specs.Flags.{one}
 use Rattle.vx_base.specs.Lists.{tally}
-use Rattle.vx_base.specs.Pieces.{Channel, DeviceUnit, Handler, Mailbox, Queued, Request}
+use Rattle.vx_base.specs.Pieces.{Alarm, Attention, Channel, Handler, Mailbox, OfTimer, OfWake, Queued, Request, Timer}
+use Rattle.vx_base.specs.declared.effects.Effect.{Effect}
 use Rattle.vx_base.specs.declared.number.BoxNo.{BoxNo}
 use Rattle.vx_base.specs.declared.number.Id.{Id}
+use Rattle.vx_base.specs.declared.number.Pid.{Pid}
 use Rattle.vx_base.specs.declared.request.Device.{Device}
 use Rattle.vx_base.specs.declared.request.Device.TheVariants as device
-use Rattle.vx_base.specs.declared.number.Pid.{Pid}
 use Rattle.vx_record.specs.Parts.{total}
-use Rattle.vx_record.specs.Sound.{BoxStands, ChannelStands, DeviceStands, IsSound, RequestStands, ground, process_bears}
-use Rattle.vx_record.specs.State.{State, IsProcess, process_at, nobody}
-use Rattle.vx_record.proofs.Changes.{stands_at}
-use Rattle.vx_record.proofs.Lists.{fails_not}
+use Rattle.vx_record.specs.Sound.{AlarmStands, AttentionStands, BoxStands, ChannelStands, DeviceStands, IsSound, RequestStands, TimerStands, ground, process_bears}
+use Rattle.vx_record.specs.State.{State, IsProcess, nobody, process_at}
+use Rattle.vx_record.proofs.Base.{Base}
+use Rattle.vx_record.proofs.Firm.{firm, sound_of}
+use Rattle.vx_record.proofs.Lists.{all_weaker, fails_not}
+use Rattle.vx_record.proofs.Moves.{IsAlarmMade, MovesBy}
+use Rattle.vx_record.proofs.OwnIds.{moves_own, own_of, owned}
+use Rattle.vx_record.proofs.References.{moves_stand}
 use Rattle.vx_procs.specs.Words.{handlers_have_own_ids, have_own, have_own_ids}
-use Rattle.vx_rundown.specs.Leaving.{IsLeft, is_to_unit, is_unit}
-use Rattle.vx_exec.specs.Ready.{IsIdle}
-use Rattle.vx_exec.specs.Sound.{IsWhole}
-use Rattle.vx_exec.proofs.Calls.{units_none}
+
+-- Ids.
 
 -- how many of these have an id
 abbrev bearing : {A : Type 0} → (A → Id) → ℕ → List A → ℕ
@@ -59,58 +63,54 @@ own_ids_at s p sound made = own_from (λ (q : Queued). q.id) (process_at s p).as
 pub own_handlers_at : (s : State) (p : Pid) → IsSound s → IsProcess s p → IsTrue (handlers_have_own_ids (process_at s p).handlers)
 own_handlers_at s p sound made = own_from (λ (h : Handler). h.id) (process_at s p).handlers (λ id. let once = borne_once s p sound made id in omega (arith, once))
 
--- Where no mailbox stands, each channel is to a unit.
+-- Devices.
+
+abbrev pub is_unit : Device → Bool
+is_unit (device.Unit u) = true
+is_unit (device.Mailbox b) = false
+
+abbrev pub is_to_unit : Option Channel → Bool
+is_to_unit None = true
+is_to_unit (Some ch) = is_unit ch.device
 
 none_in : (n i : ℕ) → is_some (slice_index_or (let xs : List (Option Mailbox) = replicate n None in xs) i None) ≡ false
 none_in zero i = refl
 none_in (suc n) zero = refl
 none_in (suc n) (suc i) = none_in n i
 
-no_box_stands : (s : State) (b : BoxNo) → s.boxes ≡ replicate 64 None → BoxStands (ground s) b → ⊥
+pub no_box_stands : (s : State) (b : BoxNo) → s.boxes ≡ replicate 64 None → BoxStands (ground s) b → ⊥
 no_box_stands s b none stands =
     let e : is_some (slice_index_or s.boxes b.0 None) ≡ false = ap (λ (xs : List (Option Mailbox)). is_some (slice_index_or xs b.0 None)) none ∙ none_in 64 b.0 in
     absurd (cc)
 
+pub unit_stands : (s : State) (d : Device) → s.boxes ≡ replicate 64 None → DeviceStands (ground s) d → IsTrue (is_unit d)
+unit_stands s (device.Unit u) none h = refl
+unit_stands s (device.Mailbox b) none h = absurd (no_box_stands s b none h)
+
 unit_channel : (s : State) (row : Option Channel) → s.boxes ≡ replicate 64 None → ChannelStands (ground s) row → IsTrue (is_to_unit row)
 unit_channel s None none h = refl
-unit_channel s (Some ch) none h = by_device ch.device h
-  where
-    by_device : (d : Device) → DeviceStands (ground s) d → IsTrue (is_unit d)
-    by_device (device.Unit u) h = refl
-    by_device (device.Mailbox b) h = absurd (no_box_stands s b none h)
+unit_channel s (Some ch) none h = unit_stands s ch.device none h
 
-unit_channels : (s : State) (rows : List (Option Channel)) → s.boxes ≡ replicate 64 None → AllByRecursion (ChannelStands (ground s)) rows → IsTrue (list_all is_to_unit rows)
+pub unit_channels : (s : State) (rows : List (Option Channel)) → s.boxes ≡ replicate 64 None → AllByRecursion (ChannelStands (ground s)) rows → IsTrue (list_all is_to_unit rows)
 unit_channels s [] none h = refl
 unit_channels s (row ∷ rows) none h = and_from (is_to_unit row) (list_all is_to_unit rows) (unit_channel s row none h.0) (unit_channels s rows none h.1)
 
--- a process that has no frame, and is run down
-pub left_at : (s : State) (p : Pid) → IsSound s → IsIdle s p → s.boxes ≡ replicate 64 None → IsLeft (process_at s p)
-left_at s p sound owner none =
-    let stands = stands_at s p sound owner.made in
-    record {
-      idle = owner.idle;
-      ids = own_ids_at s p sound owner.made;
-      handler_ids = own_handlers_at s p sound owner.made;
-      numbers = stands.numbers;
-      channels = unit_channels s (process_at s p).channels none stands.channels;
-    }
+-- Moves of the machine keep it.
 
--- Where there is no unit either, no request is outstanding.
+alarm_made : (s : State) (p : Pid) (a : Alarm) → AlarmStands (ground s) p a → IsAlarmMade s a
+alarm_made s p (OfTimer efn reqid mode tag) h = tt
+alarm_made s p (OfWake target repeat) h = h
 
-no_units : (us : List DeviceUnit) → length us ≡ 0 → us ≡ []
-no_units [] e = refl
-no_units (u ∷ us) e = absurd (omega (arith, e))
+pub base_of : (s : State) → IsSound s → Base s
+base_of s h = record {
+  requests = h.request_ids;
+  timers = h.timer_ids;
+  attention = h.attention_ids;
+  request_owners = all_weaker (RequestStands (ground s)) (λ (r : Request). IsProcess s r.req.p) (λ r k. k.made) s.requests h.requests;
+  timer_owners = all_weaker (TimerStands (ground s)) (λ (t : Timer). IsProcess s t.p × IsAlarmMade s t.what) (λ t k. (k.made, alarm_made s t.p t.what k.alarm)) s.timers h.timers;
+  attention_owners = all_weaker (AttentionStands (ground s)) (λ (a : Attention). IsProcess s a.p) (λ a k. k.made) s.attention h.attention;
+}
 
-pub no_units_in : (s : State) → IsWhole s → s.units ≡ []
-no_units_in s whole = no_units s.units (whole.sound.units ∙ ap length (units_none s.system whole.built))
-
-none_on : (s : State) (d : Device) → s.units ≡ [] → s.boxes ≡ replicate 64 None → DeviceStands (ground s) d → ⊥
-none_on s (device.Unit u) none boxes h = absurd (omega (arith, h, ap (λ (us : List DeviceUnit). length us) none))
-none_on s (device.Mailbox b) none boxes h = no_box_stands s b boxes h
-
-none_from : (s : State) (rs : List Request) → s.units ≡ [] → s.boxes ≡ replicate 64 None → AllByRecursion (RequestStands (ground s)) rs → rs ≡ []
-none_from s [] none boxes h = refl
-none_from s (r ∷ rs) none boxes h = absurd (none_on s r.req.device none boxes h.0.stands)
-
-pub no_requests : (s : State) → IsWhole s → s.boxes ≡ replicate 64 None → s.requests ≡ []
-no_requests s whole boxes = none_from s s.requests (no_units_in s whole) boxes whole.sound.requests
+pub sound_moved : (s t : State) (es : List Effect) → MovesBy true s None es t None → IsSound s → IsSound t
+sound_moved s t es moves h =
+    sound_of t (moves_stand s None es t None moves (record { sound = firm s h; loose = tt })).sound (owned t (moves_own s None es t None moves (own_of s h.own_ids)))
