@@ -1,3 +1,4 @@
 pub mod Transcript
 pub mod TrailerLines
 pub mod ReadJournal
+pub mod SpelledJournal

@@ -1,6 +1,6 @@
 //! Reads a transcript.
 
-ghost use Rattle.std.specs.Prelude.{◌≡◌, ◌+◌, ◌<◌, ◌≤◌, IfOk, length};
+ghost use Rattle.std.specs.Prelude.{◌≡◌, ◌+◌, ◌<◌, ◌≤◌, IfOk, Ok, length};
 ghost use Rattle.vx_image.specs.WellFormed.{IsWellFormed};
 ghost use Rattle.vx_image.specs.declared.system.System.{System as SystemOf};
 ghost use Rattle.vx_grammar.specs.FirstFault.{Tells};
@@ -8,6 +8,8 @@ ghost use Rattle.vx_grammar.specs.Grammar.{Spells};
 ghost use Rattle.vx_lines.specs.ReadRecords.{Reads};
 ghost use Rattle.vx_script.specs.declared.fault.ScriptFault.{ScriptFault as ScriptFaultOf};
 ghost use Rattle.vx_journal.specs.ReadJournal as spec;
+ghost use Rattle.vx_journal.specs.SpelledJournal.{IsSpelledJournal};
+ghost use Rattle.vx_journal.specs.declared.journal.Journal.{Journal as JournalOf};
 
 use crate::journal::{Journal, JournalFail};
 use crate::trailer::read_trailer;
@@ -139,6 +141,8 @@ pub fn read_journal(alloc: Global, text: &[u8]) -> Result<Journal, JournalFail>
     ensures only { (s : SystemOf) → Spells (spec.script_part text.now) s → spec.ReadsJournal result (spec.journal_of s text.now) }
     ensures only_fault { (fault : ScriptFaultOf) → Tells (spec.script_part text.now) fault → spec.FailsScript fault result }
     ensures well_formed { IfOk result (λ j. IsWellFormed j.system) }
+    // The text of a journal that has a spelling is read as the journal.
+    ensures back { (j : JournalOf) → IsSpelledJournal j → text.now ≡ spec.journal_text j → spec.ReadsJournal result (Ok j) }
 {
     let len = script_len(text);
     match read_script(alloc, &text[..len]) {
