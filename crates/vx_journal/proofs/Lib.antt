@@ -3,6 +3,7 @@ pub mod JournalBack
 pub mod JournalText
 pub mod LineBehind
 pub mod RecordsSpelled
+pub mod RunBack
 pub mod ScriptBack
 pub mod ScriptPart
 pub mod TrailerBack
