@@ -22,15 +22,18 @@ use Rattle.vx_journal.specs.declared.trailer.TrailerLine.{TrailerLine}
 use Rattle.vx_journal.proofs.ScriptBack.{front_read, script_part_back}
 use Rattle.vx_journal.proofs.TrailerBack.{begins_otherwise, trailer_back}
 
+abbrev read_as : System → List Rec → List ℕ → Part → Result Journal ℕ
+read_as s recs trailer part = Ok (record { system = s; recs = recs; part = part; trailer = trailer })
+
 header_back : (s : System) (line : ℕ) (recs : List Rec) (ts : List TrailerLine) (part : Part) → length recs < 2 ^ 32 → AreSpelled s.units recs → AllByRecursion (IsSpelledLine s.units) ts → part_behind place.Records ts ≡ Some part
     → behind_header s line (ended_lines (records_lines s.units 1 recs) ++ trailer_text s.units ts) ≡ Ok (record { system = s; recs = recs; part = part; trailer = trailer_text s.units ts })
 header_back s line recs ts part few spelled lines is =
     let text : List ℕ = ended_lines (records_lines s.units 1 recs) in
     let trailer : List ℕ = trailer_text s.units ts in
     let records : Records = record { recs = recs; line = line + length (records_lines s.units 1 recs); len = length text } in
-    ap (λ o. o >>= λ (r : Records). behind_records s r (drop r.len (text ++ trailer))) (records_back s.units line recs trailer few spelled (begins_otherwise s.units ts))
+    ap (λ (o : Result Records ℕ). o >>= λ (r : Records). behind_records s r (drop r.len (text ++ trailer))) (records_back s.units line recs trailer few spelled (begins_otherwise s.units ts))
     ∙ ap (behind_records s records) (drop-append_seam text trailer)
-    ∙ ap (λ o. o >>= λ (p : Part). Ok (let j : Journal = record { system = s; recs = recs; part = p; trailer = trailer } in j)) (trailer_back s.units records.line ts part lines is)
+    ∙ ap (λ (o : Result Part ℕ). o >>= λ (p : Part). read_as s recs trailer p) (trailer_back s.units records.line ts part lines is)
 
 script_back : (s : System) (n : ℕ) (rest : List ℕ) → behind_script s n (header ++ rest) ≡ behind_header s (n + 1) rest
 script_back s n rest = refl
@@ -39,7 +42,7 @@ text_read : (s : System) (rest : List ℕ) (j : Journal) → ((line : ℕ) → b
 unfolding journal_of
 text_read s rest j read =
     let front = front_read 1 (script s) (header ++ rest) in
-    ap (λ o. o >>= λ (line : ℕ). behind_script s line (drop (length (script s)) (script s ++ (header ++ rest)))) front.1
+    ap (λ (o : Result ℕ ℕ). o >>= λ (line : ℕ). behind_script s line (drop (length (script s)) (script s ++ (header ++ rest)))) front.1
     ∙ ap (behind_script s front.0) (drop-append_seam (script s) (header ++ rest))
     ∙ script_back s front.0 rest
     ∙ read (front.0 + 1)

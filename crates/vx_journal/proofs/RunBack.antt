@@ -99,7 +99,7 @@ run_spelled system recs end h =
 
 transcript_is : (system : System) (recs : List Rec) (end : End) → transcript system recs end ≡ journal_text (run_journal system recs end)
 transcript_is system recs end =
-    ap (λ z. script system ++ (header ++ z)) (flat_map-append (λ line. line ++ 10 ∷ []) (records_lines system.units 1 recs) (trailer_lines (after system recs) end (length recs)))
+    ap (λ z. script system ++ (header ++ z)) (flat_map-append (λ (line : List ℕ). line ++ 10 ∷ []) (records_lines system.units 1 recs) (trailer_lines (after system recs) end (length recs)))
 
 -- what a reader gives of the transcript of a run, that gives what the text of a journal says
 pub run_back : (text : List ℕ) (r : Result Journal JournalFail) → ((j : Journal) → IsSpelledJournal j → text ≡ journal_text j → ReadsJournal r (Ok j)) → (system : System) (recs : List Rec) (end : End) → IsHeldRun system recs → text ≡ transcript system recs end → ReadsJournal r (Ok (run_journal system recs end))

@@ -99,8 +99,8 @@ output_back units u bytes h i =
     let behind : behind_word (spaced words) ≡ spaced (text ∷ []) = behind_back name (text ∷ []) (whole name a) in
     record {
       feed = both name (32 ∷ text) (feedless name a) (text_feed bytes);
-      read = ap (λ z. output_in units z (text_of (behind_word z))) same
-        ∙ ap (λ z. output_in units (spaced words) (text_of z)) behind
+      read = ap (λ (z : List ℕ). output_in units z (text_of (behind_word z))) same
+        ∙ ap (λ (z : List ℕ). output_in units (spaced words) (text_of z)) behind
         ∙ ap (output_in units (spaced words)) (text_back bytes i)
         ∙ output_words units (spaced words) name u bytes h.1 (first_back name (text ∷ []) (whole name a));
     }
@@ -127,8 +127,8 @@ unfolding read_line
 line_back units t h =
     let is = line_is_back units t h in
     let line : List ℕ = trailer_line units t in
-    ap (λ z. line_of units z >>= if_spelled units (line ++ 10 ∷ [])) (run_first is_no_feed line (10 ∷ []) is.feed refl)
-    ∙ ap (λ o. o >>= if_spelled units (line ++ 10 ∷ [])) is.read
+    ap (λ (z : List ℕ). line_of units z >>= if_spelled units (line ++ 10 ∷ [])) (run_first is_no_feed line (10 ∷ []) is.feed refl)
+    ∙ ap (λ (o : Option TrailerLine). o >>= if_spelled units (line ++ 10 ∷ [])) is.read
     ∙ rw (bytes_same (line ++ 10 ∷ [])) refl
 
 -- All lines.
@@ -143,10 +143,10 @@ lines_back units line place (t ∷ ts) part spelled h =
     let l : List ℕ = trailer_line units t in
     let rest : List ℕ = trailer_text units ts in
     let ls : List (List ℕ) = fed_lines rest in
-    let after : place_after units place (l ++ 10 ∷ []) ≡ place_behind place t = ap (λ o. o >>= place_behind place) (line_back units t spelled.0) in
+    let after : place_after units place (l ++ 10 ∷ []) ≡ place_behind place t = ap (λ (o : Option TrailerLine). o >>= place_behind place) (line_back units t spelled.0) in
     ap (trailer_lines_from units line place) (fed_line l rest (line_is_back units t spelled.0).feed)
     ∙ first_line units line place (l ++ 10 ∷ []) ls
-    ∙ ap (λ o. or_bad line o (λ p. trailer_lines_from units (line + 1) p ls)) after
+    ∙ ap (λ (o : Option Place). or_bad line o (λ p. trailer_lines_from units (line + 1) p ls)) after
     ∙ by_place units line ts ls part (place_behind place t) (λ p k. lines_back units (line + 1) p ts part spelled.1 k) h
 
 pub trailer_back : (units : List UnitDecl) (line : ℕ) (ts : List TrailerLine) (part : Part) → AllByRecursion (IsSpelledLine units) ts → part_behind place.Records ts ≡ Some part → read_trailer units line (trailer_text units ts) ≡ Ok part

@@ -1,5 +1,5 @@
 -- The lines of records that have a spelling are read as the records.
-use Rattle.std.proofs.Common.{◌≡◌, ℕ, ◌+◌, ◌<◌, ◌≤◌, ◌^◌, ◌==◌, not, Bool, true, false, List, [], ◌∷◌, ◌++◌, length, map, Some, Ok, refl, sym, ap, ◌∙◌, arith, append_assoc, append-nil, length-append}
+use Rattle.std.proofs.Common.{◌≡◌, ℕ, ◌+◌, ◌<◌, ◌≤◌, ◌^◌, ◌==◌, not, Bool, true, false, List, [], ◌∷◌, ◌++◌, length, map, Some, Result, Ok, refl, sym, ap, ◌∙◌, arith, append_assoc, append-nil, length-append}
 use Rattle.std.proofs.lemmas.Grind.{flat_map-append}
 use Rattle.std.proofs.lemmas.List.{length-map}
 use Rattle.std.specs.Prelude.{decimal}
@@ -131,7 +131,7 @@ records_taken units line at n q (r ∷ rs) text is few h =
     let lines : List (List ℕ) = record_lines units n r in
     let more : List (List ℕ) = records_lines units (n + 1) rs in
     let after : Reading = reading (read_so_far q) r r.effects in
-    let fed : ended_lines (lines ++ more) ≡ ended_lines lines ++ ended_lines more = flat_map-append _ lines more in
+    let fed : ended_lines (lines ++ more) ≡ ended_lines lines ++ ended_lines more = flat_map-append (λ (line : List ℕ). line ++ 10 ∷ []) lines more in
     let next : n + 1 ≡ length (read_so_far after) + 1 = omega (arith, is, length-append (read_so_far q) (r ∷ [])) in
     ap (λ z. read_lines units line at q (fed_lines (z ++ text))) fed
     ∙ ap (λ z. read_lines units line at q (fed_lines z)) (append_assoc (ended_lines lines) (ended_lines more) text)
@@ -141,8 +141,8 @@ records_taken units line at n q (r ∷ rs) text is few h =
 
 -- The law.
 
-result_is : (a b : ℕ) (xs ys : List Rec) → xs ≡ ys → Ok (let z : Records = record { recs = xs; line = a; len = b } in z) ≡ Ok (record { recs = ys; line = a; len = b })
-result_is a b xs ys e = ap (λ l. Ok (let z : Records = record { recs = l; line = a; len = b } in z)) e
+abbrev read_to : ℕ → ℕ → List Rec → Result Records ℕ
+read_to line len recs = Ok (record { recs = recs; line = line; len = len })
 
 pub records_back : RecordsReadBack
 records_back units line recs rest few spelled other =
@@ -152,5 +152,5 @@ records_back units line recs rest few spelled other =
     begins units line (text ++ rest)
     ∙ records_taken units line 0 1 nothing_read recs rest refl (omega (arith, few)) spelled
     ∙ ended units (line + lines) (0 + length text) after rest other
-    ∙ ap (λ (n : ℕ). Ok (let z : Records = record { recs = read_so_far after; line = line + lines; len = n } in z)) (omega arith)
-    ∙ result_is (line + lines) (length text) (read_so_far after) recs (so_far_after nothing_read recs)
+    ∙ ap (λ (n : ℕ). read_to (line + lines) n (read_so_far after)) (omega arith)
+    ∙ ap (λ (l : List Rec). read_to (line + lines) (length text) l) (so_far_after nothing_read recs)
