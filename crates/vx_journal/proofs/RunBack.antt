@@ -79,7 +79,7 @@ told : (system : System) (s : State) (prs : List Process) → s.system ≡ syste
 told system s [] same held stand codes = tt
 told system s (pr ∷ prs) same held stand codes = ((named system s pr same held stand.0, codes.0), told system s prs same held stand.1 codes.1)
 
-run_spelled : (system : System) (recs : List Rec) (end : End) → IsHeldRun system recs → IsSpelledJournal (run_journal system recs end)
+pub run_spelled : (system : System) (recs : List Rec) (end : End) → IsHeldRun system recs → IsSpelledJournal (run_journal system recs end)
 run_spelled system recs end h =
     let s : State = after system recs in
     let same : s.system ≡ system = run_keeps_system (first system) recs in
@@ -97,7 +97,7 @@ run_spelled system recs end h =
       part = part_of_run s.system s.procs end (length recs);
     }
 
-transcript_is : (system : System) (recs : List Rec) (end : End) → transcript system recs end ≡ journal_text (run_journal system recs end)
+pub transcript_is : (system : System) (recs : List Rec) (end : End) → transcript system recs end ≡ journal_text (run_journal system recs end)
 transcript_is system recs end =
     ap (λ z. script system ++ (header ++ z)) (flat_map-append (λ (line : List ℕ). line ++ 10 ∷ []) (records_lines system.units 1 recs) (trailer_lines (after system recs) end (length recs)))
 
