@@ -10,6 +10,7 @@ use Rattle.vx_base.specs.Queues.{front, in_service}
 use Rattle.vx_base.specs.Services.{args_list, is_call}
 use Rattle.vx_base.specs.declared.call.Call.{Call}
 use Rattle.vx_base.specs.declared.cond.Cond.{Cond}
+use Rattle.vx_base.specs.declared.effects.Effect.TheVariants as effect
 use Rattle.vx_base.specs.declared.frame.Frame.{Frame}
 use Rattle.vx_base.specs.declared.frame.FrameKind.{FrameKind}
 use Rattle.vx_base.specs.declared.frame.FrameKind.TheVariants as kind
@@ -37,7 +38,7 @@ use Rattle.vx_record.specs.Asts.{deliverable_ast}
 use Rattle.vx_record.specs.Control.{process_test}
 use Rattle.vx_record.specs.Events.{ast_or_run, beg, beg_event, don, can_run, can_run_down, delivered, don_or_beg, enabled, moved_behind, moved_to, process_events, processes_from, r0_of, reader, resumed, returned, returned_from, run, run_advanced, run_events, run_frame, run_on, served_call, started, step, tick_events, unit_events, units_from, without_top, or_normal}
 use Rattle.vx_record.specs.Flags.{wait_condition}
-use Rattle.vx_record.specs.Parts.{Outcome, followed_by}
+use Rattle.vx_record.specs.Parts.{Outcome, followed_by, tells}
 use Rattle.vx_record.specs.Rundown.{cancelled_in, drain, exited, handling, inner_modes, is_busy, is_handler_of, release, run_down, run_handlers, rundown, rundown_from, without_ast}
 use Rattle.vx_record.specs.Services.{service}
 use Rattle.vx_record.specs.Sound.{FitsImage}
@@ -115,7 +116,7 @@ run_good s p (f ∷ fs) formed = run_frame_good s p f f.wait formed
 -- AST
 
 started_fine : (s : State) (p : Pid) (q : Queued) (tag : Entry) → AreFine (started s p q tag).effects
-started_fine s p q (entry.Exit code) = then_fine _ (λ a. exited a p code) (tt, tt) (λ a. exited_fine a p code)
+started_fine s p q (entry.Exit code) = then_fine (tells (effect.Leave q.id) s) (λ a. exited a p code) (tt, tt) (λ a. exited_fine a p code)
 started_fine s p q (entry.Label k prm) = tt
 started_fine s p q (entry.Host prm) = tt
 
