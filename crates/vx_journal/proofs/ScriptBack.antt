@@ -113,7 +113,7 @@ script_other s held =
     let units = flat_map unit_lines s.units in
     let images = flat_map image_lines s.images in
     let decls = map (decl_line s.images) s.decls in
-    both_other units (images ++ decls) (any_other unit_lines unit_other s.units) (both_other images decls (flat_other image_lines IsHeldImage image_other s.images held.images) (all_other (decl_line s.images) (decl_other s.images) s.decls))
+    both_other (units ++ images) decls (both_other units images (any_other unit_lines unit_other s.units) (flat_other image_lines IsHeldImage image_other s.images held.images)) (all_other (decl_line s.images) (decl_other s.images) s.decls)
 
 -- The script part.
 
