@@ -83,10 +83,10 @@ process_back units p name st code h i j =
     record {
       feed = both (decimal p.0) (32 ∷ (name ++ 32 ∷ (standing_word st ++ 32 ∷ decimal code))) (feedless (decimal p.0) a) (both name (32 ∷ (standing_word st ++ 32 ∷ decimal code)) (feedless name b) (both (standing_word st) (32 ∷ decimal code) (feedless (standing_word st) c) (feedless (decimal code) d)));
       read = ap process_in same ∙ process_words (spaced words) p name st code h i j
-        (first_back (decimal p.0) (name ∷ standing_word st ∷ decimal code ∷ []) (whole (decimal p.0) a))
-        (second_back (decimal p.0) name (standing_word st ∷ decimal code ∷ []) (whole (decimal p.0) a) (whole name b))
-        (third_back (decimal p.0) name (standing_word st) (decimal code ∷ []) (whole (decimal p.0) a) (whole name b) (whole (standing_word st) c))
-        (fourth_back (decimal p.0) name (standing_word st) (decimal code) [] (whole (decimal p.0) a) (whole name b) (whole (standing_word st) c) (whole (decimal code) d));
+          (first_back (decimal p.0) (name ∷ standing_word st ∷ decimal code ∷ []) (whole (decimal p.0) a))
+          (second_back (decimal p.0) name (standing_word st ∷ decimal code ∷ []) (whole (decimal p.0) a) (whole name b))
+          (third_back (decimal p.0) name (standing_word st) (decimal code ∷ []) (whole (decimal p.0) a) (whole name b) (whole (standing_word st) c))
+          (fourth_back (decimal p.0) name (standing_word st) (decimal code) [] (whole (decimal p.0) a) (whole name b) (whole (standing_word st) c) (whole (decimal code) d));
     }
 
 output_back : (units : List UnitDecl) (u : UnitNo) (bytes : List ℕ) → IsSpelledUnit units u → AreBytes bytes → IsBack units (trailer.Output u bytes)
@@ -100,9 +100,9 @@ output_back units u bytes h i =
     record {
       feed = both name (32 ∷ text) (feedless name a) (text_feed bytes);
       read = ap (λ (z : List ℕ). output_in units z (text_of (behind_word z))) same
-        ∙ ap (λ (z : List ℕ). output_in units (spaced words) (text_of z)) behind
-        ∙ ap (output_in units (spaced words)) (text_back bytes i)
-        ∙ output_words units (spaced words) name u bytes h.1 (first_back name (text ∷ []) (whole name a));
+          ∙ ap (λ (z : List ℕ). output_in units (spaced words) (text_of z)) behind
+          ∙ ap (output_in units (spaced words)) (text_back bytes i)
+          ∙ output_words units (spaced words) name u bytes h.1 (first_back name (text ∷ []) (whole name a));
     }
 
 end_line_back : (units : List UnitDecl) (end : End) (n : ℕ) → IsWord n → IsBack units (trailer.End end n)

@@ -148,7 +148,8 @@ pub fn read_journal(alloc: Global, text: &[u8]) -> Result<Journal, JournalFail>
     // The text of a journal that has a spelling is read as the journal.
     ensures back { (j : JournalOf) → IsSpelledJournal j → text.now ≡ spec.journal_text j → spec.ReadsJournal result (Ok j) }
     // So the transcript of each run is read as its system, its records and its trailer.
-    ensures run { (s : SystemOf) (recs : List RecOf) (end : EndOf) → IsHeldRun s recs → text.now ≡ transcript s recs end → spec.ReadsJournal result (Ok (run_journal s recs end)) }
+    ensures run { (s : SystemOf) (recs : List RecOf) (end : EndOf) → IsHeldRun s recs → text.now ≡ transcript s recs end →
+        spec.ReadsJournal result (Ok (run_journal s recs end)) }
 {
     let len = script_len(text);
     match read_script(alloc, &text[..len]) {

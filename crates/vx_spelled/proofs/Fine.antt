@@ -169,8 +169,8 @@ associated_fine : (c : Clusters) (p : Pid) (k group : ℕ) (name : List ℕ) (pe
 associated_fine c p k group name permanent h =
     change_either (has_already group name (find (is_association p k) c.associations)) _ _ tt
     (change_then (followed (dissociated c p k) (λ d. made_where_new d group name permanent)) (λ e. joined e p k group name)
-      (change_then (dissociated c p k) (λ d. made_where_new d group name permanent) (dissociated_fine c p k h) (λ d. made_fine d group name permanent))
-      (λ e. (h, tt)))
+    (change_then (dissociated c p k) (λ d. made_where_new d group name permanent) (dissociated_fine c p k h) (λ d. made_fine d group name permanent))
+    (λ e. (h, tt)))
 
 marked_at_fine : (c : Clusters) (o : Option Cluster) → ChangeFine (marked_at c o)
 marked_at_fine c None = tt
