@@ -1,5 +1,5 @@
 -- Two worked examples: a script that sets, reads and clears a flag and exits, and one whose flags are refused.
-use Rattle.std.specs.Prelude.{◌≡◌, ℕ, List, [], ◌∷◌, map, codes, true, false, Some}
+use Rattle.std.specs.Prelude.{◌≡◌, ℕ, List, [], ◌∷◌, map, take, codes, true, false, Some, Ok, Err}
 use Rattle.vx_base.specs.declared.mode.Mode.TheVariants.{User}
 use Rattle.vx_base.specs.declared.service.Service.{Service}
 use Rattle.vx_base.specs.declared.service.Service.TheVariants.{SetEf, ClrEf, ReadEf, Exit}
@@ -24,7 +24,12 @@ use Rattle.vx_image.specs.declared.stmt.Stmt.TheVariants as stmt
 use Rattle.vx_image.specs.declared.system.System.{System}
 use Rattle.vx_grammar.specs.Grammar.{Spells}
 use Rattle.vx_record.specs.Runs.{chosen, end_after}
+use Rattle.vx_journal.specs.ReadJournal.{journal_of}
 use Rattle.vx_journal.specs.Transcript.{transcript}
+use Rattle.vx_journal.specs.declared.journal.Journal.{Journal}
+use Rattle.vx_journal.specs.declared.journal.Part.TheVariants.{Cut, Ended}
+use Rattle.vx_check.specs.Verdict.{IsVerdict, run_verdict}
+use Rattle.vx_check.specs.declared.verdict.Verdict.TheVariants.{Bad, Complete, Prefix}
 
 -- a call, by its service and its first two arguments
 abbrev pub calling : Service → Arg → Arg → Call
@@ -119,3 +124,33 @@ pub record IsRefusedExample : Type 0 where
   pub run : chosen refused_system 0 10000 ≡ refused_records
   pub ended : end_after refused_system refused_records 10000 ≡ Some Done
   pub output : transcript refused_system refused_records Done ≡ refused_transcript
+
+-- The first example's transcript, read back and judged.
+
+abbrev pub flag_journal : Journal
+flag_journal = record { system = flag_system; recs = flag_records; part = Ended; trailer = codes "PROCESS 1 P GONE 1\n$END DONE 5\n" }
+
+-- cut behind record 2
+abbrev pub cut_transcript : List ℕ
+cut_transcript = codes "IMAGE MAIN\n  $SETEF 5\n  $READEF 5,A\n  $CLREF 5\n  $EXIT 1\nEND\nPROCESS P MAIN UIC=1:1 MODE=USER ASTLM=24 BIOLM=18 DIOLM=18 BYTLM=8192 TQELM=10 PRIV=NONE START=1\n$JOURNAL 1\n1 RUN 1 $SETEF 5 WASCLR\n FLAG 1:5 1\n2 RUN 1 $READEF 5,A WASSET\n VAR 1 A 32\n"
+
+abbrev pub cut_journal : Journal
+cut_journal = record { system = flag_system; recs = take 2 flag_records; part = Cut; trailer = [] }
+
+-- the same with a zero in front of the number of record 2, on line 11
+abbrev pub misspelled_transcript : List ℕ
+misspelled_transcript = codes "IMAGE MAIN\n  $SETEF 5\n  $READEF 5,A\n  $CLREF 5\n  $EXIT 1\nEND\nPROCESS P MAIN UIC=1:1 MODE=USER ASTLM=24 BIOLM=18 DIOLM=18 BYTLM=8192 TQELM=10 PRIV=NONE START=1\n$JOURNAL 1\n1 RUN 1 $SETEF 5 WASCLR\n FLAG 1:5 1\n02 RUN 1 $READEF 5,A WASSET\n VAR 1 A 32\n"
+
+-- the flag is told to have been set before it was
+abbrev pub wrong_journal : Journal
+wrong_journal = record { system = flag_system; recs = called (calling SetEf (Value (Num 5)) Unused) WasSet (effect.Flag (Local first_pid 5) true ∷ []) ∷ []; part = Cut; trailer = [] }
+
+-- The transcript is read as the run, and complete; cut it is a prefix; the misspelled line is told by its number; and the wrong
+-- record by its.
+pub record IsCheckedExample : Type 0 where
+  pub whole : journal_of flag_system flag_transcript ≡ Ok flag_journal
+  pub cut : journal_of flag_system cut_transcript ≡ Ok cut_journal
+  pub misspelled : journal_of flag_system misspelled_transcript ≡ Err 11
+  pub complete : run_verdict flag_journal ≡ Complete 5
+  pub prefix : run_verdict cut_journal ≡ Prefix 2
+  pub wrong : IsVerdict wrong_journal (Bad 1)

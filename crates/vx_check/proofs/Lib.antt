@@ -1,3 +1,4 @@
 pub mod EndedText
 pub mod Judging
 pub mod OneVerdict
+pub mod RunJudged

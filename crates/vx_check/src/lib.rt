@@ -9,5 +9,8 @@ mod law;
 mod verdict;
 
 pub use checking::check;
-pub use law::{an_ended_text_is_the_transcript, no_transcript_has_two_verdicts};
+pub use law::{
+    an_ended_text_is_the_transcript, no_transcript_has_two_verdicts,
+    the_transcript_of_a_run_is_judged_by_its_end,
+};
 pub use verdict::Verdict;

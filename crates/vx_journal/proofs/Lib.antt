@@ -1,6 +1,10 @@
 pub mod Answered
+pub mod JournalBack
 pub mod JournalText
 pub mod LineBehind
 pub mod RecordsSpelled
+pub mod RunBack
+pub mod ScriptBack
 pub mod ScriptPart
+pub mod TrailerBack
 pub mod TrailerPart

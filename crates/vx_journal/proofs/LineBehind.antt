@@ -8,7 +8,7 @@ use Rattle.vx_journal.specs.ReadJournal.{line_behind, next_line}
 nat_same : (b : ℕ) → (b == b) ≡ true
 nat_same b = grind (arith, nat_tests)
 
-same_byte : (line b : ℕ) (front text : List ℕ) → line_behind line (b ∷ front) (b ∷ text) ≡ line_behind (next_line line b) front text
+pub same_byte : (line b : ℕ) (front text : List ℕ) → line_behind line (b ∷ front) (b ∷ text) ≡ line_behind (next_line line b) front text
 unfolding line_behind
 same_byte line b front text = rw (nat_same b) refl
 

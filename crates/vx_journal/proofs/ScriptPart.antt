@@ -14,11 +14,11 @@ pub over : (at : ℕ) → len_before at (fed_lines []) ≡ at
 unfolding len_before fed_lines
 over at = refl
 
-at_line : (at : ℕ) (l : List ℕ) (ls : List (List ℕ)) → is_journal_line l ≡ true → len_before at (l ∷ ls) ≡ at
+pub at_line : (at : ℕ) (l : List ℕ) (ls : List (List ℕ)) → is_journal_line l ≡ true → len_before at (l ∷ ls) ≡ at
 unfolding len_before
 at_line at l ls h = rw h refl
 
-past_line : (at : ℕ) (l : List ℕ) (ls : List (List ℕ)) → is_journal_line l ≡ false → len_before at (l ∷ ls) ≡ len_before (at + length l) ls
+pub past_line : (at : ℕ) (l : List ℕ) (ls : List (List ℕ)) → is_journal_line l ≡ false → len_before at (l ∷ ls) ≡ len_before (at + length l) ls
 unfolding len_before
 past_line at l ls h = rw h refl
 

@@ -16,7 +16,7 @@ pub over : (units : List UnitDecl) (line : ℕ) (place : Place) → trailer_line
 unfolding trailer_lines_from fed_lines
 over units line place = refl
 
-first_line : (units : List UnitDecl) (line : ℕ) (place : Place) (l : List ℕ) (ls : List (List ℕ)) → trailer_lines_from units line place (l ∷ ls) ≡ or_bad line (place_after units place l) (λ p. trailer_lines_from units (line + 1) p ls)
+pub first_line : (units : List UnitDecl) (line : ℕ) (place : Place) (l : List ℕ) (ls : List (List ℕ)) → trailer_lines_from units line place (l ∷ ls) ≡ or_bad line (place_after units place l) (λ p. trailer_lines_from units (line + 1) p ls)
 unfolding trailer_lines_from
 first_line units line place l ls = refl
 

@@ -1,3 +1,5 @@
 pub mod Transcript
 pub mod TrailerLines
 pub mod ReadJournal
+pub mod SpelledJournal
+pub mod RunJournal

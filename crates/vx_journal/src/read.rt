@@ -1,6 +1,8 @@
 //! Reads a transcript.
 
-ghost use Rattle.std.specs.Prelude.{◌≡◌, ◌+◌, ◌<◌, ◌≤◌, IfOk, length};
+ghost use Rattle.std.specs.Prelude.{◌≡◌, ◌+◌, ◌<◌, ◌≤◌, IfOk, List, Ok, length};
+ghost use Rattle.vx_base.specs.declared.record.End.{End as EndOf};
+ghost use Rattle.vx_base.specs.declared.record.Rec.{Rec as RecOf};
 ghost use Rattle.vx_image.specs.WellFormed.{IsWellFormed};
 ghost use Rattle.vx_image.specs.declared.system.System.{System as SystemOf};
 ghost use Rattle.vx_grammar.specs.FirstFault.{Tells};
@@ -8,6 +10,10 @@ ghost use Rattle.vx_grammar.specs.Grammar.{Spells};
 ghost use Rattle.vx_lines.specs.ReadRecords.{Reads};
 ghost use Rattle.vx_script.specs.declared.fault.ScriptFault.{ScriptFault as ScriptFaultOf};
 ghost use Rattle.vx_journal.specs.ReadJournal as spec;
+ghost use Rattle.vx_journal.specs.RunJournal.{IsHeldRun, run_journal};
+ghost use Rattle.vx_journal.specs.SpelledJournal.{IsSpelledJournal};
+ghost use Rattle.vx_journal.specs.Transcript.{transcript};
+ghost use Rattle.vx_journal.specs.declared.journal.Journal.{Journal as JournalOf};
 
 use crate::journal::{Journal, JournalFail};
 use crate::trailer::read_trailer;
@@ -139,6 +145,11 @@ pub fn read_journal(alloc: Global, text: &[u8]) -> Result<Journal, JournalFail>
     ensures only { (s : SystemOf) → Spells (spec.script_part text.now) s → spec.ReadsJournal result (spec.journal_of s text.now) }
     ensures only_fault { (fault : ScriptFaultOf) → Tells (spec.script_part text.now) fault → spec.FailsScript fault result }
     ensures well_formed { IfOk result (λ j. IsWellFormed j.system) }
+    // The text of a journal that has a spelling is read as the journal.
+    ensures back { (j : JournalOf) → IsSpelledJournal j → text.now ≡ spec.journal_text j → spec.ReadsJournal result (Ok j) }
+    // So the transcript of each run is read as its system, its records and its trailer.
+    ensures run { (s : SystemOf) (recs : List RecOf) (end : EndOf) → IsHeldRun s recs → text.now ≡ transcript s recs end →
+        spec.ReadsJournal result (Ok (run_journal s recs end)) }
 {
     let len = script_len(text);
     match read_script(alloc, &text[..len]) {

@@ -56,7 +56,7 @@ pub begun : (text : List ℕ) → is_of_record text ≡ true → 0 < length text
 begun [] h = cc
 begun (b ∷ bytes) h = omega arith
 
-taken : (units : List UnitDecl) (line at : ℕ) (r : Reading) (l : List ℕ) (ls : List (List ℕ)) → is_of_record l ≡ true → read_lines units line at r (l ∷ ls) ≡ or_bad line (read_line units r l) (λ s. read_lines units (line + 1) (at + length l) s ls)
+pub taken : (units : List UnitDecl) (line at : ℕ) (r : Reading) (l : List ℕ) (ls : List (List ℕ)) → is_of_record l ≡ true → read_lines units line at r (l ∷ ls) ≡ or_bad line (read_line units r l) (λ s. read_lines units (line + 1) (at + length l) s ls)
 unfolding read_lines
 taken units line at r l ls h = rw h refl
 

@@ -18,9 +18,9 @@ use Rattle.vx_base.specs.declared.request.Body.{Body}
 use Rattle.vx_text.specs.Quote.{AreBytes, quote_text}
 use Rattle.vx_table.specs.Spelling.{mode_name, target_text}
 use Rattle.vx_lines.specs.Fields.{pid_of, text_of}
-use Rattle.vx_lines.specs.ReadEffect.{is_no_feed, effect_of, with_bytes, behind_three, body_of, open_in, flag_in, cef_in, clu_in, iosb_in, var_in, enb_in, new_in, get_in, cut_in, mbx_in, buf_in, put_in}
-use Rattle.vx_lines.specs.Records.{spaced, id_text, pid_text, bit_text, cluster_text, cell_text, opened_name, mode_text, cond_text, joined_text, body_text, effect_words}
-use Rattle.vx_lines.specs.Spelled.{IsWord, IsSpelledCell, IsSpelledBody, IsSpelledCluster, ReadsBack}
+use Rattle.vx_lines.specs.ReadEffect.{is_no_feed, read_effect, effect_of, with_bytes, behind_three, body_of, open_in, flag_in, cef_in, clu_in, iosb_in, var_in, enb_in, new_in, get_in, cut_in, mbx_in, buf_in, put_in}
+use Rattle.vx_lines.specs.Records.{effect_line, spaced, id_text, pid_text, bit_text, cluster_text, cell_text, opened_name, mode_text, cond_text, joined_text, body_text, effect_words}
+use Rattle.vx_lines.specs.Spelled.{IsSpelled, IsWord, IsSpelledCell, IsSpelledBody, IsSpelledCluster, ReadsBack}
 use Rattle.vx_lines.specs.Words.{behind_word, second_word, third_word, fourth_word, fifth_word, sixth_word}
 use Rattle.vx_lines.proofs.WordsBack.{first_back, behind_back, second_back, third_back, fourth_back, fifth_back, sixth_back}
 use Rattle.vx_lines.proofs.EffectsBack.{Tight, whole, feedless, tight_number, tight_id, tight_name, tight_bit, tight_cond, tight_mode, tight_kind, tight_mode_text, tight_cond_text, tight_target, number_back, id_back, pid_back, bit_back, mode_back, kind_back, mode_or_none_back, cond_or_none_back, name_back, target_back, by_first, read_back, feedless_spaced, only_id_back, fin_words}
@@ -115,57 +115,68 @@ new_words line p name h i b c = rw (b, c, pid_back p h, name_back name i) refl
 tight_small : (k : ℕ) → k ≤ 3 → Tight (decimal k)
 tight_small k h = tight_number k (omega (arith, h))
 
-pub effects_back : ReadsBack
-effects_back (effect.Open id kind p mode n) h =
+-- What is known of the line of an effect that has a spelling: it has no line feed, and is read as the effect.
+pub record IsBack (e : Effect) : Type 0 where
+  pub feed : list_all is_no_feed (effect_line e) ≡ true
+  pub read : read_effect (effect_line e ++ 10 ∷ []) ≡ Some e
+
+is_back : (e : Effect) → list_all is_no_feed (effect_line e) ≡ true → effect_of (effect_line e) ≡ Some e → IsBack e
+is_back e f g = record { feed = f; read = read_back e f g }
+
+pub spelled_back : (e : Effect) → IsSpelled e → IsBack e
+spelled_back (effect.Open id kind p mode n) h =
     let t : AllTight (codes "OPEN" ∷ id_text id ∷ opened_name kind ∷ pid_text p ∷ mode_text mode ∷ decimal n ∷ []) = (refl, (tight_id id h.0, (tight_kind kind, (tight_number p.0 h.1, (tight_mode_text mode, (tight_number n h.2, tt)))))) in
-    read_back (effect.Open id kind p mode n) (feedless_words (effect_words (effect.Open id kind p mode n)) t) (six (codes "OPEN") (id_text id) (opened_name kind) (pid_text p) (mode_text mode) (decimal n) (effect.Open id kind p mode n) t (λ line. open_words line id kind p mode n h.0 h.1 h.2))
-effects_back (effect.Fin id cond) h =
+    is_back (effect.Open id kind p mode n) (feedless_words (effect_words (effect.Open id kind p mode n)) t) (six (codes "OPEN") (id_text id) (opened_name kind) (pid_text p) (mode_text mode) (decimal n) (effect.Open id kind p mode n) t (λ line. open_words line id kind p mode n h.0 h.1 h.2))
+spelled_back (effect.Fin id cond) h =
     let t : AllTight (codes "FIN" ∷ id_text id ∷ name_of cond ∷ []) = (refl, (tight_id id h, (tight_cond cond, tt))) in
-    read_back (effect.Fin id cond) (feedless_words (effect_words (effect.Fin id cond)) t) (three (codes "FIN") (id_text id) (name_of cond) (effect.Fin id cond) t (λ line b c. fin_words line id cond b c h))
-effects_back (effect.Mark id) h = read_back (effect.Mark id) (feedless_words (effect_words (effect.Mark id)) (refl, (tight_id id h, tt))) (only_id_back effect.Mark (codes "MARK") id refl h (λ line. refl))
-effects_back (effect.Que id) h = read_back (effect.Que id) (feedless_words (effect_words (effect.Que id)) (refl, (tight_id id h, tt))) (only_id_back effect.Que (codes "QUE") id refl h (λ line. refl))
-effects_back (effect.Fire id) h = read_back (effect.Fire id) (feedless_words (effect_words (effect.Fire id)) (refl, (tight_id id h, tt))) (only_id_back effect.Fire (codes "FIRE") id refl h (λ line. refl))
-effects_back (effect.Drop id) h = read_back (effect.Drop id) (feedless_words (effect_words (effect.Drop id)) (refl, (tight_id id h, tt))) (only_id_back effect.Drop (codes "DROP") id refl h (λ line. refl))
-effects_back (effect.Enter id) h = read_back (effect.Enter id) (feedless_words (effect_words (effect.Enter id)) (refl, (tight_id id h, tt))) (only_id_back effect.Enter (codes "ENTER") id refl h (λ line. refl))
-effects_back (effect.Leave id) h = read_back (effect.Leave id) (feedless_words (effect_words (effect.Leave id)) (refl, (tight_id id h, tt))) (only_id_back effect.Leave (codes "LEAVE") id refl h (λ line. refl))
-effects_back (effect.Flag cell bit) h =
+    is_back (effect.Fin id cond) (feedless_words (effect_words (effect.Fin id cond)) t) (three (codes "FIN") (id_text id) (name_of cond) (effect.Fin id cond) t (λ line b c. fin_words line id cond b c h))
+spelled_back (effect.Mark id) h = is_back (effect.Mark id) (feedless_words (effect_words (effect.Mark id)) (refl, (tight_id id h, tt))) (only_id_back effect.Mark (codes "MARK") id refl h (λ line. refl))
+spelled_back (effect.Que id) h = is_back (effect.Que id) (feedless_words (effect_words (effect.Que id)) (refl, (tight_id id h, tt))) (only_id_back effect.Que (codes "QUE") id refl h (λ line. refl))
+spelled_back (effect.Fire id) h = is_back (effect.Fire id) (feedless_words (effect_words (effect.Fire id)) (refl, (tight_id id h, tt))) (only_id_back effect.Fire (codes "FIRE") id refl h (λ line. refl))
+spelled_back (effect.Drop id) h = is_back (effect.Drop id) (feedless_words (effect_words (effect.Drop id)) (refl, (tight_id id h, tt))) (only_id_back effect.Drop (codes "DROP") id refl h (λ line. refl))
+spelled_back (effect.Enter id) h = is_back (effect.Enter id) (feedless_words (effect_words (effect.Enter id)) (refl, (tight_id id h, tt))) (only_id_back effect.Enter (codes "ENTER") id refl h (λ line. refl))
+spelled_back (effect.Leave id) h = is_back (effect.Leave id) (feedless_words (effect_words (effect.Leave id)) (refl, (tight_id id h, tt))) (only_id_back effect.Leave (codes "LEAVE") id refl h (λ line. refl))
+spelled_back (effect.Flag cell bit) h =
     let t : AllTight (codes "FLAG" ∷ cell_text cell ∷ bit_text bit ∷ []) = (refl, (tight_cell cell h, (tight_bit bit, tt))) in
-    read_back (effect.Flag cell bit) (feedless_words (effect_words (effect.Flag cell bit)) t) (three (codes "FLAG") (cell_text cell) (bit_text bit) (effect.Flag cell bit) t (λ line. flag_words line cell bit h))
-effects_back (effect.Iosb p i cond count info) h =
+    is_back (effect.Flag cell bit) (feedless_words (effect_words (effect.Flag cell bit)) t) (three (codes "FLAG") (cell_text cell) (bit_text bit) (effect.Flag cell bit) t (λ line. flag_words line cell bit h))
+spelled_back (effect.Iosb p i cond count info) h =
     let t : AllTight (codes "IOSB" ∷ pid_text p ∷ decimal i ∷ cond_text cond ∷ decimal count ∷ decimal info ∷ []) = (refl, (tight_number p.0 h.0, (tight_number i h.1, (tight_cond_text cond, (tight_number count h.2, (tight_number info h.3, tt)))))) in
-    read_back (effect.Iosb p i cond count info) (feedless_words (effect_words (effect.Iosb p i cond count info)) t) (six (codes "IOSB") (pid_text p) (decimal i) (cond_text cond) (decimal count) (decimal info) (effect.Iosb p i cond count info) t (λ line. iosb_words line p i cond count info h.0 h.1 h.2 h.3))
-effects_back (effect.Buf p b bytes) h =
+    is_back (effect.Iosb p i cond count info) (feedless_words (effect_words (effect.Iosb p i cond count info)) t) (six (codes "IOSB") (pid_text p) (decimal i) (cond_text cond) (decimal count) (decimal info) (effect.Iosb p i cond count info) t (λ line. iosb_words line p i cond count info h.0 h.1 h.2 h.3))
+spelled_back (effect.Buf p b bytes) h =
     let t : AllTight (codes "BUF" ∷ pid_text p ∷ decimal b ∷ []) = (refl, (tight_number p.0 h.0, (tight_number b h.1, tt))) in
     let f = feedless_spaced (codes "BUF") (pid_text p ∷ decimal b ∷ quote_text bytes ∷ []) refl (feedless_spaced (pid_text p) (decimal b ∷ quote_text bytes ∷ []) (feedless (pid_text p) t.1.0) (feedless_spaced (decimal b) (quote_text bytes ∷ []) (feedless (decimal b) t.1.1.0) (feedless_spaced (quote_text bytes) [] (text_feed bytes) refl))) in
-    read_back (effect.Buf p b bytes) f (with_text (codes "BUF") (pid_text p) (decimal b) (quote_text bytes) (effect.Buf p b bytes) t (λ line. buf_words line p b bytes h.0 h.1 h.2))
-effects_back (effect.Var p v n) h =
+    is_back (effect.Buf p b bytes) f (with_text (codes "BUF") (pid_text p) (decimal b) (quote_text bytes) (effect.Buf p b bytes) t (λ line. buf_words line p b bytes h.0 h.1 h.2))
+spelled_back (effect.Var p v n) h =
     let t : AllTight (codes "VAR" ∷ pid_text p ∷ target_text v ∷ decimal n ∷ []) = (refl, (tight_number p.0 h.0, (tight_target v h.1, (tight_number n h.2, tt)))) in
-    read_back (effect.Var p v n) (feedless_words (effect_words (effect.Var p v n)) t) (four (codes "VAR") (pid_text p) (target_text v) (decimal n) (effect.Var p v n) t (λ line. var_words line p v n h.0 h.1 h.2))
-effects_back (effect.MPut name id body) h =
+    is_back (effect.Var p v n) (feedless_words (effect_words (effect.Var p v n)) t) (four (codes "VAR") (pid_text p) (target_text v) (decimal n) (effect.Var p v n) t (λ line. var_words line p v n h.0 h.1 h.2))
+spelled_back (effect.MPut name id body) h =
     let t : AllTight (codes "MPUT" ∷ name ∷ id_text id ∷ []) = (refl, (tight_name name h.0, (tight_id id h.1, tt))) in
     let f = feedless_spaced (codes "MPUT") (name ∷ id_text id ∷ body_text body ∷ []) refl (feedless_spaced name (id_text id ∷ body_text body ∷ []) (feedless name t.1.0) (feedless_spaced (id_text id) (body_text body ∷ []) (feedless (id_text id) t.1.1.0) (feedless_spaced (body_text body) [] (body_feed body) refl))) in
-    read_back (effect.MPut name id body) f (with_text (codes "MPUT") name (id_text id) (body_text body) (effect.MPut name id body) t (λ line. put_words line name id body h.0 h.1 h.2))
-effects_back (effect.MGet name w r) h =
+    is_back (effect.MPut name id body) f (with_text (codes "MPUT") name (id_text id) (body_text body) (effect.MPut name id body) t (λ line. put_words line name id body h.0 h.1 h.2))
+spelled_back (effect.MGet name w r) h =
     let t : AllTight (codes "MGET" ∷ name ∷ id_text w ∷ id_text r ∷ []) = (refl, (tight_name name h.0, (tight_id w h.1, (tight_id r h.2, tt)))) in
-    read_back (effect.MGet name w r) (feedless_words (effect_words (effect.MGet name w r)) t) (four (codes "MGET") name (id_text w) (id_text r) (effect.MGet name w r) t (λ line. get_words line name w r h.0 h.1 h.2))
-effects_back (effect.MCut name w) h =
+    is_back (effect.MGet name w r) (feedless_words (effect_words (effect.MGet name w r)) t) (four (codes "MGET") name (id_text w) (id_text r) (effect.MGet name w r) t (λ line. get_words line name w r h.0 h.1 h.2))
+spelled_back (effect.MCut name w) h =
     let t : AllTight (codes "MCUT" ∷ name ∷ id_text w ∷ []) = (refl, (tight_name name h.0, (tight_id w h.1, tt))) in
-    read_back (effect.MCut name w) (feedless_words (effect_words (effect.MCut name w)) t) (three (codes "MCUT") name (id_text w) (effect.MCut name w) t (λ line. cut_words line name w h.0 h.1))
-effects_back (effect.Mbx name bit) h =
+    is_back (effect.MCut name w) (feedless_words (effect_words (effect.MCut name w)) t) (three (codes "MCUT") name (id_text w) (effect.MCut name w) t (λ line. cut_words line name w h.0 h.1))
+spelled_back (effect.Mbx name bit) h =
     let t : AllTight (codes "MBX" ∷ name ∷ bit_text bit ∷ []) = (refl, (tight_name name h, (tight_bit bit, tt))) in
-    read_back (effect.Mbx name bit) (feedless_words (effect_words (effect.Mbx name bit)) t) (three (codes "MBX") name (bit_text bit) (effect.Mbx name bit) t (λ line. mbx_words line name bit h))
-effects_back (effect.Cef group name bit) h =
+    is_back (effect.Mbx name bit) (feedless_words (effect_words (effect.Mbx name bit)) t) (three (codes "MBX") name (bit_text bit) (effect.Mbx name bit) t (λ line. mbx_words line name bit h))
+spelled_back (effect.Cef group name bit) h =
     let t : AllTight (codes "CEF" ∷ cluster_text group name ∷ bit_text bit ∷ []) = (refl, (tight_cluster group name h.0 h.1, (tight_bit bit, tt))) in
-    read_back (effect.Cef group name bit) (feedless_words (effect_words (effect.Cef group name bit)) t) (three (codes "CEF") (cluster_text group name) (bit_text bit) (effect.Cef group name bit) t (λ line. cef_words line group name bit h.0 h.1))
-effects_back (effect.Clu p k cluster) h =
+    is_back (effect.Cef group name bit) (feedless_words (effect_words (effect.Cef group name bit)) t) (three (codes "CEF") (cluster_text group name) (bit_text bit) (effect.Cef group name bit) t (λ line. cef_words line group name bit h.0 h.1))
+spelled_back (effect.Clu p k cluster) h =
     let t : AllTight (codes "CLU" ∷ pid_text p ∷ decimal k ∷ joined_text cluster ∷ []) = (refl, (tight_number p.0 h.0, (tight_small k h.2, (tight_joined cluster h.3, tt)))) in
-    read_back (effect.Clu p k cluster) (feedless_words (effect_words (effect.Clu p k cluster)) t) (four (codes "CLU") (pid_text p) (decimal k) (joined_text cluster) (effect.Clu p k cluster) t (λ line. clu_words line p k cluster h.0 h.1 h.2 h.3))
-effects_back (effect.Enb p mode bit) h =
+    is_back (effect.Clu p k cluster) (feedless_words (effect_words (effect.Clu p k cluster)) t) (four (codes "CLU") (pid_text p) (decimal k) (joined_text cluster) (effect.Clu p k cluster) t (λ line. clu_words line p k cluster h.0 h.1 h.2 h.3))
+spelled_back (effect.Enb p mode bit) h =
     let t : AllTight (codes "ENB" ∷ pid_text p ∷ mode_name mode ∷ bit_text bit ∷ []) = (refl, (tight_number p.0 h, (tight_mode mode, (tight_bit bit, tt)))) in
-    read_back (effect.Enb p mode bit) (feedless_words (effect_words (effect.Enb p mode bit)) t) (four (codes "ENB") (pid_text p) (mode_name mode) (bit_text bit) (effect.Enb p mode bit) t (λ line. enb_words line p mode bit h))
-effects_back (effect.New p name) h =
+    is_back (effect.Enb p mode bit) (feedless_words (effect_words (effect.Enb p mode bit)) t) (four (codes "ENB") (pid_text p) (mode_name mode) (bit_text bit) (effect.Enb p mode bit) t (λ line. enb_words line p mode bit h))
+spelled_back (effect.New p name) h =
     let t : AllTight (codes "NEW" ∷ pid_text p ∷ name ∷ []) = (refl, (tight_number p.0 h.0, (tight_name name h.1, tt))) in
-    read_back (effect.New p name) (feedless_words (effect_words (effect.New p name)) t) (three (codes "NEW") (pid_text p) name (effect.New p name) t (λ line. new_words line p name h.0 h.1))
-effects_back (effect.Gone p) h =
+    is_back (effect.New p name) (feedless_words (effect_words (effect.New p name)) t) (three (codes "NEW") (pid_text p) name (effect.New p name) t (λ line. new_words line p name h.0 h.1))
+spelled_back (effect.Gone p) h =
     let t : AllTight (codes "GONE" ∷ pid_text p ∷ []) = (refl, (tight_number p.0 h, tt)) in
-    read_back (effect.Gone p) (feedless_words (effect_words (effect.Gone p)) t) (two (codes "GONE") (pid_text p) (effect.Gone p) t (λ line b. ap (λ (z : List ℕ). option_map effect.Gone (pid_of z)) b ∙ ap (option_map effect.Gone) (pid_back p h)))
+    is_back (effect.Gone p) (feedless_words (effect_words (effect.Gone p)) t) (two (codes "GONE") (pid_text p) (effect.Gone p) t (λ line b. ap (λ (z : List ℕ). option_map effect.Gone (pid_of z)) b ∙ ap (option_map effect.Gone) (pid_back p h)))
+
+pub effects_back : ReadsBack
+effects_back e h = (spelled_back e h).read

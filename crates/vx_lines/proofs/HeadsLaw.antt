@@ -40,7 +40,7 @@ use Rattle.vx_lines.specs.ReadEffect.{is_no_feed, unfed}
 use Rattle.vx_lines.specs.ReadHead.{as_head, ran_in, down_in, run_in, ast_in, rdn_in, beg_in, don_in, other_head, head_of, from_space, if_head, read_head}
 use Rattle.vx_lines.specs.Records.{id_text, pid_text, unit_name, event_text, answer_text, head_line}
 use Rattle.vx_lines.specs.Spelled.{IsWord}
-use Rattle.vx_lines.specs.SpelledHead.{IsSpelledCall, IsSpelledUnit, HeadsReadBack}
+use Rattle.vx_lines.specs.SpelledHead.{IsSpelledCall, IsSpelledHead, IsSpelledUnit, HeadsReadBack}
 use Rattle.vx_lines.specs.Words.{◌>>=◌, is_inner, first_word, second_word, third_word, fourth_word, behind_word}
 use Rattle.vx_lines.proofs.WordsBack.{Whole, run_first, run_behind, first_back, value_back, number_all}
 use Rattle.vx_lines.proofs.EffectsBack.{whole, feedless, tight_cond, tight_id, tight_name, tight_number, tight_mode, tight_target, cond_back, id_back, pid_back, bytes_same}
@@ -239,18 +239,24 @@ tick_behind units t h =
       feed = number_all is_no_feed t digit_feed h;
     }
 
+behind_of : (units : List UnitDecl) (e : Event) (a : Answer) → IsSpelledHead units e a → Behind units e a
+behind_of units (event.Run p) (answer.Service c cond) h = run_call units p c cond h.0 h.1
+behind_of units (event.Run p) (answer.Wait c) h = run_wait units p c h.0 h.1
+behind_of units (event.Run p) (answer.Resume cond) h = run_resume units p cond h
+behind_of units (event.Run p) answer.Return h = run_word units p answer.Return h (λ line. refl) refl
+behind_of units (event.Run p) answer.End h = run_word units p answer.End h (λ line. refl) refl
+behind_of units (event.Run p) answer.Local h = run_word units p answer.Local h (λ line. refl) refl
+behind_of units (event.Ast p) (answer.Ast id) h = ast_behind units p id h.0 h.1
+behind_of units (event.Rdn p) answer.Handler h = rdn_behind units p answer.Handler h refl refl refl
+behind_of units (event.Rdn p) answer.Busy h = rdn_behind units p answer.Busy h refl refl refl
+behind_of units (event.Rdn p) answer.Gone h = rdn_behind units p answer.Gone h refl refl refl
+behind_of units (event.Beg u) (answer.Unit id) h = beg_behind units u id h.0 h.1
+behind_of units (event.Don u) (answer.Unit id) h = don_behind units u id h.0 h.1
+behind_of units event.Tick (answer.Time t) h = tick_behind units t h
+behind_of units _ _ h = absurd h
+
 pub heads_back : HeadsReadBack
-heads_back units n (event.Run p) (answer.Service c cond) m h = whole_head units n (event.Run p) (answer.Service c cond) m (run_call units p c cond h.0 h.1)
-heads_back units n (event.Run p) (answer.Wait c) m h = whole_head units n (event.Run p) (answer.Wait c) m (run_wait units p c h.0 h.1)
-heads_back units n (event.Run p) (answer.Resume cond) m h = whole_head units n (event.Run p) (answer.Resume cond) m (run_resume units p cond h)
-heads_back units n (event.Run p) answer.Return m h = whole_head units n (event.Run p) answer.Return m (run_word units p answer.Return h (λ line. refl) refl)
-heads_back units n (event.Run p) answer.End m h = whole_head units n (event.Run p) answer.End m (run_word units p answer.End h (λ line. refl) refl)
-heads_back units n (event.Run p) answer.Local m h = whole_head units n (event.Run p) answer.Local m (run_word units p answer.Local h (λ line. refl) refl)
-heads_back units n (event.Ast p) (answer.Ast id) m h = whole_head units n (event.Ast p) (answer.Ast id) m (ast_behind units p id h.0 h.1)
-heads_back units n (event.Rdn p) answer.Handler m h = whole_head units n (event.Rdn p) answer.Handler m (rdn_behind units p answer.Handler h refl refl refl)
-heads_back units n (event.Rdn p) answer.Busy m h = whole_head units n (event.Rdn p) answer.Busy m (rdn_behind units p answer.Busy h refl refl refl)
-heads_back units n (event.Rdn p) answer.Gone m h = whole_head units n (event.Rdn p) answer.Gone m (rdn_behind units p answer.Gone h refl refl refl)
-heads_back units n (event.Beg u) (answer.Unit id) m h = whole_head units n (event.Beg u) (answer.Unit id) m (beg_behind units u id h.0 h.1)
-heads_back units n (event.Don u) (answer.Unit id) m h = whole_head units n (event.Don u) (answer.Unit id) m (don_behind units u id h.0 h.1)
-heads_back units n event.Tick (answer.Time t) m h = whole_head units n event.Tick (answer.Time t) m (tick_behind units t h)
-heads_back units n _ _ m h = absurd h
+heads_back units n e a m h = whole_head units n e a m (behind_of units e a h)
+
+pub head_feed : (units : List UnitDecl) (n : ℕ) (e : Event) (a : Answer) → n < 2 ^ 64 → IsSpelledHead units e a → list_all is_no_feed (head_line units n (as_head e a)) ≡ true
+head_feed units n e a m h = both (decimal n) (32 ∷ (event_text units e ++ 32 ∷ answer_text a)) (number_all is_no_feed n digit_feed m) (behind_of units e a h).feed

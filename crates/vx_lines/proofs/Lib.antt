@@ -5,4 +5,5 @@ pub mod HeadsBack
 pub mod HeadsLaw
 pub mod Numbers
 pub mod PartsBack
+pub mod RecordsLaw
 pub mod WordsBack

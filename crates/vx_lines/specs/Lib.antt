@@ -8,3 +8,4 @@ pub mod Cutting
 pub mod ReadRecords
 pub mod Spelled
 pub mod SpelledHead
+pub mod SpelledRecords

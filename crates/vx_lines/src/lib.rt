@@ -20,7 +20,7 @@ pub use effect_parts::{print_spaced, print_spaced_num};
 pub use effect_reader::{read_effect, unfed};
 pub use fields::{name_of, number_of, pid_of, text_of, unit_of};
 pub use head_reader::read_head;
-pub use law::{effects_are_read_back, heads_are_read_back};
+pub use law::{effects_are_read_back, heads_are_read_back, records_are_read_back};
 pub use number::number_up_to;
 pub use print::{print_records, unit_name};
 pub use read::{LinesFail, Records, fed_len, read_records};

@@ -1,5 +1,5 @@
 -- A canonical script is read back as its system.
-use Rattle.std.proofs.Common.{◌≡◌, ℕ, List, [], ◌++◌, map, flat_map, refl, ap, ◌∙◌, Ok, arith, append-nil, append_assoc}
+use Rattle.std.proofs.Common.{◌≡◌, ℕ, true, List, [], ◌++◌, map, flat_map, refl, ap, ◌∙◌, Ok, arith, append-nil, append_assoc}
 use Rattle.std.proofs.lemmas.Bool.{leb-true}
 use Rattle.vx_image.specs.WellFormed.{IsWellFormed, decl_names}
 use Rattle.vx_image.specs.declared.system.System.{System}
@@ -15,7 +15,7 @@ use Rattle.vx_roundtrip.proofs.Decls.{process_names, decls_back}
 use Rattle.vx_roundtrip.proofs.Feeds.{cut_all}
 use Rattle.vx_roundtrip.proofs.Images.{image_names, with_images, images_back}
 use Rattle.vx_roundtrip.proofs.Names.{fresh_of}
-use Rattle.vx_roundtrip.proofs.Outer.{Steps, and_then, shaped}
+use Rattle.vx_roundtrip.proofs.Outer.{Steps, and_then, are_clean, shaped}
 use Rattle.vx_roundtrip.proofs.Resolved.{Sound, ToldAll, resolved_back}
 use Rattle.vx_roundtrip.proofs.Told.{Said, Told}
 use Rattle.vx_roundtrip.proofs.Units.{unit_names, with_units, units_back}
@@ -65,6 +65,10 @@ read_back s well held =
     let all = all_read s well held in
     let sound : Sound s = record { unit_apart = well.unit_names; image_apart = well.image_names; units_are = well.units; decls_are = well.decls } in
     begins (script s) ∙ ap (read_lines 1 nothing_read) (cut_all (script_lines s) (all.read.clean refl)) ∙ all.read.read ∙ at_end all.line2 all.parts ∙ resolved_back s all.parts sound all.told
+
+-- no line of a canonical script has a line feed or a return in it
+pub clean_lines : (s : System) → IsWellFormed s → IsHeldSystem s → are_clean (script_lines s) ≡ true
+clean_lines s well held = (all_read s well held).read.clean refl
 
 -- the law
 pub reads_back : ReadsBack

@@ -1,0 +1,4 @@
+pub mod Calls
+pub mod Fine
+pub mod Heads
+pub mod Runs
