@@ -76,7 +76,8 @@ place_len (u ∷ us) (suc k) lt h =
     let other = among_at u.name us k (not_holds (is_among u.name (map (λ u. u.name) us)) parts.0) within in
     rw (other, place_len us k within parts.1) (omega arith)
 
-unit_spelled : (us : List UnitDecl) (u : UnitNo) → u.0 < length us → are_distinct (map (λ u. u.name) us) ≡ true → AreNamed us → IsSpelledUnit us u
+-- a unit of the script has a spelling
+pub unit_spelled : (us : List UnitDecl) (u : UnitNo) → u.0 < length us → are_distinct (map (λ u. u.name) us) ≡ true → AreNamed us → IsSpelledUnit us u
 unit_spelled us u lt h named =
     let is : nat_lt u.0 (length us) ≡ true = lt-ltb _ _ lt in
     (all_at (λ (x : UnitDecl). is_name x.name ≡ true) us u.0 no_unit named lt, rw (place_len us u.0 lt h, is) refl)
