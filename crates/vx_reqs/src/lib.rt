@@ -8,6 +8,8 @@
 mod found;
 mod outstanding;
 mod reqs;
+mod room;
+mod slot;
 
 pub use outstanding::Outstanding;
 pub use reqs::Reqs;
