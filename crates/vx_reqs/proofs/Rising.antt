@@ -1,7 +1,6 @@
 -- Places whose ids rise.
-use Rattle.std.proofs.Common.{◌≡◌, ◌≢◌, ℕ, ◌+◌, ◌<◌, ◌≤◌, ◌==◌, List, [], ◌∷◌, ◌++◌, Bool, true, false, cond, not, Option, Some, None, IsTrue, length, get_or, refl, ap, sym, subst, ◌∙◌, arith, suc, zero, position, nat_lt}
+use Rattle.std.proofs.Common.{◌≡◌, ◌≢◌, ℕ, ◌+◌, ◌<◌, ◌≤◌, ◌==◌, List, [], ◌∷◌, ◌++◌, Bool, true, false, cond, not, Option, Some, None, IsTrue, length, get_or, refl, ap, sym, subst, ◌∙◌, arith, suc, zero, position, nat_lt, lt-ltb, le-ltb}
 use Rattle.std.specs.List.{filter, position_or_len}
-use Rattle.std.proofs.lemmas.Bool.{ltb-true, ltb-false}
 use Rattle.std.proofs.lemmas.List.Sums.{position_or_len_is}
 use Rattle.vx_base.specs.Lists.{amend}
 use Rattle.vx_base.specs.Pieces.{Request}
@@ -37,12 +36,16 @@ is_other id x own differs = other_in id x.id x.request own differs
 pub place_some : {X : Type 0} (p : X → Bool) (xs : List X) (i : ℕ) (d : X) → i < length xs → ((k : ℕ) (e : X) → k < length xs → k ≢ i → p (get_or xs k e) ≡ false) → p (get_or xs i d) ≡ true → Some i ≡ position p xs
 place_some p xs i d within others here =
     let at : position_or_len p xs ≡ i = position_or_len_is p xs i d (omega arith) (λ k lt. others k d (omega arith) (λ same. omega (arith, same, lt))) (λ _. here) in
-    let is : nat_lt i (length xs) ≡ true = ltb-true-from within in
-    subst (λ n. Some n ≡ cond (nat_lt n (length xs)) (Some n) None) (sym at) ?
+    let is : Some i ≡ cond (nat_lt i (length xs)) (Some i) None = sym (ap (λ (b : Bool). cond b (Some i) None) (lt-ltb i (length xs) within)) in
+    subst (λ (n : ℕ). Some i ≡ cond (nat_lt n (length xs)) (Some n) None) (sym at) is
 
 pub place_none : {X : Type 0} (p : X → Bool) (xs : List X) → ((k : ℕ) (e : X) → k < length xs → p (get_or xs k e) ≡ false) → None ≡ position p xs
 place_none p [] none = refl
-place_none p (x ∷ xs) none = ?
+place_none p (x ∷ xs) none =
+    let n = length (x ∷ xs) in
+    let at : position_or_len p (x ∷ xs) ≡ n = position_or_len_is p (x ∷ xs) n x (omega arith) (λ k lt. none k x lt) (λ lt. absurd (omega (arith, lt))) in
+    let is : None ≡ cond (nat_lt n n) (Some n) None = sym (ap (λ (b : Bool). cond b (Some n) None) (le-ltb n n (omega arith))) in
+    subst (λ (m : ℕ). None ≡ cond (nat_lt m n) (Some m) None) (sym at) is
 
 -- one more, with an id that is not below the bound
 pub rises_put : (low : ℕ) (xs : List Place) (next : ℕ) (x : Place) → Rises low xs next → next ≤ x.id.0 → IsOwn x → Rises low (xs ++ x ∷ []) (x.id.0 + 1)

@@ -1,6 +1,6 @@
 //! Requests found in their places.
 
-ghost use Rattle.std.specs.Prelude.{◌≡◌, ◌≢◌, ◌<◌, ◌+◌, ℕ, Bool, false, IfSome, length, option_map, position, vec_len, vec_capacity, get_or};
+ghost use Rattle.std.specs.Prelude.{◌≡◌, ◌<◌, ◌≤◌, ℕ, Bool, IfSome, length, option_map, position, vec_len, vec_capacity, get_or};
 ghost use Rattle.std.specs.List.{find, list_any};
 ghost use Rattle.vx_base.specs.Lists.{amend};
 ghost use Rattle.vx_base.specs.Pieces.{Request};
@@ -12,20 +12,18 @@ use crate::outstanding::Outstanding;
 use crate::slot::Slot;
 use vx_base::{Id, Mode, Pid, Routine, UnitNo, at_place};
 
-// The one place where a request with an id may stand, among ids that rise.
-fn only_place<R: Routine>(slots: &[Slot<R>], _next: u64, id: Id) -> usize
+// The first place whose id is not below a number, among ids that rise.
+fn first_from<R: Routine>(slots: &[Slot<R>], _next: u64, number: u64) -> usize
     requires { Rises 0 slots.now _next }
-    ensures { (k : ℕ) (d : Place) → k < length slots.now → k ≢ result → holds (has_id id) (get_or slots.now k d) ≡ false }
+    ensures within { result ≤ length slots.now }
+    ensures below { (k : ℕ) (d : Place) → k < result → (get_or slots.now k d).id.0 < number }
+    ensures above { (k : ℕ) (d : Place) → result ≤ k → k < length slots.now → number ≤ (get_or slots.now k d).id.0 }
 {
     let mut low = 0;
     let mut high = slots.len();
     while low < high {
         let middle = low + (high - low) / 2;
-        let found = slots[middle].id();
-        if found.0 == id.0 {
-            return middle;
-        }
-        if found.0 < id.0 {
+        if (slots[middle].id().0 as u64) < number {
             low = middle + 1;
         } else {
             high = middle;
@@ -40,7 +38,7 @@ fn place_among<R: Routine>(slots: &[Slot<R>], next: u64, id: Id) -> Option<usize
     ensures place { result ≡ position (holds (has_id id)) slots.now }
     ensures within { IfSome result (λ i. i < length slots.now) }
 {
-    let at = only_place(slots, next, id);
+    let at = first_from(slots, next, id.0 as u64);
     if at < slots.len() && slots[at].has_id(id) {
         Some(at)
     } else {

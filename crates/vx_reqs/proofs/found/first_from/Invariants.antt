@@ -1,14 +1,14 @@
 use Rattle.std.proofs.Common.{ℕ, ◌<◌, ◌≤◌, ◌-◌, length, get_or}
 use Rattle.vx_reqs.specs.Places.{Place}
-use Rattle.vx_reqs.proofs.found.only_place.Given as goal
+use Rattle.vx_reqs.proofs.found.first_from.Given as goal
 
--- the ids before `low` are below the one that is sought, and those from `high` on above it
+-- the ids before `low` are below the number, and those from `high` on are not
 abbrev pub invariant-loop-low : goal.invariant-loop-low
 invariant-loop-low l = record {
   order : l.low ≤ l.high;
   within : l.high ≤ length l.slots;
-  below : (k : ℕ) (d : Place) → k < l.low → (get_or l.slots k d).id.0 < l.id.0;
-  above : (k : ℕ) (d : Place) → l.high ≤ k → k < length l.slots → l.id.0 < (get_or l.slots k d).id.0;
+  below : (k : ℕ) (d : Place) → k < l.low → (get_or l.slots k d).id.0 < l.number;
+  above : (k : ℕ) (d : Place) → l.high ≤ k → k < length l.slots → l.number ≤ (get_or l.slots k d).id.0;
 }
 
 abbrev pub decreases-loop-low : goal.decreases-loop-low
