@@ -1,5 +1,5 @@
 -- Places whose ids rise.
-use Rattle.std.proofs.Common.{◌≡◌, ◌≢◌, ℕ, ◌+◌, ◌<◌, ◌≤◌, ◌==◌, List, [], ◌∷◌, ◌++◌, Bool, true, false, cond, not, Option, Some, None, IsTrue, length, get_or, refl, ap, sym, subst, ◌∙◌, arith, suc, zero, position, nat_lt, lt-ltb, le-ltb}
+use Rattle.std.proofs.Common.{◌≡◌, ◌≢◌, ℕ, ◌+◌, ◌<◌, ◌≤◌, ◌==◌, List, [], ◌∷◌, ◌++◌, Bool, true, false, cond, not, Option, Some, None, IsTrue, length, get_or, refl, ap, sym, subst, ◌∙◌, arith, suc, zero, position, nat_lt, lt-ltb, le-ltb, ne_eqb}
 use Rattle.std.specs.List.{filter, position_or_len}
 use Rattle.std.proofs.lemmas.List.Sums.{position_or_len_is}
 use Rattle.vx_base.specs.Lists.{amend}
@@ -27,15 +27,15 @@ rises_between low (x ∷ xs) next h (suc i) (suc j) d lt in_range = rises_betwee
 -- a place of its own holds no request with another id
 other_in : (id i : Id) (o : Option Request) → IsOwn (record { id = i; request = o }) → i.0 ≢ id.0 → holds (has_id id) (record { id = i; request = o }) ≡ false
 other_in id i None own differs = refl
-other_in id i (Some r) own differs = grind (arith, own, differs)
+other_in id i (Some r) own differs = ne_eqb r.req.id.0 id.0 (λ e. differs (sym own ∙ e))
 
 pub is_other : (id : Id) (x : Place) → IsOwn x → x.id.0 ≢ id.0 → holds (has_id id) x ≡ false
 is_other id x own differs = other_in id x.id x.request own differs
 
--- where one place alone may pass, it is the first that does
-pub place_some : {X : Type 0} (p : X → Bool) (xs : List X) (i : ℕ) (d : X) → i < length xs → ((k : ℕ) (e : X) → k < length xs → k ≢ i → p (get_or xs k e) ≡ false) → p (get_or xs i d) ≡ true → Some i ≡ position p xs
-place_some p xs i d within others here =
-    let at : position_or_len p xs ≡ i = position_or_len_is p xs i d (omega arith) (λ k lt. others k d (omega arith) (λ same. omega (arith, same, lt))) (λ _. here) in
+-- where none passes before a place that does, it is the first
+pub place_first : {X : Type 0} (p : X → Bool) (xs : List X) (i : ℕ) (d : X) → i < length xs → ((k : ℕ) → k < i → p (get_or xs k d) ≡ false) → p (get_or xs i d) ≡ true → Some i ≡ position p xs
+place_first p xs i d within before here =
+    let at : position_or_len p xs ≡ i = position_or_len_is p xs i d (omega arith) before (λ _. here) in
     let is : Some i ≡ cond (nat_lt i (length xs)) (Some i) None = sym (ap (λ (b : Bool). cond b (Some i) None) (lt-ltb i (length xs) within)) in
     subst (λ (n : ℕ). Some i ≡ cond (nat_lt n (length xs)) (Some n) None) (sym at) is
 

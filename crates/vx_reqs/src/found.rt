@@ -4,16 +4,16 @@ ghost use Rattle.std.specs.Prelude.{◌≡◌, ◌<◌, ◌≤◌, ℕ, Bool, If
 ghost use Rattle.std.specs.List.{find, list_any};
 ghost use Rattle.vx_base.specs.Lists.{amend};
 ghost use Rattle.vx_base.specs.Pieces.{Request};
-ghost use Rattle.vx_base.specs.Queues.{is_served_by, waits_for};
 ghost use Rattle.vx_reqs.specs.Requests.{has_id, as_served, as_marked, is_to_cancel, keeps_open};
-ghost use Rattle.vx_reqs.specs.Places.{Place, emptied, changed, holds, live, Rises, RisesIf};
+ghost use Rattle.vx_reqs.specs.Places.{Place, emptied, changed, holds, live, OrderedIf, Rises};
 
+use crate::order::Order;
 use crate::outstanding::Outstanding;
 use crate::slot::Slot;
-use vx_base::{Id, Mode, Pid, Routine, UnitNo, at_place};
+use vx_base::{Id, Mode, Pid, Routine};
 
-// The first place whose id is not below a number, among ids that rise.
-fn first_from<R: Routine>(slots: &[Slot<R>], _next: u64, number: u64) -> usize
+/// The first place whose id is not below a number, among ids that rise.
+pub(crate) fn first_from<R: Routine>(slots: &[Slot<R>], _next: u64, number: u64) -> usize
     requires { Rises 0 slots.now _next }
     ensures within { result ≤ length slots.now }
     ensures below { (k : ℕ) (d : Place) → k < result → (get_or slots.now k d).id.0 < number }
@@ -47,37 +47,16 @@ fn place_among<R: Routine>(slots: &[Slot<R>], next: u64, id: Id) -> Option<usize
 }
 
 /// Where the request with an id stands. Where the ids rise, as from a counter, in the logarithm of the places.
-pub(crate) fn place_of_id<R: Routine>(
-    slots: &[Slot<R>],
-    rising: bool,
-    next: u64,
-    id: Id,
-) -> Option<usize>
-    requires { RisesIf rising slots.now next }
+pub(crate) fn place_of_id<R: Routine>(slots: &[Slot<R>], order: &Order, id: Id) -> Option<usize>
+    requires { OrderedIf order.now.rising order.now.next order.now.from order.now.served slots.now }
     ensures place { result ≡ position (holds (has_id id)) slots.now }
     ensures within { IfSome result (λ i. i < length slots.now) }
 {
-    if rising {
-        place_among(slots, next, id)
+    if order.rising {
+        place_among(slots, order.next, id)
     } else {
         slots.iter().position(|s| s.has_id(id))
     }
-}
-
-/// Where the first request stands that waits for a unit.
-pub(crate) fn place_waiting<R: Routine>(slots: &[Slot<R>], u: UnitNo) -> Option<usize>
-    ensures place { result ≡ position (holds (waits_for u)) slots.now }
-    ensures within { IfSome result (λ i. i < length slots.now) }
-{
-    slots.iter().position(|s| s.waits_for(u))
-}
-
-/// Where the request stands that a unit serves.
-pub(crate) fn place_served<R: Routine>(slots: &[Slot<R>], u: UnitNo) -> Option<usize>
-    ensures place { result ≡ position (holds (is_served_by u)) slots.now }
-    ensures within { IfSome result (λ i. i < length slots.now) }
-{
-    slots.iter().position(|s| s.is_served_by(u))
 }
 
 /// Where the first request of a process on a channel stands that is still to be cancelled.
@@ -90,7 +69,7 @@ pub(crate) fn place_to_cancel<R: Routine>(slots: &[Slot<R>], p: Pid, chan: u32) 
 
 /// Whether a request of a process is outstanding on a channel of a mode or an outer one.
 pub(crate) fn any_open<R: Routine>(slots: &[Slot<R>], p: Pid, mode: Mode) -> bool
-    ensures { result ≡ list_any (keeps_open p mode) (live slots.now) }
+    ensures { result ≡ list_any (holds (keeps_open p mode)) slots.now }
 {
     slots.iter().any(|s| s.keeps_open(p, mode))
 }
@@ -103,7 +82,21 @@ pub(crate) fn request_at<R: Routine>(
     requires { IfSome place (λ i. i < length slots.now) }
     ensures { (p : Request → Bool) → place ≡ position (holds p) slots.now → option_map (λ o. o.now) result ≡ find p (live slots.now) }
 {
-    at_place(slots, place)?.held()
+    match place {
+        Some(place) => slots[place].held(),
+        None => None,
+    }
+}
+
+/// The id at a place, if there is one.
+pub(crate) fn id_at<R: Routine>(slots: &[Slot<R>], place: Option<usize>) -> Option<Id>
+    requires { IfSome place (λ i. i < length slots.now) }
+    ensures { (p : Place → Bool) → place ≡ position p slots.now → result ≡ option_map (λ y. y.id) (find p slots.now) }
+{
+    match place {
+        Some(place) => Some(slots[place].id()),
+        None => None,
+    }
 }
 
 /// Takes out the request at a place, if there is one.

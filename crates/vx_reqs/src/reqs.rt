@@ -7,12 +7,13 @@ ghost use Rattle.vx_base.specs.Queues.{front, in_service};
 ghost use Rattle.vx_reqs.specs.Requests.{promised_of, has_id, is_found, as_marked, begun, is_to_cancel, keeps_open};
 
 use crate::found::{
-    any_open, mark_at, place_of_id, place_served, place_to_cancel, place_waiting, request_at, serve_at,
-    take_at,
+    any_open, id_at, mark_at, place_of_id, place_to_cancel, request_at, serve_at, take_at,
 };
+use crate::order::Order;
 use crate::outstanding::Outstanding;
 use crate::room::{make_space, reserve_double};
 use crate::slot::Slot;
+use crate::units::{place_served, place_waiting, settle, settle_unit};
 use std::alloc::Global;
 use std::marker::Model;
 use vx_base::{Id, Mode, NoMemory, Pid, Req, Routine, UnitNo};
@@ -24,8 +25,7 @@ pub struct Reqs<R: Routine> {
     slots: Vec<Slot<R>>,
     count: usize,
     room: usize,
-    rising: bool,
-    next: u64,
+    order: Order,
 }
 
 impl<R: Routine> Model for Reqs<R> {
@@ -37,7 +37,7 @@ impl<R: Routine> Model for Reqs<R> {
 
     ghost view = { λ a. record { items = live a.slots.items; capacity = a.room } };
 
-    ghost invariant = { λ a. IsKept a.slots.items a.count a.room (vec_capacity a.slots) a.rising a.next };
+    ghost invariant = { λ a. IsKept a.slots.items a.count a.room (vec_capacity a.slots) a.order.rising a.order.next a.order.from a.order.served };
 }
 
 impl<R: Routine> Reqs<R> {
@@ -49,8 +49,7 @@ impl<R: Routine> Reqs<R> {
             slots: Vec::new(alloc),
             count: 0,
             room: 0,
-            rising: true,
-            next: 0,
+            order: Order::new(),
         }
     }
 
@@ -75,21 +74,19 @@ impl<R: Routine> Reqs<R> {
         ensures { self.new ≡ record self.old { items = self.old.items ++ record { req = req; ast = option_map (promised_of R.tagged) ast; served = false; marked = false } ∷ [] } }
     {
         make_space(&mut self.slots);
-        let id = req.id;
+        self.order.accept(req.id, req.device);
         self.slots.push_reserved(Slot::new(Outstanding::new(req, ast)));
         self.count += 1;
-        self.rising = self.rising && self.next <= id.0 as u64;
-        self.next = id.0 as u64 + 1;
     }
 
     /// What a unit would be asked next, as `front` has it.
     pub fn next(&self, u: UnitNo) -> Option<&Req>
         ensures { option_map (λ r. r.now) result ≡ option_map (λ r. r.req) (front u self.now.items) }
     {
-        if place_served(self.slots.as_slice(), u).is_some() {
+        if place_served(self.slots.as_slice(), &self.order, u).is_some() {
             return None;
         }
-        let place = place_waiting(self.slots.as_slice(), u);
+        let place = place_waiting(self.slots.as_slice(), &self.order, u);
         let front = request_at(self.slots.as_slice(), place)?;
         Some(front.req())
     }
@@ -99,10 +96,10 @@ impl<R: Routine> Reqs<R> {
     pub fn front(&self, u: UnitNo) -> Option<Id>
         ensures { result ≡ option_map (λ r. r.req.id) (front u self.now.items) }
     {
-        if place_served(self.slots.as_slice(), u).is_some() {
+        if place_served(self.slots.as_slice(), &self.order, u).is_some() {
             return None;
         }
-        let place = place_waiting(self.slots.as_slice(), u);
+        let place = place_waiting(self.slots.as_slice(), &self.order, u);
         let front = request_at(self.slots.as_slice(), place)?;
         Some(front.id())
     }
@@ -112,19 +109,23 @@ impl<R: Routine> Reqs<R> {
         ensures found { result ≡ option_map (λ r. r.req.id) (front u self.old.items) }
         ensures after { self.new ≡ record self.old { items = begun u self.old.items } }
     {
-        let front = self.front(u);
-        if place_served(self.slots.as_slice(), u).is_none() {
-            let place = place_waiting(self.slots.as_slice(), u);
-            serve_at(&mut self.slots, place);
+        if place_served(self.slots.as_slice(), &self.order, u).is_some() {
+            return None;
         }
-        front
+        let place = place_waiting(self.slots.as_slice(), &self.order, u);
+        let front = request_at(self.slots.as_slice(), place)?.id();
+        let first = id_at(self.slots.as_slice(), place);
+        serve_at(&mut self.slots, place);
+        self.order.begin(u, first);
+        settle_unit(&mut self.order, self.slots.as_slice(), u);
+        Some(front)
     }
 
     /// The request that a unit serves. None exactly where it serves none.
     pub fn in_service(&self, u: UnitNo) -> Option<Id>
         ensures { result ≡ option_map (λ r. r.req.id) (in_service u self.now.items) }
     {
-        let place = place_served(self.slots.as_slice(), u);
+        let place = place_served(self.slots.as_slice(), &self.order, u);
         let served = request_at(self.slots.as_slice(), place)?;
         Some(served.id())
     }
@@ -133,7 +134,7 @@ impl<R: Routine> Reqs<R> {
     fn with_id(&self, id: Id) -> Option<&Outstanding<R>>
         ensures { option_map (λ o. o.now) result ≡ find (has_id id) self.now.items }
     {
-        let place = place_of_id(self.slots.as_slice(), self.rising, self.next, id);
+        let place = place_of_id(self.slots.as_slice(), &self.order, id);
         request_at(self.slots.as_slice(), place)
     }
 
@@ -164,9 +165,10 @@ impl<R: Routine> Reqs<R> {
         ensures found { result ≡ find (has_id id) self.old.items }
         ensures after { self.new ≡ record self.old { items = less (has_id id) self.old.items } }
     {
-        let place = place_of_id(self.slots.as_slice(), self.rising, self.next, id);
+        let place = place_of_id(self.slots.as_slice(), &self.order, id);
         let done = take_at(&mut self.slots, place)?;
         self.count -= 1;
+        settle(&mut self.order, self.slots.as_slice(), done.req().device);
         Some(done)
     }
 
@@ -193,7 +195,7 @@ impl<R: Routine> Reqs<R> {
         {
             return false;
         }
-        let place = place_of_id(self.slots.as_slice(), self.rising, self.next, id);
+        let place = place_of_id(self.slots.as_slice(), &self.order, id);
         mark_at(&mut self.slots, place);
         true
     }

@@ -1,8 +1,8 @@
 //! Room in the places: the empty ones are taken out where there is none at the end.
 
-ghost use Rattle.std.specs.Prelude.{◌≡◌, ◌<◌, ◌≤◌, ℕ, IfOk, OnOk, length, vec_len, vec_capacity};
+ghost use Rattle.std.specs.Prelude.{◌≡◌, ◌<◌, ◌≤◌, ℕ, Bool, List, IfOk, length, vec_len, vec_capacity};
 ghost use Rattle.std.specs.List.{filter};
-ghost use Rattle.vx_reqs.specs.Places.{is_held, live, Rises};
+ghost use Rattle.vx_reqs.specs.Places.{is_held, live, OrderedIf};
 
 use crate::slot::Slot;
 use vx_base::{NoMemory, Routine};
@@ -20,7 +20,7 @@ fn close_up<R: Routine>(slots: &mut Vec<Slot<R>>)
 pub(crate) fn make_space<R: Routine>(slots: &mut Vec<Slot<R>>)
     requires { length (live slots.old.items) < vec_capacity slots.old }
     ensures live { live slots.new.items ≡ live slots.old.items }
-    ensures rises { (low next : ℕ) → Rises low slots.old.items next → Rises low slots.new.items next }
+    ensures order { (rising : Bool) (next : ℕ) (from served : List ℕ) → OrderedIf rising next from served slots.old.items → OrderedIf rising next from served slots.new.items }
     ensures space { vec_len slots.new < vec_capacity slots.new }
     ensures capacity { vec_capacity slots.new ≡ vec_capacity slots.old }
 {
@@ -32,7 +32,7 @@ pub(crate) fn make_space<R: Routine>(slots: &mut Vec<Slot<R>>)
 /// Makes places for twice the requests and more, and says for how many requests there is room.
 pub(crate) fn reserve_double<R: Routine>(slots: &mut Vec<Slot<R>>) -> Result<usize, NoMemory>
     ensures live { live slots.new.items ≡ live slots.old.items }
-    ensures rises { (low next : ℕ) → Rises low slots.old.items next → Rises low slots.new.items next }
+    ensures order { (rising : Bool) (next : ℕ) (from served : List ℕ) → OrderedIf rising next from served slots.old.items → OrderedIf rising next from served slots.new.items }
     ensures room { IfOk result (λ room. length (live slots.old.items) < room) }
     ensures within { IfOk result (λ room. room ≤ vec_capacity slots.new) }
     ensures capacity { vec_capacity slots.old ≤ vec_capacity slots.new }
