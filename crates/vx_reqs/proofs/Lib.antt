@@ -1,3 +1,6 @@
+pub mod Among
 pub mod Live
-pub mod Rising
 pub mod Numbers
+pub mod Ordered
+pub mod Rising
+pub mod Turns

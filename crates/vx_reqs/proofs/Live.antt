@@ -102,3 +102,28 @@ amend_length p g (x ∷ xs) =
       | true ↦ omega arith
       | false ↦ omega (arith, rest)
     ]
+
+pub amend_nothing : {X : Type 0} (p : X → Bool) (g : X → X) (xs : List X) → None ≡ find p xs → xs ≡ amend p g xs
+amend_nothing p g [] e = refl
+amend_nothing p g (x ∷ xs) e =
+    elim (p x) as (λ b. None ≡ cond b (Some x) (find p xs) → x ∷ xs ≡ cond b (g x ∷ xs) (x ∷ amend p g xs)) [
+      | true ↦ λ found. absurd (cc)
+      | false ↦ λ found. ap (λ ys. x ∷ ys) (amend_nothing p g xs found)
+    ] e
+
+pub any_found : {X : Type 0} (p : X → Bool) (xs : List X) → list_any p xs ≡ is_some (find p xs)
+any_found p [] = refl
+any_found p (x ∷ xs) =
+    let rest = any_found p xs in
+    elim (p x) as (λ b. cond b true (list_any p xs) ≡ is_some (cond b (Some x) (find p xs))) [
+      | true ↦ refl
+      | false ↦ rest
+    ]
+
+pub none_any : {X : Type 0} (p : X → Bool) (xs : List X) → list_any p xs ≡ false → None ≡ find p xs
+none_any p [] e = refl
+none_any p (x ∷ xs) e =
+    elim (p x) as (λ b. cond b true (list_any p xs) ≡ false → None ≡ cond b (Some x) (find p xs)) [
+      | true ↦ λ any. absurd (cc)
+      | false ↦ λ any. none_any p xs any
+    ] e

@@ -58,7 +58,7 @@ keep_unserved u from served other (x ∷ xs) none h =
     (record { waits = h.0.waits; serves = λ _. here.0 }, keep_unserved u from served other xs here.1 h.1)
 
 -- what is served waits no more
-not_both : (b : Bool) → (b && false) ≡ false
+pub not_both : (b : Bool) → (b && false) ≡ false
 not_both true = refl
 not_both false = refl
 

@@ -47,8 +47,9 @@ impl Order {
     pub(crate) fn begin(&mut self, u: UnitNo, first: Option<Id>)
         ensures { (places : List Place) → None ≡ find (holds (is_served_by u)) places → first ≡ option_map (λ y. y.id) (find (holds (waits_for u)) places) → OrderedIf self.old.rising self.old.next self.old.from self.old.served places → OrderedIf self.new.rising self.new.next self.new.from self.new.served (amend (holds (waits_for u)) (changed as_served) places) }
     {
-        if let Some(id) = first {
-            put(&mut self.served, u, id.0 as u64);
+        match first {
+            Some(id) => put(&mut self.served, u, id.0 as u64),
+            None => (),
         }
     }
 
@@ -56,11 +57,10 @@ impl Order {
     pub(crate) fn settle(&mut self, u: UnitNo, first: Option<Id>)
         ensures { (places : List Place) → first ≡ option_map (λ y. y.id) (find (holds (waits_for u)) places) → OrderedIf self.old.rising self.old.next self.old.from self.old.served places → OrderedIf self.new.rising self.new.next self.new.from self.new.served places }
     {
-        let number = match first {
-            Some(id) => id.0 as u64,
-            None => u64::MAX,
-        };
-        put(&mut self.from, u, number);
+        match first {
+            Some(id) => put(&mut self.from, u, id.0 as u64),
+            None => put(&mut self.from, u, u64::MAX),
+        }
     }
 }
 

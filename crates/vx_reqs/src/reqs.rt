@@ -13,7 +13,7 @@ use crate::order::Order;
 use crate::outstanding::Outstanding;
 use crate::room::{make_space, reserve_double};
 use crate::slot::Slot;
-use crate::units::{place_served, place_waiting, settle, settle_unit};
+use crate::units::{front, place_waiting, serving, settle, settle_unit};
 use std::alloc::Global;
 use std::marker::Model;
 use vx_base::{Id, Mode, NoMemory, Pid, Req, Routine, UnitNo};
@@ -83,11 +83,7 @@ impl<R: Routine> Reqs<R> {
     pub fn next(&self, u: UnitNo) -> Option<&Req>
         ensures { option_map (λ r. r.now) result ≡ option_map (λ r. r.req) (front u self.now.items) }
     {
-        if place_served(self.slots.as_slice(), &self.order, u).is_some() {
-            return None;
-        }
-        let place = place_waiting(self.slots.as_slice(), &self.order, u);
-        let front = request_at(self.slots.as_slice(), place)?;
+        let front = front(self.slots.as_slice(), &self.order, u)?;
         Some(front.req())
     }
 
@@ -96,11 +92,7 @@ impl<R: Routine> Reqs<R> {
     pub fn front(&self, u: UnitNo) -> Option<Id>
         ensures { result ≡ option_map (λ r. r.req.id) (front u self.now.items) }
     {
-        if place_served(self.slots.as_slice(), &self.order, u).is_some() {
-            return None;
-        }
-        let place = place_waiting(self.slots.as_slice(), &self.order, u);
-        let front = request_at(self.slots.as_slice(), place)?;
+        let front = front(self.slots.as_slice(), &self.order, u)?;
         Some(front.id())
     }
 
@@ -109,11 +101,8 @@ impl<R: Routine> Reqs<R> {
         ensures found { result ≡ option_map (λ r. r.req.id) (front u self.old.items) }
         ensures after { self.new ≡ record self.old { items = begun u self.old.items } }
     {
-        if place_served(self.slots.as_slice(), &self.order, u).is_some() {
-            return None;
-        }
+        let front = front(self.slots.as_slice(), &self.order, u)?.id();
         let place = place_waiting(self.slots.as_slice(), &self.order, u);
-        let front = request_at(self.slots.as_slice(), place)?.id();
         let first = id_at(self.slots.as_slice(), place);
         serve_at(&mut self.slots, place);
         self.order.begin(u, first);
@@ -125,8 +114,7 @@ impl<R: Routine> Reqs<R> {
     pub fn in_service(&self, u: UnitNo) -> Option<Id>
         ensures { result ≡ option_map (λ r. r.req.id) (in_service u self.now.items) }
     {
-        let place = place_served(self.slots.as_slice(), &self.order, u);
-        let served = request_at(self.slots.as_slice(), place)?;
+        let served = serving(self.slots.as_slice(), &self.order, u)?;
         Some(served.id())
     }
 
@@ -134,8 +122,9 @@ impl<R: Routine> Reqs<R> {
     fn with_id(&self, id: Id) -> Option<&Outstanding<R>>
         ensures { option_map (λ o. o.now) result ≡ find (has_id id) self.now.items }
     {
-        let place = place_of_id(self.slots.as_slice(), &self.order, id);
-        request_at(self.slots.as_slice(), place)
+        let slots = self.slots.as_slice();
+        let place = place_of_id(slots, &self.order, id);
+        request_at(slots, place)
     }
 
     /// The request with an id. None exactly where there is none.
@@ -177,8 +166,9 @@ impl<R: Routine> Reqs<R> {
     pub fn to_cancel(&self, p: Pid, chan: u32) -> Option<Id>
         ensures { result ≡ option_map (λ r. r.req.id) (find (is_to_cancel p chan) self.now.items) }
     {
-        let place = place_to_cancel(self.slots.as_slice(), p, chan);
-        let found = request_at(self.slots.as_slice(), place)?;
+        let slots = self.slots.as_slice();
+        let place = place_to_cancel(slots, p, chan);
+        let found = request_at(slots, place)?;
         Some(found.id())
     }
 

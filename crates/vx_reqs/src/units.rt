@@ -1,11 +1,13 @@
 //! The requests of a unit found in their places.
 
-ghost use Rattle.std.specs.Prelude.{◌≡◌, ◌≢◌, ◌<◌, ℕ, Bool, false, IfSome, length, position, get_or};
-ghost use Rattle.vx_base.specs.Queues.{is_served_by, waits_for};
-ghost use Rattle.vx_reqs.specs.Places.{Place, OrderedIf, Rises, holds};
+ghost use Rattle.std.specs.Prelude.{◌≡◌, ◌≢◌, ◌<◌, ℕ, Bool, false, IfSome, length, option_map, position, get_or};
+ghost use Rattle.std.specs.List.{find};
+ghost use Rattle.vx_base.specs.Queues.{front, in_service, is_served_by, waits_for};
+ghost use Rattle.vx_reqs.specs.Places.{Place, OrderedIf, Rises, holds, live};
 
-use crate::found::{first_from, id_at};
+use crate::found::{first_from, id_at, request_at};
 use crate::order::Order;
+use crate::outstanding::Outstanding;
 use crate::slot::Slot;
 use vx_base::{Device, Routine, UnitNo};
 
@@ -77,6 +79,47 @@ pub(crate) fn place_served<R: Routine>(
         served_among(slots, order.next, order.served[u.0 as usize], u)
     } else {
         slots.iter().position(|s| s.is_served_by(u))
+    }
+}
+
+// The first request that waits for a unit.
+fn waiting<'a, R: Routine>(
+    slots: &'a [Slot<R>],
+    order: &Order,
+    u: UnitNo,
+) -> Option<&'a Outstanding<R>>
+    requires { OrderedIf order.now.rising order.now.next order.now.from order.now.served slots.now }
+    ensures { option_map (λ o. o.now) result ≡ find (waits_for u) (live slots.now) }
+{
+    let place = place_waiting(slots, order, u);
+    request_at(slots, place)
+}
+
+/// The request that a unit serves.
+pub(crate) fn serving<'a, R: Routine>(
+    slots: &'a [Slot<R>],
+    order: &Order,
+    u: UnitNo,
+) -> Option<&'a Outstanding<R>>
+    requires { OrderedIf order.now.rising order.now.next order.now.from order.now.served slots.now }
+    ensures { option_map (λ o. o.now) result ≡ in_service u (live slots.now) }
+{
+    let place = place_served(slots, order, u);
+    request_at(slots, place)
+}
+
+/// The request that a unit takes next.
+pub(crate) fn front<'a, R: Routine>(
+    slots: &'a [Slot<R>],
+    order: &Order,
+    u: UnitNo,
+) -> Option<&'a Outstanding<R>>
+    requires { OrderedIf order.now.rising order.now.next order.now.from order.now.served slots.now }
+    ensures { option_map (λ o. o.now) result ≡ front u (live slots.now) }
+{
+    match serving(slots, order, u) {
+        Some(_) => None,
+        None => waiting(slots, order, u),
     }
 }
 
