@@ -4,3 +4,4 @@ pub mod Numbers
 pub mod Ordered
 pub mod Rising
 pub mod Turns
+pub mod Counts

@@ -7,12 +7,22 @@ ghost use Rattle.vx_reqs.specs.Places.{is_held, live, OrderedIf};
 use crate::slot::Slot;
 use vx_base::{NoMemory, Routine};
 
-// Takes the empty places out. Takes no memory.
-fn close_up<R: Routine>(slots: &mut Vec<Slot<R>>)
+// Keeps the places where requests stand.
+fn keep_held<R: Routine>(slots: &mut Vec<Slot<R>>)
     ensures items { slots.new.items ≡ filter is_held slots.old.items }
     ensures capacity { vec_capacity slots.new ≡ vec_capacity slots.old }
 {
     slots.retain(|s| s.is_held());
+}
+
+// Takes the empty places out. Takes no memory.
+fn close_up<R: Routine>(slots: &mut Vec<Slot<R>>)
+    ensures live { live slots.new.items ≡ live slots.old.items }
+    ensures order { (rising : Bool) (next : ℕ) (from served : List ℕ) → OrderedIf rising next from served slots.old.items → OrderedIf rising next from served slots.new.items }
+    ensures len { vec_len slots.new ≡ length (live slots.old.items) }
+    ensures capacity { vec_capacity slots.new ≡ vec_capacity slots.old }
+{
+    keep_held(slots);
 }
 
 /// Makes a place free at the end. Takes no memory. As room is made for twice the requests, the empty places are gone over

@@ -4,7 +4,7 @@ use Rattle.vx_reqs.proofs.found.first_from.Given as goal
 
 -- the ids before `low` are below the number, and those from `high` on are not
 abbrev pub invariant-loop-low : goal.invariant-loop-low
-invariant-loop-low l = record {
+invariant-loop-low g l = record {
   order : l.low ≤ l.high;
   within : l.high ≤ length l.slots;
   below : (k : ℕ) (d : Place) → k < l.low → (get_or l.slots k d).id.0 < l.number;
@@ -12,4 +12,4 @@ invariant-loop-low l = record {
 }
 
 abbrev pub decreases-loop-low : goal.decreases-loop-low
-decreases-loop-low l = l.high - l.low
+decreases-loop-low g l = l.high - l.low
