@@ -1,5 +1,5 @@
 -- What the numbers of a unit say of places.
-use Rattle.std.proofs.Common.{◌≡◌, ◌≢◌, ℕ, ◌+◌, ◌<◌, ◌≤◌, ◌==◌, ◌&&◌, List, [], ◌∷◌, ◌++◌, Bool, true, false, cond, not, Option, Some, None, IsTrue, length, get_or, refl, ap, sym, subst, ◌∙◌, arith, suc, zero, eqb-true, ne_eqb}
+use Rattle.std.proofs.Common.{◌≡◌, ◌≢◌, ℕ, ◌+◌, ◌<◌, ◌≤◌, ◌==◌, ◌&&◌, List, [], ◌∷◌, ◌++◌, Bool, true, false, cond, not, Option, Some, None, IsTrue, length, get_or, refl, ap, sym, subst, ◌∙◌, arith, suc, zero, eqb-true, ne_eqb, true≢false}
 use Rattle.std.specs.List.{filter, find, list_any}
 use Rattle.vx_base.specs.Lists.{amend}
 use Rattle.vx_base.specs.Pieces.{Request}
@@ -66,7 +66,7 @@ no_wait : (u : UnitNo) (i : Id) (o : Option Request) → holds (waits_for u) (ch
 no_wait u i None = refl
 no_wait u i (Some r) = not_both (is_on u r)
 
-first_of_two : (a b : Bool) → (a && b) ≡ true → a ≡ true
+pub first_of_two : (a b : Bool) → (a && b) ≡ true → a ≡ true
 first_of_two true b e = refl
 first_of_two false b e = e
 
@@ -112,3 +112,7 @@ keep_idle u from other served [] none h = tt
 keep_idle u from other served (x ∷ xs) none h =
     let here = none_in (holds (waits_for u)) x xs none in
     (record { waits = λ _. here.0; serves = h.0.serves }, keep_idle u from other served xs here.1 h.1)
+
+pub second_of_two : (a b : Bool) → (a && b) ≡ true → b ≡ true
+second_of_two true b e = e
+second_of_two false b e = absurd (true≢false (sym e))

@@ -68,7 +68,7 @@ own_in f same i (Some r) own = same r ∙ own
 pub own_changed : (f : Request → Request) (same : (r : Request) → (f r).req.id.0 ≡ r.req.id.0) (x : Place) → IsOwn x → IsOwn (changed f x)
 own_changed f same x own = own_in f same x.id x.request own
 
-rises_from : (lower low : ℕ) (xs : List Place) (next : ℕ) → lower ≤ low → Rises low xs next → Rises lower xs next
+pub rises_from : (lower low : ℕ) (xs : List Place) (next : ℕ) → lower ≤ low → Rises low xs next → Rises lower xs next
 rises_from lower low [] next le h = omega (arith, le, h)
 rises_from lower low (x ∷ xs) next le h = (h.0, omega (arith, le, h.1), h.2)
 

@@ -1,6 +1,6 @@
 //! What is known of the order of places: ids that rise, and where each unit's requests are.
 
-ghost use Rattle.std.specs.Prelude.{◌≡◌, ◌≢◌, ◌<◌, ◌≤◌, ◌∷◌, ◌++◌, [], Some, None, true, false, List, get_or, option_map};
+ghost use Rattle.std.specs.Prelude.{◌≡◌, ◌≢◌, ◌<◌, ◌≤◌, ◌∷◌, ◌++◌, [], Some, None, true, false, List, get_or, nat_le, option_map, ◌&&◌};
 ghost use Rattle.std.specs.List.{find};
 ghost use Rattle.vx_base.specs.Lists.{amend};
 ghost use Rattle.vx_base.specs.Pieces.{Request};
@@ -38,7 +38,7 @@ impl Order {
         ensures { (places : List Place) (r : Request) → r.req.id ≡ id → r.req.device ≡ device → r.served ≡ false → OrderedIf self.old.rising self.old.next self.old.from self.old.served places → OrderedIf self.new.rising self.new.next self.new.from self.new.served (places ++ record { id = id; request = Some r } ∷ []) }
     {
         let number = id.0 as u64;
-        self.rising = self.rising && self.next <= number;
+        self.rising = goes_on(self.rising, self.next, number);
         self.next = number + 1;
         lower(&mut self.from, device, number);
     }
@@ -62,6 +62,13 @@ impl Order {
             None => put(&mut self.from, u, u64::MAX),
         }
     }
+}
+
+// Whether the ids still rise, with one more.
+fn goes_on(rising: bool, next: u64, number: u64) -> bool
+    ensures { result ≡ (rising && nat_le next number) }
+{
+    rising && next <= number
 }
 
 // Puts the number of a unit.
