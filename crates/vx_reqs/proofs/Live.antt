@@ -1,5 +1,5 @@
 -- The requests that stand in places: found, taken out, changed and added.
-use Rattle.std.proofs.Common.{◌≡◌, ℕ, ◌+◌, List, [], ◌∷◌, ◌++◌, Bool, true, false, cond, Option, Some, None, IsTrue, length, refl, ap, sym, ◌∙◌, arith, option_to_list, is_some}
+use Rattle.std.proofs.Common.{◌≡◌, ℕ, ◌+◌, List, [], ◌∷◌, ◌++◌, Bool, true, false, cond, ◌||◌, Option, Some, None, IsTrue, length, refl, ap, sym, ◌∙◌, arith, option_to_list, is_some}
 use Rattle.std.specs.List.{find, list_any, filter}
 use Rattle.vx_base.specs.Lists.{less, amend}
 use Rattle.vx_base.specs.Pieces.{Request}
@@ -49,7 +49,7 @@ amend_live p f (x ∷ xs) = amend_in p f x.id x.request xs (amend_live p f xs)
 
 any_in : (p : Request → Bool) (i : Id) (o : Option Request) (xs : List Place) → list_any (holds p) xs ≡ list_any p (live xs) → list_any (holds p) (record { id = i; request = o } ∷ xs) ≡ list_any p (live (record { id = i; request = o } ∷ xs))
 any_in p i None xs rest = rest
-any_in p i (Some r) xs rest = elim (p r) as (λ b. (cond b true (list_any (holds p) xs)) ≡ cond b true (list_any p (live xs))) [
+any_in p i (Some r) xs rest = elim (p r) as (λ b. (b || list_any (holds p) xs) ≡ (b || list_any p (live xs))) [
     | true ↦ refl
     | false ↦ rest
   ]
@@ -115,7 +115,7 @@ pub any_found : {X : Type 0} (p : X → Bool) (xs : List X) → list_any p xs �
 any_found p [] = refl
 any_found p (x ∷ xs) =
     let rest = any_found p xs in
-    elim (p x) as (λ b. cond b true (list_any p xs) ≡ is_some (cond b (Some x) (find p xs))) [
+    elim (p x) as (λ b. (b || list_any p xs) ≡ is_some (cond b (Some x) (find p xs))) [
       | true ↦ refl
       | false ↦ rest
     ]
@@ -123,7 +123,7 @@ any_found p (x ∷ xs) =
 pub none_any : {X : Type 0} (p : X → Bool) (xs : List X) → list_any p xs ≡ false → None ≡ find p xs
 none_any p [] e = refl
 none_any p (x ∷ xs) e =
-    elim (p x) as (λ b. cond b true (list_any p xs) ≡ false → None ≡ cond b (Some x) (find p xs)) [
+    elim (p x) as (λ b. (b || list_any p xs) ≡ false → None ≡ cond b (Some x) (find p xs)) [
       | true ↦ λ any. absurd (cc)
       | false ↦ λ any. none_any p xs any
     ] e

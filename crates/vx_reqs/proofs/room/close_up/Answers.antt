@@ -1,4 +1,4 @@
-use Rattle.std.proofs.Common.{◌∙◌, ap, sym, subst, length, List}
+use Rattle.std.proofs.Common.{◌∙◌, ap, sym, subst, length, List, arith}
 use Rattle.vx_reqs.specs.Places.{Place, IsOrdered, live}
 use Rattle.vx_reqs.proofs.Live.{live_kept, length_kept}
 use Rattle.vx_reqs.proofs.Ordered.{ordered_kept}
@@ -11,4 +11,4 @@ pub returns-clause-order : goal.returns-clause-order
 returns-clause-order g c = λ rising next from served ordered is. subst (λ (xs : List Place). IsOrdered next from served xs) (sym c.keep_held.ensures.items) (ordered_kept c.args.slots.now.items next from served (ordered is))
 
 pub returns-clause-len : goal.returns-clause-len
-returns-clause-len g c = ap length c.keep_held.ensures.items ∙ length_kept c.args.slots.now.items
+returns-clause-len g c = omega (arith, c.keep_held.new.slots.ok.0, ap length c.keep_held.ensures.items ∙ length_kept c.args.slots.now.items)
