@@ -1,5 +1,5 @@
 -- The requests that stand in places: found, taken out, changed and added.
-use Rattle.std.proofs.Common.{◌≡◌, ℕ, ◌+◌, List, [], ◌∷◌, ◌++◌, Bool, true, false, cond, ◌||◌, Option, Some, None, IsTrue, length, refl, ap, sym, ◌∙◌, arith, option_to_list, is_some}
+use Rattle.std.proofs.Common.{◌≡◌, ℕ, ◌+◌, List, [], ◌∷◌, ◌++◌, Bool, true, false, cond, ◌||◌, Option, Some, None, IsTrue, length, refl, ap, sym, ◌∙◌, arith, option_to_list, option_map, is_some}
 use Rattle.std.specs.List.{find, list_any, filter}
 use Rattle.vx_base.specs.Lists.{less, amend}
 use Rattle.vx_base.specs.Pieces.{Request}
@@ -127,3 +127,7 @@ none_any p (x ∷ xs) e =
       | true ↦ λ any. absurd (cc)
       | false ↦ λ any. none_any p xs any
     ] e
+
+pub is_some_map : {X Y : Type 0} (f : X → Y) (o : Option X) → is_some o ≡ is_some (option_map f o)
+is_some_map f None = refl
+is_some_map f (Some x) = refl

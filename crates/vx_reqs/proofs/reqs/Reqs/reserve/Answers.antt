@@ -11,6 +11,6 @@ invariant_of-self g c = record {
 pub invariant_of-self-2 : goal.invariant_of-self-2
 invariant_of-self-2 g c = record {
   count_is = c.self.invariant.count_is ∙ sym (ap length c.reserve_double.ensures.live);
-  within = c.in_ok-reserve_double.ensures.within;
+  within = c.in_ok-self-inside.ensures.within;
   order = c.reserve_double.ensures.order _ _ _ _ c.self.invariant.order;
 }
