@@ -38,13 +38,13 @@ module _ (p : Place → Bool) (xs : List Place) (n i : ℕ) (fails : (k : ℕ) (
       elim (nat_lt k i) as (λ b. nat_lt k i ≡ b → p (get_or xs k d) ≡ false) [
         | true ↦ λ e. let low = below k d (ltb-true k i e) in fails k d lt (λ same. omega (arith, same, low))
         | false ↦ λ e. elim (nat_lt i k) as (λ b. nat_lt i k ≡ b → p (get_or xs k d) ≡ false) [
-            | true ↦ λ f.
-                let beyond = ltb-true i k f in
-                let more = rises_between 0 xs next rises i k d beyond lt in
-                let least = above i d (omega arith) (omega (arith, beyond, lt)) in
-                fails k d lt (λ same. omega (arith, same, more, least))
-            | false ↦ λ f.
-                let same : i ≡ k = omega (arith, ltb-false k i e, ltb-false i k f) in
-                subst (λ (j : ℕ). p (get_or xs j d) ≡ false) same (here (omega (arith, same, lt)) d)
-          ] refl
+          | true ↦ λ f.
+              let beyond = ltb-true i k f in
+              let more = rises_between 0 xs next rises i k d beyond lt in
+              let least = above i d (omega arith) (omega (arith, beyond, lt)) in
+              fails k d lt (λ same. omega (arith, same, more, least))
+          | false ↦ λ f.
+              let same : i ≡ k = omega (arith, ltb-false k i e, ltb-false i k f) in
+              subst (λ (j : ℕ). p (get_or xs j d) ≡ false) same (here (omega (arith, same, lt)) d)
+        ] refl
       ] refl)

@@ -1,5 +1,5 @@
 -- How many requests stand in places, kept by each change.
-use Rattle.std.proofs.Common.{◌≡◌, ℕ, ◌+◌, ◌-◌, List, [], ◌∷◌, ◌++◌, Bool, Option, Some, length, ap, sym, ◌∙◌, arith, length-append}
+use Rattle.std.proofs.Common.{◌≡◌, ℕ, ◌+◌, ◌-◌, List, [], ◌∷◌, ◌++◌, Bool, Some, length, ap, sym, ◌∙◌, arith, length-append}
 use Rattle.std.specs.List.{find}
 use Rattle.vx_base.specs.Lists.{less, amend}
 use Rattle.vx_base.specs.Pieces.{Request}

@@ -1,5 +1,5 @@
 -- The requests that stand in places: found, taken out, changed and added.
-use Rattle.std.proofs.Common.{◌≡◌, ℕ, ◌+◌, List, [], ◌∷◌, ◌++◌, Bool, true, false, cond, ◌||◌, Option, Some, None, IsTrue, length, refl, ap, sym, ◌∙◌, arith, option_to_list, option_map, is_some}
+use Rattle.std.proofs.Common.{◌≡◌, ◌+◌, List, [], ◌∷◌, ◌++◌, Bool, true, false, cond, ◌||◌, Option, Some, None, length, refl, ap, arith, option_to_list, option_map, is_some}
 use Rattle.std.specs.List.{find, list_any, filter}
 use Rattle.vx_base.specs.Lists.{less, amend}
 use Rattle.vx_base.specs.Pieces.{Request}
@@ -14,9 +14,9 @@ request_of (Some place) = place.request
 found_in : (p : Request → Bool) (i : Id) (o : Option Request) (xs : List Place) → find p (live xs) ≡ request_of (find (holds p) xs) → find p (live (record { id = i; request = o } ∷ xs)) ≡ request_of (find (holds p) (record { id = i; request = o } ∷ xs))
 found_in p i None xs rest = rest
 found_in p i (Some r) xs rest = elim (p r) as (λ b. cond b (Some r) (find p (live xs)) ≡ request_of (cond b (Some (record { id = i; request = Some r })) (find (holds p) xs))) [
-    | true ↦ refl
-    | false ↦ rest
-  ]
+  | true ↦ refl
+  | false ↦ rest
+]
 
 -- what is found among the requests is what stands in the place that is found
 pub found_live : (p : Request → Bool) (xs : List Place) → find p (live xs) ≡ request_of (find (holds p) xs)
@@ -26,9 +26,9 @@ found_live p (x ∷ xs) = found_in p x.id x.request xs (found_live p xs)
 less_in : (p : Request → Bool) (i : Id) (o : Option Request) (xs : List Place) → live (amend (holds p) emptied xs) ≡ less p (live xs) → live (amend (holds p) emptied (record { id = i; request = o } ∷ xs)) ≡ less p (live (record { id = i; request = o } ∷ xs))
 less_in p i None xs rest = rest
 less_in p i (Some r) xs rest = elim (p r) as (λ b. live (cond b (record { id = i; request = None } ∷ xs) (record { id = i; request = Some r } ∷ amend (holds p) emptied xs)) ≡ cond b (live xs) (r ∷ less p (live xs))) [
-    | true ↦ refl
-    | false ↦ ap (λ rs. r ∷ rs) rest
-  ]
+  | true ↦ refl
+  | false ↦ ap (λ rs. r ∷ rs) rest
+]
 
 -- the place of the first that passes emptied
 pub less_live : (p : Request → Bool) (xs : List Place) → live (amend (holds p) emptied xs) ≡ less p (live xs)
@@ -38,9 +38,9 @@ less_live p (x ∷ xs) = less_in p x.id x.request xs (less_live p xs)
 amend_in : (p : Request → Bool) (f : Request → Request) (i : Id) (o : Option Request) (xs : List Place) → live (amend (holds p) (changed f) xs) ≡ amend p f (live xs) → live (amend (holds p) (changed f) (record { id = i; request = o } ∷ xs)) ≡ amend p f (live (record { id = i; request = o } ∷ xs))
 amend_in p f i None xs rest = rest
 amend_in p f i (Some r) xs rest = elim (p r) as (λ b. live (cond b (record { id = i; request = Some (f r) } ∷ xs) (record { id = i; request = Some r } ∷ amend (holds p) (changed f) xs)) ≡ cond b (f r ∷ live xs) (r ∷ amend p f (live xs))) [
-    | true ↦ refl
-    | false ↦ ap (λ rs. r ∷ rs) rest
-  ]
+  | true ↦ refl
+  | false ↦ ap (λ rs. r ∷ rs) rest
+]
 
 -- the first that passes changed in its place
 pub amend_live : (p : Request → Bool) (f : Request → Request) (xs : List Place) → live (amend (holds p) (changed f) xs) ≡ amend p f (live xs)
@@ -50,9 +50,9 @@ amend_live p f (x ∷ xs) = amend_in p f x.id x.request xs (amend_live p f xs)
 any_in : (p : Request → Bool) (i : Id) (o : Option Request) (xs : List Place) → list_any (holds p) xs ≡ list_any p (live xs) → list_any (holds p) (record { id = i; request = o } ∷ xs) ≡ list_any p (live (record { id = i; request = o } ∷ xs))
 any_in p i None xs rest = rest
 any_in p i (Some r) xs rest = elim (p r) as (λ b. (b || list_any (holds p) xs) ≡ (b || list_any p (live xs))) [
-    | true ↦ refl
-    | false ↦ rest
-  ]
+  | true ↦ refl
+  | false ↦ rest
+]
 
 pub any_live : (p : Request → Bool) (xs : List Place) → list_any (holds p) xs ≡ list_any p (live xs)
 any_live p [] = refl

@@ -1,6 +1,6 @@
 -- What the numbers of a unit say of places.
-use Rattle.std.proofs.Common.{◌≡◌, ◌≢◌, ℕ, ◌+◌, ◌<◌, ◌≤◌, ◌==◌, ◌&&◌, List, [], ◌∷◌, ◌++◌, Bool, true, false, cond, not, Option, Some, None, IsTrue, length, get_or, refl, ap, sym, subst, ◌∙◌, arith, suc, zero, eqb-true, ne_eqb, true≢false}
-use Rattle.std.specs.List.{filter, find, list_any}
+use Rattle.std.proofs.Common.{◌≡◌, ◌≢◌, ℕ, ◌+◌, ◌<◌, ◌≤◌, ◌==◌, ◌&&◌, List, [], ◌∷◌, ◌++◌, Bool, true, false, cond, not, Option, Some, None, length, get_or, refl, ap, sym, subst, ◌∙◌, arith, suc, zero, eqb-true, ne_eqb, true≢false}
+use Rattle.std.specs.List.{filter, find}
 use Rattle.vx_base.specs.Lists.{amend}
 use Rattle.vx_base.specs.Pieces.{Request}
 use Rattle.vx_base.specs.Queues.{is_on, is_unit, is_served_by, waits_for}
@@ -8,8 +8,8 @@ use Rattle.vx_base.specs.declared.number.Id.{Id}
 use Rattle.vx_base.specs.declared.number.UnitNo.{UnitNo}
 use Rattle.vx_base.specs.declared.request.Device.{Device}
 use Rattle.vx_base.specs.declared.request.Device.TheVariants as device
-use Rattle.vx_reqs.specs.Places.{Place, holds, is_held, emptied, changed, Keeps, AllKeep, Rises}
-use Rattle.vx_reqs.specs.Requests.{as_served, as_marked}
+use Rattle.vx_reqs.specs.Places.{Place, holds, is_held, changed, Keeps, AllKeep, Rises}
+use Rattle.vx_reqs.specs.Requests.{as_served}
 use Rattle.vx_reqs.proofs.Rising.{rises_from}
 
 pub keep_at : (u : UnitNo) (from served : ℕ) (xs : List Place) → AllKeep u from served xs → (k : ℕ) (d : Place) → k < length xs → Keeps u from served (get_or xs k d)

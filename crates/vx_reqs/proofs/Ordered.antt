@@ -1,5 +1,5 @@
 -- The order of places, kept by each change.
-use Rattle.std.proofs.Common.{◌≡◌, ◌≢◌, ℕ, ◌+◌, ◌<◌, ◌≤◌, ◌==◌, ◌&&◌, List, [], ◌∷◌, ◌++◌, Bool, true, false, cond, not, Option, Some, None, option_map, length, get_or, refl, ap, sym, subst, ◌∙◌, arith, eqb-true, eq-eqb, true≢false}
+use Rattle.std.proofs.Common.{◌≡◌, ◌≢◌, ℕ, ◌+◌, ◌<◌, ◌≤◌, ◌==◌, ◌&&◌, List, [], ◌∷◌, ◌++◌, Bool, true, false, not, Option, Some, None, option_map, get_or, refl, ap, sym, subst, ◌∙◌, arith, eqb-true, eq-eqb, true≢false}
 use Rattle.std.specs.List.{filter, find}
 use Rattle.vx_base.specs.Lists.{amend}
 use Rattle.vx_base.specs.Pieces.{Request}
@@ -49,8 +49,8 @@ begun_order u id places next from served new none is here others ordered =
     record {
       rises = rises_amend (holds (waits_for u)) (changed as_served) (λ x. refl) (own_changed as_served (λ r. refl)) 0 places next ordered.rises;
       units = by_unit (λ v. AllKeep v (get_or from v.0 0) (get_or new v.0 0) changed_places) u
-        (λ lt. subst (λ (n : ℕ). AllKeep u (get_or from u.0 0) n changed_places) (ap (λ (i : Id). i.0) found.2 ∙ sym (here lt)) (keep_begun u (get_or from u.0 0) (get_or served u.0 0) places found.0 none found.1 (ordered.units u lt)))
-        (λ v differs lt. subst (λ (n : ℕ). AllKeep v (get_or from v.0 0) n changed_places) (sym (others v differs)) (keep_begun_elsewhere u v differs (get_or from v.0 0) (get_or served v.0 0) places (ordered.units v lt)));
+          (λ lt. subst (λ (n : ℕ). AllKeep u (get_or from u.0 0) n changed_places) (ap (λ (i : Id). i.0) found.2 ∙ sym (here lt)) (keep_begun u (get_or from u.0 0) (get_or served u.0 0) places found.0 none found.1 (ordered.units u lt)))
+          (λ v differs lt. subst (λ (n : ℕ). AllKeep v (get_or from v.0 0) n changed_places) (sym (others v differs)) (keep_begun_elsewhere u v differs (get_or from v.0 0) (get_or served v.0 0) places (ordered.units v lt)));
     }
 
 others_stay : (u : UnitNo) (places : List Place) (from new served : List ℕ) → ((v : UnitNo) → u.0 ≢ v.0 → get_or new v.0 0 ≡ get_or from v.0 0) → ((v : UnitNo) → v.0 < 32 → AllKeep v (get_or from v.0 0) (get_or served v.0 0) places) → (v : UnitNo) → u.0 ≢ v.0 → v.0 < 32 → AllKeep v (get_or new v.0 0) (get_or served v.0 0) places
@@ -62,16 +62,16 @@ settled_some u id places next from new served is here others ordered =
     record {
       rises = ordered.rises;
       units = by_unit (λ v. AllKeep v (get_or new v.0 0) (get_or served v.0 0) places) u
-        (λ lt. subst (λ (n : ℕ). AllKeep u n (get_or served u.0 0) places) (ap (λ (i : Id). i.0) found.2 ∙ sym (here lt)) (keep_settled u (get_or from u.0 0) (get_or served u.0 0) 0 places next found.0 found.1 ordered.rises (ordered.units u lt)))
-        (others_stay u places from new served others ordered.units);
+          (λ lt. subst (λ (n : ℕ). AllKeep u n (get_or served u.0 0) places) (ap (λ (i : Id). i.0) found.2 ∙ sym (here lt)) (keep_settled u (get_or from u.0 0) (get_or served u.0 0) 0 places next found.0 found.1 ordered.rises (ordered.units u lt)))
+          (others_stay u places from new served others ordered.units);
     }
 
 pub settled_none : (u : UnitNo) (places : List Place) (next : ℕ) (from new served : List ℕ) → None ≡ option_map (λ y. y.id) (find (holds (waits_for u)) places) → ((v : UnitNo) → u.0 ≢ v.0 → get_or new v.0 0 ≡ get_or from v.0 0) → IsOrdered next from served places → IsOrdered next new served places
 settled_none u places next from new served is others ordered = record {
   rises = ordered.rises;
   units = by_unit (λ v. AllKeep v (get_or new v.0 0) (get_or served v.0 0) places) u
-    (λ lt. keep_idle u (get_or from u.0 0) (get_or new u.0 0) (get_or served u.0 0) places (none_of (find (holds (waits_for u)) places) is) (ordered.units u lt))
-    (others_stay u places from new served others ordered.units);
+      (λ lt. keep_idle u (get_or from u.0 0) (get_or new u.0 0) (get_or served u.0 0) places (none_of (find (holds (waits_for u)) places) is) (ordered.units u lt))
+      (others_stay u places from new served others ordered.units);
 }
 
 -- a request that leaves its place

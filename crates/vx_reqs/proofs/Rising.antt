@@ -1,11 +1,11 @@
 -- Places whose ids rise.
-use Rattle.std.proofs.Common.{◌≡◌, ◌≢◌, ℕ, ◌+◌, ◌<◌, ◌≤◌, ◌==◌, List, [], ◌∷◌, ◌++◌, Bool, true, false, cond, not, Option, Some, None, IsTrue, length, get_or, refl, ap, sym, subst, ◌∙◌, arith, suc, zero, position, nat_lt, lt-ltb, le-ltb, ne_eqb}
+use Rattle.std.proofs.Common.{◌≡◌, ◌≢◌, ℕ, ◌+◌, ◌<◌, ◌≤◌, List, [], ◌∷◌, ◌++◌, Bool, true, false, cond, Option, Some, None, length, get_or, refl, ap, sym, subst, ◌∙◌, arith, suc, zero, position, nat_lt, lt-ltb, le-ltb, ne_eqb}
 use Rattle.std.specs.List.{filter, position_or_len}
 use Rattle.std.proofs.lemmas.List.Sums.{position_or_len_is}
 use Rattle.vx_base.specs.Lists.{amend}
 use Rattle.vx_base.specs.Pieces.{Request}
 use Rattle.vx_base.specs.declared.number.Id.{Id}
-use Rattle.vx_reqs.specs.Places.{Place, holds, is_held, emptied, changed, IsOwn, Rises}
+use Rattle.vx_reqs.specs.Places.{Place, holds, is_held, changed, IsOwn, Rises}
 use Rattle.vx_reqs.specs.Requests.{has_id}
 
 -- each place has its own id, which is not below the first bound

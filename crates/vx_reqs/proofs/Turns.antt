@@ -1,5 +1,5 @@
 -- What the front of a unit tells of the list.
-use Rattle.std.proofs.Common.{◌≡◌, List, Bool, true, false, cond, Option, Some, None, refl, ap, is_some, sym, ◌∙◌}
+use Rattle.std.proofs.Common.{◌≡◌, List, Bool, true, false, cond, Some, None, refl, ap, is_some, sym, ◌∙◌}
 use Rattle.std.specs.List.{find, list_any}
 use Rattle.vx_base.specs.Lists.{amend}
 use Rattle.vx_base.specs.Pieces.{Request}

@@ -1,5 +1,5 @@
 -- Requests in the places where they were accepted.
-use Rattle.std.specs.Prelude.{ℕ, ◌+◌, ◌<◌, ◌≤◌, ◌≡◌, ◌≢◌, get_or, List, [], ◌∷◌, ◌++◌, Bool, true, false, IsTrue, Option, None, Some, is_some, option_map, option_to_list, length, IfSome}
+use Rattle.std.specs.Prelude.{ℕ, ◌+◌, ◌<◌, ◌≤◌, ◌≡◌, ◌≢◌, get_or, List, [], ◌∷◌, ◌++◌, Bool, false, IsTrue, Option, None, is_some, option_map, option_to_list, length, IfSome}
 use Rattle.vx_base.specs.Pieces.{Request}
 use Rattle.vx_base.specs.Queues.{is_served_by, waits_for}
 use Rattle.vx_base.specs.declared.number.Id.{Id}

@@ -75,7 +75,8 @@ impl<R: Routine> Reqs<R> {
     {
         make_space(&mut self.slots);
         self.order.accept(req.id, req.device);
-        self.slots.push_reserved(Slot::new(Outstanding::new(req, ast)));
+        self.slots
+            .push_reserved(Slot::new(Outstanding::new(req, ast)));
         self.count += 1;
     }
 

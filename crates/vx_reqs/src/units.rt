@@ -28,12 +28,7 @@ fn waiting_on<R: Routine>(slots: &[Slot<R>], first: usize, u: UnitNo) -> Option<
 }
 
 // Where the request stands that a unit serves, where only the one with that id may be.
-fn served_among<R: Routine>(
-    slots: &[Slot<R>],
-    next: u64,
-    number: u64,
-    u: UnitNo,
-) -> Option<usize>
+fn served_among<R: Routine>(slots: &[Slot<R>], next: u64, number: u64, u: UnitNo) -> Option<usize>
     requires rises { Rises 0 slots.now next }
     requires serves { (k : ℕ) (d : Place) → k < length slots.now → (get_or slots.now k d).id.0 ≢ number → holds (is_served_by u) (get_or slots.now k d) ≡ false }
     ensures place { result ≡ position (holds (is_served_by u)) slots.now }
@@ -66,11 +61,7 @@ pub(crate) fn place_waiting<R: Routine>(
 }
 
 /// Where the request stands that a unit serves. Where the ids rise, in the logarithm of the places.
-pub(crate) fn place_served<R: Routine>(
-    slots: &[Slot<R>],
-    order: &Order,
-    u: UnitNo,
-) -> Option<usize>
+pub(crate) fn place_served<R: Routine>(slots: &[Slot<R>], order: &Order, u: UnitNo) -> Option<usize>
     requires { OrderedIf order.now.rising order.now.next order.now.from order.now.served slots.now }
     ensures place { result ≡ position (holds (is_served_by u)) slots.now }
     ensures within { IfSome result (λ i. i < length slots.now) }

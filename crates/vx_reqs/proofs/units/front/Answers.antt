@@ -1,4 +1,4 @@
-use Rattle.std.proofs.Common.{◌∙◌, ap, sym, option_map, Option, Bor}
+use Rattle.std.proofs.Common.{◌∙◌, ap, sym, option_map, Bor}
 use Rattle.vx_base.specs.Pieces.{Request}
 use Rattle.vx_reqs.specs.Places.{live}
 use Rattle.vx_reqs.proofs.Turns.{front_busy, front_free}

@@ -21,5 +21,5 @@ returns g c =
     let places = c.make_space.new.slots.items in
     let r = c.new.result in
     let put : live c.push_reserved.new.self.items ≡ live c.self.inside.slots.items ++ r ∷ [] =
-        ap live c.push_reserved.ensures.items ∙ ap (λ (x : Place). live (places ++ x ∷ [])) c.new-2.ensures ∙ live_put places r.req.id r ∙ ap (λ (rs : List Request). rs ++ r ∷ []) c.make_space.ensures.live in
+    ap live c.push_reserved.ensures.items ∙ ap (λ (x : Place). live (places ++ x ∷ [])) c.new-2.ensures ∙ live_put places r.req.id r ∙ ap (λ (rs : List Request). rs ++ r ∷ []) c.make_space.ensures.live in
     rw (← c.self.view_is) (ap (λ (rs : List Request). let v : Requests = record { items = rs; capacity = c.self.inside.room } in v) (put ∙ ap (λ (q : Request). live c.self.inside.slots.items ++ q ∷ []) c.new.ensures))

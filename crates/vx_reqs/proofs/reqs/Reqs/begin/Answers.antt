@@ -1,4 +1,4 @@
-use Rattle.std.proofs.Common.{◌≡◌, ◌∙◌, List, Option, None, Some, Bor, option_map, position, length, ap, sym, subst, arith}
+use Rattle.std.proofs.Common.{◌≡◌, ◌∙◌, List, None, Some, Bor, option_map, position, length, ap, sym, subst, arith}
 use Rattle.std.specs.List.{find}
 use Rattle.vx_base.specs.Lists.{amend}
 use Rattle.vx_base.specs.Pieces.{Request}
@@ -27,7 +27,7 @@ settle_unit-requires g c = λ rising.
     let some : Some c.in_ok-front.field-0.now ≡ front u (live places) = ap (option_map (λ (o : Bor Request). o.now)) (sym c.in_ok-front.was) ∙ c.front.ensures ∙ ap (λ (xs : List Place). front u (live xs)) c.as_slice.ensures.value in
     let taken = begun_some u (live places) c.in_ok-front.field-0.now some in
     let first : c.id_at-first.result ≡ option_map (λ (y : Place). y.id) (find (holds (waits_for u)) places) =
-        c.id_at-first.ensures (holds (waits_for u)) (place ∙ sym (ap (position (holds (waits_for u))) c.as_slice-3.ensures.value)) ∙ ap (λ (xs : List Place). option_map (λ (y : Place). y.id) (find (holds (waits_for u)) xs)) c.as_slice-3.ensures.value in
+    c.id_at-first.ensures (holds (waits_for u)) (place ∙ sym (ap (position (holds (waits_for u))) c.as_slice-3.ensures.value)) ∙ ap (λ (xs : List Place). option_map (λ (y : Place). y.id) (find (holds (waits_for u)) xs)) c.as_slice-3.ensures.value in
     let none : None ≡ find (holds (is_served_by u)) places = none_any (holds (is_served_by u)) places (any_live (is_served_by u) places ∙ taken.0) in
     let order = c.begin.new.self in
     subst (λ (xs : List Place). IsOrdered order.next order.from order.served xs) (sym (c.as_slice-4.ensures.value ∙ after)) (c.begin.ensures places none first c.self.invariant.order rising)
