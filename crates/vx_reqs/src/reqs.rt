@@ -163,7 +163,7 @@ impl<R: Routine> Reqs<R> {
     }
 
     /// The first request of a process on a channel that is still to be cancelled: it waits, or it is in service and not yet
-    /// marked. None exactly where there is none.
+    /// marked. None exactly where there is none. Goes over all requests.
     pub fn to_cancel(&self, p: Pid, chan: u32) -> Option<Id>
         ensures { result ≡ option_map (λ r. r.req.id) (find (is_to_cancel p chan) self.now.items) }
     {
@@ -192,6 +192,7 @@ impl<R: Routine> Reqs<R> {
     }
 
     /// Whether a request of a process is outstanding on a channel of a mode or an outer one: rundown waits for these.
+    /// Goes over all requests.
     pub fn outstanding(&self, p: Pid, mode: Mode) -> bool
         ensures { result ≡ list_any (keeps_open p mode) self.now.items }
     {
