@@ -6,8 +6,12 @@
 #![tactic(auto)]
 
 mod found;
+mod order;
 mod outstanding;
 mod reqs;
+mod room;
+mod slot;
+mod units;
 
 pub use outstanding::Outstanding;
 pub use reqs::Reqs;

@@ -7,26 +7,37 @@ ghost use Rattle.vx_base.specs.Queues.{front, in_service};
 ghost use Rattle.vx_reqs.specs.Requests.{promised_of, has_id, is_found, as_marked, begun, is_to_cancel, keeps_open};
 
 use crate::found::{
-    is_serving, mark_at, place_of_id, place_waiting, serve_at, served_by, to_cancel, waiting_for,
-    with_id,
+    any_open, id_at, mark_at, place_of_id, place_to_cancel, request_at, serve_at, take_at,
 };
+use crate::order::Order;
 use crate::outstanding::Outstanding;
+use crate::room::{make_space, reserve_double};
+use crate::slot::Slot;
+use crate::units::{front, place_waiting, serving, settle, settle_unit};
 use std::alloc::Global;
 use std::marker::Model;
-use vx_base::{Id, Mode, NoMemory, Pid, Req, Reserved, Routine, UnitNo};
+use vx_base::{Id, Mode, NoMemory, Pid, Req, Routine, UnitNo};
 
-/// The outstanding requests of all processes.
+/// The outstanding requests of all processes. Each stands in a place from its acceptance on; a place that is left stays
+/// empty, until there is none at the end for a new request and the empty ones are taken out.
 #[derive(Drop)]
 pub struct Reqs<R: Routine> {
-    items: Reserved<Outstanding<R>>,
+    slots: Vec<Slot<R>>,
+    count: usize,
+    room: usize,
+    order: Order,
 }
 
 impl<R: Routine> Model for Reqs<R> {
+    ghost use Rattle.std.specs.Prelude.{vec_capacity};
+    ghost use Rattle.vx_reqs.specs.Places.{IsKept, live};
     ghost use Rattle.vx_reqs.specs.Requests.{Requests};
 
     ghost Value = { Requests };
 
-    ghost view = { λ a. a.items };
+    ghost view = { λ a. record { items = live a.slots.items; capacity = a.room } };
+
+    ghost invariant = { λ a. IsKept a.slots.items a.count a.room (vec_capacity a.slots) a.order.rising a.order.next a.order.from a.order.served };
 }
 
 impl<R: Routine> Reqs<R> {
@@ -35,7 +46,10 @@ impl<R: Routine> Reqs<R> {
         ensures { result ≡ record { items = []; capacity = 0 } }
     {
         Reqs {
-            items: Reserved::new(alloc),
+            slots: Vec::new(alloc),
+            count: 0,
+            room: 0,
+            order: Order::new(),
         }
     }
 
@@ -46,7 +60,11 @@ impl<R: Routine> Reqs<R> {
         ensures ok { OnOk result (length self.new.items < self.new.capacity) }
         ensures err { OnErr result (self.new ≡ self.old) }
     {
-        self.items.reserve(1)
+        if self.count < self.room {
+            return Ok(());
+        }
+        self.room = reserve_double(&mut self.slots)?;
+        Ok(())
     }
 
     /// Accepts a request ($QIO), with the AST that it is to queue when it finishes, if it has one. Takes no memory.
@@ -55,17 +73,18 @@ impl<R: Routine> Reqs<R> {
         requires fresh { list_any (has_id req.id) self.old.items ≡ false }
         ensures { self.new ≡ record self.old { items = self.old.items ++ record { req = req; ast = option_map (promised_of R.tagged) ast; served = false; marked = false } ∷ [] } }
     {
-        self.items.put(Outstanding::new(req, ast));
+        make_space(&mut self.slots);
+        self.order.accept(req.id, req.device);
+        self.slots
+            .push_reserved(Slot::new(Outstanding::new(req, ast)));
+        self.count += 1;
     }
 
     /// What a unit would be asked next, as `front` has it.
     pub fn next(&self, u: UnitNo) -> Option<&Req>
         ensures { option_map (λ r. r.now) result ≡ option_map (λ r. r.req) (front u self.now.items) }
     {
-        if is_serving(self.items.as_slice(), u) {
-            return None;
-        }
-        let front = waiting_for(self.items.as_slice(), u)?;
+        let front = front(self.slots.as_slice(), &self.order, u)?;
         Some(front.req())
     }
 
@@ -74,10 +93,7 @@ impl<R: Routine> Reqs<R> {
     pub fn front(&self, u: UnitNo) -> Option<Id>
         ensures { result ≡ option_map (λ r. r.req.id) (front u self.now.items) }
     {
-        if is_serving(self.items.as_slice(), u) {
-            return None;
-        }
-        let front = waiting_for(self.items.as_slice(), u)?;
+        let front = front(self.slots.as_slice(), &self.order, u)?;
         Some(front.id())
     }
 
@@ -86,27 +102,37 @@ impl<R: Routine> Reqs<R> {
         ensures found { result ≡ option_map (λ r. r.req.id) (front u self.old.items) }
         ensures after { self.new ≡ record self.old { items = begun u self.old.items } }
     {
-        let front = self.front(u);
-        if !is_serving(self.items.as_slice(), u) {
-            let place = place_waiting(self.items.as_slice(), u);
-            serve_at(&mut self.items, place);
-        }
-        front
+        let front = front(self.slots.as_slice(), &self.order, u)?.id();
+        let place = place_waiting(self.slots.as_slice(), &self.order, u);
+        let first = id_at(self.slots.as_slice(), place);
+        serve_at(&mut self.slots, place);
+        self.order.begin(u, first);
+        settle_unit(&mut self.order, self.slots.as_slice(), u);
+        Some(front)
     }
 
     /// The request that a unit serves. None exactly where it serves none.
     pub fn in_service(&self, u: UnitNo) -> Option<Id>
         ensures { result ≡ option_map (λ r. r.req.id) (in_service u self.now.items) }
     {
-        let served = served_by(self.items.as_slice(), u)?;
+        let served = serving(self.slots.as_slice(), &self.order, u)?;
         Some(served.id())
+    }
+
+    // The request with an id.
+    fn with_id(&self, id: Id) -> Option<&Outstanding<R>>
+        ensures { option_map (λ o. o.now) result ≡ find (has_id id) self.now.items }
+    {
+        let slots = self.slots.as_slice();
+        let place = place_of_id(slots, &self.order, id);
+        request_at(slots, place)
     }
 
     /// The request with an id. None exactly where there is none.
     pub fn get(&self, id: Id) -> Option<&Req>
         ensures { option_map (λ r. r.now) result ≡ option_map (λ r. r.req) (find (has_id id) self.now.items) }
     {
-        let found = with_id(self.items.as_slice(), id)?;
+        let found = self.with_id(id)?;
         Some(found.req())
     }
 
@@ -114,14 +140,14 @@ impl<R: Routine> Reqs<R> {
     pub fn len(&self) -> usize
         ensures { result ≡ length self.now.items }
     {
-        self.items.len()
+        self.count
     }
 
     /// Whether there is a request with an id.
     pub fn has(&self, id: Id) -> bool
         ensures { result ≡ list_any (has_id id) self.now.items }
     {
-        self.items.as_slice().iter().any(|o| o.has_id(id))
+        self.with_id(id).is_some()
     }
 
     /// Takes out the request with an id. None exactly where there is none.
@@ -129,16 +155,21 @@ impl<R: Routine> Reqs<R> {
         ensures found { result ≡ find (has_id id) self.old.items }
         ensures after { self.new ≡ record self.old { items = less (has_id id) self.old.items } }
     {
-        let place = place_of_id(self.items.as_slice(), id);
-        self.items.take(place)
+        let place = place_of_id(self.slots.as_slice(), &self.order, id);
+        let done = take_at(&mut self.slots, place)?;
+        self.count -= 1;
+        settle(&mut self.order, self.slots.as_slice(), done.req().device);
+        Some(done)
     }
 
     /// The first request of a process on a channel that is still to be cancelled: it waits, or it is in service and not yet
-    /// marked. None exactly where there is none.
+    /// marked. None exactly where there is none. Goes over all requests.
     pub fn to_cancel(&self, p: Pid, chan: u32) -> Option<Id>
         ensures { result ≡ option_map (λ r. r.req.id) (find (is_to_cancel p chan) self.now.items) }
     {
-        let found = to_cancel(self.items.as_slice(), p, chan)?;
+        let slots = self.slots.as_slice();
+        let place = place_to_cancel(slots, p, chan);
+        let found = request_at(slots, place)?;
         Some(found.id())
     }
 
@@ -150,28 +181,29 @@ impl<R: Routine> Reqs<R> {
         ensures kept { result ≡ false → self.new ≡ self.old }
         ensures after { self.new ≡ record self.old { items = amend (has_id id) as_marked self.old.items } }
     {
-        if let Some(found) = with_id(self.items.as_slice(), id)
+        if let Some(found) = self.with_id(id)
             && found.is_marked()
         {
             return false;
         }
-        let place = place_of_id(self.items.as_slice(), id);
-        mark_at(&mut self.items, place);
+        let place = place_of_id(self.slots.as_slice(), &self.order, id);
+        mark_at(&mut self.slots, place);
         true
     }
 
     /// Whether a request of a process is outstanding on a channel of a mode or an outer one: rundown waits for these.
+    /// Goes over all requests.
     pub fn outstanding(&self, p: Pid, mode: Mode) -> bool
         ensures { result ≡ list_any (keeps_open p mode) self.now.items }
     {
-        self.items.as_slice().iter().any(|o| o.keeps_open(p, mode))
+        any_open(self.slots.as_slice(), p, mode)
     }
 
     /// Whether there is a request with an id, and its unit serves it.
     pub fn is_served(&self, id: Id) -> bool
         ensures { result ≡ is_found (λ r. r.served) (find (has_id id) self.now.items) }
     {
-        match with_id(self.items.as_slice(), id) {
+        match self.with_id(id) {
             Some(found) => found.is_served(),
             None => false,
         }
@@ -181,7 +213,7 @@ impl<R: Routine> Reqs<R> {
     pub fn has_ast(&self, id: Id) -> bool
         ensures { result ≡ is_found (λ r. is_some r.ast) (find (has_id id) self.now.items) }
     {
-        match with_id(self.items.as_slice(), id) {
+        match self.with_id(id) {
             Some(found) => found.has_ast(),
             None => false,
         }

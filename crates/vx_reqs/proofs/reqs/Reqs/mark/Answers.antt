@@ -1,9 +1,14 @@
-use Rattle.std.proofs.Common.{◌≡◌, ◌∙◌, Bool, Some, Bor, option_map, ap, sym}
+use Rattle.std.proofs.Common.{◌≡◌, ◌∙◌, Bool, List, Some, Bor, option_map, position, length, ap, sym, subst, arith}
 use Rattle.std.specs.List.{find}
+use Rattle.vx_base.specs.Lists.{amend}
 use Rattle.vx_base.specs.Pieces.{Request}
 use Rattle.vx_base.specs.Roomy.{with_items}
-use Rattle.vx_reqs.specs.Requests.{Requests, has_id, as_marked}
 use Rattle.vx_base.proofs.First.{amend_same}
+use Rattle.vx_reqs.specs.Places.{Place, IsOrdered, changed, holds, live}
+use Rattle.vx_reqs.specs.Requests.{Requests, has_id, as_marked}
+use Rattle.vx_reqs.proofs.Counts.{count_changed}
+use Rattle.vx_reqs.proofs.Live.{amend_live}
+use Rattle.vx_reqs.proofs.Ordered.{ordered_marked}
 use Rattle.vx_reqs.proofs.reqs.Reqs.mark.Goals as goal
 
 -- the request that is found is marked already
@@ -12,6 +17,26 @@ returns-clause-after g c =
     let requests : Requests = c.args.self.now in
     let test = has_id c.args.id in
     let r : Request = c.in-Some.found.now in
-    let found : find test requests.items ≡ Some r =
-    sym (ap (λ (q : Requests). find test q.items) c.self.view_is) ∙ ap (find test) (sym c.as_slice.ensures) ∙ sym c.with_id.ensures ∙ ap (option_map (λ (o : Bor Request). o.now)) c.in-Some.is in
+    let found : find test requests.items ≡ Some r = sym c.with_id.ensures ∙ ap (option_map (λ (o : Bor Request). o.now)) c.in-Some.is in
     ap (with_items requests) (amend_same test as_marked requests.items r found (ap (λ (m : Bool). record r { marked = m }) (sym c.if-is_marked.true ∙ c.is_marked.ensures)))
+
+pub invariant_of-self : goal.invariant_of-self
+invariant_of-self g c =
+    let test = has_id c.args.id in
+    let places = c.self.inside.slots.items in
+    let place : c.place_of_id-place.result ≡ position (holds test) places = c.place_of_id-place.ensures.place ∙ ap (position (holds test)) c.as_slice.ensures.value in
+    let after : c.mark_at.new.slots.items ≡ amend (holds test) (changed as_marked) places = c.mark_at.ensures.after test place in
+    let order = c.self.inside.order in
+    record {
+      count_is = count_changed test as_marked places c.self.inside.count c.self.invariant.count_is ∙ ap (λ (xs : List Place). length (live xs)) (sym after);
+      within = omega (arith, c.mark_at.ensures.capacity, c.self.invariant.within);
+      order = λ rising. subst (λ (xs : List Place). IsOrdered order.next order.from order.served xs) (sym after) (ordered_marked (holds test) places order.next order.from order.served (c.self.invariant.order rising));
+    }
+
+pub returns-2-clause-after : goal.returns-2-clause-after
+returns-2-clause-after g c =
+    let test = has_id c.args.id in
+    let places = c.self.inside.slots.items in
+    let place : c.place_of_id-place.result ≡ position (holds test) places = c.place_of_id-place.ensures.place ∙ ap (position (holds test)) c.as_slice.ensures.value in
+    let after : c.mark_at.new.slots.items ≡ amend (holds test) (changed as_marked) places = c.mark_at.ensures.after test place in
+    rw (← c.self.view_is) (ap (λ (rs : List Request). let v : Requests = record { items = rs; capacity = c.self.inside.room } in v) (ap live after ∙ amend_live test as_marked places))

@@ -1,0 +1,50 @@
+-- A search among places whose ids rise.
+use Rattle.std.proofs.Common.{◌≡◌, ◌≢◌, ℕ, ◌+◌, ◌<◌, ◌≤◌, List, [], ◌∷◌, Bool, true, false, Some, None, length, get_or, refl, ap, sym, ◌∙◌, arith, suc, zero, position, nat_lt, ltb-true, ltb-false, subst}
+use Rattle.vx_base.specs.declared.number.Id.{Id}
+use Rattle.vx_reqs.specs.Places.{Place, holds, Rises}
+use Rattle.vx_reqs.specs.Requests.{has_id}
+use Rattle.vx_reqs.proofs.Rising.{rises_at, rises_between, is_other, place_first, place_none}
+
+-- an item within a list is what it is by any default
+pub same_at : {X : Type 0} (xs : List X) (k : ℕ) (d e : X) → k < length xs → get_or xs k d ≡ get_or xs k e
+same_at [] k d e lt = absurd (omega arith)
+same_at (x ∷ xs) zero d e lt = refl
+same_at (x ∷ xs) (suc k) d e lt = same_at xs k d e (omega arith)
+
+-- the id at a place that was read
+id_at : (xs : List Place) (m : ℕ) (x d : Place) → m < length xs → x ≡ get_or xs m x → (get_or xs m d).id.0 ≡ x.id.0
+id_at xs m x d within is = ap (λ (p : Place). p.id.0) (same_at xs m d x within ∙ sym is)
+
+pub below_middle : (xs : List Place) (next n m : ℕ) (x : Place) → Rises 0 xs next → m < length xs → x ≡ get_or xs m x → x.id.0 < n → (k : ℕ) (d : Place) → k < m + 1 → (get_or xs k d).id.0 < n
+below_middle xs next n m x rises within is less k d lt =
+    grind (arith, id_at xs m x d within is, less, lt, rises_between 0 xs next rises k m d, λ (same : k ≡ m). ap (λ (j : ℕ). (get_or xs j d).id.0) same)
+
+pub above_middle : (xs : List Place) (next n m : ℕ) (x : Place) → Rises 0 xs next → m < length xs → x ≡ get_or xs m x → n ≤ x.id.0 → (k : ℕ) (d : Place) → m ≤ k → k < length xs → n ≤ (get_or xs k d).id.0
+above_middle xs next n m x rises within is le k d from lt =
+    grind (arith, id_at xs m x d within is, le, from, lt, rises_between 0 xs next rises m k d, λ (same : k ≡ m). ap (λ (j : ℕ). (get_or xs j d).id.0) same)
+
+-- the request with an id stands at no place with another one
+pub others_fail : (id : Id) (xs : List Place) (next : ℕ) → Rises 0 xs next → (k : ℕ) (d : Place) → k < length xs → (get_or xs k d).id.0 ≢ id.0 → holds (has_id id) (get_or xs k d) ≡ false
+others_fail id xs next rises k d lt differs = is_other id (get_or xs k d) (rises_at 0 xs next rises k d lt).0 differs
+
+module _ (p : Place → Bool) (xs : List Place) (n i : ℕ) (fails : (k : ℕ) (d : Place) → k < length xs → (get_or xs k d).id.0 ≢ n → p (get_or xs k d) ≡ false) (below : (k : ℕ) (d : Place) → k < i → (get_or xs k d).id.0 < n) where
+  -- the place that alone may pass does
+  pub among_some : (x : Place) → i < length xs → x ≡ get_or xs i x → p x ≡ true → Some i ≡ position p xs
+  among_some x within is passes = place_first p xs i x within (λ k lt. fails k x (omega (arith, lt, within)) (λ same. omega (arith, same, below k x lt))) (ap p (sym is) ∙ passes)
+
+  -- it does not
+  pub among_none : (next : ℕ) → Rises 0 xs next → ((k : ℕ) (d : Place) → i ≤ k → k < length xs → n ≤ (get_or xs k d).id.0) → (i < length xs → (d : Place) → p (get_or xs i d) ≡ false) → None ≡ position p xs
+  among_none next rises above here = place_none p xs (λ k d lt.
+      elim (nat_lt k i) as (λ b. nat_lt k i ≡ b → p (get_or xs k d) ≡ false) [
+        | true ↦ λ e. let low = below k d (ltb-true k i e) in fails k d lt (λ same. omega (arith, same, low))
+        | false ↦ λ e. elim (nat_lt i k) as (λ b. nat_lt i k ≡ b → p (get_or xs k d) ≡ false) [
+          | true ↦ λ f.
+              let beyond = ltb-true i k f in
+              let more = rises_between 0 xs next rises i k d beyond lt in
+              let least = above i d (omega arith) (omega (arith, beyond, lt)) in
+              fails k d lt (λ same. omega (arith, same, more, least))
+          | false ↦ λ f.
+              let same : i ≡ k = omega (arith, ltb-false k i e, ltb-false i k f) in
+              subst (λ (j : ℕ). p (get_or xs j d) ≡ false) same (here (omega (arith, same, lt)) d)
+        ] refl
+      ] refl)

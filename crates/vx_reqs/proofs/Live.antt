@@ -1,0 +1,133 @@
+-- The requests that stand in places: found, taken out, changed and added.
+use Rattle.std.proofs.Common.{◌≡◌, ◌+◌, List, [], ◌∷◌, ◌++◌, Bool, true, false, cond, ◌||◌, Option, Some, None, length, refl, ap, arith, option_to_list, option_map, is_some}
+use Rattle.std.specs.List.{find, list_any, filter}
+use Rattle.vx_base.specs.Lists.{less, amend}
+use Rattle.vx_base.specs.Pieces.{Request}
+use Rattle.vx_base.specs.declared.number.Id.{Id}
+use Rattle.vx_reqs.specs.Places.{Place, holds, is_held, emptied, changed, live}
+
+-- the request of a place that was found
+abbrev pub request_of : Option Place → Option Request
+request_of None = None
+request_of (Some place) = place.request
+
+found_in : (p : Request → Bool) (i : Id) (o : Option Request) (xs : List Place) → find p (live xs) ≡ request_of (find (holds p) xs) → find p (live (record { id = i; request = o } ∷ xs)) ≡ request_of (find (holds p) (record { id = i; request = o } ∷ xs))
+found_in p i None xs rest = rest
+found_in p i (Some r) xs rest = elim (p r) as (λ b. cond b (Some r) (find p (live xs)) ≡ request_of (cond b (Some (record { id = i; request = Some r })) (find (holds p) xs))) [
+  | true ↦ refl
+  | false ↦ rest
+]
+
+-- what is found among the requests is what stands in the place that is found
+pub found_live : (p : Request → Bool) (xs : List Place) → find p (live xs) ≡ request_of (find (holds p) xs)
+found_live p [] = refl
+found_live p (x ∷ xs) = found_in p x.id x.request xs (found_live p xs)
+
+less_in : (p : Request → Bool) (i : Id) (o : Option Request) (xs : List Place) → live (amend (holds p) emptied xs) ≡ less p (live xs) → live (amend (holds p) emptied (record { id = i; request = o } ∷ xs)) ≡ less p (live (record { id = i; request = o } ∷ xs))
+less_in p i None xs rest = rest
+less_in p i (Some r) xs rest = elim (p r) as (λ b. live (cond b (record { id = i; request = None } ∷ xs) (record { id = i; request = Some r } ∷ amend (holds p) emptied xs)) ≡ cond b (live xs) (r ∷ less p (live xs))) [
+  | true ↦ refl
+  | false ↦ ap (λ rs. r ∷ rs) rest
+]
+
+-- the place of the first that passes emptied
+pub less_live : (p : Request → Bool) (xs : List Place) → live (amend (holds p) emptied xs) ≡ less p (live xs)
+less_live p [] = refl
+less_live p (x ∷ xs) = less_in p x.id x.request xs (less_live p xs)
+
+amend_in : (p : Request → Bool) (f : Request → Request) (i : Id) (o : Option Request) (xs : List Place) → live (amend (holds p) (changed f) xs) ≡ amend p f (live xs) → live (amend (holds p) (changed f) (record { id = i; request = o } ∷ xs)) ≡ amend p f (live (record { id = i; request = o } ∷ xs))
+amend_in p f i None xs rest = rest
+amend_in p f i (Some r) xs rest = elim (p r) as (λ b. live (cond b (record { id = i; request = Some (f r) } ∷ xs) (record { id = i; request = Some r } ∷ amend (holds p) (changed f) xs)) ≡ cond b (f r ∷ live xs) (r ∷ amend p f (live xs))) [
+  | true ↦ refl
+  | false ↦ ap (λ rs. r ∷ rs) rest
+]
+
+-- the first that passes changed in its place
+pub amend_live : (p : Request → Bool) (f : Request → Request) (xs : List Place) → live (amend (holds p) (changed f) xs) ≡ amend p f (live xs)
+amend_live p f [] = refl
+amend_live p f (x ∷ xs) = amend_in p f x.id x.request xs (amend_live p f xs)
+
+any_in : (p : Request → Bool) (i : Id) (o : Option Request) (xs : List Place) → list_any (holds p) xs ≡ list_any p (live xs) → list_any (holds p) (record { id = i; request = o } ∷ xs) ≡ list_any p (live (record { id = i; request = o } ∷ xs))
+any_in p i None xs rest = rest
+any_in p i (Some r) xs rest = elim (p r) as (λ b. (b || list_any (holds p) xs) ≡ (b || list_any p (live xs))) [
+  | true ↦ refl
+  | false ↦ rest
+]
+
+pub any_live : (p : Request → Bool) (xs : List Place) → list_any (holds p) xs ≡ list_any p (live xs)
+any_live p [] = refl
+any_live p (x ∷ xs) = any_in p x.id x.request xs (any_live p xs)
+
+put_in : (o : Option Request) (rs ss ts : List Request) → ss ≡ rs ++ ts → option_to_list o ++ ss ≡ (option_to_list o ++ rs) ++ ts
+put_in None rs ss ts e = e
+put_in (Some r) rs ss ts e = ap (λ qs. r ∷ qs) e
+
+-- a place more, at the end
+pub live_put : (xs : List Place) (i : Id) (r : Request) → live (xs ++ record { id = i; request = Some r } ∷ []) ≡ live xs ++ r ∷ []
+live_put [] i r = refl
+live_put (x ∷ xs) i r = put_in x.request (live xs) _ (r ∷ []) (live_put xs i r)
+
+kept_in : (i : Id) (o : Option Request) (xs : List Place) → live (filter is_held xs) ≡ live xs → live (filter is_held (record { id = i; request = o } ∷ xs)) ≡ live (record { id = i; request = o } ∷ xs)
+kept_in i None xs rest = rest
+kept_in i (Some r) xs rest = ap (λ rs. r ∷ rs) rest
+
+-- the places that are held have all requests
+pub live_kept : (xs : List Place) → live (filter is_held xs) ≡ live xs
+live_kept [] = refl
+live_kept (x ∷ xs) = kept_in x.id x.request xs (live_kept xs)
+
+kept_length : (i : Id) (o : Option Request) (xs : List Place) → length (filter is_held xs) ≡ length (live xs) → length (filter is_held (record { id = i; request = o } ∷ xs)) ≡ length (live (record { id = i; request = o } ∷ xs))
+kept_length i None xs rest = rest
+kept_length i (Some r) xs rest = omega (arith, rest)
+
+-- and are as many
+pub length_kept : (xs : List Place) → length (filter is_held xs) ≡ length (live xs)
+length_kept [] = refl
+length_kept (x ∷ xs) = kept_length x.id x.request xs (length_kept xs)
+
+-- taking out what is found leaves one fewer
+pub less_one : {X : Type 0} (p : X → Bool) (xs : List X) (x : X) → Some x ≡ find p xs → length (less p xs) + 1 ≡ length xs
+less_one p [] x e = absurd (cc)
+less_one p (y ∷ ys) x e =
+    elim (p y) as (λ b. Some x ≡ cond b (Some y) (find p ys) → length (cond b ys (y ∷ less p ys)) + 1 ≡ length (y ∷ ys)) [
+      | true ↦ λ found. omega arith
+      | false ↦ λ found. let rest = less_one p ys x found in omega (arith, rest)
+    ] e
+
+pub amend_length : {X : Type 0} (p : X → Bool) (g : X → X) (xs : List X) → length (amend p g xs) ≡ length xs
+amend_length p g [] = refl
+amend_length p g (x ∷ xs) =
+    let rest = amend_length p g xs in
+    elim (p x) as (λ b. length (cond b (g x ∷ xs) (x ∷ amend p g xs)) ≡ length (x ∷ xs)) [
+      | true ↦ omega arith
+      | false ↦ omega (arith, rest)
+    ]
+
+pub amend_nothing : {X : Type 0} (p : X → Bool) (g : X → X) (xs : List X) → None ≡ find p xs → xs ≡ amend p g xs
+amend_nothing p g [] e = refl
+amend_nothing p g (x ∷ xs) e =
+    elim (p x) as (λ b. None ≡ cond b (Some x) (find p xs) → x ∷ xs ≡ cond b (g x ∷ xs) (x ∷ amend p g xs)) [
+      | true ↦ λ found. absurd (cc)
+      | false ↦ λ found. ap (λ ys. x ∷ ys) (amend_nothing p g xs found)
+    ] e
+
+pub any_found : {X : Type 0} (p : X → Bool) (xs : List X) → list_any p xs ≡ is_some (find p xs)
+any_found p [] = refl
+any_found p (x ∷ xs) =
+    let rest = any_found p xs in
+    elim (p x) as (λ b. (b || list_any p xs) ≡ is_some (cond b (Some x) (find p xs))) [
+      | true ↦ refl
+      | false ↦ rest
+    ]
+
+pub none_any : {X : Type 0} (p : X → Bool) (xs : List X) → list_any p xs ≡ false → None ≡ find p xs
+none_any p [] e = refl
+none_any p (x ∷ xs) e =
+    elim (p x) as (λ b. (b || list_any p xs) ≡ false → None ≡ cond b (Some x) (find p xs)) [
+      | true ↦ λ any. absurd (cc)
+      | false ↦ λ any. none_any p xs any
+    ] e
+
+pub is_some_map : {X Y : Type 0} (f : X → Y) (o : Option X) → is_some o ≡ is_some (option_map f o)
+is_some_map f None = refl
+is_some_map f (Some x) = refl
