@@ -1,18 +1,16 @@
 -- What a process asked on its channels of a mode is cancelled, channel after channel; and rundown can rely on what it did before.
-use Rattle.std.proofs.Common.{◌≡◌, ◌≢◌, ◌==◌, ℕ, zero, suc, ◌+◌, ◌-◌, ◌<◌, ◌≤◌, List, [], ◌∷◌, ◌++◌, Bool, true, false, cond, not, ◌&&◌, nat_lt, length, length-append, length-set, slice_index_or, get_or-set_other, Option, Some, None, IsTrue, is_some, replicate, ◌⊎◌, inl, inr, refl, ap, sym, subst, ◌∙◌, arith}
+use Rattle.std.proofs.Common.{◌≡◌, ◌≢◌, ◌==◌, ℕ, zero, suc, ◌+◌, ◌-◌, ◌<◌, ◌≤◌, List, [], ◌∷◌, true, false, cond, not, ◌&&◌, nat_lt, length, length-append, length-set, slice_index_or, get_or-set_other, Option, Some, None, is_some, replicate, inl, inr, refl, ap, sym, subst, ◌∙◌, arith}
 use Rattle.std.specs.List.{AllByRecursion, filter, find, list_any}
 use Rattle.std.proofs.lemmas.Bool.{cases_eq, eq-eqb, ltb-true}
 use Rattle.std.proofs.lemmas.Bool.Decides.{nat_tests}
 use Rattle.vx_base.specs.Channels.{channels_of, is_reached, next_of_mode, reached_from}
 use Rattle.vx_base.specs.Flags.{one}
-use Rattle.vx_base.specs.Lists.{amend, less, tally}
 use Rattle.vx_base.specs.Pieces.{Attention, Channel, Mailbox, Promised, Queued, Request, Status}
 use Rattle.vx_base.specs.declared.cond.Cond.TheVariants.{Cancel}
 use Rattle.vx_base.specs.declared.effects.Cell.{Cell}
 use Rattle.vx_base.specs.declared.effects.Cell.TheVariants.{Common, Local}
 use Rattle.vx_base.specs.declared.effects.Effect.TheVariants as effect
 use Rattle.vx_base.specs.declared.mode.Mode.{Mode}
-use Rattle.vx_base.specs.declared.number.BoxNo.{BoxNo}
 use Rattle.vx_base.specs.declared.number.Id.{Id}
 use Rattle.vx_base.specs.declared.number.Pid.{Pid}
 use Rattle.vx_base.specs.declared.request.Device.{Device}
@@ -26,18 +24,18 @@ use Rattle.vx_record.proofs.Lists.{all_both, all_filter, all_from, all_weaker, e
 use Rattle.vx_record.proofs.Moves.{HasRequest}
 use Rattle.vx_record.specs.Asts.{charged_ast}
 use Rattle.vx_record.specs.Cancel.{cancel_channel, cancel_request, cancelled_request, drop_attention, drop_attentions, is_attention_on, is_request_on, mark_part, with_abort, withdraw}
-use Rattle.vx_record.specs.Charges.{bears_ast, is_same}
+use Rattle.vx_record.specs.Charges.{bears_ast}
 use Rattle.vx_record.specs.Finish.{Ending, buf_part, done_flag_part, ending, finish, iosb_part, is_read, put_status, status_of, this_request, with_stored_bytes, with_stored_status}
 use Rattle.vx_record.specs.Flags.{cell, flag_where_named, with_local_flag}
-use Rattle.vx_record.specs.Mailboxes.{mailbox_at, mcut_part, or_no_box, this_message}
+use Rattle.vx_record.specs.Mailboxes.{mcut_part, or_no_box, this_message}
 use Rattle.vx_record.specs.Parts.{Part, and_then, each, nothing, part_if, tells}
 use Rattle.vx_record.specs.Rundown.{cancel_one}
 use Rattle.vx_record.specs.Sound.{AreOrdered, IsSound, RequestStands, ground, request_id}
-use Rattle.vx_record.specs.State.{Process, State, IsProcess, change, nobody, process_at}
+use Rattle.vx_record.specs.State.{Process, State, IsProcess, nobody, process_at}
 use Rattle.vx_io.proofs.QueuedFirst.{finish_same}
 use Rattle.vx_procs.specs.Kernel.{Acts, Fits, Kernel, with_state}
 use Rattle.vx_procs.specs.Ready.{IsBare, owed}
-use Rattle.vx_procs.specs.Requests.{ended, finished, promised_ast, request_ast}
+use Rattle.vx_procs.specs.Requests.{ended, promised_ast, request_ast}
 use Rattle.vx_procs.specs.Words.{with_queued_if}
 use Rattle.vx_procs.proofs.Booked.{tally-amend, tally-less}
 use Rattle.vx_procs.proofs.Firsts.{filter_none}

@@ -1,9 +1,9 @@
 -- What rundown relies on stays, as its process changes, and the timers and the common clusters.
-use Rattle.std.proofs.Common.{◌≡◌, ◌<◌, ◌≤◌, ℕ, ◌-◌, List, [], ◌∷◌, Bool, true, false, Option, None, length, length-set, slice_index_or, refl, ap, sym, subst, ◌∙◌, arith}
+use Rattle.std.proofs.Common.{◌≡◌, ◌<◌, ◌≤◌, ℕ, ◌-◌, List, [], ◌∷◌, Bool, true, false, None, length, length-set, slice_index_or, refl, ap, sym, subst, ◌∙◌, arith}
 use Rattle.std.specs.List.{AllByRecursion, filter}
 use Rattle.vx_base.specs.Channels.{channels_of}
 use Rattle.vx_base.specs.Clusters.{Common, dissociated}
-use Rattle.vx_base.specs.Pieces.{Attention, Channel, Handler, Queued, Timer}
+use Rattle.vx_base.specs.Pieces.{Attention, Handler, Queued, Timer}
 use Rattle.vx_base.specs.declared.effects.Effect.{Effect}
 use Rattle.vx_base.specs.declared.frame.Frame.{Frame}
 use Rattle.vx_base.specs.declared.frame.Phase.{Phase}
@@ -20,7 +20,7 @@ use Rattle.vx_record.proofs.SoundFlags.{dissociated_stands}
 use Rattle.vx_record.proofs.Steps.{handling_silent, phase_silent}
 use Rattle.vx_record.specs.Cancel.{is_attention_on}
 use Rattle.vx_record.specs.Charges.{charged_timer}
-use Rattle.vx_record.specs.Parts.{Part, each, nothing}
+use Rattle.vx_record.specs.Parts.{Part, each}
 use Rattle.vx_record.specs.Rundown.{drop_ast, drop_asts, drop_handler, drop_handlers, in_phase, is_ast_reached, part_with, without_ast, without_handler}
 use Rattle.vx_record.specs.State.{Process, State, IsProcess, change, no_decl, nobody, process_at}
 use Rattle.vx_record.specs.Timers.{drop_timer, drop_timers, this_timer}

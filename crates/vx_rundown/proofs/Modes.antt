@@ -1,6 +1,6 @@
 -- Rundown mode by mode.
-use Rattle.std.proofs.Common.{◌≡◌, ℕ, ◌≤◌, List, [], ◌∷◌, ◌++◌, true, false, cond, length, length-append, Option, Some, None, ap, sym, subst, ◌∙◌, refl, arith}
-use Rattle.std.specs.List.{filter, find}
+use Rattle.std.proofs.Common.{◌≡◌, ◌≤◌, List, ◌∷◌, ◌++◌, true, false, cond, length, length-append, Option, Some, None, ap, sym, subst, ◌∙◌, refl, arith}
+use Rattle.std.specs.List.{find}
 use Rattle.std.proofs.lemmas.List.{append_assoc}
 use Rattle.vx_base.specs.Channels.{channels_of}
 use Rattle.vx_base.specs.Pieces.{Handler}
@@ -12,8 +12,8 @@ use Rattle.vx_base.specs.declared.mode.Mode.TheVariants.{Kernel, Exec, Super, Us
 use Rattle.vx_base.specs.declared.number.Pid.{Pid}
 use Rattle.vx_base.specs.declared.record.Answer.{Answer}
 use Rattle.vx_base.specs.declared.record.Answer.TheVariants as answer
-use Rattle.vx_record.specs.Parts.{Outcome, Part, and_then, answered, each, followed_by, nothing, part_of}
-use Rattle.vx_record.specs.Rundown.{cancel_modes, cancelled_in, drain, draining, drop_asts, handling, in_phase, inner_modes, is_busy, is_handler_of, is_timer_in, is_wake_by, part_with, release, run_down, run_handlers, rundown, rundown_from}
+use Rattle.vx_record.specs.Parts.{Outcome, Part, and_then, answered, followed_by, nothing, part_of}
+use Rattle.vx_record.specs.Rundown.{cancel_modes, cancelled_in, drain, drop_asts, handling, in_phase, inner_modes, is_busy, is_handler_of, is_timer_in, is_wake_by, part_with, release, run_down, run_handlers, rundown, rundown_from}
 use Rattle.vx_record.specs.State.{State, process_at}
 use Rattle.vx_record.specs.Timers.{drop_timers}
 use Rattle.vx_procs.specs.Kernel.{Acts, Does, Fits, Kernel as KernelOf, changed, with_state}

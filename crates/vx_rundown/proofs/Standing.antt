@@ -1,6 +1,6 @@
 -- What of a process follows from a state whose references stand: no two of its queued ASTs have one id, and no two of its exit handlers;
 -- and where no mailbox stands, each of its channels is to a unit.
-use Rattle.std.proofs.Common.{◌≡◌, ℕ, zero, suc, ◌+◌, ◌-◌, ◌<◌, ◌≤◌, List, [], ◌∷◌, Bool, ◌&&◌, ◌==◌, not, true, false, IsTrue, Option, Some, None, is_some, length, replicate, slice_index_or, ◌⊎◌, inl, inr, refl, sym, ap, ◌∙◌, arith}
+use Rattle.std.proofs.Common.{◌≡◌, ℕ, zero, suc, ◌-◌, ◌<◌, ◌≤◌, List, [], ◌∷◌, Bool, ◌==◌, not, true, false, IsTrue, Option, Some, None, is_some, length, replicate, slice_index_or, inl, inr, refl, sym, ap, ◌∙◌, arith}
 use Rattle.std.specs.List.{AllByRecursion, list_all, list_any}
 use Rattle.std.proofs.lemmas.Bool.{and_from, cases_eq, eq-eqb, ne_eqb}
 use Rattle.vx_base.specs.Flags.{one}

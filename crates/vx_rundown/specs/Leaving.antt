@@ -7,8 +7,8 @@ use Rattle.vx_procs.specs.Kernel.{Kernel}
 use Rattle.vx_procs.specs.Ready.{HasSpares, IsBare}
 use Rattle.vx_procs.specs.Words.{HasDecl, HasImage}
 
--- The process is there, with its image, and has no frame; all that the state names stands, and no two open things have one id; there are
--- spares; and nothing is open that is not built.
+-- The process is there, with its image, and has no frame; all that the state names stands, and no two open things have one
+-- id; there are spares; and nothing is open that is not built.
 pub record IsLeaving (k : Kernel) (p : Pid) : Type 0 where
   pub made : IsProcess k.state p
   pub declared : HasDecl k.state p
