@@ -12,8 +12,8 @@ use Rattle.vx_record.specs.Channels.{channel_test, free_channel, swept_box, with
 use Rattle.vx_record.specs.Parts.{Outcome, and_then, answered, at_tested}
 use Rattle.vx_record.specs.State.{State, IsProcess, change, process_at}
 use Rattle.vx_record.proofs.SoundRequests.{tested_channel}
-use Rattle.vx_procs.specs.Kernel.{Acts, Does, Fits, Kernel, changed, told, with_state}
-use Rattle.vx_procs.proofs.Rest.{acted, room_first}
+use Rattle.vx_procs.specs.Kernel.{Acts, Does, Kernel, changed, told, with_state}
+use Rattle.vx_procs.proofs.Rest.{acted}
 use Rattle.vx_io.specs.Asking.{to_unit}
 use Rattle.vx_io.proofs.Cancelled.{channel_kept, then_quietly}
 use Rattle.vx_io.proofs.Kept.{made_kept}
@@ -27,10 +27,6 @@ pub record IsClearing (k l : Kernel) (p : Pid) (chan : ℕ) (u : UnitNo) (mode :
 -- what $DASSGN does on it
 tested : (s : State) (p : Pid) (chan : ℕ) (ch : Channel) → channel_test s p chan ≡ Ok ch → dassgn s p chan ≡ answered Normal (and_then (cancel_channel s p chan) (λ t. free_channel t p chan))
 tested s p chan ch test = ap (at_tested s (dassgn_at s p chan)) test
-
-pub clear_room : (k : Kernel) (p : Pid) (chan : ℕ) (ch : Channel) → channel_test k.state p chan ≡ Ok ch → Fits k (dassgn k.state p chan).effects → Fits k (cancel_channel k.state p chan).effects
-clear_room k p chan ch test room =
-    room_first k (cancel_channel k.state p chan) (λ t. free_channel t p chan) (subst (λ (o : Outcome Cond). Fits k o.effects) (tested k.state p chan ch test) room)
 
 pub clear_made : (k l : Kernel) (p : Pid) (chan : ℕ) (u : UnitNo) (mode : Mode) → IsClearing k l p chan u mode → IsProcess k.state p → IsProcess l.state p
 clear_made k l p chan u mode h made = subst (λ (x : Kernel). IsProcess x.state p) (sym h.did) (made_kept k.state (cancel_channel k.state p chan).after p (channel_kept p chan k.state h.none) made)

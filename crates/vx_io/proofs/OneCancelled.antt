@@ -1,5 +1,5 @@
 -- One request that is cancelled: it is marked, or it finishes.
-use Rattle.std.proofs.Common.{◌≡◌, ℕ, List, [], ◌∷◌, Bool, true, false, ◌||◌, length, Option, Some, option_map, refl, ap, sym, ◌∙◌, arith}
+use Rattle.std.proofs.Common.{◌≡◌, ℕ, List, [], ◌∷◌, Bool, true, false, ◌||◌, length, Option, Some, option_map, refl, ap, sym, ◌∙◌}
 use Rattle.std.specs.List.{find, list_any}
 use Rattle.std.proofs.lemmas.Bool.{eqb-true}
 use Rattle.vx_base.specs.Pieces.{Request}
@@ -12,10 +12,10 @@ use Rattle.vx_base.specs.declared.request.Reply.{Reply}
 use Rattle.vx_record.specs.State.{State}
 use Rattle.vx_record.specs.Cancel.{mark_part, withdraw}
 use Rattle.vx_record.specs.Finish.{ending, finish, this_request}
-use Rattle.vx_record.specs.Parts.{Part, and_then, tells}
+use Rattle.vx_record.specs.Parts.{and_then, tells}
 use Rattle.vx_record.proofs.Lists.{either_by, find_passes}
 use Rattle.vx_reqs.specs.Requests.{is_found}
-use Rattle.vx_procs.specs.Kernel.{Acts, Fits, Kernel, with_state}
+use Rattle.vx_procs.specs.Kernel.{Acts, Kernel, with_state}
 use Rattle.vx_procs.specs.Requests.{IsUnitOf, ended, ended_if, finished, to_abort}
 use Rattle.vx_procs.specs.declared.requests.Finished.{Finished}
 use Rattle.vx_procs.proofs.Rest.{acted}
@@ -38,9 +38,6 @@ is_serving s id x b e = sym (e ∙ ap (is_found (λ (r : Request). r.served)) x.
 
 marked_part : (s : State) (id : Id) (x : IsToCancel s id) → x.r.served ≡ true → cancel_found s (find (this_request id) s.requests) ≡ mark_part s x.r
 marked_part s id x served = ap (cancel_found s) x.found ∙ served_part s x.r served x.going
-
-pub mark_room : (k : Kernel) (id : Id) (x : IsToCancel k.state id) → x.r.served ≡ true → Fits k (cancel_found k.state (find (this_request id) k.state.requests)).effects → Fits k (effect.Mark id ∷ [])
-mark_room k id x served room = omega (arith, room, ap (λ (y : Part). length y.effects) (marked_part k.state id x served))
 
 pub marked_as : (k l : Kernel) (id : Id) (x : IsToCancel k.state id) → x.r.served ≡ true → Acts (tells (effect.Mark id) (to_abort id k.state)) k l → Acts (cancel_found k.state (find (this_request id) k.state.requests)) k l
 marked_as k l id x served did =

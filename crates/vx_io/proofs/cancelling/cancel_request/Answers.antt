@@ -1,14 +1,9 @@
 use Rattle.std.proofs.Common.{ap, ◌∙◌}
-use Rattle.vx_io.proofs.OneCancelled.{cancelled_with, is_serving, is_there, mark_room, marked_as, out_as, out_of}
+use Rattle.vx_io.proofs.OneCancelled.{cancelled_with, is_serving, is_there, marked_as, out_as, out_of}
 use Rattle.vx_io.proofs.cancelling.cancel_request.Goals as goal
 
 pub mark-requires-clause-there : goal.mark-requires-clause-there
 mark-requires-clause-there g c = is_there c.args.core.now.state c.args.id c.requires.open
-
-pub mark-requires-clause-room : goal.mark-requires-clause-room
-mark-requires-clause-room g c =
-    let x = c.requires.open in
-    mark_room c.args.core.now c.args.id x (is_serving c.args.core.now.state c.args.id x c.is_served.result c.is_served.ensures ∙ c.if-is_served.true) c.requires.room
 
 pub returns-then-is_served : goal.returns-then-is_served
 returns-then-is_served g c =
