@@ -27,6 +27,7 @@ fn standing_word(standing: Standing) -> &'static [u8]
     }
 }
 
+/// Appends the line `PROCESS` of a process that stands so.
 pub fn print_standing(
     alloc: Global,
     p: Pid,

@@ -33,6 +33,7 @@ pub fn id_of(word: &[u8]) -> Option<Id>
     }
 }
 
+/// A process's number, in decimal with no leading zero.
 pub fn pid_of(word: &[u8]) -> Option<Pid>
     ensures { result ≡ spec.pid_of word.now }
 {
@@ -49,6 +50,7 @@ pub fn bit_of(word: &[u8]) -> Option<bool>
     }
 }
 
+/// A name: a capital letter, and at most 30 more capital letters, digits and `_`.
 pub fn name_of(word: &[u8]) -> Option<Name>
     ensures { result ≡ spec.name_in word.now }
 {
