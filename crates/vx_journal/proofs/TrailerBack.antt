@@ -25,8 +25,8 @@ use Rattle.vx_lines.proofs.WordsBack.{run_first, first_back, behind_back, second
 use Rattle.vx_exec.specs.declared.standing.Standing.{Standing}
 use Rattle.vx_exec.specs.declared.standing.Standing.TheVariants as standing
 use Rattle.vx_journal.specs.SpelledJournal.{IsSpelledLine, part_behind, trailer_text}
-use Rattle.vx_journal.specs.Transcript.{standing_word, standing_line, end_word, end_line}
-use Rattle.vx_journal.specs.TrailerLines.{end_in, end_of, ends_at, if_spelled, line_of, or_bad, output_in, output_line, part_at, place_after, place_behind, process_in, read_line, read_trailer, standing_of, trailer_line, trailer_lines_from}
+use Rattle.vx_journal.specs.Transcript.{standing_word, standing_line, output_line, end_word, end_line}
+use Rattle.vx_journal.specs.TrailerLines.{end_in, end_of, ends_at, if_spelled, line_of, or_bad, output_in, part_at, place_after, place_behind, process_in, read_line, read_trailer, standing_of, trailer_line, trailer_lines_from}
 use Rattle.vx_journal.specs.declared.journal.Part.{Part}
 use Rattle.vx_journal.specs.declared.trailer.Place.{Place}
 use Rattle.vx_journal.specs.declared.trailer.Place.TheVariants as place
