@@ -19,13 +19,13 @@ abbrev pub is_opening : Item → Bool
 is_opening (Did (effect.Open id kind p mode n)) = true
 is_opening x = false
 
-by_cases : {A : Type 0} (b : Bool) → (b ≡ true → A) → (b ≡ false → A) → A
+pub by_cases : {A : Type 0} (b : Bool) → (b ≡ true → A) → (b ≡ false → A) → A
 by_cases true f g = f refl
 by_cases false f g = g refl
 
 -- An id above the highest was not opened.
 
-lived_none : (past : List Item) (x : Item) → is_opening x ≡ false → lived past x None ≡ None
+pub lived_none : (past : List Item) (x : Item) → is_opening x ≡ false → lived past x None ≡ None
 lived_none past (Did (effect.Open id kind p mode n)) e = absurd (let never : true ≡ false = e in cc)
 lived_none past (Head (event.Ast p) a) e = refl
 lived_none past (Head (event.Beg u) a) e = refl
@@ -42,7 +42,7 @@ above_both : (b : Bool) (m i k : ℕ) → nat_lt m i ≡ b → cond b i m < k �
 above_both true m i k e h = (h, let l : nat_lt m i ≡ true = e in omega (arith, h, ltb-true m i l))
 above_both false m i k e h = (by_cases (nat_lt i k) (λ t. ltb-true i k t) (λ f. absurd (let never : true ≡ false = sym (lt-ltb m i (let n = ltb-false i k f in omega (arith, h, n))) ∙ e in cc)), h)
 
-known : (past : List Item) (id : Id) → highest past < id.0 → life past id ≡ None
+pub known : (past : List Item) (id : Id) → highest past < id.0 → life past id ≡ None
 known [] id h = refl
 known (Did (effect.Open i kind p mode n) ∷ past) id h =
     let both = above_both (nat_lt (highest past) i.0) (highest past) i.0 id.0 refl h in
@@ -100,7 +100,7 @@ open_pushed ids past x i about h = λ id e.
     (λ f. let g : lives is_open (life past id) ≡ true = rw (about, f) at e in more ∙ any_earlier (list_any (is_id id) ids) (is_id id i || false) (h id g))
 
 -- those alone that are open
-filtered : (id : Id) (test : Id → Bool) (ids : List Id) → test id ≡ true → list_any (is_id id) ids ≡ true → list_any (is_id id) (filter test ids) ≡ true
+pub filtered : (id : Id) (test : Id → Bool) (ids : List Id) → test id ≡ true → list_any (is_id id) ids ≡ true → list_any (is_id id) (filter test ids) ≡ true
 filtered id test [] t h = h
 filtered id test (i ∷ ids) t h =
     by_cases (is_id id i)

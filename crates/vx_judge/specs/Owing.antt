@@ -1,14 +1,14 @@
 -- What completions owe to the calls that opened their requests, and the clusters that processes have, in tables.
-use Rattle.std.specs.Prelude.{◌≡◌, ℕ, List, Bool, ◌&&◌, ◌==◌, Option, Some, None, option_map, nat_eq}
+use Rattle.std.specs.Prelude.{◌≡◌, ℕ, List, Option, option_map, nat_eq}
 use Rattle.std.specs.HashMap.{get}
-use Rattle.std.specs.List.{find}
 use Rattle.vx_base.specs.declared.number.Id.{Id}
 use Rattle.vx_base.specs.declared.number.Pid.{Pid}
-use Rattle.vx_record.specs.Charges.{is_same}
 use Rattle.vx_record.specs.Services.{number}
 use Rattle.vx_laws.specs.Items.{Item, Calling}
 use Rattle.vx_laws.specs.Lives.{Life, life}
 use Rattle.vx_laws.specs.Values.{cluster_by}
+use Rattle.vx_judge.specs.Pairs.{pair_eq}
+use Rattle.vx_judge.specs.declared.clusters.Clusters.{Clusters}
 use Rattle.vx_judge.specs.declared.debts.Debts.{Debts}
 use Rattle.vx_judge.specs.declared.joined.Joined.{Joined}
 use Rattle.vx_judge.specs.declared.owed.Owed.{Owed}
@@ -23,16 +23,12 @@ owed_by l = option_map owed l.by
 abbrev pub AreOwed : Debts → List Item → Type 0
 AreOwed t past = (id : Id) → get nat_eq t.map id.0 ≡ option_map owed_by (life past id)
 
-abbrev pub is_joined : Pid → ℕ → Joined → Bool
-is_joined p k x = is_same x.p p && (x.k == k)
+abbrev pub cluster_of : Joined → ℕ × List ℕ
+cluster_of x = (x.group, x.name)
 
-abbrev pub cluster_found : Option Joined → Option (ℕ × List ℕ)
-cluster_found None = None
-cluster_found (Some x) = x.cluster
-
-abbrev pub cluster_in : List Joined → Pid → ℕ → Option (ℕ × List ℕ)
-cluster_in xs p k = cluster_found (find (is_joined p k) xs)
+abbrev pub cluster_in : Clusters → Pid → ℕ → Option (ℕ × List ℕ)
+cluster_in t p k = option_map cluster_of (get pair_eq t.map (p.0, k))
 
 -- they are those that the past tells
-abbrev pub AreJoined : List Joined → List Item → Type 0
-AreJoined xs past = (p : Pid) (k : ℕ) → cluster_in xs p k ≡ cluster_by past p k
+abbrev pub AreJoined : Clusters → List Item → Type 0
+AreJoined t past = (p : Pid) (k : ℕ) → cluster_in t p k ≡ cluster_by past p k

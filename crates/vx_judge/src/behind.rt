@@ -9,15 +9,14 @@ ghost use Rattle.vx_record.specs.Flags.{place_in};
 ghost use Rattle.vx_judge.specs.Lists.{from_first};
 ghost use Rattle.vx_judge.specs.Owing.{owed, AreJoined};
 
-use crate::clusters::cell_of;
-use crate::joined::Joined;
+use crate::clusters::Clusters;
 use crate::near::is_cond;
 use crate::once::agree;
 use crate::owed::Owed;
 use vx_base::{Cell, Cond, Effect, Pid};
 
 /// The effects before the first FIN.
-fn to_next(effects: &[Effect]) -> &[Effect]
+pub fn to_next(effects: &[Effect]) -> &[Effect]
     ensures { result.now ≡ to_next_fin effects.now }
 {
     for (i, effect) in effects.iter().enumerate() {
@@ -83,8 +82,8 @@ fn any_flag(effects: &[Effect]) -> bool
     effects.iter().any(|effect| is_flag(effect))
 }
 
-// The conditions are one.
-fn is_this_cond(c: Cond, cond: Option<Cond>) -> bool
+/// Whether the conditions are one.
+pub fn is_this_cond(c: Cond, cond: Option<Cond>) -> bool
     ensures { result ≡ is_this_cond_of c cond }
 {
     match cond {
@@ -124,8 +123,8 @@ fn is_cleared_iosb(p: Pid, i: u32, effect: &Effect) -> bool
     }
 }
 
-// The flags are of one cluster.
-fn is_beside(c: &Cell, d: &Cell) -> bool
+/// Whether the flags are of one cluster.
+pub fn is_beside(c: &Cell, d: &Cell) -> bool
     ensures { result ≡ is_beside_of c.now d.now }
 {
     match c {
@@ -140,8 +139,8 @@ fn is_beside(c: &Cell, d: &Cell) -> bool
     }
 }
 
-// A flag's place in its cluster.
-fn place_of(c: &Cell) -> u32
+/// A flag's place in its cluster.
+pub fn place_of(c: &Cell) -> u32
     ensures { result ≡ place_in c.now }
 {
     match c {
@@ -218,14 +217,14 @@ fn tells_set(cell: Option<Cell>, effects: &[Effect]) -> bool
 }
 
 /// Whether what stands behind a FIN is what the completion owes.
-pub fn tells_call(joined: &[Joined], owes: Option<Owed>, c: Cond, later: &[Effect]) -> bool
-    ensures { (past : List Item) (full : OptionOf Calling) → AreJoined joined.now past → owes ≡ option_map owed full → result ≡ tells_call_of past c (to_next_fin later.now) full }
+pub fn tells_call(clusters: &Clusters, owes: Option<Owed>, c: Cond, later: &[Effect]) -> bool
+    ensures { (past : List Item) (full : OptionOf Calling) → AreJoined clusters.now past → owes ≡ option_map owed full → result ≡ tells_call_of past c (to_next_fin later.now) full }
 {
     let effects = to_next(later);
     match owes {
         None => false,
         Some(o) => {
-            tells_iosb(o.p, o.iosb, c, effects) && tells_set(cell_of(joined, o.p, o.efn), effects)
+            tells_iosb(o.p, o.iosb, c, effects) && tells_set(clusters.cell(o.p, o.efn), effects)
         }
     }
 }

@@ -1,92 +1,93 @@
-//! The clusters of all processes, the latest told first.
+//! The clusters of all processes, in a table.
 
-ghost use Rattle.std.specs.Prelude.{◌≡◌, ℕ, List, [], ◌∷◌, OnOk, if◌then◌else◌, position, IfSome, length, ◌<◌};
-ghost use Rattle.std.specs.List.{find};
-ghost use Rattle.vx_base.specs.Lists.{less};
-ghost use Rattle.vx_base.specs.declared.number.Pid.{Pid as PidOf};
-ghost use Rattle.vx_laws.specs.Items.{Item, Head, Did};
-ghost use Rattle.vx_laws.specs.Values.{cell_by};
-ghost use Rattle.vx_judge.specs.Owing.{is_joined, cluster_in, AreJoined};
+ghost use Rattle.std.specs.Prelude.{◌≡◌, List, [], ◌∷◌, OnOk};
+ghost use Rattle.vx_base.specs.declared.effects.Effect.TheVariants.{Clu};
+ghost use Rattle.vx_laws.specs.Items.{Item, Did};
+ghost use Rattle.vx_laws.specs.Values.{cell_by, cluster_by};
+ghost use Rattle.vx_judge.specs.Owing.{cluster_of};
 
 use crate::joined::Joined;
-use vx_base::{Cell, Effect, Name, NoMemory, Pid, take_out};
+use std::alloc::Global;
+use std::collections::HashMap;
+use vx_base::{Cell, Effect, Name, NoMemory, Pid};
 
-// Whether it is a process's cluster of this number.
-fn is_of(x: &Joined, p: Pid, k: u32) -> bool
-    ensures { result ≡ is_joined p k x.now }
-{
-    x.p.0 == p.0 && x.k == k
+/// What each process has as its cluster of a number.
+#[derive(Drop)]
+pub struct Clusters {
+    map: HashMap<(u32, u32), Joined>,
 }
 
-// What is told of it.
-fn find_joined(items: &[Joined], p: Pid, k: u32) -> Option<Joined>
-    ensures { result ≡ find (is_joined p k) items.now }
+// It, with its group and name.
+fn joined(cluster: (u32, Name)) -> Joined
+    ensures { cluster_of result ≡ cluster }
 {
-    for x in items {
-        if is_of(x, p, k) {
-            return Some(*x);
+    Joined {
+        group: cluster.0,
+        name: cluster.1,
+    }
+}
+
+impl Clusters {
+    ghost use Rattle.vx_judge.specs.Owing.{AreJoined};
+
+    /// No process has one. Takes no memory.
+    pub fn new(alloc: Global) -> Clusters
+        ensures { AreJoined result [] }
+    {
+        Clusters {
+            map: HashMap::new(alloc),
         }
     }
-    None
-}
 
-// A process's cluster of this number.
-fn cluster_of(items: &[Joined], p: Pid, k: u32) -> Option<(u32, Name)>
-    ensures { result ≡ cluster_in items.now p k }
-{
-    match find_joined(items, p, k) {
-        Some(x) => x.cluster,
-        None => None,
-    }
-}
-
-/// The flag that a number names.
-pub fn cell_of(items: &[Joined], p: Pid, efn: u32) -> Option<Cell>
-    ensures { (past : List Item) → AreJoined items.now past → result ≡ cell_by past p efn }
-{
-    if efn < 64 {
-        return Some(Cell::Local(p, efn));
-    }
-    match cluster_of(items, p, efn / 32) {
-        Some((group, name)) => Some(Cell::Common(group, name, efn % 32)),
-        None => None,
-    }
-}
-
-// Where it stands.
-fn place_of(items: &[Joined], p: Pid, k: u32) -> Option<usize>
-    ensures place { result ≡ position (is_joined p k) items.now }
-    ensures within { IfSome result (λ i. i < length items.now) }
-{
-    items.iter().position(|x| is_of(x, p, k))
-}
-
-// What is told of it now, in place of what was.
-fn put(items: &mut Vec<Joined>, new: Joined) -> Result<(), NoMemory>
-    ensures { OnOk result (items.new.items ≡ new ∷ less (is_joined new.p new.k) items.old.items) }
-{
-    let place = place_of(items, new.p, new.k);
-    take_out(items, place);
-    items.insert(0, new)?;
-    Ok(())
-}
-
-/// Goes past an effect.
-pub fn pass_effect(items: &mut Vec<Joined>, effect: &Effect) -> Result<(), NoMemory>
-    ensures { OnOk result ((past : List Item) → AreJoined items.old.items past → AreJoined items.new.items (Did effect.now ∷ past)) }
-{
-    match effect {
-        Effect::Clu { p, k, cluster } => {
-            put(
-                items,
-                Joined {
-                    p: *p,
-                    k: *k,
-                    cluster: *cluster,
-                },
-            )?;
-            Ok(())
+    /// A process's cluster of this number, by its group and name.
+    pub fn of(&self, p: Pid, k: u32) -> Option<(u32, Name)>
+        ensures { (past : List Item) → AreJoined self.now past → result ≡ cluster_by past p k }
+    {
+        match self.map.get(&(p.0, k)) {
+            Some(x) => Some((x.group, x.name)),
+            None => None,
         }
-        _ => Ok(()),
+    }
+
+    /// The flag that a number names.
+    pub fn cell(&self, p: Pid, efn: u32) -> Option<Cell>
+        ensures { (past : List Item) → AreJoined self.now past → result ≡ cell_by past p efn }
+    {
+        if efn < 64 {
+            return Some(Cell::Local(p, efn));
+        }
+        match self.of(p, efn / 32) {
+            Some((group, name)) => Some(Cell::Common(group, name, efn % 32)),
+            None => None,
+        }
+    }
+
+    // A process has this cluster, or none.
+    fn set(&mut self, p: Pid, k: u32, cluster: Option<(u32, Name)>) -> Result<(), NoMemory>
+        ensures { OnOk result ((past : List Item) → AreJoined self.old past → AreJoined self.new (Did (Clu p k cluster) ∷ past)) }
+    {
+        match cluster {
+            Some(cluster) => {
+                self.map.insert((p.0, k), joined(cluster))?;
+                Ok(())
+            }
+            None => {
+                self.map.remove(&(p.0, k));
+                Ok(())
+            }
+        }
+    }
+
+    /// Goes past an effect.
+    pub fn pass_effect(&mut self, effect: &Effect) -> Result<(), NoMemory>
+        ensures { OnOk result ((past : List Item) → AreJoined self.old past → AreJoined self.new (Did effect.now ∷ past)) }
+    {
+        match effect {
+            Effect::Clu { p, k, cluster } => {
+                self.set(*p, *k, *cluster)?;
+                Ok(())
+            }
+            _ => Ok(()),
+        }
     }
 }

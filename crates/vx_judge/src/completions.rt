@@ -11,9 +11,8 @@ ghost use Rattle.vx_judge.specs.Places.{past_in};
 ghost use Rattle.vx_judge.specs.Owing.{AreOwed, AreJoined, owed, owed_by};
 
 use crate::behind::{clears_iosb, tells_call};
-use crate::clusters;
+use crate::clusters::Clusters;
 use crate::debts::{Debts, owed_in};
-use crate::joined::Joined;
 use crate::judge::{Judge, holds_throughout};
 use crate::owed::Owed;
 use std::alloc::Global;
@@ -30,28 +29,28 @@ fn is_asked(kind: Opened) -> bool
 }
 
 // The completion of an id tells what it owes; an id that was not opened has none.
-fn is_told(joined: &[Joined], owes: Option<Option<Owed>>, c: Cond, later: &[Effect]) -> bool
-    ensures { (past : List Item) (full : OptionOf FullLife) → AreJoined joined.now past → owes ≡ option_map owed_by full → result ≡ lives (λ l. tells_call_of past c (to_next_fin later.now) l.by) full }
+fn is_told(clusters: &Clusters, owes: Option<Option<Owed>>, c: Cond, later: &[Effect]) -> bool
+    ensures { (past : List Item) (full : OptionOf FullLife) → AreJoined clusters.now past → owes ≡ option_map owed_by full → result ≡ lives (λ l. tells_call_of past c (to_next_fin later.now) l.by) full }
 {
     match owes {
-        Some(owes) => tells_call(joined, owes, c, later),
+        Some(owes) => tells_call(clusters, owes, c, later),
         None => false,
     }
 }
 
-// What is asked of an effect.
-fn completes_effect(
+/// What is asked of an effect.
+pub fn completes_effect(
     debts: &Debts,
-    joined: &[Joined],
+    clusters: &Clusters,
     rec: &Rec,
     earlier: &[Effect],
     effect: &Effect,
     later: &[Effect],
 ) -> bool
-    ensures { (past : List Item) (more : List RecOf) → AreOwed debts.now (past_in past rec.now earlier.now) → AreJoined joined.now (past_in past rec.now earlier.now) → result ≡ completes_right (past_in past rec.now earlier.now) (Did effect.now) (map Did later.now ++ flat more) }
+    ensures { (past : List Item) (more : List RecOf) → AreOwed debts.now (past_in past rec.now earlier.now) → AreJoined clusters.now (past_in past rec.now earlier.now) → result ≡ completes_right (past_in past rec.now earlier.now) (Did effect.now) (map Did later.now ++ flat more) }
 {
     match effect {
-        Effect::Fin { id, cond } => is_told(joined, debts.of(*id), *cond, later),
+        Effect::Fin { id, cond } => is_told(clusters, debts.of(*id), *cond, later),
         Effect::Open { kind, .. } => !is_asked(*kind) || clears_iosb(owed_in(rec), earlier),
         _ => true,
     }
@@ -61,7 +60,7 @@ fn completes_effect(
 #[derive(Drop)]
 struct Completions {
     debts: Debts,
-    joined: Vec<Joined>,
+    clusters: Clusters,
 }
 
 impl Judge for Completions {
@@ -69,7 +68,7 @@ impl Judge for Completions {
 
     ghost follows = { λ j past. record {
       debts : AreOwed j.debts past;
-      joined : AreJoined j.joined.items past;
+      clusters : AreJoined j.clusters past;
     } };
 
     fn at_head(&self, _rec: &Rec) -> bool {
@@ -77,14 +76,7 @@ impl Judge for Completions {
     }
 
     fn at_effect(&self, rec: &Rec, earlier: &[Effect], effect: &Effect, later: &[Effect]) -> bool {
-        completes_effect(
-            &self.debts,
-            self.joined.as_slice(),
-            rec,
-            earlier,
-            effect,
-            later,
-        )
+        completes_effect(&self.debts, &self.clusters, rec, earlier, effect, later)
     }
 
     fn pass_head(&mut self, _rec: &Rec) -> Result<(), NoMemory> {
@@ -98,7 +90,7 @@ impl Judge for Completions {
         effect: &Effect,
     ) -> Result<(), NoMemory> {
         self.debts.pass_effect(rec, earlier, effect)?;
-        clusters::pass_effect(&mut self.joined, effect)?;
+        self.clusters.pass_effect(effect)?;
         Ok(())
     }
 }
@@ -111,7 +103,7 @@ pub fn law_completions(recs: &[Rec], alloc: Global) -> Result<bool, NoMemory>
 {
     let mut judge = Completions {
         debts: Debts::new(alloc),
-        joined: Vec::new(alloc),
+        clusters: Clusters::new(alloc),
     };
     holds_throughout(&mut judge, recs)
 }

@@ -1,11 +1,10 @@
 //! A cluster that a process has.
 
-use vx_base::{Name, Pid};
+use vx_base::Name;
 
-/// The group and name of a process's cluster by its number, none where it is dissociated.
+/// A common cluster that a process has associated, by its group and name.
 #[derive(Clone, Copy, Debug)]
 pub struct Joined {
-    pub p: Pid,
-    pub k: u32,
-    pub cluster: Option<(u32, Name)>,
+    pub group: u32,
+    pub name: Name,
 }

@@ -3,15 +3,16 @@
 use std::alloc::Global;
 use std::test::*;
 use vx_base::{
-    Answer, Arg, Args, Call, Cond, Effect, Event, Id, Mode, Opened, Pid, Rec, Sequence, Service,
+    Answer, Arg, Args, Call, Cell, Cond, Effect, Event, Id, Mode, Opened, Operand, Pid, Rec,
+    Sequence, Service, Target,
 };
 use vx_image::System;
-use vx_judge::{law_ast, law_once, law_quota, law_rundown};
+use vx_judge::{law_ast, law_flag, law_once, law_quota, law_rundown};
 
-// A record without effects, of process 1.
-fn runs(alloc: Global, service: Service, cond: Cond) -> Rec {
+// A call with one argument.
+fn call(service: Service, a0: Arg) -> Call {
     let args = Args {
-        a0: Arg::Unused,
+        a0,
         a1: Arg::Unused,
         a2: Arg::Unused,
         a3: Arg::Unused,
@@ -21,9 +22,14 @@ fn runs(alloc: Global, service: Service, cond: Cond) -> Rec {
         a7: Arg::Unused,
         a8: Arg::Unused,
     };
+    Call { service, args }
+}
+
+// A record without effects, of process 1.
+fn runs(alloc: Global, service: Service, cond: Cond) -> Rec {
     Rec {
         event: Event::Run(Pid(1)),
-        answer: Answer::Service(Call { service, args }, cond),
+        answer: Answer::Service(call(service, Arg::Unused), cond),
         effects: Sequence::new(alloc),
     }
 }
@@ -74,5 +80,60 @@ fn quotas_are_answered(rt: HostRuntime) -> Result<(), Fail> {
             .ok()
             .ok_or("memory")?
     );
+    Ok(())
+}
+
+// A record of process 1, of event flag 5.
+fn of_flag(answer: Answer, effects: Sequence<Effect>) -> Rec {
+    Rec {
+        event: Event::Run(Pid(1)),
+        answer,
+        effects,
+    }
+}
+
+const FLAG: Arg = Arg::Value(Operand::Num(5));
+
+// $SETEF sets the flag, which was clear.
+fn sets(alloc: Global) -> Result<Rec, Fail> {
+    let effects = [Effect::Flag {
+        cell: Cell::Local(Pid(1), 5),
+        bit: true,
+    }];
+    Ok(of_flag(
+        Answer::Service(call(Service::SetEf, FLAG), Cond::WasClr),
+        Sequence::from_vec(Vec::from_array(alloc, effects)?),
+    ))
+}
+
+// $READEF reads the flags of its cluster.
+fn reads(alloc: Global, flags: u32) -> Result<Rec, Fail> {
+    let effects = [Effect::Var {
+        p: Pid(1),
+        v: Target::Var(b'A'),
+        n: flags,
+    }];
+    Ok(of_flag(
+        Answer::Service(call(Service::ReadEf, FLAG), Cond::WasSet),
+        Sequence::from_vec(Vec::from_array(alloc, effects)?),
+    ))
+}
+
+#[test]
+fn flags_read_as_they_are_keep_the_law(rt: HostRuntime) -> Result<(), Fail> {
+    let recs = Vec::from_array(rt.alloc(), [sets(rt.alloc())?, reads(rt.alloc(), 32)?])?;
+    assert!(rt; law_flag(recs.as_slice(), rt.alloc()).ok().ok_or("memory")?);
+    Ok(())
+}
+
+// $WAITFR waits for the flag, although it is set.
+#[test]
+fn a_wait_for_a_flag_that_is_set_breaks_the_law(rt: HostRuntime) -> Result<(), Fail> {
+    let waits = of_flag(
+        Answer::Wait(call(Service::WaitFr, FLAG)),
+        Sequence::new(rt.alloc()),
+    );
+    let recs = Vec::from_array(rt.alloc(), [sets(rt.alloc())?, waits])?;
+    assert!(rt; !law_flag(recs.as_slice(), rt.alloc()).ok().ok_or("memory")?);
     Ok(())
 }

@@ -16,6 +16,8 @@ mod clusters;
 #[cfg(test)]
 mod exits;
 #[cfg(test)]
+mod explore;
+#[cfg(test)]
 mod flags;
 #[cfg(test)]
 mod frames;
@@ -25,6 +27,8 @@ mod grammar;
 mod image;
 #[cfg(test)]
 mod judge;
+#[cfg(test)]
+mod judge_boxes;
 #[cfg(test)]
 mod mailbox;
 #[cfg(test)]

@@ -1,0 +1,27 @@
+-- An index of digests: for each place the last place below with the same digest, and for each digest its last place.
+use Rattle.std.specs.Prelude.{◌≡◌, ◌≢◌, ℕ, zero, suc, ◌<◌, ◌==◌, List, Option, Some, None, if◌then◌else◌, length, map, AllPairs, slice_index, slice_index_or}
+use Rattle.vx_explore.specs.declared.found.Found.{Found}
+
+-- the last place below a bound that has this digest
+abbrev pub last_of : ℕ → List ℕ → ℕ → Option ℕ
+last_of d ds zero = None
+last_of d ds (suc i) = if slice_index ds i == d then Some i else last_of d ds i
+
+pub record IsIndex (ds : List ℕ) (older : List (Option ℕ)) (latest : ℕ → Option ℕ) : Type 0 where
+  pub len : length older ≡ length ds
+  pub behind : (i : ℕ) → i < length ds → slice_index_or older i None ≡ last_of (slice_index ds i) ds i
+  pub last : (d : ℕ) → latest d ≡ last_of d ds (length ds)
+
+-- the digest of the state at each place
+abbrev pub digests : {S : Type 0} → (S → ℕ) → List (Found S) → List ℕ
+digests digest_of xs = map (λ x. digest_of x.what) xs
+
+-- the states alone
+abbrev pub whats : {S : Type 0} → List (Found S) → List S
+whats xs = map (λ x. x.what) xs
+
+-- each state stands once, and the index is right
+pub record IsLevel {S : Type 0} (digest_of : S → ℕ) (xs : List (Found S))
+    (older : List (Option ℕ)) (latest : ℕ → Option ℕ) : Type 0 where
+  pub index : IsIndex (digests digest_of xs) older latest
+  pub different : AllPairs (λ a b. a ≢ b) (whats xs)

@@ -1,0 +1,28 @@
+//! What runs come to.
+
+ghost use Rattle.std.specs.Prelude.{◌≡◌, [], ◌∷◌, ◌++◌, IfOk};
+
+use vx_base::{Duplicate, NoMemory, Sequence};
+
+/// Which of the enabled events a run took at each step, by its place from 0.
+pub type Picks = Sequence<u32>;
+
+/// What some runs come to, how many do, and which is the first.
+#[derive(Debug, Drop)]
+pub struct Found<T> {
+    /// The state or the ending.
+    pub what: T,
+    /// The number of runs. It stays at the largest `u64`.
+    pub ways: u64,
+    /// The picks of the first run.
+    pub picks: Picks,
+}
+
+/// The picks of a run that takes one more step.
+pub fn with_pick(picks: &Picks, pick: u32) -> Result<Picks, NoMemory>
+    ensures { IfOk result (λ more. more ≡ picks.now ++ pick ∷ []) }
+{
+    let mut more = picks.duplicate()?;
+    more.push(pick)?;
+    Ok(more)
+}

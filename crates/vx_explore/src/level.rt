@@ -1,0 +1,111 @@
+//! A level: the states to which one number of steps leads, each once.
+
+ghost use Rattle.std.specs.Prelude.{◌≡◌, ◌≢◌, ◌<◌, ◌∷◌, [], ◌++◌, All, Contains, length, nat_eq, MatchOption, OnOk, slice_index_or};
+ghost use Rattle.std.specs.HashMap.{get};
+ghost use Rattle.vx_explore.specs.Alike.{Like};
+ghost use Rattle.vx_explore.specs.Index.{IsLevel, whats};
+ghost use Rattle.vx_explore.specs.Runs.{Leads};
+
+use crate::found::{Found, Picks, with_pick};
+use crate::machine::Machine;
+use std::alloc::Global;
+use std::collections::HashMap;
+use vx_base::NoMemory;
+
+/// The states, in the order of their first picks, with an index: for each digest its last state, and for each state the last one
+/// before it with the same digest.
+#[derive(Drop)]
+pub struct Level<M> {
+    reached: Vec<Found<M>>,
+    older: Vec<Option<usize>>,
+    latest: HashMap<u64, usize>,
+}
+
+impl<M: Machine> Level<M> {
+    /// No states. Takes no memory.
+    pub fn new(alloc: Global) -> Level<M>
+        ensures reached { result.reached.items ≡ [] }
+        ensures level { IsLevel M.digest_of result.reached.items result.older.items (λ d. get nat_eq result.latest d) }
+    {
+        Level {
+            reached: Vec::new(alloc),
+            older: Vec::new(alloc),
+            latest: HashMap::new(alloc),
+        }
+    }
+
+    /// How many states there are.
+    pub fn len(&self) -> usize
+        ensures { result ≡ length self.now.reached.items }
+    {
+        self.reached.len()
+    }
+
+    /// The states, in their order.
+    pub fn into_states(self) -> Vec<Found<M>>
+        ensures { result.items ≡ self.reached.items }
+    {
+        let Level {
+            reached: states,
+            ..
+        } = self;
+        states
+    }
+
+    /// The place of a state, or None if it is not in the level.
+    pub fn place_of(&self, what: &M) -> Option<usize>
+        requires { IsLevel M.digest_of self.now.reached.items self.now.older.items (λ d. get nat_eq self.now.latest d) }
+        ensures { MatchOption result
+            ((i : _) (d : _) → i < length self.now.reached.items → (slice_index_or self.now.reached.items i d).what ≢ what.now)
+            (λ i. (i < length self.now.reached.items) × ((d : _) → (slice_index_or self.now.reached.items i d).what ≡ what.now)) }
+    {
+        let mut next = self.latest.get(&what.digest()).copied();
+        while let Some(i) = next {
+            if self.reached[i].what.same(what) {
+                return Some(i);
+            }
+            next = self.older[i];
+        }
+        None
+    }
+
+    /// Adds a new state. If memory runs out, the level is of no more use.
+    fn push(&mut self, found: Found<M>) -> Result<(), NoMemory>
+        requires level { IsLevel M.digest_of self.old.reached.items self.old.older.items (λ d. get nat_eq self.old.latest d) }
+        requires new { (i : _) (d : _) → i < length self.old.reached.items
+            → (slice_index_or self.old.reached.items i d).what ≢ found.what }
+        ensures reached { OnOk result (self.new.reached.items ≡ self.old.reached.items ++ found ∷ []) }
+        ensures level { OnOk result (IsLevel M.digest_of self.new.reached.items self.new.older.items (λ d. get nat_eq self.new.latest d)) }
+    {
+        let digest = found.what.digest();
+        let before = self.latest.insert(digest, self.reached.len())?;
+        self.older.push(before)?;
+        self.reached.push(found)?;
+        Ok(())
+    }
+
+    /// Counts the runs that come to a state by one more pick, and adds the state if it is new. If memory runs out, the level is of
+    /// no more use.
+    pub fn add(&mut self, what: M, ways: u64, picks: &Picks, pick: u32) -> Result<(), NoMemory>
+        requires { IsLevel M.digest_of self.old.reached.items self.old.older.items (λ d. get nat_eq self.old.latest d) }
+        ensures like { OnOk result (Like u64.MAX self.new.reached.items
+            (self.old.reached.items ++ record { what = what; ways = ways; picks = picks.now ++ pick ∷ [] } ∷ [])) }
+        ensures kept { OnOk result ((t : _) → Contains (whats self.old.reached.items) t → Contains (whats self.new.reached.items) t) }
+        ensures there { OnOk result (Contains (whats self.new.reached.items) what) }
+        ensures led { OnOk result ((k : _) (s : _) → All (Leads M.enabled M.after k s) (whats self.old.reached.items)
+            → Leads M.enabled M.after k s what → All (Leads M.enabled M.after k s) (whats self.new.reached.items)) }
+        ensures level { OnOk result (IsLevel M.digest_of self.new.reached.items self.new.older.items (λ d. get nat_eq self.new.latest d)) }
+    {
+        match self.place_of(&what) {
+            Some(i) => {
+                let there = &mut self.reached[i];
+                there.ways = there.ways.saturating_add(ways);
+            }
+            None => {
+                let picks = with_pick(picks, pick)?;
+                self.push(Found { what, ways, picks })?;
+            }
+        }
+        Ok(())
+    }
+}
