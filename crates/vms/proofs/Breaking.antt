@@ -14,9 +14,9 @@ use Rattle.vms.specs.Words.{command_of}
 
 -- a front of what an input comes to is a front of the text of the call that read it
 pub breaks_input : (words : List (List ℕ)) (options : Options) (left left_after : Option (List ℕ)) (faults faults_after : ℕ) (held held_after : Option (List ℕ)) (input : List ℕ) → ReadsInput words (Sim options) left left_after input → BreaksInput input options held held_after → Breaks words left left_after faults faults_after held held_after
-breaks_input words options left left_after faults faults_after held held_after input read (in_run system end text says built simulated front) = record {
+breaks_input words options left left_after faults faults_after held held_after input read (in_run system end text says simulated front) = record {
   text = text;
-  own = of_run end text (record { options = options; input = input; read = read; system = system; says = says; built = built; simulated = simulated });
+  own = of_run end text (record { options = options; input = input; read = read; system = system; says = says; simulated = simulated });
   front = front;
 }
 breaks_input words options left left_after faults faults_after held held_after input read (in_refusal text refused front) = record {

@@ -1,5 +1,5 @@
 -- What an input comes to.
-use Rattle.std.proofs.Common.{◌≡◌, ℕ, List, Option, Result, Err, false, IsTrue, subst}
+use Rattle.std.proofs.Common.{◌≡◌, ℕ, List, Option, Result, Err, subst}
 use Rattle.std.specs.Io.KnownBytes.{Appends}
 use Rattle.vx_base.specs.declared.record.End.{End}
 use Rattle.vx_image.specs.declared.system.System.{System}
@@ -8,19 +8,16 @@ use Rattle.vx_grammar.specs.Grammar.{Spells}
 use Rattle.vx_script.specs.declared.fault.ScriptFail.{ScriptFail}
 use Rattle.vx_script.specs.declared.fault.ScriptFail.TheVariants as fail
 use Rattle.vx_script.specs.declared.fault.ScriptFault.{ScriptFault}
-use Rattle.vx_exec.specs.Built.{is_built}
 use Rattle.vms.specs.Simulated.{WritesRun, WritesRefusal}
-use Rattle.vms.specs.Top.{IsSimulated, fault_line, later, no_script, not_built, script_in}
+use Rattle.vms.specs.Top.{IsSimulated, fault_line, no_script, script_in}
 use Rattle.vms.specs.declared.command.Command.{Command}
-use Rattle.vms.specs.declared.command.Command.TheVariants.{Sim}
 use Rattle.vms.specs.declared.command.Options.{Options}
 
 -- a transcript that was written is that of a run with this ending
-pub writes_run : (input : List ℕ) (options : Options) (held held_after : Option (List ℕ)) (system : System) (text : List ℕ) (end want : End) → Spells input system → IsTrue (is_built system) → IsSimulated system options end text → (end ≡ want) × Appends held held_after text → WritesRun input options held held_after want
-writes_run input options held held_after system text end want says built simulated told = record {
+pub writes_run : (input : List ℕ) (options : Options) (held held_after : Option (List ℕ)) (system : System) (text : List ℕ) (end want : End) → Spells input system → IsSimulated system options end text → (end ≡ want) × Appends held held_after text → WritesRun input options held held_after want
+writes_run input options held held_after system text end want says simulated told = record {
   system = system;
   says = says;
-  built = built;
   text = text;
   simulated = subst (λ z. IsSimulated system options z text) told.0 simulated;
   written = told.1;
@@ -33,7 +30,3 @@ told text input failure fault same is h = subst (λ z. Tells z fault) same (subs
 -- the line of a fault that was written refuses the input
 pub writes_fault : (input : List ℕ) (command : Command) (held held_after : Option (List ℕ)) (fault : ScriptFault) → Tells (script_in command input) fault → Appends held held_after (fault_line fault) → WritesRefusal command input held held_after
 writes_fault input command held held_after fault says written = record { text = fault_line fault; refused = no_script command fault says; written = written }
-
--- so does the line of a system that is not built
-pub writes_later : (input : List ℕ) (options : Options) (held held_after : Option (List ℕ)) (system : System) → Spells input system → is_built system ≡ false → Appends held held_after later → WritesRefusal (Sim options) input held held_after
-writes_later input options held held_after system says unbuilt written = record { text = later; refused = not_built options system says unbuilt; written = written }

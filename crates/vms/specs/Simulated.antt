@@ -6,17 +6,15 @@ use Rattle.vx_image.specs.declared.system.System.{System}
 use Rattle.vx_host.specs.Streams.{AppendsFront}
 use Rattle.vx_grammar.specs.Grammar.{Spells}
 use Rattle.vx_script.specs.Script.{script}
-use Rattle.vx_exec.specs.Built.{is_built}
 use Rattle.vms.specs.Top.{no_memory, IsRefused, IsSimulated}
 use Rattle.vms.specs.declared.command.Command.{Command}
 use Rattle.vms.specs.declared.command.Command.TheVariants.{Sim, Show}
 use Rattle.vms.specs.declared.command.Options.{Options}
 
--- The input is the script of a system that is built, and the sink holds the transcript of its run more, which has ended so.
+-- The input is the script of a system, and the sink holds the transcript of its run more, which has ended so.
 pub record WritesRun (input : List ℕ) (options : Options) (held held_after : Option (List ℕ)) (end : End) : Type 0 where
   pub system : System
   pub says : Spells input system
-  pub built : IsTrue (is_built system)
   pub text : List ℕ
   pub simulated : IsSimulated system options end text
   pub written : Appends held held_after text
@@ -37,7 +35,7 @@ pub record WritesShown (input : List ℕ) (held held_after : Option (List ℕ)) 
 
 -- The sink holds a front of the transcript, of the line of a refusal or of the line on memory more.
 pub data BreaksInput (input : List ℕ) (options : Options) (held held_after : Option (List ℕ)) : Type 0 where
-  in_run : (system : System) (end : End) (text : List ℕ) → Spells input system → IsTrue (is_built system) → IsSimulated system options end text → AppendsFront held held_after text → BreaksInput input options held held_after
+  in_run : (system : System) (end : End) (text : List ℕ) → Spells input system → IsSimulated system options end text → AppendsFront held held_after text → BreaksInput input options held held_after
   in_refusal : (text : List ℕ) → IsRefused input (Sim options) text → AppendsFront held held_after text → BreaksInput input options held held_after
   in_no_memory : AppendsFront held held_after no_memory → BreaksInput input options held held_after
 

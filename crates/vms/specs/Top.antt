@@ -12,7 +12,6 @@ use Rattle.vx_script.specs.Script.{script}
 use Rattle.vx_script.specs.declared.fault.FaultKind.{FaultKind}
 use Rattle.vx_script.specs.declared.fault.FaultKind.TheVariants as kind
 use Rattle.vx_script.specs.declared.fault.ScriptFault.{ScriptFault}
-use Rattle.vx_exec.specs.Built.{is_built}
 use Rattle.vx_record.specs.Runs.{IsRun, chosen, end_after}
 use Rattle.vx_laws.specs.Laws.{KeepLaws}
 use Rattle.vx_journal.specs.ReadJournal.{script_part, IsJournal, IsBadLine}
@@ -63,10 +62,6 @@ fault_line f = codes "vms: line " ++ (decimal f.line ++ 32 ∷ (kind_word f.kind
 -- the line of a transcript's first bad line
 abbrev pub form_line : ℕ → List ℕ
 form_line line = codes "vms: line " ++ (decimal line ++ codes " FORM\n")
-
--- the line of a script or a transcript whose system the executive does not run yet
-abbrev pub later : List ℕ
-later = codes "vms: line 1 LATER\n"
 
 abbrev pub no_memory : List ℕ
 no_memory = codes "vms: no memory\n"
@@ -130,13 +125,10 @@ script_in Show input = input
 script_in Check input = script_part input
 
 -- why an input is refused, and the line that tells it: the part that is to be a script is none, and this is its first fault; or
--- a system is to be simulated, or its transcript judged, that the executive does not run yet; or `check` reads what is no
--- transcript, and this is its first bad line
+-- `check` reads what is no transcript, and this is its first bad line
 pub data IsRefused (input : List ℕ) : Command → List ℕ → Type 0 where
   no_script : (command : Command) (fault : ScriptFault) → Tells (script_in command input) fault → IsRefused input command (fault_line fault)
-  not_built : (options : Options) (system : System) → Spells input system → is_built system ≡ false → IsRefused input (Sim options) later
   no_journal : (line : ℕ) → IsBadLine input line → IsRefused input Check (form_line line)
-  not_judged : (journal : Journal) → IsJournal input journal → is_built journal.system ≡ false → IsRefused input Check later
 
 -- The input is refused, and the text is the line that tells why.
 pub record RefusesText (words : List (List ℕ)) (left left_after : Option (List ℕ)) (text : List ℕ) : Type 0 where
@@ -152,15 +144,13 @@ pub record IsSimulated (system : System) (options : Options) (end : End) (text :
   pub ended : end_after system (chosen system options.seed options.limit) options.limit ≡ Some end
   pub spells : text ≡ transcript system (chosen system options.seed options.limit) end
 
--- The command is `sim`, the input is the script of a system that is built, and the text is the transcript of the run that the
--- seed chooses.
+-- The command is `sim`, the input is the script of a system, and the text is the transcript of the run that the seed chooses.
 pub record Simulates (words : List (List ℕ)) (left left_after : Option (List ℕ)) (end : End) (text : List ℕ) : Type 0 where
   pub options : Options
   pub input : List ℕ
   pub read : ReadsInput words (Sim options) left left_after input
   pub system : System
   pub says : Spells input system
-  pub built : IsTrue (is_built system)
   pub simulated : IsSimulated system options end text
 
 -- The command is `show`, the input is a script, and the text is its canonical script.
@@ -171,11 +161,10 @@ pub record Shows (words : List (List ℕ)) (left left_after : Option (List ℕ))
   pub says : Spells input system
   pub spells : text ≡ script system
 
--- The input is a transcript of a system that is built, and this is the verdict on it.
+-- The input is a transcript, and this is the verdict on it.
 pub record IsJudged (input : List ℕ) (verdict : Verdict) : Type 0 where
   pub journal : Journal
   pub says : IsJournal input journal
-  pub built : IsTrue (is_built journal.system)
   pub judged : IsVerdict journal verdict
 
 -- The command is `check`, and this is the verdict on its input.

@@ -13,7 +13,6 @@ use crate::status::Status;
 use crate::tell::{fault_line, tell, tell_no_memory, tell_transcript};
 use std::alloc::Global;
 use vx_base::{Bytes, End, NoMemory};
-use vx_exec::is_built;
 use vx_grammar::read_script;
 use vx_host::{ReadFail, Sink, Source, read_all};
 use vx_script::{ScriptFail, print_script};
@@ -44,15 +43,10 @@ fn simulate<K: Sink>(alloc: Global, options: Options, input: &Bytes, sink: &mut 
     ensures later { K.faults sink.old ≤ K.faults sink.new }
 {
     match read_script(alloc, input.as_slice()) {
-        Ok(system) => {
-            if !is_built(&system) {
-                return tell(sink, b"vms: line 1 LATER\n", Status::Form);
-            }
-            match transcript(alloc, system, options) {
-                Ok((text, end)) => tell_transcript(sink, text.as_slice(), end),
-                Err(NoMemory) => tell_no_memory(sink),
-            }
-        }
+        Ok(system) => match transcript(alloc, system, options) {
+            Ok((text, end)) => tell_transcript(sink, text.as_slice(), end),
+            Err(NoMemory) => tell_no_memory(sink),
+        },
         Err(ScriptFail::Fault(fault)) => match fault_line(alloc, fault) {
             Ok(text) => tell(sink, text.as_slice(), Status::Form),
             Err(NoMemory) => tell_no_memory(sink),

@@ -6,7 +6,7 @@ ghost use Rattle.vx_host.specs.Causes.{Rose};
 ghost use Rattle.vx_host.specs.Streams.{AppendsFront};
 ghost use Rattle.vms.specs.Judged.{BreaksJudged, IsFinding, WritesFinding};
 ghost use Rattle.vms.specs.Simulated.{WritesRefusal};
-ghost use Rattle.vms.specs.Top.{later, no_memory, status_of, verdict_line};
+ghost use Rattle.vms.specs.Top.{no_memory, status_of, verdict_line};
 
 use crate::command::Command;
 use crate::status::Status;
@@ -14,7 +14,6 @@ use crate::tell::{fault_line, form_line, tell, tell_no_memory, verdict_line};
 use std::alloc::Global;
 use vx_base::{Bytes, NoMemory};
 use vx_check::{Verdict, check};
-use vx_exec::is_built;
 use vx_host::Sink;
 use vx_journal::{JournalFail, read_journal};
 
@@ -40,28 +39,13 @@ fn status_of(verdict: Verdict) -> Status
     }
 }
 
-/// The line of a system that the executive does not run yet.
-fn later_line(alloc: Global) -> Result<Bytes, NoMemory>
-    ensures { IfOk result (λ text. text ≡ later) }
-{
-    let mut text = Bytes::new(alloc);
-    text.push_all(b"vms: line 1 LATER\n")?;
-    Ok(text)
-}
-
 /// Reads an input and judges it.
 fn judged(alloc: Global, input: &[u8]) -> Result<Finding, NoMemory>
     requires { length input.now < 4294967295 }
     ensures { IfOk result (λ found. IsFinding input.now found) }
 {
     match read_journal(alloc, input) {
-        Ok(journal) => {
-            if is_built(&journal.system) {
-                Ok(Finding::Judged(check(alloc, journal)?))
-            } else {
-                Ok(Finding::Refused(later_line(alloc)?))
-            }
-        }
+        Ok(journal) => Ok(Finding::Judged(check(alloc, journal)?)),
         Err(JournalFail::Script(fault)) => Ok(Finding::Refused(fault_line(alloc, fault)?)),
         Err(JournalFail::Form(line)) => Ok(Finding::Refused(form_line(alloc, line)?)),
         Err(JournalFail::NoMemory) => Err(NoMemory),

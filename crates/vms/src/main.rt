@@ -24,11 +24,6 @@ use tell::tell_no_memory;
 use vx_base::{Bytes, NoMemory};
 use vx_host::{Sink, StdSink, StdSource, write_all};
 
-#[cfg(test)]
-mod faults;
-#[cfg(test)]
-mod tests;
-
 fn bytes_of(alloc: Global, texts: &[String]) -> Result<Vec<Bytes>, NoMemory>
     ensures { IfOk result (λ words. words.items ≡ map string_bytes texts.now) }
 {

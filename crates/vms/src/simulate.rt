@@ -1,7 +1,6 @@
 //! Simulates a system: from what a script says to the transcript of its run.
 
-ghost use Rattle.std.specs.Prelude.{◌≤◌, IfOk, IsTrue};
-ghost use Rattle.vx_exec.specs.Built.{is_built};
+ghost use Rattle.std.specs.Prelude.{◌≤◌, IfOk};
 ghost use Rattle.vx_image.specs.WellFormed.{IsWellFormed};
 ghost use Rattle.vms.specs.Top.{IsSimulated};
 
@@ -17,7 +16,6 @@ use vx_script::print_script;
 /// The transcript of the run that the seed chooses, and how the run ended.
 pub fn transcript(alloc: Global, system: System, options: Options) -> Result<(Bytes, End), NoMemory>
     requires formed { IsWellFormed system }
-    requires built { IsTrue (is_built system) }
     requires above { 1 ≤ options.limit }
     requires within { options.limit ≤ 100000 }
     ensures { IfOk result (λ run. IsSimulated system options run.1 run.0) }

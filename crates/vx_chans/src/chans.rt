@@ -1,13 +1,14 @@
 //! Channels by their numbers.
 
-ghost use Rattle.std.specs.Prelude.{◌≡◌, replicate, IsTrue, IsSome, IfOk, IfSome, None, length};
+ghost use Rattle.std.specs.Prelude.{◌≡◌, replicate, IsTrue, IsSome, IfOk, IfSome, None, length, option_map};
 ghost use Rattle.vx_base.specs.Channels.{is_channel_number, channel_at, least_free, is_reached, next_of_mode};
-ghost use Rattle.vx_chans.specs.Chans.{number_or_none, with_channel, without_channel, found};
+ghost use Rattle.std.specs.List.{list_any};
+ghost use Rattle.vx_chans.specs.Chans.{number_or_none, with_channel, without_channel, found, is_box, is_to};
 
 use crate::row::Row;
 use std::alloc::Global;
 use std::marker::Model;
-use vx_base::{Device, Mode, NoMemory};
+use vx_base::{BoxNo, Device, Mode, NoMemory};
 
 /// Why a channel is refused.
 #[derive(Clone, Copy, Debug, PartialEq, Eq)]
@@ -84,6 +85,22 @@ impl Chans {
         self.rows.len()
     }
 
+    /// The device of a channel, where it is assigned, whatever its mode.
+    pub fn device(&self, chan: u32) -> Option<Device>
+        requires { IsTrue (is_channel_number chan) }
+        ensures { result ≡ option_map (λ ch. ch.device) (channel_at self.now chan) }
+    {
+        let row = self.rows[chan as usize - 1]?;
+        Some(row.device())
+    }
+
+    /// Whether a channel is assigned to a mailbox.
+    pub fn has_box(&self, b: BoxNo) -> bool
+        ensures { result ≡ list_any (is_to b) self.now }
+    {
+        self.rows.iter().any(|row| is_to(b, row))
+    }
+
     /// Frees a channel that is assigned ($DASSGN). Takes no memory.
     pub fn free(&mut self, chan: u32)
         requires number { IsTrue (is_channel_number chan) }
@@ -129,5 +146,25 @@ fn is_reached(mode: Mode, row: &Option<Row>) -> bool
     match row {
         Some(row) => mode.rank() <= row.mode().rank(),
         None => false,
+    }
+}
+
+/// Whether a channel is assigned to a mailbox.
+fn is_to(b: BoxNo, row: &Option<Row>) -> bool
+    ensures { result ≡ is_to b row.now }
+{
+    match row {
+        Some(row) => is_box(row.device(), b),
+        None => false,
+    }
+}
+
+/// Whether a device is a mailbox.
+fn is_box(device: Device, b: BoxNo) -> bool
+    ensures { result ≡ is_box b device }
+{
+    match device {
+        Device::Unit(_) => false,
+        Device::Mailbox(c) => b.0 == c.0,
     }
 }

@@ -1,7 +1,6 @@
 //! Judges a transcript.
 
 ghost use Rattle.std.specs.Prelude.{◌≡◌, ◌↔◌, ◌<◌, ◌≤◌, ◌+◌, ℕ, IfOk, IsTrue, Ok, None, Some, true, length};
-ghost use Rattle.vx_exec.specs.Built.{is_built};
 ghost use Rattle.vx_exec.specs.Taken.{TakesRun};
 ghost use Rattle.vx_exec.specs.View.{plan};
 ghost use Rattle.vx_image.specs.WellFormed.{IsWellFormed};
@@ -124,10 +123,9 @@ fn judge(
     part_verdict(alloc, exec, part, trailer)
 }
 
-/// Judges a transcript of a system that the executive runs so far.
+/// Judges a transcript.
 pub fn check(alloc: Global, journal: Journal) -> Result<Verdict, NoMemory>
     requires formed { IsWellFormed journal.system }
-    requires built { IsTrue (is_built journal.system) }
     ensures { IfOk result (λ verdict. spec.IsVerdict journal verdict) }
 {
     let Journal {

@@ -50,7 +50,7 @@ fn may_control<R: Routine>(core: &Core<R>, p: Pid, q: Pid) -> bool
 }
 
 /// The process test: NONEXPR where the number names no process that can be controlled, NOPRIV where the caller may not.
-pub(crate) fn process_test<R: Routine>(core: &Core<R>, p: Pid, n: u32) -> Result<Pid, Cond>
+pub fn process_test<R: Routine>(core: &Core<R>, p: Pid, n: u32) -> Result<Pid, Cond>
     requires { IsProcess core.now.state p }
     ensures test { result ≡ process_test core.now.state p n }
     ensures made { IfOk result (λ q. IsProcess core.now.state q) }

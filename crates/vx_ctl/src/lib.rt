@@ -20,7 +20,7 @@ mod wakes;
 
 pub use asts::{dclast, setast};
 pub use clusters::{ascefc, dacefc, dlcefc};
-pub use control::{forcex, resume, suspnd, wake};
+pub use control::{forcex, process_test, resume, suspnd, wake};
 pub use create::creprc;
 pub use flags::{LAST_FLAG, clref, put_cell, readef, setef};
 pub use modes::{cmexec, cmkrnl};

@@ -1,12 +1,12 @@
 -- What cancelling does to the lists of a process: each request that is cancelled queues one AST at most, and all else becomes no more.
-use Rattle.std.proofs.Common.{◌≡◌, ℕ, ◌+◌, ◌-◌, ◌*◌, ◌≤◌, List, [], ◌∷◌, Bool, true, false, not, ◌&&◌, ◌==◌, nat_le, nat_lt, if◌then◌else◌, length, length-append, Option, Some, None, ◌⊎◌, inl, inr, refl, ap, ◌∙◌, arith}
+use Rattle.std.proofs.Common.{◌≡◌, ℕ, ◌+◌, ◌-◌, ◌*◌, ◌≤◌, List, [], ◌∷◌, Bool, true, false, not, ◌&&◌, ◌==◌, nat_le, nat_lt, if◌then◌else◌, length, length-append, Option, Some, None, inl, inr, refl, ◌∙◌, arith}
 use Rattle.std.specs.List.{filter, list_any}
 use Rattle.std.proofs.lemmas.Bool.{cases_eq, eq-eqb, ne_eqb}
 use Rattle.std.proofs.lemmas.Bool.Decides.{nat_tests}
 use Rattle.vx_base.specs.Channels.{channels_of, is_reached, reached_from}
 use Rattle.vx_base.specs.Flags.{one}
 use Rattle.vx_base.specs.Lists.{amend, less, tally}
-use Rattle.vx_base.specs.Pieces.{Channel, Promised, Request, Status}
+use Rattle.vx_base.specs.Pieces.{Attention, Channel, Promised, Request, Status}
 use Rattle.vx_base.specs.declared.cond.Cond.TheVariants.{Cancel}
 use Rattle.vx_base.specs.declared.effects.Cell.{Cell}
 use Rattle.vx_base.specs.declared.effects.Cell.TheVariants.{Common, Local}
@@ -17,18 +17,18 @@ use Rattle.vx_base.specs.declared.request.Device.{Device}
 use Rattle.vx_base.specs.declared.request.Device.TheVariants as device
 use Rattle.vx_base.specs.declared.request.Req.{Req}
 use Rattle.vx_record.specs.Asts.{charged_ast, with_queued}
-use Rattle.vx_record.specs.Cancel.{cancel_channel, cancel_request, cancelled_request, drop_attentions, is_request_on, mark_part, with_abort, withdraw}
+use Rattle.vx_record.specs.Cancel.{cancel_channel, cancel_request, cancelled_request, drop_attention, is_attention_on, is_request_on, mark_part, with_abort, withdraw}
 use Rattle.vx_record.specs.Charges.{is_same}
 use Rattle.vx_record.specs.Finish.{Ending, buf_part, done_ast_part, done_flag_part, ending, fin_part, finish, iosb_part, is_read, put_status, status_of, this_request, with_stored_bytes, with_stored_status}
 use Rattle.vx_record.specs.Flags.{cell, flag_where_named, with_local_flag}
-use Rattle.vx_record.specs.Mailboxes.{mailbox_at, mcut_part, this_message}
+use Rattle.vx_record.specs.Mailboxes.{mailbox_at, mcut_part, this_attention, this_message}
 use Rattle.vx_record.specs.Parts.{Part, and_then, each, nothing}
 use Rattle.vx_record.specs.Rundown.{cancel_one}
 use Rattle.vx_record.specs.State.{Process, State, change, nobody, process_at}
 use Rattle.vx_record.proofs.Ground.{at_set}
 use Rattle.vx_record.proofs.Lists.{either}
 use Rattle.vx_procs.proofs.Firsts.{less_few, tally_few}
-use Rattle.vx_exec.proofs.Asks.{cancels_end, cancels_on, channel_ends, none_dropped}
+use Rattle.vx_exec.proofs.Asks.{cancels_on, channel_ends}
 use Rattle.vx_exec.proofs.Ends.{Ends, ends_more, ends_then}
 use Rattle.vx_exec.proofs.Goes.{stays_still}
 
@@ -38,7 +38,7 @@ record IsAlike (n : ℕ) (x y : Process) : Type 0 where
   pub handlers : length y.handlers ≤ length x.handlers
   pub channels : length y.channels ≡ length x.channels
 
--- and so from state to state; nor are there more timers, or requests, of the process on any channel
+-- and so from state to state; nor are there more timers, or requests and attention entries, of the process on any channel
 pub record Lessens (p : Pid) (n : ℕ) (s t : State) : Type 0 where
   pub asts : length (process_at t p).asts ≤ length (process_at s p).asts + n
   pub handlers : length (process_at t p).handlers ≤ length (process_at s p).handlers
@@ -46,9 +46,10 @@ pub record Lessens (p : Pid) (n : ℕ) (s t : State) : Type 0 where
   pub timers : length t.timers ≤ length s.timers
   pub requests : length t.requests ≤ length s.requests
   pub on : (chan : ℕ) → tally (is_request_on p chan) t.requests ≤ tally (is_request_on p chan) s.requests
+  pub waiting : (chan : ℕ) → tally (is_attention_on p chan) t.attention ≤ tally (is_attention_on p chan) s.attention
 
 still_lessens : (p : Pid) (n : ℕ) (s : State) → Lessens p n s s
-still_lessens p n s = record { asts = omega arith; handlers = omega arith; channels = refl; timers = omega arith; requests = omega arith; on = λ c. omega arith }
+still_lessens p n s = record { asts = omega arith; handlers = omega arith; channels = refl; timers = omega arith; requests = omega arith; on = λ c. omega arith; waiting = λ c. omega arith }
 
 lessens_then : (p : Pid) (m n : ℕ) (s t u : State) → Lessens p m s t → Lessens p n t u → Lessens p (m + n) s u
 lessens_then p m n s t u a b = record {
@@ -58,16 +59,17 @@ lessens_then p m n s t u a b = record {
   timers = omega (arith, a.timers, b.timers);
   requests = omega (arith, a.requests, b.requests);
   on = λ c. let one_step = a.on c in let next = b.on c in omega (arith, one_step, next);
+  waiting = λ c. let one_step = a.waiting c in let next = b.waiting c in omega (arith, one_step, next);
 }
 
 lessens_more : (p : Pid) (m n : ℕ) (s t : State) → m ≤ n → Lessens p m s t → Lessens p n s t
-lessens_more p m n s t more h = record { asts = omega (arith, more, h.asts); handlers = h.handlers; channels = h.channels; timers = h.timers; requests = h.requests; on = h.on }
+lessens_more p m n s t more h = record { asts = omega (arith, more, h.asts); handlers = h.handlers; channels = h.channels; timers = h.timers; requests = h.requests; on = h.on; waiting = h.waiting }
 
 -- a process is changed
 changed_lessens : (p q : Pid) (n : ℕ) (s : State) (f : Process → Process) → IsAlike n (process_at s q) (f (process_at s q)) → Lessens p n s (change s q f)
 changed_lessens p q n s f h =
     let alike = at_set (IsAlike n) (λ x. record { asts = omega arith; handlers = omega arith; channels = refl }) s.procs (q.0 - 1) (p.0 - 1) (f (process_at s q)) nobody h in
-    record { asts = alike.asts; handlers = alike.handlers; channels = alike.channels; timers = omega arith; requests = omega arith; on = λ c. omega arith }
+    record { asts = alike.asts; handlers = alike.handlers; channels = alike.channels; timers = omega arith; requests = omega arith; on = λ c. omega arith; waiting = λ c. omega arith }
 
 -- The parts of a request's end.
 
@@ -79,6 +81,7 @@ fin_lessens p s id = record {
   timers = omega arith;
   requests = less_few (this_request id) s.requests;
   on = λ c. tally_few (is_request_on p c) (this_request id) s.requests;
+  waiting = λ c. omega arith;
 }
 
 buf_lessens : (p : Pid) (s : State) (r : Req) (e : Ending) → Lessens p 0 s (buf_part s r e).after
@@ -94,7 +97,7 @@ flag_alike n on pr = either (λ (x : Process). IsAlike 0 pr x) (nat_lt n 32) _ _
 flag_lessens : (p : Pid) (s : State) (o : Option Cell) → Lessens p 0 s (flag_where_named s o true).after
 flag_lessens p s None = still_lessens p 0 s
 flag_lessens p s (Some (Local q n)) = changed_lessens p q 0 s (with_local_flag n true) (flag_alike n true (process_at s q))
-flag_lessens p s (Some (Common group name n)) = record { asts = omega arith; handlers = omega arith; channels = refl; timers = omega arith; requests = omega arith; on = λ c. omega arith }
+flag_lessens p s (Some (Common group name n)) = record { asts = omega arith; handlers = omega arith; channels = refl; timers = omega arith; requests = omega arith; on = λ c. omega arith; waiting = λ c. omega arith }
 
 ast_lessens : (p : Pid) (s : State) (r : Req) (o : Option Promised) → Lessens p 1 s (done_ast_part s r o).after
 ast_lessens p s r None = still_lessens p 1 s
@@ -135,12 +138,13 @@ mark_lessens p s r = record {
   timers = omega arith;
   requests = amend_length (this_request r.req.id) with_abort s.requests;
   on = λ c. amend_few (is_request_on p c) (this_request r.req.id) with_abort (λ x. refl) s.requests;
+  waiting = λ c. omega arith;
 }
 
 cut_lessens : (p : Pid) (s : State) (r : Request) (d : Device) → Lessens p 0 s (withdraw s r d).after
 cut_lessens p s r (device.Unit u) = still_lessens p 0 s
 cut_lessens p s r (device.Mailbox b) =
-    either (λ (x : Part). Lessens p 0 s x.after) (list_any (this_message r.req.id) (mailbox_at s b).messages) (mcut_part s b r.req.id) (nothing s) (record { asts = omega arith; handlers = omega arith; channels = refl; timers = omega arith; requests = omega arith; on = λ c. omega arith }) (still_lessens p 0 s)
+    either (λ (x : Part). Lessens p 0 s x.after) (list_any (this_message r.req.id) (mailbox_at s b).messages) (mcut_part s b r.req.id) (nothing s) (record { asts = omega arith; handlers = omega arith; channels = refl; timers = omega arith; requests = omega arith; on = λ c. omega arith; waiting = λ c. omega arith }) (still_lessens p 0 s)
 
 request_lessens : (p : Pid) (s : State) (r : Request) → Lessens p 1 s (cancel_request s r).after
 request_lessens p s r =
@@ -163,49 +167,79 @@ filter_tally test (x ∷ xs) =
     let rest = filter_tally test xs in
     elim (test x) as (λ b. length (if b then x ∷ filter test xs else filter test xs) ≤ one b + tally test xs) [ true ↦ omega (arith, rest) | false ↦ omega (arith, rest) ]
 
--- a channel of a process: all its requests there
-on_lessens : (p : Pid) (s : State) (chan : ℕ) → s.attention ≡ [] → Lessens p (tally (is_request_on p chan) s.requests) s (cancel_channel s p chan).after
-on_lessens p s chan none =
-    let rs = filter (is_request_on p chan) s.requests in
-    let t = (cancels_on s p chan).after in
-    let same : (drop_attentions t p chan).after ≡ t = ap (λ (x : Part). x.after) (none_dropped t p chan ((cancels_end s p chan).attention ∙ none)) in
-    rw same (lessens_more p (length rs) (tally (is_request_on p chan) s.requests) s t (filter_tally (is_request_on p chan) s.requests) (each_lessens p rs s))
+-- attention entries end
+drop_lessens : (p : Pid) (s : State) (a : Attention) → Lessens p 0 s (drop_attention s a).after
+drop_lessens p s a = record {
+  asts = omega arith;
+  handlers = omega arith;
+  channels = refl;
+  timers = omega arith;
+  requests = omega arith;
+  on = λ c. omega arith;
+  waiting = λ c. tally_few (is_attention_on p c) (this_attention a.id) s.attention;
+}
 
--- how many requests of a process there are on some channels
-abbrev pub listed : Pid → List Request → List ℕ → ℕ
-listed p rs [] = 0
-listed p rs (n ∷ ns) = tally (is_request_on p n) rs + listed p rs ns
+drops_lessen : (p : Pid) (xs : List Attention) (s : State) → Lessens p 0 s (each drop_attention xs s).after
+drops_lessen p [] s = still_lessens p 0 s
+drops_lessen p (a ∷ xs) s = let t = (drop_attention s a).after in lessens_then p 0 0 s t (each drop_attention xs t).after (drop_lessens p s a) (drops_lessen p xs t)
 
-listed_less : (p : Pid) (rs later : List Request) (ns : List ℕ) → ((n : ℕ) → tally (is_request_on p n) later ≤ tally (is_request_on p n) rs) → listed p later ns ≤ listed p rs ns
-listed_less p rs later [] fewer = omega arith
-listed_less p rs later (n ∷ ns) fewer = let here = fewer n in let rest = listed_less p rs later ns fewer in omega (arith, here, rest)
-
-pub record Cancels (p : Pid) (n : ℕ) (s : State) (part : Part) : Type 0 where
-  pub ends : Ends (6 * n) s part
+pub record Cancels (p : Pid) (n m : ℕ) (s : State) (part : Part) : Type 0 where
+  pub ends : Ends (6 * n + m) s part
   pub lessens : Lessens p n s part.after
 
-channels_cancel : (p : Pid) (ns : List ℕ) (s : State) → s.attention ≡ [] → Cancels p (listed p s.requests ns) s (each (cancel_one p) ns s)
-channels_cancel p [] s none = record { ends = record { stays = stays_still s; attention = refl; few = omega arith }; lessens = still_lessens p 0 s }
-channels_cancel p (n ∷ ns) s none =
+cancels_more : (p : Pid) (i j m n : ℕ) (s : State) (part : Part) → i ≤ j → m ≤ n → Cancels p i m s part → Cancels p j n s part
+cancels_more p i j m n s part requests entries h = record { ends = ends_more (6 * i + m) (6 * j + n) s part (omega (arith, requests, entries)) h.ends; lessens = lessens_more p i j s part.after requests h.lessens }
+
+-- a channel of a process: all its requests and attention entries there
+on_cancels : (p : Pid) (s : State) (chan : ℕ) → Cancels p (tally (is_request_on p chan) s.requests) (tally (is_attention_on p chan) s.attention) s (cancel_channel s p chan)
+on_cancels p s chan =
+    let rs = filter (is_request_on p chan) s.requests in
+    let a = cancels_on s p chan in
+    let xs = filter (is_attention_on p chan) a.after.attention in
+    let lessens = each_lessens p rs s in
+    let none_more = lessens.waiting chan in
+    let few = filter_tally (is_attention_on p chan) a.after.attention in
+    cancels_more p (length rs) (tally (is_request_on p chan) s.requests) (length xs) (tally (is_attention_on p chan) s.attention) s (cancel_channel s p chan) (filter_tally (is_request_on p chan) s.requests) (omega (arith, few, none_more))
+    (record { ends = channel_ends s p chan; lessens = lessens_more p (length rs + 0) (length rs) s (cancel_channel s p chan).after (omega arith) (lessens_then p (length rs) 0 s a.after _ lessens (drops_lessen p xs a.after)) })
+
+-- What is owned by a process is on one of its channels; so much is on some channels.
+
+abbrev pub IsOn : Type 0 → Type 0
+IsOn A = ℕ → A → Bool
+
+abbrev pub listed : {A : Type 0} → IsOn A → List A → List ℕ → ℕ
+listed on xs [] = 0
+listed on xs (n ∷ ns) = tally (on n) xs + listed on xs ns
+
+listed_less : {A : Type 0} (on : IsOn A) (xs later : List A) (ns : List ℕ) → ((n : ℕ) → tally (on n) later ≤ tally (on n) xs) → listed on later ns ≤ listed on xs ns
+listed_less on xs later [] fewer = omega arith
+listed_less on xs later (n ∷ ns) fewer = let here = fewer n in let rest = listed_less on xs later ns fewer in omega (arith, here, rest)
+
+channels_cancel : (p : Pid) (ns : List ℕ) (s : State) → Cancels p (listed (is_request_on p) s.requests ns) (listed (is_attention_on p) s.attention ns) s (each (cancel_one p) ns s)
+channels_cancel p [] s = record { ends = record { stays = stays_still s; attention = omega arith; few = omega arith }; lessens = still_lessens p 0 s }
+channels_cancel p (n ∷ ns) s =
     let a = cancel_channel s p n in
-    let here = tally (is_request_on p n) s.requests in
-    let later = listed p a.after.requests ns in
-    let all = here + listed p s.requests ns in
-    let one_ends = channel_ends s p n none in
-    let few = filter_tally (is_request_on p n) s.requests in
-    let lessens = on_lessens p s n none in
-    let rest = channels_cancel p ns a.after (one_ends.attention ∙ none) in
-    let fewer : here + later ≤ all = let less_left = listed_less p s.requests a.after.requests ns lessens.on in omega (arith, less_left) in
-    record {
-      ends = ends_more (6 * length (filter (is_request_on p n) s.requests) + 6 * later) (6 * all) s _ (omega (arith, few, fewer)) (ends_then _ (6 * later) s a (each (cancel_one p) ns) one_ends rest.ends);
-      lessens = lessens_more p (here + later) all s _ fewer (lessens_then p here later s a.after _ lessens rest.lessens);
-    }
+    let requests = tally (is_request_on p n) s.requests in
+    let entries = tally (is_attention_on p n) s.attention in
+    let later = listed (is_request_on p) a.after.requests ns in
+    let waiting = listed (is_attention_on p) a.after.attention ns in
+    let one = on_cancels p s n in
+    let rest = channels_cancel p ns a.after in
+    let fewer = listed_less (is_request_on p) s.requests a.after.requests ns one.lessens.on in
+    let fewer_wait = listed_less (is_attention_on p) s.attention a.after.attention ns one.lessens.waiting in
+    cancels_more p (requests + later) _ (entries + waiting) _ s _ (omega (arith, fewer)) (omega (arith, fewer_wait)) (record {
+      ends = ends_more (6 * requests + entries + (6 * later + waiting)) (6 * (requests + later) + (entries + waiting)) s _ (omega arith) (ends_then _ (6 * later + waiting) s a (each (cancel_one p) ns) one.ends rest.ends);
+      lessens = lessens_then p requests later s a.after _ one.lessens rest.lessens;
+    })
 
--- The channels of a mode have different numbers, so no request is counted twice.
+-- The channels of a mode have different numbers, so nothing is counted twice.
 
--- a request of the process, on a channel from a number on
-abbrev is_from : Pid → ℕ → Request → Bool
-is_from p j r = is_same r.req.p p && nat_le j r.req.chan
+-- what is owned is on a channel, and on a channel from a number on
+abbrev pub on_of : {A : Type 0} → (A → Bool) → (A → ℕ) → IsOn A
+on_of own chan n x = own x && (chan x == n)
+
+abbrev pub from_of : {A : Type 0} → (A → Bool) → (A → ℕ) → IsOn A
+from_of own chan j x = own x && nat_le j (chan x)
 
 further_on : (j c : ℕ) (b : Bool) → nat_le (j + 1) c ≡ b → one b ≤ one (nat_le j c)
 further_on j c true past = let within : nat_le j c ≡ true = grind (arith, nat_tests, past) in rw within (omega arith)
@@ -224,21 +258,21 @@ here_or_on c j = elim (cases_eq c j) [
       rw is (omega (arith, fewer))
 ]
 
-split : (p : Pid) (j : ℕ) (r : Request) → one (is_request_on p j r) + one (is_from p (j + 1) r) ≤ one (is_from p j r)
-split p j r =
-    let rest = here_or_on r.req.chan j in
-    elim (is_same r.req.p p) as (λ b. one (b && (r.req.chan == j)) + one (b && nat_le (j + 1) r.req.chan) ≤ one (b && nat_le j r.req.chan)) [ true ↦ rest | false ↦ omega arith ]
+split : {A : Type 0} (own : A → Bool) (chan : A → ℕ) (j : ℕ) (x : A) → one (on_of own chan j x) + one (from_of own chan (j + 1) x) ≤ one (from_of own chan j x)
+split own chan j x =
+    let rest = here_or_on (chan x) j in
+    elim (own x) as (λ b. one (b && (chan x == j)) + one (b && nat_le (j + 1) (chan x)) ≤ one (b && nat_le j (chan x))) [ true ↦ rest | false ↦ omega arith ]
 
-tally_split : (p : Pid) (j : ℕ) (rs : List Request) → tally (is_request_on p j) rs + tally (is_from p (j + 1)) rs ≤ tally (is_from p j) rs
-tally_split p j [] = omega arith
-tally_split p j (r ∷ rs) = let here = split p j r in let rest = tally_split p j rs in omega (arith, here, rest)
+tally_split : {A : Type 0} (own : A → Bool) (chan : A → ℕ) (j : ℕ) (xs : List A) → tally (on_of own chan j) xs + tally (from_of own chan (j + 1)) xs ≤ tally (from_of own chan j) xs
+tally_split own chan j [] = omega arith
+tally_split own chan j (x ∷ xs) = let here = split own chan j x in let rest = tally_split own chan j xs in omega (arith, here, rest)
 
-listed_from : (p : Pid) (m : Mode) (rs : List Request) (j : ℕ) (rows : List (Option Channel)) → listed p rs (reached_from j m rows) ≤ tally (is_from p j) rs
-listed_from p m rs j [] = omega arith
-listed_from p m rs j (row ∷ rows) =
-    let rest = listed_from p m rs (j + 1) rows in
-    let both = tally_split p j rs in
-    either (λ (ns : List ℕ). listed p rs ns ≤ tally (is_from p j) rs) (is_reached m row) (j ∷ reached_from (j + 1) m rows) (reached_from (j + 1) m rows) (omega (arith, rest, both)) (omega (arith, rest, both))
+listed_from : {A : Type 0} (own : A → Bool) (chan : A → ℕ) (m : Mode) (xs : List A) (j : ℕ) (rows : List (Option Channel)) → listed (on_of own chan) xs (reached_from j m rows) ≤ tally (from_of own chan j) xs
+listed_from own chan m xs j [] = omega arith
+listed_from own chan m xs j (row ∷ rows) =
+    let rest = listed_from own chan m xs (j + 1) rows in
+    let both = tally_split own chan j xs in
+    either (λ (ns : List ℕ). listed (on_of own chan) xs ns ≤ tally (from_of own chan j) xs) (is_reached m row) (j ∷ reached_from (j + 1) m rows) (reached_from (j + 1) m rows) (omega (arith, rest, both)) (omega (arith, rest, both))
 
 tally_length : {A : Type 0} (test : A → Bool) (xs : List A) → tally test xs ≤ length xs
 tally_length test [] = omega arith
@@ -246,10 +280,13 @@ tally_length test (x ∷ xs) =
     let rest = tally_length test xs in
     elim (test x) as (λ b. one b + tally test xs ≤ length (x ∷ xs)) [ true ↦ omega (arith, rest) | false ↦ omega (arith, rest) ]
 
--- the channels of a mode and outer ones: each request once at most
-pub mode_cancels : (p : Pid) (m : Mode) (s : State) → s.attention ≡ [] → Cancels p (length s.requests) s (each (cancel_one p) (channels_of m (process_at s p).channels) s)
-mode_cancels p m s none =
-    let ns = channels_of m (process_at s p).channels in
-    let few : listed p s.requests ns ≤ length s.requests = let from = listed_from p m s.requests 1 (process_at s p).channels in let all = tally_length (is_from p 1) s.requests in omega (arith, from, all) in
-    let h = channels_cancel p ns s none in
-    record { ends = ends_more (6 * listed p s.requests ns) (6 * length s.requests) s _ (omega (arith, few)) h.ends; lessens = lessens_more p (listed p s.requests ns) (length s.requests) s _ few h.lessens }
+listed_few : {A : Type 0} (own : A → Bool) (chan : A → ℕ) (m : Mode) (xs : List A) (rows : List (Option Channel)) → listed (on_of own chan) xs (channels_of m rows) ≤ length xs
+listed_few own chan m xs rows = let from = listed_from own chan m xs 1 rows in let all = tally_length (from_of own chan 1) xs in omega (arith, from, all)
+
+-- the channels of a mode and outer ones: each request and each attention entry once at most
+pub mode_cancels : (p : Pid) (m : Mode) (s : State) → Cancels p (length s.requests) (length s.attention) s (each (cancel_one p) (channels_of m (process_at s p).channels) s)
+mode_cancels p m s =
+    let rows = (process_at s p).channels in
+    let few = listed_few (λ (r : Request). is_same r.req.p p) (λ r. r.req.chan) m s.requests rows in
+    let fewer = listed_few (λ (a : Attention). is_same a.p p) (λ a. a.chan) m s.attention rows in
+    cancels_more p _ (length s.requests) _ (length s.attention) s _ few fewer (channels_cancel p (channels_of m rows) s)

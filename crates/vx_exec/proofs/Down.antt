@@ -1,11 +1,10 @@
 -- What a step of rundown does to the state: no id is opened; in each mode it cancels at most the requests there are, drops the timers,
--- wakes and queued ASTs, frees the channels, and dissociates two clusters, which may go; a handler that is entered ends it, or else at last the
--- handlers and the wakes for the process are dropped.
+-- wakes, attention entries and queued ASTs, frees the channels, and dissociates two clusters, which may go; a handler that is entered
+-- ends it, or else at last the handlers and the wakes for the process are dropped.
 use Rattle.std.proofs.Common.{◌≡◌, ℕ, suc, ◌+◌, ◌*◌, ◌≤◌, List, [], ◌∷◌, ◌++◌, Bool, not, ◌&&◌, length, length-append, length-set, Option, Some, None, refl, sym, ap, subst, ◌∙◌, arith}
 use Rattle.std.specs.List.{filter, find}
 use Rattle.std.proofs.Math.Nat.{mul-le-mul_left, mul-le-mul_right, suc-mul}
 use Rattle.vx_base.specs.Channels.{channels_of, is_reached, reached_from}
-use Rattle.vx_base.specs.Lists.{less}
 use Rattle.vx_base.specs.Pieces.{Channel, Handler, Queued, Timer}
 use Rattle.vx_base.specs.declared.effects.Effect.{Effect}
 use Rattle.vx_base.specs.declared.frame.Phase.{Phase}
@@ -18,8 +17,8 @@ use Rattle.vx_record.specs.Channels.{box_gone, goes_unused, is_assigned, swept_b
 use Rattle.vx_record.specs.Mailboxes.{mailbox_at}
 use Rattle.vx_base.specs.declared.request.Device.{Device}
 use Rattle.vx_base.specs.declared.request.Device.TheVariants as device
-use Rattle.vx_record.specs.Parts.{Outcome, Part, each, followed_by, and_then, nothing, part_of}
-use Rattle.vx_record.specs.Rundown.{any_handler, cancel_modes, cancel_one, cancelled_in, draining, drop_ast, drop_asts, drop_handler, drop_handlers, entered, entering, free_one, gone, handling, in_phase, inner_modes, is_ast_reached, is_busy, is_handler_of, is_timer_in, part_with, release, rundown, rundown_from, run_down, without_ast, without_handler, gone_part, is_wake_by}
+use Rattle.vx_record.specs.Parts.{Outcome, Part, each, nothing, part_of}
+use Rattle.vx_record.specs.Rundown.{any_handler, cancel_one, cancelled_in, draining, drop_ast, drop_asts, drop_handler, drop_handlers, entered, entering, free_one, gone, handler_frame, handling, in_phase, inner_modes, is_ast_reached, is_busy, is_handler_of, is_timer_in, part_with, release, rundown, rundown_from, run_down, without_ast, without_handler, gone_part, is_wake_by}
 use Rattle.vx_record.specs.State.{Process, State, IsProcess, process_at, change}
 use Rattle.vx_record.specs.Timers.{drop_timer, drop_timers, this_timer, is_wake_for}
 use Rattle.vx_record.proofs.Lists.{either}
@@ -36,9 +35,9 @@ use Rattle.vx_exec.proofs.Few.{filter_few}
 use Rattle.vx_exec.proofs.Goes.{Goes, Stays, goes_stays, made_stays, stays_changed, stays_common, stays_still, stays_then}
 
 -- how much a mode tells at most: of the requests that are outstanding six for each as it is cancelled, and the AST that it queues then;
--- of the ASTs queued for a process, the timers and wakes and channels there are; and two clusters
+-- of the ASTs queued for a process, the timers and wakes, attention entries and channels there are; and two clusters
 abbrev pub load : State → Pid → ℕ
-load s p = length (process_at s p).asts + 7 * length s.requests + 2 * length s.timers + length (process_at s p).channels + 4
+load s p = length (process_at s p).asts + 7 * length s.requests + 2 * length s.timers + length s.attention + length (process_at s p).channels + 4
 
 -- it stays, has no more to drop but so many ASTs that were queued, and tells at most so much
 record Falls (p : Pid) (queued bound : ℕ) (s t : State) (told : List Effect) : Type 0 where
@@ -48,11 +47,11 @@ record Falls (p : Pid) (queued bound : ℕ) (s t : State) (told : List Effect) :
   pub channels : length (process_at t p).channels ≡ length (process_at s p).channels
   pub timers : length t.timers ≤ length s.timers
   pub requests : length t.requests ≤ length s.requests
-  pub attention : t.attention ≡ s.attention
+  pub attention : length t.attention ≤ length s.attention
   pub few : length told ≤ bound
 
 falls_still : (p : Pid) (s : State) → Falls p 0 0 s s []
-falls_still p s = record { stays = stays_still s; asts = omega arith; handlers = omega arith; channels = refl; timers = omega arith; requests = omega arith; attention = refl; few = omega arith }
+falls_still p s = record { stays = stays_still s; asts = omega arith; handlers = omega arith; channels = refl; timers = omega arith; requests = omega arith; attention = omega arith; few = omega arith }
 
 falls_then : (p : Pid) (i j m n : ℕ) (s t u : State) (told more : List Effect) → Falls p i m s t told → Falls p j n t u more → Falls p (i + j) (m + n) s u (told ++ more)
 falls_then p i j m n s t u told more a b = record {
@@ -62,7 +61,7 @@ falls_then p i j m n s t u told more a b = record {
   channels = b.channels ∙ a.channels;
   timers = omega (arith, a.timers, b.timers);
   requests = omega (arith, a.requests, b.requests);
-  attention = b.attention ∙ a.attention;
+  attention = omega (arith, a.attention, b.attention);
   few = omega (arith, a.few, b.few, length-append told more);
 }
 
@@ -86,7 +85,7 @@ changed_falls p s f told made asts handlers channels =
       channels = omega (arith, channels, ap (λ (pr : Process). length pr.channels) at);
       timers = omega arith;
       requests = omega arith;
-      attention = refl;
+      attention = omega arith;
       few = omega arith;
     }
 
@@ -117,7 +116,7 @@ timer_falls p s t made = record {
   channels = refl;
   timers = less_few (this_timer t.id) s.timers;
   requests = omega arith;
-  attention = refl;
+  attention = omega arith;
   few = omega arith;
 }
 
@@ -130,7 +129,7 @@ swept_falls p s (Some ch) = by_device ch.device
     by_device (device.Unit u) = falls_more p 0 0 1 s s [] (omega arith) (falls_still p s)
     by_device (device.Mailbox b) =
         either (λ (a : Part). Falls p 0 1 s a.after a.effects) (not (is_assigned s b) && goes_unused (mailbox_at s b)) (box_gone s b) (nothing s)
-        (record { stays = record { procs = refl; next = refl; units = refl }; asts = omega arith; handlers = omega arith; channels = refl; timers = omega arith; requests = omega arith; attention = refl; few = omega arith })
+        (record { stays = record { procs = refl; next = refl; units = refl }; asts = omega arith; handlers = omega arith; channels = refl; timers = omega arith; requests = omega arith; attention = omega arith; few = omega arith })
         (falls_more p 0 0 1 s s [] (omega arith) (falls_still p s))
 
 free_falls : (p : Pid) (s : State) (n : ℕ) → IsProcess s p → Falls p 0 1 s (free_one p s n).after (free_one p s n).effects
@@ -160,7 +159,7 @@ timers_fall p test s made = falls_more p 0 _ _ s _ _ (filter_few test s.timers) 
 
 -- a cluster is dissociated, and may go
 parted_falls : (p : Pid) (efn : ℕ) (s : State) → Falls p 0 2 s (dissociation_part s p efn).after (dissociation_part s p efn).effects
-parted_falls p efn s = record { stays = stays_common s _; asts = omega arith; handlers = omega arith; channels = refl; timers = omega arith; requests = omega arith; attention = refl; few = dissociate_few s.common p efn }
+parted_falls p efn s = record { stays = stays_common s _; asts = omega arith; handlers = omega arith; channels = refl; timers = omega arith; requests = omega arith; attention = omega arith; few = dissociate_few s.common p efn }
 
 released_fall : (p : Pid) (m : Mode) (s : State) → IsProcess s p → Falls p 0 (length (process_at s p).channels + length (process_at s p).asts + 4) s (release s p m).after (release s p m).effects
 released_fall p m s made =
@@ -176,12 +175,13 @@ released_fall p m s made =
     falls_more p 0 (i + n + 2 + 2) (i + length (process_at s p).asts + 4) s c.after _ (omega (arith, one.asts)) (falls_then p 0 0 (i + n + 2) 2 s b.after c.after _ _ three (parted_falls p 96 b.after))
 
 -- the channels of a mode, and then its timers, and the wakes that the process scheduled
-cancelled_falls : (p : Pid) (m : Mode) (s : State) → s.attention ≡ [] → IsProcess s p → Falls p (length s.requests) (6 * length s.requests + 2 * length s.timers) s (cancelled_in s p m).after (cancelled_in s p m).effects
-cancelled_falls p m s none made =
+cancelled_falls : (p : Pid) (m : Mode) (s : State) → IsProcess s p → Falls p (length s.requests) (6 * length s.requests + length s.attention + 2 * length s.timers) s (cancelled_in s p m).after (cancelled_in s p m).effects
+cancelled_falls p m s made =
     let r = length s.requests in
+    let k = 6 * r + length s.attention in
     let c = each (cancel_one p) (channels_of m (process_at s p).channels) s in
-    let h = mode_cancels p m s none in
-    let first : Falls p r (6 * r) s c.after c.effects = record {
+    let h = mode_cancels p m s in
+    let first : Falls p r k s c.after c.effects = record {
       stays = h.ends.stays;
       asts = h.lessens.asts;
       handlers = h.lessens.handlers;
@@ -191,18 +191,18 @@ cancelled_falls p m s none made =
       attention = h.ends.attention;
       few = h.ends.few;
     } in
-    let made_c = falls_made p r (6 * r) s c.after _ made first in
+    let made_c = falls_made p r k s c.after _ made first in
     let a = drop_timers (is_timer_in p m) c.after in
     let t = length c.after.timers in
     let one = timers_fall p (is_timer_in p m) c.after made_c in
-    let two = falls_then p r 0 (6 * r) t s c.after a.after c.effects a.effects first one in
+    let two = falls_then p r 0 k t s c.after a.after c.effects a.effects first one in
     let b = drop_timers (is_wake_by p) a.after in
     let made_a = falls_made p 0 t c.after a.after _ made_c one in
     let last = timers_fall p (is_wake_by p) a.after made_a in
-    let three = falls_then p (r + 0) 0 (6 * r + t) (length a.after.timers) s a.after b.after (c.effects ++ a.effects) b.effects two last in
+    let three = falls_then p (r + 0) 0 (k + t) (length a.after.timers) s a.after b.after (c.effects ++ a.effects) b.effects two last in
     let four = phase_falls p b.after (phase.Draining m) (falls_made p 0 (length a.after.timers) a.after b.after _ made_a last) in
-    let all = falls_then p (r + 0 + 0) 0 (6 * r + t + length a.after.timers) 0 s b.after (draining p m b.after) ((c.effects ++ a.effects) ++ b.effects) [] three four in
-    falls_queued p (r + 0 + 0 + 0) r _ s _ _ (omega arith) (falls_more p (r + 0 + 0 + 0) (6 * r + t + length a.after.timers + 0) (6 * r + 2 * length s.timers) s _ _ (omega (arith, first.timers, one.timers)) all)
+    let all = falls_then p (r + 0 + 0) 0 (k + t + length a.after.timers) 0 s b.after (draining p m b.after) ((c.effects ++ a.effects) ++ b.effects) [] three four in
+    falls_queued p (r + 0 + 0 + 0) r _ s _ _ (omega arith) (falls_more p (r + 0 + 0 + 0) (k + t + length a.after.timers + 0) (k + 2 * length s.timers) s _ _ (omega (arith, first.timers, one.timers)) all)
 
 drained_falls : (p : Pid) (m : Mode) (s : State) → IsProcess s p → Falls p 0 (length (process_at s p).channels + length (process_at s p).asts + 4) s (drained p m s).after (drained p m s).effects
 drained_falls p m s made =
@@ -211,18 +211,18 @@ drained_falls p m s made =
 
 -- a mode is passed
 
-passed_falls : (p : Pid) (m : Mode) (s : State) → s.attention ≡ [] → IsProcess s p → Falls p (length s.requests) (load s p) s (passed p m s).after (passed p m s).effects
-passed_falls p m s none made = by (find (is_handler_of m) (process_at s p).handlers)
+passed_falls : (p : Pid) (m : Mode) (s : State) → IsProcess s p → Falls p (length s.requests) (load s p) s (passed p m s).after (passed p m s).effects
+passed_falls p m s made = by (find (is_handler_of m) (process_at s p).handlers)
   where
     by : (o : Option Handler) → Falls p (length s.requests) (load s p) s (passed_by p m o (handling p m s)).after (passed_by p m o (handling p m s)).effects
     by None =
         let r = length s.requests in
-        let i = 6 * r + 2 * length s.timers in
+        let i = 6 * r + length s.attention + 2 * length s.timers in
         let t = handling p m s in
         let first = phase_falls p s (phase.Handlers m) made in
         let c = cancelled_in t p m in
         let made_t = falls_made p 0 0 s t [] made first in
-        let two : Falls p (0 + r) (0 + i) s c.after ([] ++ c.effects) = falls_then p 0 r 0 i s t c.after [] c.effects first (cancelled_falls p m t none made_t) in
+        let two : Falls p (0 + r) (0 + i) s c.after ([] ++ c.effects) = falls_then p 0 r 0 i s t c.after [] c.effects first (cancelled_falls p m t made_t) in
         let d = drained p m c.after in
         let n = length (process_at c.after p).channels + length (process_at c.after p).asts + 4 in
         let three = drained_falls p m c.after (falls_made p (0 + r) (0 + i) s c.after _ made two) in
@@ -232,7 +232,7 @@ passed_falls p m s none made = by (find (is_handler_of m) (process_at s p).handl
         let t = handling p m s in
         let first = phase_falls p s (phase.Handlers m) made in
         let e = entered t p h in
-        let two = changed_falls p t (entering _ h.id) e.effects (falls_made p 0 0 s t [] made first) (omega arith) (less_few _ (process_at t p).handlers) refl in
+        let two = changed_falls p t (entering (handler_frame t p h) h.id) e.effects (falls_made p 0 0 s t [] made first) (omega arith) (less_few _ (process_at t p).handlers) refl in
         falls_queued p 0 (length s.requests) (load s p) s e.after _ (omega arith) (falls_more p 0 (0 + 1) (load s p) s e.after _ (omega arith) (falls_then p 0 0 0 1 s t e.after [] _ first two))
 
 -- the last: the handlers and the wakes for the process end
@@ -267,24 +267,24 @@ then_ends p n s ms o few one rest = by o.answer
         let k = length ms in
         let each_less = mul-le-mul_left k one.requests in
         let count : suc k * length s.requests ≡ k * length s.requests + length s.requests = suc-mul k (length s.requests) in
-        let lighter : heavy u p k ≤ heavy s p (suc k) = omega (arith, one.asts, one.requests, one.timers, one.channels, each_less, count) in
+        let lighter : heavy u p k ≤ heavy s p (suc k) = omega (arith, one.asts, one.requests, one.timers, one.attention, one.channels, each_less, count) in
         let bound = mul-le-mul_left k lighter in
         record {
           stays = stays_then s u _ one.stays rest.stays;
-          attention = rest.attention ∙ one.attention;
+          attention = omega (arith, rest.attention, one.attention);
           few = omega (arith, one.few, few, rest.few, bound, one.handlers, one.timers, length-append o.effects (run_down p ms u).effects);
         }
     by (Some x) = record { stays = one.stays; attention = one.attention; few = omega (arith, one.few, few) }
 
-run_down_ends : (p : Pid) (ms : List Mode) (s : State) → s.attention ≡ [] → IsProcess s p → Ends (down_most s p ms) s (part_of (run_down p ms s))
-run_down_ends p [] s none made =
+run_down_ends : (p : Pid) (ms : List Mode) (s : State) → IsProcess s p → Ends (down_most s p ms) s (part_of (run_down p ms s))
+run_down_ends p [] s made =
     let last = gone_falls p s made in
     record { stays = last.stays; attention = last.attention; few = omega (arith, last.few) }
-run_down_ends p (m ∷ ms) s none made =
+run_down_ends p (m ∷ ms) s made =
     let o = passed p m s in
     let k = length ms in
-    let one = passed_falls p m s none made in
-    let rest = run_down_ends p ms o.after (one.attention ∙ none) (falls_made p (length s.requests) (load s p) s o.after _ made one) in
+    let one = passed_falls p m s made in
+    let rest = run_down_ends p ms o.after (falls_made p (length s.requests) (load s p) s o.after _ made one) in
     let count : suc k * heavy s p (suc k) ≡ k * heavy s p (suc k) + heavy s p (suc k) = suc-mul k (heavy s p (suc k)) in
     subst (λ (r : Outcome Answer). Ends (down_most s p (m ∷ ms)) s (part_of r)) (sym (mode_is s p m ms))
     (ends_more (load s p + k * heavy s p (suc k) + length (process_at s p).handlers + length s.timers + 1) (down_most s p (m ∷ ms)) s _ (omega (arith, count)) (then_ends p (load s p) s ms o (omega arith) one rest))
@@ -305,7 +305,7 @@ inner_few User = omega arith
 
 -- how much a step of rundown tells at most
 abbrev pub rundown_most : State → Pid → ℕ
-rundown_most s p = 4 * (length (process_at s p).asts + 11 * length s.requests + 2 * length s.timers + length (process_at s p).channels + 4) + length (process_at s p).handlers + length s.timers + 1
+rundown_most s p = 4 * (length (process_at s p).asts + 11 * length s.requests + 2 * length s.timers + length s.attention + length (process_at s p).channels + 4) + length (process_at s p).handlers + length s.timers + 1
 
 -- so many modes, of four at most
 few_modes : (s : State) (p : Pid) (n : ℕ) → n ≤ 4 → n * heavy s p n ≤ 4 * (load s p + 4 * length s.requests)
@@ -318,26 +318,26 @@ few_modes s p n few =
 ends_goes : (n bound : ℕ) (s : State) (o : Outcome Answer) → n ≤ bound → Ends n s (part_of o) → Goes bound s o.after o.effects
 ends_goes n bound s o few h = goes_stays bound s o.after o.effects h.stays (omega (arith, h.few, few))
 
-rundown_from_goes : (p : Pid) (s : State) (ph : Phase) → s.attention ≡ [] → IsProcess s p → (let o = rundown_from p ph s in Goes (rundown_most s p) s o.after o.effects)
-rundown_from_goes p s (phase.Handlers m) none made =
+rundown_from_goes : (p : Pid) (s : State) (ph : Phase) → IsProcess s p → (let o = rundown_from p ph s in Goes (rundown_most s p) s o.after o.effects)
+rundown_from_goes p s (phase.Handlers m) made =
     let ms = m ∷ inner_modes m in
     let few = few_modes s p (length ms) (modes_few m) in
-    ends_goes (down_most s p ms) (rundown_most s p) s (run_down p ms s) (omega (arith, few)) (run_down_ends p ms s none made)
-rundown_from_goes p s (phase.Draining m) none made =
+    ends_goes (down_most s p ms) (rundown_most s p) s (run_down p ms s) (omega (arith, few)) (run_down_ends p ms s made)
+rundown_from_goes p s (phase.Draining m) made =
     let ms = inner_modes m in
     let k = length ms in
     let o = drained p m s in
     let n = length (process_at s p).channels + length (process_at s p).asts + 4 in
     let one = drained_falls p m s made in
-    let rest = run_down_ends p ms o.after (one.attention ∙ none) (falls_made p 0 n s o.after _ made one) in
+    let rest = run_down_ends p ms o.after (falls_made p 0 n s o.after _ made one) in
     let all = then_ends p n s ms o (omega arith) (falls_queued p 0 (length s.requests) n s o.after _ (omega arith) one) rest in
     let inner : suc k ≤ 4 = let three = inner_few m in omega (arith, three) in
     let few = few_modes s p (suc k) inner in
     let count : suc k * heavy s p (suc k) ≡ k * heavy s p (suc k) + heavy s p (suc k) = suc-mul k (heavy s p (suc k)) in
     subst (λ (r : Outcome Answer). Goes (rundown_most s p) s r.after r.effects) (sym (drain_is s p m (run_down p ms)))
     (ends_goes (load s p + k * heavy s p (suc k) + length (process_at s p).handlers + length s.timers + 1) (rundown_most s p) s (then_on o (run_down p ms)) (omega (arith, few, count)) all)
-rundown_from_goes p s phase.Alive none made = goes_stays (rundown_most s p) s s [] (stays_still s) (omega arith)
-rundown_from_goes p s phase.Deleted none made = goes_stays (rundown_most s p) s s [] (stays_still s) (omega arith)
+rundown_from_goes p s phase.Alive made = goes_stays (rundown_most s p) s s [] (stays_still s) (omega arith)
+rundown_from_goes p s phase.Deleted made = goes_stays (rundown_most s p) s s [] (stays_still s) (omega arith)
 
-pub rundown_goes : (p : Pid) (s : State) → s.attention ≡ [] → IsProcess s p → Goes (rundown_most s p) s (rundown s p).after (rundown s p).effects
-rundown_goes p s none made = rundown_from_goes p s (process_at s p).phase none made
+pub rundown_goes : (p : Pid) (s : State) → IsProcess s p → Goes (rundown_most s p) s (rundown s p).after (rundown s p).effects
+rundown_goes p s made = rundown_from_goes p s (process_at s p).phase made

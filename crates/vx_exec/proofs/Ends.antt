@@ -1,5 +1,5 @@
 -- BEG and DON, and how much a request tells that finishes.
-use Rattle.std.proofs.Common.{◌≡◌, ℕ, ◌+◌, ◌*◌, ◌<◌, ◌≤◌, List, [], ◌∷◌, Bool, true, ◌&&◌, ◌==◌, not, nat_lt, length, length-append, Option, Some, None, refl, ap, slice_index_or, ◌∙◌, arith}
+use Rattle.std.proofs.Common.{◌≡◌, ℕ, ◌+◌, ◌*◌, ◌≤◌, List, [], ◌∷◌, true, ◌&&◌, ◌==◌, not, nat_lt, length, length-append, Option, Some, None, refl, ap, slice_index_or, arith}
 use Rattle.std.proofs.Math.Nat.{mul-suc}
 use Rattle.vx_base.specs.Pieces.{DeviceUnit, Promised, Request, Status}
 use Rattle.vx_base.specs.Serving.{serve, settled}
@@ -8,7 +8,7 @@ use Rattle.vx_base.specs.declared.effects.Cell.TheVariants.{Common, Local}
 use Rattle.vx_base.specs.declared.number.Pid.{Pid}
 use Rattle.vx_base.specs.declared.number.UnitNo.{UnitNo}
 use Rattle.vx_base.specs.declared.request.Req.{Req}
-use Rattle.vx_record.specs.State.{State, change, no_unit, unit_at}
+use Rattle.vx_record.specs.State.{State, no_unit, unit_at}
 use Rattle.vx_record.specs.Asts.{charged_ast, with_queued}
 use Rattle.vx_record.specs.Events.{beg, don}
 use Rattle.vx_record.specs.Finish.{Ending, buf_part, done_ast_part, done_flag_part, fin_part, finish, iosb_part, is_read, put_status, status_of, with_stored_bytes, with_stored_status}
@@ -21,16 +21,16 @@ use Rattle.vx_exec.proofs.Few.{few_flags}
 use Rattle.vx_exec.proofs.Fired.{flag_stays}
 use Rattle.vx_exec.proofs.Goes.{Goes, Stays, goes_stays, stays_changed, stays_still, stays_then}
 
--- a part stays, changes no attention entry, and tells so many effects at most
+-- a part stays, leaves no more attention entries, and tells so many effects at most
 pub record Ends (bound : ℕ) (s : State) (part : Part) : Type 0 where
   pub stays : Stays s part.after
-  pub attention : part.after.attention ≡ s.attention
+  pub attention : length part.after.attention ≤ length s.attention
   pub few : length part.effects ≤ bound
 
 pub ends_then : (m n : ℕ) (s : State) (part : Part) (go : State → Part) → Ends m s part → Ends n part.after (go part.after) → Ends (m + n) s (and_then part go)
 ends_then m n s part go a b = record {
   stays = stays_then s part.after (go part.after).after a.stays b.stays;
-  attention = b.attention ∙ a.attention;
+  attention = omega (arith, a.attention, b.attention);
   few = omega (arith, a.few, b.few, length-append part.effects (go part.after).effects);
 }
 
@@ -38,32 +38,35 @@ pub ends_more : (m n : ℕ) (s : State) (part : Part) → m ≤ n → Ends m s p
 ends_more m n s part more h = record { stays = h.stays; attention = h.attention; few = omega (arith, more, h.few) }
 
 pub each_ends : {A : Type 0} (n : ℕ) (f : State → A → Part) → ((s : State) (x : A) → Ends n s (f s x)) → (xs : List A) (s : State) → Ends (n * length xs) s (each f xs s)
-each_ends n f one [] s = record { stays = stays_still s; attention = refl; few = omega arith }
+each_ends n f one [] s = record { stays = stays_still s; attention = omega arith; few = omega arith }
 each_ends n f one (x ∷ xs) s =
     let both = ends_then n (n * length xs) s (f s x) (each f xs) (one s x) (each_ends n f one xs (f s x).after) in
     let count : n * length (x ∷ xs) ≡ n * length xs + n = mul-suc n (length xs) in
     ends_more (n + n * length xs) (n * length (x ∷ xs)) s _ (omega (arith, count)) both
 
 pub none_ends : (s : State) → Ends 1 s (nothing s)
-none_ends s = record { stays = stays_still s; attention = refl; few = omega arith }
+none_ends s = record { stays = stays_still s; attention = omega arith; few = omega arith }
 
 buf_ends : (s : State) (r : Req) (e : Ending) → Ends 1 s (buf_part s r e)
-buf_ends s r e = either (λ (x : Part). Ends 1 s x) (is_read r.func && nat_lt 0 e.0.count) _ _ (record { stays = stays_changed s r.p (with_stored_bytes r.buf e.0.bytes); attention = refl; few = omega arith }) (none_ends s)
+buf_ends s r e = either (λ (x : Part). Ends 1 s x) (is_read r.func && nat_lt 0 e.0.count) _ _ (record { stays = stays_changed s r.p (with_stored_bytes r.buf e.0.bytes); attention = omega arith; few = omega arith }) (none_ends s)
 
 pub iosb_ends : (s : State) (p : Pid) (i : ℕ) (status : Status) → Ends 1 s (iosb_part s p i status)
-iosb_ends s p i status = either (λ (x : Part). Ends 1 s x) (not (i == 0)) (put_status s p i status) (nothing s) (record { stays = stays_changed s p (with_stored_status i status); attention = refl; few = omega arith }) (none_ends s)
+iosb_ends s p i status = either (λ (x : Part). Ends 1 s x) (not (i == 0)) (put_status s p i status) (nothing s) (record { stays = stays_changed s p (with_stored_status i status); attention = omega arith; few = omega arith }) (none_ends s)
 
 same_attention : (s : State) (o : Option Cell) → (flag_where_named s o true).after.attention ≡ s.attention
 same_attention s None = refl
 same_attention s (Some (Local q n)) = refl
 same_attention s (Some (Common group name n)) = refl
 
+pub named_ends : (s : State) (o : Option Cell) → Ends 1 s (flag_where_named s o true)
+named_ends s o = record { stays = flag_stays s o; attention = omega (arith, ap length (same_attention s o)); few = few_flags s o }
+
 flag_ends : (s : State) (r : Req) → Ends 1 s (done_flag_part s r)
-flag_ends s r = record { stays = flag_stays s (cell s r.p r.efn); attention = same_attention s (cell s r.p r.efn); few = few_flags s (cell s r.p r.efn) }
+flag_ends s r = named_ends s (cell s r.p r.efn)
 
 ast_ends : (s : State) (r : Req) (o : Option Promised) → Ends 1 s (done_ast_part s r o)
 ast_ends s r None = none_ends s
-ast_ends s r (Some ast) = record { stays = stays_changed s r.p (with_queued (charged_ast r.id ast.mode ast.tag)); attention = refl; few = omega arith }
+ast_ends s r (Some ast) = record { stays = stays_changed s r.p (with_queued (charged_ast r.id ast.mode ast.tag)); attention = omega arith; few = omega arith }
 
 pub finish_ends : (s : State) (r : Request) (e : Ending) → Ends 5 s (finish s r e)
 finish_ends s r e =
@@ -71,7 +74,7 @@ finish_ends s r e =
     let b = and_then a (λ s. buf_part s r.req e) in
     let c = and_then b (λ s. iosb_part s r.req.p r.req.iosb (status_of e)) in
     let d = and_then c (λ s. done_flag_part s r.req) in
-    let one : Ends 1 s a = record { stays = record { procs = refl; next = refl; units = refl }; attention = refl; few = omega arith } in
+    let one : Ends 1 s a = record { stays = record { procs = refl; next = refl; units = refl }; attention = omega arith; few = omega arith } in
     let two = ends_then 1 1 s a (λ s. buf_part s r.req e) one (buf_ends a.after r.req e) in
     let three = ends_then 2 1 s b (λ s. iosb_part s r.req.p r.req.iosb (status_of e)) two (iosb_ends b.after r.req.p r.req.iosb (status_of e)) in
     let four = ends_then 3 1 s c (λ s. done_flag_part s r.req) three (flag_ends c.after r.req) in

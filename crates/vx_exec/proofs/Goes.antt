@@ -21,7 +21,6 @@ use Rattle.vx_base.specs.declared.mode.Mode.{Mode}
 use Rattle.vx_base.specs.declared.number.Pid.{Pid}
 use Rattle.vx_base.specs.declared.number.UnitNo.{UnitNo}
 use Rattle.vx_base.specs.declared.routine.Entry.{Entry}
-use Rattle.vx_base.specs.declared.service.Service.TheVariants.{Wake}
 use Rattle.vx_base.specs.Modes.{is_kernel}
 use Rattle.vx_record.specs.State.{Process, State, IsProcess, process_at, change, current, next_id, no_unit, past_id, unit_at, with_top}
 use Rattle.vx_record.specs.Parts.{Outcome, Part, answered, at_tested, nothing, refused, part_of, commonly, each}
@@ -33,7 +32,7 @@ use Rattle.vx_record.specs.Rundown.{cancel_found, cancel_handlers, canexh, dclex
 use Rattle.vx_record.specs.Services.{numbered_at, place, valued_at, with_number, with_variable}
 use Rattle.vx_record.proofs.Lists.{either, either_by}
 use Rattle.vx_record.specs.Timers.{drop_timer, drop_timers, new_wake, open_timer, scheduled, setimr_at, timer_set, with_timer}
-use Rattle.vx_procs.specs.Words.{left, left_kind}
+use Rattle.vx_procs.specs.Words.{deepest, left, left_kind}
 use Rattle.vx_procs.proofs.Stack.{left_after, left_effects}
 use Rattle.vx_exec.proofs.Few.{filter_few}
 
@@ -55,7 +54,7 @@ pub record Goes (bound : ℕ) (s t : State) (told : List Effect) : Type 0 where
 
 -- how much a process tells at most where it runs
 abbrev pub run_most : State → Pid → ℕ
-run_most s p = length (process_at s p).frames + length s.timers + length (process_at s p).handlers + 6 * length s.requests + 4
+run_most s p = deepest s.procs + length (process_at s p).frames + length s.timers + length (process_at s p).handlers + 6 * length s.requests + 2 * length s.attention + 15
 
 abbrev pub GoesBy : {A : Type 0} → Pid → State → Outcome A → Type 0
 GoesBy p s o = Goes (run_most s p) s o.after o.effects
@@ -139,7 +138,7 @@ quiet_named s (Some c) = (refl, refl)
 pub quiet_read : (s : State) (p : Pid) (efn : ℕ) → ((readef s p efn).after ≡ s) × ((readef s p efn).effects ≡ [])
 quiet_read s p efn = either (λ (o : Outcome (Result (Cond × ℕ) Cond)). (o.after ≡ s) × (o.effects ≡ [])) (nat_lt 127 efn) _ _ (refl, refl) (quiet_named s (cell s p efn))
 
-left_few : (fs : List Frame) → length (left fs) ≤ length fs
+pub left_few : (fs : List Frame) → length (left fs) ≤ length fs
 left_few [] = omega arith
 left_few (f ∷ fs) = let rest = left_few fs in let one = kind_few f.kind in omega (arith, length-append (left_kind f.kind) (left fs))
   where
@@ -248,11 +247,11 @@ handler_goes p s tag =
     either (λ (o : Outcome Cond). GoesBy p s o) (is_kernel (current s p)) (refused s IvSsRq) (answered Normal part) (goes_still p s)
     (goes_opened (run_most s p) s part.after part.effects (length-set s.procs (p.0 - 1) (with_handler (new_handler s p tag) (process_at s p))) refl refl (omega arith))
 
-handlers_stay : (p : Pid) (hs : List Handler) (s : State) → Stays s (each (drop_handler p) hs s).after
+pub handlers_stay : (p : Pid) (hs : List Handler) (s : State) → Stays s (each (drop_handler p) hs s).after
 handlers_stay p [] s = stays_still s
 handlers_stay p (h ∷ hs) s = let u = (drop_handler p s h).after in stays_then s u _ (stays_changed s p (without_handler h.id)) (handlers_stay p hs u)
 
-handlers_few : (p : Pid) (hs : List Handler) (s : State) → length (each (drop_handler p) hs s).effects ≤ length hs
+pub handlers_few : (p : Pid) (hs : List Handler) (s : State) → length (each (drop_handler p) hs s).effects ≤ length hs
 handlers_few p [] s = omega arith
 handlers_few p (h ∷ hs) s = let rest = handlers_few p hs (drop_handler p s h).after in omega (arith, rest)
 

@@ -1,7 +1,9 @@
 pub mod Asks
+pub mod Boxed
 pub mod Called
 pub mod Calls
 pub mod Cancels
+pub mod Deepest
 pub mod Down
 pub mod Enabled
 pub mod Ends

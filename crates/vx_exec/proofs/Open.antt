@@ -1,4 +1,5 @@
--- The devices of a process's channels stand, and so do requests, also after a process changed whose channels and declaration are the same.
+-- The devices of a process's channels stand, and so do requests and attention entries, also after a process changed whose channels and
+-- declaration are the same.
 use Rattle.std.proofs.Common.{◌≡◌, ℕ, ◌-◌, List, Option, length-set, refl, sym, ap, subst, ◌∙◌, arith}
 use Rattle.std.specs.List.{AllByRecursion}
 use Rattle.vx_base.specs.Channels.{channel_at}
@@ -47,4 +48,5 @@ open_changed s p f decl channels was =
     record {
       channels = subst (λ (rows : List (Option Channel)). AllByRecursion (ChannelStands h) rows) (sym same) (all_weaker (ChannelStands g) (ChannelStands h) (row_moves g h refl (λ b x. x)) (process_at s p).channels was.channels);
       requests = record { stand = all_weaker (RequestStands g) (RequestStands h) (request_changed s p f alike) s.requests was.requests.stand; order = was.requests.order };
+      entries = was.entries;
     }

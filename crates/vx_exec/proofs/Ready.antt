@@ -25,18 +25,17 @@ use Rattle.vx_record.proofs.SoundCalls.{all_from_list}
 use Rattle.vx_record.proofs.SoundSteps.{first_sound, step_sound}
 use Rattle.vx_record.proofs.SystemKept.{step_keeps_system}
 use Rattle.vx_procs.specs.Kernel.{Fits, Kernel}
-use Rattle.vx_procs.specs.Ready.{HasHandlerRoom, IsBare}
+use Rattle.vx_procs.specs.Ready.{HasHandlerRoom}
 use Rattle.vx_io.specs.Finishing.{AreRequests}
 use Rattle.vx_rundown.specs.Leaving.{IsLeaving}
-use Rattle.vx_rundown.proofs.Standing.{own_handlers_at, own_ids_at, unit_channels}
-use Rattle.vx_exec.specs.Built.{is_built}
+use Rattle.vx_rundown.proofs.Standing.{own_handlers_at, own_ids_at}
 use Rattle.vx_exec.specs.Ready.{HasBegun, HasOwner, IsIdle, IsNext, IsOpen, IsReadyFor, IsRoomMade, most}
 use Rattle.vx_exec.specs.Sound.{IsGoing, IsWhole}
 use Rattle.vx_exec.proofs.Down.{rundown_goes}
 use Rattle.vx_exec.proofs.Enabled.{enabled_owned}
 use Rattle.vx_exec.proofs.Ends.{beg_goes, don_goes}
 use Rattle.vx_exec.proofs.Fired.{tick_goes}
-use Rattle.vx_exec.proofs.Called.{IsOnUnits, delivered_goes, run_goes}
+use Rattle.vx_exec.proofs.Called.{delivered_goes, run_goes}
 use Rattle.vx_exec.proofs.Goes.{Goes}
 
 -- the image of a process of a well formed system
@@ -75,14 +74,15 @@ next_of k e p limit taken going made begun handler =
           handler = handler;
           ids = omega (arith, going.ids, going.within, going.limited);
           time = begun.time;
-          bare = begun.bare;
+          entry = begun.entry;
+          messages = begun.messages;
         };
-        built = whole.built;
         decls = leb-true (length k.state.system.decls) 1000 whole.formed.few_decls;
         units = leb-true (length k.state.system.units) 32 whole.formed.few_units;
-        opened = record { channels = stands.channels; requests = requests_of k.state whole };
+        opened = record { channels = stands.channels; requests = requests_of k.state whole; entries = whole.sound.attention_ids };
         order = whole.sound.timer_ids;
         handler_ids = own_handlers_at k.state p whole.sound made;
+        all_handler_ids = λ q m. own_handlers_at k.state q whole.sound m;
       };
       waits = stands.waits;
       ids = own_ids_at k.state p whole.sound made;
@@ -99,7 +99,6 @@ leaving_of k e p limit taken going owner begun =
       idle = owner.idle;
       sound = whole.sound;
       spares = begun.spares;
-      bare = begun.bare;
     }
 
 pub ready_for : (k : Kernel) (e : Event) (limit taken : ℕ) → IsGoing k.state limit taken → HasOwner k.state e → IsRoomMade k e → IsReadyFor k e
@@ -114,13 +113,10 @@ ready_for k (event.Don u) limit taken going serves begun =
 
 -- Each step.
 
-on_units : (s : State) (p : Pid) → IsWhole s → IsProcess s p → IsBare s → IsOnUnits s p
-on_units s p whole made bare = record { rows = unit_channels s (process_at s p).channels bare.boxes (stands_at s p whole.sound made).channels; attention = bare.attention }
-
 step_goes : (k : Kernel) (e : Event) → IsWhole k.state → HasOwner k.state e → IsRoomMade k e → Goes (most k.state e) k.state (step k.state e).after (step k.state e).effects
-step_goes k (event.Run p) whole made begun = run_goes p k.state (process_at k.state p).frames whole.built made (on_units k.state p whole made begun.bare)
+step_goes k (event.Run p) whole made begun = run_goes p k.state (process_at k.state p).frames made
 step_goes k (event.Ast p) whole made begun = delivered_goes p k.state (deliverable_ast k.state p) made
-step_goes k (event.Rdn p) whole owner begun = rundown_goes p k.state begun.bare.attention owner.made
+step_goes k (event.Rdn p) whole owner begun = rundown_goes p k.state owner.made
 step_goes k event.Tick whole made begun = tick_goes k.state
 step_goes k (event.Beg u) whole waits begun = beg_goes k.state (front u k.state.requests)
 step_goes k (event.Don u) whole serves begun = don_goes k.state u (in_service u k.state.requests)
@@ -153,7 +149,6 @@ going_after k t e limit taken going begun there below leaves =
       whole = record {
         sound = step_sound s e whole.formed whole.sound there;
         formed = subst IsWellFormed (sym same) whole.formed;
-        built = subst (λ (y : System). IsTrue (is_built y)) (sym same) whole.built;
         few = goes.within whole.few;
       };
       ids = omega (arith, goes.soon, going.ids);
@@ -182,12 +177,11 @@ none_served : (ds : List UnitDecl) → AllByRecursion (λ (x : DeviceUnit). x.se
 none_served [] = tt
 none_served (d ∷ ds) = (omega arith, none_served ds)
 
-pub first_going : (system : System) (limit : ℕ) → IsWellFormed system → IsTrue (is_built system) → limit ≤ 100000 → IsGoing (first system) limit 0
-first_going system limit formed built limited = record {
+pub first_going : (system : System) (limit : ℕ) → IsWellFormed system → limit ≤ 100000 → IsGoing (first system) limit 0
+first_going system limit formed limited = record {
   whole = record {
     sound = first_sound system;
     formed = formed;
-    built = built;
     few = omega (arith, born_few 0 system.decls, leb-true (length system.decls) 1000 formed.few_decls);
   };
   ids = omega arith;

@@ -49,12 +49,10 @@ use Rattle.vx_base.specs.declared.service.Service.TheVariants.{Qio, QioW}
 use Rattle.vx_io.specs.Asking.{asked as given}
 use Rattle.vx_io.specs.declared.asking.Asking.{Asking}
 use Rattle.vx_exec.specs.Asked.{asking_of}
-use Rattle.vx_exec.specs.Built.{IsBuiltCall, is_built, is_built_service}
-use Rattle.vx_exec.specs.Ready.{IsSet, started_as}
-use Rattle.vx_exec.proofs.Calls.{IsBuiltStop, advanced_built}
+use Rattle.vx_exec.specs.Ready.{IsCallAt, IsSet, started_as}
+use Rattle.vx_exec.proofs.Calls.{IsStopAt, advanced_stands}
 use Rattle.vx_procs.proofs.Firsts.{less_few}
-use Rattle.vx_rundown.proofs.Standing.{unit_channels}
-use Rattle.vx_exec.proofs.Called.{IsOnUnits, call_goes}
+use Rattle.vx_exec.proofs.Called.{call_goes}
 use Rattle.vx_exec.proofs.Goes.{top_few}
 use Rattle.vx_exec.proofs.Open.{open_changed}
 
@@ -123,9 +121,9 @@ few_stmts image is =
     let labels = and_parts (nat_lt (length image.labels) 4294967296) (nat_le (length image.stmts) 10000 && (are_distinct (label_names image) && (falls_nowhere 0 (label_places image) && (places && rest)))) is.1 in
     leb-true (length image.stmts) 10000 (and_parts (nat_le (length image.stmts) 10000) (are_distinct (label_names image) && (falls_nowhere 0 (label_places image) && (places && rest))) labels.1).0
 
-built_from : (s : State) (p : Pid) (fs : List Frame) → IsTrue (is_built s.system) → IsBuiltStop (image_of s p) (advanced_from (image_of s p) p (process_at s p).store fs).place (advanced_from (image_of s p) p (process_at s p).store fs).stop
-built_from s p [] built = tt
-built_from s p (f ∷ fs) built = advanced_built s p _ (process_at s p).store f.pc built
+stands_from : (s : State) (p : Pid) (fs : List Frame) → IsStopAt (image_of s p) (advanced_from (image_of s p) p (process_at s p).store fs).place (advanced_from (image_of s p) p (process_at s p).store fs).stop
+stands_from s p [] = tt
+stands_from s p (f ∷ fs) = advanced_stands (image_of s p) _ (process_at s p).store f.pc
 
 -- and its arguments are of their kinds
 
@@ -133,17 +131,17 @@ fits_from : (s : State) (p : Pid) (fs : List Frame) → IsImage (image_of s p) �
 fits_from s p [] formed = tt
 fits_from s p (f ∷ fs) formed = advanced_fits formed.0 (image_of s p) (reader p f) (process_at s p).store f.pc formed.1
 
-built_call : (image : Image) (n : ℕ) (x : Stop) → length image.stmts ≤ 10000 → IsBuiltStop image n x → StopFits image x → IsBuiltCall n x
-built_call image n (stop.Call c) few h fits = (h.0, omega (arith, h.1), fits.args)
-built_call image n stop.Return few h fits = tt
-built_call image n stop.End few h fits = tt
-built_call image n stop.Local few h fits = tt
+call_stands : (image : Image) (n : ℕ) (x : Stop) → length image.stmts ≤ 10000 → IsStopAt image n x → StopFits image x → IsCallAt n x
+call_stands image n (stop.Call c) few h fits = (omega (arith, few, h), fits.args)
+call_stands image n stop.Return few h fits = tt
+call_stands image n stop.End few h fits = tt
+call_stands image n stop.Local few h fits = tt
 
-pub advanced_call : (k : Kernel) (p : Pid) (n : ℕ) (x : Stop) → IsSet k p → n ≡ (advanced_at k.state p).place → x ≡ (advanced_at k.state p).stop → IsBuiltCall n x
+pub advanced_call : (k : Kernel) (p : Pid) (n : ℕ) (x : Stop) → IsSet k p → n ≡ (advanced_at k.state p).place → x ≡ (advanced_at k.state p).stop → IsCallAt n x
 advanced_call k p n x set place stops =
     let s = k.state in
     let a = advanced_at s p in
-    rw (place, stops) (built_call (image_of s p) a.place a.stop (few_stmts (image_of s p) set.ready.formed) (built_from s p (process_at s p).frames set.built) (fits_from s p (process_at s p).frames set.ready.formed))
+    rw (place, stops) (call_stands (image_of s p) a.place a.stop (few_stmts (image_of s p) set.ready.formed) (stands_from s p (process_at s p).frames) (fits_from s p (process_at s p).frames set.ready.formed))
 
 pub advanced_as : (s : State) (p : Pid) (a : Advanced) (n : ℕ) (x : Stop) → n ≡ a.place → x ≡ a.stop → run_on (change s p (moved_as a)) p n x ≡ run_advanced s p a
 advanced_as s p a n x place stops = ap (λ (m : ℕ). run_on (change s p (moved_as a)) p m x) place ∙ ap (run_on (change s p (moved_as a)) p a.place) stops
@@ -186,14 +184,18 @@ set_changed k l p f set there handlers decl channels fewer =
         handler = omega (arith, ready.handler, ap (λ (hs : List Handler). length hs) declared);
         ids = ready.ids;
         time = ready.time;
-        bare = record { attention = ready.bare.attention; boxes = ready.bare.boxes };
+        entry = ready.entry;
+        messages = ready.messages;
       };
-      built = set.built;
       decls = set.decls;
       units = set.units;
       opened = open_changed s p f decl channels set.opened;
       order = set.order;
       handler_ids = subst (λ (hs : List Handler). IsTrue (handlers_have_own_ids hs)) (sym declared) set.handler_ids;
+      all_handler_ids = λ q m.
+          let was : IsProcess s q = record { above = m.above; within = omega (arith, m.within, length-set s.procs (p.0 - 1) (f (process_at s p))) } in
+          let same = at_set (λ (x y : Process). y.handlers ≡ x.handlers) (λ x. refl) s.procs (p.0 - 1) (q.0 - 1) (f (process_at s p)) nobody handlers in
+          subst (λ (hs : List Handler). IsTrue (handlers_have_own_ids hs)) (sym same) (set.all_handler_ids q was);
     } in
     subst (λ (x : Kernel). IsSet x p) (sym there) here
 
@@ -201,10 +203,9 @@ pub set_moved : (k l : Kernel) (p : Pid) (store : Storage) (place : ℕ) → IsS
 set_moved k l p store place set there =
     set_changed k l p (moved_to store place) set there refl refl refl (record { frames = top_few _ (process_at k.state p).frames; asts = omega arith })
 
-pub call_made : (k l : Kernel) (p : Pid) (c : Call) (s : Served) → IsSet k p → is_built_service c.service ≡ true → Does (service k.state p c) s k l → IsProcess l.state p
-call_made k l p c s set built did =
-    let on : IsOnUnits k.state p = record { rows = unit_channels k.state (process_at k.state p).channels set.ready.bare.boxes set.opened.channels; attention = set.ready.bare.attention } in
-    let goes = call_goes p k.state c built on in
+pub call_made : (k l : Kernel) (p : Pid) (c : Call) (s : Served) → IsSet k p → Does (service k.state p c) s k l → IsProcess l.state p
+call_made k l p c s set did =
+    let goes = call_goes p k.state c in
     subst (λ (x : Kernel). IsProcess x.state p) (sym did.leaves) (record { above = set.ready.made.above; within = omega (arith, set.ready.made.within, goes.grows) })
 
 -- The top frame goes on, where it waits for nothing.

@@ -1,5 +1,4 @@
 pub mod Asked
-pub mod Built
 pub mod Picks
 pub mod Ready
 pub mod Sound

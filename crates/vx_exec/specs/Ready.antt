@@ -9,30 +9,39 @@ use Rattle.vx_base.specs.declared.number.UnitNo.{UnitNo}
 use Rattle.vx_base.specs.declared.record.Event.{Event}
 use Rattle.vx_base.specs.declared.record.Event.TheVariants as event
 use Rattle.vx_base.specs.declared.routine.Entry.{Entry}
+use Rattle.vx_base.specs.Services.{is_call}
+use Rattle.vx_image.specs.declared.stop.Stop.{Stop}
+use Rattle.vx_image.specs.declared.stop.Stop.TheVariants as stop
 use Rattle.vx_record.specs.State.{State, IsProcess, process_at, unit_at}
 use Rattle.vx_record.specs.Events.{started, step}
 use Rattle.vx_record.specs.Parts.{Part}
 use Rattle.vx_record.specs.Sound.{AreOrdered, WaitsStand, timer_id}
 use Rattle.vx_io.specs.Asking.{AreOpen}
 use Rattle.vx_io.specs.Finishing.{AreRequests}
+use Rattle.vx_io.specs.Rooms.{AreFull, Room}
 use Rattle.vx_procs.specs.Kernel.{Fits, IsPrepared, Kernel, opened}
-use Rattle.vx_procs.specs.Ready.{HasHandlerRoom, HasNewcomer, HasSpares, IsBare, IsReady}
-use Rattle.vx_procs.specs.Words.{handlers_have_own_ids, have_own_ids}
+use Rattle.vx_procs.specs.Ready.{HasHandlerRoom, HasMessageRooms, HasNewcomer, HasSpares, IsReady}
+use Rattle.vx_procs.specs.Words.{deepest, handlers_have_own_ids, have_own_ids}
 use Rattle.vx_rundown.specs.Leaving.{IsLeaving}
-use Rattle.vx_exec.specs.Built.{is_built}
 
--- A process is ready, in a system that the executive runs so far and that declares at most 1,000 processes and 32 units; the devices of
--- its channels stand, and so do requests; timers stand in id order, and no two of its exit handlers have one id.
+-- A process is ready, in a system that declares at most 1,000 processes and 32 units; the devices of its channels stand, and so do requests
+-- and attention entries; timers stand in id order, and no two of its exit handlers have one id, nor of those of any other process.
 pub record IsSet (k : Kernel) (p : Pid) : Type 0 where
   pub ready : IsReady k p
-  pub built : IsTrue (is_built k.state.system)
   pub decls : length k.state.system.decls ≤ 1000
   pub units : length k.state.system.units ≤ 32
   pub opened : AreOpen k.state p
   pub order : AreOrdered timer_id 0 k.state.next k.state.timers
   pub handler_ids : IsTrue (handlers_have_own_ids (process_at k.state p).handlers)
+  pub all_handler_ids : (q : Pid) → IsProcess k.state q → IsTrue (handlers_have_own_ids (process_at k.state q).handlers)
 
--- What an event of a process relies on where it runs or an AST starts: its frames wait for status blocks that it has, and no two of its queued ASTs have one id.
+-- where a service is called, its statement is one of at most 10,000, and its arguments are of their kinds
+abbrev pub IsCallAt : ℕ → Stop → Type 0
+IsCallAt place (stop.Call c) = (place < 10000) × IsTrue (is_call c)
+IsCallAt place _ = ⊤
+
+-- What an event of a process relies on where it runs or an AST starts: its frames wait for status blocks that it has, and no two of its
+-- queued ASTs have one id.
 pub record IsNext (k : Kernel) (p : Pid) : Type 0 where
   pub set : IsSet k p
   pub waits : WaitsStand (process_at k.state p).frames
@@ -85,14 +94,16 @@ IsReadyFor k event.Tick = IsTimely k
 IsReadyFor k (event.Beg u) = IsToBegin k u
 IsReadyFor k (event.Don u) = IsToEnd k u
 
--- How many effects an event has at most. A process leaves its frames, or cancels timers, exit handlers or requests, six effects for a
--- request, and tells four effects more; in rundown it cancels requests and drops timers, wakes and ASTs in four modes, frees its channels, dissociates two
--- clusters in each, which may go, drops its exit handlers and the wakes for it, and is gone; a timer that is due fires, sets its flag
--- and queues its AST. A request that begins to be served tells nothing, and one that finishes tells five effects.
+-- How many effects an event has at most. A process leaves its frames, or cancels timers, exit handlers, attention entries or requests,
+-- six effects for a request; or asks a mailbox: two effects as its flag and its status block are cleared, one as it is opened, and then
+-- twelve, as a message comes in and goes out and two requests finish, or six and two for each attention entry that fires. In rundown it
+-- cancels requests and drops attention entries, timers, wakes and ASTs in four modes, frees its channels, dissociates two clusters in each,
+-- which may go, drops its exit handlers and the wakes for it, and is gone; a timer that is due fires, sets its flag and queues its AST. A
+-- request that begins to be served tells nothing, and one that finishes tells five effects.
 abbrev pub most : State → Event → ℕ
-most s (event.Run p) = length (process_at s p).frames + length s.timers + length (process_at s p).handlers + 6 * length s.requests + 4
-most s (event.Ast p) = length (process_at s p).frames + length s.timers + length (process_at s p).handlers + 6 * length s.requests + 4
-most s (event.Rdn p) = 4 * (length (process_at s p).asts + 11 * length s.requests + 2 * length s.timers + length (process_at s p).channels + 4) + length (process_at s p).handlers + length s.timers + 1
+most s (event.Run p) = deepest s.procs + length (process_at s p).frames + length s.timers + length (process_at s p).handlers + 6 * length s.requests + 2 * length s.attention + 15
+most s (event.Ast p) = deepest s.procs + length (process_at s p).frames + length s.timers + length (process_at s p).handlers + 6 * length s.requests + 2 * length s.attention + 15
+most s (event.Rdn p) = 4 * (length (process_at s p).asts + 11 * length s.requests + 2 * length s.timers + length s.attention + length (process_at s p).channels + 4) + length (process_at s p).handlers + length s.timers + 1
 most s event.Tick = 3 * length s.timers
 most s (event.Beg u) = 0
 most s (event.Don u) = 5
@@ -105,11 +116,12 @@ pub record HasBegun (k : Kernel) (e : Event) : Type 0 where
   pub cluster : length k.state.common.clusters + 1 ≤ k.clusters
   pub association : length k.state.common.associations + 1 ≤ k.associations
   pub request : length k.state.requests + 1 ≤ k.requests
+  pub entry : length k.state.attention + 1 ≤ k.attention
+  pub messages : HasMessageRooms k
   pub handler : IfSome (process_of e) (HasHandlerRoom k)
   pub empty : k.log.items ≡ []
   pub room : HasRoom k.log (most k.state e)
   pub time : k.state.time < 2 ^ 63
-  pub bare : IsBare k.state
 
 -- a BEG has what the end of its service needs; and so a DON needs nothing
 abbrev pub IsRoomMade : Kernel → Event → Type 0
@@ -117,10 +129,10 @@ IsRoomMade k (event.Beg u) = IsPrepared k u × (k.log.items ≡ [])
 IsRoomMade k (event.Don u) = ⊤
 IsRoomMade k other = HasBegun k other
 
--- there is spare room for the bytes of a write, where a process runs
-abbrev pub HasBuffer : Event → Option ⊤ → Type 0
-HasBuffer (event.Run p) spare = IsSome spare
-HasBuffer other spare = ⊤
+-- there is spare room for the bytes of a request, where a process runs
+abbrev pub HasRooms : Event → Room → Type 0
+HasRooms (event.Run p) rooms = AreFull rooms
+HasRooms other rooms = ⊤
 
 -- nothing is told yet, and what an event tells fits; but a DON has a log of its own
 abbrev pub IsOpen : Kernel → Event → Type 0

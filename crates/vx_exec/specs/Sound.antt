@@ -4,14 +4,12 @@ use Rattle.vx_base.specs.declared.number.UnitNo.{UnitNo}
 use Rattle.vx_image.specs.WellFormed.{IsWellFormed}
 use Rattle.vx_record.specs.Sound.{IsSound}
 use Rattle.vx_record.specs.State.{State, unit_at}
-use Rattle.vx_exec.specs.Built.{is_built}
 
 -- What the state names is there, in a system that is well formed and that the executive runs so far, with at most 1,000
 -- processes.
 pub record IsWhole (s : State) : Type 0 where
   pub sound : IsSound s
   pub formed : IsWellFormed s.system
-  pub built : IsTrue (is_built s.system)
   pub few : length s.procs ≤ 1000
 
 -- Each record opens at most one id, and no unit made more services than there are records; no more records were made than the limit

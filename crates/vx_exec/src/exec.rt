@@ -6,31 +6,31 @@ ghost use Rattle.vx_record.specs.State.{IsProcess, decl_of, process_at, unit_at}
 ghost use Rattle.vx_units.specs.Units.{outputs_of};
 ghost use Rattle.vx_record.specs.Events.{enabled, step};
 ghost use Rattle.vx_record.specs.Runs.{end_of, first, record_of};
-ghost use Rattle.vx_exec.specs.Built.{is_built};
 ghost use Rattle.vx_exec.specs.Picks.{moved_seed, picked_event};
 ghost use Rattle.vx_exec.specs.Standing.{code_of, standing_of};
 ghost use Rattle.vx_exec.specs.View.{is_don, plan};
 
 use crate::events::{are_deleted, count, enabled_at, is_enabled};
 use crate::machine::step;
-use crate::room::{make_buffer, make_room};
+use crate::room::{make_room, make_rooms};
 use crate::seed::Seed;
 use crate::standing::{Standing, standing_of};
 use std::alloc::Global;
 use std::marker::Model;
-use vx_base::{Buffer, Bytes, End, Event, Name, NoMemory, Pid, Rec, Routine, UnitNo};
+use vx_base::{Bytes, End, Event, Name, NoMemory, Pid, Rec, Routine, UnitNo};
 use vx_image::System;
+use vx_io::Rooms;
 use vx_procs::Core;
 
 /// The executive of one system: what it keeps, how many records its runs may have, and how many its steps have made. Spare room for
-/// the bytes of a write is made before a process runs.
+/// the bytes of a request is made before a process runs.
 #[derive(Drop)]
 pub struct Exec<R: Routine> {
     core: Core<R>,
     limit: u32,
     taken: u32,
     alloc: Global,
-    spare: Option<Buffer>,
+    rooms: Rooms,
 }
 
 impl<R: Routine> Model for Exec<R> {
@@ -49,7 +49,6 @@ impl<R: Routine> Exec<R> {
     /// The executive of a system before its first event, whose runs may have so many records, 1 to 100,000.
     pub fn new(alloc: Global, system: System, limit: u32) -> Result<Exec<R>, NoMemory>
         requires formed { IsWellFormed system }
-        requires built { IsTrue (is_built system) }
         requires above { 1 ≤ limit }
         requires within { limit ≤ 100000 }
         ensures { IfOk result (λ exec. exec ≡ record { state = first system; limit = limit; taken = 0 }) }
@@ -60,7 +59,7 @@ impl<R: Routine> Exec<R> {
             limit,
             taken: 0,
             alloc,
-            spare: None,
+            rooms: Rooms::new(),
         })
     }
 
@@ -114,9 +113,9 @@ impl<R: Routine> Exec<R> {
         ensures don_never_fails { IsTrue (is_don event) → IsOk result }
         ensures plan { plan self.new ≡ plan self.old }
     {
-        make_buffer(self.alloc, &mut self.spare, event)?;
+        make_rooms(self.alloc, &mut self.rooms, event)?;
         make_room(&mut self.core, event)?;
-        let answer = step(&mut self.core, event, &mut self.spare);
+        let answer = step(&mut self.core, event, &mut self.rooms);
         self.taken += 1;
         Ok(Rec {
             event,

@@ -3,9 +3,8 @@
 //! `Exec` stands for the plain state of the machine's definitions, the limit of its runs and how many records its steps have
 //! made (`specs/View.antt`). What is enabled, what a step does, what a seed picks and when a run ends is the machine of
 //! `vx_record`: `count` and `enabled` are the list of its enabled events, `step` takes any one of them and leaves the state
-//! after it, `ended` is its end, and `run_system` takes the run that a seed chooses. Not all systems are run yet: which are
-//! is `specs/Built.antt`, and `built` tells. A step whose memory is short changes nothing, and no other call of `Exec` takes
-//! memory but `new`.
+//! after it, `ended` is its end, and `run_system` takes the run that a seed chooses. A step whose memory is short changes nothing, and
+//! no other call of `Exec` takes memory but `new`.
 #![tactic(auto)]
 
 mod events;
@@ -16,11 +15,9 @@ mod run;
 mod seed;
 mod services;
 mod standing;
-mod subset;
 
 pub use exec::Exec;
 pub use run::{run_system, take_run};
 pub use seed::Seed;
 pub use standing::Standing;
-pub use subset::is_built;
 pub use vx_base::End;

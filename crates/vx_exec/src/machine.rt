@@ -1,6 +1,6 @@
 //! What each event does.
 
-ghost use Rattle.std.specs.Prelude.{◌≡◌, ◌<◌, [], IsSome, IsTrue};
+ghost use Rattle.std.specs.Prelude.{◌≡◌, ◌<◌, [], IsTrue};
 ghost use Rattle.vx_base.specs.Modes.{reaches};
 ghost use Rattle.vx_base.specs.Services.{is_call};
 ghost use Rattle.vx_record.specs.State.{IsProcess, current, process_at};
@@ -10,16 +10,14 @@ ghost use Rattle.vx_record.specs.Flags.{wait_condition};
 ghost use Rattle.vx_record.specs.Sound.{WaitStands};
 ghost use Rattle.vx_procs.specs.Kernel.{Acts, Does, DoesQuietly, Fits};
 ghost use Rattle.vx_procs.specs.Words.{advanced_at};
-ghost use Rattle.vx_exec.specs.Built.{IsBuiltCall, is_built_service};
-ghost use Rattle.vx_exec.specs.Ready.{HasBuffer, IsNext, IsOpen, IsReadyFor, IsSet, opened_for, started_as};
+ghost use Rattle.vx_io.specs.Rooms.{AreFull};
+ghost use Rattle.vx_exec.specs.Ready.{HasRooms, IsCallAt, IsNext, IsOpen, IsReadyFor, IsSet, opened_for, started_as};
 
 use crate::services::serve;
-use vx_base::{
-    Answer, Buffer, Call, Cond, Effect, Entry, Event, FrameKind, Id, Mode, Pid, Routine, Wait,
-};
+use vx_base::{Answer, Call, Cond, Effect, Entry, Event, FrameKind, Id, Mode, Pid, Routine, Wait};
 use vx_ctl::{tick, wait_condition};
 use vx_image::Stop;
-use vx_io::{begin, done};
+use vx_io::{Rooms, begin, done};
 use vx_procs::Core;
 use vx_record::Served;
 use vx_rundown::rundown_step;
@@ -50,18 +48,17 @@ fn call_service<R: Routine>(
     p: Pid,
     place: u32,
     call: Call,
-    spare: &mut Option<Buffer>,
+    rooms: &mut Rooms,
 ) -> Answer
     requires set { IsSet core.old p }
-    requires spare { IsSome spare.old }
-    requires built { IsTrue (is_built_service call.service) }
+    requires rooms { AreFull rooms.old }
     requires kinds { IsTrue (is_call call) }
     requires place { place < 10000 }
     requires room { Fits core.old (run_on core.old.state p place (Stop.Call call)).effects }
     ensures { Does (run_on core.old.state p place (Stop.Call call)) result core.old core.new }
 {
     core.move_behind(p, place);
-    match serve(core, p, &call, spare) {
+    match serve(core, p, &call, rooms) {
         Served::Answered(cond) => {
             core.set_r0(p, cond.number());
             Answer::Service(call, cond)
@@ -103,37 +100,37 @@ fn stop_at<R: Routine>(
     p: Pid,
     place: u32,
     stop: Stop,
-    spare: &mut Option<Buffer>,
+    rooms: &mut Rooms,
 ) -> Answer
     requires set { IsSet core.old p }
-    requires spare { IsSome spare.old }
-    requires built { IsBuiltCall place stop }
+    requires rooms { AreFull rooms.old }
+    requires call { IsCallAt place stop }
     requires room { Fits core.old (run_on core.old.state p place stop).effects }
     ensures { Does (run_on core.old.state p place stop) result core.old core.new }
 {
     match stop {
-        Stop::Call(call) => call_service(core, p, place, call, spare),
+        Stop::Call(call) => call_service(core, p, place, call, rooms),
         Stop::Return | Stop::End => leave(core, p),
         Stop::Local => Answer::Local,
     }
 }
 
 // The top frame, which waits for nothing, goes on.
-fn go_on<R: Routine>(core: &mut Core<R>, p: Pid, spare: &mut Option<Buffer>) -> Answer
+fn go_on<R: Routine>(core: &mut Core<R>, p: Pid, rooms: &mut Rooms) -> Answer
     requires set { IsSet core.old p }
-    requires spare { IsSome spare.old }
+    requires rooms { AreFull rooms.old }
     requires room { Fits core.old (run_advanced core.old.state p (advanced_at core.old.state p)).effects }
     ensures { Does (run_advanced core.old.state p (advanced_at core.old.state p)) result core.old core.new }
 {
     let (place, stop) = core.run_local(p);
-    stop_at(core, p, place, stop, spare)
+    stop_at(core, p, place, stop, rooms)
 }
 
 // RUN.
 #[tactic(auto, using(crate::proofs::Running::quietly))]
-fn run<R: Routine>(core: &mut Core<R>, p: Pid, spare: &mut Option<Buffer>) -> Answer
+fn run<R: Routine>(core: &mut Core<R>, p: Pid, rooms: &mut Rooms) -> Answer
     requires next { IsNext core.old p }
-    requires spare { IsSome spare.old }
+    requires rooms { AreFull rooms.old }
     requires room { Fits core.old (run core.old.state p (process_at core.old.state p).frames).effects }
     ensures { Does (run core.old.state p (process_at core.old.state p).frames) result core.old core.new }
 {
@@ -142,7 +139,7 @@ fn run<R: Routine>(core: &mut Core<R>, p: Pid, spare: &mut Option<Buffer>) -> An
     };
     match frame.wait {
         Some(wait) => end_wait(core, p, wait),
-        None => go_on(core, p, spare),
+        None => go_on(core, p, rooms),
     }
 }
 
@@ -179,20 +176,16 @@ fn deliver<R: Routine>(core: &mut Core<R>, p: Pid) -> Answer
     Answer::Ast(id)
 }
 
-/// Does an event, with the spare room for the bytes of a write where a process runs. Takes no memory.
-pub(crate) fn step<R: Routine>(
-    core: &mut Core<R>,
-    event: Event,
-    spare: &mut Option<Buffer>,
-) -> Answer
+/// Does an event, with the spare room for the bytes of a request where a process runs. Takes no memory.
+pub(crate) fn step<R: Routine>(core: &mut Core<R>, event: Event, rooms: &mut Rooms) -> Answer
     requires ready { IsReadyFor core.old event }
-    requires spare { HasBuffer event spare.old }
+    requires rooms { HasRooms event rooms.old }
     requires open { IsOpen core.old event }
     ensures does { Does (step core.old.state event) result (opened_for core.old event) core.new }
     ensures untold { (opened_for core.old event).log.items ≡ [] }
 {
     match event {
-        Event::Run(p) => run(core, p, spare),
+        Event::Run(p) => run(core, p, rooms),
         Event::Ast(p) => deliver(core, p),
         Event::Rdn(p) => rundown_step(core, p),
         Event::Tick => Answer::Time(tick(core)),

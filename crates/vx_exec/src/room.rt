@@ -2,13 +2,14 @@
 
 ghost use Rattle.std.specs.Prelude.{◌≡◌, ◌≤◌, IfSome, IsOk, IsSome, IsTrue, OnOk};
 ghost use Rattle.vx_base.specs.Queues.{front};
-ghost use Rattle.vx_exec.specs.Ready.{HasBegun, HasBuffer, HasOwner, IsRoomMade, most};
+ghost use Rattle.vx_exec.specs.Ready.{HasBegun, HasOwner, HasRooms, IsRoomMade, most};
 ghost use Rattle.vx_exec.specs.View.{is_don};
 ghost use Rattle.vx_base.specs.declared.record.Event.TheVariants.{Beg};
 
 use crate::events::process_of;
 use std::alloc::Global;
-use vx_base::{Buffer, Event, NoMemory, Routine, UnitNo};
+use vx_base::{Event, NoMemory, Routine, UnitNo};
+use vx_io::Rooms;
 use vx_procs::Core;
 
 // A count that an event's effects do not exceed; None where 32 bits do not count them.
@@ -18,13 +19,16 @@ fn most<R: Routine>(core: &Core<R>, event: Event) -> Option<u32>
 {
     let most = match event {
         Event::Run(p) | Event::Ast(p) => {
-            let listed = core.timer_count() as u128 + 6 * core.request_count() as u128;
-            core.frame_count(p) as u128 + core.handler_count(p) as u128 + listed + 4
+            let asked = 6 * core.request_count() as u128 + 2 * core.attention_count() as u128;
+            let listed = core.timer_count() as u128 + asked;
+            let own = core.frame_count(p) as u128 + core.handler_count(p) as u128;
+            core.depth().checked_add(own + listed + 15)?
         }
         Event::Rdn(p) => {
             let timers = core.timer_count() as u128;
             let listed = core.ast_count(p) as u128 + 11 * core.request_count() as u128;
-            let load = listed + 2 * timers + core.channel_count(p) as u128 + 4;
+            let waiting = 2 * timers + core.attention_count() as u128;
+            let load = listed + waiting + core.channel_count(p) as u128 + 4;
             4 * load + core.handler_count(p) as u128 + timers + 1
         }
         Event::Tick => 3 * core.timer_count() as u128,
@@ -56,27 +60,13 @@ fn prepare<R: Routine>(core: &mut Core<R>, u: UnitNo) -> Result<(), NoMemory>
     core.prepare(u)
 }
 
-// Makes spare room for the bytes of a write, where there is none.
-fn make_spare(alloc: Global, spare: &mut Option<Buffer>) -> Result<(), NoMemory>
-    ensures { OnOk result (IsSome spare.new) }
-{
-    if spare.is_none() {
-        *spare = Some(Buffer::new(alloc)?);
-    }
-    Ok(())
-}
-
-/// Makes spare room for the bytes of a write before a process runs, and for no other event.
-pub(crate) fn make_buffer(
-    alloc: Global,
-    spare: &mut Option<Buffer>,
-    event: Event,
-) -> Result<(), NoMemory>
-    ensures made { OnOk result (HasBuffer event spare.new) }
+/// Makes spare room for the bytes of a request before a process runs, and for no other event.
+pub(crate) fn make_rooms(alloc: Global, rooms: &mut Rooms, event: Event) -> Result<(), NoMemory>
+    ensures made { OnOk result (HasRooms event rooms.new) }
     ensures don_never_fails { IsTrue (is_don event) → IsOk result }
 {
     match event {
-        Event::Run(_) => make_spare(alloc, spare),
+        Event::Run(_) => rooms.fill(alloc),
         _ => Ok(()),
     }
 }

@@ -2,7 +2,6 @@
 
 ghost use Rattle.std.specs.Prelude.{◌≤◌, IfOk, IsTrue};
 ghost use Rattle.vx_image.specs.WellFormed.{IsWellFormed};
-ghost use Rattle.vx_exec.specs.Built.{is_built};
 ghost use Rattle.vx_exec.specs.Taken.{EndsRun, IsChosenRun};
 
 use crate::exec::Exec;
@@ -41,7 +40,6 @@ pub fn run_system<R: Routine>(
     limit: u32,
 ) -> Result<(Exec<R>, Recs, End), NoMemory>
     requires formed { IsWellFormed system }
-    requires built { IsTrue (is_built system) }
     requires above { 1 ≤ limit }
     requires within { limit ≤ 100000 }
     ensures { IfOk result (λ run. IsChosenRun system seed limit run.0 run.1 run.2) }

@@ -1,23 +1,22 @@
 //! Calls of services, with the values of their arguments computed.
 
-ghost use Rattle.std.specs.Prelude.{◌≡◌, ◌<◌, ◌≤◌, IfSome, IsSome, IsTrue, bytes_eq, length, option_map, position};
+ghost use Rattle.std.specs.Prelude.{◌≡◌, ◌<◌, ◌≤◌, IfSome, IsTrue, bytes_eq, length, option_map, position};
 ghost use Rattle.vx_record.specs.Flags.{readef};
 ghost use Rattle.vx_record.specs.Parts.{nothing};
 ghost use Rattle.vx_record.specs.Timers.{gettim};
 ghost use Rattle.vx_record.specs.Control.{creprc, resume, suspnd, wake};
-ghost use Rattle.vx_record.specs.Channels.{assign};
+ghost use Rattle.vx_record.specs.Channels.{assign, crembx};
 ghost use Rattle.vx_record.specs.Services.{access_mode, at_once, decl_place, function, label_place, number, place, routine, routine_or_none, service, service_of, text, valued, with_number, with_value};
 ghost use Rattle.vx_base.specs.Services.{is_call, is_of_kind};
 ghost use Rattle.vx_base.specs.declared.service.Kind.TheVariants.{Name as name_kind};
 ghost use Rattle.vx_procs.specs.Kernel.{Does, DoesQuietly, Fits};
 ghost use Rattle.vx_ctl.specs.Answers.{cond_of};
-ghost use Rattle.vx_exec.specs.Built.{is_built_service};
+ghost use Rattle.vx_io.specs.Rooms.{AreFull};
 ghost use Rattle.vx_exec.specs.Asked.{asking_of};
 ghost use Rattle.vx_exec.specs.Ready.{IsSet};
 
 use vx_base::{
-    Arg, Args, Buffer, Call, Cond, Effect, Entry, Func, Mode, Name, Operand, Pid, Routine, Service,
-    Target,
+    Arg, Args, Call, Cond, Effect, Entry, Func, Mode, Name, Operand, Pid, Routine, Service, Target,
 };
 use vx_ctl::{
     Refused, ascefc, cantim, canwak, clref, cmexec, cmkrnl, creprc, dacefc, dclast, dlcefc, forcex,
@@ -25,10 +24,10 @@ use vx_ctl::{
     wflor,
 };
 use vx_image::{Image, Label, ProcDecl};
-use vx_io::{Asking, assign, cancel, dassgn, qio, qiow, synch};
+use vx_io::{Asking, Rooms, assign, cancel, crembx, dassgn, delmbx, qio, qiow, synch};
 use vx_procs::Core;
 use vx_record::Served;
-use vx_rundown::{canexh, dclexh, exit};
+use vx_rundown::{canexh, dclexh, delprc, exit};
 
 // The number that an argument is.
 fn number(arg: &Arg) -> u32
@@ -51,7 +50,7 @@ fn place(arg: &Arg) -> Target
 }
 
 // The name that an argument is, where it is one.
-fn cluster_name(arg: &Arg) -> Name
+fn name_of(arg: &Arg) -> Name
     requires { IsTrue (is_of_kind name_kind arg.now) }
     ensures { result ≡ text arg.now }
 {
@@ -266,6 +265,46 @@ fn assign_named<R: Routine>(core: &mut Core<R>, p: Pid, args: &Args) -> Served
     assign_device(core, p, text(&args.a1), mode, place(&args.a0))
 }
 
+// $CREMBX of a mailbox of a name, in a mode: a variable takes the number of the channel.
+fn create_box<R: Routine>(
+    core: &mut Core<R>,
+    p: Pid,
+    name: Name,
+    perm: u32,
+    maxmsg: u32,
+    bufquo: u32,
+    mode: Mode,
+    v: Target,
+) -> Served
+    requires set { IsSet core.old p }
+    requires room { Fits core.old (with_number p v (crembx core.old.state p name perm maxmsg bufquo mode)).effects }
+    ensures { Does (with_number p v (crembx core.old.state p name perm maxmsg bufquo mode)) result core.old core.new }
+{
+    match crembx(core, p, name, perm, maxmsg, bufquo, mode) {
+        Ok(n) => {
+            core.tell(Effect::Var { p, v, n });
+            core.set_variable(p, v, n);
+            Served::Answered(Cond::Normal)
+        }
+        Err(cond) => Served::Answered(cond),
+    }
+}
+
+// $CREMBX of the mailbox that an argument names.
+fn create_box_named<R: Routine>(core: &mut Core<R>, p: Pid, args: &Args) -> Served
+    requires set { IsSet core.old p }
+    requires name { IsTrue (is_of_kind name_kind args.now.a1) }
+    requires room { Fits core.old (service_of core.old.state p args.now Service.CreMbx).effects }
+    ensures { Does (service_of core.old.state p args.now Service.CreMbx) result core.old core.new }
+{
+    let name = name_of(&args.a1);
+    let perm = number(&args.a2);
+    let maxmsg = number(&args.a3);
+    let bufquo = number(&args.a4);
+    let mode = access_mode(&args.a5);
+    create_box(core, p, name, perm, maxmsg, bufquo, mode, place(&args.a0))
+}
+
 // What the arguments of a request ask, but for its AST.
 fn asking(args: &Args) -> Asking
     ensures { result ≡ asking_of args.now }
@@ -281,44 +320,29 @@ fn asking(args: &Args) -> Asking
     }
 }
 
-// The spare room for the bytes of a write.
-fn take_spare(spare: &mut Option<Buffer>) -> Buffer
-    requires { IsSome spare.old }
-{
-    match spare.take() {
-        Some(buffer) => buffer,
-        None => unreachable!(),
-    }
-}
-
 // $QIO, with the routine at a label or with none.
-fn ask<R: Routine>(core: &mut Core<R>, p: Pid, args: &Args, spare: &mut Option<Buffer>) -> Served
+fn ask<R: Routine>(core: &mut Core<R>, p: Pid, args: &Args, rooms: &mut Rooms) -> Served
     requires set { IsSet core.old p }
-    requires spare { IsSome spare.old }
+    requires rooms { AreFull rooms.old }
     requires room { Fits core.old (service_of core.old.state p args.now Service.Qio).effects }
     ensures { Does (service_of core.old.state p args.now Service.Qio) result core.old core.new }
 {
     let asked = asking(args);
     let routine: Option<R> = routine_or_none(core, p, &args.a4, number(&args.a5));
-    let answer = qio(core, p, asked, routine, take_spare(spare));
+    let answer = qio(core, p, asked, routine, rooms);
     Served::Answered(cond_of(answer))
 }
 
 // $QIOW, with the routine at a label or with none.
-fn ask_and_wait<R: Routine>(
-    core: &mut Core<R>,
-    p: Pid,
-    args: &Args,
-    spare: &mut Option<Buffer>,
-) -> Served
+fn ask_and_wait<R: Routine>(core: &mut Core<R>, p: Pid, args: &Args, rooms: &mut Rooms) -> Served
     requires set { IsSet core.old p }
-    requires spare { IsSome spare.old }
+    requires rooms { AreFull rooms.old }
     requires room { Fits core.old (service_of core.old.state p args.now Service.QioW).effects }
     ensures { Does (service_of core.old.state p args.now Service.QioW) result core.old core.new }
 {
     let asked = asking(args);
     let routine: Option<R> = routine_or_none(core, p, &args.a4, number(&args.a5));
-    match qiow(core, p, asked, routine, take_spare(spare)) {
+    match qiow(core, p, asked, routine, rooms) {
         Ok(served) => served,
         Err(refused) => Served::Answered(refused.cond),
     }
@@ -440,7 +464,7 @@ fn associate<R: Routine>(core: &mut Core<R>, p: Pid, args: &Args) -> Served
     requires room { Fits core.old (service_of core.old.state p args.now Service.AscEfc).effects }
     ensures { Does (service_of core.old.state p args.now Service.AscEfc) result core.old core.new }
 {
-    let name = cluster_name(&args.a1);
+    let name = name_of(&args.a1);
     Served::Answered(ascefc(core, p, number(&args.a0), name, number(&args.a2)))
 }
 
@@ -451,21 +475,20 @@ fn delete_cluster<R: Routine>(core: &mut Core<R>, p: Pid, args: &Args) -> Served
     requires room { Fits core.old (service_of core.old.state p args.now Service.DlcEfc).effects }
     ensures { Does (service_of core.old.state p args.now Service.DlcEfc) result core.old core.new }
 {
-    let name = cluster_name(&args.a0);
+    let name = name_of(&args.a0);
     Served::Answered(dlcefc(core, p, name))
 }
 
-/// Does the service of a call. Its place is put behind the statement before, and R0 set after it. A request takes the spare room.
-#[tactic(auto, using(crate::proofs::Running::quietly, crate::proofs::Calls::names_second, crate::proofs::Calls::names_first))]
+/// Does the service of a call. Its place is put behind the statement before, and R0 set after it. A request takes of the rooms what it uses.
+#[tactic(auto, using(crate::proofs::Running::quietly, crate::proofs::Calls::names_second, crate::proofs::Calls::names_box, crate::proofs::Calls::names_first))]
 pub(crate) fn serve<R: Routine>(
     core: &mut Core<R>,
     p: Pid,
     call: &Call,
-    spare: &mut Option<Buffer>,
+    rooms: &mut Rooms,
 ) -> Served
     requires set { IsSet core.old p }
-    requires spare { IsSome spare.old }
-    requires built { IsTrue (is_built_service call.now.service) }
+    requires rooms { AreFull rooms.old }
     requires kinds { IsTrue (is_call call.now) }
     requires room { Fits core.old (service core.old.state p call.now).effects }
     ensures { Does (service core.old.state p call.now) result core.old core.new }
@@ -497,16 +520,17 @@ pub(crate) fn serve<R: Routine>(
         Service::Resume => resume_named(core, p, n),
         Service::ForceX => Served::Answered(forcex(core, p, n, number(&args.a1))),
         Service::CrePrc => create_named(core, p, args),
+        Service::DelPrc => Served::Answered(delprc(core, p, n)),
         Service::Exit => Served::Answered(exit(core, p, n)),
         Service::DclExh => declare_handler(core, p, args),
         Service::CanExh => cancel_handlers(core, p, args),
         Service::Assign => assign_named(core, p, args),
         Service::Dassgn => Served::Answered(dassgn(core, p, n)),
-        Service::Qio => ask(core, p, args, spare),
-        Service::QioW => ask_and_wait(core, p, args, spare),
+        Service::CreMbx => create_box_named(core, p, args),
+        Service::DelMbx => Served::Answered(delmbx(core, p, n)),
+        Service::Qio => ask(core, p, args, rooms),
+        Service::QioW => ask_and_wait(core, p, args, rooms),
         Service::Synch => synch(core, p, n, number(&args.a1)),
         Service::Cancel => Served::Answered(cancel(core, p, n)),
-        // these are not built yet
-        Service::DelPrc | Service::CreMbx | Service::DelMbx => unreachable!(),
     }
 }

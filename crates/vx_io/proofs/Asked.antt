@@ -1,23 +1,26 @@
--- What the tests of a request come to, where the channel is to a unit.
-use Rattle.std.proofs.Common.{◌≡◌, ℕ, zero, suc, ◌-◌, ◌≤◌, arith, List, Bool, true, false, nat_lt, replicate, if◌then◌else◌, Option, Some, None, Result, Ok, Err, is_none, is_some, option_map, slice_index_or, refl, ap, subst, ◌∙◌}
-use Rattle.std.specs.List.{AllByRecursion}
+-- What the tests of a request come to.
+use Rattle.std.proofs.Common.{◌≡◌, ℕ, ◌+◌, ◌-◌, ◌<◌, ◌≤◌, arith, List, [], ◌∷◌, Bool, true, false, cond, not, ◌&&◌, ◌||◌, nat_le, nat_lt, if◌then◌else◌, Option, Some, None, Result, Ok, Err, IfOk, is_none, is_some, option_map, refl, ap, subst, sym, ◌∙◌}
+use Rattle.std.specs.List.{AllByRecursion, find, list_any}
 use Rattle.vx_base.specs.Channels.{channel_at, is_channel_number}
 use Rattle.vx_base.specs.Modes.{is_inner}
-use Rattle.vx_base.specs.Pieces.{Channel, Mailbox}
+use Rattle.vx_base.specs.Pieces.{Channel, Request}
+use Rattle.vx_base.specs.Queues.{stored_bytes}
 use Rattle.vx_base.specs.declared.cond.Cond.{Cond}
 use Rattle.vx_base.specs.declared.cond.Cond.TheVariants.{BadParam, IllEfc, IvChan, NoPriv}
 use Rattle.vx_base.specs.declared.effects.Cell.{Cell}
 use Rattle.vx_base.specs.declared.mode.Mode.{Mode}
 use Rattle.vx_base.specs.declared.number.BoxNo.{BoxNo}
+use Rattle.vx_base.specs.declared.number.Id.{Id}
 use Rattle.vx_base.specs.declared.number.Pid.{Pid}
 use Rattle.vx_base.specs.declared.request.Device.{Device}
-use Rattle.vx_base.specs.declared.request.Device.TheVariants as device
 use Rattle.vx_record.specs.Channels.{channel_test, usable_in}
 use Rattle.vx_record.specs.Flags.{cell}
 use Rattle.vx_record.specs.Requests.{Asked, device_test, is_bad, on_cell, on_channel, request_test}
-use Rattle.vx_record.specs.Sound.{BoxStands, ChannelStands, DeviceStands, Ground, ground}
+use Rattle.vx_record.specs.Mailboxes.{mailbox_at, waits_at}
+use Rattle.vx_record.specs.Sound.{ChannelStands, DeviceStands, Ground, ground}
 use Rattle.vx_record.specs.State.{State, current, process_at}
-use Rattle.std.proofs.lemmas.Bool.{ltb-true}
+use Rattle.std.proofs.lemmas.Bool.{leb-false, leb-true, lt-ltb, ltb-true}
+use Rattle.vx_procs.specs.Channels.{channel_of}
 use Rattle.vx_record.proofs.Lists.{all_get, false_from}
 
 pub mapped_some : {A B : Type 0} (f : A → B) (o : Option A) → is_some (option_map f o) ≡ is_some o
@@ -38,28 +41,46 @@ usable_stands g mode (Some c) ch h e = by_mode (is_inner c.mode mode) e
     by_mode true e = absurd (cc)
     by_mode false e = subst (λ (x : Channel). DeviceStands g x.device) (let same : c ≡ ch = cc in same) h
 
-channel_stands : (s : State) (p : Pid) (n : ℕ) (ch : Channel) → AllByRecursion (ChannelStands (ground s)) (process_at s p).channels → channel_test s p n ≡ Ok ch → DeviceStands (ground s) ch.device
+pub channel_stands : (s : State) (p : Pid) (n : ℕ) (ch : Channel) → AllByRecursion (ChannelStands (ground s)) (process_at s p).channels → channel_test s p n ≡ Ok ch → DeviceStands (ground s) ch.device
 channel_stands s p n ch h e = by_number (is_channel_number n) e
   where
     by_number : (b : Bool) → (if b then usable_in (current s p) (channel_at (process_at s p).channels n) else Err IvChan) ≡ Ok ch → DeviceStands (ground s) ch.device
     by_number true e = usable_stands (ground s) (current s p) (channel_at (process_at s p).channels n) ch (all_get (ChannelStands (ground s)) (process_at s p).channels (n - 1) None tt h) e
     by_number false e = absurd (cc)
 
--- No mailbox stands.
+pub device_there : (s : State) (p : Pid) (n : ℕ) (r : Result (Device × Mode) Cond) → AllByRecursion (ChannelStands (ground s)) (process_at s p).channels → channel_test s p n ≡ channel_of r → IfOk r (λ found. DeviceStands (ground s) found.0)
+device_there s p n (Ok found) h e = channel_stands s p n (record { device = found.0; mode = found.1 }) h e
+device_there s p n (Err c) h e = tt
 
-none_in : (n i : ℕ) → is_some (slice_index_or (let xs : List (Option Mailbox) = replicate n None in xs) i None) ≡ false
-none_in zero i = refl
-none_in (suc n) zero = refl
-none_in (suc n) (suc i) = none_in n i
+-- Reads that wait, and room for bytes.
 
-pub no_box_stands : (s : State) (b : BoxNo) → s.boxes ≡ replicate 64 None → BoxStands (ground s) b → ⊥
-no_box_stands s b none stands =
-    let e : is_some (slice_index_or s.boxes b.0 None) ≡ false = ap (λ (xs : List (Option Mailbox)). is_some (slice_index_or xs b.0 None)) none ∙ none_in 64 b.0 in
-    absurd (cc)
+pub none_waits : {A B : Type 0} (f : A → B) (p : A → Bool) (xs : List A) → is_none (option_map f (find p xs)) ≡ not (list_any p xs)
+none_waits f p [] = refl
+none_waits f p (x ∷ xs) = elim (p x) as (λ b. is_none (option_map f (cond b (Some x) (find p xs))) ≡ not (b || list_any p xs)) [
+  | true ↦ refl
+  | false ↦ none_waits f p xs
+]
 
-pub no_box_channel : (s : State) (p : Pid) (n : ℕ) (d : Device) (mode : Mode) (b : BoxNo) → s.boxes ≡ replicate 64 None → AllByRecursion (ChannelStands (ground s)) (process_at s p).channels → channel_test s p n ≡ Ok (record { device = d; mode = mode }) → d ≡ device.Mailbox b → ⊥
-no_box_channel s p n d mode b none h e is =
-    no_box_stands s b none (subst (λ (x : Device). DeviceStands (ground s) x) is (channel_stands s p n (record { device = d; mode = mode }) h e))
+pub some_waits : {A B : Type 0} (f : A → B) (p : A → Bool) (xs : List A) → is_some (option_map f (find p xs)) ≡ list_any p xs
+some_waits f p [] = refl
+some_waits f p (x ∷ xs) = elim (p x) as (λ b. is_some (option_map f (cond b (Some x) (find p xs))) ≡ (b || list_any p xs)) [
+  | true ↦ refl
+  | false ↦ some_waits f p xs
+]
+
+pub not_within : (a b : ℕ) → not (nat_le a b) ≡ nat_lt b a
+not_within a b =
+    elim (nat_le a b) as (λ x. nat_le a b ≡ x → not x ≡ nat_lt b a) [
+      | true ↦ λ within. let e = leb-true a b within in sym (false_from (nat_lt b a) (λ above. let f = ltb-true b a above in omega (arith, e, f)))
+      | false ↦ λ beyond. let e = leb-false a b beyond in sym (lt-ltb b a (omega (arith, e)))
+    ] refl
+
+-- what the tests of a mailbox's room come to
+pub full_as : (b : BoxNo) (s : State) (o : Option Id) (fits : Bool) (len : ℕ) → o ≡ option_map (λ r. r.req.id) (find (waits_at b) s.requests) → fits ≡ nat_le (stored_bytes (mailbox_at s b).messages + len) (mailbox_at s b).bufquo → (is_none o && not fits) ≡ (not (list_any (waits_at b) s.requests) && nat_lt (mailbox_at s b).bufquo (stored_bytes (mailbox_at s b).messages + len))
+full_as b s o fits len found within =
+    ap (λ (x : Option Id). is_none x && not fits) found
+    ∙ (ap (λ x. x && not fits) (none_waits (λ (r : Request). r.req.id) (waits_at b) s.requests)
+    ∙ ap (λ x. not (list_any (waits_at b) s.requests) && x) (ap not within ∙ not_within (stored_bytes (mailbox_at s b).messages + len) (mailbox_at s b).bufquo))
 
 -- The tests up to the channel's passed.
 pub tested : (s : State) (p : Pid) (q : Asked) (c : Cell) (ch : Channel) → is_bad q ≡ false → q.efn ≤ 127 → cell s p q.efn ≡ Some c → channel_test s p q.chan ≡ Ok ch → request_test s p q ≡ device_test s p q c ch

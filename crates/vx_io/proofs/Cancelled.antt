@@ -1,29 +1,28 @@
 -- The requests of a channel, cancelled one after another.
-use Rattle.std.proofs.Common.{◌≡◌, ◌<◌, ℕ, List, [], ◌∷◌, ◌++◌, Bool, true, false, cond, not, ◌&&◌, length, Option, Some, None, IfSome, option_map, refl, ap, sym, subst, ◌∙◌, arith}
-use Rattle.std.specs.List.{filter, find}
+use Rattle.std.proofs.Common.{◌≡◌, ◌<◌, ℕ, List, [], ◌∷◌, ◌++◌, Bool, true, false, cond, not, ◌&&◌, length, Option, Some, None, option_map, refl, ap, sym, subst, ◌∙◌, arith}
+use Rattle.std.specs.List.{AllByRecursion, filter, find}
 use Rattle.std.proofs.lemmas.Bool.{and_parts}
-use Rattle.std.proofs.lemmas.List.{append-nil}
 use Rattle.vx_base.specs.Lists.{amend, less}
-use Rattle.vx_base.specs.Pieces.{Attention, Request}
+use Rattle.vx_base.specs.Pieces.{Request}
 use Rattle.vx_base.specs.declared.cond.Cond.TheVariants.{Cancel}
-use Rattle.vx_base.specs.declared.effects.Effect.{Effect}
 use Rattle.vx_base.specs.declared.number.Id.{Id}
 use Rattle.vx_base.specs.declared.number.Pid.{Pid}
 use Rattle.vx_record.specs.State.{State}
-use Rattle.vx_record.specs.Cancel.{cancel_channel, cancel_request, cancelled_request, drop_attention, drop_attentions, is_attention_on, is_request_on, mark_part, with_abort, withdraw}
+use Rattle.vx_record.specs.Cancel.{cancel_request, cancelled_request, is_request_on, mark_part, with_abort, withdraw}
 use Rattle.vx_record.specs.Finish.{ending, this_request}
 use Rattle.vx_record.specs.Parts.{Part, and_then, each, nothing, part_if}
-use Rattle.vx_record.specs.Sound.{AreOrdered, request_id}
+use Rattle.vx_record.specs.Sound.{AreOrdered, DeviceStands, ground, request_id}
 use Rattle.vx_record.proofs.Cancelled.{finish_requests, withdraw_requests}
-use Rattle.vx_record.proofs.Lists.{either, either_by, find_passes, not_fails, not_holds, ordered_amend, ordered_less}
+use Rattle.vx_record.proofs.Lists.{all_amend, all_find, all_less, all_weaker, either, either_by, find_passes, not_fails, not_holds, ordered_amend}
 use Rattle.vx_reqs.specs.Requests.{is_to_cancel}
 use Rattle.vx_procs.specs.Kernel.{Acts, Fits, Kernel}
-use Rattle.vx_procs.specs.Requests.{IsOwnRequest}
 use Rattle.vx_procs.proofs.Ended.{found_id, found_none}
 use Rattle.vx_procs.proofs.Firsts.{amend_like, filter_found, filter_none, find_same, less_same}
 use Rattle.vx_procs.proofs.Rest.{IsDoing, acted, doing_begun, doing_end, doing_on, doing_room}
-use Rattle.vx_io.specs.Cancelling.{IsToCancel, cancel_found}
-use Rattle.vx_io.proofs.Kept.{IsKept, request_kept, requests_kept}
+use Rattle.vx_io.specs.Cancelling.{AreCancellable, IsToCancel, cancel_found, cancel_requests}
+use Rattle.vx_io.specs.Steady.{AreSteady, IsFit}
+use Rattle.vx_io.proofs.Kept.{device_kept, finish_kept, kept_then, request_kept, withdrawn_kept}
+use Rattle.vx_io.proofs.Steady.{steady_in, steady_less}
 
 -- what is still to be done on a channel
 abbrev pub cancel_rest : Pid → ℕ → State → Part
@@ -34,18 +33,35 @@ cancel_rest p chan s = each cancel_request (filter (is_to_cancel p chan) s.reque
 cancelled_requests : (s : State) (r : Request) → (cancelled_request s r).after.requests ≡ less (this_request r.req.id) s.requests
 cancelled_requests s r = finish_requests (withdraw s r r.req.device).after r (ending Cancel 0 0 []) ∙ ap (less (this_request r.req.id)) (withdraw_requests s r r.req.device)
 
-request_order : (s : State) (r : Request) → AreOrdered request_id 0 s.next s.requests → AreOrdered request_id 0 (cancel_request s r).after.next (cancel_request s r).after.requests
-request_order s r order =
-    let P = λ (x : Part). AreOrdered request_id 0 s.next x.after.requests in
-    let here : AreOrdered request_id 0 s.next (cancel_request s r).after.requests =
-    either P r.served _ (cancelled_request s r)
-    (either P (not r.marked) (mark_part s r) (nothing s) (ordered_amend request_id (this_request r.req.id) with_abort (λ x. refl) 0 s.next s.requests order) order)
-    (subst (AreOrdered request_id 0 s.next) (sym (cancelled_requests s r)) (ordered_less request_id (this_request r.req.id) 0 s.next s.requests order)) in
-    subst (λ (n : ℕ). AreOrdered request_id 0 n (cancel_request s r).after.requests) (sym (request_kept s r).next) here
+-- what is done can go on
 
-requests_order : (rs : List Request) (s : State) → AreOrdered request_id 0 s.next s.requests → AreOrdered request_id 0 (each cancel_request rs s).after.next (each cancel_request rs s).after.requests
-requests_order [] s order = order
-requests_order (r ∷ rs) s order = requests_order rs (cancel_request s r).after (request_order s r order)
+mark_steady : (s : State) (id : Id) → AreSteady s → AreSteady (record s { requests = amend (this_request id) with_abort s.requests })
+mark_steady s id h = record {
+  fit = all_amend (λ r. IsFit (length s.procs) r.req) (this_request id) with_abort (λ x k. k) s.requests h.fit;
+  order = ordered_amend request_id (this_request id) with_abort (λ x. refl) 0 s.next s.requests h.order;
+  entries = h.entries;
+}
+
+request_steady : (s : State) (r : Request) → AreSteady s → AreSteady (cancel_request s r).after
+request_steady s r h =
+    let P = λ (x : Part). AreSteady x.after in
+    let kept = kept_then s (withdraw s r r.req.device).after (cancelled_request s r).after (withdrawn_kept s r r.req.device) (finish_kept (withdraw s r r.req.device).after r (ending Cancel 0 0 [])) in
+    either P r.served _ (cancelled_request s r)
+    (either P (not r.marked) (mark_part s r) (nothing s) (mark_steady s r.req.id h) h)
+    (steady_in (cancelled_request s r).after (length s.procs) s.next (less (this_request r.req.id) s.requests) s.attention kept.many kept.next (cancelled_requests s r) kept.attention (steady_less s (this_request r.req.id) h))
+
+abbrev IsOnDevice : State → Request → Type 0
+IsOnDevice s r = DeviceStands (ground s) r.req.device
+
+request_devices : (s : State) (r : Request) → AllByRecursion (IsOnDevice s) s.requests → AllByRecursion (IsOnDevice (cancel_request s r).after) (cancel_request s r).after.requests
+request_devices s r h =
+    let t = (cancel_request s r).after in
+    let Q : Request → Type 0 = IsOnDevice t in
+    let P = λ (x : Part). AllByRecursion Q x.after.requests in
+    let still = all_weaker (IsOnDevice s) Q (λ x k. device_kept s t x.req.device (request_kept s r) k) s.requests h in
+    either P r.served _ (cancelled_request s r)
+    (either P (not r.marked) (mark_part s r) (nothing s) (all_amend Q (this_request r.req.id) with_abort (λ x k. k) s.requests still) still)
+    (subst (AllByRecursion Q) (sym (cancelled_requests s r)) (all_less Q (this_request r.req.id) s.requests still))
 
 -- A request that was marked has nothing done to it, so those that are still to be cancelled are all.
 
@@ -68,29 +84,6 @@ all_to_cancel p chan (r ∷ rs) s =
           (λ done. ap (λ (x : Part). and_then x (each cancel_request on)) (spent s r (not_fails (r.served && r.marked) done)) ∙ all_to_cancel p chan rs s)
       | false ↦ all_to_cancel p chan rs s
     ]
-
-none_dropped : (s : State) (p : Pid) (chan : ℕ) → s.attention ≡ [] → drop_attentions s p chan ≡ nothing s
-none_dropped s p chan none = ap (λ (xs : List Attention). each drop_attention (filter (is_attention_on p chan) xs) s) none
-
--- a part that leaves another state, and tells no more
-pub then_quietly : (a : Part) (f : State → Part) (t : State) → f a.after ≡ nothing t → and_then a f ≡ record { effects = a.effects; after = t }
-then_quietly a f t e =
-    let joined : Part → Part = λ b. record { effects = a.effects ++ b.effects; after = b.after } in
-    let told : List Effect → Part = λ xs. record { effects = xs; after = t } in
-    ap joined e ∙ ap told (append-nil a.effects)
-
-pub channel_rest : (p : Pid) (chan : ℕ) (s : State) → s.attention ≡ [] → cancel_channel s p chan ≡ cancel_rest p chan s
-channel_rest p chan s none =
-    let on = filter (is_request_on p chan) s.requests in
-    let a = each cancel_request on s in
-    then_quietly a (λ t. drop_attentions t p chan) a.after (none_dropped a.after p chan ((requests_kept s on).attention ∙ none)) ∙ all_to_cancel p chan s.requests s
-
-pub channel_kept : (p : Pid) (chan : ℕ) (s : State) → s.attention ≡ [] → IsKept s (cancel_channel s p chan).after
-channel_kept p chan s none = subst (λ (x : Part). IsKept s x.after) (sym (channel_rest p chan s none)) (requests_kept s (filter (is_to_cancel p chan) s.requests))
-
-pub channel_order : (p : Pid) (chan : ℕ) (s : State) → s.attention ≡ [] → AreOrdered request_id 0 s.next s.requests → AreOrdered request_id 0 (cancel_channel s p chan).after.next (cancel_channel s p chan).after.requests
-channel_order p chan s none order =
-    subst (λ (x : Part). AreOrdered request_id 0 x.after.next x.after.requests) (sym (channel_rest p chan s none)) (requests_order (filter (is_to_cancel p chan) s.requests) s order)
 
 -- The first of them, and then the rest.
 
@@ -151,8 +144,8 @@ rest_first p chan s r order found =
 
 -- The loop.
 pub record IsCancelling (p : Pid) (chan : ℕ) (first k : Kernel) : Type 0 where
-  pub order : AreOrdered request_id 0 k.state.next k.state.requests
-  pub doing : IsDoing (cancel_channel first.state p chan) first (cancel_rest p chan k.state) k
+  pub going : AreCancellable k.state
+  pub doing : IsDoing (cancel_requests p chan first.state) first (cancel_rest p chan k.state) k
 
 -- the first request that is still to be cancelled, by its id
 record IsNext (p : Pid) (chan : ℕ) (s : State) (id : Id) : Type 0 where
@@ -169,29 +162,26 @@ next_found p chan s id order given =
       by_id = ap (λ (i : Id). find (this_request i) s.requests) (sym found.1.1) ∙ find_same request_id (is_to_cancel p chan) 0 s.next s.requests found.0 order found.1.0;
     }
 
-pub cancelling_begun : (p : Pid) (chan : ℕ) (k : Kernel) → AreOrdered request_id 0 k.state.next k.state.requests → k.state.attention ≡ [] → Fits k (cancel_channel k.state p chan).effects → IsCancelling p chan k k
-cancelling_begun p chan k order none room =
-    let whole = cancel_channel k.state p chan in
-    record { order = order; doing = subst (λ (x : Part). IsDoing whole k x k) (channel_rest p chan k.state none) (doing_begun whole k room) }
+pub cancelling_begun : (p : Pid) (chan : ℕ) (k : Kernel) → AreCancellable k.state → Fits k (cancel_requests p chan k.state).effects → IsCancelling p chan k k
+cancelling_begun p chan k going room =
+    let whole = cancel_requests p chan k.state in
+    record { going = going; doing = subst (λ (x : Part). IsDoing whole k x k) (all_to_cancel p chan k.state.requests k.state) (doing_begun whole k room) }
 
-some_own : (s : State) (o : Option Request) (r : Request) → o ≡ Some r → IfSome o (λ x. IsOwnRequest s x.req) → IsOwnRequest s r.req
-some_own s None r e own = absurd (cc)
-some_own s (Some x) r e own = let same : x ≡ r = cc in subst (λ (y : Request). IsOwnRequest s y.req) same own
-
-pub cancelling_next : (p : Pid) (chan : ℕ) (first k : Kernel) (id : Id) → IsCancelling p chan first k → Some id ≡ option_map (λ r. r.req.id) (find (is_to_cancel p chan) k.state.requests) → IfSome (find (is_to_cancel p chan) k.state.requests) (λ r. IsOwnRequest k.state r.req) → IsToCancel k.state id
-cancelling_next p chan first k id h given own =
-    let x = next_found p chan k.state id h.order given in
+pub cancelling_next : (p : Pid) (chan : ℕ) (first k : Kernel) (id : Id) → IsCancelling p chan first k → Some id ≡ option_map (λ r. r.req.id) (find (is_to_cancel p chan) k.state.requests) → IsToCancel k.state id
+cancelling_next p chan first k id h given =
+    let x = next_found p chan k.state id h.going.steady.order given in
     record {
       r = x.r;
       found = x.by_id;
-      own = some_own k.state (find (is_to_cancel p chan) k.state.requests) x.r x.found own;
+      device = all_find (IsOnDevice k.state) (is_to_cancel p chan) k.state.requests x.r h.going.devices x.found;
+      steady = h.going.steady;
       going = is_going p chan x.r (find_passes (is_to_cancel p chan) k.state.requests x.r x.found);
     }
 
 pub cancelling_room : (p : Pid) (chan : ℕ) (first k : Kernel) (id : Id) → IsCancelling p chan first k → Some id ≡ option_map (λ r. r.req.id) (find (is_to_cancel p chan) k.state.requests) → Fits k (cancel_found k.state (find (this_request id) k.state.requests)).effects
 cancelling_room p chan first k id h given =
-    let x = next_found p chan k.state id h.order given in
-    let room = doing_room (cancel_channel first.state p chan) first k (cancel_rest p chan k.state) (cancel_request k.state x.r) (cancel_rest p chan) (rest_first p chan k.state x.r h.order x.found) h.doing in
+    let x = next_found p chan k.state id h.going.steady.order given in
+    let room = doing_room (cancel_requests p chan first.state) first k (cancel_rest p chan k.state) (cancel_request k.state x.r) (cancel_rest p chan) (rest_first p chan k.state x.r h.going.steady.order x.found) h.doing in
     subst (λ (o : Option Request). Fits k (cancel_found k.state o).effects) (sym x.by_id) room
 
 next_done : (p : Pid) (chan : ℕ) (k l : Kernel) (id : Id) (x : IsNext p chan k.state id) → Acts (cancel_found k.state (find (this_request id) k.state.requests)) k l → l ≡ acted k (cancel_request k.state x.r)
@@ -200,24 +190,25 @@ next_done p chan k l id x did = did ∙ ap (λ (o : Option Request). acted k (ca
 pub cancelling_on : (p : Pid) (chan : ℕ) (first k l : Kernel) (id : Id) → IsCancelling p chan first k → Some id ≡ option_map (λ r. r.req.id) (find (is_to_cancel p chan) k.state.requests) → Acts (cancel_found k.state (find (this_request id) k.state.requests)) k l → IsCancelling p chan first l
 cancelling_on p chan first k l id h given did =
     let s = k.state in
-    let x = next_found p chan s id h.order given in
+    let x = next_found p chan s id h.going.steady.order given in
     let there = next_done p chan k l id x did in
+    let going : AreCancellable (cancel_request s x.r).after = record { devices = request_devices s x.r h.going.devices; steady = request_steady s x.r h.going.steady } in
     record {
-      order = subst (λ (y : Kernel). AreOrdered request_id 0 y.state.next y.state.requests) (sym there) (request_order s x.r h.order);
-      doing = doing_on (cancel_channel first.state p chan) first k l (cancel_rest p chan s) (cancel_request s x.r) (cancel_rest p chan) (rest_first p chan s x.r h.order x.found) there h.doing;
+      going = subst (λ (y : Kernel). AreCancellable y.state) (sym there) going;
+      doing = doing_on (cancel_requests p chan first.state) first k l (cancel_rest p chan s) (cancel_request s x.r) (cancel_rest p chan) (rest_first p chan s x.r h.going.steady.order x.found) there h.doing;
     }
 
 pub cancelling_fewer : (p : Pid) (chan : ℕ) (first k l : Kernel) (id : Id) → IsCancelling p chan first k → Some id ≡ option_map (λ r. r.req.id) (find (is_to_cancel p chan) k.state.requests) → Acts (cancel_found k.state (find (this_request id) k.state.requests)) k l → length (filter (is_to_cancel p chan) l.state.requests) < length (filter (is_to_cancel p chan) k.state.requests)
 cancelling_fewer p chan first k l id h given did =
     let s = k.state in
-    let x = next_found p chan s id h.order given in
+    let x = next_found p chan s id h.going.steady.order given in
     let there = next_done p chan k l id x did in
     let left : filter (is_to_cancel p chan) l.state.requests ≡ filter (is_to_cancel p chan) (less (is_to_cancel p chan) s.requests) =
-    ap (λ (y : Kernel). filter (is_to_cancel p chan) y.state.requests) there ∙ left_after p chan s x.r h.order x.found in
+    ap (λ (y : Kernel). filter (is_to_cancel p chan) y.state.requests) there ∙ left_after p chan s x.r h.going.steady.order x.found in
     let all = filter_found (is_to_cancel p chan) s.requests x.r x.found in
     omega (arith, ap (λ (rs : List Request). length rs) left, ap (λ (rs : List Request). length rs) all)
 
-pub cancelling_end : (p : Pid) (chan : ℕ) (first k : Kernel) → IsCancelling p chan first k → None ≡ option_map (λ r. r.req.id) (find (is_to_cancel p chan) k.state.requests) → Acts (cancel_channel first.state p chan) first k
+pub cancelling_end : (p : Pid) (chan : ℕ) (first k : Kernel) → IsCancelling p chan first k → None ≡ option_map (λ r. r.req.id) (find (is_to_cancel p chan) k.state.requests) → Acts (cancel_requests p chan first.state) first k
 cancelling_end p chan first k h given =
     let none = found_none (λ (r : Request). r.req.id) (find (is_to_cancel p chan) k.state.requests) given in
-    doing_end (cancel_channel first.state p chan) first k k (cancel_rest p chan k.state) (ap (λ xs. each cancel_request xs k.state) (filter_none (is_to_cancel p chan) k.state.requests none)) refl h.doing
+    doing_end (cancel_requests p chan first.state) first k k (cancel_rest p chan k.state) (ap (λ xs. each cancel_request xs k.state) (filter_none (is_to_cancel p chan) k.state.requests none)) refl h.doing

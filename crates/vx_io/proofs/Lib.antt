@@ -1,10 +1,17 @@
 pub mod Asked
 pub mod Cancelled
 pub mod Ended
+pub mod Finished
+pub mod Firing
 pub mod Freed
 pub mod Kept
+pub mod Many
+pub mod BoxNamed
 pub mod OneCancelled
 pub mod Opening
 pub mod Parted
+pub mod Passing
 pub mod QueuedFirst
 pub mod Replies
+pub mod Setting
+pub mod Steady

@@ -10,11 +10,13 @@ use Rattle.vx_record.specs.Finish.{Ending, buf_part, done_flag_part, iosb_part, 
 use Rattle.vx_record.specs.Sound.{AreOrdered, RequestStands, ground, request_id}
 use Rattle.vx_procs.specs.declared.requests.Finished.{Finished}
 
+-- how it ended is told, and what it read and its status are stored
+abbrev pub storing : Req → Ending → State → Part
+storing r e s = and_then (and_then (tells (effect.Fin r.id e.0.cond) s) (λ a. buf_part a r e)) (λ b. iosb_part b r.p r.iosb (status_of e))
+
 -- the effects of its end, with what is stored: its condition, the bytes that were read, its status block, its event flag, its AST
 abbrev pub finishing : Finished → Ending → State → Part
-finishing d e s =
-    and_then (and_then (and_then (and_then (tells (effect.Fin d.req.id e.0.cond) s) (λ a. buf_part a d.req e)) (λ b. iosb_part b d.req.p d.req.iosb (status_of e))) (λ c. done_flag_part c d.req))
-    (λ a. part_if d.queued (tells (effect.Que d.req.id) a) a)
+finishing d e s = and_then (and_then (storing d.req e s) (λ c. done_flag_part c d.req)) (λ a. part_if d.queued (tells (effect.Que d.req.id) a) a)
 
 -- The process is there; the status block and the buffer are those that it has; and the bytes fit into the buffer.
 pub record IsEnding (s : State) (req : Req) (reply : Reply) : Type 0 where

@@ -1,18 +1,19 @@
 //! What a request asks ($QIO), and its tests, in their order.
 
-ghost use Rattle.std.specs.Prelude.{◌≡◌, ◌<◌, false, replicate, None, IfOk, is_some, length, option_map};
+ghost use Rattle.std.specs.Prelude.{◌≡◌, false, true, IfOk, None, is_some, option_map};
 ghost use Rattle.std.specs.List.{AllByRecursion};
-ghost use Rattle.vx_base.specs.declared.request.Device.TheVariants.{Unit};
 ghost use Rattle.vx_record.specs.State.{IsProcess, process_at};
 ghost use Rattle.vx_record.specs.Channels.{channel_test};
-ghost use Rattle.vx_record.specs.Charges.{exceeds, request_need};
-ghost use Rattle.vx_record.specs.Requests.{device_test, has_function, is_bad, request_test};
+ghost use Rattle.vx_record.specs.Charges.{exceeds, is_attention, request_need};
+ghost use Rattle.vx_record.specs.Finish.{is_write};
+ghost use Rattle.vx_record.specs.Requests.{device_test, has_function, is_bad, is_full, is_too_long, request_test};
 ghost use Rattle.vx_procs.specs.Cells.{IsCell};
-ghost use Rattle.vx_record.specs.Sound.{ChannelStands, ground};
+ghost use Rattle.vx_procs.specs.Channels.{channel_of};
+ghost use Rattle.vx_record.specs.Sound.{ChannelStands, DeviceStands, ground};
 ghost use Rattle.vx_procs.specs.Ready.{IsReady};
-ghost use Rattle.vx_io.specs.Asking.{AreOpen, IsGranted, IsInRange, asked, granted, to_unit, unit_channel};
+ghost use Rattle.vx_io.specs.Asking.{AreOpen, IsGranted, IsInRange, asked, granted, to_device};
 
-use vx_base::{Cell, Cond, Device, Func, Mode, Pid, Routine, UnitNo};
+use vx_base::{Cell, Cond, Device, Func, Mode, Pid, Routine};
 use vx_ctl::LAST_FLAG;
 use vx_procs::{Core, is_attention};
 
@@ -29,11 +30,11 @@ pub struct Asking {
     pub blk: u32,
 }
 
-/// Where a request goes that passed its tests: its event flag, and the unit and the mode of its channel.
+/// Where a request goes that passed its tests: its event flag, and the device and the mode of its channel.
 #[derive(Clone, Copy, Debug)]
 pub(crate) struct Granted {
     pub cell: Cell,
-    pub unit: UnitNo,
+    pub device: Device,
     pub mode: Mode,
 }
 
@@ -42,6 +43,7 @@ pub(crate) struct Granted {
 fn is_bad<R: Routine>(ask: &Asking, ast: &Option<R>) -> bool
     ensures bad { result ≡ is_bad (asked ask.now (option_map R.tagged ast.now)) }
     ensures range { result ≡ false → IsInRange ask.now }
+    ensures ast { result ≡ false → is_attention ask.now.func ≡ true → is_some (option_map R.tagged ast.now) ≡ true }
 {
     if ask.iosb > 32 {
         return true;
@@ -55,14 +57,53 @@ fn is_bad<R: Routine>(ask: &Asking, ast: &Option<R>) -> bool
     is_attention(ask.func) && ast.is_none()
 }
 
-// Whether a unit has a function: it reads and writes.
-fn has_function(unit: UnitNo, func: Func) -> bool
-    ensures { result ≡ has_function (Unit unit) func }
+// Whether a device has a function: a unit reads and writes, and a mailbox does all.
+fn has_function(device: Device, func: Func) -> bool
+    ensures { result ≡ has_function device func }
+{
+    match device {
+        Device::Unit(_) => match func {
+            Func::Read => true,
+            Func::Write => true,
+            _ => false,
+        },
+        Device::Mailbox(_) => true,
+    }
+}
+
+/// Whether a request writes.
+pub(crate) fn is_write(func: Func) -> bool
+    ensures { result ≡ is_write func }
 {
     match func {
-        Func::Read => true,
         Func::Write => true,
+        Func::WriteNow => true,
         _ => false,
+    }
+}
+
+// Whether a request writes more than its mailbox takes.
+fn is_too_long<R: Routine>(core: &Core<R>, device: Device, ask: &Asking) -> bool
+    requires { DeviceStands (ground core.now.state) device }
+    ensures { result ≡ is_too_long core.now.state device (asked ask.now None) }
+{
+    match device {
+        Device::Unit(_) => false,
+        Device::Mailbox(b) => is_write(ask.func) && core.maxmsg(b) < ask.len,
+    }
+}
+
+// Whether no read waits for what a request writes, and its mailbox has no room for it.
+#[tactic(auto, using(crate::proofs::Asked::none_waits, crate::proofs::Asked::not_within))]
+fn is_full<R: Routine>(core: &Core<R>, device: Device, ask: &Asking) -> bool
+    requires { DeviceStands (ground core.now.state) device }
+    ensures { result ≡ is_full core.now.state device (asked ask.now None) }
+{
+    match device {
+        Device::Unit(_) => false,
+        Device::Mailbox(b) => {
+            is_write(ask.func) && core.first_read(b).is_none() && !core.box_fits(b, ask.len)
+        }
     }
 }
 
@@ -73,19 +114,20 @@ fn is_beyond<R: Routine>(
     p: Pid,
     ask: &Asking,
     ast: &Option<R>,
-    unit: UnitNo,
+    device: Device,
 ) -> bool
     requires { IsProcess core.now.state p }
-    ensures { result ≡ exceeds core.now.state p (request_need core.now.state (Unit unit) ask.now.func (is_some (option_map R.tagged ast.now)) ask.now.len) }
+    ensures { result ≡ exceeds core.now.state p (request_need core.now.state device ask.now.func (is_some (option_map R.tagged ast.now)) ask.now.len) }
 {
     core.exceeds(
         p,
-        core.request_need(Device::Unit(unit), ask.func, ast.is_some(), ask.len),
+        core.request_need(device, ask.func, ast.is_some(), ask.len),
     )
 }
 
-// The tests of a unit: ILLIOFUNC where it has not the function, EXQUOTA beyond a limit.
-fn unit_test<R: Routine>(
+// The tests of a device: ILLIOFUNC where it has not the function, MBTOOSML and MBFULL where a mailbox cannot take a write, EXQUOTA
+// beyond a limit.
+fn device_test<R: Routine>(
     core: &Core<R>,
     p: Pid,
     ask: &Asking,
@@ -94,41 +136,44 @@ fn unit_test<R: Routine>(
 ) -> Result<Granted, Cond>
     requires made { IsProcess core.now.state p }
     requires range { IsInRange ask.now }
+    requires ast { is_attention ask.now.func ≡ true → is_some (option_map R.tagged ast.now) ≡ true }
     requires there { IsCell core.now.state to.cell }
-    requires unit { to.unit.0 < length core.now.state.units }
-    ensures test { device_test core.now.state p (asked ask.now (option_map R.tagged ast.now)) to.cell (to_unit to.unit to.mode) ≡ granted result }
+    requires device { DeviceStands (ground core.now.state) to.device }
+    ensures test { device_test core.now.state p (asked ask.now (option_map R.tagged ast.now)) to.cell (to_device to.device to.mode) ≡ granted result }
     ensures passed { IfOk result (IsGranted core.now.state p ask.now (is_some (option_map R.tagged ast.now))) }
 {
-    if !has_function(to.unit, ask.func) {
+    if !has_function(to.device, ask.func) {
         return Err(Cond::IllIoFunc);
     }
-    if is_beyond(core, p, ask, ast, to.unit) {
+    if is_too_long(core, to.device, ask) {
+        return Err(Cond::MbTooSml);
+    }
+    if is_full(core, to.device, ask) {
+        return Err(Cond::MbFull);
+    }
+    if is_beyond(core, p, ask, ast, to.device) {
         return Err(Cond::ExQuota);
     }
     Ok(to)
 }
 
-/// The unit and the mode of a channel that a process may use now. (A channel to a mailbox cannot be: none is built yet.)
-pub(crate) fn unit_channel<R: Routine>(
+/// The device and the mode of a channel that a process may use now.
+pub(crate) fn device_channel<R: Routine>(
     core: &Core<R>,
     p: Pid,
     n: u32,
-) -> Result<(UnitNo, Mode), Cond>
+) -> Result<(Device, Mode), Cond>
     requires made { IsProcess core.now.state p }
     requires channels { AllByRecursion (ChannelStands (ground core.now.state)) (process_at core.now.state p).channels }
-    requires boxes { core.now.state.boxes ≡ replicate 64 None }
-    ensures channel { channel_test core.now.state p n ≡ unit_channel result }
-    ensures unit { IfOk result (λ found. found.0.0 < length core.now.state.units) }
+    ensures channel { channel_test core.now.state p n ≡ channel_of result }
+    ensures device { IfOk result (λ found. DeviceStands (ground core.now.state) found.0) }
 {
-    match core.channel(p, n) {
-        Ok((Device::Unit(u), mode)) => Ok((u, mode)),
-        Ok((Device::Mailbox(_), _)) => unreachable!(),
-        Err(cond) => Err(cond),
-    }
+    core.channel(p, n)
 }
 
-/// The tests of a request: BADPARAM where a number is out of its range, ILLEFC above event flag 127, UNASEFC where the number names no
-/// flag, IVCHAN and NOPRIV by the channel, ILLIOFUNC where a unit has not the function, EXQUOTA beyond a limit.
+/// The tests of a request: BADPARAM where a number is out of its range or attention is asked for with no AST, ILLEFC above event flag
+/// 127, UNASEFC where the number names no flag, IVCHAN and NOPRIV by the channel, ILLIOFUNC where a unit has not the function,
+/// MBTOOSML and MBFULL where a mailbox cannot take a write, EXQUOTA beyond a limit.
 pub(crate) fn request_test<R: Routine>(
     core: &Core<R>,
     p: Pid,
@@ -149,9 +194,9 @@ pub(crate) fn request_test<R: Routine>(
     let Some(cell) = core.cell(p, ask.efn) else {
         return Err(Cond::UnasEfc);
     };
-    let (unit, mode) = match unit_channel(core, p, ask.chan) {
+    let (device, mode) = match device_channel(core, p, ask.chan) {
         Ok(found) => found,
         Err(cond) => return Err(cond),
     };
-    unit_test(core, p, ask, ast, Granted { cell, unit, mode })
+    device_test(core, p, ask, ast, Granted { cell, device, mode })
 }

@@ -7,27 +7,31 @@ ghost use Rattle.vx_procs.specs.Kernel.{Does, DoesQuietly, Fits};
 ghost use Rattle.vx_procs.specs.Ready.{IsReady};
 ghost use Rattle.vx_ctl.specs.Answers.{cond_of};
 ghost use Rattle.vx_io.specs.Asking.{AreOpen, asked, served_of};
+ghost use Rattle.vx_io.specs.Rooms.{AreFull};
 
 use crate::accept::accept;
 use crate::asking::{Asking, request_test};
-use vx_base::{Buffer, Cond, Pid, Routine, Wait};
+use crate::rooms::Rooms;
+use vx_base::{Cond, Pid, Routine, Wait};
 use vx_ctl::{LAST_FLAG, Refused, awaited};
 use vx_procs::Core;
 use vx_record::Served;
 
-/// $QIO: asks the unit of a channel to read or to write, with an AST or without. Its event flag and its status block are cleared, a
-/// write's bytes are taken now, into the room that is given for them, and the request waits for its unit. BADPARAM, ILLEFC, UNASEFC,
-/// IVCHAN, NOPRIV, ILLIOFUNC and EXQUOTA, in this order. A refusal hands the routine back.
+/// $QIO: asks the device of a channel to read or to write, a mailbox for attention too, with an AST or without. Its event flag and its
+/// status block are cleared, and a write's bytes are taken now. A request to a unit waits for it; a mailbox does its part at once.
+/// BADPARAM, ILLEFC, UNASEFC, IVCHAN, NOPRIV, ILLIOFUNC, MBTOOSML, MBFULL and EXQUOTA, in this order. A refusal hands the routine back.
+/// Takes no memory, and of the rooms what it uses.
 #[tactic(auto, using(crate::proofs::Parted::told_none))]
 pub fn qio<R: Routine>(
     core: &mut Core<R>,
     p: Pid,
     ask: Asking,
     ast: Option<R>,
-    room: Buffer,
+    rooms: &mut Rooms,
 ) -> Result<Cond, Refused<R>>
     requires ready { IsReady core.old p }
     requires open { AreOpen core.old.state p }
+    requires rooms { AreFull rooms.old }
     requires room { Fits core.old (qio core.old.state p (asked ask (option_map R.tagged ast))).effects }
     ensures does { Does (qio core.old.state p (asked ask (option_map R.tagged ast))) (cond_of result) core.old core.new }
     ensures handed { IfErr result (λ refused. refused.ast ≡ ast) }
@@ -36,7 +40,7 @@ pub fn qio<R: Routine>(
         Ok(to) => to,
         Err(cond) => return Err(Refused { cond, ast }),
     };
-    accept(core, p, ask, to, ast, room);
+    accept(core, p, ask, to, ast, rooms);
     Ok(Cond::Normal)
 }
 
@@ -47,10 +51,11 @@ pub fn qiow<R: Routine>(
     p: Pid,
     ask: Asking,
     ast: Option<R>,
-    room: Buffer,
+    rooms: &mut Rooms,
 ) -> Result<Served, Refused<R>>
     requires ready { IsReady core.old p }
     requires open { AreOpen core.old.state p }
+    requires rooms { AreFull rooms.old }
     requires room { Fits core.old (qiow core.old.state p (asked ask (option_map R.tagged ast))).effects }
     ensures does { Does (qiow core.old.state p (asked ask (option_map R.tagged ast))) (served_of result) core.old core.new }
     ensures handed { IfErr result (λ refused. refused.ast ≡ ast) }
@@ -59,7 +64,7 @@ pub fn qiow<R: Routine>(
         Ok(to) => to,
         Err(cond) => return Err(Refused { cond, ast }),
     };
-    accept(core, p, ask, to, ast, room);
+    accept(core, p, ask, to, ast, rooms);
     Ok(awaited(core, p, Wait::Synch(ask.efn, ask.iosb)))
 }
 

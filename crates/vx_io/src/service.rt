@@ -54,6 +54,6 @@ pub fn done<R: Routine>(core: &mut Core<R>, u: UnitNo) -> Answer
     };
     let id = done.req.id;
     let reply = unit_ending(done.marked, reply);
-    finish(core, done, reply);
+    finish(core, done, reply, 0);
     Answer::Unit(id)
 }

@@ -1,13 +1,16 @@
-//! Mailboxes.
+//! The mailboxes of a system, and its attention entries.
 //!
-//! A mailbox ($CREMBX) stores messages until they are read, and keeps the reads that wait for a message: never both at once.
-//! A process can ask for an AST when a message comes or a read waits, by an attention entry. Contracts see the plain mailbox,
-//! the waiting reads in order, the attention entries in id order, and how many there is room for: `specs/Boxes.antt`.
+//! A mailbox ($CREMBX) stores messages until they are read. There are 64 numbers of mailboxes, and each number keeps the room for
+//! messages that it once had. A process can ask for an AST when a message comes or a read waits, by an attention entry. Contracts
+//! see the plain mailboxes by number, the attention entries in id order, and how much there is room for: `specs/Boxes.antt`.
 #![tactic(auto)]
 
 mod attention;
-mod mailbox;
+mod attentions;
+mod boxes;
 mod messages;
+mod place;
 
-pub use mailbox::Mailbox;
-pub use vx_base::{Body, Msg};
+pub use attention::AttentionEntry;
+pub use attentions::Attentions;
+pub use boxes::Boxes;

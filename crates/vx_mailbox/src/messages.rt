@@ -1,13 +1,35 @@
-//! Messages and reads, found in plain lists, and how many bytes are stored.
+//! The messages of a mailbox, with a count of their bytes.
 
-ghost use Rattle.std.specs.Prelude.{◌≡◌, ◌<◌, nat_le, IfSome, is_some, position, length};
-ghost use Rattle.std.specs.List.{find};
-ghost use Rattle.vx_base.specs.Lists.{less};
+ghost use Rattle.std.specs.Prelude.{◌≡◌, ℕ, ◌+◌, ◌<◌, ◌≤◌, ◌++◌, ◌∷◌, [], IfOk, IfSome, OnOk, length, nat_le, option_map, position};
+ghost use Rattle.std.specs.List.{find, list_any};
+ghost use Rattle.vx_base.specs.Lists.{first, less};
 ghost use Rattle.vx_base.specs.Queues.{body_bytes, stored_bytes};
-ghost use Rattle.vx_base.specs.Roomy.{with_items};
-ghost use Rattle.vx_mailbox.specs.Boxes.{is_message, is_read};
+ghost use Rattle.vx_base.specs.Roomy.{HasSpace, with_items};
+ghost use Rattle.vx_mailbox.specs.Boxes.{IsShort};
+ghost use Rattle.vx_record.specs.Mailboxes.{this_message};
 
-use vx_base::{Body, Id, Msg, Reserved};
+use std::alloc::Global;
+use std::marker::Model;
+use vx_base::{Body, Id, Msg, NoMemory, Reserved};
+
+/// Messages, the oldest first, with room that was made before. Their bytes are counted, as long as a number can hold the count.
+#[derive(Drop)]
+pub(crate) struct Messages {
+    items: Reserved<Msg>,
+    bytes: Option<usize>,
+}
+
+impl Model for Messages {
+    ghost use Rattle.vx_base.specs.Roomy.{Roomy};
+    ghost use Rattle.vx_base.specs.declared.request.Msg.{Msg};
+    ghost use Rattle.vx_mailbox.specs.Places.{AreStored};
+
+    ghost Value = { Roomy Msg };
+
+    ghost view = { λ m. m.items };
+
+    ghost invariant = { λ m. AreStored m.items.items m.bytes };
+}
 
 // How many bytes a message has.
 fn body_len(body: &Body) -> usize
@@ -19,8 +41,28 @@ fn body_len(body: &Body) -> usize
     }
 }
 
-/// Whether messages have together at most so many bytes.
-pub(crate) fn are_within(messages: &[Msg], room: usize) -> bool
+// A count of bytes, if there is one, with some more.
+fn with_bytes(count: Option<usize>, len: usize) -> Option<usize>
+    ensures { (n : ℕ) → IfSome count (λ bytes. bytes ≡ n) → IfSome result (λ bytes. bytes ≡ n + len) }
+{
+    match count {
+        Some(bytes) => bytes.checked_add(len),
+        None => None,
+    }
+}
+
+// A count of bytes, if there is one, with some less.
+fn without_bytes(count: Option<usize>, len: usize) -> Option<usize>
+    ensures { (n : ℕ) → IfSome count (λ bytes. bytes ≡ len + n) → IfSome result (λ bytes. bytes ≡ n) }
+{
+    match count {
+        Some(bytes) => bytes.checked_sub(len),
+        None => None,
+    }
+}
+
+// Whether messages have together at most so many bytes: goes over all of them.
+fn are_within(messages: &[Msg], room: usize) -> bool
     ensures { result ≡ nat_le (stored_bytes messages.now) room }
 {
     let mut left = room;
@@ -35,35 +77,107 @@ pub(crate) fn are_within(messages: &[Msg], room: usize) -> bool
 }
 
 // Where the message with an id stands.
-fn place_of_message(messages: &[Msg], id: Id) -> Option<usize>
-    ensures place { result ≡ position (is_message id) messages.now }
+fn place_of(messages: &[Msg], id: Id) -> Option<usize>
+    ensures place { result ≡ position (this_message id) messages.now }
     ensures within { IfSome result (λ i. i < length messages.now) }
 {
     messages.iter().position(|m| m.id.0 == id.0)
 }
 
-// Where the read with an id stands.
-fn place_of_read(reads: &[Id], id: Id) -> Option<usize>
-    ensures place { result ≡ position (is_read id) reads.now }
-    ensures within { IfSome result (λ i. i < length reads.now) }
+// Takes all messages out.
+fn take_all(messages: &mut Reserved<Msg>)
+    ensures { messages.new ≡ with_items messages.old [] }
 {
-    reads.iter().position(|r| r.0 == id.0)
+    'messages: while let Some(_) = messages.pop() {
+        continue 'messages;
+    }
 }
 
-/// Takes out the message with an id, and tells whether there was one.
-pub(crate) fn cut_message(messages: &mut Reserved<Msg>, id: Id) -> bool
-    ensures found { result ≡ is_some (find (is_message id) messages.old.items) }
-    ensures after { messages.new ≡ with_items messages.old (less (is_message id) messages.old.items) }
-{
-    let place = place_of_message(messages.as_slice(), id);
-    messages.take(place).is_some()
-}
+impl Messages {
+    /// No messages, and room for one.
+    pub(crate) fn new(alloc: Global) -> Result<Messages, NoMemory>
+        ensures items { IfOk result (λ messages. messages.items ≡ []) }
+        ensures room { IfOk result (λ messages. 1 ≤ messages.capacity) }
+    {
+        let mut items = Reserved::new(alloc);
+        items.reserve(1)?;
+        Ok(Messages {
+            items,
+            bytes: Some(0),
+        })
+    }
 
-/// Takes out the read with an id, and tells whether there was one.
-pub(crate) fn cut_read(reads: &mut Reserved<Id>, id: Id) -> bool
-    ensures found { result ≡ is_some (find (is_read id) reads.old.items) }
-    ensures after { reads.new ≡ with_items reads.old (less (is_read id) reads.old.items) }
-{
-    let place = place_of_read(reads.as_slice(), id);
-    reads.take(place).is_some()
+    /// Makes room for a message more. Refused or not, the messages stay.
+    pub(crate) fn reserve(&mut self) -> Result<(), NoMemory>
+        ensures items { self.new.items ≡ self.old.items }
+        ensures ok { OnOk result (HasSpace self.new 1) }
+    {
+        self.items.reserve(1)
+    }
+
+    /// The messages.
+    pub(crate) fn as_slice(&self) -> &[Msg]
+        ensures { result.now ≡ self.now.items }
+    {
+        self.items.as_slice()
+    }
+
+    /// Whether they have together at most so many bytes.
+    pub(crate) fn are_within(&self, room: u32) -> bool
+        ensures { result ≡ nat_le (stored_bytes self.now.items) room }
+    {
+        match self.bytes {
+            Some(bytes) => bytes <= room as usize,
+            None => are_within(self.items.as_slice(), room as usize),
+        }
+    }
+
+    /// Whether the message with an id is there.
+    pub(crate) fn has(&self, id: Id) -> bool
+        ensures { result ≡ list_any (this_message id) self.now.items }
+    {
+        self.items.as_slice().iter().any(|m| m.id.0 == id.0)
+    }
+
+    /// The id of the oldest message.
+    pub(crate) fn oldest(&self) -> Option<Id>
+        ensures { result ≡ option_map (λ m. m.id) (first self.now.items) }
+    {
+        match self.items.as_slice().first() {
+            Some(m) => Some(m.id),
+            None => None,
+        }
+    }
+
+    /// Puts a message behind the others. Takes no memory.
+    pub(crate) fn put(&mut self, msg: Msg)
+        requires room { HasSpace self.old 1 }
+        requires size { IsShort msg }
+        ensures { self.new ≡ with_items self.old (self.old.items ++ msg ∷ []) }
+    {
+        let len = body_len(&msg.body);
+        self.bytes = with_bytes(self.bytes, len);
+        self.items.put(msg);
+    }
+
+    /// Takes out the message with an id. None exactly where there is none.
+    pub(crate) fn take(&mut self, id: Id) -> Option<Msg>
+        ensures found { result ≡ find (this_message id) self.old.items }
+        ensures after { self.new ≡ with_items self.old (less (this_message id) self.old.items) }
+        ensures fewer { length self.new.items ≤ length self.old.items }
+        ensures size { IfSome result IsShort }
+    {
+        let place = place_of(self.items.as_slice(), id);
+        let msg = self.items.take(place)?;
+        self.bytes = without_bytes(self.bytes, body_len(&msg.body));
+        Some(msg)
+    }
+
+    /// Takes all messages out; their room stays.
+    pub(crate) fn clear(&mut self)
+        ensures { self.new ≡ with_items self.old [] }
+    {
+        take_all(&mut self.items);
+        self.bytes = Some(0);
+    }
 }

@@ -5,7 +5,7 @@ use Rattle.std.proofs.lemmas.Bool.{eq-eqb, eqb-true}
 use Rattle.std.proofs.lemmas.List.{get_or_append_left, length-map}
 use Rattle.vx_base.specs.Flags.{one}
 use Rattle.vx_base.specs.Lists.{amend, less, tally}
-use Rattle.vx_base.specs.Pieces.{Queued, Timer}
+use Rattle.vx_base.specs.Pieces.{Attention, Queued, Timer}
 use Rattle.vx_base.specs.declared.number.Pid.{Pid}
 use Rattle.vx_base.specs.declared.quota.Need.{Need}
 use Rattle.vx_record.specs.State.{Process, State, IsProcess, limits_of, process_at, no_decl}
@@ -134,3 +134,22 @@ pub apart : (p q : Pid) (b : Bool) → q.0 ≢ p.0 → (is_same p q && b) ≡ fa
 apart p q b other =
     let e : (p.0 == q.0) ≡ false = false_from (p.0 == q.0) (λ same. other (sym (eqb-true p.0 q.0 same))) in
     ap (λ x. x && b) e
+
+-- and an attention entry of p
+
+pub attention_own : (p : Pid) (a : Attention) → a.p ≡ p → is_attention_of p a ≡ true
+attention_own p a own = ap (λ (x : Pid). is_same x p) own ∙ eq-eqb p.0 p.0 refl
+
+pub attention_apart : (p q : Pid) (a : Attention) → a.p ≡ p → q.0 ≢ p.0 → is_attention_of q a ≡ false
+attention_apart p q a own other = false_from (is_attention_of q a) (λ same. other (sym (eqb-true a.p.0 q.0 same) ∙ ap (λ (x : Pid). x.0) own))
+
+-- any other, as attention entries come and go
+pub others_called : (s : State) (before after : Option Pid) (es : List Attention) (q : Pid) (b : Books) → IsBooked s before q b → length (process_at s q).frames + spare after q ≤ b.room.frames → owed s q + spare after q ≤ b.room.asts → tally (is_attention_of q) es ≡ tally (is_attention_of q) s.attention → IsBooked (record s { attention = es }) after q b
+others_called s before after es q b h frames asts same =
+    let counts = counts_of s before q b h in
+    record {
+      frames = frames;
+      asts = omega (arith, asts, same);
+      used = need_eq b.account.used (charge (record s { attention = es }) q) (omega (arith, counts.ast, same)) counts.bio counts.dio counts.byt counts.tqe;
+      limits = h.limits;
+    }

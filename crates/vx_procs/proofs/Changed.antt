@@ -7,7 +7,7 @@ use Rattle.std.proofs.Math.Seq.{map-set_same}
 use Rattle.std.specs.Vec.{with_item}
 use Rattle.vx_base.specs.Roomy.{Roomy, with_items}
 use Rattle.vx_base.specs.Log.{Log}
-use Rattle.vx_base.specs.Pieces.{DeviceUnit, Queued, Request, Timer}
+use Rattle.vx_base.specs.Pieces.{Attention, Queued, Request, Timer}
 use Rattle.vx_base.specs.declared.number.Pid.{Pid}
 use Rattle.vx_base.specs.Lists.{tally}
 use Rattle.vx_record.specs.State.{Process, State, IsProcess, process_at, change, nobody, no_decl}
@@ -16,7 +16,7 @@ use Rattle.vx_record.proofs.Lists.{all_weaker}
 use Rattle.vx_record.proofs.Ground.{some_weaker}
 use Rattle.vx_procs.specs.Held.{AreHeld, AreServed, Books, IsBooked, IsOwn, IsTargetMade, books_at, no_books}
 use Rattle.vx_procs.specs.Kernel.{Kernel, Room, changed, with_state}
-use Rattle.vx_procs.specs.Requests.{IsOwnRequest, IsUnitOf}
+use Rattle.vx_procs.specs.Requests.{IsOwnRequest}
 use Rattle.vx_procs.specs.View.{process, state, kernel, logs, newcomers, books, room_of, books_of, IsHeld}
 use Rattle.vx_procs.specs.declared.procs.Core.TheInside.{Inside}
 use Rattle.vx_procs.specs.declared.process.Proc.{Proc}
@@ -73,30 +73,30 @@ booked_quiet s ps short q b quiet h = record {
 made_set : (s : State) (i : ℕ) (pr : Process) (ts : List Timer) (q : Pid) → IsProcess (record s { procs = slice_set s.procs i pr; timers = ts }) q → IsProcess s q
 made_set s i pr ts q m = record { above = m.above; within = omega (arith, m.within, length-set s.procs i pr) }
 
-own_set : (s : State) (i : ℕ) (pr : Process) (ts : List Timer) (rs : List Request) (us : List DeviceUnit) → AllByRecursion (IsOwn s) ts → AllByRecursion (IsOwn (record s { procs = slice_set s.procs i pr; timers = ts; requests = rs; units = us })) ts
-own_set s i pr ts rs us h =
-    all_weaker (IsOwn s) (IsOwn (record s { procs = slice_set s.procs i pr; timers = ts; requests = rs; units = us })) (λ t o. record {
+own_set : (s : State) (i : ℕ) (pr : Process) (ts : List Timer) (rs : List Request) (es : List Attention) → AllByRecursion (IsOwn s) ts → AllByRecursion (IsOwn (record s { procs = slice_set s.procs i pr; timers = ts; requests = rs; attention = es })) ts
+own_set s i pr ts rs es h =
+    all_weaker (IsOwn s) (IsOwn (record s { procs = slice_set s.procs i pr; timers = ts; requests = rs; attention = es })) (λ t o. record {
       made = record { above = o.made.above; within = omega (arith, o.made.within, length-set s.procs i pr) };
       target = subst (λ n. IsTargetMade n t.what) (sym (length-set s.procs i pr)) o.target;
       ahead = o.ahead;
       soon = o.soon;
     }) ts h
 
-own_requests : (s : State) (i : ℕ) (pr : Process) (ts : List Timer) (rs : List Request) (us : List DeviceUnit) → length us ≡ length s.units → AllByRecursion (λ r. IsOwnRequest s r.req) rs → AllByRecursion (λ r. IsOwnRequest (record s { procs = slice_set s.procs i pr; timers = ts; requests = rs; units = us }) r.req) rs
-own_requests s i pr ts rs us same h =
-    all_weaker (λ r. IsOwnRequest s r.req) (λ r. IsOwnRequest (record s { procs = slice_set s.procs i pr; timers = ts; requests = rs; units = us }) r.req) (λ r o. record {
+own_requests : (s : State) (i : ℕ) (pr : Process) (ts : List Timer) (rs : List Request) (es : List Attention) → AllByRecursion (λ r. IsOwnRequest s r.req) rs → AllByRecursion (λ r. IsOwnRequest (record s { procs = slice_set s.procs i pr; timers = ts; requests = rs; attention = es }) r.req) rs
+own_requests s i pr ts rs es h =
+    all_weaker (λ r. IsOwnRequest s r.req) (λ r. IsOwnRequest (record s { procs = slice_set s.procs i pr; timers = ts; requests = rs; attention = es }) r.req) (λ r o. record {
       made = record { above = o.made.above; within = omega (arith, o.made.within, length-set s.procs i pr) };
-      device = subst (λ n. IsUnitOf n r.req.device) (sym same) o.device;
-      fits = o.fits;
+      transfer = o.transfer;
+      device = o.device;
       iosb = o.iosb;
       buf = o.buf;
     }) rs h
 
--- one process changed, with its books, and the timers, the requests and the units: each other process is booked
-pub held_by : (s : State) (bs : List Books) (after : Option Pid) (p : Pid) (pr : Process) (b : Books) (ts : List Timer) (rs : List Request) (us : List DeviceUnit) (ls : List (Option Log)) → IsProcess s p → p.0 - 1 < length bs → IsBooked (record s { procs = slice_set s.procs (p.0 - 1) pr; timers = ts; requests = rs; units = us }) after p b → ((q : Pid) → IsProcess s q → q.0 ≢ p.0 → IsBooked (record s { timers = ts; requests = rs; units = us }) after q (books_at bs q)) → AllByRecursion (IsOwn s) ts → AllByRecursion (λ r. IsOwnRequest s r.req) rs → length us ≡ length s.units → AreServed rs ls → IfSome after (IsProcess s) → AreHeld (record s { procs = slice_set s.procs (p.0 - 1) pr; timers = ts; requests = rs; units = us }) after (slice_set bs (p.0 - 1) b) ls
-held_by s bs after p pr b ts rs us ls made within here others own asked many served short =
+-- one process changed, with its books, and the timers, the requests and the attention entries: each other process is booked
+pub held_by : (s : State) (bs : List Books) (after : Option Pid) (p : Pid) (pr : Process) (b : Books) (ts : List Timer) (rs : List Request) (es : List Attention) (ls : List (Option Log)) → IsProcess s p → p.0 - 1 < length bs → IsBooked (record s { procs = slice_set s.procs (p.0 - 1) pr; timers = ts; requests = rs; attention = es }) after p b → ((q : Pid) → IsProcess s q → q.0 ≢ p.0 → IsBooked (record s { timers = ts; requests = rs; attention = es }) after q (books_at bs q)) → AllByRecursion (IsOwn s) ts → AllByRecursion (λ r. IsOwnRequest s r.req) rs → AllByRecursion (λ a. IsProcess s a.p) es → AreServed rs ls → IfSome after (IsProcess s) → AreHeld (record s { procs = slice_set s.procs (p.0 - 1) pr; timers = ts; requests = rs; attention = es }) after (slice_set bs (p.0 - 1) b) ls
+held_by s bs after p pr b ts rs es ls made within here others own asked called served short =
     let i = p.0 - 1 in
-    let t : State = record s { procs = slice_set s.procs i pr; timers = ts; requests = rs; units = us } in
+    let t : State = record s { procs = slice_set s.procs i pr; timers = ts; requests = rs; attention = es } in
     record {
       booked = λ q m. elim (cases_eq q.0 p.0) [
         | inl same ↦
@@ -108,30 +108,31 @@ held_by s bs after p pr b ts rs us ls made within here others own asked many ser
             let apart : q.0 - 1 ≢ i = λ e. other (omega (arith, was.above, made.above)) in
             let its : books_at (slice_set bs i b) q ≡ books_at bs q = get_or-set_other bs i (q.0 - 1) b no_books apart in
             let at : process_at t q ≡ process_at s q = get_or-set_other s.procs i (q.0 - 1) pr nobody apart in
-            let u : State = record s { timers = ts; requests = rs; units = us } in
+            let u : State = record s { timers = ts; requests = rs; attention = es } in
             subst (λ (x : Books). IsBooked t after q x) (sym its)
             (booked_quiet u (slice_set s.procs i pr) after q (books_at bs q) (record { decl = ap (λ (x : Process). x.decl) at; asts = ap (λ (x : Process). x.asts) at; frames = omega (arith, ap (λ (x : Process). length x.frames) at) }) (others q was other))
       ];
-      timers = own_set s i pr ts rs us own;
-      requests = own_requests s i pr ts rs us many asked;
+      timers = own_set s i pr ts rs es own;
+      requests = own_requests s i pr ts rs es asked;
+      attention = all_weaker (λ a. IsProcess s a.p) (λ a. IsProcess t a.p) (λ a m. record { above = m.above; within = omega (arith, m.within, length-set s.procs i pr) }) es called;
       served = served;
       marked = some_weaker (IsProcess s) (IsProcess t) (λ q m. record { above = m.above; within = omega (arith, m.within, length-set s.procs i pr) }) after short;
     }
 
 -- the same of the code
-pub held_there : {R : Type 0} (c : Inside R) (after : Option Pid) (p : Pid) (new : Proc R) (ts : List Timer) (rs : List Request) (us : List DeviceUnit) (ls : List (Option Log)) → IsProcess (state c) p → IsBooked (record (state c) { procs = slice_set (state c).procs (p.0 - 1) (process new); timers = ts; requests = rs; units = us }) after p (books_of new) → ((q : Pid) → IsProcess (state c) q → q.0 ≢ p.0 → IsBooked (record (state c) { timers = ts; requests = rs; units = us }) after q (books_at (books c) q)) → AllByRecursion (IsOwn (state c)) ts → AllByRecursion (λ r. IsOwnRequest (state c) r.req) rs → length us ≡ length (state c).units → AreServed rs ls → IfSome after (IsProcess (state c)) → AreHeld (record (state c) { procs = map process (slice_set c.procs.items (p.0 - 1) new); timers = ts; requests = rs; units = us }) after (map books_of (slice_set c.procs.items (p.0 - 1) new)) ls
-held_there c after p new ts rs us ls made here others own asked many served short =
+pub held_there : {R : Type 0} (c : Inside R) (after : Option Pid) (p : Pid) (new : Proc R) (ts : List Timer) (rs : List Request) (es : List Attention) (ls : List (Option Log)) → IsProcess (state c) p → IsBooked (record (state c) { procs = slice_set (state c).procs (p.0 - 1) (process new); timers = ts; requests = rs; attention = es }) after p (books_of new) → ((q : Pid) → IsProcess (state c) q → q.0 ≢ p.0 → IsBooked (record (state c) { timers = ts; requests = rs; attention = es }) after q (books_at (books c) q)) → AllByRecursion (IsOwn (state c)) ts → AllByRecursion (λ r. IsOwnRequest (state c) r.req) rs → AllByRecursion (λ a. IsProcess (state c) a.p) es → AreServed rs ls → IfSome after (IsProcess (state c)) → AreHeld (record (state c) { procs = map process (slice_set c.procs.items (p.0 - 1) new); timers = ts; requests = rs; attention = es }) after (map books_of (slice_set c.procs.items (p.0 - 1) new)) ls
+held_there c after p new ts rs es ls made here others own asked called served short =
     let i = p.0 - 1 in
     let s = state c in
     let within : i < length (books c) = omega (arith, stands c p made, length-map c.procs.items books_of) in
-    let held = held_by s (books c) after p (process new) (books_of new) ts rs us ls made within here others own asked many served short in
-    subst (λ (ps : List Process). AreHeld (record s { procs = ps; timers = ts; requests = rs; units = us }) after (map books_of (slice_set c.procs.items i new)) ls) (sym (map-set process c.procs.items i new))
-    (subst (λ (bs : List Books). AreHeld (record s { procs = slice_set s.procs i (process new); timers = ts; requests = rs; units = us }) after bs ls) (sym (map-set books_of c.procs.items i new)) held)
+    let held = held_by s (books c) after p (process new) (books_of new) ts rs es ls made within here others own asked called served short in
+    subst (λ (ps : List Process). AreHeld (record s { procs = ps; timers = ts; requests = rs; attention = es }) after (map books_of (slice_set c.procs.items i new)) ls) (sym (map-set process c.procs.items i new))
+    (subst (λ (bs : List Books). AreHeld (record s { procs = slice_set s.procs i (process new); timers = ts; requests = rs; attention = es }) after bs ls) (sym (map-set books_of c.procs.items i new)) held)
 
 -- with the timers alone
 pub held_set : {R : Type 0} (c : Inside R) (after : Option Pid) (p : Pid) (new : Proc R) (ts : List Timer) → IsHeld c → IsProcess (state c) p → IsBooked (record (state c) { procs = slice_set (state c).procs (p.0 - 1) (process new); timers = ts }) after p (books_of new) → ((q : Pid) → IsProcess (state c) q → q.0 ≢ p.0 → IsBooked (state c) c.short q (books_at (books c) q) → IsBooked (record (state c) { timers = ts }) after q (books_at (books c) q)) → AllByRecursion (IsOwn (state c)) ts → IfSome after (IsProcess (state c)) → AreHeld (record (state c) { procs = map process (slice_set c.procs.items (p.0 - 1) new); timers = ts }) after (map books_of (slice_set c.procs.items (p.0 - 1) new)) (logs c)
 held_set c after p new ts h made here others own short =
-    held_there c after p new ts (state c).requests (state c).units (logs c) made here (λ q m other. others q m other (h.booked q m)) own h.requests refl h.served short
+    held_there c after p new ts (state c).requests (state c).attention (logs c) made here (λ q m other. others q m other (h.booked q m)) own h.requests h.attention h.served short
 
 -- a process as it is put there
 pub put_there : (s : State) (p : Pid) (pr : Process) (ts : List Timer) → IsProcess s p → process_at (record s { procs = slice_set s.procs (p.0 - 1) pr; timers = ts }) p ≡ pr
@@ -181,6 +182,20 @@ requests_as f F c k p r new rs view made is e room put =
 pub requests_alone : {R : Type 0} (F : State → List Request) (c : Inside R) (k : Kernel) (p : Pid) (r new : Proc R) (rs : Roomy Request) → kernel c ≡ k → IsProcess k.state p → r ≡ slice_index_or c.procs.items (p.0 - 1) r → process new ≡ process r → room_of new ≡ room_of r → rs ≡ with_items c.requests (F (state c)) → kernel (record c { procs = with_item c.procs (p.0 - 1) new; requests = rs }) ≡ with_state k (record k.state { requests = F k.state })
 requests_alone F c k p r new rs view made is e room put =
     requests_as (λ x. x) F c k p r new rs view made is e room put ∙ ap (λ (s : State). with_state k s) (none_changed (record k.state { requests = F k.state }) p)
+
+-- the value where attention entries change too
+attention_here : {R : Type 0} (f : Process → Process) (xs : List Attention) (c : Inside R) (p : Pid) (r new : Proc R) (es : Roomy Attention) → IsProcess (state c) p → r ≡ slice_index_or c.procs.items (p.0 - 1) r → process new ≡ f (process r) → room_of new ≡ room_of r → es ≡ with_items c.attention xs → kernel (record c { procs = with_item c.procs (p.0 - 1) new; attention = es }) ≡ with_state (kernel c) (change (record (state c) { attention = xs }) p f)
+attention_here f xs c p r new es made is e room put =
+    ap (λ (x : Kernel). let y : Kernel = record x { state = record x.state { attention = es.items }; attention = es.capacity } in y) (changed_here f c p r new made is e room)
+    ∙ ap (λ (x : Roomy Attention). let y : Kernel = record (changed (kernel c) p f) { state = record (change (state c) p f) { attention = x.items }; attention = x.capacity } in y) put
+
+pub attention_as : {R : Type 0} (f : Process → Process) (F : State → List Attention) (c : Inside R) (k : Kernel) (p : Pid) (r new : Proc R) (es : Roomy Attention) → kernel c ≡ k → IsProcess k.state p → r ≡ slice_index_or c.procs.items (p.0 - 1) r → process new ≡ f (process r) → room_of new ≡ room_of r → es ≡ with_items c.attention (F (state c)) → kernel (record c { procs = with_item c.procs (p.0 - 1) new; attention = es }) ≡ with_state k (change (record k.state { attention = F k.state }) p f)
+attention_as f F c k p r new es view made is e room put =
+    attention_here f (F (state c)) c p r new es (made_in c k p view made) is e room put ∙ ap (λ (x : Kernel). with_state x (change (record x.state { attention = F x.state }) p f)) view
+
+pub attention_alone : {R : Type 0} (F : State → List Attention) (c : Inside R) (k : Kernel) (p : Pid) (r new : Proc R) (es : Roomy Attention) → kernel c ≡ k → IsProcess k.state p → r ≡ slice_index_or c.procs.items (p.0 - 1) r → process new ≡ process r → room_of new ≡ room_of r → es ≡ with_items c.attention (F (state c)) → kernel (record c { procs = with_item c.procs (p.0 - 1) new; attention = es }) ≡ with_state k (record k.state { attention = F k.state })
+attention_alone F c k p r new es view made is e room put =
+    attention_as (λ x. x) F c k p r new es view made is e room put ∙ ap (λ (s : State). with_state k s) (none_changed (record k.state { attention = F k.state }) p)
 
 -- and no process
 pub timers_alone : {R : Type 0} (F : State → List Timer) (c : Inside R) (k : Kernel) (p : Pid) (r new : Proc R) (ts : Roomy Timer) → kernel c ≡ k → IsProcess k.state p → r ≡ slice_index_or c.procs.items (p.0 - 1) r → process new ≡ process r → room_of new ≡ room_of r → ts ≡ with_items c.timers (F (state c)) → kernel (record c { procs = with_item c.procs (p.0 - 1) new; timers = ts }) ≡ with_state k (record k.state { timers = F k.state })

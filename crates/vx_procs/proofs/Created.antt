@@ -7,12 +7,12 @@ use Rattle.std.proofs.Math.Seq.{get_or-append_seam}
 use Rattle.vx_base.specs.Flags.{one}
 use Rattle.vx_base.specs.Lists.{tally}
 use Rattle.vx_base.specs.Log.{Log}
-use Rattle.vx_base.specs.Pieces.{Alarm, OfTimer, OfWake, Queued, Request, Timer}
+use Rattle.vx_base.specs.Pieces.{Attention, Alarm, OfTimer, OfWake, Queued, Request, Timer}
 use Rattle.vx_base.specs.Quotas.{no_need}
 use Rattle.vx_base.specs.declared.number.Pid.{Pid}
 use Rattle.vx_base.specs.declared.quota.Need.{Need}
 use Rattle.vx_record.specs.State.{Process, State, IsProcess, process_at, nobody, no_decl, pid}
-use Rattle.vx_record.specs.Charges.{charge, charged_timer, is_charged, is_timer, is_timer_of, takes_ast}
+use Rattle.vx_record.specs.Charges.{charge, charged_timer, is_attention_of, is_charged, is_timer, is_timer_of, takes_ast}
 use Rattle.vx_record.specs.Control.{created}
 use Rattle.vx_record.proofs.Lists.{all_weaker, either}
 use Rattle.vx_record.proofs.Ground.{some_weaker}
@@ -26,7 +26,7 @@ use Rattle.vx_procs.specs.View.{process, state, kernel, logs, newcomers, books, 
 use Rattle.vx_procs.specs.Words.{with_created}
 use Rattle.vx_procs.specs.declared.procs.Core.TheInside.{Inside}
 use Rattle.vx_procs.specs.declared.process.Proc.{Proc}
-use Rattle.vx_procs.proofs.Booked.{apart, need_eq, spare_few}
+use Rattle.vx_procs.proofs.Booked.{apart, attention_apart, need_eq, spare_few}
 use Rattle.vx_procs.proofs.Changed.{booked_quiet}
 use Rattle.vx_procs.proofs.Bills.{HasNone, other_charge}
 
@@ -85,6 +85,14 @@ none_asked s q (r ∷ rs) above h =
       byt = omega (arith, rest.byt, ap (λ (n : Need). n.byt) other);
     }
 
+-- and no attention entry
+none_attended : (s : State) (q : Pid) (es : List Attention) → length s.procs < q.0 → AllByRecursion (λ a. IsProcess s a.p) es → tally (is_attention_of q) es ≡ 0
+none_attended s q [] above h = refl
+none_attended s q (a ∷ es) above h =
+    let rest = none_attended s q es above h.1 in
+    let none = attention_apart a.p q a refl (λ e. omega (arith, above, h.0.within, e)) in
+    omega (arith, rest, ap one none)
+
 grown : (s : State) (pr : Process) (q : Pid) → IsProcess s q → IsProcess (record s { procs = s.procs ++ pr ∷ [] }) q
 grown s pr q m = record { above = m.above; within = omega (arith, m.within, length-append s.procs (pr ∷ [])) }
 
@@ -114,7 +122,8 @@ held_with s bs ls short pr b h same new =
             (booked_quiet s (s.procs ++ pr ∷ []) short q (books_at bs q) (record { decl = ap (λ (x : Process). x.decl) at; asts = ap (λ (x : Process). x.asts) at; frames = omega (arith, ap (λ (x : Process). length x.frames) at) }) (h.booked q was))
       ];
       timers = all_weaker (IsOwn s) (IsOwn t) (λ x own. record { made = grown s pr x.p own.made; target = target_grown s pr x.what own.target; ahead = own.ahead; soon = own.soon }) s.timers h.timers;
-      requests = all_weaker (λ r. IsOwnRequest s r.req) (λ r. IsOwnRequest t r.req) (λ r own. record { made = grown s pr r.req.p own.made; device = own.device; fits = own.fits; iosb = own.iosb; buf = own.buf }) s.requests h.requests;
+      requests = all_weaker (λ r. IsOwnRequest s r.req) (λ r. IsOwnRequest t r.req) (λ r own. record { made = grown s pr r.req.p own.made; transfer = own.transfer; device = own.device; iosb = own.iosb; buf = own.buf }) s.requests h.requests;
+      attention = all_weaker (λ a. IsProcess s a.p) (λ a. IsProcess t a.p) (λ a m. grown s pr a.p m) s.attention h.attention;
       served = h.served;
       marked = some_weaker (IsProcess s) (IsProcess t) (λ q m. grown s pr q m) short h.marked;
     }
@@ -129,11 +138,12 @@ fresh_booked c r h fresh =
     let queued : (process_at t q).asts ≡ [] = ap (λ (x : Process). x.asts) at ∙ fresh.none in
     let none = none_own s q c.timers.items (omega arith) h.timers in
     let idle = none_asked s q c.requests.items (omega arith) h.requests in
+    let calm = none_attended s q c.attention.items (omega arith) h.attention in
     let few = spare_few c.short q in
     record {
       frames = omega (arith, fresh.frame, few, ap (λ (x : Process). length x.frames) at);
-      asts = omega (arith, fresh.ast, few, none.0, idle.ast, ap (λ (qs : List Queued). length qs) queued);
-      used = ap (λ (a : Quotas). a.used) fresh.account ∙ need_eq no_need (charge t q) (omega (arith, none.0, idle.ast, ap (λ (qs : List Queued). tally is_charged qs) queued)) (sym idle.bio) (sym idle.dio) (sym idle.byt) (sym none.1);
+      asts = omega (arith, fresh.ast, few, none.0, idle.ast, calm, ap (λ (qs : List Queued). length qs) queued);
+      used = ap (λ (a : Quotas). a.used) fresh.account ∙ need_eq no_need (charge t q) (omega (arith, none.0, idle.ast, calm, ap (λ (qs : List Queued). tally is_charged qs) queued)) (sym idle.bio) (sym idle.dio) (sym idle.byt) (sym none.1);
       limits = ap (λ (a : Quotas). a.limits) fresh.account ∙ ap (λ (n : ℕ). (slice_index_or c.system.decls n no_decl).limits) (sym (ap (λ (x : Process). x.decl) at));
     }
 

@@ -64,6 +64,7 @@ first_held system us ls xs h =
           };
       timers = tt;
       requests = tt;
+      attention = tt;
       served = λ u. omega arith;
       marked = tt;
     }

@@ -1,6 +1,7 @@
-pub mod Bare
 pub mod Bills
 pub mod Booked
+pub mod Assigned
+pub mod Called
 pub mod Cells
 pub mod Changed
 pub mod Ended

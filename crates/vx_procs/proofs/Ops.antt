@@ -79,17 +79,17 @@ held_framed f c k p r new view is_made has is e same h =
 
 -- Amounts that are charged and given back.
 
-record IsPaid (before after : Need) (n : ℕ) : Type 0 where
-  ast : after.ast ≡ before.ast + n
-  tqe : after.tqe ≡ before.tqe
-  bio : after.bio ≡ before.bio
-  dio : after.dio ≡ before.dio
-  byt : after.byt ≡ before.byt
+pub record IsPaid (before after : Need) (n : ℕ) : Type 0 where
+  pub ast : after.ast ≡ before.ast + n
+  pub tqe : after.tqe ≡ before.tqe
+  pub bio : after.bio ≡ before.bio
+  pub dio : after.dio ≡ before.dio
+  pub byt : after.byt ≡ before.byt
 
 pub charged_limits : (a : Quotas) (need : Need) → (charged a need).limits ≡ a.limits
 charged_limits a need = elim (has_left a need) as (λ t. (cond t (record a { used = together a.used need }) a).limits ≡ a.limits) [ true ↦ refl | false ↦ refl ]
 
-paid : (a : Quotas) (b : Bool) → (b ≡ true → has_left a (ast_need true) ≡ true) → IsPaid a.used (charged a (ast_need b)).used (one b)
+pub paid : (a : Quotas) (b : Bool) → (b ≡ true → has_left a (ast_need true) ≡ true) → IsPaid a.used (charged a (ast_need b)).used (one b)
 paid a true h =
     let e : (charged a (ast_need true)).used ≡ together a.used (ast_need true) = ap (λ (t : Bool). (cond t (record a { used = together a.used (ast_need true) }) a).used) (h refl) in
     record {
@@ -160,15 +160,15 @@ out_less p test (x ∷ xs) =
       | false ↦ record { few = omega (arith, rest.few); counted = omega (arith, rest.counted) }
     ]
 
-record IsFreed (before after : Quotas) (n : ℕ) : Type 0 where
-  ast : after.used.ast + n ≡ before.used.ast
-  tqe : after.used.tqe ≡ before.used.tqe
-  bio : after.used.bio ≡ before.used.bio
-  dio : after.used.dio ≡ before.used.dio
-  byt : after.used.byt ≡ before.used.byt
-  limits : after.limits ≡ before.limits
+pub record IsFreed (before after : Quotas) (n : ℕ) : Type 0 where
+  pub ast : after.used.ast + n ≡ before.used.ast
+  pub tqe : after.used.tqe ≡ before.used.tqe
+  pub bio : after.used.bio ≡ before.used.bio
+  pub dio : after.used.dio ≡ before.used.dio
+  pub byt : after.used.byt ≡ before.used.byt
+  pub limits : after.limits ≡ before.limits
 
-freed_one : (a : Quotas) (b : Bool) → one b ≤ a.used.ast → IsFreed a (released a (ast_need b)) (one b)
+pub freed_one : (a : Quotas) (b : Bool) → one b ≤ a.used.ast → IsFreed a (released a (ast_need b)) (one b)
 freed_one a true few = record { ast = omega arith; tqe = omega arith; bio = omega arith; dio = omega arith; byt = omega arith; limits = refl }
 freed_one a false few = record { ast = omega arith; tqe = omega arith; bio = omega arith; dio = omega arith; byt = omega arith; limits = refl }
 
@@ -501,7 +501,8 @@ held_later now n c ts later past few h =
           (ap (λ (xs : List Timer). tally (charged_timer q) xs) items ∙ tally-amend (charged_timer q) (is_due now) (due_again n) (λ x. refl) c.timers.items)
           (ap (λ (xs : List Timer). tally (is_timer_of q) xs) items ∙ tally-amend (is_timer_of q) (is_due now) (due_again n) (λ x. refl) c.timers.items);
       timers = subst (λ (xs : List Timer). AllByRecursion (IsOwn (record s { timers = ts.items })) xs) (sym items) (own_again s now n ts.items c.timers.items past few h.timers);
-      requests = all_weaker (λ r. IsOwnRequest s r.req) (λ r. IsOwnRequest (record s { timers = ts.items }) r.req) (λ r o. record { made = o.made; device = o.device; fits = o.fits; iosb = o.iosb; buf = o.buf }) c.requests.items h.requests;
+      requests = all_weaker (λ r. IsOwnRequest s r.req) (λ r. IsOwnRequest (record s { timers = ts.items }) r.req) (λ r o. record { made = o.made; transfer = o.transfer; device = o.device; iosb = o.iosb; buf = o.buf }) c.requests.items h.requests;
+      attention = h.attention;
       served = h.served;
       marked = h.marked;
     }
@@ -518,7 +519,8 @@ held_then now c k view moment h =
     record {
       booked = λ q m. let b = h.booked q m in record { frames = b.frames; asts = b.asts; used = b.used; limits = b.limits };
       timers = own_then (state c) now c.timers.items here.forward here.ahead h.timers;
-      requests = all_weaker (λ r. IsOwnRequest (state c) r.req) (λ r. IsOwnRequest (at_time (state c) now) r.req) (λ r o. record { made = o.made; device = o.device; fits = o.fits; iosb = o.iosb; buf = o.buf }) c.requests.items h.requests;
+      requests = all_weaker (λ r. IsOwnRequest (state c) r.req) (λ r. IsOwnRequest (at_time (state c) now) r.req) (λ r o. record { made = o.made; transfer = o.transfer; device = o.device; iosb = o.iosb; buf = o.buf }) c.requests.items h.requests;
+      attention = h.attention;
       served = h.served;
       marked = h.marked;
     }

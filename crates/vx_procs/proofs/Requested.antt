@@ -19,8 +19,6 @@ use Rattle.vx_base.specs.declared.number.UnitNo.{UnitNo}
 use Rattle.vx_base.specs.declared.quota.Need.{Need}
 use Rattle.vx_base.specs.declared.request.Device.{Device}
 use Rattle.vx_base.specs.declared.request.Device.TheVariants as device
-use Rattle.vx_base.specs.declared.request.Func.{Func}
-use Rattle.vx_base.specs.declared.request.Func.TheVariants as func
 use Rattle.vx_base.specs.declared.request.Req.{Req}
 use Rattle.vx_base.specs.declared.request.Reply.{Reply}
 use Rattle.vx_base.specs.Serving.{serve, settled}
@@ -31,15 +29,15 @@ use Rattle.vx_record.specs.Cancel.{with_abort}
 use Rattle.vx_record.specs.Finish.{this_request}
 use Rattle.vx_record.specs.Requests.{taken_up, with_unit}
 use Rattle.vx_record.specs.Sound.{AreOrdered, request_id}
-use Rattle.vx_record.specs.Charges.{exceeds, is_attention, is_charged, is_same, request_need}
+use Rattle.vx_record.specs.Charges.{exceeds, is_charged, is_same, request_need}
 use Rattle.vx_record.proofs.Lists.{all_amend, all_append, all_find, all_less, all_weaker, either_by, false_from, or_none}
 use Rattle.vx_quota.specs.Account.{Quotas, charged, released}
 use Rattle.vx_reqs.specs.Requests.{begun}
-use Rattle.vx_units.specs.Units.{is_for_unit, is_read_or_write}
+use Rattle.vx_units.specs.Units.{is_for_unit}
 use Rattle.vx_procs.specs.Held.{AreServed, Books, IsBooked, IsOwn, books_at, spare}
 use Rattle.vx_procs.specs.Kernel.{IsPrepared, Kernel, Room, log_for, log_or, opened, with_state}
 use Rattle.vx_procs.specs.Ready.{HasSpares, owed}
-use Rattle.vx_procs.specs.Requests.{IsOwnRequest, IsUnitOf, begun_if, ended, ended_if, finished, promised_ast, replied, request_ast, served_if}
+use Rattle.vx_procs.specs.Requests.{IsForDevice, IsOwnRequest, begun_if, ended, ended_if, finished, promised_ast, replied, request_ast, served_if}
 use Rattle.vx_procs.specs.Units.{Kept}
 use Rattle.vx_procs.specs.View.{process, state, kernel, log_of, logs, books, books_of, room_of, unit_of, IsHeld}
 use Rattle.vx_procs.specs.Words.{with_queued_if}
@@ -53,24 +51,9 @@ use Rattle.vx_procs.proofs.Ended.{found_id}
 use Rattle.vx_procs.proofs.Firsts.{amend_like, find_same}
 use Rattle.vx_procs.proofs.Ops.{booked_here, charged_limits, counts_here, left_for, queued_decl, queued_frames, spares_here, spares_in}
 
--- A request for a unit is a read or a write.
-
-transfer_by : (f : Func) (b : Bool) → IsTrue (is_read_or_write f && b) → is_attention f ≡ false
-transfer_by func.Read b h = refl
-transfer_by func.ReadNow b h = absurd (cc)
-transfer_by func.Write b h = refl
-transfer_by func.WriteNow b h = absurd (cc)
-transfer_by func.Eof b h = absurd (cc)
-transfer_by func.EofNow b h = absurd (cc)
-transfer_by func.ReadAttn b h = absurd (cc)
-transfer_by func.WrtAttn b h = absurd (cc)
-
-pub transfer : (s : State) (r : Req) → IsOwnRequest s r → is_attention r.func ≡ false
-transfer s r own = transfer_by r.func _ own.fits
-
 -- what a request of p is charged
 own_need : (s : State) (p : Pid) (r : Request) → r.req.p ≡ p → IsOwnRequest s r.req → its_charge s p r ≡ request_need s r.req.device r.req.func (is_some r.ast) r.req.len
-own_need s p r own its = own_charge s p r own (transfer s r.req its)
+own_need s p r own its = own_charge s p r own its.transfer
 
 -- any other process, as requests come and go
 
@@ -105,7 +88,7 @@ held_asked r need c k p old new rs view has own waits is_own needs within is e r
     let left = left_for c k p old need view h made is within in
     let used : new.account.used ≡ together old.account.used need = ap (λ (a : Quotas). a.used) account ∙ ap (λ (b : Bool). (cond b (record old.account { used = together old.account.used need }) old.account).used) left in
     let few = one_few (is_same r.req.p p && is_some r.ast) in
-    held_there c (Some p) p new c.timers.items rs.items s.units (logs c) made
+    held_there c (Some p) p new c.timers.items rs.items s.attention (logs c) made
     (here_by (record s { requests = rs.items }) (Some p) p (process new) c.timers.items (books_of old) (books_of new) made (booked_here c p old h made is).limits
     (ap (λ (x : Process). x.decl) e ∙ ap (λ (x : Process). x.decl) was)
     (omega (arith, spare_room.0, spare_used p, ap (λ (x : Process). length x.frames) e, ap (λ (x : Room). x.frames) room))
@@ -124,7 +107,7 @@ held_asked r need c k p old new rs view has own waits is_own needs within is e r
     others_asked s c.short (Some p) rs.items q (books_at (books c) q) (h.booked q m) kept.0 kept.1 same)
     h.timers
     (subst (λ (xs : List Request). AllByRecursion (λ x. IsOwnRequest s x.req) xs) (sym items) (all_append (λ x. IsOwnRequest s x.req) c.requests.items (r ∷ []) h.requests (its, tt)))
-    refl
+    h.attention
     (λ u. omega (arith, h.served u, ap (λ (xs : List Request). tally (is_served_by u) xs) items, tally-append (is_served_by u) c.requests.items (r ∷ []), unserved (is_on u r) r.served waits))
     made
 
@@ -203,7 +186,7 @@ held_ended test need c p r old new rs found own needs left is e room account h =
     let asts = queued_asts r.req.id r.ast (process old) in
     let used = ap (λ (a : Quotas). a.used) account in
     let o = request_ast r in
-    held_there c c.short p new c.timers.items rs.items s.units (logs c) made
+    held_there c c.short p new c.timers.items rs.items s.attention (logs c) made
     (here_by (record s { requests = rs.items }) c.short p (process new) c.timers.items (books_of old) (books_of new) made b.limits
     (ap (λ (x : Process). x.decl) e ∙ (queued_decl o (process old) ∙ ap (λ (x : Process). x.decl) was))
     (omega (arith, b.frames, ap (λ (x : Process). length x.frames) e, ap (λ (xs : List Frame). length xs) (queued_frames o (process old)), ap (λ (x : Process). length x.frames) was, ap (λ (x : Room). x.frames) room))
@@ -222,7 +205,7 @@ held_ended test need c p r old new rs found own needs left is e room account h =
     others_asked s c.short c.short rs.items q (books_at (books c) q) bq bq.frames bq.asts same)
     h.timers
     (subst (λ (xs : List Request). AllByRecursion (λ x. IsOwnRequest s x.req) xs) (sym items) (all_less (λ x. IsOwnRequest s x.req) test c.requests.items h.requests))
-    refl
+    h.attention
     (λ u. omega (arith, h.served u, ap (λ (xs : List Request). tally (is_served_by u) xs) items, tally-less (is_served_by u) test c.requests.items r (sym found)))
     h.marked
 
@@ -256,8 +239,9 @@ held_amended test g c rs is same_req same_ast served h =
           let b = h.booked q m in
           others_asked s c.short c.short rs.items q (books_at (books c) q) b b.frames b.asts (subst (λ (xs : List Request). IsAlike s q xs c.requests.items) (sym items) (alike_amend s q test g same_req same_ast c.requests.items));
       timers = all_weaker (IsOwn s) (IsOwn t) (λ x o. record { made = o.made; target = o.target; ahead = o.ahead; soon = o.soon }) c.timers.items h.timers;
-      requests = all_weaker (λ r. IsOwnRequest s r.req) (λ r. IsOwnRequest t r.req) (λ r o. record { made = o.made; device = o.device; fits = o.fits; iosb = o.iosb; buf = o.buf }) rs.items
+      requests = all_weaker (λ r. IsOwnRequest s r.req) (λ r. IsOwnRequest t r.req) (λ r o. record { made = o.made; transfer = o.transfer; device = o.device; iosb = o.iosb; buf = o.buf }) rs.items
           (subst (λ (xs : List Request). AllByRecursion (λ r. IsOwnRequest s r.req) xs) (sym items) (all_amend (λ r. IsOwnRequest s r.req) test g (λ r o. subst (λ (x : Req). IsOwnRequest s x) (sym (same_req r)) o) c.requests.items h.requests));
+      attention = h.attention;
       served = subst (λ (xs : List Request). AreServed xs (logs c)) (sym items) served;
       marked = h.marked;
     }
@@ -370,7 +354,8 @@ held_unit c u new l within enough h =
     record {
       booked = λ q m. let b = h.booked q m in record { frames = b.frames; asts = b.asts; used = b.used; limits = b.limits };
       timers = all_weaker (IsOwn s) (IsOwn t) (λ x o. record { made = o.made; target = o.target; ahead = o.ahead; soon = o.soon }) c.timers.items h.timers;
-      requests = all_weaker (λ r. IsOwnRequest s r.req) (λ r. IsOwnRequest t r.req) (λ r o. record { made = o.made; device = subst (λ n. IsUnitOf n r.req.device) (sym many) o.device; fits = o.fits; iosb = o.iosb; buf = o.buf }) c.requests.items h.requests;
+      requests = all_weaker (λ r. IsOwnRequest s r.req) (λ r. IsOwnRequest t r.req) (λ r o. record { made = o.made; transfer = o.transfer; device = subst (λ n. IsForDevice n r.req r.req.device) (sym many) o.device; iosb = o.iosb; buf = o.buf }) c.requests.items h.requests;
+      attention = h.attention;
       served = unit_set c u new (map log_of us) (map-set log_of c.units.items u.0 new) enough (omega (arith, within, length-map c.units.items log_of)) h.served;
       marked = h.marked;
     }
@@ -398,9 +383,10 @@ pub enough_kept : (n : ℕ) (a b : Bool) → n ≤ one a → (a ≡ true → b �
 enough_kept n true b few h = let e = ap one (h refl) in omega (arith, few, e)
 enough_kept n false b few h = omega (arith, few)
 
-unit_device : (u : UnitNo) (n : ℕ) (d : Device) → is_unit u d ≡ true → IsUnitOf n d → u.0 < n
-unit_device u n (device.Unit v) is within = let e = eqb-true u.0 v.0 is in omega (arith, e, within)
-unit_device u n (device.Mailbox b) is within = absurd within
+-- a request on a unit is one for it
+unit_device : (u : UnitNo) (n : ℕ) (q : Req) (d : Device) → is_unit u d ≡ true → IsForDevice n q d → (u.0 < n) × IsTrue (is_for_unit q)
+unit_device u n q (device.Unit v) is own = let e = eqb-true u.0 v.0 is in (omega (arith, e, own.0), own.1)
+unit_device u n q (device.Mailbox b) is own = absurd (cc)
 
 front_found : (b : Bool) (o : Option Request) (q : Req) → Some q ≡ option_map (λ r. r.req) (cond b None o) → (r : Request) × ((o ≡ Some r) × (r.req ≡ q))
 front_found true o q e = absurd (cc)
@@ -413,7 +399,8 @@ front_own c u q h e =
     let r = found.0 in
     let its = all_find (λ x. IsOwnRequest (state c) x.req) (waits_for u) c.requests.items r h.requests found.1.0 in
     let on = (and_parts (is_on u r) (not r.served) (found_passes (waits_for u) c.requests.items r found.1.0)).0 in
-    (omega (arith, unit_device u (length (state c).units) r.req.device on its.device, length-map c.units.items unit_of), subst (λ (x : Req). IsTrue (is_for_unit x)) found.1.1 its.fits)
+    let fits = unit_device u (length (state c).units) r.req r.req.device on its.device in
+    (omega (arith, fits.0, length-map c.units.items unit_of), subst (λ (x : Req). IsTrue (is_for_unit x)) found.1.1 fits.1)
 
 pub log_there : {R : Type 0} (c : Inside R) (u : UnitNo) (new : Kept) → u.0 < length c.units.items → slice_index_or (map log_of (slice_set c.units.items u.0 new)) u.0 None ≡ new.log
 log_there c u new within =
@@ -443,7 +430,7 @@ pub record IsServing (k : Kernel) (u : UnitNo) (id : Id) : Type 0 where
   pub r : Request
   pub found : in_service u k.state.requests ≡ Some r
   pub by_id : find (this_request id) k.state.requests ≡ Some r
-  pub own : IsOwnRequest k.state r.req
+  pub fits : IsTrue (is_for_unit r.req)
   pub within : u.0 < length k.state.units
   pub prepared : IsPrepared k u
   pub single : tally (is_served_by u) k.state.requests ≡ 1
@@ -462,13 +449,14 @@ serving c k u id view h order is = subst (λ (x : Kernel). IsServing x u id) vie
         let r = found.0 in
         let its = all_find (λ x. IsOwnRequest (state c) x.req) (is_served_by u) rs r h.requests found.1.0 in
         let passes = found_passes (is_served_by u) rs r found.1.0 in
+        let fits = unit_device u (length (state c).units) r.req r.req.device (and_parts (is_on u r) r.served passes).0 its.device in
         let there = one_there (tally (is_served_by u) (less (is_served_by u) rs)) (is_some (slice_index_or (logs c) u.0 None)) (omega (arith, h.served u, tally-less (is_served_by u) (is_served_by u) rs r found.1.0, ap one passes)) in
         record {
           r = r;
           found = found.1.0;
           by_id = ap (λ (i : Id). find (this_request i) rs) (sym found.1.1) ∙ find_same request_id (is_served_by u) 0 c.next rs r ids found.1.0;
-          own = its;
-          within = unit_device u (length (state c).units) r.req.device (and_parts (is_on u r) r.served passes).0 its.device;
+          fits = fits.1;
+          within = fits.0;
           prepared = there.0;
           single = omega (arith, there.1, tally-less (is_served_by u) (is_served_by u) rs r found.1.0, ap one passes);
         }

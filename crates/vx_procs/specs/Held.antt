@@ -63,5 +63,6 @@ pub record AreHeld (s : State) (short : Option Pid) (books : List Books) (logs :
   pub booked : (p : Pid) → IsProcess s p → IsBooked s short p (books_at books p)
   pub timers : AllByRecursion (IsOwn s) s.timers
   pub requests : AllByRecursion (λ r. IsOwnRequest s r.req) s.requests
+  pub attention : AllByRecursion (λ a. IsProcess s a.p) s.attention
   pub served : AreServed s.requests logs
   pub marked : IfSome short (IsProcess s)

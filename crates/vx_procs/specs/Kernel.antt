@@ -23,8 +23,8 @@ pub record IsWithinRoom (a b : Room) : Type 0 where
   pub handlers : a.handlers ≤ b.handlers
 
 -- the state; the effects so far; the room of each process, in number order, and then of the spare process, if there is one; for
--- how many timers, common clusters, associations with them and requests there is room in all; and of each unit the log in which the
--- end of its next service is told, where that was made
+-- how many timers, common clusters, associations with them, requests and attention entries there is room in all, and for how many
+-- messages in each mailbox, by its number; and of each unit the log in which the end of its next service is told, where that was made
 pub record Kernel : Type 0 where
   pub state : State
   pub log : Log
@@ -33,6 +33,8 @@ pub record Kernel : Type 0 where
   pub clusters : ℕ
   pub associations : ℕ
   pub requests : ℕ
+  pub attention : ℕ
+  pub messages : List ℕ
   pub logs : List (Option Log)
 
 abbrev pub room_at : Kernel → Pid → Room

@@ -1,3 +1,4 @@
+pub mod Attention
 pub mod Cells
 pub mod Channels
 pub mod Counts

@@ -1,8 +1,9 @@
 -- Room that was made before, and what a call of a service relies on.
-use Rattle.std.specs.Prelude.{◌≡◌, ℕ, ◌+◌, ◌^◌, ◌<◌, ◌≤◌, [], None, length, replicate}
+use Rattle.std.specs.Prelude.{ℕ, ◌+◌, ◌^◌, ◌<◌, ◌≤◌, length}
 use Rattle.std.specs.List.{AllByRecursion}
 use Rattle.vx_base.specs.declared.number.Pid.{Pid}
 use Rattle.vx_base.specs.Lists.{tally}
+use Rattle.vx_mailbox.specs.Boxes.{HaveRoom}
 use Rattle.vx_image.specs.WellFormed.{IsImage}
 use Rattle.vx_record.specs.State.{State, IsProcess, process_at, image_of}
 use Rattle.vx_record.specs.Charges.{bears_ast, is_attention_of, charged_timer}
@@ -35,10 +36,9 @@ HasHandlerRoom k p = length (process_at k.state p).handlers < (room_at k p).hand
 abbrev pub HasNewcomer : Kernel → Type 0
 HasNewcomer k = length k.state.procs < length k.rooms
 
--- What is not built yet is not open: there is no attention entry and no mailbox.
-pub record IsBare (s : State) : Type 0 where
-  pub attention : s.attention ≡ []
-  pub boxes : s.boxes ≡ replicate 64 None
+-- there is room for a message more in each mailbox that is there or is made
+abbrev pub HasMessageRooms : Kernel → Type 0
+HasMessageRooms k = HaveRoom k.state.boxes k.messages
 
 -- Time may come to this moment: it is not behind, and less than 2^32 ticks ahead, and no entry is due before it.
 pub record IsMoment (s : State) (now : ℕ) : Type 0 where
@@ -46,8 +46,8 @@ pub record IsMoment (s : State) (now : ℕ) : Type 0 where
   pub soon : now < s.time + 4294967296
   pub ahead : AllByRecursion (λ t. now ≤ t.due) s.timers
 
--- The process is there, with its image; there is a spare of each kind, a process among them, room for an exit handler, an id left, and a time that can be
--- counted on; nothing is open that is not built.
+-- The process is there, with its image; there is a spare of each kind, a process among them, room for an exit handler, for an attention
+-- entry and for a message in each mailbox, an id left, and a time that can be counted on.
 pub record IsReady (k : Kernel) (p : Pid) : Type 0 where
   pub made : IsProcess k.state p
   pub declared : HasDecl k.state p
@@ -62,4 +62,5 @@ pub record IsReady (k : Kernel) (p : Pid) : Type 0 where
   pub handler : HasHandlerRoom k p
   pub ids : k.state.next < 4294967295
   pub time : k.state.time < 2 ^ 63
-  pub bare : IsBare k.state
+  pub entry : length k.state.attention + 1 ≤ k.attention
+  pub messages : HasMessageRooms k

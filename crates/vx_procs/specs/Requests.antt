@@ -1,5 +1,5 @@
 -- Words on requests: whose they are, what becomes of them, and what a finished one was.
-use Rattle.std.specs.Prelude.{ℕ, ◌<◌, ◌≤◌, Option, Some, None, IsTrue, is_some, length}
+use Rattle.std.specs.Prelude.{◌≡◌, ℕ, ◌<◌, ◌≤◌, false, Option, Some, None, IsTrue, is_some, length, ⊤}
 use Rattle.vx_base.specs.Lists.{amend, less}
 use Rattle.vx_base.specs.Pieces.{Queued, Request, Promised}
 use Rattle.vx_base.specs.Serving.{serve, settled}
@@ -12,22 +12,23 @@ use Rattle.vx_base.specs.declared.request.Reply.{Reply}
 use Rattle.vx_record.specs.State.{State, IsProcess, change, unit_at}
 use Rattle.vx_record.specs.Asts.{charged_ast}
 use Rattle.vx_record.specs.Cancel.{with_abort}
+use Rattle.vx_record.specs.Charges.{is_attention}
 use Rattle.vx_record.specs.Finish.{this_request}
 use Rattle.vx_record.specs.Requests.{begun, with_unit}
 use Rattle.vx_units.specs.Units.{is_for_unit}
 use Rattle.vx_procs.specs.Words.{with_queued_if}
 use Rattle.vx_procs.specs.declared.requests.Finished.{Finished}
 
--- the device is one of so many units: no request is on a mailbox yet
-abbrev pub IsUnitOf : ℕ → Device → Type 0
-IsUnitOf n (device.Unit u) = u.0 < n
-IsUnitOf n (device.Mailbox b) = ⊥
+-- a unit is one of so many, and the request is one for a unit
+abbrev pub IsForDevice : ℕ → Req → Device → Type 0
+IsForDevice n req (device.Unit u) = (u.0 < n) × IsTrue (is_for_unit req)
+IsForDevice n req (device.Mailbox b) = ⊤
 
--- A request is a process's, and one for a unit; its status block and its buffer are those that a process has.
+-- A request is a process's, no attention entry, and fits its device; its status block and its buffer are those that a process has.
 pub record IsOwnRequest (s : State) (req : Req) : Type 0 where
   pub made : IsProcess s req.p
-  pub device : IsUnitOf (length s.units) req.device
-  pub fits : IsTrue (is_for_unit req)
+  pub transfer : is_attention req.func ≡ false
+  pub device : IsForDevice (length s.units) req req.device
   pub iosb : req.iosb ≤ 32
   pub buf : req.buf ≤ 31
 

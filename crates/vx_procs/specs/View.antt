@@ -1,5 +1,5 @@
 -- What the processes of the code stand for.
-use Rattle.std.specs.Prelude.{List, [], ◌++◌, nat_lt, if◌then◌else◌, Option, None, map, option_to_list, replicate, vec_len, vec_capacity}
+use Rattle.std.specs.Prelude.{List, [], ◌++◌, nat_lt, if◌then◌else◌, Option, map, option_to_list, vec_len, vec_capacity}
 use Rattle.vx_base.specs.Log.{Log}
 use Rattle.vx_base.specs.Pieces.{DeviceUnit}
 use Rattle.vx_record.specs.State.{Process, State}
@@ -45,7 +45,7 @@ unit_of k = k.unit
 abbrev pub log_of : Kept → Option Log
 log_of k = k.log
 
--- the whole, with no attention entries and mailboxes
+-- the whole
 abbrev pub state : {R : Type 0} → Inside R → State
 state c = record {
   system = c.system;
@@ -55,8 +55,8 @@ state c = record {
   common = c.clusters.common;
   requests = c.requests.items;
   timers = c.timers.items;
-  attention = [];
-  boxes = replicate 64 None;
+  attention = c.attention.items;
+  boxes = c.boxes.boxes;
   units = map unit_of c.units.items;
 }
 
@@ -76,6 +76,8 @@ kernel c = record {
   clusters = c.clusters.cluster_capacity;
   associations = c.clusters.association_capacity;
   requests = c.requests.capacity;
+  attention = c.attention.capacity;
+  messages = c.boxes.rooms;
   logs = logs c;
 }
 

@@ -1,5 +1,5 @@
 -- Words on one process: its declaration and image, its local statements, the ASTs that its frames leave.
-use Rattle.std.specs.Prelude.{ℕ, ◌<◌, List, [], ◌∷◌, ◌++◌, Bool, true, false, ◌&&◌, ◌==◌, not, if◌then◌else◌, Option, Some, None, is_some, option_map, length, slice_index_or, ⊤}
+use Rattle.std.specs.Prelude.{ℕ, ◌+◌, ◌<◌, nat_le, List, [], ◌∷◌, ◌++◌, Bool, true, false, ◌&&◌, ◌==◌, not, if◌then◌else◌, Option, Some, None, is_some, option_map, length, slice_index_or, ⊤}
 use Rattle.std.specs.List.{list_any}
 use Rattle.vx_base.specs.Lists.{amend, less}
 use Rattle.vx_base.specs.Pieces.{Handler, Queued, Timer, Alarm, OfTimer, OfWake}
@@ -25,7 +25,8 @@ use Rattle.vx_record.specs.Asts.{charged_ast, deliverable_at, with_queued}
 use Rattle.vx_record.specs.Charges.{ast_need, is_timer, takes_ast, timer_need}
 use Rattle.vx_record.specs.Timers.{due_again, is_due}
 use Rattle.vx_record.specs.Events.{reader, moved_to}
-use Rattle.vx_record.specs.Rundown.{without_ast, is_ast_reached}
+use Rattle.vx_record.specs.Parts.{Part}
+use Rattle.vx_record.specs.Rundown.{without_ast, is_ast_reached, leave_all, named_for_deletion}
 use Rattle.vx_record.specs.Runs.{born_of}
 use Rattle.vx_timers.specs.Seen.{falls_of}
 use Rattle.vx_timers.specs.declared.due.Falls.{Falls}
@@ -113,6 +114,22 @@ left (f ∷ fs) = left_kind f.kind ++ left fs
 abbrev pub left_top : List Frame → List Effect
 left_top [] = []
 left_top (f ∷ fs) = left_kind f.kind
+
+-- the frames of a process that is named for deletion go
+abbrev pub frames_deleted : State → Pid → Part
+frames_deleted s p = leave_all (process_at s p).frames (change s p named_for_deletion)
+
+-- How many frames and exit handlers a process has, and the most that one of these has.
+
+abbrev pub depth : Process → ℕ
+depth pr = length pr.frames + length pr.handlers
+
+abbrev pub deeper : ℕ → ℕ → ℕ
+deeper a b = if nat_le a b then b else a
+
+abbrev pub deepest : List Process → ℕ
+deepest [] = 0
+deepest (pr ∷ prs) = deeper (depth pr) (deepest prs)
 
 -- Timers.
 

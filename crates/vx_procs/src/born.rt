@@ -16,6 +16,7 @@ use std::alloc::Global;
 use vx_base::{Effects, NoMemory, Routine};
 use vx_clusters::Clusters;
 use vx_image::{ProcDecl, ProcDecls, System};
+use vx_mailbox::{Attentions, Boxes};
 use vx_reqs::Reqs;
 use vx_timers::Timers;
 
@@ -57,6 +58,7 @@ impl<R: Routine> Core<R> {
     {
         let procs = first_procs(alloc, &system.decls)?;
         let units = first_units(alloc, &system.units)?;
+        let boxes = Boxes::new(alloc)?;
         Ok(Core {
             system,
             time: 0,
@@ -66,6 +68,8 @@ impl<R: Routine> Core<R> {
             spare: None,
             timers: Timers::new(alloc),
             requests: Reqs::new(alloc),
+            attention: Attentions::new(alloc),
+            boxes,
             units,
             log: Effects::new(alloc),
             short: None,

@@ -1,9 +1,9 @@
 //! The channels of a process.
 
-ghost use Rattle.std.specs.Prelude.{◌≡◌, ◌<◌, IfSome, IsSome, IsTrue, None, bytes_eq, length, position};
+ghost use Rattle.std.specs.Prelude.{◌≡◌, ◌<◌, IfSome, IsSome, IsTrue, None, bytes_eq, is_some, length, option_map, position};
 ghost use Rattle.vx_base.specs.Channels.{channel_at, is_channel_number, next_of_mode};
 ghost use Rattle.vx_record.specs.State.{IsProcess, process_at};
-ghost use Rattle.vx_record.specs.Channels.{assign_at, channel_test, device_named, free_channel_of, is_unit_of, with_channel};
+ghost use Rattle.vx_record.specs.Channels.{assign_at, channel_test, device_named, free_channel_of, is_unit_of, unit_named, with_channel};
 ghost use Rattle.vx_procs.specs.Channels.{channel_of, cond_of, or_cond};
 ghost use Rattle.vx_procs.specs.Kernel.{DoesQuietly, changed};
 
@@ -48,13 +48,25 @@ fn position_of_unit(units: &[UnitDecl], name: &[u8]) -> Option<usize>
 }
 
 impl<R: Routine> Core<R> {
-    /// The device of a name: a unit of the script. (Mailboxes are not built yet.) None exactly where there is none.
+    /// The device of a name: a unit of the script, or else a mailbox. None exactly where there is none.
     pub fn device_named(&self, name: &[u8]) -> Option<Device>
         requires { length self.now.state.system.units < 4294967296 }
         ensures { result ≡ device_named self.now.state name.now }
     {
-        let place = position_of_unit(self.system.units.as_slice(), name)?;
-        Some(Device::Unit(UnitNo(place as u32)))
+        match position_of_unit(self.system.units.as_slice(), name) {
+            Some(place) => Some(Device::Unit(UnitNo(place as u32))),
+            None => {
+                let b = self.boxes.named(name)?;
+                Some(Device::Mailbox(b))
+            }
+        }
+    }
+
+    /// Whether a unit of the script has a name.
+    pub fn unit_named(&self, name: &[u8]) -> bool
+        ensures { result ≡ is_some (unit_named self.now.state name.now) }
+    {
+        position_of_unit(self.system.units.as_slice(), name).is_some()
     }
 
     /// Assigns the least free channel of a process to a device, in a mode, and gives its number, 1 to 64 ($ASSIGN). NOIOCHAN, and
@@ -77,6 +89,15 @@ impl<R: Routine> Core<R> {
             Ok(found) => Ok(found),
             Err(fail) => Err(cond_of(fail)),
         }
+    }
+
+    /// The device of a channel, where it is assigned, whatever its mode.
+    pub fn channel_device(&self, p: Pid, n: u32) -> Option<Device>
+        requires made { IsProcess self.now.state p }
+        requires number { IsTrue (is_channel_number n) }
+        ensures { result ≡ option_map (λ ch. ch.device) (channel_at (process_at self.now.state p).channels n) }
+    {
+        self.process_of(p).chans.device(n)
     }
 
     /// Frees a channel that is assigned ($DASSGN). Takes no memory.

@@ -6,14 +6,14 @@ ghost use Rattle.vx_base.specs.Flags.{one, with_flag};
 ghost use Rattle.vx_base.specs.Quotas.{is_within};
 ghost use Rattle.vx_base.specs.Log.{HasRoom, logged};
 ghost use Rattle.vx_image.specs.WellFormed.{IsImage};
-ghost use Rattle.vx_record.specs.Asts.{with_queued};
+ghost use Rattle.vx_record.specs.Asts.{charged_ast, with_queued};
 ghost use Rattle.vx_record.specs.Charges.{ast_need, takes_ast, timer_need};
 ghost use Rattle.vx_quota.specs.Account.{charged, has_left, released};
 ghost use Rattle.vx_timers.specs.Seen.{alarm_of};
 ghost use Rattle.vx_record.specs.Events.{put_back, resumed_with, uses_wake};
 ghost use Rattle.vx_record.specs.Flags.{with_local_flag};
 ghost use Rattle.vx_record.specs.State.{top_mode};
-ghost use Rattle.vx_record.specs.Rundown.{is_ast_reached, leaving, without_frames};
+ghost use Rattle.vx_record.specs.Rundown.{is_ast_reached, leaving, leaving_deleted, named_for_deletion, without_frames};
 ghost use Rattle.vx_procs.specs.View.{books_of, process, room_of};
 ghost use Rattle.vx_procs.specs.Kernel.{IsWithinRoom};
 ghost use Rattle.vx_procs.specs.Counts.{CountsAsts, freed};
@@ -193,6 +193,29 @@ impl<R: Routine> Proc<R> {
         leave_all(&mut self.frames, log);
     }
 
+    /// Its phase after a deletion: an alive process is run down from user mode on.
+    fn phase_after_deletion(&self) -> Phase
+        ensures { result ≡ leaving_deleted (process self.now).phase }
+    {
+        match self.phase {
+            Phase::Alive => Phase::Handlers(Mode::User),
+            phase => phase,
+        }
+    }
+
+    /// All its frames go, it is resumed, and it is named for deletion.
+    pub(crate) fn delete(&mut self, log: &mut Effects)
+        requires { HasRoom log.old (length (left (process self.old).frames)) }
+        ensures log { log.new ≡ logged log.old (left (process self.old).frames) }
+        ensures after { process self.new ≡ named_for_deletion (process self.old) }
+        ensures books { books_of self.new ≡ books_of self.old }
+    {
+        self.phase = self.phase_after_deletion();
+        self.suspended = false;
+        self.delete_pending = true;
+        leave_all(&mut self.frames, log);
+    }
+
     /// Runs its local statements, of its image, from where its top frame stands, and gives the new place and why they
     /// stopped. Its number is p.
     pub(crate) fn advance(&mut self, image: &Image, p: Pid) -> (u32, Stop)
@@ -318,6 +341,15 @@ impl<R: Routine> Proc<R> {
             }
             None => false,
         }
+    }
+
+    /// An attention entry that it made fires: its AST is queued, and stays charged.
+    pub(crate) fn call_attention(&mut self, id: Id, mode: Mode, routine: R)
+        requires { length (process self.old).asts < (room_of self.old).asts }
+        ensures after { process self.new ≡ with_queued (charged_ast id mode (R.tagged routine)) (process self.old) }
+        ensures books { books_of self.new ≡ books_of self.old }
+    {
+        self.asts.put(id, mode, routine, true);
     }
 
     /// Makes room for one frame, and for one AST beyond what is queued and promised; it promises no more than it is charged.

@@ -4,7 +4,7 @@ ghost use Rattle.std.specs.Prelude.{◌≡◌, ◌+◌, ◌<◌, ◌≤◌, ◌^
 ghost use Rattle.vx_base.specs.Log.{HasRoom};
 ghost use Rattle.vx_procs.specs.Kernel.{Fits, told};
 ghost use Rattle.vx_record.specs.State.{IsProcess};
-ghost use Rattle.vx_procs.specs.Ready.{HasHandlerRoom, HasNewcomer, HasSpares, IsBare};
+ghost use Rattle.vx_procs.specs.Ready.{HasHandlerRoom, HasMessageRooms, HasNewcomer, HasSpares};
 
 use crate::kept::KeptUnit;
 use crate::newcomer::Newcomer;
@@ -15,6 +15,7 @@ use std::mem;
 use vx_base::{Effect, EffectList, Effects, NoMemory, Pid, Routine};
 use vx_clusters::Clusters;
 use vx_image::System;
+use vx_mailbox::{Attentions, Boxes};
 use vx_reqs::Reqs;
 use vx_timers::Timers;
 
@@ -22,8 +23,8 @@ use vx_timers::Timers;
 const LAST_TIME: u64 = 9_223_372_036_854_775_808;
 
 /// What the script says, the time in ticks, the next id, the processes in the order of their numbers from 1, the common event
-/// flag clusters, timers, requests, units, and the log of the event under way. Contracts see the plain state, the log, and how much
-/// there is room for: `specs/Kernel.antt`.
+/// flag clusters, timers, requests, attention entries, mailboxes, units, and the log of the event under way. Contracts see the plain
+/// state, the log, and how much there is room for: `specs/Kernel.antt`.
 #[derive(Drop)]
 pub struct Core<R: Routine> {
     pub(crate) system: System,
@@ -35,6 +36,8 @@ pub struct Core<R: Routine> {
     pub(crate) spare: Option<Newcomer<R>>,
     pub(crate) timers: Timers<R>,
     pub(crate) requests: Reqs<R>,
+    pub(crate) attention: Attentions<R>,
+    pub(crate) boxes: Boxes,
     pub(crate) units: Vec<KeptUnit>,
     pub(crate) log: Effects,
     // the process whose spares may have been used since they were made
@@ -55,9 +58,10 @@ impl<R: Routine> Model for Core<R> {
 }
 
 impl<R: Routine> Core<R> {
-    /// Makes good what spare room the last event used, and makes room for a timer, a process, a cluster, an association and a request
-    /// more, for an exit handler more of the process whose event it is, and for as many effects as are told. Nothing that the state
-    /// says is changed, even where memory is short. (A time beyond 2^63 has no room for timers either.)
+    /// Makes good what spare room the last event used, and makes room for a timer, a process, a cluster, an association, a request and
+    /// an attention entry more, for a message more in each mailbox, for an exit handler more of the process whose event it is, and for
+    /// as many effects as are told. Nothing that the state says is changed, even where memory is short. (A time beyond 2^63 has no room
+    /// for timers either.)
     pub fn begin(&mut self, effects: u32, caller: Option<Pid>) -> Result<(), NoMemory>
         requires { IfSome caller (IsProcess self.old.state) }
         ensures same { self.new.state ≡ self.old.state }
@@ -71,7 +75,8 @@ impl<R: Routine> Core<R> {
         ensures empty { OnOk result (self.new.log.items ≡ []) }
         ensures room { OnOk result (HasRoom self.new.log effects) }
         ensures time { OnOk result (self.new.state.time < 2 ^ 63) }
-        ensures bare { OnOk result (IsBare self.new.state) }
+        ensures attention { OnOk result (length self.new.state.attention + 1 ≤ self.new.attention) }
+        ensures messages { OnOk result (HasMessageRooms self.new) }
     {
         if self.time >= LAST_TIME {
             return Err(NoMemory);
@@ -81,6 +86,8 @@ impl<R: Routine> Core<R> {
         self.timers.reserve(1)?;
         self.clusters.reserve()?;
         self.requests.reserve()?;
+        self.attention.reserve()?;
+        self.boxes.reserve()?;
         self.make_spare()?;
         self.mend()?;
         self.make_caller_room(caller)?;
@@ -95,6 +102,8 @@ impl<R: Routine> Core<R> {
         ensures clusters { self.new.clusters ≡ self.old.clusters }
         ensures associations { self.new.associations ≡ self.old.associations }
         ensures requests { self.new.requests ≡ self.old.requests }
+        ensures attention { self.new.attention ≡ self.old.attention }
+        ensures messages { self.new.messages ≡ self.old.messages }
         ensures newcomer { OnOk result (HasNewcomer self.new) }
     {
         self.procs.reserve(1)?;
@@ -112,6 +121,8 @@ impl<R: Routine> Core<R> {
         ensures clusters { self.new.clusters ≡ self.old.clusters }
         ensures associations { self.new.associations ≡ self.old.associations }
         ensures requests { self.new.requests ≡ self.old.requests }
+        ensures attention { self.new.attention ≡ self.old.attention }
+        ensures messages { self.new.messages ≡ self.old.messages }
         ensures rooms { length self.new.rooms ≡ length self.old.rooms }
         ensures spares { OnOk result (HasSpares self.new) }
     {
@@ -131,6 +142,8 @@ impl<R: Routine> Core<R> {
         ensures clusters { self.new.clusters ≡ self.old.clusters }
         ensures associations { self.new.associations ≡ self.old.associations }
         ensures requests { self.new.requests ≡ self.old.requests }
+        ensures attention { self.new.attention ≡ self.old.attention }
+        ensures messages { self.new.messages ≡ self.old.messages }
         ensures rooms { length self.new.rooms ≡ length self.old.rooms }
         ensures spares { HasSpares self.old → HasSpares self.new }
         ensures room { OnOk result (HasHandlerRoom self.new p) }
@@ -147,6 +160,8 @@ impl<R: Routine> Core<R> {
         ensures clusters { self.new.clusters ≡ self.old.clusters }
         ensures associations { self.new.associations ≡ self.old.associations }
         ensures requests { self.new.requests ≡ self.old.requests }
+        ensures attention { self.new.attention ≡ self.old.attention }
+        ensures messages { self.new.messages ≡ self.old.messages }
         ensures rooms { length self.new.rooms ≡ length self.old.rooms }
         ensures spares { HasSpares self.old → HasSpares self.new }
         ensures room { OnOk result (IfSome caller (HasHandlerRoom self.new)) }

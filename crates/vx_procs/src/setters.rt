@@ -16,7 +16,7 @@ ghost use Rattle.vx_record.specs.Rundown.{exited, in_phase, is_ast_reached};
 ghost use Rattle.vx_record.specs.Services.{with_variable};
 ghost use Rattle.vx_procs.specs.Kernel.{Acts, Fits, changed, with_state};
 ghost use Rattle.vx_procs.specs.Ready.{HasSpares};
-ghost use Rattle.vx_procs.specs.Words.{advanced_at, have_own_ids, moved_as, without_reached, without_started, HasDecl, HasImage};
+ghost use Rattle.vx_procs.specs.Words.{advanced_at, frames_deleted, have_own_ids, moved_as, without_reached, without_started, HasDecl, HasImage};
 
 use crate::frames::{leave_all, place_top, wait_at_top};
 use crate::procs::Core;
@@ -216,5 +216,15 @@ impl<R: Routine> Core<R> {
         ensures { Acts (exited self.old.state p code) self.old self.new }
     {
         self.procs[p.0 as usize - 1].exit(code, &mut self.log)
+    }
+
+    /// All frames of a process go, as it is named for deletion ($DELPRC): each AST among them is no longer active, the top one first,
+    /// the process is resumed, and an alive process is run down from user mode on.
+    pub fn delete(&mut self, p: Pid)
+        requires made { IsProcess self.old.state p }
+        requires free { Fits self.old (frames_deleted self.old.state p).effects }
+        ensures { Acts (frames_deleted self.old.state p) self.old self.new }
+    {
+        self.procs[p.0 as usize - 1].delete(&mut self.log)
     }
 }

@@ -4,4 +4,5 @@ pub mod Numbers
 pub mod Ordered
 pub mod Rising
 pub mod Turns
+pub mod Waiting
 pub mod Counts

@@ -43,7 +43,7 @@ pub keep_lower : (u : UnitNo) (lower from served : ℕ) → lower ≤ from → (
 keep_lower u lower from served le [] h = tt
 keep_lower u lower from served le (x ∷ xs) h = (record { waits = λ below. h.0.waits (omega (arith, below, le)); serves = h.0.serves }, keep_lower u lower from served le xs h.1)
 
-none_in : {X : Type 0} (p : X → Bool) (x : X) (xs : List X) → None ≡ find p (x ∷ xs) → (p x ≡ false) × (None ≡ find p xs)
+pub none_in : {X : Type 0} (p : X → Bool) (x : X) (xs : List X) → None ≡ find p (x ∷ xs) → (p x ≡ false) × (None ≡ find p xs)
 none_in p x xs e =
     elim (p x) as (λ b. p x ≡ b → None ≡ cond b (Some x) (find p xs) → (p x ≡ false) × (None ≡ find p xs)) [
       | true ↦ λ is found. absurd (cc)

@@ -1,9 +1,12 @@
 -- Requests in the places where they were accepted.
 use Rattle.std.specs.Prelude.{ℕ, ◌+◌, ◌<◌, ◌≤◌, ◌≡◌, ◌≢◌, get_or, List, [], ◌∷◌, ◌++◌, Bool, false, IsTrue, Option, None, is_some, option_map, option_to_list, length, IfSome}
+use Rattle.std.specs.List.{AllByRecursion}
 use Rattle.vx_base.specs.Pieces.{Request}
 use Rattle.vx_base.specs.Queues.{is_served_by, waits_for}
+use Rattle.vx_base.specs.declared.number.BoxNo.{BoxNo}
 use Rattle.vx_base.specs.declared.number.Id.{Id}
 use Rattle.vx_base.specs.declared.number.UnitNo.{UnitNo}
+use Rattle.vx_record.specs.Mailboxes.{waits_at}
 use Rattle.vx_reqs.specs.Requests.{is_found}
 
 -- the id of the request that was accepted there, and the request while it is outstanding
@@ -59,8 +62,17 @@ pub record IsOrdered (next : ℕ) (from served : List ℕ) (places : List Place)
 abbrev pub OrderedIf : Bool → ℕ → List ℕ → List ℕ → List Place → Type 0
 OrderedIf rising next from served places = IsTrue rising → IsOrdered next from served places
 
+-- no read waits there at the mailbox below the number `from`
+abbrev pub IsFrom : BoxNo → ℕ → Place → Type 0
+IsFrom b from x = x.id.0 < from → holds (waits_at b) x ≡ false
+
+-- each mailbox's number tells where its reads are
+abbrev pub AreFrom : List ℕ → List Place → Type 0
+AreFrom from places = (b : BoxNo) → b.0 < 64 → AllByRecursion (IsFrom b (get_or from b.0 0)) places
+
 -- what the places of requests keep
-pub record IsKept (places : List Place) (count room space : ℕ) (rising : Bool) (next : ℕ) (from served : List ℕ) : Type 0 where
+pub record IsKept (places : List Place) (count room space : ℕ) (rising : Bool) (next : ℕ) (from served reads : List ℕ) : Type 0 where
   pub count_is : count ≡ length (live places)
   pub within : room ≤ space
   pub order : OrderedIf rising next from served places
+  pub waiting : AreFrom reads places

@@ -8,6 +8,7 @@
 mod found;
 mod order;
 mod outstanding;
+mod reads;
 mod reqs;
 mod room;
 mod slot;

@@ -2,10 +2,11 @@
 
 ghost use Rattle.std.specs.Prelude.{◌≡◌, false, is_some, option_map};
 ghost use Rattle.vx_base.specs.Queues.{is_unit, is_served_by, waits_for};
+ghost use Rattle.vx_record.specs.Mailboxes.{is_box, is_waiting_func, waits_at};
 ghost use Rattle.vx_reqs.specs.Requests.{has_id, as_served, as_marked, is_to_cancel, keeps_open};
 
 use std::marker::Model;
-use vx_base::{Device, Id, Mode, Pid, Req, Routine, UnitNo};
+use vx_base::{BoxNo, Device, Func, Id, Mode, Pid, Req, Routine, UnitNo};
 
 /// A request with its AST, if it has one, whether its unit serves it, and whether it is to be aborted. Contracts see the
 /// plain `Request` of `vx_base`.
@@ -127,6 +128,13 @@ impl<R: Routine> Outstanding<R> {
         is_unit(self.req.device, u) && !self.served
     }
 
+    /// Whether it is a read that waits at a mailbox.
+    pub(crate) fn waits_at(&self, b: BoxNo) -> bool
+        ensures { result ≡ waits_at b self.now }
+    {
+        is_box(self.req.device, b) && is_waiting_func(self.req.func)
+    }
+
     /// Whether it is of a process, on that channel, and still to be cancelled.
     pub(crate) fn is_to_cancel(&self, p: Pid, chan: u32) -> bool
         ensures { result ≡ is_to_cancel p chan self.now }
@@ -149,5 +157,25 @@ fn is_unit(device: Device, u: UnitNo) -> bool
     match device {
         Device::Unit(v) => v.0 == u.0,
         Device::Mailbox(_) => false,
+    }
+}
+
+// Whether a device is that mailbox.
+fn is_box(device: Device, b: BoxNo) -> bool
+    ensures { result ≡ is_box b device }
+{
+    match device {
+        Device::Unit(_) => false,
+        Device::Mailbox(c) => b.0 == c.0,
+    }
+}
+
+/// Whether a request by a function waits at a mailbox.
+pub(crate) fn is_waiting_func(func: Func) -> bool
+    ensures { result ≡ is_waiting_func func }
+{
+    match func {
+        Func::Read => true,
+        _ => false,
     }
 }

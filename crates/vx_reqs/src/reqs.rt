@@ -4,6 +4,7 @@ ghost use Rattle.std.specs.Prelude.{◌≡◌, ◌<◌, ◌≤◌, ◌+◌, ◌+
 ghost use Rattle.std.specs.List.{find, list_any};
 ghost use Rattle.vx_base.specs.Lists.{less, amend};
 ghost use Rattle.vx_base.specs.Queues.{front, in_service};
+ghost use Rattle.vx_record.specs.Mailboxes.{waits_at};
 ghost use Rattle.vx_reqs.specs.Requests.{promised_of, has_id, is_found, as_marked, begun, is_to_cancel, keeps_open};
 
 use crate::found::{
@@ -11,12 +12,13 @@ use crate::found::{
 };
 use crate::order::Order;
 use crate::outstanding::Outstanding;
+use crate::reads::{Reads, place_read, settle_reads};
 use crate::room::{make_space, reserve_double};
 use crate::slot::Slot;
 use crate::units::{front, place_waiting, serving, settle, settle_unit};
 use std::alloc::Global;
 use std::marker::Model;
-use vx_base::{Id, Mode, NoMemory, Pid, Req, Routine, UnitNo};
+use vx_base::{BoxNo, Id, Mode, NoMemory, Pid, Req, Routine, UnitNo};
 
 /// The outstanding requests of all processes. Each stands in a place from its acceptance on; a place that is left stays
 /// empty, until there is none at the end for a new request and the empty ones are taken out.
@@ -26,6 +28,7 @@ pub struct Reqs<R: Routine> {
     count: usize,
     room: usize,
     order: Order,
+    reads: Reads,
 }
 
 impl<R: Routine> Model for Reqs<R> {
@@ -37,7 +40,7 @@ impl<R: Routine> Model for Reqs<R> {
 
     ghost view = { λ a. record { items = live a.slots.items; capacity = a.room } };
 
-    ghost invariant = { λ a. IsKept a.slots.items a.count a.room (vec_capacity a.slots) a.order.rising a.order.next a.order.from a.order.served };
+    ghost invariant = { λ a. IsKept a.slots.items a.count a.room (vec_capacity a.slots) a.order.rising a.order.next a.order.from a.order.served a.reads.from };
 }
 
 impl<R: Routine> Reqs<R> {
@@ -50,6 +53,7 @@ impl<R: Routine> Reqs<R> {
             count: 0,
             room: 0,
             order: Order::new(),
+            reads: Reads::new(),
         }
     }
 
@@ -75,6 +79,7 @@ impl<R: Routine> Reqs<R> {
     {
         make_space(&mut self.slots);
         self.order.accept(req.id, req.device);
+        self.reads.accept(req.id, req.device, req.func);
         self.slots
             .push_reserved(Slot::new(Outstanding::new(req, ast)));
         self.count += 1;
@@ -119,6 +124,16 @@ impl<R: Routine> Reqs<R> {
         Some(served.id())
     }
 
+    /// The first read that waits at a mailbox. None exactly where none waits.
+    pub fn first_read(&self, b: BoxNo) -> Option<Id>
+        ensures { result ≡ option_map (λ r. r.req.id) (find (waits_at b) self.now.items) }
+    {
+        let slots = self.slots.as_slice();
+        let place = place_read(slots, &self.order, &self.reads, b);
+        let found = request_at(slots, place)?;
+        Some(found.id())
+    }
+
     // The request with an id.
     fn with_id(&self, id: Id) -> Option<&Outstanding<R>>
         ensures { option_map (λ o. o.now) result ≡ find (has_id id) self.now.items }
@@ -158,7 +173,9 @@ impl<R: Routine> Reqs<R> {
         let place = place_of_id(self.slots.as_slice(), &self.order, id);
         let done = take_at(&mut self.slots, place)?;
         self.count -= 1;
-        settle(&mut self.order, self.slots.as_slice(), done.req().device);
+        let device = done.req().device;
+        settle(&mut self.order, self.slots.as_slice(), device);
+        settle_reads(&mut self.reads, self.slots.as_slice(), &self.order, device);
         Some(done)
     }
 

@@ -2,7 +2,7 @@
 
 ghost use Rattle.std.specs.Prelude.{◌≡◌, ◌<◌, ◌≤◌, ℕ, Bool, List, IfOk, length, vec_len, vec_capacity};
 ghost use Rattle.std.specs.List.{filter};
-ghost use Rattle.vx_reqs.specs.Places.{is_held, live, OrderedIf};
+ghost use Rattle.vx_reqs.specs.Places.{AreFrom, is_held, live, OrderedIf};
 
 use crate::slot::Slot;
 use vx_base::{NoMemory, Routine};
@@ -19,6 +19,7 @@ fn keep_held<R: Routine>(slots: &mut Vec<Slot<R>>)
 fn close_up<R: Routine>(slots: &mut Vec<Slot<R>>)
     ensures live { live slots.new.items ≡ live slots.old.items }
     ensures order { (rising : Bool) (next : ℕ) (from served : List ℕ) → OrderedIf rising next from served slots.old.items → OrderedIf rising next from served slots.new.items }
+    ensures reads { (from : List ℕ) → AreFrom from slots.old.items → AreFrom from slots.new.items }
     ensures len { vec_len slots.new ≡ length (live slots.old.items) }
     ensures capacity { vec_capacity slots.new ≡ vec_capacity slots.old }
 {
@@ -31,6 +32,7 @@ pub(crate) fn make_space<R: Routine>(slots: &mut Vec<Slot<R>>)
     requires { length (live slots.old.items) < vec_capacity slots.old }
     ensures live { live slots.new.items ≡ live slots.old.items }
     ensures order { (rising : Bool) (next : ℕ) (from served : List ℕ) → OrderedIf rising next from served slots.old.items → OrderedIf rising next from served slots.new.items }
+    ensures reads { (from : List ℕ) → AreFrom from slots.old.items → AreFrom from slots.new.items }
     ensures space { vec_len slots.new < vec_capacity slots.new }
     ensures capacity { vec_capacity slots.new ≡ vec_capacity slots.old }
 {
@@ -43,6 +45,7 @@ pub(crate) fn make_space<R: Routine>(slots: &mut Vec<Slot<R>>)
 pub(crate) fn reserve_double<R: Routine>(slots: &mut Vec<Slot<R>>) -> Result<usize, NoMemory>
     ensures live { live slots.new.items ≡ live slots.old.items }
     ensures order { (rising : Bool) (next : ℕ) (from served : List ℕ) → OrderedIf rising next from served slots.old.items → OrderedIf rising next from served slots.new.items }
+    ensures reads { (from : List ℕ) → AreFrom from slots.old.items → AreFrom from slots.new.items }
     ensures room { IfOk result (λ room. length (live slots.old.items) < room) }
     ensures within { IfOk result (λ room. room ≤ vec_capacity slots.new) }
     ensures capacity { vec_capacity slots.old ≤ vec_capacity slots.new }

@@ -2,12 +2,13 @@
 
 ghost use Rattle.std.specs.Prelude.{◌≡◌, Some, is_some, option_map};
 ghost use Rattle.vx_base.specs.Queues.{is_served_by, waits_for};
+ghost use Rattle.vx_record.specs.Mailboxes.{waits_at};
 ghost use Rattle.vx_reqs.specs.Places.{holds, emptied, changed};
 ghost use Rattle.vx_reqs.specs.Requests.{has_id, as_served, as_marked, is_to_cancel, keeps_open};
 
 use crate::outstanding::Outstanding;
 use std::marker::Model;
-use vx_base::{Id, Mode, Pid, Routine, UnitNo};
+use vx_base::{BoxNo, Id, Mode, Pid, Routine, UnitNo};
 
 /// The request that was accepted there, until it is finished. Its id stays. Contracts see a `Place`.
 #[derive(Drop)]
@@ -82,6 +83,16 @@ impl<R: Routine> Slot<R> {
     {
         match &self.held {
             Some(o) => o.waits_for(u),
+            None => false,
+        }
+    }
+
+    /// Whether a read stands there that waits at a mailbox.
+    pub(crate) fn waits_at(&self, b: BoxNo) -> bool
+        ensures { result ≡ holds (waits_at b) self.now }
+    {
+        match &self.held {
+            Some(o) => o.waits_at(b),
             None => false,
         }
     }

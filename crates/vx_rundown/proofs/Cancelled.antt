@@ -1,11 +1,11 @@
 -- What a process asked on its channels of a mode is cancelled, channel after channel; and rundown can rely on what it did before.
-use Rattle.std.proofs.Common.{◌≡◌, ◌≢◌, ◌==◌, ℕ, zero, suc, ◌+◌, ◌-◌, ◌<◌, ◌≤◌, List, [], ◌∷◌, true, false, cond, not, ◌&&◌, nat_lt, length, length-append, length-set, slice_index_or, get_or-set_other, Option, Some, None, is_some, replicate, inl, inr, refl, ap, sym, subst, ◌∙◌, arith}
+use Rattle.std.proofs.Common.{◌≡◌, ◌≢◌, ◌==◌, ℕ, ◌+◌, ◌-◌, ◌<◌, ◌≤◌, List, [], ◌∷◌, true, false, cond, not, ◌&&◌, nat_lt, length, length-append, length-set, get_or-set_other, Option, Some, None, is_some, inl, inr, refl, ap, sym, subst, ◌∙◌, arith}
 use Rattle.std.specs.List.{AllByRecursion, filter, find, list_any}
 use Rattle.std.proofs.lemmas.Bool.{cases_eq, eq-eqb, ltb-true}
 use Rattle.std.proofs.lemmas.Bool.Decides.{nat_tests}
 use Rattle.vx_base.specs.Channels.{channels_of, is_reached, next_of_mode, reached_from}
 use Rattle.vx_base.specs.Flags.{one}
-use Rattle.vx_base.specs.Pieces.{Attention, Channel, Mailbox, Promised, Queued, Request, Status}
+use Rattle.vx_base.specs.Pieces.{Channel, Promised, Queued, Request, Status}
 use Rattle.vx_base.specs.declared.cond.Cond.TheVariants.{Cancel}
 use Rattle.vx_base.specs.declared.effects.Cell.{Cell}
 use Rattle.vx_base.specs.declared.effects.Cell.TheVariants.{Common, Local}
@@ -16,7 +16,7 @@ use Rattle.vx_base.specs.declared.number.Pid.{Pid}
 use Rattle.vx_base.specs.declared.request.Device.{Device}
 use Rattle.vx_base.specs.declared.request.Device.TheVariants as device
 use Rattle.vx_base.specs.declared.request.Req.{Req}
-use Rattle.vx_record.proofs.Cancelled.{cancel_channel_moves, finish_requests}
+use Rattle.vx_record.proofs.Cancelled.{cancel_channel_moves, finish_requests, withdraw_requests}
 use Rattle.vx_record.proofs.Finds.{all_found, find_amend, find_less, ordered_filter, other_id}
 use Rattle.vx_record.proofs.Fits.{field_same}
 use Rattle.vx_record.proofs.Ground.{at_set}
@@ -27,22 +27,22 @@ use Rattle.vx_record.specs.Cancel.{cancel_channel, cancel_request, cancelled_req
 use Rattle.vx_record.specs.Charges.{bears_ast}
 use Rattle.vx_record.specs.Finish.{Ending, buf_part, done_flag_part, ending, finish, iosb_part, is_read, put_status, status_of, this_request, with_stored_bytes, with_stored_status}
 use Rattle.vx_record.specs.Flags.{cell, flag_where_named, with_local_flag}
-use Rattle.vx_record.specs.Mailboxes.{mcut_part, or_no_box, this_message}
-use Rattle.vx_record.specs.Parts.{Part, and_then, each, nothing, part_if, tells}
+use Rattle.vx_record.specs.Mailboxes.{mailbox_at, mcut_part, this_message}
+use Rattle.vx_record.specs.Parts.{Part, and_then, each, nothing, tells}
 use Rattle.vx_record.specs.Rundown.{cancel_one}
 use Rattle.vx_record.specs.Sound.{AreOrdered, IsSound, RequestStands, ground, request_id}
 use Rattle.vx_record.specs.State.{Process, State, IsProcess, nobody, process_at}
 use Rattle.vx_io.proofs.QueuedFirst.{finish_same}
 use Rattle.vx_procs.specs.Kernel.{Acts, Fits, Kernel, with_state}
-use Rattle.vx_procs.specs.Ready.{IsBare, owed}
+use Rattle.vx_procs.specs.Ready.{owed}
 use Rattle.vx_procs.specs.Requests.{ended, promised_ast, request_ast}
 use Rattle.vx_procs.specs.Words.{with_queued_if}
 use Rattle.vx_procs.proofs.Booked.{tally-amend, tally-less}
 use Rattle.vx_procs.proofs.Firsts.{filter_none}
 use Rattle.vx_procs.proofs.Rest.{IsDoing, doing_begun, doing_end, doing_on, doing_room}
 use Rattle.vx_rundown.specs.Leaving.{IsLeaving}
-use Rattle.vx_rundown.proofs.Left.{Follows, IsLess, change_follows, common_follows, follows_still, follows_then, leaving_acted, leaving_by, made_then}
-use Rattle.vx_rundown.proofs.Standing.{base_of}
+use Rattle.vx_rundown.proofs.Left.{Follows, IsLess, attention_follows, boxes_follow, change_follows, common_follows, each_follows, follows_still, follows_then, leaving_acted, leaving_by, made_then}
+use Rattle.vx_rundown.proofs.Standing.{base_of, sound_moved}
 
 -- A request finishes: its AST is owed no more, and is queued.
 
@@ -83,7 +83,6 @@ ended_follows s r made has =
       frames = λ q. field_same (λ (x : Process). x.frames) f s p q (queued_same (λ (x : Process). x.frames) (λ a x. refl) o pr);
       channels = λ e q. field_same (λ (x : Process). x.channels) f s p q (queued_same (λ (x : Process). x.channels) (λ a x. refl) o pr);
       owed = λ q also. ended_owed s r q made has also;
-      bare = λ b. record { attention = b.attention; boxes = b.boxes };
     }
 
 buffer_follows : (s : State) (r : Req) (e : Ending) → Follows true s (buf_part s r e).after
@@ -119,16 +118,14 @@ finish_follows s r e made has =
 
 -- A request is cancelled.
 
-none_at : (n i : ℕ) → slice_index_or (let xs : List (Option Mailbox) = replicate n None in xs) i None ≡ None
-none_at zero i = refl
-none_at (suc n) zero = refl
-none_at (suc n) (suc i) = none_at n i
+withdraw_follows : (s : State) (r : Request) (d : Device) → Follows true s (withdraw s r d).after
+withdraw_follows s r (device.Unit u) = follows_still true s
+withdraw_follows s r (device.Mailbox b) =
+    either (λ (x : Part). Follows true s x.after) (list_any (this_message r.req.id) (mailbox_at s b).messages) (mcut_part s b r.req.id) (nothing s) (boxes_follow true s (mcut_part s b r.req.id).after.boxes) (follows_still true s)
 
-withdraws_none : (s : State) (r : Request) (d : Device) → IsBare s → withdraw s r d ≡ nothing s
-withdraws_none s r (device.Unit u) bare = refl
-withdraws_none s r (device.Mailbox b) bare =
-    let box : slice_index_or s.boxes b.0 None ≡ None = ap (λ (xs : List (Option Mailbox)). slice_index_or xs b.0 None) bare.boxes ∙ none_at 64 b.0 in
-    ap (λ (o : Option Mailbox). part_if (list_any (this_message r.req.id) (or_no_box o).messages) (mcut_part s b r.req.id) s) box
+-- a request that is withdrawn is there still
+withdraw_has : (s : State) (x y : Request) (d : Device) → HasRequest s y → HasRequest (withdraw s x d).after y
+withdraw_has s x y d has = subst (λ (rs : List Request). find (this_request y.req.id) rs ≡ Some y) (sym (withdraw_requests s x d)) has
 
 mark_follows : (s : State) (r : Request) → Follows true s (mark_part s r).after
 mark_follows s r = record {
@@ -138,59 +135,70 @@ mark_follows s r = record {
   frames = λ q. refl;
   channels = λ e q. refl;
   owed = λ q made. let same = tally-amend (bears_ast q) (this_request r.req.id) with_abort (λ x. refl) s.requests in omega (arith, same);
-  bare = λ b. record { attention = b.attention; boxes = b.boxes };
 }
 
-request_follows : (s : State) (r : Request) → IsBare s → IsProcess s r.req.p → HasRequest s r → Follows true s (cancel_request s r).after
-request_follows s r bare made has =
+cancelled_follows : (s : State) (r : Request) → IsProcess s r.req.p → HasRequest s r → Follows true s (cancelled_request s r).after
+cancelled_follows s r made has =
+    let w = (withdraw s r r.req.device).after in
+    let first = withdraw_follows s r r.req.device in
+    let e = ending Cancel 0 0 [] in
+    follows_then true s w (finish w r e).after first (finish_follows w r e (made_then true s w r.req.p first made) (withdraw_has s r r r.req.device has))
+
+request_follows : (s : State) (r : Request) → IsProcess s r.req.p → HasRequest s r → Follows true s (cancel_request s r).after
+request_follows s r made has =
     either (λ (x : Part). Follows true s x.after) r.served _ (cancelled_request s r)
-    (either (λ (x : Part). Follows true s x.after) (not r.marked) (mark_part s r) (nothing s) (mark_follows s r) (follows_still true s))
-    (subst (λ (w : Part). Follows true s (finish w.after r (ending Cancel 0 0 [])).after) (sym (withdraws_none s r r.req.device bare)) (finish_follows s r (ending Cancel 0 0 []) made has))
+    (either (λ (x : Part). Follows true s x.after) (not r.marked) (mark_part s r) (nothing s) (mark_follows s r) (follows_still true s)) (cancelled_follows s r made has)
 
 -- those that come later stand as they did
-still_has : (s : State) (x y : Request) → IsBare s → request_id x + 1 ≤ request_id y → HasRequest s y → HasRequest (cancel_request s x).after y
-still_has s x y bare above has =
+still_has : (s : State) (x y : Request) → request_id x + 1 ≤ request_id y → HasRequest s y → HasRequest (cancel_request s x).after y
+still_has s x y above has =
     let P : Part → Type 0 = λ a. HasRequest a.after y in
     let apart = λ (z : Request). other_id z.req.id.0 x.req.id.0 y.req.id.0 (λ same. omega (arith, above)) in
+    let w = (withdraw s x x.req.device).after in
     either P x.served _ (cancelled_request s x)
     (either P (not x.marked) (mark_part s x) (nothing s) (find_amend (this_request x.req.id) (this_request y.req.id) with_abort s.requests y apart apart has) has)
-    (subst (λ (w : Part). HasRequest (finish w.after x (ending Cancel 0 0 [])).after y) (sym (withdraws_none s x x.req.device bare))
-    (subst (λ (rs : List Request). find (this_request y.req.id) rs ≡ Some y) (sym (finish_requests s x (ending Cancel 0 0 []))) (find_less (this_request x.req.id) (this_request y.req.id) s.requests y apart has)))
+    (subst (λ (rs : List Request). find (this_request y.req.id) rs ≡ Some y) (sym (finish_requests w x (ending Cancel 0 0 []))) (find_less (this_request x.req.id) (this_request y.req.id) w.requests y apart (withdraw_has s x y x.req.device has)))
 
 -- a request that stands among those of the state, of a process that is there
 abbrev IsOf : State → Request → Type 0
 IsOf s r = IsProcess s r.req.p × HasRequest s r
 
-requests_follow : (low high : ℕ) (rs : List Request) (s : State) → IsBare s → AreOrdered request_id low high rs → AllByRecursion (IsOf s) rs → Follows true s (each cancel_request rs s).after
-requests_follow low high [] s bare order those = follows_still true s
-requests_follow low high (r ∷ rs) s bare order those =
+requests_follow : (low high : ℕ) (rs : List Request) (s : State) → AreOrdered request_id low high rs → AllByRecursion (IsOf s) rs → Follows true s (each cancel_request rs s).after
+requests_follow low high [] s order those = follows_still true s
+requests_follow low high (r ∷ rs) s order those =
     let t = (cancel_request s r).after in
-    let first = request_follows s r bare those.0.0 those.0.1 in
+    let first = request_follows s r those.0.0 those.0.1 in
     let later = all_both (IsOf s) (λ y. request_id r + 1 ≤ request_id y) rs those.1 (all_from request_id (request_id r + 1) high rs order.1) in
-    let rest = all_weaker (λ y. IsOf s y × (request_id r + 1 ≤ request_id y)) (IsOf t) (λ y k. (made_then true s t y.req.p first k.0.0, still_has s r y bare k.1 k.0.1)) rs later in
-    follows_then true s t (each cancel_request rs t).after first (requests_follow (request_id r + 1) high rs t (first.bare bare) order.1 rest)
+    let rest = all_weaker (λ y. IsOf s y × (request_id r + 1 ≤ request_id y)) (IsOf t) (λ y k. (made_then true s t y.req.p first k.0.0, still_has s r y k.1 k.0.1)) rs later in
+    follows_then true s t (each cancel_request rs t).after first (requests_follow (request_id r + 1) high rs t order.1 rest)
 
--- A channel is cancelled: all of its requests.
+-- A channel is cancelled: all of its requests, and then all of its attention entries.
 
-channel_follows : (s : State) (p : Pid) (n : ℕ) → IsSound s → IsBare s → Follows true s (cancel_channel s p n).after
-channel_follows s p n sound bare =
+channel_follows : (s : State) (p : Pid) (n : ℕ) → IsSound s → Follows true s (cancel_channel s p n).after
+channel_follows s p n sound =
     let test = is_request_on p n in
     let rs = filter test s.requests in
     let a = (each cancel_request rs s).after in
     let owners = all_weaker (RequestStands (ground s)) (λ r. IsProcess s r.req.p) (λ r h. h.made) s.requests sound.requests in
     let those = all_both (λ r. IsProcess s r.req.p) (HasRequest s) s.requests owners (all_found request_id 0 s.next s.requests sound.request_ids) in
-    let first = requests_follow 0 s.next rs s bare (ordered_filter request_id test 0 s.next s.requests sound.request_ids) (all_filter (IsOf s) test s.requests those) in
-    let none : (drop_attentions a p n).after ≡ a = ap (λ (xs : List Attention). (each drop_attention (filter (is_attention_on p n) xs) a).after) (first.bare bare).attention in
-    subst (λ (t : State). Follows true s t) (sym none) first
+    let first = requests_follow 0 s.next rs s (ordered_filter request_id test 0 s.next s.requests sound.request_ids) (all_filter (IsOf s) test s.requests those) in
+    follows_then true s a (drop_attentions a p n).after first (each_follows true drop_attention attention_follows (filter (is_attention_on p n) a.attention) a)
 
 pub leaving_cancelled : (p : Pid) (n : ℕ) (k : Kernel) → IsLeaving k p → IsLeaving (with_state k (cancel_channel k.state p n).after) p
 leaving_cancelled p n k h =
     let part = cancel_channel k.state p n in
-    leaving_by true k p part.effects part.after (cancel_channel_moves k.state p n (base_of k.state h.sound)) (channel_follows k.state p n h.sound h.bare) h
+    leaving_by true k p part.effects part.after (cancel_channel_moves k.state p n (base_of k.state h.sound)) (channel_follows k.state p n h.sound) h
 
 pub leaving_cancels : (p : Pid) (ns : List ℕ) (k : Kernel) → IsLeaving k p → IsLeaving (with_state k (each (cancel_one p) ns k.state).after) p
 leaving_cancels p [] k h = h
 leaving_cancels p (n ∷ ns) k h = leaving_cancels p ns (with_state k (cancel_channel k.state p n).after) (leaving_cancelled p n k h)
+
+pub cancels_follow : (p : Pid) (ns : List ℕ) (s : State) → IsSound s → Follows true s (each (cancel_one p) ns s).after
+cancels_follow p [] s sound = follows_still true s
+cancels_follow p (n ∷ ns) s sound =
+    let a = cancel_channel s p n in
+    let rest = cancels_follow p ns a.after (sound_moved s a.after a.effects (cancel_channel_moves s p n (base_of s sound)) sound) in
+    follows_then true s a.after (each (cancel_one p) ns a.after).after (channel_follows s p n sound) rest
 
 -- The channels of a mode that come after a number.
 
@@ -250,22 +258,22 @@ cancelling_begun p m k h room =
     record { leaving = h; doing = subst (λ ns. IsDoing (cancel_all p m k.state) k (each (cancel_one p) ns k.state) k) (sym all) (doing_begun (cancel_all p m k.state) k room) }
 
 -- the next, and those behind it
-next_first : (p : Pid) (m : Mode) (after n : ℕ) (s : State) → IsSound s → IsBare s → Some n ≡ next_of_mode m after (process_at s p).channels → cancel_behind p m after s ≡ and_then (cancel_channel s p n) (cancel_behind p m n)
-next_first p m after n s sound bare found =
+next_first : (p : Pid) (m : Mode) (after n : ℕ) (s : State) → IsSound s → Some n ≡ next_of_mode m after (process_at s p).channels → cancel_behind p m after s ≡ and_then (cancel_channel s p n) (cancel_behind p m n)
+next_first p m after n s sound found =
     let rows = (process_at s p).channels in
     let t = (cancel_channel s p n).after in
     let split = behind_next after 1 (1 + length rows) n (channels_of m rows) (rises_from 1 m rows) (sym found) in
-    let same : (process_at t p).channels ≡ rows = (channel_follows s p n sound bare).channels refl p in
+    let same : (process_at t p).channels ≡ rows = (channel_follows s p n sound).channels refl p in
     ap (λ ns. each (cancel_one p) ns s) split ∙ ap (λ (rs : List (Option Channel)). and_then (cancel_channel s p n) (each (cancel_one p) (channels_behind m n rs))) (sym same)
 
 pub cancelling_room : (p : Pid) (m : Mode) (first k : Kernel) (after n : ℕ) → IsCancelling p m first after k → Some n ≡ next_of_mode m after (process_at k.state p).channels → Fits k (cancel_channel k.state p n).effects
 cancelling_room p m first k after n h found =
-    doing_room (cancel_all p m first.state) first k (cancel_behind p m after k.state) (cancel_channel k.state p n) (cancel_behind p m n) (next_first p m after n k.state h.leaving.sound h.leaving.bare found) h.doing
+    doing_room (cancel_all p m first.state) first k (cancel_behind p m after k.state) (cancel_channel k.state p n) (cancel_behind p m n) (next_first p m after n k.state h.leaving.sound found) h.doing
 
 pub cancelling_more : (p : Pid) (m : Mode) (first k l : Kernel) (after n : ℕ) → IsCancelling p m first after k → Some n ≡ next_of_mode m after (process_at k.state p).channels → Acts (cancel_channel k.state p n) k l → IsCancelling p m first n l
 cancelling_more p m first k l after n h found did = record {
   leaving = leaving_acted k l p (cancel_channel k.state p n) did (leaving_cancelled p n k h.leaving);
-  doing = doing_on (cancel_all p m first.state) first k l (cancel_behind p m after k.state) (cancel_channel k.state p n) (cancel_behind p m n) (next_first p m after n k.state h.leaving.sound h.leaving.bare found) did h.doing;
+  doing = doing_on (cancel_all p m first.state) first k l (cancel_behind p m after k.state) (cancel_channel k.state p n) (cancel_behind p m n) (next_first p m after n k.state h.leaving.sound found) did h.doing;
 }
 
 -- fewer are behind the next
@@ -273,7 +281,7 @@ pub cancelling_fewer : (p : Pid) (m : Mode) (k l : Kernel) (after n : ℕ) → I
 cancelling_fewer p m k l after n h found did =
     let rows = (process_at k.state p).channels in
     let split = behind_next after 1 (1 + length rows) n (channels_of m rows) (rises_from 1 m rows) (sym found) in
-    let same : (process_at l.state p).channels ≡ rows = ap (λ (x : Kernel). (process_at x.state p).channels) did ∙ (channel_follows k.state p n h.sound h.bare).channels refl p in
+    let same : (process_at l.state p).channels ≡ rows = ap (λ (x : Kernel). (process_at x.state p).channels) did ∙ (channel_follows k.state p n h.sound).channels refl p in
     omega (arith, ap length split, ap (λ (rs : List (Option Channel)). length (channels_behind m n rs)) same)
 
 pub cancelling_end : (p : Pid) (m : Mode) (first k : Kernel) (after : ℕ) → IsCancelling p m first after k → None ≡ next_of_mode m after (process_at k.state p).channels → Acts (cancel_all p m first.state) first k

@@ -35,8 +35,8 @@ use Rattle.vx_procs.proofs.Rest.{IsAnswering, acted, answering_begun, answering_
 use Rattle.vx_rundown.specs.Leaving.{IsLeaving}
 use Rattle.vx_rundown.specs.Steps.{drained, entered_as, frame_of, passed, passed_by}
 use Rattle.vx_rundown.proofs.Changed.{process_there}
-use Rattle.vx_rundown.proofs.Left.{handler_follows, leaving_acted, leaving_by, leaving_draining, leaving_handling}
-use Rattle.vx_rundown.proofs.Modes.{leaving_cancel}
+use Rattle.vx_rundown.proofs.Left.{handler_follows, leaving_acted, leaving_by, leaving_handling, leaving_told}
+use Rattle.vx_rundown.proofs.Modes.{cancelled_leaving, cancelled_phase, leaving_cancel}
 use Rattle.vx_rundown.proofs.Standing.{own_handlers_at}
 
 rank_same : (a b : Mode) → rank a ≡ rank b → a ≡ b
@@ -192,8 +192,14 @@ drained_at k l n o r p m there kept did drains =
 
 pub drain_leaving : (k l n o r : KernelOf) (p : Pid) (m : Mode) → IsLeaving k p → l ≡ changed k p (in_phase (phase.Handlers m)) → n ≡ l → Acts (cancel_modes n.state p m) n o → r ≡ changed o p (in_phase (phase.Draining m)) → IsLeaving r p
 drain_leaving k l n o r p m h there kept did drains =
-    let here = leaving_acted n o p (cancel_modes n.state p m) did (leaving_cancel p m n (pass_begun k l n p m h there kept)) in
-    subst (λ (x : KernelOf). IsLeaving x p) (sym drains) (leaving_draining o p m here)
+    let t = changed k p (in_phase (phase.Handlers m)) in
+    let part = cancelled_in t.state p m in
+    subst (λ (x : KernelOf). IsLeaving x p) (sym (drained_at k l n o r p m there kept did drains)) (leaving_told (with_state t part.after) p part.effects (cancelled_leaving p m t (leaving_handling k p m h)))
+
+pub drain_phase : (k l n o r : KernelOf) (p : Pid) (m : Mode) → IsLeaving k p → l ≡ changed k p (in_phase (phase.Handlers m)) → n ≡ l → Acts (cancel_modes n.state p m) n o → r ≡ changed o p (in_phase (phase.Draining m)) → (process_at r.state p).phase ≡ phase.Draining m
+drain_phase k l n o r p m h there kept did drains =
+    let t = changed k p (in_phase (phase.Handlers m)) in
+    ap (λ (x : KernelOf). (process_at x.state p).phase) (drained_at k l n o r p m there kept did drains) ∙ cancelled_phase p m t (leaving_handling k p m h)
 
 pub cancel_made : (k l n o : KernelOf) (p : Pid) (m : Mode) → IsLeaving k p → l ≡ changed k p (in_phase (phase.Handlers m)) → n ≡ l → Acts (cancel_modes n.state p m) n o → IsProcess o.state p
 cancel_made k l n o p m h there kept did = (leaving_acted n o p (cancel_modes n.state p m) did (leaving_cancel p m n (pass_begun k l n p m h there kept))).made

@@ -1,31 +1,29 @@
--- The channels of a mode and outer ones are freed, the first of them at a time.
-use Rattle.std.proofs.Common.{◌≡◌, ℕ, zero, suc, ◌+◌, ◌-◌, ◌<◌, ◌≤◌, List, [], ◌∷◌, ◌++◌, Bool, ◌&&◌, true, false, cond, nat_lt, length, slice_index_or, slice_set, Option, Some, None, IsSome, IsTrue, is_some, arith, refl, ap, sym, subst, ◌∙◌}
-use Rattle.std.specs.List.{AllByRecursion, find, list_all}
-use Rattle.std.proofs.lemmas.Bool.{and_parts}
+-- The channels of a mode and outer ones are freed, the first of them at a time, each with its mailbox if that goes with it.
+use Rattle.std.proofs.Common.{◌≡◌, ℕ, suc, ◌+◌, ◌-◌, ◌<◌, ◌≤◌, List, [], ◌∷◌, Bool, ◌&&◌, true, false, cond, nat_lt, not, length, slice_index_or, slice_set, Option, Some, None, IsSome, IsTrue, is_some, arith, refl, ap, sym, subst, ◌∙◌}
+use Rattle.std.specs.List.{find}
 use Rattle.std.proofs.lemmas.Bool.Decides.{nat_tests}
 use Rattle.vx_base.specs.Channels.{channel_at, channels_of, is_channel_number, is_reached, next_of_mode, reached_from}
-use Rattle.vx_base.specs.Pieces.{Attention, Channel}
+use Rattle.vx_base.specs.Pieces.{Channel}
 use Rattle.vx_base.specs.declared.mode.Mode.{Mode}
 use Rattle.vx_base.specs.declared.number.Pid.{Pid}
 use Rattle.vx_base.specs.declared.request.Device.{Device}
 use Rattle.vx_base.specs.declared.request.Device.TheVariants as device
-use Rattle.vx_record.specs.Channels.{free_channel, swept_box, with_channel}
-use Rattle.vx_record.specs.Parts.{Part, each, nothing}
-use Rattle.vx_record.specs.Rundown.{free_one}
+use Rattle.vx_record.specs.Channels.{box_gone, free_channel, goes_unused, is_assigned, swept_box, swept_device, with_channel}
+use Rattle.vx_record.specs.Mailboxes.{mailbox_at}
+use Rattle.vx_record.specs.Parts.{Part, and_then, each, nothing}
+use Rattle.vx_record.specs.Rundown.{free_one, keeps_busy}
+use Rattle.vx_record.specs.Sound.{ChannelStands, ground}
 use Rattle.vx_record.specs.State.{Process, State, process_at, change}
+use Rattle.vx_record.proofs.Cancelled.{free_channel_moves}
 use Rattle.vx_record.proofs.Changes.{stands_at}
-use Rattle.vx_record.proofs.Lists.{all_weaker, either}
-use Rattle.vx_record.proofs.Moves.{MovesBy, channel}
-use Rattle.vx_record.proofs.SoundChannels.{IsClear, is_on_box}
-use Rattle.vx_record.specs.Cancel.{is_attention_on, is_request_on}
-use Rattle.vx_record.specs.Sound.{IsSound, RequestStands, ground}
-use Rattle.vx_procs.specs.Kernel.{Acts, Fits, Kernel, changed, with_state}
-use Rattle.vx_procs.specs.Ready.{IsBare}
-use Rattle.vx_procs.proofs.Rest.{IsDoing, acted, doing_begun, doing_end}
-use Rattle.vx_rundown.specs.Leaving.{IsLeaving}
+use Rattle.vx_record.proofs.Firm.{firm}
+use Rattle.vx_record.proofs.Freeing.{IsFreeing as AreFreed, IsReleased, freed_on, freeing_first, freeing_row}
+use Rattle.vx_record.proofs.Lists.{all_get, either, none_passes}
+use Rattle.vx_procs.specs.Kernel.{Acts, Fits, Kernel, with_state}
+use Rattle.vx_procs.proofs.Rest.{IsDoing, doing_begun, doing_end, doing_on, doing_room}
+use Rattle.vx_rundown.specs.Leaving.{IsDrained, IsLeaving}
 use Rattle.vx_rundown.proofs.Changed.{process_there}
-use Rattle.vx_rundown.proofs.Left.{change_follows, leaving_by}
-use Rattle.vx_rundown.proofs.Standing.{is_to_unit, is_unit, unit_channels, unit_stands}
+use Rattle.vx_rundown.proofs.Left.{Follows, boxes_follow, change_follows, follows_still, follows_then, leaving_acted, leaving_by}
 
 -- Numbers.
 
@@ -100,121 +98,108 @@ found_none m rows found = cases (channels_of m rows) (found ∙ next_is m rows)
 
 -- Freeing.
 
-unit_at_row : (rows : List (Option Channel)) (i : ℕ) → IsTrue (list_all is_to_unit rows) → IsTrue (is_to_unit (slice_index_or rows i None))
-unit_at_row [] i h = refl
-unit_at_row (row ∷ rows) zero h = (and_parts (is_to_unit row) (list_all is_to_unit rows) h).0
-unit_at_row (row ∷ rows) (suc i) h = unit_at_row rows i (and_parts (is_to_unit row) (list_all is_to_unit rows) h).1
-
--- a unit stays, whoever frees a channel to it
-swept_unit : (s : State) (row : Option Channel) → IsTrue (is_to_unit row) → swept_box s row ≡ nothing s
-swept_unit s None h = refl
-swept_unit s (Some ch) h = by_device ch.device h
+swept_follows : (rows : Bool) (s : State) (row : Option Channel) → Follows rows s (swept_box s row).after
+swept_follows rows s None = follows_still rows s
+swept_follows rows s (Some ch) = by_device ch.device
   where
-    by_device : (d : Device) → IsTrue (is_to_unit (Some (record ch { device = d }))) → swept_box s (Some (record ch { device = d })) ≡ nothing s
-    by_device (device.Unit u) h = refl
-    by_device (device.Mailbox b) h = absurd (cc)
+    by_device : (d : Device) → Follows rows s (swept_device s d).after
+    by_device (device.Unit u) = follows_still rows s
+    by_device (device.Mailbox b) = either (λ (x : Part). Follows rows s x.after) (not (is_assigned s b) && goes_unused (mailbox_at s b)) (box_gone s b) (nothing s) (boxes_follow rows s (box_gone s b).after.boxes) (follows_still rows s)
 
-freed_alone : (k : Kernel) (p : Pid) (n : ℕ) → IsLeaving k p → free_channel k.state p n ≡ nothing (change k.state p (with_channel n None))
-freed_alone k p n h =
-    let rows = (process_at k.state p).channels in
-    let units = unit_channels k.state rows h.bare.boxes (stands_at k.state p h.sound h.made).channels in
-    swept_unit (change k.state p (with_channel n None)) (channel_at rows n) (unit_at_row rows (n - 1) units)
+free_follows : (s : State) (p : Pid) (n : ℕ) → Follows false s (free_channel s p n).after
+free_follows s p n =
+    let a = change s p (with_channel n None) in
+    let row = channel_at (process_at s p).channels n in
+    follows_then false s a (swept_box a row).after (change_follows false s p (with_channel n None) (record { decl = refl; frames = refl; channels = λ e. absurd (cc); asts = omega arith })) (swept_follows false a row)
 
--- no request is on a mailbox, and nothing is attended, so nothing hangs on a channel
-
-off_box : (b : Bool) (d : Device) → IsTrue (is_unit d) → (is_on_box d && b) ≡ false
-off_box b (device.Unit u) h = refl
-off_box b (device.Mailbox c) h = absurd (cc)
-
-clear_of : (s : State) (p : Pid) (n : ℕ) → IsSound s → IsBare s → IsClear s p n
-clear_of s p n sound bare = record {
-  requests = all_weaker (RequestStands (ground s)) (λ r. (is_on_box r.req.device && is_request_on p n r) ≡ false) (λ r h. off_box (is_request_on p n r) r.req.device (unit_stands s r.req.device bare.boxes h.stands)) s.requests sound.requests;
-  attention = subst (λ (xs : List Attention). AllByRecursion (λ a. is_attention_on p n a ≡ false) xs) (sym bare.attention) tt;
-}
-
-pub leaving_freed : (k : Kernel) (p : Pid) (n : ℕ) → IsTrue (is_channel_number n) → IsLeaving k p → IsLeaving (changed k p (with_channel n None)) p
-leaving_freed k p n number h =
-    let s = k.state in
-    let moves : MovesBy true s None [] (change s p (with_channel n None)) None = channel s None p n None (λ e i. (h.made, (number, clear_of s p n h.sound h.bare))) in
-    leaving_by false k p [] (change s p (with_channel n None)) moves (change_follows false s p (with_channel n None) (record { decl = refl; frames = refl; channels = λ e. absurd (cc); asts = omega arith })) h
+-- no request and no attention entry is on a channel of a mode that is drained
+leaving_freed : (k : Kernel) (p : Pid) (m : Mode) (n : ℕ) (ns : List ℕ) → AreFreed k.state p m (n ∷ ns) → IsLeaving k p → IsLeaving (with_state k (free_channel k.state p n).after) p
+leaving_freed k p m n ns free h =
+    let part = free_channel k.state p n in
+    leaving_by false k p part.effects part.after (free_channel_moves k.state p n (λ e i. freeing_row k.state p m n ns free i)) (free_follows k.state p n) h
 
 abbrev pub free_all : Pid → Mode → State → Part
 free_all p m s = each (free_one p) (channels_of m (process_at s p).channels) s
 
--- numbers that are reached are of channels
-reached_numbers : (m : Mode) (j : ℕ) (rows : List (Option Channel)) → 1 ≤ j → j + length rows ≤ 65 → AllByRecursion (λ n. IsTrue (is_channel_number n)) (reached_from j m rows)
-reached_numbers m j [] above below = tt
-reached_numbers m j (row ∷ rows) above below =
-    let most : j ≤ 64 = omega (arith, below) in
-    let number : IsTrue (is_channel_number j) = grind (arith, nat_tests) in
-    let rest = reached_numbers m (j + 1) rows (omega arith) (omega (arith, below)) in
-    either (AllByRecursion (λ n. IsTrue (is_channel_number n))) (is_reached m row) (j ∷ reached_from (j + 1) m rows) (reached_from (j + 1) m rows) (number, rest) rest
+freed_each : (p : Pid) (m : Mode) (ns : List ℕ) (k : Kernel) → AreFreed k.state p m ns → IsLeaving k p → IsLeaving (with_state k (each (free_one p) ns k.state).after) p
+freed_each p m [] k free h = h
+freed_each p m (n ∷ ns) k free h = freed_each p m ns (with_state k (free_channel k.state p n).after) (freed_on k.state p m n ns free) (leaving_freed k p m n ns free h)
 
-freed_each : (p : Pid) (ns : List ℕ) (k : Kernel) → AllByRecursion (λ n. IsTrue (is_channel_number n)) ns → IsLeaving k p → IsLeaving (with_state k (each (free_one p) ns k.state).after) p
-freed_each p [] k numbers h = h
-freed_each p (n ∷ ns) k numbers h =
-    subst (λ (a : Part). IsLeaving (with_state k (each (free_one p) ns a.after).after) p) (sym (freed_alone k p n h)) (freed_each p ns (changed k p (with_channel n None)) numbers.1 (leaving_freed k p n numbers.0 h))
+-- what is drained, in the words of the machine's proofs and back
 
-pub leaving_channels : (p : Pid) (m : Mode) (k : Kernel) → IsLeaving k p → IsLeaving (with_state k (free_all p m k.state).after) p
-leaving_channels p m k h =
-    let rows = (process_at k.state p).channels in
-    freed_each p (channels_of m rows) k (reached_numbers m 1 rows (omega arith) (omega (arith, (stands_at k.state p h.sound h.made).numbers))) h
+released : (s : State) (p : Pid) (m : Mode) → IsDrained s p m → IsReleased s p m
+released s p m h = record { phase = h.phase; idle = none_passes (keeps_busy p m) s.requests h.idle }
+
+all_free : (k : Kernel) (p : Pid) (m : Mode) → IsLeaving k p → IsReleased k.state p m → AreFreed k.state p m (channels_of m (process_at k.state p).channels)
+all_free k p m h free = freeing_first k.state p m h.made free
+
+pub leaving_channels : (p : Pid) (m : Mode) (k : Kernel) → IsDrained k.state p m → IsLeaving k p → IsLeaving (with_state k (free_all p m k.state).after) p
+leaving_channels p m k drained h = freed_each p m (channels_of m (process_at k.state p).channels) k (all_free k p m h (released k.state p m drained)) h
 
 -- The loop.
 pub record IsFreeing (p : Pid) (m : Mode) (first k : Kernel) : Type 0 where
   pub leaving : IsLeaving k p
+  pub released : IsReleased k.state p m
   pub doing : IsDoing (free_all p m first.state) first (free_all p m k.state) k
 
-pub freeing_begun : (p : Pid) (m : Mode) (k : Kernel) → IsLeaving k p → Fits k (free_all p m k.state).effects → IsFreeing p m k k
-freeing_begun p m k h room = record { leaving = h; doing = doing_begun (free_all p m k.state) k room }
+pub freeing_begun : (p : Pid) (m : Mode) (k : Kernel) → IsLeaving k p → IsDrained k.state p m → Fits k (free_all p m k.state).effects → IsFreeing p m k k
+freeing_begun p m k h drained room = record { leaving = h; released = released k.state p m drained; doing = doing_begun (free_all p m k.state) k room }
 
-reached_here : (p : Pid) (m : Mode) (k : Kernel) (n : ℕ) → Some n ≡ next_of_mode m 0 (process_at k.state p).channels → (ns : List ℕ) × IsReachedAt m 1 n ns (process_at k.state p).channels
-reached_here p m k n found =
+-- the channel that was found next, and those behind it
+record IsNext (p : Pid) (m : Mode) (k : Kernel) (n : ℕ) (ns : List ℕ) : Type 0 where
+  are : channels_of m (process_at k.state p).channels ≡ n ∷ ns
+  free : AreFreed k.state p m (n ∷ ns)
+  at : IsReachedAt m 1 n ns (process_at k.state p).channels
+
+next_here : (p : Pid) (m : Mode) (k : Kernel) (n : ℕ) → IsLeaving k p → IsReleased k.state p m → Some n ≡ next_of_mode m 0 (process_at k.state p).channels → (ns : List ℕ) × IsNext p m k n ns
+next_here p m k n h free found =
     let rows = (process_at k.state p).channels in
     let first = found_first m n rows found in
-    (first.0, reached_at m 1 n first.0 rows first.1)
+    (first.0, record { are = first.1; free = subst (AreFreed k.state p m) first.1 (all_free k p m h free); at = reached_at m 1 n first.0 rows first.1 })
 
-pub freeing_number : (p : Pid) (m : Mode) (k : Kernel) (n : ℕ) → IsLeaving k p → Some n ≡ next_of_mode m 0 (process_at k.state p).channels → IsTrue (is_channel_number n)
-freeing_number p m k n h found =
-    let at = (reached_here p m k n found).1 in
-    let most : n ≤ 64 = omega (arith, at.within, (stands_at k.state p h.sound h.made).numbers) in
-    let least : 1 ≤ n = at.above in
-    grind (arith, nat_tests)
+pub freeing_number : (p : Pid) (m : Mode) (first k : Kernel) (n : ℕ) → IsFreeing p m first k → Some n ≡ next_of_mode m 0 (process_at k.state p).channels → IsTrue (is_channel_number n)
+freeing_number p m first k n h found =
+    let next = next_here p m k n h.leaving h.released found in
+    (freeing_row k.state p m n next.0 next.1.free (firm k.state h.leaving.sound)).1.0
 
-pub freeing_there : (p : Pid) (m : Mode) (k : Kernel) (n : ℕ) → Some n ≡ next_of_mode m 0 (process_at k.state p).channels → IsSome (channel_at (process_at k.state p).channels n)
-freeing_there p m k n found = (reached_here p m k n found).1.there
+pub freeing_there : (p : Pid) (m : Mode) (first k : Kernel) (n : ℕ) → IsFreeing p m first k → Some n ≡ next_of_mode m 0 (process_at k.state p).channels → IsSome (channel_at (process_at k.state p).channels n)
+freeing_there p m first k n h found = (next_here p m k n h.leaving h.released found).1.at.there
 
-free_first : (p : Pid) (m : Mode) (k : Kernel) (n : ℕ) → IsLeaving k p → Some n ≡ next_of_mode m 0 (process_at k.state p).channels → free_all p m k.state ≡ free_all p m (change k.state p (with_channel n None))
-free_first p m k n h found =
+pub freeing_stands : (p : Pid) (k : Kernel) (n : ℕ) → IsLeaving k p → ChannelStands (ground k.state) (channel_at (process_at k.state p).channels n)
+freeing_stands p k n h = all_get (ChannelStands (ground k.state)) (process_at k.state p).channels (n - 1) None tt (stands_at k.state p h.sound h.made).channels
+
+-- those behind it are what is left
+left_behind : (p : Pid) (m : Mode) (k : Kernel) (n : ℕ) (ns : List ℕ) → IsLeaving k p → IsNext p m k n ns → channels_of m (process_at (free_channel k.state p n).after p).channels ≡ ns
+left_behind p m k n ns h next =
     let s = k.state in
-    let rows = (process_at s p).channels in
-    let first = found_first m n rows found in
-    let at = reached_at m 1 n first.0 rows first.1 in
-    let t = change s p (with_channel n None) in
-    let left : first.0 ≡ channels_of m (process_at t p).channels = sym at.rest ∙ ap (λ (pr : Process). channels_of m pr.channels) (sym (process_there s p (with_channel n None) h.made)) in
-    ap (λ ns. each (free_one p) ns s) first.1
-    ∙ (ap (λ (a : Part). let b = each (free_one p) first.0 a.after in let x : Part = record { effects = a.effects ++ b.effects; after = b.after } in x) (freed_alone k p n h) ∙ ap (λ ns. each (free_one p) ns t) left)
+    let a = change s p (with_channel n None) in
+    let swept = (swept_follows true a (channel_at (process_at s p).channels n)).channels refl p in
+    ap (channels_of m) (swept ∙ ap (λ (pr : Process). pr.channels) (process_there s p (with_channel n None) h.made)) ∙ next.at.rest
 
-pub freeing_more : (p : Pid) (m : Mode) (first k l : Kernel) (n : ℕ) → IsFreeing p m first k → Some n ≡ next_of_mode m 0 (process_at k.state p).channels → l ≡ changed k p (with_channel n None) → IsFreeing p m first l
-freeing_more p m first k l n h found there =
-    let t = change k.state p (with_channel n None) in
-    let here : IsFreeing p m first (changed k p (with_channel n None)) = record {
-      leaving = leaving_freed k p n (freeing_number p m k n h.leaving found) h.leaving;
-      doing = record {
-        leaves = ap (λ (a : Part). acted k a) (sym (free_first p m k n h.leaving found)) ∙ h.doing.leaves;
-        room = subst (λ (a : Part). Fits k a.effects) (free_first p m k n h.leaving found) h.doing.room;
-      };
-    } in
-    subst (λ (x : Kernel). IsFreeing p m first x) (sym there) here
+free_first : (p : Pid) (m : Mode) (first k : Kernel) (n : ℕ) → IsFreeing p m first k → Some n ≡ next_of_mode m 0 (process_at k.state p).channels → free_all p m k.state ≡ and_then (free_channel k.state p n) (free_all p m)
+free_first p m first k n h found =
+    let next = next_here p m k n h.leaving h.released found in
+    ap (λ ns. each (free_one p) ns k.state) next.1.are ∙ ap (λ ns. and_then (free_channel k.state p n) (each (free_one p) ns)) (sym (left_behind p m k n next.0 h.leaving next.1))
+
+pub freeing_room : (p : Pid) (m : Mode) (first k : Kernel) (n : ℕ) → IsFreeing p m first k → Some n ≡ next_of_mode m 0 (process_at k.state p).channels → Fits k (free_channel k.state p n).effects
+freeing_room p m first k n h found = doing_room (free_all p m first.state) first k (free_all p m k.state) (free_channel k.state p n) (free_all p m) (free_first p m first k n h found) h.doing
+
+pub freeing_more : (p : Pid) (m : Mode) (first k l : Kernel) (n : ℕ) → IsFreeing p m first k → Some n ≡ next_of_mode m 0 (process_at k.state p).channels → Acts (free_channel k.state p n) k l → IsFreeing p m first l
+freeing_more p m first k l n h found did =
+    let next = next_here p m k n h.leaving h.released found in
+    let part = free_channel k.state p n in
+    record {
+      leaving = leaving_acted k l p part did (leaving_freed k p m n next.0 next.1.free h.leaving);
+      released = subst (λ (x : Kernel). IsReleased x.state p m) (sym did) (freed_on k.state p m n next.0 next.1.free).released;
+      doing = doing_on (free_all p m first.state) first k l (free_all p m k.state) part (free_all p m) (free_first p m first k n h found) did h.doing;
+    }
 
 -- fewer are reached
-pub freeing_fewer : (p : Pid) (m : Mode) (k l : Kernel) (n : ℕ) → IsLeaving k p → Some n ≡ next_of_mode m 0 (process_at k.state p).channels → l ≡ changed k p (with_channel n None) → length (channels_of m (process_at l.state p).channels) < length (channels_of m (process_at k.state p).channels)
-freeing_fewer p m k l n h found there =
-    let s = k.state in
-    let first = found_first m n (process_at s p).channels found in
-    let at = reached_at m 1 n first.0 (process_at s p).channels first.1 in
-    let left : channels_of m (process_at (change s p (with_channel n None)) p).channels ≡ first.0 = ap (λ (pr : Process). channels_of m pr.channels) (process_there s p (with_channel n None) h.made) ∙ at.rest in
-    rw there (omega (arith, ap length left, ap length first.1))
+pub freeing_fewer : (p : Pid) (m : Mode) (first k l : Kernel) (n : ℕ) → IsFreeing p m first k → Some n ≡ next_of_mode m 0 (process_at k.state p).channels → Acts (free_channel k.state p n) k l → length (channels_of m (process_at l.state p).channels) < length (channels_of m (process_at k.state p).channels)
+freeing_fewer p m first k l n h found did =
+    let next = next_here p m k n h.leaving h.released found in
+    let left : channels_of m (process_at l.state p).channels ≡ next.0 = ap (λ (x : Kernel). channels_of m (process_at x.state p).channels) did ∙ left_behind p m k n next.0 h.leaving next.1 in
+    omega (arith, ap length left, ap length next.1.are)
 
 pub freeing_end : (p : Pid) (m : Mode) (first k : Kernel) → IsFreeing p m first k → None ≡ next_of_mode m 0 (process_at k.state p).channels → Acts (free_all p m first.state) first k
 freeing_end p m first k h none =

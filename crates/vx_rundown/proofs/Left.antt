@@ -1,9 +1,8 @@
--- What rundown relies on stays, as its process changes, and the timers and the common clusters.
-use Rattle.std.proofs.Common.{◌≡◌, ◌<◌, ◌≤◌, ℕ, ◌-◌, List, [], ◌∷◌, Bool, true, false, None, length, length-set, slice_index_or, refl, ap, sym, subst, ◌∙◌, arith}
-use Rattle.std.specs.List.{AllByRecursion, filter}
-use Rattle.vx_base.specs.Channels.{channels_of}
+-- What rundown relies on stays, as its process changes, and the timers, the attention entries, the mailboxes and the common clusters.
+use Rattle.std.proofs.Common.{◌≡◌, ◌<◌, ◌≤◌, ℕ, ◌-◌, List, [], ◌∷◌, Bool, true, Option, None, length, length-set, slice_index_or, refl, ap, sym, subst, ◌∙◌, arith}
+use Rattle.std.specs.List.{filter}
 use Rattle.vx_base.specs.Clusters.{Common, dissociated}
-use Rattle.vx_base.specs.Pieces.{Attention, Handler, Queued, Timer}
+use Rattle.vx_base.specs.Pieces.{Attention, Handler, Mailbox, Queued, Timer}
 use Rattle.vx_base.specs.declared.effects.Effect.{Effect}
 use Rattle.vx_base.specs.declared.frame.Frame.{Frame}
 use Rattle.vx_base.specs.declared.frame.Phase.{Phase}
@@ -15,24 +14,24 @@ use Rattle.vx_record.proofs.Apart.{dissociated_only}
 use Rattle.vx_record.proofs.Cancelled.{drop_timers_moves}
 use Rattle.vx_record.proofs.Fits.{field_same}
 use Rattle.vx_record.proofs.Ground.{at_set}
-use Rattle.vx_record.proofs.Moves.{AreUnattended, MovesBy, PartBy, clusters, dissociates, drains, end_asts, end_handlers, quiet}
+use Rattle.vx_record.proofs.Moves.{MovesBy, PartBy, clusters, dissociates, end_asts, end_handlers, quiet}
 use Rattle.vx_record.proofs.SoundFlags.{dissociated_stands}
-use Rattle.vx_record.proofs.Steps.{handling_silent, phase_silent}
-use Rattle.vx_record.specs.Cancel.{is_attention_on}
-use Rattle.vx_record.specs.Charges.{charged_timer}
+use Rattle.vx_record.proofs.Steps.{handling_silent}
+use Rattle.vx_record.specs.Cancel.{drop_attention}
+use Rattle.vx_record.specs.Charges.{charged_timer, is_attention_of}
+use Rattle.vx_record.specs.Mailboxes.{this_attention}
 use Rattle.vx_record.specs.Parts.{Part, each}
 use Rattle.vx_record.specs.Rundown.{drop_ast, drop_asts, drop_handler, drop_handlers, in_phase, is_ast_reached, part_with, without_ast, without_handler}
 use Rattle.vx_record.specs.State.{Process, State, IsProcess, change, no_decl, nobody, process_at}
 use Rattle.vx_record.specs.Timers.{drop_timer, drop_timers, this_timer}
-use Rattle.std.specs.List.{list_any}
 use Rattle.vx_procs.specs.Kernel.{Acts, Kernel, changed, told, with_state}
-use Rattle.vx_procs.specs.Ready.{IsBare, owed}
+use Rattle.vx_procs.specs.Ready.{owed}
 use Rattle.vx_procs.proofs.Firsts.{less_few, tally_few}
 use Rattle.vx_rundown.specs.Leaving.{IsLeaving}
 use Rattle.vx_rundown.proofs.Standing.{base_of, sound_moved}
 
--- The processes are those that were there, with their declarations and frames, and no more ASTs are owed to them; what is not built is not
--- open; and where rows is true, the channels are those that were there.
+-- The processes are those that were there, with their declarations and frames, and no more ASTs are owed to them; and where rows is
+-- true, the channels are those that were there.
 pub record Follows (rows : Bool) (s t : State) : Type 0 where
   pub system : t.system ≡ s.system
   pub many : length t.procs ≡ length s.procs
@@ -40,13 +39,12 @@ pub record Follows (rows : Bool) (s t : State) : Type 0 where
   pub frames : (q : Pid) → (process_at t q).frames ≡ (process_at s q).frames
   pub channels : rows ≡ true → (q : Pid) → (process_at t q).channels ≡ (process_at s q).channels
   pub owed : (q : Pid) → IsProcess s q → owed t q ≤ owed s q
-  pub bare : IsBare s → IsBare t
 
 pub made_then : (rows : Bool) (s t : State) (q : Pid) → Follows rows s t → IsProcess s q → IsProcess t q
 made_then rows s t q h made = record { above = made.above; within = omega (arith, made.within, h.many) }
 
 pub follows_still : (rows : Bool) (s : State) → Follows rows s s
-follows_still rows s = record { system = refl; many = refl; decl = λ q. refl; frames = λ q. refl; channels = λ e q. refl; owed = λ q made. omega arith; bare = λ b. b }
+follows_still rows s = record { system = refl; many = refl; decl = λ q. refl; frames = λ q. refl; channels = λ e q. refl; owed = λ q made. omega arith }
 
 pub follows_then : (rows : Bool) (s t u : State) → Follows rows s t → Follows rows t u → Follows rows s u
 follows_then rows s t u a b = record {
@@ -56,7 +54,6 @@ follows_then rows s t u a b = record {
   frames = λ q. b.frames q ∙ a.frames q;
   channels = λ e q. b.channels e q ∙ a.channels e q;
   owed = λ q made. let first = a.owed q made in let second = b.owed q (made_then rows s t q a made) in omega (arith, first, second);
-  bare = λ x. b.bare (a.bare x);
 }
 
 pub each_follows : {A : Type 0} (rows : Bool) (f : State → A → Part) → ((s : State) (x : A) → Follows rows s (f s x).after) → (xs : List A) (s : State) → Follows rows s (each f xs s).after
@@ -80,12 +77,15 @@ change_follows rows s p f h = record {
   owed = λ q made.
       let few = at_set (λ (x y : Process). length y.asts ≤ length x.asts) (λ x. omega arith) s.procs (p.0 - 1) (q.0 - 1) (f (process_at s p)) nobody h.asts in
       omega (arith, few);
-  bare = λ b. record { attention = b.attention; boxes = b.boxes };
 }
 
 -- the common clusters changed
 pub common_follows : (rows : Bool) (s : State) (c : Common) → Follows rows s (record s { common = c })
-common_follows rows s c = record { system = refl; many = refl; decl = λ q. refl; frames = λ q. refl; channels = λ e q. refl; owed = λ q made. omega arith; bare = λ b. record { attention = b.attention; boxes = b.boxes } }
+common_follows rows s c = record { system = refl; many = refl; decl = λ q. refl; frames = λ q. refl; channels = λ e q. refl; owed = λ q made. omega arith }
+
+-- the mailboxes changed
+pub boxes_follow : (rows : Bool) (s : State) (boxes : List (Option Mailbox)) → Follows rows s (record s { boxes = boxes })
+boxes_follow rows s boxes = record { system = refl; many = refl; decl = λ q. refl; frames = λ q. refl; channels = λ e q. refl; owed = λ q made. omega arith }
 
 -- What rundown relies on, after moves of the machine.
 pub leaving_by : (rows : Bool) (k : Kernel) (p : Pid) (es : List Effect) (t : State) → MovesBy true k.state None es t None → Follows rows k.state t → IsLeaving k p → IsLeaving (with_state k t) p
@@ -104,7 +104,6 @@ leaving_by rows k p es t moves f h =
           let has = h.spares q was in
           let few = f.owed q was in
           record { frame = omega (arith, has.frame, ap (λ (fs : List Frame). length fs) (f.frames q)); ast = omega (arith, has.ast, few) };
-      bare = f.bare h.bare;
     }
 
 -- effects that are told change nothing of it
@@ -116,7 +115,6 @@ leaving_told k p effects h = record {
   idle = h.idle;
   sound = h.sound;
   spares = λ q m. let has = h.spares q m in record { frame = has.frame; ast = has.ast };
-  bare = h.bare;
 }
 
 -- the state after a part, whatever it told
@@ -125,7 +123,7 @@ leaving_acted k l p part did h = subst (λ (x : Kernel). IsLeaving x p) (sym did
 
 -- In another phase.
 
-phase_follows : (s : State) (p : Pid) (ph : Phase) → Follows true s (change s p (in_phase ph))
+pub phase_follows : (s : State) (p : Pid) (ph : Phase) → Follows true s (change s p (in_phase ph))
 phase_follows s p ph = change_follows true s p (in_phase ph) (record { decl = refl; frames = refl; channels = λ e. refl; asts = omega arith })
 
 pub leaving_handling : (k : Kernel) (p : Pid) (m : Mode) → IsLeaving k p → IsLeaving (changed k p (in_phase (phase.Handlers m))) p
@@ -133,18 +131,7 @@ leaving_handling k p m h =
     let f = in_phase (phase.Handlers m) in
     leaving_by true k p [] (change k.state p f) (quiet k.state None p f (handling_silent k.state p m)) (phase_follows k.state p (phase.Handlers m)) h
 
-none_attends : (s : State) (p : Pid) (ns : List ℕ) → s.attention ≡ [] → AreUnattended s p ns
-none_attends s p ns none = subst (λ (xs : List Attention). AllByRecursion (λ a. list_any (λ n. is_attention_on p n a) ns ≡ false) xs) (sym none) tt
-
-pub leaving_draining : (k : Kernel) (p : Pid) (m : Mode) → IsLeaving k p → IsLeaving (changed k p (in_phase (phase.Draining m))) p
-leaving_draining k p m h =
-    let s = k.state in
-    let f = in_phase (phase.Draining m) in
-    let moves : MovesBy true s None [] (change s p f) None =
-    quiet s None p f (phase_silent s p (phase.Draining m) (λ e i. drains m h.made h.idle (none_attends s p (channels_of m (process_at s p).channels) h.bare.attention))) in
-    leaving_by true k p [] (change s p f) moves (phase_follows s p (phase.Draining m)) h
-
--- Without the ASTs of a mode, without exit handlers, without timers, and without associations.
+-- Without the ASTs of a mode, without exit handlers, without timers and attention entries, and without associations.
 
 ast_follows : (p : Pid) (s : State) (q : Queued) → Follows true s (drop_ast p s q).after
 ast_follows p s q = change_follows true s p (without_ast q.id) (record { decl = refl; frames = refl; channels = λ e. refl; asts = less_few _ (process_at s p).asts })
@@ -170,13 +157,26 @@ timer_follows s t = record {
   frames = λ q. refl;
   channels = λ e q. refl;
   owed = λ q made. let few = tally_few (charged_timer q) (this_timer t.id) s.timers in omega (arith, few);
-  bare = λ b. record { attention = b.attention; boxes = b.boxes };
+}
+
+pub timers_follow : (test : Timer → Bool) (s : State) → Follows true s (drop_timers test s).after
+timers_follow test s = each_follows true drop_timer timer_follows (filter test s.timers) s
+
+-- an entry gives the place of its AST back
+pub attention_follows : (s : State) (a : Attention) → Follows true s (drop_attention s a).after
+attention_follows s a = record {
+  system = refl;
+  many = refl;
+  decl = λ q. refl;
+  frames = λ q. refl;
+  channels = λ e q. refl;
+  owed = λ q made. let few = tally_few (is_attention_of q) (this_attention a.id) s.attention in omega (arith, few);
 }
 
 pub leaving_timers : (p : Pid) (test : Timer → Bool) (k : Kernel) → IsLeaving k p → IsLeaving (with_state k (drop_timers test k.state).after) p
 leaving_timers p test k h =
     let part = drop_timers test k.state in
-    leaving_by true k p part.effects part.after (drop_timers_moves k.state test (base_of k.state h.sound)) (each_follows true drop_timer timer_follows (filter test k.state.timers) k.state) h
+    leaving_by true k p part.effects part.after (drop_timers_moves k.state test (base_of k.state h.sound)) (timers_follow test k.state) h
 
 pub leaving_parted : (p : Pid) (n : ℕ) (k : Kernel) → IsLeaving k p → IsLeaving (with_state k (part_with p n k.state).after) p
 leaving_parted p n k h =

@@ -15,14 +15,19 @@ use Rattle.vx_base.specs.declared.record.Answer.TheVariants as answer
 use Rattle.vx_record.specs.Parts.{Outcome, Part, and_then, answered, followed_by, nothing, part_of}
 use Rattle.vx_record.specs.Rundown.{cancel_modes, cancelled_in, drain, drop_asts, handling, in_phase, inner_modes, is_busy, is_handler_of, is_timer_in, is_wake_by, part_with, release, run_down, run_handlers, rundown, rundown_from}
 use Rattle.vx_record.specs.State.{State, process_at}
+use Rattle.vx_record.proofs.Freeing.{phase_at}
+use Rattle.vx_record.proofs.Lists.{either_by}
+use Rattle.vx_record.proofs.Steps.{cancelled_in_moves}
+use Rattle.vx_record.specs.Sound.{IsSound}
 use Rattle.vx_record.specs.Timers.{drop_timers}
 use Rattle.vx_procs.specs.Kernel.{Acts, Does, Fits, Kernel as KernelOf, changed, with_state}
 use Rattle.vx_procs.proofs.Rest.{IsAnswering, IsDoing, answering_begun, answering_on, doing_begun, doing_on, doing_room}
-use Rattle.vx_rundown.specs.Leaving.{IsLeaving}
+use Rattle.vx_rundown.specs.Leaving.{IsDrained, IsLeaving}
 use Rattle.vx_rundown.specs.Steps.{drained, modes_from, next_inner, passed, passed_by, then_by, then_on}
-use Rattle.vx_rundown.proofs.Cancelled.{cancel_all, leaving_cancels}
+use Rattle.vx_rundown.proofs.Cancelled.{cancel_all, cancels_follow, leaving_cancels}
 use Rattle.vx_rundown.proofs.Freed.{free_all, leaving_channels}
-use Rattle.vx_rundown.proofs.Left.{leaving_acted, leaving_asts, leaving_draining, leaving_handling, leaving_parted, leaving_timers}
+use Rattle.vx_rundown.proofs.Left.{Follows, follows_then, leaving_acted, leaving_asts, leaving_by, leaving_handling, leaving_parted, leaving_timers, phase_follows, timers_follow}
+use Rattle.vx_rundown.proofs.Standing.{base_of}
 
 -- Cancelling: the channels, the timers, the wakes.
 
@@ -84,12 +89,12 @@ release_first p m s =
     ap (λ (es : List Effect). let x : Part = record { effects = es; after = c.after } in x)
     (append_assoc (f.effects ++ a.effects) b.effects c.effects ∙ append_assoc f.effects a.effects (b.effects ++ c.effects))
 
-pub leaving_release : (p : Pid) (m : Mode) (k : KernelOf) → IsLeaving k p → IsLeaving (with_state k (release k.state p m).after) p
-leaving_release p m k h =
+pub leaving_release : (p : Pid) (m : Mode) (k : KernelOf) → IsDrained k.state p m → IsLeaving k p → IsLeaving (with_state k (release k.state p m).after) p
+leaving_release p m k drained h =
     let f = with_state k (free_all p m k.state).after in
     let a = with_state f (drop_asts p m f.state).after in
     let b = with_state a (part_with p 2 a.state).after in
-    leaving_parted p 3 b (leaving_parted p 2 a (leaving_asts p m f (leaving_channels p m k h)))
+    leaving_parted p 3 b (leaving_parted p 2 a (leaving_asts p m f (leaving_channels p m k drained h)))
 
 -- A mode is drained, and passed.
 
@@ -133,14 +138,31 @@ then_goes o next k l did = ap (λ (y : Option Answer). then_by y (part_of o) nex
 
 -- The state where a mode was passed.
 
-drained_leaving : (p : Pid) (m : Mode) (k : KernelOf) → IsLeaving k p → IsLeaving (with_state k (drained p m k.state).after) p
-drained_leaving p m k h = elim (is_busy k.state p m) as (λ b. IsLeaving (with_state k (cond b (answered (Some answer.Busy) (nothing k.state)) (answered None (release k.state p m))).after) p) [ true ↦ h | false ↦ leaving_release p m k h ]
+drained_leaving : (p : Pid) (m : Mode) (k : KernelOf) → (process_at k.state p).phase ≡ phase.Draining m → IsLeaving k p → IsLeaving (with_state k (drained p m k.state).after) p
+drained_leaving p m k draining h =
+    either_by (λ (o : Outcome (Option Answer)). IsLeaving (with_state k o.after) p) (is_busy k.state p m) (answered (Some answer.Busy) (nothing k.state)) (answered None (release k.state p m)) (λ busy. h)
+    (λ idle. leaving_release p m k (record { phase = draining; idle = idle }) h)
 
-pub leaving_drained : (p : Pid) (m : Mode) (k l : KernelOf) (x : Option Answer) → Does (drained p m k.state) x k l → IsLeaving k p → IsLeaving l p
-leaving_drained p m k l x did h = leaving_acted k l p (part_of (drained p m k.state)) did.leaves (drained_leaving p m k h)
+pub leaving_drained : (p : Pid) (m : Mode) (k l : KernelOf) (x : Option Answer) → Does (drained p m k.state) x k l → (process_at k.state p).phase ≡ phase.Draining m → IsLeaving k p → IsLeaving l p
+leaving_drained p m k l x did draining h = leaving_acted k l p (part_of (drained p m k.state)) did.leaves (drained_leaving p m k draining h)
 
-cancelled_leaving : (p : Pid) (m : Mode) (k : KernelOf) → IsLeaving k p → IsLeaving (with_state k (cancelled_in k.state p m).after) p
-cancelled_leaving p m k h = leaving_draining (with_state k (cancel_modes k.state p m).after) p m (leaving_cancel p m k h)
+-- cancelled first, nothing is attended on the channels of a mode that is drained
+cancelled_follows : (p : Pid) (m : Mode) (s : State) → IsSound s → Follows true s (cancelled_in s p m).after
+cancelled_follows p m s sound =
+    let c = (cancel_all p m s).after in
+    let t = (drop_timers (is_timer_in p m) c).after in
+    let w = (drop_timers (is_wake_by p) t).after in
+    let first = cancels_follow p (channels_of m (process_at s p).channels) s sound in
+    follows_then true s w (cancelled_in s p m).after (follows_then true s t w (follows_then true s c t first (timers_follow (is_timer_in p m) c)) (timers_follow (is_wake_by p) t)) (phase_follows w p (phase.Draining m))
+
+pub cancelled_leaving : (p : Pid) (m : Mode) (k : KernelOf) → IsLeaving k p → IsLeaving (with_state k (cancelled_in k.state p m).after) p
+cancelled_leaving p m k h =
+    let part = cancelled_in k.state p m in
+    leaving_by true k p part.effects part.after (cancelled_in_moves k.state p m (base_of k.state h.sound) (λ e. record { made = h.made; none = h.idle })) (cancelled_follows p m k.state h.sound) h
+
+-- and it is then in that phase
+pub cancelled_phase : (p : Pid) (m : Mode) (k : KernelOf) → IsLeaving k p → (process_at (cancelled_in k.state p m).after p).phase ≡ phase.Draining m
+cancelled_phase p m k h = phase_at (cancel_modes k.state p m).after p (phase.Draining m) (leaving_cancel p m k h).made
 
 -- no handler of the mode was there
 pub leaving_passed : (p : Pid) (m : Mode) (k l : KernelOf) → Does (passed p m k.state) None k l → IsLeaving k p → IsLeaving l p
@@ -150,7 +172,8 @@ leaving_passed p m k l did h = by (find (is_handler_of m) (process_at k.state p)
     by None did =
         let t = changed k p (in_phase (phase.Handlers m)) in
         let u = with_state t (cancelled_in t.state p m).after in
-        leaving_acted k l p (part_of (passed_by p m None (handling p m k.state))) did.leaves (drained_leaving p m u (cancelled_leaving p m t (leaving_handling k p m h)))
+        let begun = leaving_handling k p m h in
+        leaving_acted k l p (part_of (passed_by p m None (handling p m k.state))) did.leaves (drained_leaving p m u (cancelled_phase p m t begun) (cancelled_leaving p m t begun))
     by (Some x) did = absurd (cc (did.answers))
 
 -- The loop: what is left of a rundown.
@@ -191,19 +214,13 @@ pass_more p m n whole first k l h did next =
 drains_is : (s : State) (p : Pid) (m : Mode) → phase.Draining m ≡ (process_at s p).phase → rundown s p ≡ then_on (drained p m s) (run_down p (inner_modes m))
 drains_is s p m is = ap (λ (ph : Phase). rundown_from p ph s) (sym is) ∙ drain_is s p m (run_down p (inner_modes m))
 
-pub drain_room : (p : Pid) (m : Mode) (k : KernelOf) → phase.Draining m ≡ (process_at k.state p).phase → Fits k (rundown k.state p).effects → Fits k (drained p m k.state).effects
-drain_room p m k is room = omega (arith, room, ap (λ (o : Outcome Answer). length o.effects) (drains_is k.state p m is), then_few (drained p m k.state) (run_down p (inner_modes m)))
-
-pub drain_ends : (p : Pid) (m : Mode) (x : Answer) (k l : KernelOf) → phase.Draining m ≡ (process_at k.state p).phase → Does (drained p m k.state) (Some x) k l → Does (rundown k.state p) x k l
-drain_ends p m x k l is did = subst (λ (o : Outcome Answer). Does o x k l) (sym (drains_is k.state p m is)) (then_ends (drained p m k.state) (run_down p (inner_modes m)) x k l did)
-
 pub drain_on : (p : Pid) (m : Mode) (n : Option Mode) (k l : KernelOf) → IsLeaving k p → phase.Draining m ≡ (process_at k.state p).phase → n ≡ next_inner m → Fits k (rundown k.state p).effects → Does (drained p m k.state) None k l → IsRunning p (rundown k.state p) k (modes_from n) l
 drain_on p m n k l h is next room did =
     let splits = drains_is k.state p m is ∙ then_goes (drained p m k.state) (run_down p (inner_modes m)) k l did in
     let on = answering_on (rundown k.state p) k k l (rundown k.state p) (part_of (drained p m k.state)) (run_down p (inner_modes m)) splits did.leaves (answering_begun (rundown k.state p) k room) in
     let same : modes_from n ≡ inner_modes m = ap modes_from next ∙ inner_next m in
     record {
-      leaving = leaving_drained p m k l None did h;
+      leaving = leaving_drained p m k l None did (sym is) h;
       rest = subst (λ (ms : List Mode). IsAnswering (rundown k.state p) k (run_down p ms l.state) l) (sym same) on;
     }
 

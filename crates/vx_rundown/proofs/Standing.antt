@@ -1,19 +1,15 @@
--- What of a process follows from a state whose references stand: no two of its queued ASTs have one id, and no two of its exit handlers;
--- and where no mailbox stands, each of its channels is to a unit.
-use Rattle.std.proofs.Common.{◌≡◌, ℕ, zero, suc, ◌-◌, ◌<◌, ◌≤◌, List, [], ◌∷◌, Bool, ◌==◌, not, true, false, IsTrue, Option, Some, None, is_some, length, replicate, slice_index_or, inl, inr, refl, sym, ap, ◌∙◌, arith}
-use Rattle.std.specs.List.{AllByRecursion, list_all, list_any}
+-- What of a process follows from a state whose references stand: no two of its queued ASTs have one id, and no two of its exit handlers.
+use Rattle.std.proofs.Common.{◌≡◌, ℕ, zero, suc, ◌-◌, ◌<◌, ◌≤◌, List, [], ◌∷◌, ◌==◌, not, true, false, IsTrue, None, length, slice_index_or, inl, inr, refl, sym, arith}
+use Rattle.std.specs.List.{list_any}
 use Rattle.std.proofs.lemmas.Bool.{and_from, cases_eq, eq-eqb, ne_eqb}
 use Rattle.vx_base.specs.Flags.{one}
 use Rattle.vx_base.specs.Lists.{tally}
-use Rattle.vx_base.specs.Pieces.{Alarm, Attention, Channel, Handler, Mailbox, OfTimer, OfWake, Queued, Request, Timer}
+use Rattle.vx_base.specs.Pieces.{Alarm, Attention, Handler, OfTimer, OfWake, Queued, Request, Timer}
 use Rattle.vx_base.specs.declared.effects.Effect.{Effect}
-use Rattle.vx_base.specs.declared.number.BoxNo.{BoxNo}
 use Rattle.vx_base.specs.declared.number.Id.{Id}
 use Rattle.vx_base.specs.declared.number.Pid.{Pid}
-use Rattle.vx_base.specs.declared.request.Device.{Device}
-use Rattle.vx_base.specs.declared.request.Device.TheVariants as device
 use Rattle.vx_record.specs.Parts.{total}
-use Rattle.vx_record.specs.Sound.{AlarmStands, AttentionStands, BoxStands, ChannelStands, DeviceStands, IsSound, RequestStands, TimerStands, ground, process_bears}
+use Rattle.vx_record.specs.Sound.{AlarmStands, AttentionStands, IsSound, RequestStands, TimerStands, ground, process_bears}
 use Rattle.vx_record.specs.State.{State, IsProcess, nobody, process_at}
 use Rattle.vx_record.proofs.Base.{Base}
 use Rattle.vx_record.proofs.Firm.{firm, sound_of}
@@ -62,38 +58,6 @@ own_ids_at s p sound made = own_from (λ (q : Queued). q.id) (process_at s p).as
 
 pub own_handlers_at : (s : State) (p : Pid) → IsSound s → IsProcess s p → IsTrue (handlers_have_own_ids (process_at s p).handlers)
 own_handlers_at s p sound made = own_from (λ (h : Handler). h.id) (process_at s p).handlers (λ id. let once = borne_once s p sound made id in omega (arith, once))
-
--- Devices.
-
-abbrev pub is_unit : Device → Bool
-is_unit (device.Unit u) = true
-is_unit (device.Mailbox b) = false
-
-abbrev pub is_to_unit : Option Channel → Bool
-is_to_unit None = true
-is_to_unit (Some ch) = is_unit ch.device
-
-none_in : (n i : ℕ) → is_some (slice_index_or (let xs : List (Option Mailbox) = replicate n None in xs) i None) ≡ false
-none_in zero i = refl
-none_in (suc n) zero = refl
-none_in (suc n) (suc i) = none_in n i
-
-pub no_box_stands : (s : State) (b : BoxNo) → s.boxes ≡ replicate 64 None → BoxStands (ground s) b → ⊥
-no_box_stands s b none stands =
-    let e : is_some (slice_index_or s.boxes b.0 None) ≡ false = ap (λ (xs : List (Option Mailbox)). is_some (slice_index_or xs b.0 None)) none ∙ none_in 64 b.0 in
-    absurd (cc)
-
-pub unit_stands : (s : State) (d : Device) → s.boxes ≡ replicate 64 None → DeviceStands (ground s) d → IsTrue (is_unit d)
-unit_stands s (device.Unit u) none h = refl
-unit_stands s (device.Mailbox b) none h = absurd (no_box_stands s b none h)
-
-unit_channel : (s : State) (row : Option Channel) → s.boxes ≡ replicate 64 None → ChannelStands (ground s) row → IsTrue (is_to_unit row)
-unit_channel s None none h = refl
-unit_channel s (Some ch) none h = unit_stands s ch.device none h
-
-pub unit_channels : (s : State) (rows : List (Option Channel)) → s.boxes ≡ replicate 64 None → AllByRecursion (ChannelStands (ground s)) rows → IsTrue (list_all is_to_unit rows)
-unit_channels s [] none h = refl
-unit_channels s (row ∷ rows) none h = and_from (is_to_unit row) (list_all is_to_unit rows) (unit_channel s row none h.0) (unit_channels s rows none h.1)
 
 -- Moves of the machine keep it.
 

@@ -1,14 +1,17 @@
 -- What rundown relies on.
-use Rattle.std.specs.Prelude.{◌≡◌, []}
+use Rattle.std.specs.Prelude.{◌≡◌, [], false}
+use Rattle.vx_base.specs.declared.frame.Phase.TheVariants as phase
+use Rattle.vx_base.specs.declared.mode.Mode.{Mode}
 use Rattle.vx_base.specs.declared.number.Pid.{Pid}
+use Rattle.vx_record.specs.Rundown.{is_busy}
 use Rattle.vx_record.specs.Sound.{IsSound}
-use Rattle.vx_record.specs.State.{IsProcess, process_at}
+use Rattle.vx_record.specs.State.{State, IsProcess, process_at}
 use Rattle.vx_procs.specs.Kernel.{Kernel}
-use Rattle.vx_procs.specs.Ready.{HasSpares, IsBare}
+use Rattle.vx_procs.specs.Ready.{HasSpares}
 use Rattle.vx_procs.specs.Words.{HasDecl, HasImage}
 
 -- The process is there, with its image, and has no frame; all that the state names stands, and no two open things have one
--- id; there are spares; and nothing is open that is not built.
+-- id; and there are spares.
 pub record IsLeaving (k : Kernel) (p : Pid) : Type 0 where
   pub made : IsProcess k.state p
   pub declared : HasDecl k.state p
@@ -16,4 +19,8 @@ pub record IsLeaving (k : Kernel) (p : Pid) : Type 0 where
   pub idle : (process_at k.state p).frames ≡ []
   pub sound : IsSound k.state
   pub spares : HasSpares k
-  pub bare : IsBare k.state
+
+-- A mode of the process is being drained, and no request of it or of an outer one is outstanding.
+pub record IsDrained (s : State) (p : Pid) (m : Mode) : Type 0 where
+  pub phase : (process_at s p).phase ≡ phase.Draining m
+  pub idle : is_busy s p m ≡ false

@@ -3,11 +3,13 @@
 //! Each call does what the machine's definitions say: it logs their effects and leaves their state. No call takes memory.
 #![tactic(auto)]
 
+mod deletion;
 mod handlers;
 mod leave;
 mod mode;
 mod rundown;
 
+pub use deletion::delprc;
 pub use handlers::{canexh, dclexh};
 pub use leave::exit;
 pub use rundown::rundown_step;

@@ -2,15 +2,16 @@
 
 ghost use Rattle.std.specs.Prelude.{◌≡◌};
 ghost use Rattle.vx_base.specs.Channels.{channels_of};
+ghost use Rattle.vx_base.specs.declared.frame.Phase.TheVariants.{Draining};
 ghost use Rattle.vx_record.specs.Parts.{each};
 ghost use Rattle.vx_record.specs.Rundown.{cancel_modes, cancel_one, drop_asts, free_one, release};
 ghost use Rattle.vx_record.specs.State.{process_at};
 ghost use Rattle.vx_procs.specs.Kernel.{Acts, Does, Fits};
-ghost use Rattle.vx_rundown.specs.Leaving.{IsLeaving};
+ghost use Rattle.vx_rundown.specs.Leaving.{IsDrained, IsLeaving};
 ghost use Rattle.vx_rundown.specs.Steps.{drained, entered_as, passed};
 
 use vx_base::{Answer, Effect, Entry, Frame, FrameKind, Id, Mode, Phase, Pid, Routine};
-use vx_io::cancel_channel;
+use vx_io::{cancel_channel, free_channel};
 use vx_procs::{Core, Sought, drop_timers};
 use vx_timers::Which;
 
@@ -27,7 +28,8 @@ fn cancel_channels<R: Routine>(core: &mut Core<R>, p: Pid, mode: Mode)
     }
 }
 
-// What a process opened in a mode and outer ones is cancelled: its requests, its timers, and then the wakes that it scheduled.
+// What a process opened in a mode and outer ones is cancelled: its requests and its attention entries, channel after channel, its
+// timers, and then the wakes that it scheduled.
 fn cancel_modes<R: Routine>(core: &mut Core<R>, p: Pid, mode: Mode)
     requires leaving { IsLeaving core.old p }
     requires room { Fits core.old (cancel_modes core.old.state p mode).effects }
@@ -38,14 +40,15 @@ fn cancel_modes<R: Routine>(core: &mut Core<R>, p: Pid, mode: Mode)
     drop_timers(core, Which::WakesBy(p));
 }
 
-// The channels of a mode and outer ones are freed.
+// The channels of a mode and outer ones are freed, and a mailbox that goes with its last channel is gone.
 fn free_channels<R: Routine>(core: &mut Core<R>, p: Pid, mode: Mode)
     requires leaving { IsLeaving core.old p }
+    requires drained { IsDrained core.old.state p mode }
     requires room { Fits core.old (each (free_one p) (channels_of mode (process_at core.old.state p).channels) core.old.state).effects }
     ensures { Acts (each (free_one p) (channels_of mode (process_at core.old.state p).channels) core.old.state) core.old core.new }
 {
     'channels: while let Some(n) = core.next_channel(p, mode, 0) {
-        core.free_channel(p, n);
+        free_channel(core, p, n);
     }
 }
 
@@ -64,6 +67,7 @@ fn drop_asts<R: Routine>(core: &mut Core<R>, p: Pid, mode: Mode)
 // dissociated: 2, whose first flag is 64, and then 3.
 fn release<R: Routine>(core: &mut Core<R>, p: Pid, mode: Mode)
     requires leaving { IsLeaving core.old p }
+    requires drained { IsDrained core.old.state p mode }
     requires room { Fits core.old (release core.old.state p mode).effects }
     ensures { Acts (release core.old.state p mode) core.old core.new }
 {
@@ -89,6 +93,7 @@ fn enter<R: Routine>(core: &mut Core<R>, p: Pid, id: Id, mode: Mode, entry: Entr
 /// A mode that is drained is released, and the next may follow; where a request keeps it busy, that is the answer.
 pub(crate) fn drain<R: Routine>(core: &mut Core<R>, p: Pid, mode: Mode) -> Option<Answer>
     requires leaving { IsLeaving core.old p }
+    requires phase { (process_at core.old.state p).phase ≡ Draining mode }
     requires room { Fits core.old (drained p mode core.old.state).effects }
     ensures { Does (drained p mode core.old.state) result core.old core.new }
 {

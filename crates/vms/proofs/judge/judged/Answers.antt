@@ -1,14 +1,11 @@
-use Rattle.std.proofs.Common.{◌≡◌, rules, subst, Err}
+use Rattle.std.proofs.Common.{◌≡◌, subst, Err}
 use Rattle.vx_journal.specs.ReadJournal.{TellsIfFailed}
 use Rattle.vms.specs.declared.command.Command.TheVariants.{Check}
-use Rattle.vms.specs.Top.{no_journal, no_script, not_judged}
+use Rattle.vms.specs.Top.{no_journal, no_script}
 use Rattle.vms.proofs.judge.judged.Goals as goal
 
 pub returns-in_ok-check-in-Ok : goal.returns-in_ok-check-in-Ok
-returns-in_ok-check-in-Ok c = record { journal = c.in-Ok.journal; says = c.in-Ok.ensures.journal; built = search rules; judged = c.in_ok-check-in-Ok.ensures }
-
-pub returns-in_ok-later_line-in-Ok : goal.returns-in_ok-later_line-in-Ok
-returns-in_ok-later_line-in-Ok c = rw c.in_ok-later_line-in-Ok.ensures (not_judged c.in-Ok.journal c.in-Ok.ensures.journal (search rules))
+returns-in_ok-check-in-Ok c = record { journal = c.in-Ok.journal; says = c.in-Ok.ensures.journal; judged = c.in_ok-check-in-Ok.ensures }
 
 pub returns-in_ok-fault_line-in-Err-Script : goal.returns-in_ok-fault_line-in-Err-Script
 returns-in_ok-fault_line-in-Err-Script c =

@@ -1,9 +1,9 @@
 use Rattle.std.proofs.Common.{option_map, sym, ◌∙◌}
-use Rattle.vx_io.specs.Asking.{asked, to_unit}
+use Rattle.vx_io.specs.Asking.{asked, to_device}
 use Rattle.vx_io.proofs.Asked.{tested}
 use Rattle.vx_io.proofs.asking.request_test.Goals as goal
 
 pub returns-clause-test : goal.returns-clause-test
 returns-clause-test g c =
-    tested c.args.core.now.state c.args.p (asked c.args.ask.now (option_map g.R.Routine.tagged c.args.ast.now)) c.in-Some.cell (to_unit c.in-Ok.found.0 c.in-Ok.found.1) (sym c.is_bad.ensures.bad ∙ c.if-is_bad.false) c.if-ask-gt-LAST_FLAG.false (sym c.in-Some.ensures.cell) c.in-Ok.ensures.channel
-    ∙ c.unit_test.ensures.test
+    tested c.args.core.now.state c.args.p (asked c.args.ask.now (option_map g.R.Routine.tagged c.args.ast.now)) c.in-Some.cell (to_device c.in-Ok.found.0 c.in-Ok.found.1) (sym c.is_bad.ensures.bad ∙ c.if-is_bad.false) c.if-ask-gt-LAST_FLAG.false (sym c.in-Some.ensures.cell) c.in-Ok.ensures.channel
+    ∙ c.device_test.ensures.test

@@ -1,7 +1,8 @@
 use Rattle.std.proofs.Common.{◌∙◌, ap, sym, subst, length, List, arith}
-use Rattle.vx_reqs.specs.Places.{Place, IsOrdered, live}
+use Rattle.vx_reqs.specs.Places.{Place, AreFrom, IsOrdered, live}
 use Rattle.vx_reqs.proofs.Live.{live_kept, length_kept}
 use Rattle.vx_reqs.proofs.Ordered.{ordered_kept}
+use Rattle.vx_reqs.proofs.Waiting.{reads_kept}
 use Rattle.vx_reqs.proofs.room.close_up.Goals as goal
 
 pub returns-clause-live : goal.returns-clause-live
@@ -12,3 +13,6 @@ returns-clause-order g c = λ rising next from served ordered is. subst (λ (xs 
 
 pub returns-clause-len : goal.returns-clause-len
 returns-clause-len g c = omega (arith, c.keep_held.new.slots.ok.0, ap length c.keep_held.ensures.items ∙ length_kept c.args.slots.now.items)
+
+pub returns-clause-reads : goal.returns-clause-reads
+returns-clause-reads g c = λ from reads. subst (λ (xs : List Place). AreFrom from xs) (sym c.keep_held.ensures.items) (reads_kept c.args.slots.now.items from reads)

@@ -7,11 +7,11 @@ channels-init g c = cancelling_begun c.args.p c.args.mode c.args.core.now c.requ
 pub next_channel-requires : goal.next_channel-requires
 next_channel-requires g c = c.channels.invariant.leaving.made
 
-pub cancel_channel-requires-clause-order : goal.cancel_channel-requires-clause-order
-cancel_channel-requires-clause-order g c = c.channels.invariant.leaving.sound.request_ids
+pub cancel_channel-requires-clause-requests : goal.cancel_channel-requires-clause-requests
+cancel_channel-requires-clause-requests g c = record { stand = c.channels.invariant.leaving.sound.requests; order = c.channels.invariant.leaving.sound.request_ids }
 
-pub cancel_channel-requires-clause-attention : goal.cancel_channel-requires-clause-attention
-cancel_channel-requires-clause-attention g c = c.channels.invariant.leaving.bare.attention
+pub cancel_channel-requires-clause-entries : goal.cancel_channel-requires-clause-entries
+cancel_channel-requires-clause-entries g c = c.channels.invariant.leaving.sound.attention_ids
 
 pub cancel_channel-requires-clause-room : goal.cancel_channel-requires-clause-room
 cancel_channel-requires-clause-room g c = cancelling_room c.args.p c.args.mode c.args.core.now c.channels.core c.channels.after c.in-Some.n c.channels.invariant c.in-Some.ensures

@@ -1,6 +1,6 @@
 use Rattle.std.proofs.Common.{Some, ap, ◌∙◌}
 use Rattle.vx_base.specs.declared.routine.Entry.{Entry}
-use Rattle.vx_rundown.proofs.Entering.{cancel_made, cancel_room, drain_fits, drain_leaving, enter_done, enter_leaving, enter_room, pass_begun, pass_done}
+use Rattle.vx_rundown.proofs.Entering.{cancel_made, cancel_room, drain_fits, drain_leaving, drain_phase, enter_done, enter_leaving, enter_room, pass_begun, pass_done}
 use Rattle.vx_rundown.proofs.mode.pass.Goals as goal
 
 pub enter-requires-in-Some-clause-leaving : goal.enter-requires-in-Some-clause-leaving
@@ -23,6 +23,9 @@ set_phase-requires-2 g c = cancel_made c.args.core.now c.set_phase.new.self c.ta
 
 pub drain-requires-clause-leaving : goal.drain-requires-clause-leaving
 drain-requires-clause-leaving g c = drain_leaving c.args.core.now c.set_phase.new.self c.take_handler.new.self c.cancel_modes.new.core c.set_phase-2.new.self c.args.p c.args.mode c.requires.leaving c.set_phase.ensures (c.take_handler.ensures.kept c.in_default.is) c.cancel_modes.ensures c.set_phase-2.ensures
+
+pub drain-requires-clause-phase : goal.drain-requires-clause-phase
+drain-requires-clause-phase g c = drain_phase c.args.core.now c.set_phase.new.self c.take_handler.new.self c.cancel_modes.new.core c.set_phase-2.new.self c.args.p c.args.mode c.requires.leaving c.set_phase.ensures (c.take_handler.ensures.kept c.in_default.is) c.cancel_modes.ensures c.set_phase-2.ensures
 
 pub drain-requires-clause-room : goal.drain-requires-clause-room
 drain-requires-clause-room g c = drain_fits c.args.core.now c.set_phase.new.self c.take_handler.new.self c.cancel_modes.new.core c.set_phase-2.new.self c.args.p c.args.mode c.requires.leaving c.set_phase.ensures c.in_default.ensures.handler (c.take_handler.ensures.kept c.in_default.is) c.requires.room c.cancel_modes.ensures c.set_phase-2.ensures

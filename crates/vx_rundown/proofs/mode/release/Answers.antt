@@ -7,7 +7,7 @@ pub free_channels-requires-clause-room : goal.free_channels-requires-clause-room
 free_channels-requires-clause-room g c = free_room c.args.p c.args.mode c.args.core.now c.requires.room
 
 pub drop_asts-requires-clause-leaving : goal.drop_asts-requires-clause-leaving
-drop_asts-requires-clause-leaving g c = leaving_acted c.args.core.now c.free_channels.new.core c.args.p (free_all c.args.p c.args.mode c.args.core.now.state) c.free_channels.ensures (leaving_channels c.args.p c.args.mode c.args.core.now c.requires.leaving)
+drop_asts-requires-clause-leaving g c = leaving_acted c.args.core.now c.free_channels.new.core c.args.p (free_all c.args.p c.args.mode c.args.core.now.state) c.free_channels.ensures (leaving_channels c.args.p c.args.mode c.args.core.now c.requires.drained c.requires.leaving)
 
 pub drop_asts-requires-clause-room : goal.drop_asts-requires-clause-room
 drop_asts-requires-clause-room g c = asts_room c.args.p c.args.mode c.args.core.now c.free_channels.new.core c.requires.room c.free_channels.ensures

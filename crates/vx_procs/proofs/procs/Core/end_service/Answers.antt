@@ -30,7 +30,7 @@ pub serve-reply-requires-clause-request : goal.serve-reply-requires-clause-reque
 serve-reply-requires-clause-request g c =
     let k = c.args.self.now in
     let x = serving c.self.inside k c.args.u c.in_ok-id.id c.self.view_is c.self.invariant c.requires.order c.in_ok-id.ensures in
-    subst (λ (d : Finished). IsTrue (is_for_unit d.req)) (sym (serving_done k c.args.u c.in_ok-id.id x c.in_ok-done.done c.in_ok-done.ensures.found)) x.own.fits
+    subst (λ (d : Finished). IsTrue (is_for_unit d.req)) (sym (serving_done k c.args.u c.in_ok-id.id x c.in_ok-done.done c.in_ok-done.ensures.found)) x.fits
 
 pub serve-reply-requires-clause-prepared : goal.serve-reply-requires-clause-prepared
 serve-reply-requires-clause-prepared g c =

@@ -1,6 +1,6 @@
-use Rattle.std.proofs.Common.{map, subst, sym}
+use Rattle.std.proofs.Common.{List, Option, map, subst, sym}
 use Rattle.std.specs.Prelude.{None}
-use Rattle.vx_base.specs.Pieces.{Request, Timer}
+use Rattle.vx_base.specs.Pieces.{Attention, Mailbox, Request, Timer}
 use Rattle.vx_base.specs.Roomy.{Roomy}
 use Rattle.vx_clusters.specs.Clusters.{Shared}
 use Rattle.vx_record.specs.Runs.{first}
@@ -16,6 +16,8 @@ invariant_of-result g c =
     let us = map unit_of c.in_ok-units.units.items in
     let ls = map log_of c.in_ok-units.units.items in
     let held = first_held c.args.system us ls procs c.in_ok-procs.ensures.fresh in
-    let timed = subst (λ (ts : Roomy Timer). let s : State = record (first c.args.system) { procs = map process procs; timers = ts.items; units = us } in AreHeld s None (map books_of procs) ls) (sym c.new-2.ensures) held in
-    let asked = subst (λ (rs : Roomy Request). let s : State = record (first c.args.system) { procs = map process procs; timers = c.new-2.result.items; requests = rs.items; units = us } in AreHeld s None (map books_of procs) ls) (sym c.new-3.ensures) timed in
-    subst (λ (x : Shared). let s : State = record (first c.args.system) { procs = map process procs; common = x.common; timers = c.new-2.result.items; requests = c.new-3.result.items; units = us } in AreHeld s None (map books_of procs) ls) (sym c.new.ensures) asked
+    let boxed = subst (λ (bs : List (Option Mailbox)). let s : State = record (first c.args.system) { procs = map process procs; boxes = bs; units = us } in AreHeld s None (map books_of procs) ls) (sym c.in_ok-boxes.ensures) held in
+    let timed = subst (λ (ts : Roomy Timer). let s : State = record (first c.args.system) { procs = map process procs; timers = ts.items; boxes = c.in_ok-boxes.boxes.boxes; units = us } in AreHeld s None (map books_of procs) ls) (sym c.new-3.ensures) boxed in
+    let asked = subst (λ (rs : Roomy Request). let s : State = record (first c.args.system) { procs = map process procs; timers = c.new-3.result.items; requests = rs.items; boxes = c.in_ok-boxes.boxes.boxes; units = us } in AreHeld s None (map books_of procs) ls) (sym c.new-4.ensures) timed in
+    let called = subst (λ (es : Roomy Attention). let s : State = record (first c.args.system) { procs = map process procs; timers = c.new-3.result.items; requests = c.new-4.result.items; attention = es.items; boxes = c.in_ok-boxes.boxes.boxes; units = us } in AreHeld s None (map books_of procs) ls) (sym c.new-5.ensures) asked in
+    subst (λ (x : Shared). let s : State = record (first c.args.system) { procs = map process procs; common = x.common; timers = c.new-3.result.items; requests = c.new-4.result.items; attention = c.new-5.result.items; boxes = c.in_ok-boxes.boxes.boxes; units = us } in AreHeld s None (map books_of procs) ls) (sym c.new-2.ensures) called

@@ -4,6 +4,7 @@ use Rattle.vx_reqs.specs.Places.{Place, live}
 use Rattle.vx_reqs.specs.Requests.{Requests, promised_of}
 use Rattle.vx_reqs.proofs.Counts.{count_put}
 use Rattle.vx_reqs.proofs.Live.{live_put}
+use Rattle.vx_reqs.proofs.Waiting.{reads_put}
 use Rattle.vx_reqs.proofs.reqs.Reqs.accept.Goals as goal
 
 pub invariant_of-self : goal.invariant_of-self
@@ -14,6 +15,7 @@ invariant_of-self g c =
       count_is = count_put c.self.inside.slots.items places c.self.inside.count c.args.req.id r c.self.invariant.count_is c.make_space.ensures.live;
       within = omega (arith, c.push_reserved.ensures.capacity, c.make_space.ensures.capacity, c.self.invariant.within);
       order = c.accept.ensures places r refl refl refl (c.make_space.ensures.order _ _ _ _ c.self.invariant.order);
+      waiting = reads_put places c.args.req.id r c.args.req.device c.args.req.func c.self.inside.reads.from _ refl refl c.accept-2.ensures.here c.accept-2.ensures.all (c.make_space.ensures.reads _ c.self.invariant.waiting);
     })
 
 pub returns : goal.returns

@@ -1,14 +1,15 @@
-use Rattle.std.proofs.Common.{◌≡◌, ◌∙◌, List, None, Some, Bor, option_map, position, length, ap, sym, subst, arith}
+use Rattle.std.proofs.Common.{◌≡◌, ◌∙◌, List, None, Some, Bor, option_map, position, length, refl, ap, sym, subst, arith}
 use Rattle.std.specs.List.{find}
 use Rattle.vx_base.specs.Lists.{amend}
 use Rattle.vx_base.specs.Pieces.{Request}
 use Rattle.vx_base.specs.Queues.{front, is_served_by, waits_for}
 use Rattle.vx_base.specs.Roomy.{with_items}
-use Rattle.vx_reqs.specs.Places.{Place, IsOrdered, OrderedIf, changed, holds, live}
+use Rattle.vx_reqs.specs.Places.{Place, AreFrom, IsOrdered, OrderedIf, changed, holds, live}
 use Rattle.vx_reqs.specs.Requests.{Requests, as_served}
 use Rattle.vx_reqs.proofs.Counts.{count_changed}
 use Rattle.vx_reqs.proofs.Live.{amend_live, any_live, none_any}
 use Rattle.vx_reqs.proofs.Turns.{begun_none, begun_some}
+use Rattle.vx_reqs.proofs.Waiting.{reads_changed}
 use Rattle.vx_reqs.proofs.reqs.Reqs.begin.Goals as goal
 
 pub returns-in_err-front-clause-after : goal.returns-in_err-front-clause-after
@@ -43,6 +44,7 @@ invariant_of-self g c =
       count_is = count_changed (waits_for u) as_served places c.self.inside.count c.self.invariant.count_is ∙ ap (λ (xs : List Place). length (live xs)) (sym after);
       within = omega (arith, c.serve_at.ensures.capacity, c.self.invariant.within);
       order = subst (λ (xs : List Place). OrderedIf order.rising order.next order.from order.served xs) c.as_slice-4.ensures.value c.settle_unit.ensures;
+      waiting = subst (λ (xs : List Place). AreFrom c.self.inside.reads.from xs) (sym after) (reads_changed as_served (λ r. refl) (holds (waits_for u)) places c.self.inside.reads.from c.self.invariant.waiting);
     }
 
 pub returns-clause-after : goal.returns-clause-after

@@ -3,11 +3,12 @@ use Rattle.std.specs.List.{find}
 use Rattle.vx_base.specs.Lists.{amend}
 use Rattle.vx_base.specs.Pieces.{Request}
 use Rattle.vx_base.proofs.First.{less_none}
-use Rattle.vx_reqs.specs.Places.{Place, IsOrdered, OrderedIf, emptied, holds, live}
+use Rattle.vx_reqs.specs.Places.{Place, AreFrom, IsOrdered, OrderedIf, emptied, holds, live}
 use Rattle.vx_reqs.specs.Requests.{Requests, has_id}
 use Rattle.vx_reqs.proofs.Counts.{count_taken}
 use Rattle.vx_reqs.proofs.Live.{less_live, less_one}
 use Rattle.vx_reqs.proofs.Ordered.{ordered_emptied}
+use Rattle.vx_reqs.proofs.Waiting.{reads_emptied}
 use Rattle.vx_reqs.proofs.reqs.Reqs.finish.Goals as goal
 
 pub invariant_of-self : goal.invariant_of-self
@@ -22,6 +23,7 @@ invariant_of-self g c =
       count_is = c.self.invariant.count_is ∙ ap length (sym (ap live after ∙ less_live test places ∙ less_none test (live places) (sym none)));
       within = omega (arith, c.take_at.ensures.capacity, c.self.invariant.within);
       order = λ rising. subst (λ (xs : List Place). IsOrdered order.next order.from order.served xs) (sym after) (ordered_emptied (holds test) places order.next order.from order.served (c.self.invariant.order rising));
+      waiting = subst (λ (xs : List Place). AreFrom c.self.inside.reads.from xs) (sym after) (reads_emptied (holds test) places c.self.inside.reads.from c.self.invariant.waiting);
     }
 
 pub returns-in_err-done-clause-found : goal.returns-in_err-done-clause-found
@@ -57,6 +59,14 @@ settle-requires g c = λ rising.
     let order = c.self.inside.order in
     subst (λ (xs : List Place). IsOrdered order.next order.from order.served xs) (sym (c.as_slice-2.ensures.value ∙ after)) (ordered_emptied (holds test) places order.next order.from order.served (c.self.invariant.order rising))
 
+pub settle_reads-requires-clause-reads : goal.settle_reads-requires-clause-reads
+settle_reads-requires-clause-reads g c =
+    let test = has_id c.args.id in
+    let places = c.self.inside.slots.items in
+    let place : c.place_of_id-place.result ≡ position (holds test) places = c.place_of_id-place.ensures.place ∙ ap (position (holds test)) c.as_slice.ensures.value in
+    let after : c.take_at.new.slots.items ≡ amend (holds test) emptied places = c.take_at.ensures.after test place in
+    subst (λ (xs : List Place). AreFrom c.self.inside.reads.from xs) (sym (c.as_slice-3.ensures.value ∙ after)) (reads_emptied (holds test) places c.self.inside.reads.from c.self.invariant.waiting)
+
 pub invariant_of-self-2 : goal.invariant_of-self-2
 invariant_of-self-2 g c =
     let test = has_id c.args.id in
@@ -69,6 +79,7 @@ invariant_of-self-2 g c =
       count_is = count_taken test places c.self.inside.count c.in_ok-done.done c.self.invariant.count_is some ∙ ap (λ (xs : List Place). length (live xs)) (sym after);
       within = omega (arith, c.take_at.ensures.capacity, c.self.invariant.within);
       order = subst (λ (xs : List Place). OrderedIf order.rising order.next order.from order.served xs) c.as_slice-2.ensures.value c.settle.ensures;
+      waiting = subst (λ (xs : List Place). AreFrom c.settle_reads.new.reads.from xs) c.as_slice-3.ensures.value c.settle_reads.ensures;
     }
 
 pub returns-clause-found : goal.returns-clause-found

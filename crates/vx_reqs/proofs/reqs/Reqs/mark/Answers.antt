@@ -1,14 +1,15 @@
-use Rattle.std.proofs.Common.{◌≡◌, ◌∙◌, Bool, List, Some, Bor, option_map, position, length, ap, sym, subst, arith}
+use Rattle.std.proofs.Common.{◌≡◌, ◌∙◌, Bool, List, Some, Bor, option_map, position, length, refl, ap, sym, subst, arith}
 use Rattle.std.specs.List.{find}
 use Rattle.vx_base.specs.Lists.{amend}
 use Rattle.vx_base.specs.Pieces.{Request}
 use Rattle.vx_base.specs.Roomy.{with_items}
 use Rattle.vx_base.proofs.First.{amend_same}
-use Rattle.vx_reqs.specs.Places.{Place, IsOrdered, changed, holds, live}
+use Rattle.vx_reqs.specs.Places.{Place, AreFrom, IsOrdered, changed, holds, live}
 use Rattle.vx_reqs.specs.Requests.{Requests, has_id, as_marked}
 use Rattle.vx_reqs.proofs.Counts.{count_changed}
 use Rattle.vx_reqs.proofs.Live.{amend_live}
 use Rattle.vx_reqs.proofs.Ordered.{ordered_marked}
+use Rattle.vx_reqs.proofs.Waiting.{reads_changed}
 use Rattle.vx_reqs.proofs.reqs.Reqs.mark.Goals as goal
 
 -- the request that is found is marked already
@@ -31,6 +32,7 @@ invariant_of-self g c =
       count_is = count_changed test as_marked places c.self.inside.count c.self.invariant.count_is ∙ ap (λ (xs : List Place). length (live xs)) (sym after);
       within = omega (arith, c.mark_at.ensures.capacity, c.self.invariant.within);
       order = λ rising. subst (λ (xs : List Place). IsOrdered order.next order.from order.served xs) (sym after) (ordered_marked (holds test) places order.next order.from order.served (c.self.invariant.order rising));
+      waiting = subst (λ (xs : List Place). AreFrom c.self.inside.reads.from xs) (sym after) (reads_changed as_marked (λ r. refl) (holds test) places c.self.inside.reads.from c.self.invariant.waiting);
     }
 
 pub returns-2-clause-after : goal.returns-2-clause-after

@@ -1,0 +1,139 @@
+-- An attention entry is set: its part, step after step.
+use Rattle.std.proofs.Common.{◌≡◌, ℕ, ◌-◌, List, [], ◌∷◌, ◌++◌, Bool, true, false, not, ◌==◌, length, length-set, Option, Some, None, is_some, slice_index_or, refl, ap, sym, subst, ◌∙◌, arith}
+use Rattle.std.specs.List.{find}
+use Rattle.vx_base.specs.Pieces.{Attention, Mailbox, Status}
+use Rattle.vx_base.specs.declared.effects.Cell.{Cell}
+use Rattle.vx_base.specs.declared.effects.Cell.TheVariants.{Common, Local}
+use Rattle.vx_base.specs.declared.number.BoxNo.{BoxNo}
+use Rattle.vx_base.specs.declared.number.Id.{Id}
+use Rattle.vx_base.specs.declared.number.Pid.{Pid}
+use Rattle.vx_base.specs.declared.number.UnitNo.{UnitNo}
+use Rattle.vx_base.specs.declared.request.Device.{Device}
+use Rattle.vx_base.specs.declared.request.Device.TheVariants as device
+use Rattle.vx_base.specs.declared.request.Func.{Func}
+use Rattle.vx_base.specs.declared.request.Func.TheVariants.{Eof, EofNow, Read, ReadAttn, ReadNow, Write, WriteNow, WrtAttn}
+use Rattle.vx_record.specs.Charges.{ast_need, exceeds, is_attention, request_need}
+use Rattle.vx_record.specs.Finish.{iosb_part, put_status, with_stored_status}
+use Rattle.vx_record.specs.Flags.{cell, flag_where_named}
+use Rattle.vx_record.specs.Mailboxes.{attend, this_attention}
+use Rattle.vx_record.specs.Parts.{Part, and_then, nothing, part_if}
+use Rattle.vx_record.specs.Requests.{Asked, attention_opened, attention_set, done_at_once, has_function}
+use Rattle.vx_record.specs.Sound.{AreOrdered, BoxStands, attention_id, ground}
+use Rattle.vx_record.specs.State.{State, IsProcess, process_at}
+use Rattle.vx_record.proofs.Lists.{either}
+use Rattle.vx_procs.specs.Kernel.{Acts, Fits, Kernel}
+use Rattle.vx_procs.proofs.Rest.{acted, acts_both, room_first, room_second}
+use Rattle.vx_io.specs.Boxes.{attend_by, fire_found, is_answered}
+use Rattle.vx_io.proofs.Opening.{last_found}
+
+-- What a status block and an event flag leave.
+
+status_entries : (s : State) (p : Pid) (i : ℕ) (st : Status) → (iosb_part s p i st).after.attention ≡ s.attention
+status_entries s p i st = either (λ (x : Part). x.after.attention ≡ s.attention) (not (i == 0)) (put_status s p i st) (nothing s) refl refl
+
+status_boxes : (s : State) (p : Pid) (i : ℕ) (st : Status) → (iosb_part s p i st).after.boxes ≡ s.boxes
+status_boxes s p i st = either (λ (x : Part). x.after.boxes ≡ s.boxes) (not (i == 0)) (put_status s p i st) (nothing s) refl refl
+
+status_many : (s : State) (p : Pid) (i : ℕ) (st : Status) → length (iosb_part s p i st).after.procs ≡ length s.procs
+status_many s p i st = either (λ (x : Part). length x.after.procs ≡ length s.procs) (not (i == 0)) (put_status s p i st) (nothing s) (length-set s.procs (p.0 - 1) (with_stored_status i st (process_at s p))) refl
+
+flag_entries : (s : State) (o : Option Cell) → (flag_where_named s o true).after.attention ≡ s.attention
+flag_entries s None = refl
+flag_entries s (Some (Local q n)) = refl
+flag_entries s (Some (Common group name n)) = refl
+
+flag_boxes : (s : State) (o : Option Cell) → (flag_where_named s o true).after.boxes ≡ s.boxes
+flag_boxes s None = refl
+flag_boxes s (Some (Local q n)) = refl
+flag_boxes s (Some (Common group name n)) = refl
+
+-- The steps so far.
+
+abbrev filling : Pid → Asked → State → Part
+filling p q s = iosb_part s p q.iosb done_at_once
+
+abbrev flagging : Pid → Asked → State → Part
+flagging p q s = flag_where_named s (cell s p q.efn) true
+
+abbrev attending : Pid → Asked → Attention → State → Part
+attending p q a s = and_then (flagging p q s) (λ d. attend d a)
+
+abbrev first_half : State → Pid → Asked → Attention → Part
+first_half s p q a = and_then (attention_opened s p q a) (filling p q)
+
+-- it is opened
+pub open_room : (k : Kernel) (p : Pid) (q : Asked) (a : Attention) → Fits k (attention_set k.state p q a).effects → Fits k (attention_opened k.state p q a).effects
+open_room k p q a room = room_first k (attention_opened k.state p q a) (filling p q) (room_first k (first_half k.state p q a) (attending p q a) room)
+
+pub open_made : (k l : Kernel) (p : Pid) (q : Asked) (a : Attention) → Acts (attention_opened k.state p q a) k l → IsProcess k.state p → IsProcess l.state p
+open_made k l p q a did made = subst (λ (y : Kernel). IsProcess y.state p) (sym did) (record { above = made.above; within = made.within })
+
+-- its status block is filled
+pub fill_room : (k l : Kernel) (p : Pid) (q : Asked) (a : Attention) → Acts (attention_opened k.state p q a) k l → Fits k (attention_set k.state p q a).effects → Fits l (filling p q l.state).effects
+fill_room k l p q a did room = room_second k l (attention_opened k.state p q a) (filling p q) did (room_first k (first_half k.state p q a) (attending p q a) room)
+
+pub fill_made : (k l m : Kernel) (p : Pid) (q : Asked) (a : Attention) → Acts (attention_opened k.state p q a) k l → Acts (filling p q l.state) l m → IsProcess k.state p → IsProcess m.state p
+fill_made k l m p q a did then made =
+    let here = open_made k l p q a did made in
+    let many = ap (λ (y : Kernel). length y.state.procs) then ∙ status_many l.state p q.iosb done_at_once in
+    record { above = here.above; within = omega (arith, here.within, many) }
+
+half_done : (k l m : Kernel) (p : Pid) (q : Asked) (a : Attention) → Acts (attention_opened k.state p q a) k l → Acts (filling p q l.state) l m → m ≡ acted k (first_half k.state p q a)
+half_done k l m p q a did then = acts_both k l m (attention_opened k.state p q a) (filling p q) did then
+
+rest_room : (k l m : Kernel) (p : Pid) (q : Asked) (a : Attention) → Acts (attention_opened k.state p q a) k l → Acts (filling p q l.state) l m → Fits k (attention_set k.state p q a).effects → Fits m (attending p q a m.state).effects
+rest_room k l m p q a did then room = room_second k m (first_half k.state p q a) (attending p q a) (half_done k l m p q a did then) room
+
+-- its event flag is set
+pub flag_room : (k l m : Kernel) (p : Pid) (q : Asked) (a : Attention) → Acts (attention_opened k.state p q a) k l → Acts (filling p q l.state) l m → Fits k (attention_set k.state p q a).effects → Fits m (flagging p q m.state).effects
+flag_room k l m p q a did then room = room_first m (flagging p q m.state) (λ d. attend d a) (rest_room k l m p q a did then room)
+
+entries_there : (k l m n : Kernel) (p : Pid) (q : Asked) (a : Attention) → Acts (attention_opened k.state p q a) k l → Acts (filling p q l.state) l m → Acts (flagging p q m.state) m n → n.state.attention ≡ k.state.attention ++ a ∷ []
+entries_there k l m n p q a did then last =
+    ap (λ (y : Kernel). y.state.attention) last
+    ∙ (flag_entries m.state (cell m.state p q.efn)
+    ∙ (ap (λ (y : Kernel). y.state.attention) then
+    ∙ (status_entries l.state p q.iosb done_at_once ∙ ap (λ (y : Kernel). y.state.attention) did)))
+
+pub boxes_there : (k l m n : Kernel) (p : Pid) (q : Asked) (a : Attention) (b : BoxNo) → Acts (attention_opened k.state p q a) k l → Acts (filling p q l.state) l m → Acts (flagging p q m.state) m n → BoxStands (ground k.state) b → BoxStands (ground n.state) b
+boxes_there k l m n p q a b did then last stands =
+    let same = ap (λ (y : Kernel). y.state.boxes) last
+    ∙ (flag_boxes m.state (cell m.state p q.efn)
+    ∙ (ap (λ (y : Kernel). y.state.boxes) then
+    ∙ (status_boxes l.state p q.iosb done_at_once ∙ ap (λ (y : Kernel). y.state.boxes) did))) in
+    subst (λ (xs : List (Option Mailbox)). is_some (slice_index_or xs b.0 None) ≡ true) (sym same) stands
+
+-- and it fires, if there is already what it asks for
+attend_same : (k n : Kernel) (a : Attention) (id : Id) → id ≡ a.id → a.id.0 ≡ k.state.next → AreOrdered attention_id 0 k.state.next k.state.attention → n.state.attention ≡ k.state.attention ++ a ∷ [] → attend_by n.state a.box a.func id ≡ attend n.state a
+attend_same k n a id is next order there =
+    let t = n.state in
+    let last : find (λ (y : Attention). y.id.0 == k.state.next) (k.state.attention ++ a ∷ []) ≡ Some a = last_found attention_id 0 k.state.next k.state.attention a next order in
+    let found : find (this_attention a.id) t.attention ≡ Some a =
+    ap (λ (xs : List Attention). find (this_attention a.id) xs) there ∙ (ap (λ i. find (λ (y : Attention). y.id.0 == i) (k.state.attention ++ a ∷ [])) next ∙ last) in
+    ap (λ (i : Id). attend_by t a.box a.func i) is ∙ ap (λ (o : Option Attention). part_if (is_answered t a.box a.func) (fire_found t o) t) found
+
+pub attend_room : (k l m n : Kernel) (p : Pid) (q : Asked) (a : Attention) (id : Id) → id ≡ a.id → a.id.0 ≡ k.state.next → AreOrdered attention_id 0 k.state.next k.state.attention → Acts (attention_opened k.state p q a) k l → Acts (filling p q l.state) l m → Acts (flagging p q m.state) m n → Fits k (attention_set k.state p q a).effects → Fits n (attend_by n.state a.box a.func id).effects
+attend_room k l m n p q a id is next order did then last room =
+    subst (λ (x : Part). Fits n x.effects) (sym (attend_same k n a id is next order (entries_there k l m n p q a did then last)))
+    (room_second m n (flagging p q m.state) (λ d. attend d a) last (rest_room k l m p q a did then room))
+
+pub set_as : (k l m n o : Kernel) (p : Pid) (q : Asked) (a : Attention) (id : Id) → id ≡ a.id → a.id.0 ≡ k.state.next → AreOrdered attention_id 0 k.state.next k.state.attention → Acts (attention_opened k.state p q a) k l → Acts (filling p q l.state) l m → Acts (flagging p q m.state) m n → Acts (attend_by n.state a.box a.func id) n o → Acts (attention_set k.state p q a) k o
+set_as k l m n o p q a id is next order did then last ends =
+    let same = attend_same k n a id is next order (entries_there k l m n p q a did then last) in
+    acts_both k m o (first_half k.state p q a) (attending p q a) (half_done k l m p q a did then)
+    (acts_both m n o (flagging p q m.state) (λ d. attend d a) last (ends ∙ ap (acted n) same))
+
+-- Who may ask for attention.
+
+pub none_asked : (u : UnitNo) (func : Func) → has_function (device.Unit u) func ≡ true → is_attention func ≡ true → ⊥
+none_asked u Read h e = absurd (cc)
+none_asked u ReadNow h e = absurd (cc)
+none_asked u Write h e = absurd (cc)
+none_asked u WriteNow h e = absurd (cc)
+none_asked u Eof h e = absurd (cc)
+none_asked u EofNow h e = absurd (cc)
+none_asked u ReadAttn h e = absurd (cc)
+none_asked u WrtAttn h e = absurd (cc)
+
+pub attention_within : (s : State) (p : Pid) (dev : Device) (func : Func) (len : ℕ) → is_attention func ≡ true → exceeds s p (request_need s dev func true len) ≡ false → exceeds s p (ast_need true) ≡ false
+attention_within s p dev func len is room = rw is at room

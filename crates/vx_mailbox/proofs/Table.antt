@@ -1,0 +1,119 @@
+-- The mailboxes of the table, as one place changes.
+use Rattle.std.proofs.Common.{◌≡◌, ◌≢◌, ℕ, ◌+◌, ◌<◌, ◌≤◌, List, [], ◌∷◌, Bool, true, cond, not, Option, Some, None, IfSome, IsTrue, is_some, is_none, option_map, length, map, position, slice_index_or, slice_set, inl, inr, refl, ap, sym, subst, arith, ◌∙◌}
+use Rattle.std.specs.List.{position_or_len}
+use Rattle.std.proofs.lemmas.List.{get_or-map, get_or_past, get_or-set_same, get_or-set_other, length-map, length-set, map-set}
+use Rattle.std.proofs.lemmas.Bool.{cases_eq, cases_lt, false≢true}
+use Rattle.std.proofs.lemmas.List.Quantifiers.{position-Some}
+use Rattle.std.proofs.Math.Seq.{map-set_same}
+use Rattle.vx_base.specs.Pieces.{Mailbox}
+use Rattle.vx_base.specs.declared.number.BoxNo.{BoxNo}
+use Rattle.vx_record.specs.Channels.{is_box_of}
+use Rattle.vx_record.specs.Mailboxes.{or_no_box}
+use Rattle.vx_mailbox.specs.Boxes.{Boxes, HaveRoom, StandsIn, with_box_in}
+use Rattle.vx_mailbox.specs.Places.{Place, HasRoomFor, IsTable, box_at, no_place, room_at, table_of, with_box}
+
+-- What is found.
+
+place_or_len_map : {A B : Type 0} (f : A → B) (p : B → Bool) (xs : List A) → position_or_len p (map f xs) ≡ position_or_len (λ x. p (f x)) xs
+place_or_len_map f p [] = refl
+place_or_len_map f p (x ∷ xs) = ap (λ n. cond (not (p (f x))) (1 + n) 0) (place_or_len_map f p xs)
+
+position_map : {A B : Type 0} (f : A → B) (p : B → Bool) (xs : List A) → position (λ x. p (f x)) xs ≡ position p (map f xs)
+position_map f p xs =
+    rw (place_or_len_map f p xs, length-map xs f) refl
+
+-- the number of the first place that passes
+pub number_is : (test : Option Mailbox → Bool) (places slice : List Place) (k : Boxes) (place : Option ℕ) (b : Option BoxNo) → table_of places ≡ k → slice ≡ places → option_map (λ b. b.0) b ≡ place → place ≡ position (λ x. test x.box) slice → option_map (λ b. b.0) b ≡ position test k.boxes
+number_is test places slice k place b view same number is =
+    number ∙ (is ∙ (ap (position (λ (x : Place). test x.box)) same ∙ (position_map box_at test places ∙ ap (λ (x : Boxes). position test x.boxes) view)))
+
+box_stands : (name : List ℕ) (box : Option Mailbox) → is_box_of name box ≡ true → IsTrue (is_some box)
+box_stands name None e = absurd (cc)
+box_stands name (Some box) e = refl
+
+-- the mailbox of a name stands
+pub named_stands : (name : List ℕ) (boxes : List (Option Mailbox)) (b : Option BoxNo) → option_map (λ b. b.0) b ≡ position (is_box_of name) boxes → IfSome b (StandsIn boxes)
+named_stands name boxes None e = tt
+named_stands name boxes (Some b) e = box_stands name (slice_index_or boxes b.0 None) (position-Some (is_box_of name) boxes b.0 None (sym e)).1
+
+free_here : (box : Option Mailbox) → is_none box ≡ true → box ≡ None
+free_here None e = refl
+free_here (Some box) e = absurd (cc)
+
+-- there is no mailbox of a number that is free
+pub free_there : (boxes : List (Option Mailbox)) (b : Option BoxNo) → option_map (λ b. b.0) b ≡ position is_none boxes → IfSome b (λ b. slice_index_or boxes b.0 None ≡ None)
+free_there boxes None e = tt
+free_there boxes (Some b) e = free_here (slice_index_or boxes b.0 None) (position-Some is_none boxes b.0 None (sym e)).1
+
+-- Places.
+
+-- what is read of a place
+place_read : (places : List Place) (i : ℕ) (r : Place) → i < length places → r ≡ slice_index_or places i r → r.box ≡ slice_index_or (map box_at places) i None
+place_read places i r within is = ap box_at is ∙ sym (get_or-map box_at places i r None within)
+
+-- where a mailbox stands, there is a place
+stands_within : (places : List Place) (b : BoxNo) → StandsIn (map box_at places) b → b.0 < length places
+stands_within places b stands =
+    elim (cases_lt b.0 (length places)) [
+      | inl within ↦ within
+      | inr past ↦ let none : slice_index_or (map box_at places) b.0 None ≡ None = get_or_past (map box_at places) b.0 None (omega (arith, past, length-map places box_at)) in absurd (false≢true (sym (ap is_some none) ∙ stands))
+    ]
+
+pub stands_in : (places : List Place) (k : Boxes) (b : BoxNo) → table_of places ≡ k → StandsIn k.boxes b → b.0 < length places
+stands_in places k b view stands = stands_within places b (subst (λ (x : Boxes). StandsIn x.boxes b) (sym view) stands)
+
+-- a place whose mailbox is changed, in the same room
+pub changed_at : (g : Option Mailbox → Option Mailbox) (places : List Place) (k : Boxes) (b : BoxNo) (r new : Place) → table_of places ≡ k → b.0 < length places → r ≡ slice_index_or places b.0 r → new ≡ with_box r (g r.box) → table_of (slice_set places b.0 new) ≡ record k { boxes = with_box_in k.boxes b (g (slice_index_or k.boxes b.0 None)) }
+changed_at g places k b r new view within is e =
+    let boxes : map box_at (slice_set places b.0 new) ≡ slice_set (map box_at places) b.0 (g (slice_index_or (map box_at places) b.0 None)) = map-set box_at places b.0 new ∙ ap (slice_set (map box_at places) b.0) (ap box_at e ∙ ap g (place_read places b.0 r within is)) in
+    let rooms : map room_at (slice_set places b.0 new) ≡ map room_at places = map-set_same room_at places b.0 new r (ap room_at e ∙ ap room_at is) in
+    ap (λ (bs : List (Option Mailbox)). record { boxes = bs; rooms = map room_at (slice_set places b.0 new) }) boxes
+    ∙ ap (λ (ns : List ℕ). record { boxes = slice_set (map box_at places) b.0 (g (slice_index_or (map box_at places) b.0 None)); rooms = ns }) rooms
+    ∙ ap (λ (x : Boxes). record x { boxes = with_box_in x.boxes b (g (slice_index_or x.boxes b.0 None)) }) view
+
+pub changed_there : (g : Option Mailbox → Option Mailbox) (places : List Place) (k : Boxes) (b : BoxNo) (r new : Place) → table_of places ≡ k → StandsIn k.boxes b → r ≡ slice_index_or places b.0 r → new ≡ with_box r (g r.box) → table_of (slice_set places b.0 new) ≡ record k { boxes = with_box_in k.boxes b (g (slice_index_or k.boxes b.0 None)) }
+changed_there g places k b r new view stands is e = changed_at g places k b r new view (stands_in places k b view stands) is e
+
+-- Rooms.
+
+-- every place has room, but perhaps the one that was set
+rooms_set : (places : List Place) (i : ℕ) (new : Place) (short : ℕ) → ((k : ℕ) → k < 64 → k ≢ short → k ≢ i → HasRoomFor (slice_index_or places k no_place)) → (i ≢ short → HasRoomFor new) → length places ≡ 64 → (k : ℕ) → k < 64 → k ≢ short → HasRoomFor (slice_index_or (slice_set places i new) k no_place)
+rooms_set places i new short others here count k lt apart =
+    elim (cases_eq k i) [
+      | inl same ↦ subst HasRoomFor (sym (ap (λ n. slice_index_or (slice_set places i new) n no_place) same ∙ get_or-set_same places i new no_place (omega (arith, same, lt, count)))) (here (λ is. apart (same ∙ is)))
+      | inr other ↦ subst HasRoomFor (sym (get_or-set_other places i k new no_place other)) (others k lt apart other)
+    ]
+
+-- what the table says of a place, and what a place says of the table
+
+box_seen : (places : List Place) (k : ℕ) → k < length places → slice_index_or (map box_at places) k None ≡ (slice_index_or places k no_place).box
+box_seen places k within = get_or-map box_at places k no_place None within
+
+room_seen : (places : List Place) (k : ℕ) → k < length places → slice_index_or (map room_at places) k 0 ≡ (slice_index_or places k no_place).room
+room_seen places k within = get_or-map room_at places k no_place 0 within
+
+room_in : (places : List Place) (k : ℕ) → k < length places → length (or_no_box (slice_index_or (map box_at places) k None)).messages + 1 ≤ slice_index_or (map room_at places) k 0 → HasRoomFor (slice_index_or places k no_place)
+room_in places k within room = omega (arith, room, ap (λ (o : Option Mailbox). length (or_no_box o).messages) (box_seen places k within), room_seen places k within)
+
+room_of : (places : List Place) (k : ℕ) → k < length places → HasRoomFor (slice_index_or places k no_place) → length (or_no_box (slice_index_or (map box_at places) k None)).messages + 1 ≤ slice_index_or (map room_at places) k 0
+room_of places k within room = omega (arith, room, ap (λ (o : Option Mailbox). length (or_no_box o).messages) (box_seen places k within), room_seen places k within)
+
+-- the table after a message was put where there was room in each
+pub table_put : (places : List Place) (short i : ℕ) (k : Boxes) (new : Place) → table_of places ≡ k → IsTable places short → HaveRoom k.boxes k.rooms → i < length places → IsTable (slice_set places i new) i
+table_put places short i k new view t rooms within =
+    let old : HaveRoom (map box_at places) (map room_at places) = subst (λ (x : Boxes). HaveRoom x.boxes x.rooms) (sym view) rooms in
+    record {
+      count = length-set places i new ∙ t.count;
+      within = omega (arith, within, t.count);
+      rooms = rooms_set places i new i (λ j lt _ _. room_in places j (omega (arith, lt, t.count)) (old (record { 0 = j }) lt)) (λ apart. absurd (apart refl)) t.count;
+    }
+
+-- the table after room was made in the place that may be short of it
+pub table_full : (places : List Place) (short : ℕ) (new : Place) → IsTable places short → HasRoomFor new → HaveRoom (map box_at (slice_set places short new)) (map room_at (slice_set places short new))
+table_full places short new t room b lt =
+    let after = slice_set places short new in
+    let full : HasRoomFor (slice_index_or after b.0 no_place) = elim (cases_eq b.0 short) [
+      | inl same ↦ subst HasRoomFor (sym (ap (λ n. slice_index_or after n no_place) same ∙ get_or-set_same places short new no_place (omega (arith, t.within, t.count)))) room
+      | inr other ↦ subst HasRoomFor (sym (get_or-set_other places short b.0 new no_place other)) (t.rooms b.0 lt other)
+    ] in
+    room_of after b.0 (omega (arith, lt, t.count, length-set places short new)) full

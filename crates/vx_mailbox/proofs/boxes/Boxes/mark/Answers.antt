@@ -1,0 +1,7 @@
+use Rattle.std.proofs.Common.{Some, true}
+use Rattle.vx_record.specs.Mailboxes.{or_no_box}
+use Rattle.vx_mailbox.proofs.Table.{changed_there}
+use Rattle.vx_mailbox.proofs.boxes.Boxes.mark.Goals as goal
+
+pub returns : goal.returns
+returns c = changed_there (λ o. Some (record (or_no_box o) { marked = true })) c.self.inside.places.items c.args.self.now c.args.b c.index_mut.result.now _ c.self.view_is c.requires c.index_mut.ensures.value c.mark.ensures

@@ -1,0 +1,15 @@
+-- A mailbox apart from its messages.
+use Rattle.std.specs.Prelude.{◌≡◌, ⊤, List, [], Option, Some, None}
+use Rattle.vx_base.specs.Pieces.{Mailbox}
+use Rattle.vx_base.specs.declared.request.Msg.{Msg}
+use Rattle.vx_mailbox.specs.declared.place.Head.{Head}
+
+-- the mailbox with this head, if there is one, and these messages
+abbrev pub box_of : Option Head → List Msg → Option Mailbox
+box_of None messages = None
+box_of (Some head) messages = Some (record { name = head.name; permanent = head.permanent; marked = head.marked; maxmsg = head.maxmsg; bufquo = head.bufquo; messages = messages })
+
+-- where there is no mailbox, no message is stored
+abbrev pub HeldBy : Option Head → List Msg → Type 0
+HeldBy None messages = messages ≡ []
+HeldBy (Some head) messages = ⊤

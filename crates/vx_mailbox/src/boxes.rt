@@ -1,0 +1,240 @@
+//! The mailboxes by number.
+
+ghost use Rattle.std.specs.Prelude.{◌≡◌, ◌<◌, ◌++◌, ◌+◌, ◌∷◌, ◌==◌, [], false, true, not, IfOk, IfSome, None, OnOk, Some, is_none, length, map, nat_le, option_map, position, replicate, slice_index_or};
+ghost use Rattle.std.specs.List.{find, list_any};
+ghost use Rattle.vx_base.specs.Lists.{first, less};
+ghost use Rattle.vx_base.specs.Queues.{stored_bytes};
+ghost use Rattle.vx_mailbox.specs.Boxes.{HaveRoom, IsShort, StandsIn, box_in, holding, with_box_in};
+ghost use Rattle.vx_mailbox.specs.Places.{box_at, IsTable};
+ghost use Rattle.vx_record.specs.Channels.{is_box_of};
+ghost use Rattle.vx_record.specs.Mailboxes.{this_message};
+
+use crate::place::BoxPlace;
+use std::alloc::Global;
+use std::marker::Model;
+use vx_base::{BoxNo, Id, Msg, Name, NoMemory};
+
+/// How many mailboxes there can be.
+const PLACES: u32 = 64;
+
+/// The mailboxes of a system, by number. Each of the 64 places has room for a message more, but for the one where the last message
+/// was put, which may be short of it.
+#[derive(Drop)]
+pub struct Boxes {
+    places: Vec<BoxPlace>,
+    short: usize,
+}
+
+impl Model for Boxes {
+    ghost use Rattle.vx_mailbox.specs.Boxes.{Boxes};
+    ghost use Rattle.vx_mailbox.specs.Places.{IsTable, table_of};
+
+    ghost Value = { Boxes };
+
+    ghost view = { λ b. table_of b.places.items };
+
+    ghost invariant = { λ b. IsTable b.places.items b.short };
+}
+
+// The places of no mailboxes.
+fn free_places(alloc: Global) -> Result<Vec<BoxPlace>, NoMemory>
+    ensures boxes { IfOk result (λ places. map box_at places.items ≡ replicate 64 None) }
+    ensures table { IfOk result (λ places. IsTable places.items 0) }
+{
+    let mut places = Vec::new(alloc);
+    for _ in 0..PLACES {
+        places.push(BoxPlace::new(alloc)?)?;
+    }
+    Ok(places)
+}
+
+// Where the first mailbox of a name stands.
+fn place_of_name(places: &[BoxPlace], name: &[u8]) -> Option<usize>
+    ensures place { result ≡ position (λ place. is_box_of name.now place.box) places.now }
+    ensures within { IfSome result (λ i. i < length places.now) }
+{
+    places.iter().position(|p| p.is_named(name))
+}
+
+// Where the first place without a mailbox is.
+fn place_of_none(places: &[BoxPlace]) -> Option<usize>
+    ensures place { result ≡ position (λ place. is_none place.box) places.now }
+    ensures within { IfSome result (λ i. i < length places.now) }
+{
+    places.iter().position(|p| p.is_free())
+}
+
+// The number of a place.
+fn number_of(place: Option<usize>) -> Option<BoxNo>
+    requires { IfSome place (λ i. i < 64) }
+    ensures same { option_map (λ b. b.0) result ≡ place }
+    ensures within { IfSome result (λ b. b.0 < 64) }
+{
+    match place {
+        Some(place) => Some(BoxNo(place as u32)),
+        None => None,
+    }
+}
+
+impl Boxes {
+    /// No mailboxes.
+    pub fn new(alloc: Global) -> Result<Boxes, NoMemory>
+        ensures { IfOk result (λ b. b.boxes ≡ replicate 64 None) }
+    {
+        Ok(Boxes {
+            places: free_places(alloc)?,
+            short: 0,
+        })
+    }
+
+    /// Makes room for a message more in each mailbox that is there or is made. Refused or not, the mailboxes stay.
+    pub fn reserve(&mut self) -> Result<(), NoMemory>
+        ensures same { self.new.boxes ≡ self.old.boxes }
+        ensures ok { OnOk result (HaveRoom self.new.boxes self.new.rooms) }
+    {
+        self.places[self.short].reserve()
+    }
+
+    /// The mailbox of a name. None exactly where there is none.
+    pub fn named(&self, name: &[u8]) -> Option<BoxNo>
+        ensures number { option_map (λ b. b.0) result ≡ position (is_box_of name.now) self.now.boxes }
+        ensures stands { IfSome result (StandsIn self.now.boxes) }
+    {
+        number_of(place_of_name(self.places.as_slice(), name))
+    }
+
+    /// The least number that has no mailbox. None exactly where each has one.
+    pub fn free(&self) -> Option<BoxNo>
+        ensures number { option_map (λ b. b.0) result ≡ position is_none self.now.boxes }
+        ensures within { IfSome result (λ b. b.0 < 64) }
+        ensures none { IfSome result (λ b. slice_index_or self.now.boxes b.0 None ≡ None) }
+    {
+        number_of(place_of_none(self.places.as_slice()))
+    }
+
+    // The place of a mailbox.
+    fn place(&self, b: BoxNo) -> &BoxPlace
+        requires { StandsIn self.now.boxes b }
+        ensures { result.now.box ≡ slice_index_or self.now.boxes b.0 None }
+    {
+        &self.places[b.0 as usize]
+    }
+
+    /// Its name.
+    pub fn name(&self, b: BoxNo) -> Name
+        requires { StandsIn self.now.boxes b }
+        ensures { result ≡ (box_in self.now.boxes b).name }
+    {
+        self.place(b).name()
+    }
+
+    /// The longest message that it takes, in bytes.
+    pub fn maxmsg(&self, b: BoxNo) -> u32
+        requires { StandsIn self.now.boxes b }
+        ensures { result ≡ (box_in self.now.boxes b).maxmsg }
+    {
+        self.place(b).maxmsg()
+    }
+
+    /// How many bytes it stores at most.
+    pub fn bufquo(&self, b: BoxNo) -> u32
+        requires { StandsIn self.now.boxes b }
+        ensures { result ≡ (box_in self.now.boxes b).bufquo }
+    {
+        self.place(b).bufquo()
+    }
+
+    /// Whether it is permanent.
+    pub fn is_permanent(&self, b: BoxNo) -> bool
+        requires { StandsIn self.now.boxes b }
+        ensures { result ≡ (box_in self.now.boxes b).permanent }
+    {
+        self.place(b).is_permanent()
+    }
+
+    /// Whether it is marked for deletion.
+    pub fn is_marked(&self, b: BoxNo) -> bool
+        requires { StandsIn self.now.boxes b }
+        ensures { result ≡ (box_in self.now.boxes b).marked }
+    {
+        self.place(b).is_marked()
+    }
+
+    /// Whether it can store so many bytes more: what it stores and these are at most its quota.
+    pub fn fits(&self, b: BoxNo, len: u32) -> bool
+        requires { StandsIn self.now.boxes b }
+        ensures { result ≡ nat_le (stored_bytes (box_in self.now.boxes b).messages + len) (box_in self.now.boxes b).bufquo }
+    {
+        self.place(b).fits(len)
+    }
+
+    /// Whether it stores the message with an id.
+    pub fn has(&self, b: BoxNo, id: Id) -> bool
+        requires { StandsIn self.now.boxes b }
+        ensures { result ≡ list_any (this_message id) (box_in self.now.boxes b).messages }
+    {
+        self.place(b).has(id)
+    }
+
+    /// The id of the oldest message that it stores. None exactly where it stores none.
+    pub fn oldest(&self, b: BoxNo) -> Option<Id>
+        requires { StandsIn self.now.boxes b }
+        ensures { result ≡ option_map (λ m. m.id) (first (box_in self.now.boxes b).messages) }
+    {
+        self.place(b).oldest()
+    }
+
+    /// Whether it stores messages.
+    pub fn has_messages(&self, b: BoxNo) -> bool
+        requires { StandsIn self.now.boxes b }
+        ensures { result ≡ not (length (box_in self.now.boxes b).messages == 0) }
+    {
+        self.place(b).has_messages()
+    }
+
+    /// Stores a message behind the others. Takes no memory.
+    pub fn put(&mut self, b: BoxNo, msg: Msg)
+        requires stands { StandsIn self.old.boxes b }
+        requires room { HaveRoom self.old.boxes self.old.rooms }
+        requires size { IsShort msg }
+        ensures { self.new ≡ record self.old { boxes = with_box_in self.old.boxes b (Some (holding (box_in self.old.boxes b) ((box_in self.old.boxes b).messages ++ msg ∷ []))) } }
+    {
+        self.places[b.0 as usize].put(msg);
+        self.short = b.0 as usize;
+    }
+
+    /// Takes out the message with an id. None exactly where there is none.
+    pub fn take(&mut self, b: BoxNo, id: Id) -> Option<Msg>
+        requires { StandsIn self.old.boxes b }
+        ensures found { result ≡ find (this_message id) (box_in self.old.boxes b).messages }
+        ensures after { self.new ≡ record self.old { boxes = with_box_in self.old.boxes b (Some (holding (box_in self.old.boxes b) (less (this_message id) (box_in self.old.boxes b).messages))) } }
+        ensures size { IfSome result IsShort }
+    {
+        self.places[b.0 as usize].take(id)
+    }
+
+    /// Makes a mailbox of a number that has none ($CREMBX). It stores nothing. Takes no memory.
+    pub fn make(&mut self, b: BoxNo, name: Name, permanent: bool, maxmsg: u32, bufquo: u32)
+        requires within { b.0 < 64 }
+        requires none { slice_index_or self.old.boxes b.0 None ≡ None }
+        ensures { self.new ≡ record self.old { boxes = with_box_in self.old.boxes b (Some (record { name = name; permanent = permanent; marked = false; maxmsg = maxmsg; bufquo = bufquo; messages = [] })) } }
+    {
+        self.places[b.0 as usize].make(name, permanent, maxmsg, bufquo);
+    }
+
+    /// The mailbox is gone, with its messages.
+    pub fn remove(&mut self, b: BoxNo)
+        requires { StandsIn self.old.boxes b }
+        ensures { self.new ≡ record self.old { boxes = with_box_in self.old.boxes b None } }
+    {
+        self.places[b.0 as usize].remove();
+    }
+
+    /// Marks it for deletion ($DELMBX).
+    pub fn mark(&mut self, b: BoxNo)
+        requires { StandsIn self.old.boxes b }
+        ensures { self.new ≡ record self.old { boxes = with_box_in self.old.boxes b (Some (record (box_in self.old.boxes b) { marked = true })) } }
+    {
+        self.places[b.0 as usize].mark();
+    }
+}

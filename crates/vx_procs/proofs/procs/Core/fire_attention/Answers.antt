@@ -1,0 +1,51 @@
+use Rattle.std.proofs.Common.{Option, Some, None, ap, arith, refl, sym, ◌∙◌}
+use Rattle.vx_base.specs.Pieces.{Attention}
+use Rattle.vx_base.specs.Roomy.{Roomy}
+use Rattle.vx_base.specs.declared.mode.Mode.{Mode}
+use Rattle.vx_base.specs.declared.number.Id.{Id}
+use Rattle.vx_base.specs.declared.number.Pid.{Pid}
+use Rattle.vx_base.specs.declared.routine.Entry.{Entry}
+use Rattle.vx_record.specs.Asts.{charged_ast, with_queued}
+use Rattle.vx_record.specs.Mailboxes.{this_attention}
+use Rattle.vx_procs.specs.Attention.{fired_attention_if}
+use Rattle.vx_procs.specs.Held.{Books}
+use Rattle.vx_procs.specs.Kernel.{with_state}
+use Rattle.vx_procs.specs.View.{kernel, process}
+use Rattle.vx_procs.proofs.Called.{called_in, fired_as, held_fired, place_called, process_called}
+use Rattle.vx_procs.proofs.Changed.{stands}
+use Rattle.vx_procs.proofs.Ops.{same_timers}
+use Rattle.vx_procs.proofs.procs.Core.fire_attention.Goals as goal
+
+pub invariant_of-self : goal.invariant_of-self
+invariant_of-self g c = rw (same_timers (this_attention c.args.id) c.self.inside.attention c.take.new.self c.in_default.ensures.found c.in_default.ensures.after) c.self.invariant
+
+pub returns-in_default-clause-after : goal.returns-in_default-clause-after
+returns-in_default-clause-after g c =
+    let same = same_timers (this_attention c.args.id) c.self.inside.attention c.take.new.self c.in_default.ensures.found c.in_default.ensures.after in
+    let k = c.args.self.now in
+    ap (λ (es : Roomy Attention). kernel (record c.self.inside { attention = es })) same
+    ∙ (c.self.view_is ∙ ap (λ (o : Option Attention). with_state k (fired_attention_if k.state o)) (called_in c.args.id c.self.inside k None c.self.view_is c.in_default.ensures.found))
+
+pub overflow_sub-p : goal.overflow_sub-p
+overflow_sub-p g c = let made = process_called c.args.id c.self.inside c.p-p.result c.in-Some.entry c.self.invariant c.in-Some.ensures.found c.p-p.ensures in omega (arith, made.above)
+
+pub index_mut-requires : goal.index_mut-requires
+index_mut-requires g c = omega (arith, stands c.self.inside c.p-p.result (process_called c.args.id c.self.inside c.p-p.result c.in-Some.entry c.self.invariant c.in-Some.ensures.found c.p-p.ensures))
+
+pub call_attention-requires : goal.call_attention-requires
+call_attention-requires g c = omega (arith, place_called c.args.id c.self.inside c.p-p.result c.in-Some.entry c.index_mut.result.now c.self.invariant c.in-Some.ensures.found c.p-p.ensures c.index_mut.ensures.value)
+
+pub invariant_of-self-2 : goal.invariant_of-self-2
+invariant_of-self-2 g c =
+    held_fired (charged_ast c.id-id.result c.mode-mode.result (g.R.Routine.tagged c.into_routine.result)) c.args.id c.self.inside c.p-p.result c.in-Some.entry c.index_mut.result.now _ c.take.new.self refl c.in-Some.ensures.found c.p-p.ensures c.in-Some.ensures.after c.index_mut.ensures.value c.call_attention.ensures.after (ap (λ (b : Books). b.room) c.call_attention.ensures.books) (ap (λ (b : Books). b.account) c.call_attention.ensures.books) c.self.invariant
+
+pub returns-clause-after : goal.returns-clause-after
+returns-clause-after g c =
+    let a = c.in-Some.entry in
+    let pr = process c.index_mut.result.now in
+    let tag = g.R.Routine.tagged c.into_routine.result in
+    let after = c.call_attention.ensures.after
+    ∙ (ap (λ (x : Id). with_queued (charged_ast x c.mode-mode.result tag) pr) c.id-id.ensures
+    ∙ (ap (λ (x : Mode). with_queued (charged_ast a.id x tag) pr) c.mode-mode.ensures
+    ∙ ap (λ (x : Entry). with_queued (charged_ast a.id a.mode x) pr) c.into_routine.ensures)) in
+    fired_as c.args.id c.self.inside c.args.self.now c.p-p.result a c.index_mut.result.now _ c.take.new.self c.self.view_is c.self.invariant c.in-Some.ensures.found c.p-p.ensures c.index_mut.ensures.value after (ap (λ (b : Books). b.room) c.call_attention.ensures.books) c.in-Some.ensures.after

@@ -1,0 +1,45 @@
+//! How deep processes are: what the deletion of any of them tells at most.
+
+ghost use Rattle.std.specs.Prelude.{◌≡◌, map};
+ghost use Rattle.vx_procs.specs.View.{process};
+ghost use Rattle.vx_procs.specs.Words.{deeper, deepest, depth};
+
+use crate::process::Proc;
+use crate::procs::Core;
+use vx_base::Routine;
+
+// The greater of two numbers.
+fn deeper(a: u128, b: u128) -> u128
+    ensures { result ≡ deeper a b }
+{
+    if a <= b { b } else { a }
+}
+
+impl<R: Routine> Proc<R> {
+    // How many frames and exit handlers it has.
+    fn depth(&self) -> u128
+        ensures { result ≡ depth (process self.now) }
+    {
+        self.frames.len() as u128 + self.exits.len() as u128
+    }
+}
+
+// The most that one of some processes has.
+fn deepest<R: Routine>(procs: &[Proc<R>]) -> u128
+    ensures { result ≡ deepest (map process procs.now) }
+{
+    let mut most = 0;
+    for proc in procs {
+        most = deeper(most, proc.depth());
+    }
+    most
+}
+
+impl<R: Routine> Core<R> {
+    /// The most frames and exit handlers that one process has. Goes over all processes.
+    pub fn depth(&self) -> u128
+        ensures { result ≡ deepest self.now.state.procs }
+    {
+        deepest(self.procs.as_slice())
+    }
+}

@@ -1,0 +1,7 @@
+use Rattle.std.proofs.Common.{get_or}
+use Rattle.vx_record.proofs.Lists.{all_at}
+use Rattle.vx_reqs.specs.Places.{IsFrom}
+use Rattle.vx_reqs.proofs.reads.place_read.Goals as goal
+
+pub read_on-requires : goal.read_on-requires
+read_on-requires g c = λ k d lt within. all_at (IsFrom c.args.b (get_or c.args.reads.now.from c.args.b.0 0)) c.args.slots.now k d (c.requires.reads c.args.b c.if-b-lt64.true) within (c.first_from-first.ensures.below k d lt)

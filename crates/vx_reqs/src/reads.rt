@@ -1,0 +1,138 @@
+//! The reads that wait at mailboxes, found in their places.
+
+ghost use Rattle.std.specs.Prelude.{◌≡◌, ◌≢◌, ◌<◌, ◌≤◌, ◌&&◌, [], ℕ, List, IfSome, false, get_or, length, option_map, position, true};
+ghost use Rattle.std.specs.List.{find};
+ghost use Rattle.vx_base.specs.declared.number.BoxNo.{BoxNo as BoxNoOf};
+ghost use Rattle.vx_record.specs.Mailboxes.{is_box, is_waiting_func, waits_at};
+ghost use Rattle.vx_reqs.specs.Places.{AreFrom, OrderedIf, Place, Rises, holds};
+
+use crate::found::{first_from, id_at};
+use crate::order::Order;
+use crate::outstanding::is_waiting_func;
+use crate::slot::Slot;
+use vx_base::{BoxNo, Device, Func, Id, Routine};
+
+/// For each of the mailboxes that there may be: the first number that a read may have that waits there.
+#[derive(Drop)]
+pub(crate) struct Reads {
+    pub(crate) from: [u64; 64],
+}
+
+impl Reads {
+    /// That of no places.
+    pub(crate) fn new() -> Reads
+        ensures { AreFrom result.from [] }
+    {
+        Reads {
+            from: [u64::MAX; 64],
+        }
+    }
+
+    /// Goes on to a request that is put behind the others.
+    pub(crate) fn accept(&mut self, id: Id, device: Device, func: Func)
+        ensures here { (b : BoxNoOf) → b.0 < 64 → (is_box b device && is_waiting_func func) ≡ true → get_or self.new.from b.0 0 ≤ id.0 }
+        ensures all { (b : BoxNoOf) → get_or self.new.from b.0 0 ≤ get_or self.old.from b.0 0 }
+    {
+        if is_waiting_func(func) {
+            lower(&mut self.from, device, id.0 as u64);
+        }
+    }
+
+    /// Notes the first read that waits at a mailbox, among ids that rise.
+    pub(crate) fn settle(&mut self, b: BoxNo, first: Option<Id>)
+        ensures { (places : List Place) (next : ℕ) → Rises 0 places next → first ≡ option_map (λ y. y.id) (find (holds (waits_at b)) places) → AreFrom self.old.from places → AreFrom self.new.from places }
+    {
+        match first {
+            Some(id) => put(&mut self.from, b, id.0 as u64),
+            None => put(&mut self.from, b, u64::MAX),
+        }
+    }
+}
+
+// Puts the number of a mailbox.
+fn put(numbers: &mut [u64; 64], b: BoxNo, number: u64)
+    ensures here { b.0 < 64 → get_or numbers.new b.0 0 ≡ number }
+    ensures others { (other : BoxNoOf) → b.0 ≢ other.0 → get_or numbers.new other.0 0 ≡ get_or numbers.old other.0 0 }
+{
+    if b.0 < 64 {
+        numbers[b.0 as usize] = number;
+    }
+}
+
+// Puts the number of a device, where it is a mailbox with a greater one.
+fn lower(numbers: &mut [u64; 64], device: Device, number: u64)
+    ensures here { (b : BoxNoOf) → b.0 < 64 → is_box b device ≡ true → get_or numbers.new b.0 0 ≤ number }
+    ensures all { (b : BoxNoOf) → get_or numbers.new b.0 0 ≤ get_or numbers.old b.0 0 }
+{
+    if let Device::Mailbox(b) = device
+        && b.0 < 64
+        && number < numbers[b.0 as usize]
+    {
+        numbers[b.0 as usize] = number;
+    }
+}
+
+// Where the first read stands that waits at a mailbox, of those from a place on, where none waits before.
+fn read_on<R: Routine>(slots: &[Slot<R>], first: usize, b: BoxNo) -> Option<usize>
+    requires { (k : ℕ) (d : Place) → k < first → k < length slots.now → holds (waits_at b) (get_or slots.now k d) ≡ false }
+    ensures place { result ≡ position (holds (waits_at b)) slots.now }
+    ensures within { IfSome result (λ i. i < length slots.now) }
+{
+    let mut at = first;
+    while at < slots.len() {
+        if slots[at].waits_at(b) {
+            return Some(at);
+        }
+        at += 1;
+    }
+    None
+}
+
+/// Where the first read stands that waits at a mailbox. Where the ids rise, it is looked for from where it is known to be.
+pub(crate) fn place_read<R: Routine>(
+    slots: &[Slot<R>],
+    order: &Order,
+    reads: &Reads,
+    b: BoxNo,
+) -> Option<usize>
+    requires order { OrderedIf order.now.rising order.now.next order.now.from order.now.served slots.now }
+    requires reads { AreFrom reads.now.from slots.now }
+    ensures place { result ≡ position (holds (waits_at b)) slots.now }
+    ensures within { IfSome result (λ i. i < length slots.now) }
+{
+    if order.rising && b.0 < 64 {
+        let first = first_from(slots, order.next, reads.from[b.0 as usize]);
+        read_on(slots, first, b)
+    } else {
+        slots.iter().position(|s| s.waits_at(b))
+    }
+}
+
+// Notes where the first read is that waits at a mailbox, where the ids rise.
+fn settle_box<R: Routine>(reads: &mut Reads, slots: &[Slot<R>], order: &Order, b: BoxNo)
+    requires order { OrderedIf order.now.rising order.now.next order.now.from order.now.served slots.now }
+    requires reads { AreFrom reads.old.from slots.now }
+    ensures { AreFrom reads.new.from slots.now }
+{
+    if order.rising {
+        let place = place_read(slots, order, reads, b);
+        reads.settle(b, id_at(slots, place));
+    }
+}
+
+/// Notes where the first read is that waits at a device, where it is a mailbox.
+pub(crate) fn settle_reads<R: Routine>(
+    reads: &mut Reads,
+    slots: &[Slot<R>],
+    order: &Order,
+    device: Device,
+)
+    requires order { OrderedIf order.now.rising order.now.next order.now.from order.now.served slots.now }
+    requires reads { AreFrom reads.old.from slots.now }
+    ensures { AreFrom reads.new.from slots.now }
+{
+    match device {
+        Device::Mailbox(b) => settle_box(reads, slots, order, b),
+        Device::Unit(_) => (),
+    }
+}
