@@ -173,13 +173,16 @@ pub record Judges (words : List (List ℕ)) (left left_after : Option (List ℕ)
   pub read : ReadsInput words Check left left_after input
   pub judged : IsJudged input verdict
 
--- `sim` took a run whose records keep the six laws of transcripts; or `check` read one; or `show` took none
-pub data IsLawful (words : List (List ℕ)) (left left_after : Option (List ℕ)) : Type 0 where
-  run_is_lawful : (options : Options) (input : List ℕ) (system : System) → ReadsInput words (Sim options) left left_after input → Spells input system
-      → KeepLaws system (chosen system options.seed options.limit) → IsLawful words left left_after
-  read_is_lawful : (input : List ℕ) (journal : Journal) → ReadsInput words Check left left_after input → IsJournal input journal
-      → KeepLaws journal.system journal.recs → IsLawful words left left_after
-  no_run : (input : List ℕ) → ReadsInput words Show left left_after input → IsLawful words left left_after
+-- `sim` took a run whose records keep the six laws of transcripts; or `check` read one, whole or cut; or `show` took none; or `check`
+-- read one that is not the machine's, and the sink gained that verdict's line: with no status but Illegal
+pub data IsLawful (words : List (List ℕ)) (left left_after held held_after : Option (List ℕ)) : Status → Type 0 where
+  run_is_lawful : (status : Status) (options : Options) (input : List ℕ) (system : System) → ReadsInput words (Sim options) left left_after input → Spells input system
+      → KeepLaws system (chosen system options.seed options.limit) → IsLawful words left left_after held held_after status
+  read_is_lawful : (status : Status) (input : List ℕ) (journal : Journal) → ReadsInput words Check left left_after input → IsJournal input journal
+      → KeepLaws journal.system journal.recs → IsLawful words left left_after held held_after status
+  no_run : (status : Status) (input : List ℕ) → ReadsInput words Show left left_after input → IsLawful words left left_after held held_after status
+  read_is_bad : (n : ℕ) → Judges words left left_after (verdict.Bad n) → Appends held held_after (verdict_line (verdict.Bad n))
+      → IsLawful words left left_after held held_after status.Illegal
 
 -- The words are a command's. Nothing is said of memory: the answer states no cause.
 pub record RunsOut (words : List (List ℕ)) : Type 0 where

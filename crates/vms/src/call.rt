@@ -171,9 +171,12 @@ pub fn quiet_call<S: Source, K: Sink>(
         WritesVerdict words.now (S.left source.old) (S.left source.new)
         (K.held sink.old) (K.held sink.new) Status.Illegal }
 
-    // The records that `sim` wrote, and those that `check` found to be the machine's, keep the six laws of transcripts.
-    ensures lawful { (result ≡ Status.Done) ⊎ (result ≡ Status.Hung) ⊎ (result ≡ Status.Limit) →
-        IsLawful words.now (S.left source.old) (S.left source.new) }
+    // The records that `sim` wrote, and those that `check` found to be the machine's, of a cut transcript too, keep the six laws
+    // of transcripts.
+    ensures lawful { (result ≡ Status.Done) ⊎ (result ≡ Status.Hung) ⊎ (result ≡ Status.Limit)
+        ⊎ (result ≡ Status.Illegal) →
+        IsLawful words.now (S.left source.old) (S.left source.new)
+        (K.held sink.old) (K.held sink.new) result }
 
     // A line was written, each with its cause.
     ensures words { result ≡ Status.Words →
