@@ -26,11 +26,18 @@ module _ {T E : Type 0} where
     pub stage : m.0.stage ≡ Idle
     pub part : 0 < m.0.parts
 
-  -- the seat is inside, and the value is out
-  pub record IsInside (m : Me (Option T) (View E)) : Type 0 where
-    pub holds : m.1 ≡ (0, None) ∷ []
+  -- a seat of this table that is not inside
+  pub record IsFree (z : TableId) (s : Seat (Option T) (View E)) : Type 0 where
+    pub table : s.table_id ≡ z
+    pub outside : IsOutside s.me
+
+  -- a seat of this table that is inside: the value is out
+  pub record IsInside (z : TableId) (s : Seat (Option T) (View E)) : Type 0 where
+    pub table : s.table_id ≡ z
+    pub holds : s.me.1 ≡ (0, None) ∷ []
     pub ticket : ℕ
-    pub stage : m.0.stage ≡ Inside ticket
+    pub stage : s.me.0.stage ≡ Inside ticket
+    pub part : 0 < s.me.0.parts
 
 module _ {E : Type 0} where
   -- what a seat has left stays
@@ -49,11 +56,6 @@ module _ {E : Type 0} where
     pub gathered : w.gathered ≡ v.gathered
 
 module _ {T E : Type 0} where
-  -- a seat of this table that is not inside
-  pub record IsFree (z : TableId) (s : Seat (Option T) (View E)) : Type 0 where
-    pub table : s.table_id ≡ z
-    pub outside : IsOutside s.me
-
   -- it has seen nothing and left nothing
   abbrev pub IsNew : TableId → Seat (Option T) (View E) → Type 0
   IsNew z s = (s.table_id ≡ z) × (s.me ≡ (first_view 1, []))
@@ -71,7 +73,7 @@ module _ {T E : Type 0} where
     pub stand : (i : ℕ) (s : Seat (Option T) (View E)) → get_elem? seats i ≡ some s → Stands log s.me.0.own
 
 module _ {T E : Type 0} where
-  -- a free seat with one part, as `new` gives it
+  -- a free seat that has taken in no other
   pub record IsOne (z : TableId) (s : Seat (Option T) (View E)) : Type 0 where
     pub free : IsFree z s
     pub one : s.me.0.parts ≡ 1

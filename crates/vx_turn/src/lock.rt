@@ -3,7 +3,7 @@
 ghost use Rattle.std.specs.Prelude.{◌≡◌, ℕ, ◌-◌, ◌<◌, ◌≤◌, [], ◌∷◌, length, Some, None, MatchBool, IfOk, All, vec_len};
 ghost use Rattle.vx_turn.specs.declared.view.Stage.TheVariants.{Idle, Waiting};
 ghost use Rattle.vx_turn.specs.Rule.{StartsWith, Entered, Shared, first_view, glued, once_below};
-ghost use Rattle.vx_turn.specs.Seats.{IsOutside, IsInside, Keeps, Adds, IsNew, IsFree, IsSharedBy, parts_of};
+ghost use Rattle.vx_turn.specs.Seats.{IsInside, Keeps, Adds, IsNew, IsFree, IsOne, IsSharedBy};
 
 use crate::rule::{Cuts, Draws, Kept, Law, Looks, Passes};
 use crate::view::View;
@@ -98,10 +98,11 @@ impl<T: Kept<E>, E> Turnstile<T, E> {
         value
     }
 
-    /// Ends the lock, with all its seats, and gives the value back. What the seats have left is its history. Takes no memory.
+    /// Ends the lock, with all its seats, and gives the value back. What the seats have left is its history: each entry once. Takes no
+    /// memory.
     pub fn close(self, mut seats: Vec<Seat<T, E>>) -> T
-        requires free { All (IsFree self.table) seats.items }
-        requires all { parts_of seats.items ≡ self.seats }
+        requires free { All (IsOne self.table) seats.items }
+        requires all { vec_len seats ≡ self.seats }
         requires some { 0 < vec_len seats }
         ensures { IsSharedBy (T.history result) seats.items }
     {
@@ -115,12 +116,11 @@ impl<T: Kept<E>, E> Turnstile<T, E> {
 
     /// Waits for the seat's turn, and gives it the value. The history goes on from all that the seat has seen. Takes no memory.
     pub fn enter<R: Wait>(&self, rt: &R, seat: &mut Seat<T, E>) -> T
-        requires own { seat.old.table_id ≡ self.now.table }
-        requires outside { IsOutside seat.old.me }
-        ensures own { (seat.new.table_id ≡ seat.old.table_id) × (seat.new.id ≡ seat.old.id) }
-        ensures inside { IsInside seat.new.me }
+        requires { IsFree self.now.table seat.old }
+        ensures inside { IsInside self.now.table seat.new }
         ensures seen { (seat.new.me.0.seen ≡ T.history result) × StartsWith (T.history result) seat.old.me.0.seen }
         ensures kept { Keeps seat.old.me.0 seat.new.me.0 }
+        ensures id { seat.new.id ≡ seat.old.id }
     {
         let ticket = self.table.shared.fetch_add::<Draws>(seat, 0, 1);
         self.wait_for(rt, seat, ticket)
@@ -130,10 +130,11 @@ impl<T: Kept<E>, E> Turnstile<T, E> {
     fn wait_for<R: Wait>(&self, rt: &R, seat: &mut Seat<T, E>, ticket: u64) -> T
         requires own { seat.old.table_id ≡ self.now.table }
         requires waits { (seat.old.me.1 ≡ []) × (seat.old.me.0.stage ≡ Waiting ticket) }
-        ensures own { (seat.new.table_id ≡ seat.old.table_id) × (seat.new.id ≡ seat.old.id) }
-        ensures inside { IsInside seat.new.me }
+        requires part { 0 < seat.old.me.0.parts }
+        ensures inside { IsInside self.now.table seat.new }
         ensures seen { (seat.new.me.0.seen ≡ T.history result) × StartsWith (T.history result) seat.old.me.0.seen }
         ensures kept { Keeps seat.old.me.0 seat.new.me.0 }
+        ensures id { seat.new.id ≡ seat.old.id }
     {
         for _ in rt.forever() {
             if self.look(seat, ticket) {
@@ -170,12 +171,11 @@ impl<T: Kept<E>, E> Turnstile<T, E> {
 
     /// Hands the value back, with a history that goes on from the one that was seen; what it grew by is the seat's own. Takes no memory.
     pub fn leave(&self, seat: &mut Seat<T, E>, value: T)
-        requires own { seat.old.table_id ≡ self.now.table }
-        requires inside { IsInside seat.old.me }
+        requires inside { IsInside self.now.table seat.old }
         requires longer { StartsWith (T.history value) seat.old.me.0.seen }
-        ensures own { (seat.new.table_id ≡ seat.old.table_id) × (seat.new.id ≡ seat.old.id) }
-        ensures outside { (seat.new.me.1 ≡ []) × (seat.new.me.0.stage ≡ Idle) }
+        ensures free { IsFree self.now.table seat.new }
         ensures adds { Adds seat.old.me.0 seat.new.me.0 (T.history value) }
+        ensures id { seat.new.id ≡ seat.old.id }
     {
         let hole = self.table.shared.exchange(seat, 0, Some(value));
         let None = hole else { unreachable!() };

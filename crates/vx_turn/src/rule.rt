@@ -13,7 +13,7 @@ pub trait Kept<E> {
 }
 
 // What holds between any two steps.
-pub struct Law;
+pub(crate) struct Law;
 
 impl<E, T: Kept<E>> TableRule<Option<T>, View<E>, u64> for Law {
     ghost use Rattle.vx_turn.specs.Rule.{Rule, first_view};
@@ -24,7 +24,7 @@ impl<E, T: Kept<E>> TableRule<Option<T>, View<E>, u64> for Law {
 }
 
 // A ticket is drawn.
-pub struct Draws;
+pub(crate) struct Draws;
 
 impl<E, T: Kept<E>> Play<Option<T>, View<E>> for Draws {
     ghost use Rattle.vx_turn.specs.Rule.{Drew};
@@ -33,7 +33,7 @@ impl<E, T: Kept<E>> Play<Option<T>, View<E>> for Draws {
 }
 
 // A seat looks which ticket is served.
-pub struct Looks;
+pub(crate) struct Looks;
 
 impl<E, T: Kept<E>> Play<Option<T>, View<E>> for Looks {
     ghost use Rattle.vx_turn.specs.Rule.{Looked};
@@ -42,7 +42,7 @@ impl<E, T: Kept<E>> Play<Option<T>, View<E>> for Looks {
 }
 
 // A seat that has handed the value back lets the next ticket be served.
-pub struct Passes;
+pub(crate) struct Passes;
 
 impl<E, T: Kept<E>> Play<Option<T>, View<E>> for Passes {
     ghost use Rattle.vx_turn.specs.Rule.{Passed};
@@ -51,7 +51,7 @@ impl<E, T: Kept<E>> Play<Option<T>, View<E>> for Passes {
 }
 
 // A seat is cut off, or taken in.
-pub struct Cuts;
+pub(crate) struct Cuts;
 
 impl<E> Split<View<E>> for Cuts {
     ghost use Rattle.vx_turn.specs.Rule.{cut_left, cut_right};

@@ -1,17 +1,20 @@
-use Rattle.std.proofs.Common.{◌≡◌, ◌+◌, ap, sym, subst, Option, inl, inr, ⊎_elim, arith}
+use Rattle.std.proofs.Common.{rules, ◌≡◌, ◌+◌, ap, sym, subst, Option, inl, inr, ⊎_elim, arith}
 use mathlib.Core.Option.{some}
 use lib.ListN.{get_elem?}
 use Rattle.atomic_table.specs.declared.shared.Seat.{Seat}
 use Rattle.vx_turn.specs.declared.view.View.{View}
 use Rattle.vx_turn.specs.Rule.{owned, glued}
 use Rattle.vx_turn.specs.Seats.{IsFree, IsTaken, left_by, parts_of}
+use Rattle.std.specs.Prelude.{All}
+use Rattle.vx_turn.proofs.Ones.{all_free, ones}
 use Rattle.vx_turn.proofs.Taken.{at_popped, taken_glued, taken_new, taken_along}
 use Rattle.vx_turn.proofs.Lists.{popped, total_popped, owned_glued}
 use Rattle.vx_turn.proofs.lock.Turnstile.close.Goals as goal
 
 pub seats-init : goal.seats-init
 seats-init g c =
-    let p = popped (IsFree c.args.self.table) _ _ _ _ c.pop-last.ensures.items c.in-Some.is c.requires.free in record {
+    let free : All (IsFree c.args.self.table) c.args.seats.items = all_free c.args.self.table c.args.seats.items c.requires.free in
+    let p = popped (IsFree c.args.self.table) _ _ _ _ c.pop-last.ensures.items c.in-Some.is free in record {
       free = p.0;
       mine = p.1;
       taken = λ i s at. ⊎_elim (λ (x : get_elem? c.pop-last.new.self.items i ≡ some s). inl x) (λ (x : c.in-Some.all ≡ s). inr (inl (ap (λ (y : Seat (Option g.row.T.Denot) (View g.row.E.Denot)). y.me.0.own) (sym x)))) (at_popped c.args.seats.items c.pop-last.new.self.items c.pop-last.result c.in-Some.all c.pop-last.ensures.items c.in-Some.is i s at);
@@ -54,3 +57,10 @@ seats-preserved g c =
           omega arith
           );
     }
+
+pub end-requires-clause-all : goal.end-requires-clause-all
+end-requires-clause-all g c =
+    let one = ones c.args.self.table c.args.seats.items c.requires.free in
+    let all = c.requires.all in
+    let sum : parts_of c.args.seats.items ≡ c.args.self.seats = omega (arith, one, all) in
+    search (rules, sum)
