@@ -46,4 +46,6 @@ mod text;
 #[cfg(test)]
 mod timers;
 #[cfg(test)]
+mod turn;
+#[cfg(test)]
 mod units;
