@@ -1,7 +1,7 @@
 //! The names of the columns.
 
 ghost use Rattle.std.specs.Prelude.{◌≡◌, ◌++◌, OnOk, IfOk};
-ghost use Rattle.vx_draw.specs.Headings.{started_names, effects_names, new_names, process_names, new_name};
+ghost use Rattle.vx_draw.specs.Headings.{started_names, effects_names, new_names, process_names, new_name, is_cluster, has_cluster, has_clusters};
 
 use std::alloc::Global;
 use vx_base::{Effect, Name, NoMemory, Rec, Sequence};
@@ -61,4 +61,26 @@ pub fn process_names(
     add_started(system.decls.as_slice(), &mut names)?;
     add_made(recs, &mut names)?;
     Ok(names)
+}
+
+fn is_cluster(effect: &Effect) -> bool
+    ensures { result ≡ is_cluster effect.now }
+{
+    match effect {
+        Effect::Cef { .. } => true,
+        _ => false,
+    }
+}
+
+fn has_cluster(effects: &[Effect]) -> bool
+    ensures { result ≡ has_cluster effects.now }
+{
+    effects.iter().any(|effect| is_cluster(effect))
+}
+
+/// Whether records have a common cluster.
+pub fn has_clusters(recs: &[Rec]) -> bool
+    ensures { result ≡ has_clusters recs.now }
+{
+    recs.iter().any(|rec| has_cluster(rec.effects.as_slice()))
 }
