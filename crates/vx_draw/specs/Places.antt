@@ -20,7 +20,8 @@ columns_of processes units boxes clusters = record {
   units = 140 + 360 * capped processes;
   boxes = behind_units processes units;
   clusters = behind_boxes processes units boxes;
-  end = behind_boxes processes units boxes + (if clusters then 240 else 80) }
+  end = behind_boxes processes units boxes + (if clusters then 240 else 80);
+}
 
 -- where the column of a mailbox begins, by its place among them
 abbrev pub box_x : Places → ℕ → ℕ

@@ -54,7 +54,8 @@ answer_text n x rec c =
 unfoldable pub after_answer : ℕ → ℕ → Rec → Canvas → Canvas
 after_answer n x rec c = record {
   stacks = process_moved (mover rec.event rec.answer) (answer_move n c.trails rec.answer) c.stacks;
-  trails = told x (middle n) (answer_tale rec.answer) c.trails }
+  trails = told x (middle n) (answer_tale rec.answer) c.trails;
+}
 
 -- What effects draw.
 
@@ -67,7 +68,8 @@ effect_text places boxes decls n x event k e c =
 unfoldable pub after_effect : List ProcDecl → ℕ → ℕ → Event → Effect → Canvas → Canvas
 after_effect decls n x event e c = record {
   stacks = process_moved (effect_mover event e) (effect_move n decls c.trails e) c.stacks;
-  trails = told x (middle n) (effect_tale e) c.trails }
+  trails = told x (middle n) (effect_tale e) c.trails;
+}
 
 -- effects, the first of them the k-th
 abbrev pub effects_text : Places → List (List ℕ) → List ProcDecl → ℕ → ℕ → Event → ℕ → List Effect → Canvas → List ℕ

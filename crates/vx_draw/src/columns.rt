@@ -14,6 +14,7 @@ use vx_image::{System, UnitDecl};
 use vx_text::print_num;
 
 const STEM: &[u8] = b"|                       ";
+
 const BLANKS: &[u8] = b"                        ";
 
 // Appends a heading in 24 places.
@@ -28,7 +29,12 @@ fn print_heading(alloc: Global, text: &[u8], out: &mut Bytes) -> Result<(), NoMe
 }
 
 // Appends the heading of process n.
-fn print_process_heading(alloc: Global, n: u64, name: &Name, out: &mut Bytes) -> Result<(), NoMemory>
+fn print_process_heading(
+    alloc: Global,
+    n: u64,
+    name: &Name,
+    out: &mut Bytes,
+) -> Result<(), NoMemory>
     ensures { OnOk result (out.new ≡ out.old ++ spec.heading_cell (decimal n ++ 32 ∷ name.now)) }
 {
     let mut text = Bytes::new(alloc);
@@ -221,5 +227,13 @@ pub fn print_columns(
     let processes = names.as_slice().len();
     print_lines(alloc, rule.as_slice(), processes, sound, out)?;
     let first_wrong = wrong_record(wrong, recs);
-    print_ending(alloc, rule.as_slice(), processes, wrong, first_wrong, trailer, out)
+    print_ending(
+        alloc,
+        rule.as_slice(),
+        processes,
+        wrong,
+        first_wrong,
+        trailer,
+        out,
+    )
 }

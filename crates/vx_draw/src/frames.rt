@@ -65,7 +65,11 @@ fn mode_class(mode: Mode) -> &'static [u8]
 fn bar_class(bar: Bar) -> &'static [u8]
     ensures { result.now ≡ spec.bar_class bar }
 {
-    if bar.waits { b"wait" } else { mode_class(bar.mode) }
+    if bar.waits {
+        b"wait"
+    } else {
+        mode_class(bar.mode)
+    }
 }
 
 fn lane(x: u128, below: usize) -> u128
@@ -149,13 +153,7 @@ impl Stack {
     }
 
     // The top frame ends.
-    fn leave(
-        &mut self,
-        alloc: Global,
-        x: u128,
-        at: u128,
-        out: &mut Bytes,
-    ) -> Result<(), NoMemory>
+    fn leave(&mut self, alloc: Global, x: u128, at: u128, out: &mut Bytes) -> Result<(), NoMemory>
         requires { x < 2 ^ 100 }
         ensures text { OnOk result (out.new ≡ out.old ++ spec.top_bar x at self.old) }
         ensures frames { OnOk result (self.new ≡ spec.below_top self.old) }
@@ -200,13 +198,7 @@ impl Stack {
     }
 
     // Makes a move.
-    fn make(
-        &mut self,
-        alloc: Global,
-        x: u128,
-        step: Move,
-        out: &mut Bytes,
-    ) -> Result<(), NoMemory>
+    fn make(&mut self, alloc: Global, x: u128, step: Move, out: &mut Bytes) -> Result<(), NoMemory>
         requires { x < 2 ^ 100 }
         ensures text { OnOk result (out.new ≡ out.old ++ spec.move_text x step self.old) }
         ensures frames { OnOk result (self.new ≡ spec.moved step self.old) }

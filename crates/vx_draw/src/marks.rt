@@ -15,7 +15,9 @@ use crate::places::{Places, box_x, process_x};
 use crate::shapes::{base, print_figure, print_label, print_stroke, top};
 use std::alloc::Global;
 use std::slice::from_ref;
-use vx_base::{Answer, Bytes, Call, Cell, Cond, Effect, Event, Id, Name, NoMemory, Pid, Rec, Service};
+use vx_base::{
+    Answer, Bytes, Call, Cell, Cond, Effect, Event, Id, Name, NoMemory, Pid, Rec, Service,
+};
 use vx_lines::print_effects;
 use vx_text::print_num;
 
@@ -99,7 +101,11 @@ fn box_mark(
     requires { shift < 100 }
     ensures { result ≡ spec.box_mark places boxes.now name.now shift figure filled }
 {
-    shared_mark(box_x(places, box_place(boxes, *name)) + shift, figure, filled)
+    shared_mark(
+        box_x(places, box_place(boxes, *name)) + shift,
+        figure,
+        filled,
+    )
 }
 
 // The mark of the k-th effect of a record, if it has one.
@@ -215,7 +221,15 @@ fn print_mark(
 {
     print_tie(alloc, n, from, mark, out)?;
     let shape = figure_shape(mark.figure);
-    print_figure(alloc, fill_class(mark.filled), u128::from(mark.x), top(n) + 5, shape, title, out)?;
+    print_figure(
+        alloc,
+        fill_class(mark.filled),
+        u128::from(mark.x),
+        top(n) + 5,
+        shape,
+        title,
+        out,
+    )?;
     print_label(alloc, b"m", u128::from(mark.x) + 11, base(n), beside, out)
 }
 
@@ -250,7 +264,15 @@ fn print_marked(
     };
     let beside = effect_label(alloc, effect)?;
     let title = effect_title(alloc, effect)?;
-    print_mark(alloc, n, from, mark, beside.as_slice(), title.as_slice(), out)
+    print_mark(
+        alloc,
+        n,
+        from,
+        mark,
+        beside.as_slice(),
+        title.as_slice(),
+        out,
+    )
 }
 
 /// Appends the mark of the k-th effect of the record in row n, of what the one at `from` did, if it has one.
@@ -267,7 +289,14 @@ pub fn print_effect_marks(
 ) -> Result<(), NoMemory>
     ensures { OnOk result (out.new ≡ out.old ++ spec.effect_marks places boxes.now n from k effect.now) }
 {
-    print_marked(alloc, n, from, mark_of(places, boxes, k, effect), effect, out)
+    print_marked(
+        alloc,
+        n,
+        from,
+        mark_of(places, boxes, k, effect),
+        effect,
+        out,
+    )
 }
 
 fn print_reached(
@@ -299,5 +328,12 @@ pub fn print_answer_marks(
 ) -> Result<(), NoMemory>
     ensures { OnOk result (out.new ≡ out.old ++ spec.answer_marks n from rec.now) }
 {
-    print_reached(alloc, n, from, answer_mark(rec.event, &rec.answer), rec, out)
+    print_reached(
+        alloc,
+        n,
+        from,
+        answer_mark(rec.event, &rec.answer),
+        rec,
+        out,
+    )
 }

@@ -7,7 +7,9 @@ ghost use Rattle.vx_draw.specs.Moves as spec;
 use crate::frames::{Bar, Move};
 use crate::shapes::{bottom, top};
 use crate::trails::{Tale, Trail, Trails};
-use vx_base::{Answer, Arg, Cond, Effect, Event, Mode, Name, Opened, Operand, Pid, Service, Severity};
+use vx_base::{
+    Answer, Arg, Cond, Effect, Event, Mode, Name, Opened, Operand, Pid, Service, Severity,
+};
 use vx_image::ProcDecl;
 
 /// A frame of a mode, from a height on.
@@ -36,13 +38,7 @@ pub fn named_by(arg: &Arg, p: Pid) -> Pid
     ensures { result ≡ spec.named_by arg.now p }
 {
     match arg {
-        Arg::Value(Operand::Num(n)) => {
-            if *n == 0 {
-                p
-            } else {
-                Pid(*n)
-            }
-        }
+        Arg::Value(Operand::Num(n)) => { if *n == 0 { p } else { Pid(*n) } }
         _ => p,
     }
 }

@@ -15,7 +15,10 @@ use crate::heading::{has_clusters, process_names};
 use crate::moves::runs_from;
 use crate::places::{Places, anchor, column_x, columns_of};
 use crate::rows::{Canvas, print_number_label, print_rows};
-use crate::shapes::{base, bottom, print_attribute, print_coordinate, print_escaped_byte, print_label, print_stroke, top};
+use crate::shapes::{
+    base, bottom, print_attribute, print_coordinate, print_escaped_byte, print_label, print_stroke,
+    top,
+};
 use crate::style::{HEAD, STYLE};
 use crate::trails::Trails;
 use std::alloc::Global;
@@ -25,7 +28,13 @@ use vx_text::print_num;
 
 // Appends a heading at x, and its column down to a height.
 #[tactic(auto, unfolding(crate::specs::Picture::heading))]
-fn print_heading(alloc: Global, x: u128, until: u128, text: &[u8], out: &mut Bytes) -> Result<(), NoMemory>
+fn print_heading(
+    alloc: Global,
+    x: u128,
+    until: u128,
+    text: &[u8],
+    out: &mut Bytes,
+) -> Result<(), NoMemory>
     requires { x < 2 ^ 100 }
     ensures { OnOk result (out.new ≡ out.old ++ spec.heading x until text.now) }
 {
@@ -263,7 +272,14 @@ fn print_wrong_row(
 {
     let text = wrong_text(alloc, rec)?;
     print_number_label(alloc, n, out)?;
-    print_label(alloc, b"wrong", anchor(places, rec.event) + 6, base(n), text.as_slice(), out)
+    print_label(
+        alloc,
+        b"wrong",
+        anchor(places, rec.event) + 6,
+        base(n),
+        text.as_slice(),
+        out,
+    )
 }
 
 // Appends what stands below the rows, of which there are n.
@@ -330,7 +346,16 @@ fn print_all(
     let units = system.units.as_slice();
     let mut canvas = first_canvas(alloc, decls, names)?;
     print_start(alloc, u128::from(places.end), until, out)?;
-    print_headings(alloc, places, until, names, units, boxes.as_slice(), has_clusters(recs), out)?;
+    print_headings(
+        alloc,
+        places,
+        until,
+        names,
+        units,
+        boxes.as_slice(),
+        has_clusters(recs),
+        out,
+    )?;
     print_rows(alloc, places, boxes, decls, recs, &mut canvas, out)?;
     out.push_all(below)?;
     out.push_all(b"</svg>\n")
@@ -357,7 +382,17 @@ fn print_named(
     let mut below = Bytes::new(alloc);
     print_below(alloc, places, rows, wrong, wrong_rec, trailer, &mut below)?;
     let until = height(rows, trailer);
-    print_all(alloc, places, names, boxes, system, recs, until, below.as_slice(), out)
+    print_all(
+        alloc,
+        places,
+        names,
+        boxes,
+        system,
+        recs,
+        until,
+        below.as_slice(),
+        out,
+    )
 }
 
 /// Appends a transcript as a picture in SVG. `wrong` is the number of the first record that is not the machine's, if one is
@@ -376,5 +411,15 @@ pub fn print_picture(
     let names = process_names(alloc, system, sound)?;
     let boxes = boxes_of(alloc, sound)?;
     let wrong_rec = wrong_record(wrong, recs);
-    print_named(alloc, names.as_slice(), &boxes, system, sound, trailer, wrong, wrong_rec, out)
+    print_named(
+        alloc,
+        names.as_slice(),
+        &boxes,
+        system,
+        sound,
+        trailer,
+        wrong,
+        wrong_rec,
+        out,
+    )
 }

@@ -73,7 +73,15 @@ fn print_said(alloc: Global, n: u64, x: u128, rec: &Rec, out: &mut Bytes) -> Res
     let text = said_text(alloc, rec)?;
     let title = said_title(alloc, rec)?;
     let class = said_class(&rec.answer);
-    print_titled(alloc, class, x + 6, base(n), text.as_slice(), title.as_slice(), out)
+    print_titled(
+        alloc,
+        class,
+        x + 6,
+        base(n),
+        text.as_slice(),
+        title.as_slice(),
+        out,
+    )
 }
 
 /// Appends the number of row n.
@@ -168,7 +176,9 @@ fn print_row_effects(
         ≡ spec.after_effects decls.now n x event effects.now canvas.old) }
 {
     for (k, effect) in effects.iter().enumerate() {
-        print_effect(alloc, places, boxes, decls, n, x, event, k as u64, effect, canvas, out)?;
+        print_effect(
+            alloc, places, boxes, decls, n, x, event, k as u64, effect, canvas, out,
+        )?;
     }
     Ok(())
 }
@@ -195,7 +205,9 @@ fn print_row(
     print_answer(alloc, n, x, rec, canvas, out)?;
     print_answer_marks(alloc, n, x, rec, out)?;
     let effects = rec.effects.as_slice();
-    print_row_effects(alloc, places, boxes, decls, n, x, rec.event, effects, canvas, out)?;
+    print_row_effects(
+        alloc, places, boxes, decls, n, x, rec.event, effects, canvas, out,
+    )?;
     print_said(alloc, n, x, rec, out)
 }
 
@@ -214,7 +226,17 @@ fn print_recs(
 {
     for (i, rec) in recs.iter().enumerate() {
         let x = anchor(places, rec.event);
-        print_row(alloc, places, boxes, decls, i as u64 + 1, x, rec, canvas, out)?;
+        print_row(
+            alloc,
+            places,
+            boxes,
+            decls,
+            i as u64 + 1,
+            x,
+            rec,
+            canvas,
+            out,
+        )?;
     }
     Ok(())
 }

@@ -1,7 +1,8 @@
 //! The start of a picture, and its colours, which a reader may change.
 
 /// What stands before the size.
-pub const HEAD: &[u8] = b"<svg xmlns=\"http://www.w3.org/2000/svg\" version=\"1.1\" font-family=\"monospace\" font-size=\"11\"";
+pub const HEAD: &[u8] =
+    b"<svg xmlns=\"http://www.w3.org/2000/svg\" version=\"1.1\" font-family=\"monospace\" font-size=\"11\"";
 
 /// The colours of each class, the hatching of waits, and what the marks mean.
 pub const STYLE: &[u8] = b"<style type=\"text/css\">
