@@ -1,5 +1,5 @@
 -- No byte of an escaped text leaves the element or the attribute that it stands in.
-use Rattle.std.proofs.Common.{◌≡◌, ℕ, List, [], ◌∷◌, ◌++◌, ◌==◌, Bool, true, false, IsTrue, flat_map, refl, inl, inr}
+use Rattle.std.proofs.Common.{ℕ, List, [], ◌∷◌, ◌==◌, IsTrue, refl, inl, inr}
 use Rattle.std.specs.List.{list_all}
 use Rattle.std.proofs.lemmas.Bool.{cases_Bool, and_from, not_from_false}
 use Rattle.std.proofs.lemmas.List.Folds.{list_all-append}

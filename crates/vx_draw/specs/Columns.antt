@@ -1,5 +1,5 @@
 -- A transcript as columns of text: a column for the time, for each process and for each unit, and a line a record.
-use Rattle.std.specs.Prelude.{ℕ, ◌+◌, ◌-◌, ◌*◌, nat_lt, List, [], ◌∷◌, ◌++◌, codes, decimal, flat_map, length, take, drop, Option, Some, None, if◌then◌else◌, slice_get}
+use Rattle.std.specs.Prelude.{ℕ, ◌+◌, ◌-◌, ◌*◌, List, [], ◌∷◌, ◌++◌, codes, decimal, flat_map, length, take, drop, Option, Some, None, slice_get}
 use Rattle.vx_base.specs.declared.record.Event.{Event}
 use Rattle.vx_base.specs.declared.record.Event.TheVariants as event
 use Rattle.vx_base.specs.declared.record.Rec.{Rec}

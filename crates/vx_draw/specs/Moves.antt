@@ -1,11 +1,9 @@
 -- What a record does to the frames of processes, and what it tells of ids.
-use Rattle.std.specs.Prelude.{ℕ, ◌-◌, ◌==◌, Bool, true, false, List, [], ◌∷◌, bytes_eq, if◌then◌else◌}
+use Rattle.std.specs.Prelude.{ℕ, ◌==◌, Bool, true, false, List, [], ◌∷◌, bytes_eq, if◌then◌else◌}
 use Rattle.vx_base.specs.Cond.{severity_of}
 use Rattle.vx_base.specs.declared.call.Arg.{Arg}
 use Rattle.vx_base.specs.declared.call.Arg.TheVariants as arg
-use Rattle.vx_base.specs.declared.call.Call.{Call}
 use Rattle.vx_base.specs.declared.call.Operand.TheVariants as operand
-use Rattle.vx_base.specs.declared.cond.Cond.{Cond}
 use Rattle.vx_base.specs.declared.cond.Severity.{Severity}
 use Rattle.vx_base.specs.declared.cond.Severity.TheVariants as severity
 use Rattle.vx_base.specs.declared.effects.Effect.{Effect}

@@ -2,7 +2,7 @@
 //!
 //! Each function appends its text. If memory runs out, it may have appended the start of it.
 
-ghost use Rattle.std.specs.Prelude.{decimal, ◌≡◌, ◌++◌, ◌∷◌, [], ℕ, ◌+◌, ◌-◌, ◌*◌, flat_map, take, length, OnOk, IfOk, option_map};
+ghost use Rattle.std.specs.Prelude.{decimal, ◌≡◌, ◌++◌, ◌∷◌, ◌+◌, ◌-◌, ◌*◌, flat_map, OnOk, IfOk, option_map};
 ghost use Rattle.vx_draw.specs.Columns as spec;
 
 use crate::deed::print_deed;

@@ -1,6 +1,6 @@
 //! The bars of frames.
 
-ghost use Rattle.std.specs.Prelude.{◌≡◌, ◌<◌, ◌^◌, ◌++◌, ◌∷◌, [], length, OnOk, IfOk};
+ghost use Rattle.std.specs.Prelude.{◌≡◌, ◌<◌, ◌^◌, ◌++◌, ◌∷◌, [], length, OnOk};
 ghost use Rattle.vx_base.specs.Lists.{first, rest};
 ghost use Rattle.vx_draw.specs.Frames as spec;
 

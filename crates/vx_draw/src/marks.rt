@@ -2,7 +2,7 @@
 //!
 //! Each function appends its text. If memory runs out, it may have appended the start of it.
 
-ghost use Rattle.std.specs.Prelude.{◌≡◌, ◌+◌, ◌<◌, ◌^◌, ◌++◌, OnOk, IfOk, if◌then◌else◌};
+ghost use Rattle.std.specs.Prelude.{◌≡◌, ◌+◌, ◌<◌, ◌++◌, OnOk, IfOk, if◌then◌else◌};
 ghost use Rattle.vx_base.specs.Cond.{severity_of};
 ghost use Rattle.vx_lines.specs.Records.{id_text};
 ghost use Rattle.vx_draw.specs.Moves.{is_success, named_by, actor};

@@ -2,8 +2,7 @@
 //!
 //! Each function appends its text. If memory runs out, it may have appended the start of it.
 
-ghost use Rattle.std.specs.Prelude.{◌≡◌, ◌+◌, ◌*◌, ◌∷◌, ◌++◌, ◌==◌, ◌<◌, ◌≤◌, ◌^◌, [], decimal, flat_map, length, OnOk, IfOk, option_map};
-ghost use Rattle.vx_draw.specs.Rows.{rows_text};
+ghost use Rattle.std.specs.Prelude.{◌≡◌, ◌+◌, ◌*◌, ◌∷◌, ◌++◌, ◌==◌, ◌<◌, ◌^◌, decimal, flat_map, OnOk, IfOk, option_map};
 ghost use Rattle.vx_draw.specs.Places.{process_x, box_x};
 ghost use Rattle.vx_draw.specs.Picture as spec;
 
