@@ -1,0 +1,11 @@
+pub mod Boxes
+pub mod Columns
+pub mod Frames
+pub mod Headings
+pub mod Marks
+pub mod Moves
+pub mod Picture
+pub mod Places
+pub mod Rows
+pub mod Shapes
+pub mod Trails

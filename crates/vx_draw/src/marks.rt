@@ -1,0 +1,339 @@
+//! The marks of effects.
+//!
+//! Each function appends its text. If memory runs out, it may have appended the start of it.
+
+ghost use Rattle.std.specs.Prelude.{◌≡◌, ◌+◌, ◌<◌, ◌++◌, OnOk, IfOk, if◌then◌else◌};
+ghost use Rattle.vx_base.specs.Cond.{severity_of};
+ghost use Rattle.vx_lines.specs.Records.{id_text};
+ghost use Rattle.vx_draw.specs.Moves.{is_success, named_by, actor};
+ghost use Rattle.vx_draw.specs.Marks as spec;
+
+use crate::boxes::{Boxes, box_place};
+use crate::deed::print_deed;
+use crate::moves::{actor, is_success, named_by};
+use crate::places::{Places, box_x, process_x};
+use crate::shapes::{base, print_figure, print_label, print_stroke, top};
+use std::alloc::Global;
+use std::slice::from_ref;
+use vx_base::{
+    Answer, Bytes, Call, Cell, Cond, Effect, Event, Id, Name, NoMemory, Pid, Rec, Service,
+};
+use vx_lines::print_effects;
+use vx_text::print_num;
+
+/// What a mark looks like.
+#[derive(Clone, Copy, Debug)]
+pub enum Figure {
+    Square,
+    Down,
+    Up,
+    Diamond,
+    Cross,
+}
+
+/// A mark: where it stands, where lines to the owner of its column end, and what it looks like.
+#[derive(Clone, Copy, Debug)]
+pub struct Mark {
+    pub x: u64,
+    pub owner: u128,
+    pub figure: Figure,
+    pub filled: bool,
+}
+
+fn figure_shape(figure: Figure) -> &'static [u8]
+    ensures { result.now ≡ spec.figure_shape figure }
+{
+    match figure {
+        Figure::Square => b"h8v8h-8z",
+        Figure::Down => b"h8l-4 8z",
+        Figure::Up => b"m0 8h8l-4 -8z",
+        Figure::Diamond => b"m4 0l4 4l-4 4l-4 -4z",
+        Figure::Cross => b"l8 8m0 -8l-8 8",
+    }
+}
+
+fn fill_class(filled: bool) -> &'static [u8]
+    ensures { result.now ≡ spec.fill_class filled }
+{
+    if filled { b"on" } else { b"off" }
+}
+
+fn process_mark(k: u64, p: Pid, figure: Figure, filled: bool) -> Mark
+    ensures { result ≡ spec.process_mark k p figure filled }
+{
+    let x = process_x(p);
+    Mark {
+        x: x + (308 + 24 * (k % 2)),
+        owner: u128::from(x) + 50,
+        figure,
+        filled,
+    }
+}
+
+fn shared_mark(x: u64, figure: Figure, filled: bool) -> Mark
+    ensures { result ≡ spec.shared_mark x figure filled }
+{
+    Mark {
+        x,
+        owner: 0,
+        figure,
+        filled,
+    }
+}
+
+fn flag_mark(places: Places, k: u64, cell: &Cell, bit: bool) -> Mark
+    ensures { result ≡ spec.flag_mark places k cell.now bit }
+{
+    match cell {
+        Cell::Local(p, _) => process_mark(k, *p, Figure::Square, bit),
+        Cell::Common(..) => shared_mark(u64::from(places.clusters), Figure::Square, bit),
+    }
+}
+
+fn box_mark(
+    places: Places,
+    boxes: &Boxes,
+    name: &Name,
+    shift: u64,
+    figure: Figure,
+    filled: bool,
+) -> Mark
+    requires { shift < 100 }
+    ensures { result ≡ spec.box_mark places boxes.now name.now shift figure filled }
+{
+    shared_mark(
+        box_x(places, box_place(boxes, *name)) + shift,
+        figure,
+        filled,
+    )
+}
+
+// The mark of the k-th effect of a record, if it has one.
+fn mark_of(places: Places, boxes: &Boxes, k: u64, effect: &Effect) -> Option<Mark>
+    ensures { result ≡ spec.mark_of places boxes.now k effect.now }
+{
+    match effect {
+        Effect::Flag { cell, bit } => Some(flag_mark(places, k, cell, *bit)),
+        Effect::MPut { name, .. } => Some(box_mark(places, boxes, name, 6, Figure::Down, true)),
+        Effect::MGet { name, .. } => Some(box_mark(places, boxes, name, 60, Figure::Up, false)),
+        Effect::MCut { name, .. } => Some(box_mark(places, boxes, name, 60, Figure::Cross, false)),
+        Effect::Mbx { name, bit } => Some(box_mark(places, boxes, name, 6, Figure::Diamond, *bit)),
+        Effect::Cef { bit, .. } => Some(shared_mark(
+            u64::from(places.clusters),
+            Figure::Diamond,
+            *bit,
+        )),
+        Effect::New { p, name: _ } => Some(process_mark(k, *p, Figure::Down, true)),
+        Effect::Gone(p) => Some(process_mark(k, *p, Figure::Cross, false)),
+        _ => None,
+    }
+}
+
+fn service_mark(service: Service, q: Pid) -> Option<Mark>
+    ensures { result ≡ spec.service_mark service q }
+{
+    match service {
+        Service::Wake => Some(process_mark(0, q, Figure::Down, true)),
+        Service::Resume => Some(process_mark(0, q, Figure::Down, false)),
+        Service::Suspnd => Some(process_mark(0, q, Figure::Cross, true)),
+        _ => None,
+    }
+}
+
+fn done_mark(event: Event, call: &Call, cond: Cond) -> Option<Mark>
+    ensures { result ≡ (if is_success (severity_of cond) then spec.service_mark call.now.service (named_by call.now.args.a0 (actor event)) else None) }
+{
+    if is_success(cond) {
+        service_mark(call.service, named_by(&call.args.a0, actor(event)))
+    } else {
+        None
+    }
+}
+
+// The mark of a service that reaches another process.
+fn answer_mark(event: Event, answer: &Answer) -> Option<Mark>
+    ensures { result ≡ spec.answer_mark event answer.now }
+{
+    match answer {
+        Answer::Service(call, cond) => done_mark(event, call, *cond),
+        _ => None,
+    }
+}
+
+fn print_id(alloc: Global, id: Id, out: &mut Bytes) -> Result<(), NoMemory>
+    ensures { OnOk result (out.new ≡ out.old ++ id_text id) }
+{
+    out.push_all(b"#")?;
+    print_num(alloc, out, u64::from(id.0))
+}
+
+fn print_cell_label(alloc: Global, cell: &Cell, out: &mut Bytes) -> Result<(), NoMemory>
+    ensures { OnOk result (out.new ≡ out.old ++ spec.cell_label cell.now) }
+{
+    match cell {
+        Cell::Local(_, efn) => print_num(alloc, out, u64::from(*efn)),
+        Cell::Common(_, name, n) => {
+            out.push_all(name.text())?;
+            out.push_all(b":")?;
+            print_num(alloc, out, u64::from(*n))
+        }
+    }
+}
+
+// Appends what stands beside the mark of an effect.
+fn print_effect_label(alloc: Global, effect: &Effect, out: &mut Bytes) -> Result<(), NoMemory>
+    ensures { OnOk result (out.new ≡ out.old ++ spec.effect_label effect.now) }
+{
+    match effect {
+        Effect::Flag { cell, bit: _ } => print_cell_label(alloc, cell, out),
+        Effect::MPut { id, .. } => print_id(alloc, *id, out),
+        Effect::MGet { w, .. } => print_id(alloc, *w, out),
+        Effect::MCut { name: _, w } => print_id(alloc, *w, out),
+        Effect::Cef { name, .. } => out.push_all(name.text()),
+        _ => Ok(()),
+    }
+}
+
+// Appends a line from who acted to a mark in another column.
+fn print_tie(alloc: Global, n: u64, from: u128, mark: Mark, out: &mut Bytes) -> Result<(), NoMemory>
+    ensures { OnOk result (out.new ≡ out.old ++ spec.tie n from mark) }
+{
+    if mark.owner == from {
+        Ok(())
+    } else {
+        let y = base(n) + 4;
+        print_stroke(alloc, b"tie", from, y, u128::from(mark.x), y, out)
+    }
+}
+
+// Appends a mark in row n.
+#[tactic(auto, unfolding(crate::specs::Marks::mark_text))]
+fn print_mark(
+    alloc: Global,
+    n: u64,
+    from: u128,
+    mark: Mark,
+    beside: &[u8],
+    title: &[u8],
+    out: &mut Bytes,
+) -> Result<(), NoMemory>
+    ensures { OnOk result (out.new ≡ out.old ++ spec.mark_text n from mark beside.now title.now) }
+{
+    print_tie(alloc, n, from, mark, out)?;
+    let shape = figure_shape(mark.figure);
+    print_figure(
+        alloc,
+        fill_class(mark.filled),
+        u128::from(mark.x),
+        top(n) + 5,
+        shape,
+        title,
+        out,
+    )?;
+    print_label(alloc, b"m", u128::from(mark.x) + 11, base(n), beside, out)
+}
+
+fn effect_label(alloc: Global, effect: &Effect) -> Result<Bytes, NoMemory>
+    ensures { IfOk result (λ label. label ≡ spec.effect_label effect.now) }
+{
+    let mut label = Bytes::new(alloc);
+    print_effect_label(alloc, effect, &mut label)?;
+    Ok(label)
+}
+
+fn effect_title(alloc: Global, effect: &Effect) -> Result<Bytes, NoMemory>
+    ensures { IfOk result (λ title. title ≡ spec.effect_title effect.now) }
+{
+    let mut title = Bytes::new(alloc);
+    print_effects(alloc, from_ref(effect), &mut title)?;
+    Ok(title)
+}
+
+fn print_marked(
+    alloc: Global,
+    n: u64,
+    from: u128,
+    mark: Option<Mark>,
+    effect: &Effect,
+    out: &mut Bytes,
+) -> Result<(), NoMemory>
+    ensures { OnOk result (out.new ≡ out.old ++ spec.marked_text n from mark effect.now) }
+{
+    let Some(mark) = mark else {
+        return Ok(());
+    };
+    let beside = effect_label(alloc, effect)?;
+    let title = effect_title(alloc, effect)?;
+    print_mark(
+        alloc,
+        n,
+        from,
+        mark,
+        beside.as_slice(),
+        title.as_slice(),
+        out,
+    )
+}
+
+/// Appends the mark of the k-th effect of the record in row n, of what the one at `from` did, if it has one.
+#[tactic(auto, unfolding(crate::specs::Marks::effect_marks))]
+pub fn print_effect_marks(
+    alloc: Global,
+    places: Places,
+    boxes: &Boxes,
+    n: u64,
+    from: u128,
+    k: u64,
+    effect: &Effect,
+    out: &mut Bytes,
+) -> Result<(), NoMemory>
+    ensures { OnOk result (out.new ≡ out.old ++ spec.effect_marks places boxes.now n from k effect.now) }
+{
+    print_marked(
+        alloc,
+        n,
+        from,
+        mark_of(places, boxes, k, effect),
+        effect,
+        out,
+    )
+}
+
+fn print_reached(
+    alloc: Global,
+    n: u64,
+    from: u128,
+    mark: Option<Mark>,
+    rec: &Rec,
+    out: &mut Bytes,
+) -> Result<(), NoMemory>
+    ensures { OnOk result (out.new ≡ out.old ++ spec.reached_text n from mark rec.now) }
+{
+    let Some(mark) = mark else {
+        return Ok(());
+    };
+    let mut title = Bytes::new(alloc);
+    print_deed(alloc, rec, &mut title)?;
+    print_mark(alloc, n, from, mark, b"", title.as_slice(), out)
+}
+
+/// Appends the mark of the service of the record in row n, if it reaches another process.
+#[tactic(auto, unfolding(crate::specs::Marks::answer_marks))]
+pub fn print_answer_marks(
+    alloc: Global,
+    n: u64,
+    from: u128,
+    rec: &Rec,
+    out: &mut Bytes,
+) -> Result<(), NoMemory>
+    ensures { OnOk result (out.new ≡ out.old ++ spec.answer_marks n from rec.now) }
+{
+    print_reached(
+        alloc,
+        n,
+        from,
+        answer_mark(rec.event, &rec.answer),
+        rec,
+        out,
+    )
+}

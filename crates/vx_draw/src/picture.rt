@@ -1,0 +1,424 @@
+//! A transcript as a picture in SVG.
+//!
+//! Each function appends its text. If memory runs out, it may have appended the start of it.
+
+ghost use Rattle.std.specs.Prelude.{◌≡◌, ◌+◌, ◌*◌, ◌∷◌, ◌++◌, ◌==◌, ◌<◌, ◌^◌, decimal, flat_map, OnOk, IfOk, option_map};
+ghost use Rattle.vx_draw.specs.Places.{process_x, box_x};
+ghost use Rattle.vx_draw.specs.Picture as spec;
+
+use crate::boxes::{BoxName, Boxes, boxes_of};
+use crate::deed::print_deed;
+use crate::frames::Stacks;
+use crate::front::{behind, sound_part, wrong_record};
+use crate::heading::{has_clusters, process_names};
+use crate::moves::runs_from;
+use crate::places::{Places, anchor, column_x, columns_of};
+use crate::rows::{Canvas, print_number_label, print_rows};
+use crate::shapes::{
+    base, bottom, print_attribute, print_coordinate, print_escaped_byte, print_label, print_stroke,
+    top,
+};
+use crate::style::{HEAD, STYLE};
+use crate::trails::Trails;
+use std::alloc::Global;
+use vx_base::{Bytes, Name, NoMemory, Rec};
+use vx_image::{ProcDecl, System, UnitDecl};
+use vx_text::print_num;
+
+// Appends a heading at x, and its column down to a height.
+#[tactic(auto, unfolding(crate::specs::Picture::heading))]
+fn print_heading(
+    alloc: Global,
+    x: u128,
+    until: u128,
+    text: &[u8],
+    out: &mut Bytes,
+) -> Result<(), NoMemory>
+    requires { x < 2 ^ 100 }
+    ensures { OnOk result (out.new ≡ out.old ++ spec.heading x until text.now) }
+{
+    print_stroke(alloc, b"rule", x, 40, x, until, out)?;
+    print_label(alloc, b"h", x + 4, 32, text, out)
+}
+
+// Appends the heading of process n.
+fn print_process_heading(
+    alloc: Global,
+    until: u128,
+    n: u64,
+    name: &Name,
+    out: &mut Bytes,
+) -> Result<(), NoMemory>
+    ensures { OnOk result (out.new ≡ out.old ++ spec.heading (process_x n) until (decimal n ++ 32 ∷ name.now)) }
+{
+    let mut text = Bytes::new(alloc);
+    print_num(alloc, &mut text, n)?;
+    text.push_all(b" ")?;
+    text.push_all(name.text())?;
+    print_heading(alloc, column_x(n), until, text.as_slice(), out)
+}
+
+// Appends the headings of the processes.
+fn print_process_headings(
+    alloc: Global,
+    until: u128,
+    names: &[Name],
+    out: &mut Bytes,
+) -> Result<(), NoMemory>
+    ensures { OnOk result (out.new ≡ out.old ++ spec.process_headings until 1 names.now) }
+{
+    for (i, name) in names.iter().enumerate() {
+        print_process_heading(alloc, until, i as u64 + 1, name, out)?;
+    }
+    Ok(())
+}
+
+// Where the column of the n-th unit begins, from 0.
+fn unit_x(places: Places, n: usize) -> u128
+    ensures value { result ≡ places.units + 150 * n }
+    ensures small { result < 2 ^ 100 }
+{
+    u128::from(places.units) + 150 * n as u128
+}
+
+// Where the column of the i-th mailbox begins, from 0.
+fn wide_box_x(places: Places, i: usize) -> u128
+    ensures value { result ≡ box_x places i }
+    ensures small { result < 2 ^ 100 }
+{
+    u128::from(places.boxes) + 120 * i as u128
+}
+
+// Appends the headings of the units.
+fn print_unit_headings(
+    alloc: Global,
+    places: Places,
+    until: u128,
+    units: &[UnitDecl],
+    out: &mut Bytes,
+) -> Result<(), NoMemory>
+    ensures { OnOk result (out.new ≡ out.old ++ spec.unit_headings places until 0 units.now) }
+{
+    for (i, unit) in units.iter().enumerate() {
+        print_heading(alloc, unit_x(places, i), until, unit.name.text(), out)?;
+    }
+    Ok(())
+}
+
+// Appends the headings of the mailboxes.
+fn print_box_headings(
+    alloc: Global,
+    places: Places,
+    until: u128,
+    boxes: &[BoxName],
+    out: &mut Bytes,
+) -> Result<(), NoMemory>
+    ensures { OnOk result (out.new ≡ out.old ++ spec.box_headings places until 0 boxes.now) }
+{
+    for (i, name) in boxes.iter().enumerate() {
+        print_heading(alloc, wide_box_x(places, i), until, name.text(), out)?;
+    }
+    Ok(())
+}
+
+// Appends the heading of the last column.
+#[tactic(auto, unfolding(crate::specs::Picture::last_heading))]
+fn print_last_heading(
+    alloc: Global,
+    places: Places,
+    until: u128,
+    clusters: bool,
+    out: &mut Bytes,
+) -> Result<(), NoMemory>
+    ensures { OnOk result (out.new ≡ out.old ++ spec.last_heading places until clusters) }
+{
+    let text: &[u8] = if clusters { b"clusters" } else { b"" };
+    print_heading(alloc, u128::from(places.clusters), until, text, out)
+}
+
+// Appends the headings of all columns.
+#[tactic(auto, unfolding(crate::specs::Picture::headings))]
+fn print_headings(
+    alloc: Global,
+    places: Places,
+    until: u128,
+    names: &[Name],
+    units: &[UnitDecl],
+    boxes: &[BoxName],
+    clusters: bool,
+    out: &mut Bytes,
+) -> Result<(), NoMemory>
+    ensures { OnOk result (out.new ≡ out.old
+        ++ spec.headings places until names.now units.now boxes.now clusters) }
+{
+    print_process_headings(alloc, until, names, out)?;
+    print_unit_headings(alloc, places, until, units, out)?;
+    print_box_headings(alloc, places, until, boxes, out)?;
+    print_last_heading(alloc, places, until, clusters, out)
+}
+
+// Adds the frames of the processes that are there from the start.
+fn add_started(alloc: Global, decls: &[ProcDecl], stacks: &mut Stacks) -> Result<(), NoMemory>
+    ensures { OnOk result (stacks.new ≡ stacks.old ++ spec.started_stacks decls.now) }
+{
+    for decl in decls {
+        if decl.start {
+            stacks.add_running(alloc, runs_from(decl.mode, top(1)))?;
+        }
+    }
+    Ok(())
+}
+
+// Adds the processes of these names, without frames.
+fn add_others(alloc: Global, names: &[Name], stacks: &mut Stacks) -> Result<(), NoMemory>
+    ensures { OnOk result (stacks.new ≡ stacks.old ++ spec.no_frames names.now) }
+{
+    for _ in names {
+        stacks.add(alloc)?;
+    }
+    Ok(())
+}
+
+// What is open before the first record.
+fn first_canvas(alloc: Global, decls: &[ProcDecl], names: &[Name]) -> Result<Canvas, NoMemory>
+    ensures { IfOk result (λ canvas. canvas ≡ spec.first_canvas decls.now names.now) }
+{
+    let mut stacks = Stacks::new(alloc);
+    add_started(alloc, decls, &mut stacks)?;
+    let others = behind(names, stacks.len());
+    add_others(alloc, others, &mut stacks)?;
+    Ok(Canvas {
+        stacks,
+        trails: Trails::new(alloc),
+    })
+}
+
+#[tactic(auto, unfolding(crate::specs::Picture::next_line))]
+fn next_line() -> &'static [u8]
+    ensures { result.now ≡ spec.next_line }
+{
+    b"</tspan><tspan x=\"8\" dy=\"18\">"
+}
+
+// Appends a byte of the trailer.
+#[tactic(auto, unfolding(crate::specs::Picture::trailer_byte))]
+fn print_trailer_byte(b: u8, out: &mut Bytes) -> Result<(), NoMemory>
+    ensures { OnOk result (out.new ≡ out.old ++ spec.trailer_byte b) }
+{
+    if b == b'\n' {
+        out.push_all(next_line())
+    } else {
+        print_escaped_byte(b, out)
+    }
+}
+
+// Appends the bytes of the trailer.
+fn print_trailer_bytes(trailer: &[u8], out: &mut Bytes) -> Result<(), NoMemory>
+    ensures { OnOk result (out.new ≡ out.old ++ flat_map spec.trailer_byte trailer.now) }
+{
+    for b in trailer {
+        print_trailer_byte(*b, out)?;
+    }
+    Ok(())
+}
+
+#[tactic(auto, unfolding(crate::specs::Picture::trailer_open))]
+fn trailer_open() -> &'static [u8]
+    ensures { result.now ≡ spec.trailer_open }
+{
+    b"<text class=\"t\" y=\""
+}
+
+#[tactic(auto, unfolding(crate::specs::Picture::first_line))]
+fn first_line() -> &'static [u8]
+    ensures { result.now ≡ spec.first_line }
+{
+    b"\"><tspan x=\"8\" dy=\"18\">"
+}
+
+// Appends the trailer below row n.
+#[tactic(auto, unfolding(crate::specs::Picture::trailer_text))]
+fn print_trailer(alloc: Global, n: u64, trailer: &[u8], out: &mut Bytes) -> Result<(), NoMemory>
+    ensures { OnOk result (out.new ≡ out.old ++ spec.trailer_text n trailer.now) }
+{
+    out.push_all(trailer_open())?;
+    print_coordinate(alloc, bottom(n), out)?;
+    out.push_all(first_line())?;
+    print_trailer_bytes(trailer, out)?;
+    out.push_all(b"</tspan></text>\n")
+}
+
+// What a record that is not the machine's says.
+fn wrong_text(alloc: Global, rec: &Rec) -> Result<Bytes, NoMemory>
+    ensures { IfOk result (λ text. text ≡ spec.wrong_text rec.now) }
+{
+    let mut text = Bytes::new(alloc);
+    text.push_all(b"?? ")?;
+    print_deed(alloc, rec, &mut text)?;
+    Ok(text)
+}
+
+// Appends the record in row n, which is not the machine's.
+#[tactic(auto, unfolding(crate::specs::Picture::wrong_row))]
+fn print_wrong_row(
+    alloc: Global,
+    places: Places,
+    n: u64,
+    rec: &Rec,
+    out: &mut Bytes,
+) -> Result<(), NoMemory>
+    ensures { OnOk result (out.new ≡ out.old ++ spec.wrong_row places n rec.now) }
+{
+    let text = wrong_text(alloc, rec)?;
+    print_number_label(alloc, n, out)?;
+    print_label(
+        alloc,
+        b"wrong",
+        anchor(places, rec.event) + 6,
+        base(n),
+        text.as_slice(),
+        out,
+    )
+}
+
+// Appends what stands below the rows, of which there are n.
+#[tactic(auto, unfolding(crate::specs::Picture::below))]
+fn print_below(
+    alloc: Global,
+    places: Places,
+    n: u64,
+    wrong: Option<u32>,
+    rec: Option<&Rec>,
+    trailer: &[u8],
+    out: &mut Bytes,
+) -> Result<(), NoMemory>
+    requires { n < 2 ^ 63 }
+    ensures { OnOk result (out.new ≡ out.old ++ spec.below places n wrong (option_map (λ rec. rec.now) rec.entry) trailer.now) }
+{
+    match (wrong, rec) {
+        (None, _) => print_trailer(alloc, n, trailer, out),
+        (Some(_), None) => {
+            print_label(alloc, b"wrong", 8, base(n + 1), b"?? ", out)?;
+            print_trailer(alloc, n + 1, trailer, out)
+        }
+        (Some(_), Some(rec)) => print_wrong_row(alloc, places, n + 1, rec, out),
+    }
+}
+
+// How high a picture of so many rows is.
+fn height(n: u64, trailer: &[u8]) -> u128
+    requires { n < 2 ^ 63 }
+    ensures { result ≡ spec.height n trailer.now }
+{
+    let lines = trailer.iter().filter(|b| **b == b'\n').count();
+    top(n + 5) + 18 * lines as u128
+}
+
+// Appends the start.
+#[tactic(auto, unfolding(crate::specs::Picture::start))]
+fn print_start(alloc: Global, width: u128, height: u128, out: &mut Bytes) -> Result<(), NoMemory>
+    ensures { OnOk result (out.new ≡ out.old ++ spec.start width height) }
+{
+    out.push_all(HEAD)?;
+    print_attribute(alloc, b" width=\"", width, out)?;
+    print_attribute(alloc, b" height=\"", height, out)?;
+    out.push_all(b">\n")?;
+    out.push_all(STYLE)
+}
+
+// Appends a picture, with what stands below the rows.
+fn print_all(
+    alloc: Global,
+    places: Places,
+    names: &[Name],
+    boxes: &Boxes,
+    system: &System,
+    recs: &[Rec],
+    until: u128,
+    below: &[u8],
+    out: &mut Bytes,
+) -> Result<(), NoMemory>
+    ensures { OnOk result (out.new ≡ out.old
+        ++ spec.with_names places until names.now boxes.now system.now recs.now below.now) }
+{
+    let decls = system.decls.as_slice();
+    let units = system.units.as_slice();
+    let mut canvas = first_canvas(alloc, decls, names)?;
+    print_start(alloc, u128::from(places.end), until, out)?;
+    print_headings(
+        alloc,
+        places,
+        until,
+        names,
+        units,
+        boxes.as_slice(),
+        has_clusters(recs),
+        out,
+    )?;
+    print_rows(alloc, places, boxes, decls, recs, &mut canvas, out)?;
+    out.push_all(below)?;
+    out.push_all(b"</svg>\n")
+}
+
+// Appends a picture with these names of processes and of mailboxes.
+fn print_named(
+    alloc: Global,
+    names: &[Name],
+    boxes: &Boxes,
+    system: &System,
+    recs: &[Rec],
+    trailer: &[u8],
+    wrong: Option<u32>,
+    wrong_rec: Option<&Rec>,
+    out: &mut Bytes,
+) -> Result<(), NoMemory>
+    ensures { OnOk result (out.new ≡ out.old
+        ++ spec.named_picture names.now boxes.now system.now recs.now trailer.now wrong (option_map (λ rec. rec.now) wrong_rec.entry)) }
+{
+    let units = system.units.as_slice().len();
+    let places = columns_of(names.len(), units, boxes.len(), has_clusters(recs));
+    let rows = recs.len() as u64;
+    let mut below = Bytes::new(alloc);
+    print_below(alloc, places, rows, wrong, wrong_rec, trailer, &mut below)?;
+    let until = height(rows, trailer);
+    print_all(
+        alloc,
+        places,
+        names,
+        boxes,
+        system,
+        recs,
+        until,
+        below.as_slice(),
+        out,
+    )
+}
+
+/// Appends a transcript as a picture in SVG. `wrong` is the number of the first record that is not the machine's, if one is
+/// not: that record is the last that is drawn, and has `??` in front; if there is no record of the number, the trailer has.
+pub fn print_picture(
+    alloc: Global,
+    system: &System,
+    recs: &[Rec],
+    trailer: &[u8],
+    wrong: Option<u32>,
+    out: &mut Bytes,
+) -> Result<(), NoMemory>
+    ensures { OnOk result (out.new ≡ out.old ++ spec.picture system.now recs.now trailer.now wrong) }
+{
+    let sound = sound_part(wrong, recs);
+    let names = process_names(alloc, system, sound)?;
+    let boxes = boxes_of(alloc, sound)?;
+    let wrong_rec = wrong_record(wrong, recs);
+    print_named(
+        alloc,
+        names.as_slice(),
+        &boxes,
+        system,
+        sound,
+        trailer,
+        wrong,
+        wrong_rec,
+        out,
+    )
+}

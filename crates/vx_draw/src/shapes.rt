@@ -1,0 +1,239 @@
+//! The shapes of a picture.
+//!
+//! Each function appends its text. If memory runs out, it may have appended the start of it.
+
+ghost use Rattle.std.specs.Prelude.{◌≡◌, ◌<◌, ◌^◌, ◌++◌, OnOk, decimal};
+ghost use Rattle.vx_draw.specs.Shapes as spec;
+
+use std::alloc::Global;
+use vx_base::{Bytes, NoMemory};
+
+/// Where row n begins.
+pub fn top(n: u64) -> u128
+    ensures value { result ≡ spec.top n }
+    ensures small { result < 2 ^ 100 }
+{
+    18 * u128::from(n) + 40
+}
+
+/// Where row n ends.
+pub fn bottom(n: u64) -> u128
+    ensures { result ≡ spec.bottom n }
+{
+    18 * u128::from(n) + 58
+}
+
+/// The middle of row n.
+pub fn middle(n: u64) -> u128
+    ensures { result ≡ spec.middle n }
+{
+    18 * u128::from(n) + 49
+}
+
+/// Where the text of row n stands.
+pub fn base(n: u64) -> u128
+    ensures value { result ≡ spec.base n }
+    ensures small { result < 2 ^ 100 }
+{
+    18 * u128::from(n) + 53
+}
+
+/// Appends a byte of a text.
+#[tactic(auto, unfolding(crate::specs::Shapes::escaped_byte))]
+pub fn print_escaped_byte(b: u8, out: &mut Bytes) -> Result<(), NoMemory>
+    ensures { OnOk result (out.new ≡ out.old ++ spec.escaped_byte b) }
+{
+    if b == b'&' {
+        out.push_all(b"&amp;")
+    } else if b == b'<' {
+        out.push_all(b"&lt;")
+    } else if b == b'>' {
+        out.push_all(b"&gt;")
+    } else if b == b'"' {
+        out.push_all(b"&quot;")
+    } else if b == b'\n' {
+        out.push_all(b"&#10;")
+    } else if 32 <= b && b <= 126 {
+        out.push_all(&[b])
+    } else {
+        out.push_all(b".")
+    }
+}
+
+/// Appends a text, of which nothing leaves the element or the attribute that it stands in.
+pub fn print_escaped(text: &[u8], out: &mut Bytes) -> Result<(), NoMemory>
+    ensures { OnOk result (out.new ≡ out.old ++ spec.escaped text.now) }
+{
+    for b in text {
+        print_escaped_byte(*b, out)?;
+    }
+    Ok(())
+}
+
+/// Appends a number.
+pub fn print_coordinate(alloc: Global, n: u128, out: &mut Bytes) -> Result<(), NoMemory>
+    ensures { OnOk result (out.new ≡ out.old ++ decimal n) }
+{
+    let digits = format!(in alloc; "{n}")?;
+    out.push_all(digits.as_bytes())
+}
+
+/// Appends an attribute, behind the end of the one before.
+#[tactic(auto, unfolding(crate::specs::Shapes::attribute))]
+pub fn print_attribute(alloc: Global, name: &[u8], n: u128, out: &mut Bytes) -> Result<(), NoMemory>
+    ensures { OnOk result (out.new ≡ out.old ++ spec.attribute name.now n) }
+{
+    out.push_all(name)?;
+    print_coordinate(alloc, n, out)?;
+    out.push_all(b"\"")
+}
+
+// Appends a point.
+#[tactic(auto, unfolding(crate::specs::Shapes::point))]
+fn print_point(alloc: Global, x: u128, y: u128, out: &mut Bytes) -> Result<(), NoMemory>
+    ensures { OnOk result (out.new ≡ out.old ++ spec.point x y) }
+{
+    print_coordinate(alloc, x, out)?;
+    out.push_all(b" ")?;
+    print_coordinate(alloc, y, out)
+}
+
+/// Appends a bar of a class, from one height to another.
+#[tactic(auto, unfolding(crate::specs::Shapes::bar))]
+pub fn print_bar(
+    alloc: Global,
+    class: &[u8],
+    x: u128,
+    from: u128,
+    until: u128,
+    out: &mut Bytes,
+) -> Result<(), NoMemory>
+    ensures { OnOk result (out.new ≡ out.old ++ spec.bar class.now x from until) }
+{
+    out.push_all(b"<rect class=\"")?;
+    out.push_all(class)?;
+    print_attribute(alloc, b"\" width=\"9\" x=\"", x, out)?;
+    print_attribute(alloc, b" y=\"", from, out)?;
+    print_attribute(alloc, b" height=\"", until.saturating_sub(from), out)?;
+    out.push_all(b"/>\n")
+}
+
+// Appends the start of a path of a class at a point.
+#[tactic(auto, unfolding(crate::specs::Shapes::path_start))]
+fn print_path_start(
+    alloc: Global,
+    class: &[u8],
+    x: u128,
+    y: u128,
+    out: &mut Bytes,
+) -> Result<(), NoMemory>
+    ensures { OnOk result (out.new ≡ out.old ++ spec.path_start class.now x y) }
+{
+    out.push_all(b"<path class=\"")?;
+    out.push_all(class)?;
+    out.push_all(b"\" d=\"M")?;
+    print_point(alloc, x, y, out)
+}
+
+/// Appends a line of a class, from one point to another.
+#[tactic(auto, unfolding(crate::specs::Shapes::stroke))]
+pub fn print_stroke(
+    alloc: Global,
+    class: &[u8],
+    x: u128,
+    y: u128,
+    to_x: u128,
+    to_y: u128,
+    out: &mut Bytes,
+) -> Result<(), NoMemory>
+    ensures { OnOk result (out.new ≡ out.old ++ spec.stroke class.now x y to_x to_y) }
+{
+    print_path_start(alloc, class, x, y, out)?;
+    out.push_all(b"L")?;
+    print_point(alloc, to_x, to_y, out)?;
+    out.push_all(b"\"/>\n")
+}
+
+// Appends the start of a text of a class at a point.
+#[tactic(auto, unfolding(crate::specs::Shapes::text_start))]
+fn print_text_start(
+    alloc: Global,
+    class: &[u8],
+    x: u128,
+    y: u128,
+    out: &mut Bytes,
+) -> Result<(), NoMemory>
+    ensures { OnOk result (out.new ≡ out.old ++ spec.text_start class.now x y) }
+{
+    out.push_all(b"<text class=\"")?;
+    out.push_all(class)?;
+    print_attribute(alloc, b"\" x=\"", x, out)?;
+    print_attribute(alloc, b" y=\"", y, out)?;
+    out.push_all(b">")
+}
+
+/// Appends a text of a class at a point.
+#[tactic(auto, unfolding(crate::specs::Shapes::label))]
+pub fn print_label(
+    alloc: Global,
+    class: &[u8],
+    x: u128,
+    y: u128,
+    text: &[u8],
+    out: &mut Bytes,
+) -> Result<(), NoMemory>
+    ensures { OnOk result (out.new ≡ out.old ++ spec.label class.now x y text.now) }
+{
+    print_text_start(alloc, class, x, y, out)?;
+    print_escaped(text, out)?;
+    out.push_all(b"</text>\n")
+}
+
+// Appends what a pointer shows.
+#[tactic(auto, unfolding(crate::specs::Shapes::title))]
+fn print_title(text: &[u8], out: &mut Bytes) -> Result<(), NoMemory>
+    ensures { OnOk result (out.new ≡ out.old ++ spec.title text.now) }
+{
+    out.push_all(b"<title>")?;
+    print_escaped(text, out)?;
+    out.push_all(b"</title>")
+}
+
+/// Appends a text of a class at a point, which shows another to a pointer.
+#[tactic(auto, unfolding(crate::specs::Shapes::titled))]
+pub fn print_titled(
+    alloc: Global,
+    class: &[u8],
+    x: u128,
+    y: u128,
+    text: &[u8],
+    shown: &[u8],
+    out: &mut Bytes,
+) -> Result<(), NoMemory>
+    ensures { OnOk result (out.new ≡ out.old ++ spec.titled class.now x y text.now shown.now) }
+{
+    print_text_start(alloc, class, x, y, out)?;
+    print_escaped(text, out)?;
+    print_title(shown, out)?;
+    out.push_all(b"</text>\n")
+}
+
+/// Appends a figure of a class, drawn from a point on, which shows a text to a pointer.
+#[tactic(auto, unfolding(crate::specs::Shapes::figure))]
+pub fn print_figure(
+    alloc: Global,
+    class: &[u8],
+    x: u128,
+    y: u128,
+    shape: &[u8],
+    shown: &[u8],
+    out: &mut Bytes,
+) -> Result<(), NoMemory>
+    ensures { OnOk result (out.new ≡ out.old ++ spec.figure class.now x y shape.now shown.now) }
+{
+    print_path_start(alloc, class, x, y, out)?;
+    out.push_all(shape)?;
+    out.push_all(b"\">")?;
+    print_title(shown, out)?;
+    out.push_all(b"</path>\n")
+}
