@@ -72,8 +72,5 @@ with_record t r = record {
 }
 
 -- each count is one of 32 bits
-pub record IsCounted (t : Tally) : Type 0 where
-  pub records : t.records < 2 ^ 32
-  pub requests : t.requests < 2 ^ 32
-  pub finished : t.finished < 2 ^ 32
-  pub asts : t.asts < 2 ^ 32
+abbrev pub IsCounted : Tally → Type 0
+IsCounted t = (t.records < 2 ^ 32) × (t.requests < 2 ^ 32) × (t.finished < 2 ^ 32) × (t.asts < 2 ^ 32)

@@ -1,6 +1,6 @@
 //! Counts what records tell.
 
-ghost use Rattle.std.specs.Prelude.{◌≡◌, ◌++◌, ◌∷◌, [], List};
+ghost use Rattle.std.specs.Prelude.{◌≡◌, ◌↔◌, ◌<◌, ◌+◌, ◌^◌, ◌++◌, ◌∷◌, [], IsTrue, List};
 ghost use Rattle.vx_base.specs.declared.record.Rec.{Rec};
 ghost use Rattle.vx_gen.specs.Counted.{IsCounted, count, finishes, opens_request, starts_ast, tally_of, time_told, with_record};
 
@@ -81,6 +81,20 @@ fn finished_in(effects: &[Effect]) -> usize
     n
 }
 
+// How many ASTs a record starts.
+fn asts_in(rec: &Rec) -> usize
+    ensures { result ≡ count starts_ast (rec.now ∷ []) }
+{
+    if starts_ast(rec) { 1 } else { 0 }
+}
+
+// Whether a sum is one of 32 bits.
+fn fits(count: u32, more: usize) -> bool
+    ensures { IsTrue result ↔ (count + more < 2 ^ 32) }
+{
+    u128::from(count) + (more as u128) < 4_294_967_296
+}
+
 impl Tally {
     /// The tally of no records.
     pub fn new() -> Tally
@@ -95,6 +109,17 @@ impl Tally {
         }
     }
 
+    /// Whether each count still fits, with a record more.
+    pub fn has_room(&self, rec: &Rec) -> bool
+        ensures { IsTrue result ↔ IsCounted (with_record self.now rec.now) }
+    {
+        let effects = rec.effects.as_slice();
+        fits(self.records, 1)
+            && fits(self.requests, requests_in(effects))
+            && fits(self.finished, finished_in(effects))
+            && fits(self.asts, asts_in(rec))
+    }
+
     // Counts a record more.
     fn count(&mut self, rec: &Rec)
         requires { IsCounted (with_record self.old rec.now) }
@@ -104,13 +129,11 @@ impl Tally {
         self.records += 1;
         self.requests += requests_in(effects) as u32;
         self.finished += finished_in(effects) as u32;
-        if starts_ast(rec) {
-            self.asts += 1;
-        }
+        self.asts += asts_in(rec) as u32;
         self.time = time_told(self.time, rec);
     }
 
-    /// Counts a record more. The caller sees that each count still fits.
+    /// Counts a record more.
     pub fn add(&mut self, rec: &Rec)
         requires { IsCounted (with_record self.old rec.now) }
         ensures sum { self.new ≡ with_record self.old rec.now }
