@@ -1,15 +1,15 @@
 -- A front of the text of a call.
-use Rattle.std.proofs.Common.{◌≡◌, ◌⊎◌, ℕ, List, Option, Some, inl, inr, subst, sym, ◌∙◌}
+use Rattle.std.proofs.Common.{◌≡◌, ℕ, List, Option, Some, subst, sym, ◌∙◌}
 use Rattle.vx_check.specs.declared.verdict.Verdict.{Verdict}
-use Rattle.vx_host.specs.Streams.{AppendsFront}
 use Rattle.vms.specs.declared.command.Command.{Command}
 use Rattle.vms.specs.declared.command.Command.TheVariants.{Sim, Show, Check}
 use Rattle.vms.specs.declared.command.Options.{Options}
-use Rattle.vms.specs.Judged.{BreaksJudged, IsFinding, in_verdict, in_line, in_shortage}
+use Rattle.vms.specs.declared.command.Report.{Report}
+use Rattle.vms.specs.Judged.{BreaksJudged, IsFinding, in_report, in_line, in_shortage}
 use Rattle.vms.specs.declared.judge.Finding.{Finding}
 use Rattle.vms.specs.declared.judge.Finding.TheVariants.{Judged, Refused}
 use Rattle.vms.specs.Simulated.{BreaksInput, in_run, in_refusal, in_no_memory, BreaksShown, in_script, in_fault, in_want}
-use Rattle.vms.specs.Top.{no_memory, IsJudged, IsRefused, ReadsInput, Breaks, of_form, of_run, of_show, of_verdict, of_no_memory, verdict_line}
+use Rattle.vms.specs.Top.{no_memory, IsReported, IsRefused, ReadsInput, Breaks, of_form, of_run, of_show, of_report, of_no_memory}
 use Rattle.vms.specs.Words.{command_of}
 
 -- a front of what an input comes to is a front of the text of the call that read it
@@ -49,20 +49,20 @@ breaks_shown words left left_after faults faults_after held held_after input rea
 }
 
 -- the same of what is judged
-pub breaks_judged : (words : List (List ℕ)) (left left_after : Option (List ℕ)) (faults faults_after : ℕ) (held held_after : Option (List ℕ)) (input : List ℕ) → ReadsInput words Check left left_after input → BreaksJudged input held held_after → Breaks words left left_after faults faults_after held held_after
-breaks_judged words left left_after faults faults_after held held_after input read (in_verdict verdict judged front) = record {
-  text = verdict_line verdict;
-  own = of_verdict verdict (record { input = input; read = read; judged = judged });
-  front = front;
-}
-breaks_judged words left left_after faults faults_after held held_after input read (in_line text refused front) = record {
+pub breaks_judged : (words : List (List ℕ)) (report : Report) (left left_after : Option (List ℕ)) (faults faults_after : ℕ) (held held_after : Option (List ℕ)) (input : List ℕ) → ReadsInput words (Check report) left left_after input → BreaksJudged input report held held_after → Breaks words left left_after faults faults_after held held_after
+breaks_judged words report left left_after faults faults_after held held_after input read (in_report verdict text reported front) = record {
   text = text;
-  own = of_form text (record { command = Check; input = input; read = read; refused = refused });
+  own = of_report verdict text (record { report = report; input = input; read = read; reported = reported });
   front = front;
 }
-breaks_judged words left left_after faults faults_after held held_after input read (in_shortage front) = record {
+breaks_judged words report left left_after faults faults_after held held_after input read (in_line text refused front) = record {
+  text = text;
+  own = of_form text (record { command = Check report; input = input; read = read; refused = refused });
+  front = front;
+}
+breaks_judged words report left left_after faults faults_after held held_after input read (in_shortage front) = record {
   text = no_memory;
-  own = of_no_memory (record { command = Check; asked = read.asked });
+  own = of_no_memory (record { command = Check report; asked = read.asked });
   front = front;
 }
 
@@ -70,15 +70,10 @@ breaks_judged words left left_after faults faults_after held held_after input re
 pub asks : (words : List (List ℕ)) (answer : Option Command) (command : Command) → answer ≡ command_of words → answer ≡ Some command → command_of words ≡ Some command
 asks words answer command h k = sym h ∙ k
 
--- what was found is a verdict, or a refusal
+-- what was found is a verdict with a report, or a refusal
 
-pub judged_by : (input seen : List ℕ) (f : Finding) (v : Verdict) → seen ≡ input → f ≡ Judged v → IsFinding seen f → IsJudged input v
-judged_by input seen f v same is h = subst (λ (xs : List ℕ). IsJudged xs v) same (subst (IsFinding seen) is h)
+pub reported_by : (input seen : List ℕ) (report : Report) (f : Finding) (v : Verdict) (text : List ℕ) → seen ≡ input → f ≡ Judged v text → IsFinding seen report f → IsReported input report v text
+reported_by input seen report f v text same is h = subst (λ (xs : List ℕ). IsReported xs report v text) same (subst (IsFinding seen report) is h)
 
-pub refused_by : (input seen : List ℕ) (f : Finding) (text : List ℕ) → seen ≡ input → f ≡ Refused text → IsFinding seen f → IsRefused input Check text
-refused_by input seen f text same is h = subst (λ (xs : List ℕ). IsRefused xs Check text) same (subst (IsFinding seen) is h)
-
--- a front of the line of a verdict, or of the line on memory
-pub front_judged : (input : List ℕ) (held held_after : Option (List ℕ)) (v : Verdict) → IsJudged input v → AppendsFront held held_after (verdict_line v) ⊎ AppendsFront held held_after no_memory → BreaksJudged input held held_after
-front_judged input held held_after v judged (inl front) = in_verdict v judged front
-front_judged input held held_after v judged (inr front) = in_shortage front
+pub refused_by : (input seen : List ℕ) (report : Report) (f : Finding) (text : List ℕ) → seen ≡ input → f ≡ Refused text → IsFinding seen report f → IsRefused input (Check report) text
+refused_by input seen report f text same is h = subst (λ (xs : List ℕ). IsRefused xs (Check report) text) same (subst (IsFinding seen report) is h)

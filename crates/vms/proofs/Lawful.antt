@@ -5,14 +5,12 @@ use Rattle.vx_base.specs.declared.record.End.{End}
 use Rattle.vx_base.specs.declared.record.End.TheVariants.{Done, Hung, Limit}
 use Rattle.vx_check.specs.Verdict.{IsVerdict, of_record, of_run}
 use Rattle.vx_check.specs.declared.verdict.Verdict.{Verdict}
-use Rattle.vx_journal.specs.ReadJournal.{IsJournal}
 use Rattle.vx_journal.specs.declared.journal.Journal.{Journal}
 use Rattle.vx_laws.proofs.Whole.{every_run_lawful}
 use Rattle.vx_record.specs.Runs.{IsRun, chosen}
-use Rattle.vms.specs.declared.command.Command.TheVariants.{Check}
 use Rattle.vms.specs.declared.status.Status.{Status}
 use Rattle.vms.specs.declared.status.Status.TheVariants as status
-use Rattle.vms.specs.Top.{Completes, ended, showed, Ends, ran, judged, IsLawful, run_is_lawful, read_is_lawful, read_is_bad, no_run, Judges, ReadsInput, Simulates, status_of, status_of_end, verdict_line, WritesVerdict}
+use Rattle.vms.specs.Top.{Completes, ended, showed, Ends, ran, judged, IsLawful, run_is_lawful, read_is_lawful, read_is_bad, no_run, Judges, Simulates, status_of, status_of_end, WritesReport}
 
 simulated_lawful : (words : List (List ℕ)) (left left_after held held_after : Option (List ℕ)) (status : Status) (end : End) (text : List ℕ) → Simulates words left left_after end text → IsLawful words left left_after held held_after status
 simulated_lawful words left left_after held held_after status end text s =
@@ -25,10 +23,10 @@ judged_run journal verdict Done (of_record n wrong is) so = absurd (cc)
 judged_run journal verdict Hung (of_record n wrong is) so = absurd (cc)
 judged_run journal verdict Limit (of_record n wrong is) so = absurd (cc)
 
-verdict_lawful : (words : List (List ℕ)) (left left_after held held_after : Option (List ℕ)) (status : Status) (end : End) → WritesVerdict words left left_after held held_after (status_of_end end) → IsLawful words left left_after held held_after status
+verdict_lawful : (words : List (List ℕ)) (left left_after held held_after : Option (List ℕ)) (status : Status) (end : End) → WritesReport words left left_after held held_after (status_of_end end) → IsLawful words left left_after held held_after status
 verdict_lawful words left left_after held held_after status end w =
-    let j = w.judges.judged.journal in
-    read_is_lawful status w.judges.input j w.judges.read w.judges.judged.says (every_run_lawful j.system j.recs (judged_run j w.verdict end w.judges.judged.judged w.so))
+    let j = w.judges.reported.journal in
+    read_is_lawful status w.judges.report w.judges.input j w.judges.read w.judges.reported.says (every_run_lawful j.system j.recs (judged_run j w.verdict end w.judges.reported.judged w.so))
 
 pub ended_lawful : (words : List (List ℕ)) (left left_after held held_after : Option (List ℕ)) (status : Status) (end : End) → Ends words left left_after held held_after end → IsLawful words left left_after held held_after status
 ended_lawful words left left_after held held_after status end (ran w) = simulated_lawful words left left_after held held_after status end w.text w.simulates
@@ -39,11 +37,11 @@ completed_lawful words left left_after held held_after status (ended e) = ended_
 completed_lawful words left left_after held held_after status (showed w) = no_run status w.shows.input w.shows.read
 
 -- records that are a run keep the laws, whatever the verdict; others have the verdict bad
-judged_lawful : (words : List (List ℕ)) (left left_after held held_after : Option (List ℕ)) (verdict : Verdict) (judges : Judges words left left_after verdict) → IsVerdict judges.judged.journal verdict → Appends held held_after (verdict_line verdict) → IsLawful words left left_after held held_after status.Illegal
-judged_lawful words left left_after held held_after verdict judges (of_run run is) written =
-    let j = judges.judged.journal in
-    read_is_lawful status.Illegal judges.input j judges.read judges.judged.says (every_run_lawful j.system j.recs run)
-judged_lawful words left left_after held held_after verdict judges (of_record n wrong is) written = read_is_bad n (rw is at judges) (rw is at written)
+judged_lawful : (words : List (List ℕ)) (left left_after held held_after : Option (List ℕ)) (verdict : Verdict) (text : List ℕ) (judges : Judges words left left_after verdict text) → IsVerdict judges.reported.journal verdict → Appends held held_after text → IsLawful words left left_after held held_after status.Illegal
+judged_lawful words left left_after held held_after verdict text judges (of_run run is) written =
+    let j = judges.reported.journal in
+    read_is_lawful status.Illegal judges.report judges.input j judges.read judges.reported.says (every_run_lawful j.system j.recs run)
+judged_lawful words left left_after held held_after verdict text judges (of_record n wrong is) written = read_is_bad n text (rw is at judges) written
 
-pub illegal_lawful : (words : List (List ℕ)) (left left_after held held_after : Option (List ℕ)) → WritesVerdict words left left_after held held_after status.Illegal → IsLawful words left left_after held held_after status.Illegal
-illegal_lawful words left left_after held held_after w = judged_lawful words left left_after held held_after w.verdict w.judges w.judges.judged.judged w.written
+pub illegal_lawful : (words : List (List ℕ)) (left left_after held held_after : Option (List ℕ)) → WritesReport words left left_after held held_after status.Illegal → IsLawful words left left_after held held_after status.Illegal
+illegal_lawful words left left_after held held_after w = judged_lawful words left left_after held held_after w.verdict w.text w.judges w.judges.reported.judged w.written

@@ -20,10 +20,14 @@ use Rattle.vx_journal.specs.declared.journal.Journal.{Journal}
 use Rattle.vx_check.specs.Verdict.{IsVerdict}
 use Rattle.vx_check.specs.declared.verdict.Verdict.{Verdict}
 use Rattle.vx_check.specs.declared.verdict.Verdict.TheVariants as verdict
+use Rattle.vx_draw.specs.Columns.{columns}
+use Rattle.vx_draw.specs.Picture.{picture}
 use Rattle.vms.specs.Words.{command_of}
 use Rattle.vms.specs.declared.command.Command.{Command}
 use Rattle.vms.specs.declared.command.Command.TheVariants.{Sim, Show, Check}
 use Rattle.vms.specs.declared.command.Options.{Options}
+use Rattle.vms.specs.declared.command.Report.{Report}
+use Rattle.vms.specs.declared.command.Report.TheVariants.{Line, Picture, Columns}
 use Rattle.vms.specs.declared.status.Status.{Status}
 use Rattle.vms.specs.declared.status.Status.TheVariants as status
 
@@ -92,6 +96,20 @@ status_of (verdict.Limit n) = status.Limit
 status_of (verdict.Prefix n) = status.Illegal
 status_of (verdict.Bad n) = status.Illegal
 
+-- the number of the first record that is not the machine's, if the verdict is bad
+abbrev pub wrong_in : Verdict → Option ℕ
+wrong_in (verdict.Complete n) = None
+wrong_in (verdict.Hung n) = None
+wrong_in (verdict.Limit n) = None
+wrong_in (verdict.Prefix n) = None
+wrong_in (verdict.Bad n) = Some n
+
+-- what is written of a transcript: the line of its verdict, a picture, or columns of text, each up to the first record that is wrong
+abbrev pub report_text : Report → Journal → Verdict → List ℕ
+report_text Line j v = verdict_line v
+report_text Picture j v = picture j.system j.recs j.trailer (wrong_in v)
+report_text Columns j v = columns j.system j.recs j.trailer (wrong_in v)
+
 -- Why each answer comes: by the words, and by what the source gave, which had the bytes `left` before the call and
 -- `left_after` after it, and as many faults as `faults` and `faults_after`.
 
@@ -118,17 +136,17 @@ pub record ReadsInput (words : List (List ℕ)) (command : Command) (left left_a
   pub asked : command_of words ≡ Some command
   pub taken : TakesAll 67108864 left left_after input
 
--- the part of an input that is read as a script: all of it, and for `check` the lines before the first that begins with $JOURNAL
+-- the part of an input that is read as a script: all of it, and of a transcript the lines before the first that begins with $JOURNAL
 abbrev pub script_in : Command → List ℕ → List ℕ
 script_in (Sim options) input = input
 script_in Show input = input
-script_in Check input = script_part input
+script_in (Check report) input = script_part input
 
 -- why an input is refused, and the line that tells it: the part that is to be a script is none, and this is its first fault; or
--- `check` reads what is no transcript, and this is its first bad line
+-- what is to be a transcript is none, and this is its first bad line
 pub data IsRefused (input : List ℕ) : Command → List ℕ → Type 0 where
   no_script : (command : Command) (fault : ScriptFault) → Tells (script_in command input) fault → IsRefused input command (fault_line fault)
-  no_journal : (line : ℕ) → IsBadLine input line → IsRefused input Check (form_line line)
+  no_journal : (report : Report) (line : ℕ) → IsBadLine input line → IsRefused input (Check report) (form_line line)
 
 -- The input is refused, and the text is the line that tells why.
 pub record RefusesText (words : List (List ℕ)) (left left_after : Option (List ℕ)) (text : List ℕ) : Type 0 where
@@ -162,26 +180,34 @@ pub record Shows (words : List (List ℕ)) (left left_after : Option (List ℕ))
   pub spells : text ≡ script system
 
 -- The input is a transcript, and this is the verdict on it.
-pub record IsJudged (input : List ℕ) (verdict : Verdict) : Type 0 where
+pub record HasVerdict (input : List ℕ) (verdict : Verdict) : Type 0 where
   pub journal : Journal
   pub says : IsJournal input journal
   pub judged : IsVerdict journal verdict
 
--- The command is `check`, and this is the verdict on its input.
-pub record Judges (words : List (List ℕ)) (left left_after : Option (List ℕ)) (verdict : Verdict) : Type 0 where
-  pub input : List ℕ
-  pub read : ReadsInput words Check left left_after input
-  pub judged : IsJudged input verdict
+-- The input is a transcript, this is the verdict on it, and the text is the report of it.
+pub record IsReported (input : List ℕ) (report : Report) (verdict : Verdict) (text : List ℕ) : Type 0 where
+  pub journal : Journal
+  pub says : IsJournal input journal
+  pub judged : IsVerdict journal verdict
+  pub spells : text ≡ report_text report journal verdict
 
--- `sim` took a run whose records keep the six laws of transcripts; or `check` read one, whole or cut; or `show` took none; or `check`
--- read one that is not the machine's, and the sink gained that verdict's line: with no status but Illegal
+-- The command is `check` or `draw`, this is the verdict on its input, and the text is the report of it.
+pub record Judges (words : List (List ℕ)) (left left_after : Option (List ℕ)) (verdict : Verdict) (text : List ℕ) : Type 0 where
+  pub report : Report
+  pub input : List ℕ
+  pub read : ReadsInput words (Check report) left left_after input
+  pub reported : IsReported input report verdict text
+
+-- `sim` took a run whose records keep the six laws of transcripts; or `check` or `draw` read one, whole or cut; or `show` took none; or
+-- one was read that is not the machine's, and the sink gained the report of that: with no status but Illegal
 pub data IsLawful (words : List (List ℕ)) (left left_after held held_after : Option (List ℕ)) : Status → Type 0 where
   run_is_lawful : (status : Status) (options : Options) (input : List ℕ) (system : System) → ReadsInput words (Sim options) left left_after input → Spells input system
       → KeepLaws system (chosen system options.seed options.limit) → IsLawful words left left_after held held_after status
-  read_is_lawful : (status : Status) (input : List ℕ) (journal : Journal) → ReadsInput words Check left left_after input → IsJournal input journal
+  read_is_lawful : (status : Status) (report : Report) (input : List ℕ) (journal : Journal) → ReadsInput words (Check report) left left_after input → IsJournal input journal
       → KeepLaws journal.system journal.recs → IsLawful words left left_after held held_after status
   no_run : (status : Status) (input : List ℕ) → ReadsInput words Show left left_after input → IsLawful words left left_after held held_after status
-  read_is_bad : (n : ℕ) → Judges words left left_after (verdict.Bad n) → Appends held held_after (verdict_line (verdict.Bad n))
+  read_is_bad : (n : ℕ) (text : List ℕ) → Judges words left left_after (verdict.Bad n) text → Appends held held_after text
       → IsLawful words left left_after held held_after status.Illegal
 
 -- The words are a command's. Nothing is said of memory: the answer states no cause.
@@ -197,7 +223,7 @@ pub data IsTextOf (words : List (List ℕ)) (left left_after : Option (List ℕ)
   of_form : (text : List ℕ) → RefusesText words left left_after text → IsTextOf words left left_after faults faults_after text
   of_run : (end : End) (text : List ℕ) → Simulates words left left_after end text → IsTextOf words left left_after faults faults_after text
   of_show : (text : List ℕ) → Shows words left left_after text → IsTextOf words left left_after faults faults_after text
-  of_verdict : (verdict : Verdict) → Judges words left left_after verdict → IsTextOf words left left_after faults faults_after (verdict_line verdict)
+  of_report : (verdict : Verdict) (text : List ℕ) → Judges words left left_after verdict text → IsTextOf words left left_after faults faults_after text
   of_no_memory : RunsOut words → IsTextOf words left left_after faults faults_after no_memory
 
 -- What became of the text: the sink holds `held` before the call and `held_after` after it.
@@ -214,22 +240,23 @@ pub record WritesScript (words : List (List ℕ)) (left left_after held held_aft
   pub shows : Shows words left left_after text
   pub written : Appends held held_after text
 
--- The sink gained the line of a verdict that has this status.
-pub record WritesVerdict (words : List (List ℕ)) (left left_after held held_after : Option (List ℕ)) (status : Status) : Type 0 where
+-- The sink gained the report of a transcript whose verdict has this status.
+pub record WritesReport (words : List (List ℕ)) (left left_after held held_after : Option (List ℕ)) (status : Status) : Type 0 where
   pub verdict : Verdict
-  pub judges : Judges words left left_after verdict
+  pub text : List ℕ
+  pub judges : Judges words left left_after verdict text
   pub so : status_of verdict ≡ status
-  pub written : Appends held held_after (verdict_line verdict)
+  pub written : Appends held held_after text
 
 abbrev pub status_of_end : End → Status
 status_of_end Done = status.Done
 status_of_end Hung = status.Hung
 status_of_end Limit = status.Limit
 
--- `sim` has written a run that ended so, or `check` has read one
+-- `sim` has written a run that ended so, or `check` or `draw` has read one
 pub data Ends (words : List (List ℕ)) (left left_after held held_after : Option (List ℕ)) (end : End) : Type 0 where
   ran : WritesTranscript words left left_after held held_after end → Ends words left left_after held held_after end
-  judged : WritesVerdict words left left_after held held_after (status_of_end end) → Ends words left left_after held held_after end
+  judged : WritesReport words left left_after held held_after (status_of_end end) → Ends words left left_after held held_after end
 
 -- a run has ended with every process deleted, or `show` has shown
 pub data Completes (words : List (List ℕ)) (left left_after held held_after : Option (List ℕ)) : Type 0 where

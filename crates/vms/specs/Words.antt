@@ -6,6 +6,8 @@ use Rattle.vms.specs.declared.command.Command.{Command}
 use Rattle.vms.specs.declared.command.Command.TheVariants.{Sim, Show, Check}
 use Rattle.vms.specs.declared.command.Given.{Given}
 use Rattle.vms.specs.declared.command.Options.{Options}
+use Rattle.vms.specs.declared.command.Report.{Report}
+use Rattle.vms.specs.declared.command.Report.TheVariants.{Line, Picture, Columns}
 
 -- The options of `sim`: `--seed K` and `--limit N`, each at most once, in any order.
 
@@ -58,7 +60,7 @@ IsLimit (Some n) = (1 ≤ n) × (n ≤ 100000)
 abbrev pub HasLimit : Command → Type 0
 HasLimit (Sim options) = (1 ≤ options.limit) × (options.limit ≤ 100000)
 HasLimit Show = Unit {0}
-HasLimit Check = Unit {0}
+HasLimit (Check report) = Unit {0}
 
 abbrev pub sim_of : Given → Command
 sim_of given = Sim (options_of given)
@@ -68,10 +70,17 @@ abbrev pub alone : Command → List (List ℕ) → Option Command
 alone command [] = Some command
 alone command (word ∷ words) = None
 
--- `sim` and its options, or `show`, or `check`
+-- `draw`, or `draw --text`
+abbrev pub report_in : List (List ℕ) → Option Report
+report_in [] = Some Picture
+report_in (word ∷ []) = if bytes_eq word (codes "--text") then Some Columns else None
+report_in (a ∷ b ∷ words) = None
+
+-- `sim` and its options, or `show`, or `check`, or `draw` in one of its forms
 abbrev pub command_of : List (List ℕ) → Option Command
 command_of [] = None
 command_of (word ∷ words) =
     if bytes_eq word (codes "sim") then option_map sim_of (options_in words) else (
     if bytes_eq word (codes "show") then alone Show words else (
-    if bytes_eq word (codes "check") then alone Check words else None))
+    if bytes_eq word (codes "check") then alone (Check Line) words else (
+    if bytes_eq word (codes "draw") then option_map Check (report_in words) else None)))

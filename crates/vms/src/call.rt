@@ -4,7 +4,7 @@ ghost use Rattle.std.specs.Prelude.{◌≡◌, ◌⊎◌, ◌<◌, ◌≤◌, le
 ghost use Rattle.std.specs.Io.KnownBytes.{Appends};
 ghost use Rattle.vx_host.specs.Causes.{Rose};
 ghost use Rattle.vms.specs.Simulated.{WritesRun, WritesRefusal, WritesShown, BreaksInput, BreaksShown};
-ghost use Rattle.vms.specs.Top.{usage, too_long, read_fault, no_memory, RefusesWords, Overflows, FailsToRead, RunsOut, Completes, Ends, IsLawful, WritesVerdict, WritesFault, Breaks};
+ghost use Rattle.vms.specs.Top.{usage, too_long, read_fault, no_memory, RefusesWords, Overflows, FailsToRead, RunsOut, Completes, Ends, IsLawful, WritesReport, WritesFault, Breaks};
 
 use crate::command::{Command, Options, command_of};
 use crate::judge::judge;
@@ -90,8 +90,8 @@ fn answer_call<S: Source, K: Sink>(
     source: &mut S,
     sink: &mut K,
 ) -> Status
-    // The transcript of the run that the seed chooses was written, or the verdict on the one that was read, one clause for each
-    // end; or the canonical script; or the verdict that the transcript is cut, or not the machine's.
+    // The transcript of the run that the seed chooses was written, or a report of the one that was read, one clause for each
+    // end; or the canonical script; or a report of a transcript that is cut, or not the machine's.
     ensures done { result ≡ Status.Done →
         Completes words.now (S.left source.old) (S.left source.new)
         (K.held sink.old) (K.held sink.new) }
@@ -102,7 +102,7 @@ fn answer_call<S: Source, K: Sink>(
         Ends words.now (S.left source.old) (S.left source.new)
         (K.held sink.old) (K.held sink.new) End.Limit }
     ensures illegal { result ≡ Status.Illegal →
-        WritesVerdict words.now (S.left source.old) (S.left source.new)
+        WritesReport words.now (S.left source.old) (S.left source.new)
         (K.held sink.old) (K.held sink.new) Status.Illegal }
 
     // A line was written, each with its cause.
@@ -140,7 +140,7 @@ fn answer_call<S: Source, K: Sink>(
         Ok(input) => match command {
             Command::Sim(options) => simulate(alloc, options, &input, sink),
             Command::Show => show(alloc, &input, sink),
-            Command::Check => judge(alloc, &input, sink),
+            Command::Check(report) => judge(alloc, report, &input, sink),
         },
         Err(ReadFail::Fault) => tell(sink, b"vms: read fault\n", Status::ReadFault),
         Err(ReadFail::TooLong) => tell(sink, b"vms: input too long\n", Status::TooLong),
@@ -156,8 +156,8 @@ pub fn quiet_call<S: Source, K: Sink>(
     source: &mut S,
     sink: &mut K,
 ) -> Status
-    // The transcript of the run that the seed chooses was written, or the verdict on the one that was read, one clause for each
-    // end; or the canonical script; or the verdict that the transcript is cut, or not the machine's.
+    // The transcript of the run that the seed chooses was written, or a report of the one that was read, one clause for each
+    // end; or the canonical script; or a report of a transcript that is cut, or not the machine's.
     ensures done { result ≡ Status.Done →
         Completes words.now (S.left source.old) (S.left source.new)
         (K.held sink.old) (K.held sink.new) }
@@ -168,11 +168,11 @@ pub fn quiet_call<S: Source, K: Sink>(
         Ends words.now (S.left source.old) (S.left source.new)
         (K.held sink.old) (K.held sink.new) End.Limit }
     ensures illegal { result ≡ Status.Illegal →
-        WritesVerdict words.now (S.left source.old) (S.left source.new)
+        WritesReport words.now (S.left source.old) (S.left source.new)
         (K.held sink.old) (K.held sink.new) Status.Illegal }
 
-    // The records that `sim` wrote, and those that `check` found to be the machine's, of a cut transcript too, keep the six laws
-    // of transcripts.
+    // The records that `sim` wrote, and those that were read and found to be the machine's, of a cut transcript too, keep the six
+    // laws of transcripts.
     ensures lawful { (result ≡ Status.Done) ⊎ (result ≡ Status.Hung) ⊎ (result ≡ Status.Limit)
         ⊎ (result ≡ Status.Illegal) →
         IsLawful words.now (S.left source.old) (S.left source.new)

@@ -21,8 +21,19 @@ pub enum Command {
     Sim(Options),
     /// `show`: read a script, and write it canonically.
     Show,
-    /// `check`: read a transcript, and write the verdict on it.
-    Check,
+    /// `check` and `draw`: read a transcript, judge it, and write a report of it.
+    Check(Report),
+}
+
+/// What is written of a transcript that was judged.
+#[derive(Clone, Copy, Debug, PartialEq, Eq)]
+pub enum Report {
+    /// `check`: the line of its verdict.
+    Line,
+    /// `draw`: a picture of it, in SVG.
+    Picture,
+    /// `draw --text`: columns of text.
+    Columns,
 }
 
 /// The options that the words name; None for one that they leave out.
@@ -119,6 +130,16 @@ fn options_of(given: Given) -> Options
     }
 }
 
+fn report_in(words: &[Bytes]) -> Option<Report>
+    ensures { result ≡ spec.report_in words.now }
+{
+    match words {
+        [] => Some(Report::Picture),
+        [word] if word.as_slice() == b"--text".as_slice() => Some(Report::Columns),
+        _ => None,
+    }
+}
+
 /// The command that the words ask for, if they are a command.
 pub fn command_of(words: &[Bytes]) -> Option<Command>
     ensures command { result ≡ spec.command_of words.now }
@@ -135,7 +156,11 @@ pub fn command_of(words: &[Bytes]) -> Option<Command>
         return Some(Command::Show);
     }
     if word.as_slice() == b"check".as_slice() && rest.is_empty() {
-        return Some(Command::Check);
+        return Some(Command::Check(Report::Line));
+    }
+    if word.as_slice() == b"draw".as_slice() {
+        let report = report_in(rest)?;
+        return Some(Command::Check(report));
     }
     None
 }

@@ -24,7 +24,7 @@ returns-in-Show-clause-write_fault g c =
 pub returns-in-Ok-clause-write_fault : goal.returns-in-Ok-clause-write_fault
 returns-in-Ok-clause-write_fault g c =
     let asked = asks c.args.words.now _ _ c.command_of.ensures.command c.in-Some.is ∙ ap (λ z. Some z) c.in-Check.is in
-    λ e. breaks_judged c.args.words.now _ _ _ _ _ _ c.in-Ok.input (record { asked = asked; taken = c.in-Ok.ensures.all }) (c.judge.ensures.front e)
+    λ e. breaks_judged c.args.words.now _ _ _ _ _ _ _ c.in-Ok.input (record { asked = asked; taken = c.in-Ok.ensures.all }) (c.judge.ensures.front e)
 
 pub returns-in-Err-Fault-clause-write_fault : goal.returns-in-Err-Fault-clause-write_fault
 returns-in-Err-Fault-clause-write_fault g c =
