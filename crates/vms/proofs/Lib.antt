@@ -2,3 +2,4 @@ pub mod Breaking
 pub mod Simulated
 pub mod Simulating
 pub mod Lawful
+pub mod Reported

@@ -76,11 +76,14 @@ report_in [] = Some Picture
 report_in (word ∷ []) = if bytes_eq word (codes "--text") then Some Columns else None
 report_in (a ∷ b ∷ words) = None
 
--- `sim` and its options, or `show`, or `check`, or `draw` in one of its forms
-abbrev pub command_of : List (List ℕ) → Option Command
-command_of [] = None
-command_of (word ∷ words) =
-    if bytes_eq word (codes "sim") then option_map sim_of (options_in words) else (
+-- `show`, or `check`, or `draw` in one of its forms
+abbrev pub other_command : List ℕ → List (List ℕ) → Option Command
+other_command word words =
     if bytes_eq word (codes "show") then alone Show words else (
     if bytes_eq word (codes "check") then alone (Check Line) words else (
-    if bytes_eq word (codes "draw") then option_map Check (report_in words) else None)))
+    if bytes_eq word (codes "draw") then option_map Check (report_in words) else None))
+
+-- `sim` and its options, or another command
+abbrev pub command_of : List (List ℕ) → Option Command
+command_of [] = None
+command_of (word ∷ words) = if bytes_eq word (codes "sim") then option_map sim_of (options_in words) else other_command word words

@@ -140,6 +140,26 @@ fn report_in(words: &[Bytes]) -> Option<Report>
     }
 }
 
+// The command of a word and those behind it, if it is not `sim`.
+fn other_command(word: &[u8], rest: &[Bytes]) -> Option<Command>
+    ensures command { result ≡ spec.other_command word.now rest.now }
+    ensures limited { IfSome result spec.HasLimit }
+{
+    if word == b"show".as_slice() && rest.is_empty() {
+        return Some(Command::Show);
+    }
+    if word == b"check".as_slice() && rest.is_empty() {
+        return Some(Command::Check(Report::Line));
+    }
+    if word == b"draw".as_slice() {
+        return match report_in(rest) {
+            Some(report) => Some(Command::Check(report)),
+            None => None,
+        };
+    }
+    None
+}
+
 /// The command that the words ask for, if they are a command.
 pub fn command_of(words: &[Bytes]) -> Option<Command>
     ensures command { result ≡ spec.command_of words.now }
@@ -152,15 +172,5 @@ pub fn command_of(words: &[Bytes]) -> Option<Command>
         let given = options_in(rest)?;
         return Some(Command::Sim(options_of(given)));
     }
-    if word.as_slice() == b"show".as_slice() && rest.is_empty() {
-        return Some(Command::Show);
-    }
-    if word.as_slice() == b"check".as_slice() && rest.is_empty() {
-        return Some(Command::Check(Report::Line));
-    }
-    if word.as_slice() == b"draw".as_slice() {
-        let report = report_in(rest)?;
-        return Some(Command::Check(report));
-    }
-    None
+    other_command(word.as_slice(), rest)
 }

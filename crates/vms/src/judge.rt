@@ -88,18 +88,16 @@ fn report_text(
 }
 
 // The report of an input that has a verdict. The transcript is read again: its records went with the executive that judged them.
-fn drawn(
-    alloc: Global,
-    report: Report,
-    input: &[u8],
-    verdict: Verdict,
-) -> Result<Bytes, NoMemory>
+fn drawn(alloc: Global, report: Report, input: &[u8], verdict: Verdict) -> Result<Bytes, NoMemory>
     requires short { length input.now < 4294967295 }
     requires verdict { HasVerdict input.now verdict }
     ensures { IfOk result (λ text. IsReported input.now report verdict text) }
 {
     match read_journal(alloc, input) {
-        Ok(journal) => report_text(alloc, report, &journal, verdict),
+        Ok(journal) => {
+            let text = report_text(alloc, report, &journal, verdict)?;
+            Ok(text)
+        }
         Err(JournalFail::NoMemory) => Err(NoMemory),
         Err(JournalFail::Script(_)) | Err(JournalFail::Form(_)) => unreachable!(),
     }
@@ -117,7 +115,10 @@ fn reported(
     ensures { IfOk result (λ text. IsReported input.now report verdict text) }
 {
     match report {
-        Report::Line => verdict_line(alloc, verdict),
+        Report::Line => {
+            let text = verdict_line(alloc, verdict)?;
+            Ok(text)
+        }
         Report::Picture | Report::Columns => drawn(alloc, report, input, verdict),
     }
 }

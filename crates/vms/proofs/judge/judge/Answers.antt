@@ -7,7 +7,7 @@ use Rattle.vms.proofs.judge.judge.Goals as goal
 pub returns-in-Ok-Judged-clause-front : goal.returns-in-Ok-Judged-clause-front
 returns-in-Ok-Judged-clause-front g c = λ e.
     let reported = reported_by c.args.input.now c.as_slice.result.now c.args.report c.in-Ok-Judged.field-0 c.in-Ok-Judged.verdict c.in-Ok-Judged.text c.as_slice.ensures c.in-Ok-Judged.field-0-is c.in-Ok-Judged.ensures in
-    in_report c.in-Ok-Judged.verdict c.in-Ok-Judged.text reported (subst (λ (bs : List ℕ). AppendsFront (g.K.Sink.held c.args.sink.now) (g.K.Sink.held c.tell-in-Ok-Judged.new.sink) bs) c.as_slice-in-Ok-Judged.ensures (c.tell-in-Ok-Judged.ensures.front e))
+    in_report c.in-Ok-Judged.verdict c.in-Ok-Judged.text reported (subst (λ (bs : List ℕ). AppendsFront (g.K.Sink.held c.args.sink.now) (g.K.Sink.held c.tell.new.sink) bs) c.as_slice-in-Ok-Judged.ensures (c.tell.ensures.front e))
 
 pub returns-in-Ok-Refused-clause-front : goal.returns-in-Ok-Refused-clause-front
 returns-in-Ok-Refused-clause-front g c = λ e.
