@@ -1,5 +1,5 @@
 -- What the top call answers and writes, and what it read for it.
-use Rattle.std.specs.Prelude.{◌≡◌, ℕ, List, [], ◌∷◌, ◌++◌, codes, decimal, false, IsTrue, Option, None, Some}
+use Rattle.std.specs.Prelude.{◌≡◌, ℕ, List, [], ◌∷◌, ◌++◌, codes, decimal, Option, None, Some}
 use Rattle.std.specs.Io.KnownBytes.{Appends, Keeps}
 use Rattle.vx_base.specs.declared.record.End.{End}
 use Rattle.vx_base.specs.declared.record.End.TheVariants.{Done, Hung, Limit}
