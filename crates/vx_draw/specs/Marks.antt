@@ -36,7 +36,7 @@ fill_class filled = if filled then codes "on" else codes "off"
 
 -- a mark in the column of process p, the k-th of its row
 abbrev pub process_mark : ℕ → Pid → Figure → Bool → Mark
-process_mark k p figure filled = record { x = process_x p.0 + (308 + 24 * (k % 2)); owner = process_x p.0 + 50; figure = figure; filled = filled }
+process_mark k p figure filled = record { x = process_x p.0 + (388 + 24 * (k % 2)); owner = process_x p.0 + 50; figure = figure; filled = filled }
 
 -- a mark in a column that is nobody's
 abbrev pub shared_mark : ℕ → Figure → Bool → Mark

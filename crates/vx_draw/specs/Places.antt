@@ -9,7 +9,7 @@ abbrev pub capped : ℕ → ℕ
 capped n = if nat_lt n 1000 then n else 1000
 
 abbrev pub behind_units : ℕ → ℕ → ℕ
-behind_units processes units = 140 + 360 * capped processes + 150 * capped units
+behind_units processes units = 140 + 440 * capped processes + 150 * capped units
 
 abbrev pub behind_boxes : ℕ → ℕ → ℕ → ℕ
 behind_boxes processes units boxes = behind_units processes units + 120 * capped boxes
@@ -17,7 +17,7 @@ behind_boxes processes units boxes = behind_units processes units + 120 * capped
 -- the columns of so many processes, units and mailboxes, and one for clusters if there are any
 abbrev pub columns_of : ℕ → ℕ → ℕ → Bool → Places
 columns_of processes units boxes clusters = record {
-  units = 140 + 360 * capped processes;
+  units = 140 + 440 * capped processes;
   boxes = behind_units processes units;
   clusters = behind_boxes processes units boxes;
   end = behind_boxes processes units boxes + (if clusters then 240 else 80);
@@ -29,7 +29,7 @@ box_x places i = places.boxes + 120 * i
 
 -- where the column of process p begins
 abbrev pub process_x : ℕ → ℕ
-process_x p = 360 * p - 220
+process_x p = 440 * p - 300
 
 -- where lines to who acted end: behind the frames of a process
 abbrev pub anchor : Places → Event → ℕ

@@ -63,7 +63,7 @@ fn process_mark(k: u64, p: Pid, figure: Figure, filled: bool) -> Mark
 {
     let x = process_x(p);
     Mark {
-        x: x + (308 + 24 * (k % 2)),
+        x: x + (388 + 24 * (k % 2)),
         owner: u128::from(x) + 50,
         figure,
         filled,

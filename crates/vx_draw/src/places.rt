@@ -25,7 +25,7 @@ fn capped(n: usize) -> u32
 pub fn columns_of(processes: usize, units: usize, boxes: usize, clusters: bool) -> Places
     ensures { result ≡ spec.columns_of processes units boxes clusters }
 {
-    let first_unit = 140 + 360 * capped(processes);
+    let first_unit = 140 + 440 * capped(processes);
     let first_box = first_unit + 150 * capped(units);
     let behind = first_box + 120 * capped(boxes);
     Places {
@@ -49,7 +49,7 @@ pub fn process_x(p: Pid) -> u64
     ensures value { result ≡ spec.process_x p.0 }
     ensures small { result < 2 ^ 42 }
 {
-    (360 * u64::from(p.0)).saturating_sub(220)
+    (440 * u64::from(p.0)).saturating_sub(300)
 }
 
 /// Where lines to who acted end: behind the frames of a process.
@@ -69,5 +69,5 @@ pub fn column_x(n: u64) -> u128
     ensures value { result ≡ spec.process_x n }
     ensures small { result < 2 ^ 100 }
 {
-    (360 * u128::from(n)).saturating_sub(220)
+    (440 * u128::from(n)).saturating_sub(300)
 }
