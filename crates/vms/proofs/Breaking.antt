@@ -1,5 +1,6 @@
 -- A front of the text of a call.
 use Rattle.std.proofs.Common.{◌≡◌, ◌⊎◌, ℕ, List, Option, Some, inl, inr, subst, sym, ◌∙◌}
+use Rattle.vx_check.specs.Verdict.{IsJudged}
 use Rattle.vx_check.specs.declared.verdict.Verdict.{Verdict}
 use Rattle.vx_host.specs.Streams.{AppendsFront}
 use Rattle.vms.specs.declared.command.Command.{Command}
@@ -9,7 +10,7 @@ use Rattle.vms.specs.Judged.{BreaksJudged, IsFinding, in_verdict, in_line, in_sh
 use Rattle.vms.specs.declared.judge.Finding.{Finding}
 use Rattle.vms.specs.declared.judge.Finding.TheVariants.{Judged, Refused}
 use Rattle.vms.specs.Simulated.{BreaksInput, in_run, in_refusal, in_no_memory, BreaksShown, in_script, in_fault, in_want}
-use Rattle.vms.specs.Top.{no_memory, IsJudged, IsRefused, ReadsInput, Breaks, of_form, of_run, of_show, of_verdict, of_no_memory, verdict_line}
+use Rattle.vms.specs.Top.{no_memory, IsRefused, ReadsInput, Breaks, of_form, of_run, of_show, of_verdict, of_no_memory, verdict_line}
 use Rattle.vms.specs.Words.{command_of}
 
 -- a front of what an input comes to is a front of the text of the call that read it

@@ -1,9 +1,10 @@
 -- What the judging of an input that was read comes to.
 use Rattle.std.specs.Prelude.{◌≡◌, ℕ, List, Option}
 use Rattle.std.specs.Io.KnownBytes.{Appends}
+use Rattle.vx_check.specs.Verdict.{IsJudged}
 use Rattle.vx_check.specs.declared.verdict.Verdict.{Verdict}
 use Rattle.vx_host.specs.Streams.{AppendsFront}
-use Rattle.vms.specs.Top.{no_memory, IsJudged, IsRefused, status_of, verdict_line}
+use Rattle.vms.specs.Top.{no_memory, IsRefused, status_of, verdict_line}
 use Rattle.vms.specs.declared.command.Command.TheVariants.{Check}
 use Rattle.vms.specs.declared.judge.Finding.{Finding}
 use Rattle.vms.specs.declared.judge.Finding.TheVariants.{Judged, Refused}

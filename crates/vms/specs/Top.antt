@@ -17,7 +17,7 @@ use Rattle.vx_laws.specs.Laws.{KeepLaws}
 use Rattle.vx_journal.specs.ReadJournal.{script_part, IsJournal, IsBadLine}
 use Rattle.vx_journal.specs.Transcript.{transcript}
 use Rattle.vx_journal.specs.declared.journal.Journal.{Journal}
-use Rattle.vx_check.specs.Verdict.{IsVerdict}
+use Rattle.vx_check.specs.Verdict.{IsJudged}
 use Rattle.vx_check.specs.declared.verdict.Verdict.{Verdict}
 use Rattle.vx_check.specs.declared.verdict.Verdict.TheVariants as verdict
 use Rattle.vms.specs.Words.{command_of}
@@ -160,12 +160,6 @@ pub record Shows (words : List (List ℕ)) (left left_after : Option (List ℕ))
   pub system : System
   pub says : Spells input system
   pub spells : text ≡ script system
-
--- The input is a transcript, and this is the verdict on it.
-pub record IsJudged (input : List ℕ) (verdict : Verdict) : Type 0 where
-  pub journal : Journal
-  pub says : IsJournal input journal
-  pub judged : IsVerdict journal verdict
 
 -- The command is `check`, and this is the verdict on its input.
 pub record Judges (words : List (List ℕ)) (left left_after : Option (List ℕ)) (verdict : Verdict) : Type 0 where

@@ -13,9 +13,9 @@ use crate::status::Status;
 use crate::tell::{fault_line, form_line, tell, tell_no_memory, verdict_line};
 use std::alloc::Global;
 use vx_base::{Bytes, NoMemory};
-use vx_check::{Verdict, check};
+use vx_check::{Verdict, check_text};
 use vx_host::Sink;
-use vx_journal::{JournalFail, read_journal};
+use vx_journal::JournalFail;
 
 /// What an input is found to be.
 #[derive(Debug, Drop)]
@@ -39,13 +39,13 @@ fn status_of(verdict: Verdict) -> Status
     }
 }
 
-/// Reads an input and judges it.
+/// Judges an input.
 fn judged(alloc: Global, input: &[u8]) -> Result<Finding, NoMemory>
     requires { length input.now < 4294967295 }
     ensures { IfOk result (λ found. IsFinding input.now found) }
 {
-    match read_journal(alloc, input) {
-        Ok(journal) => Ok(Finding::Judged(check(alloc, journal)?)),
+    match check_text(alloc, input) {
+        Ok(verdict) => Ok(Finding::Judged(verdict)),
         Err(JournalFail::Script(fault)) => Ok(Finding::Refused(fault_line(alloc, fault)?)),
         Err(JournalFail::Form(line)) => Ok(Finding::Refused(form_line(alloc, line)?)),
         Err(JournalFail::NoMemory) => Err(NoMemory),
