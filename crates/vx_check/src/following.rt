@@ -82,11 +82,7 @@ fn with_head(
     }))
 }
 
-fn effect_line(
-    alloc: Global,
-    progress: Progress,
-    line: &[u8],
-) -> Result<Option<Progress>, NoMemory>
+fn effect_line(alloc: Global, progress: Progress, line: &[u8]) -> Result<Option<Progress>, NoMemory>
     requires { length line.now < 4294967295 }
     ensures { IfOk result (λ next. next ≡ spec.with_effect progress (read_effect line.now)) }
 {

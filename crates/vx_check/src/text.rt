@@ -82,12 +82,7 @@ fn judge_behind(
 
 /// Judges the records and the trailer that stand behind the header of a transcript, whose first line has this number; or tells the
 /// first bad line.
-fn check_behind(
-    alloc: Global,
-    system: System,
-    line: u32,
-    text: &[u8],
-) -> Result<Verdict, LinesFail>
+fn check_behind(alloc: Global, system: System, line: u32, text: &[u8]) -> Result<Verdict, LinesFail>
     requires formed { IsWellFormed system }
     requires short { line + length text.now < 4294967295 }
     ensures { follow_spec.JudgesBehind system line text.now result }
