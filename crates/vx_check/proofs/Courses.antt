@@ -1,5 +1,5 @@
 -- What is known of the records of a transcript, a line at a time.
-use Rattle.std.proofs.Common.{◌≡◌, ◌⊎◌, inl, inr, ℕ, zero, suc, ◌+◌, ◌==◌, ◌<◌, ◌≤◌, Bool, true, false, cond, nat_lt, List, [], ◌∷◌, ◌++◌, length, take, length-append, Option, Some, None, Result, Ok, Err, IfOk, Contains, refl, sym, ap, subst, ◌∙◌, arith, append_assoc}
+use Rattle.std.proofs.Common.{◌≡◌, ◌⊎◌, inl, inr, ℕ, suc, ◌+◌, ◌==◌, ◌<◌, ◌≤◌, Bool, true, false, cond, nat_lt, List, [], ◌∷◌, ◌++◌, length, take, length-append, Option, Some, None, Result, Ok, Err, IfOk, Contains, refl, sym, ap, subst, ◌∙◌, arith, append_assoc}
 use Rattle.std.proofs.lemmas.Bool.{lt-ltb, ltb-true, ltb-false}
 use Rattle.std.proofs.lemmas.Bool.Decides.{nat_tests}
 use Rattle.std.proofs.lemmas.List.{length-take-le, take-append-le, take_all}
@@ -9,16 +9,16 @@ use Rattle.vx_base.specs.declared.effects.Effect.{Effect}
 use Rattle.vx_base.specs.declared.record.Answer.{Answer}
 use Rattle.vx_base.specs.declared.record.Event.{Event}
 use Rattle.vx_base.specs.declared.record.Rec.{Rec}
-use Rattle.vx_lines.specs.ReadRecords.{nothing_read, read_so_far, with_effect as read_with_effect, with_head}
+use Rattle.vx_lines.specs.ReadRecords.{read_so_far, with_effect as read_with_effect, with_head}
 use Rattle.vx_lines.specs.Words.{◌>>=◌}
 use Rattle.vx_lines.specs.declared.read.Reading.{Reading}
 use Rattle.vx_record.specs.State.{State}
 use Rattle.vx_record.specs.Events.{enabled, step}
-use Rattle.vx_record.specs.Runs.{AreSteps, IsStep, after_from, record_of}
+use Rattle.vx_record.specs.Runs.{IsStep, after_from, record_of}
 use Rattle.vx_exec.specs.Taken.{TakesRun}
 use Rattle.vx_exec.specs.View.{Executive, Plan, plan}
 use Rattle.vx_check.proofs.Judging.{front_steps, last_step, no_such_step, one_too_many, run_more, step_if}
-use Rattle.vx_check.specs.Following.{Ends, Follows, FollowsLine, IsFollowing, IsLost, IsOpen, IsOpened, IsRefused, IsRight, IsWrong, Opens, at_last, before_last, course_with, fresh, with_effect, with_more}
+use Rattle.vx_check.specs.Following.{Ends, Follows, FollowsLine, IsFollowing, IsLost, IsOpen, IsRight, IsWrong, Opens, at_last, before_last, course_with, fresh, with_effect, with_more}
 use Rattle.vx_check.specs.Judging.{AreRun, IsWrongFrom}
 use Rattle.vx_check.specs.declared.course.Course.{Course}
 use Rattle.vx_check.specs.declared.course.Course.TheVariants.{Begun, Open, Wrong}

@@ -1,12 +1,10 @@
 -- Records that an executive takes, and the verdict on them.
-use Rattle.std.proofs.Common.{◌≡◌, ℕ, zero, suc, ◌+◌, ◌==◌, ◌<◌, ◌≤◌, Bool, true, false, cond, nat_lt, List, [], ◌∷◌, ◌++◌, length, take, drop, slice_index_or, length-append, Option, Some, Result, Ok, Err, IfOk, Contains, IsTrue, refl, sym, ap, subst, ◌∙◌, arith}
+use Rattle.std.proofs.Common.{◌≡◌, ℕ, zero, suc, ◌+◌, ◌<◌, ◌≤◌, Bool, true, false, List, [], ◌∷◌, ◌++◌, length, take, drop, slice_index_or, length-append, Some, Result, Ok, Err, IfOk, Contains, IsTrue, refl, sym, ap, subst, ◌∙◌, arith}
 use Rattle.std.proofs.Math.Seq.{drop-cons}
 use Rattle.std.proofs.lemmas.List.{length-take-le, take-append-drop, take_more}
 use Rattle.std.proofs.lemmas.Bool.Decides.{nat_tests}
 use Rattle.vx_base.specs.declared.bytes.NoMemory.{NoMemory}
-use Rattle.vx_base.specs.declared.record.End.{End}
 use Rattle.vx_base.specs.declared.record.Rec.{Rec}
-use Rattle.vx_image.specs.declared.system.System.{System}
 use Rattle.vx_record.specs.State.{State}
 use Rattle.vx_record.specs.Events.{enabled, step}
 use Rattle.vx_record.specs.Runs.{AreSteps, IsRun, IsStep, after, after_from, end_of, first, record_of}
@@ -16,7 +14,7 @@ use Rattle.vx_exec.specs.View.{Executive, Plan, plan}
 use Rattle.vx_journal.specs.declared.journal.Journal.{Journal}
 use Rattle.vx_journal.specs.declared.journal.Part.{Part}
 use Rattle.vx_check.specs.Judging.{AreRun, JudgesRecords, IsWrongFrom, at_record, by_run, most_for}
-use Rattle.vx_check.specs.Verdict.{IsFirstWrong, IsVerdict, limit_for, of_record, of_run, part_verdict, run_verdict}
+use Rattle.vx_check.specs.Verdict.{IsVerdict, limit_for, of_record, of_run, part_verdict}
 use Rattle.vx_check.specs.declared.verdict.Verdict.{Verdict}
 use Rattle.vx_check.specs.declared.verdict.Verdict.TheVariants.{Bad}
 

@@ -1,7 +1,6 @@
 -- The lines of a text's records, followed one after another.
-use Rattle.std.proofs.Common.{◌≡◌, ℕ, ◌+◌, ◌==◌, ◌<◌, ◌≤◌, Bool, true, false, List, [], ◌∷◌, length, take, drop, Option, None, Some, Result, Ok, Err, IfOk, IfSome, refl, sym, ap, subst, ◌∙◌, arith, drop-drop}
+use Rattle.std.proofs.Common.{◌≡◌, ℕ, ◌+◌, ◌≤◌, true, false, List, [], length, take, drop, Option, None, Some, Result, Ok, Err, IfOk, IfSome, refl, sym, ap, subst, ◌∙◌, drop-drop}
 use Rattle.vx_base.specs.declared.bytes.NoMemory.{NoMemory}
-use Rattle.vx_base.specs.declared.effects.Effect.{Effect}
 use Rattle.vx_base.specs.declared.record.Rec.{Rec}
 use Rattle.vx_image.specs.declared.unit.UnitDecl.{UnitDecl}
 use Rattle.vx_lines.proofs.Cutting.{bad, begins, ended, read_on}
@@ -12,11 +11,10 @@ use Rattle.vx_lines.specs.ReadRecords.{begins_with_space, effect_line, fed_lines
 use Rattle.vx_lines.specs.declared.read.Reading.{Reading}
 use Rattle.vx_lines.specs.declared.read.Records.{Records}
 use Rattle.vx_record.specs.State.{State}
-use Rattle.vx_exec.specs.View.{Executive, Plan, plan}
+use Rattle.vx_exec.specs.View.{Executive, Plan}
 use Rattle.vx_journal.proofs.RecordsSpelled.{IsBare, head_spelled}
 use Rattle.vx_check.proofs.Courses.{effect_followed, ends_by, follows_plan}
-use Rattle.vx_check.specs.Following.{Ends, Follows, FollowsAll, FollowsLine, IsFollowing, IsRight, IsWrong, fresh, with_effect}
-use Rattle.vx_check.specs.declared.course.Course.{Course}
+use Rattle.vx_check.specs.Following.{FollowsAll, FollowsLine, IsFollowing, IsRight, IsWrong, fresh, with_effect}
 use Rattle.vx_check.specs.declared.course.Course.TheVariants.{Begun}
 use Rattle.vx_check.specs.declared.course.Progress.{Progress}
 use Rattle.vx_check.specs.declared.following.Followed.{Followed}

@@ -1,28 +1,26 @@
 -- The verdict on a text whose records were followed.
-use Rattle.std.proofs.Common.{◌≡◌, ℕ, zero, suc, ◌+◌, ◌==◌, ◌<◌, ◌≤◌, nat_le, Bool, true, false, cond, List, [], ◌∷◌, length, drop, Option, None, Some, Result, Ok, Err, IfOk, refl, sym, ap, subst, ◌∙◌, arith}
+use Rattle.std.proofs.Common.{◌≡◌, ℕ, zero, suc, ◌==◌, ◌≤◌, nat_le, Bool, true, false, cond, List, [], ◌∷◌, length, drop, Option, None, Some, Result, Ok, Err, refl, sym, ap, subst, ◌∙◌, arith}
 use Rattle.std.proofs.lemmas.Bool.{le-leb}
 use Rattle.std.proofs.lemmas.Bool.Decides.{nat_tests}
-use Rattle.vx_base.specs.declared.record.End.{End}
 use Rattle.vx_base.specs.declared.record.End.TheVariants.{Limit}
 use Rattle.vx_base.specs.declared.record.Event.{Event}
 use Rattle.vx_base.specs.declared.record.Rec.{Rec}
 use Rattle.vx_image.specs.declared.system.System.{System}
-use Rattle.vx_lines.specs.ReadRecords.{Fails, Reads, read_records}
+use Rattle.vx_lines.specs.ReadRecords.{Fails, read_records}
 use Rattle.vx_lines.specs.declared.read.LinesFail.{LinesFail}
 use Rattle.vx_lines.specs.declared.read.LinesFail.TheVariants as lines_fail
 use Rattle.vx_lines.specs.declared.read.Records.{Records}
 use Rattle.vx_record.specs.State.{State}
 use Rattle.vx_record.specs.Events.{enabled}
-use Rattle.vx_record.specs.Runs.{IsRun, after, are_deleted, end_after, end_of, end_with, first}
+use Rattle.vx_record.specs.Runs.{after, are_deleted, end_of, end_with, first}
 use Rattle.vx_exec.specs.Taken.{TakesRun}
 use Rattle.vx_exec.specs.View.{Executive, Plan, plan}
 use Rattle.vx_script.specs.Results.{◌>>=◌}
 use Rattle.vx_journal.proofs.Fronts.{bad_line_there, journal_there}
-use Rattle.vx_journal.specs.ReadJournal.{IsFront, TellsFailure, TellsIfFailed, behind_header, behind_records}
+use Rattle.vx_journal.specs.ReadJournal.{IsFront, TellsFailure, behind_header, behind_records}
 use Rattle.vx_journal.specs.TrailerLines.{read_trailer}
 use Rattle.vx_journal.specs.declared.journal.Front.{Front}
 use Rattle.vx_journal.specs.declared.journal.Journal.{Journal}
-use Rattle.vx_journal.specs.declared.journal.JournalFail.{JournalFail}
 use Rattle.vx_journal.specs.declared.journal.JournalFail.TheVariants as fail
 use Rattle.vx_journal.specs.declared.journal.Part.{Part}
 use Rattle.vx_check.proofs.Judging.{wrong_verdict}
@@ -31,7 +29,6 @@ use Rattle.vx_check.specs.Judging.{end_for}
 use Rattle.vx_check.specs.Verdict.{IsJudged, IsVerdict, limit_for, of_run, part_verdict}
 use Rattle.vx_check.specs.declared.following.Followed.{Followed}
 use Rattle.vx_check.specs.declared.verdict.Verdict.{Verdict}
-use Rattle.vx_check.specs.declared.verdict.Verdict.TheVariants.{Bad}
 
 -- How a run has ended.
 

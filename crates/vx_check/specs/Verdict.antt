@@ -1,5 +1,5 @@
 -- The verdict on a transcript that was read: whether its records are the machine's, and its trailer.
-use Rattle.std.specs.Prelude.{◌≡◌, ◌⊎◌, ℕ, zero, suc, ◌+◌, List, [], ◌∷◌, ◌++◌, length, bytes_eq, if◌then◌else◌, Option, None, Some}
+use Rattle.std.specs.Prelude.{◌≡◌, ℕ, zero, suc, ◌+◌, List, [], ◌∷◌, ◌++◌, length, bytes_eq, if◌then◌else◌, Option, None, Some}
 use Rattle.vx_base.specs.declared.record.End.{End}
 use Rattle.vx_base.specs.declared.record.End.TheVariants as end
 use Rattle.vx_base.specs.declared.record.Rec.{Rec}

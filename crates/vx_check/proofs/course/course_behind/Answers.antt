@@ -1,6 +1,4 @@
-use Rattle.std.proofs.Common.{◌≡◌, ℕ, IfOk, Result, Ok, Err, [], length, ◌+◌, refl, subst}
-use Rattle.vx_base.specs.declared.bytes.NoMemory.{NoMemory}
-use Rattle.vx_lines.specs.ReadRecords.{read_so_far}
+use Rattle.std.proofs.Common.{ℕ, refl, subst}
 use Rattle.vx_check.proofs.Courses.{course_opened, head_lost}
 use Rattle.vx_check.specs.Following.{IsWrong}
 use Rattle.vx_check.proofs.course.course_behind.Goals as goal

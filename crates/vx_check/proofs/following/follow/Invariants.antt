@@ -1,4 +1,4 @@
-use Rattle.std.proofs.Common.{◌≡◌, ◌+◌, ◌-◌, ◌≤◌, ℕ, length}
+use Rattle.std.proofs.Common.{◌≡◌, ◌+◌, ◌-◌, ◌≤◌, length}
 use Rattle.vx_base.specs.Services.{service_rows}
 use Rattle.vx_check.proofs.Lines.{IsAt}
 use Rattle.vx_check.proofs.following.follow.Given as goal

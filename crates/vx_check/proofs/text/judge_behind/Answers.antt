@@ -1,4 +1,4 @@
-use Rattle.std.proofs.Common.{◌≡◌, ◌∙◌, ℕ, List, Ok, drop, ap, sym}
+use Rattle.std.proofs.Common.{◌≡◌, ◌∙◌, List, Ok, drop, ap, sym}
 use Rattle.vx_text.proofs.Turns.{rest_of}
 use Rattle.vx_image.specs.declared.system.System.{System}
 use Rattle.vx_image.specs.declared.unit.UnitDecl.{UnitDecl}
