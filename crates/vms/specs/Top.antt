@@ -179,12 +179,6 @@ pub record Shows (words : List (List ℕ)) (left left_after : Option (List ℕ))
   pub says : Spells input system
   pub spells : text ≡ script system
 
--- The input is a transcript, and this is the verdict on it.
-pub record HasVerdict (input : List ℕ) (verdict : Verdict) : Type 0 where
-  pub journal : Journal
-  pub says : IsJournal input journal
-  pub judged : IsVerdict journal verdict
-
 -- The input is a transcript, this is the verdict on it, and the text is the report of it.
 pub record IsReported (input : List ℕ) (report : Report) (verdict : Verdict) (text : List ℕ) : Type 0 where
   pub journal : Journal

@@ -2,19 +2,20 @@
 
 ghost use Rattle.std.specs.Prelude.{◌≡◌, ◌≢◌, ◌⊎◌, ◌<◌, ◌≤◌, IfOk, length};
 ghost use Rattle.std.specs.Io.KnownBytes.{Appends};
+ghost use Rattle.vx_check.specs.Verdict.{IsJudged};
 ghost use Rattle.vx_draw.specs.Columns.{columns};
 ghost use Rattle.vx_draw.specs.Picture.{picture};
 ghost use Rattle.vx_host.specs.Causes.{Rose};
 ghost use Rattle.vms.specs.Judged.{BreaksJudged, IsFinding, WritesFinding};
 ghost use Rattle.vms.specs.Simulated.{WritesRefusal};
-ghost use Rattle.vms.specs.Top.{no_memory, HasVerdict, IsReported, status_of, report_text, wrong_in};
+ghost use Rattle.vms.specs.Top.{no_memory, IsReported, status_of, report_text, wrong_in};
 
 use crate::command::{Command, Report};
 use crate::status::Status;
 use crate::tell::{fault_line, form_line, tell, tell_no_memory, verdict_line};
 use std::alloc::Global;
 use vx_base::{Bytes, NoMemory};
-use vx_check::{Verdict, check};
+use vx_check::{Verdict, check_text};
 use vx_draw::{print_columns, print_picture};
 use vx_host::Sink;
 use vx_journal::{Journal, JournalFail, read_journal};
@@ -87,10 +88,10 @@ fn report_text(
     }
 }
 
-// The report of an input that has a verdict. The transcript is read again: its records went with the executive that judged them.
+// The report of an input that has a verdict. The transcript is read whole now: as it was judged, no record was kept.
 fn drawn(alloc: Global, report: Report, input: &[u8], verdict: Verdict) -> Result<Bytes, NoMemory>
     requires short { length input.now < 4294967295 }
-    requires verdict { HasVerdict input.now verdict }
+    requires verdict { IsJudged input.now verdict }
     ensures { IfOk result (λ text. IsReported input.now report verdict text) }
 {
     match read_journal(alloc, input) {
@@ -111,7 +112,7 @@ fn reported(
     verdict: Verdict,
 ) -> Result<Bytes, NoMemory>
     requires short { length input.now < 4294967295 }
-    requires verdict { HasVerdict input.now verdict }
+    requires verdict { IsJudged input.now verdict }
     ensures { IfOk result (λ text. IsReported input.now report verdict text) }
 {
     match report {
@@ -123,14 +124,13 @@ fn reported(
     }
 }
 
-/// Reads an input, judges it, and reports of it.
+/// Judges an input, and reports of it.
 fn judged(alloc: Global, report: Report, input: &[u8]) -> Result<Finding, NoMemory>
     requires { length input.now < 4294967295 }
     ensures { IfOk result (λ found. IsFinding input.now report found) }
 {
-    match read_journal(alloc, input) {
-        Ok(journal) => {
-            let verdict = check(alloc, journal)?;
+    match check_text(alloc, input) {
+        Ok(verdict) => {
             let text = reported(alloc, report, input, verdict)?;
             Ok(Finding::Judged(verdict, text))
         }

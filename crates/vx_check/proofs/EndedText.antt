@@ -1,5 +1,5 @@
 -- A text whose verdict is an ending is the transcript of a run.
-use Rattle.std.proofs.Common.{◌≡◌, ℕ, Bool, true, false, cond, ◌+◌, List, [], ◌∷◌, ◌++◌, length, bytes_eq, codes, Option, None, Some, refl, sym, ap, ◌∙◌, append_assoc}
+use Rattle.std.proofs.Common.{◌≡◌, ℕ, Bool, true, false, cond, ◌+◌, List, ◌∷◌, ◌++◌, length, bytes_eq, codes, Option, None, Some, refl, sym, ap, ◌∙◌, append_assoc}
 use Rattle.std.proofs.lemmas.Grind.{flat_map-append}
 use Rattle.std.proofs.lemmas.Slice.Eq.{bytes_eq-Decides}
 use Rattle.vx_base.specs.declared.record.End.{End}
@@ -9,7 +9,7 @@ use Rattle.vx_record.specs.State.{State}
 use Rattle.vx_record.specs.Runs.{IsRun, after, end_after}
 use Rattle.vx_script.specs.Script.{script}
 use Rattle.vx_journal.proofs.JournalText.{journal_spelled}
-use Rattle.vx_journal.specs.ReadJournal.{IsJournal, header, journal_text}
+use Rattle.vx_journal.specs.ReadJournal.{IsJournal, header}
 use Rattle.vx_journal.specs.Transcript.{trailer_lines, transcript}
 use Rattle.vx_journal.specs.declared.journal.Journal.{Journal}
 use Rattle.vx_journal.specs.declared.journal.Part.{Part}

@@ -1,12 +1,10 @@
 -- Records that an executive takes, and the verdict on them.
-use Rattle.std.proofs.Common.{◌≡◌, ℕ, zero, suc, ◌+◌, ◌==◌, ◌<◌, ◌≤◌, Bool, true, false, cond, nat_lt, List, [], ◌∷◌, ◌++◌, length, take, drop, slice_index_or, length-append, Option, Some, Result, Ok, Err, IfOk, Contains, IsTrue, refl, sym, ap, subst, ◌∙◌, arith}
+use Rattle.std.proofs.Common.{◌≡◌, ℕ, zero, suc, ◌+◌, ◌<◌, ◌≤◌, Bool, true, false, List, [], ◌∷◌, ◌++◌, length, take, drop, slice_index_or, length-append, Some, Result, Ok, Err, IfOk, Contains, IsTrue, refl, sym, ap, subst, ◌∙◌, arith}
 use Rattle.std.proofs.Math.Seq.{drop-cons}
 use Rattle.std.proofs.lemmas.List.{length-take-le, take-append-drop, take_more}
 use Rattle.std.proofs.lemmas.Bool.Decides.{nat_tests}
 use Rattle.vx_base.specs.declared.bytes.NoMemory.{NoMemory}
-use Rattle.vx_base.specs.declared.record.End.{End}
 use Rattle.vx_base.specs.declared.record.Rec.{Rec}
-use Rattle.vx_image.specs.declared.system.System.{System}
 use Rattle.vx_record.specs.State.{State}
 use Rattle.vx_record.specs.Events.{enabled, step}
 use Rattle.vx_record.specs.Runs.{AreSteps, IsRun, IsStep, after, after_from, end_of, first, record_of}
@@ -15,8 +13,8 @@ use Rattle.vx_exec.specs.Taken.{TakesRun}
 use Rattle.vx_exec.specs.View.{Executive, Plan, plan}
 use Rattle.vx_journal.specs.declared.journal.Journal.{Journal}
 use Rattle.vx_journal.specs.declared.journal.Part.{Part}
-use Rattle.vx_check.specs.Judging.{AreRun, IsJudged, IsWrongFrom, at_record, by_run, most_for}
-use Rattle.vx_check.specs.Verdict.{IsFirstWrong, IsVerdict, limit_for, of_record, of_run, part_verdict, run_verdict}
+use Rattle.vx_check.specs.Judging.{AreRun, JudgesRecords, IsWrongFrom, at_record, by_run, most_for}
+use Rattle.vx_check.specs.Verdict.{IsVerdict, limit_for, of_record, of_run, part_verdict}
 use Rattle.vx_check.specs.declared.verdict.Verdict.{Verdict}
 use Rattle.vx_check.specs.declared.verdict.Verdict.TheVariants.{Bad}
 
@@ -49,12 +47,16 @@ run_more before now next rs r so_far is goes planned =
       planned = planned ∙ so_far.planned;
     }
 
+pub front_steps : (s : State) (xs ys : List Rec) → AreSteps s (xs ++ ys) → AreSteps s xs
+front_steps s [] ys h = tt
+front_steps s (x ∷ xs) ys h = (h.0, front_steps (step s x.event).after xs ys h.1)
+
 -- The verdict.
 
-no_such_step : (s : State) (rs : List Rec) (r : Rec) (now : Executive) → now.state ≡ after_from s rs → (IsStep now.state r → ⊥) → AreRun s (rs ++ r ∷ []) → ⊥
+pub no_such_step : (s : State) (rs : List Rec) (r : Rec) (now : Executive) → now.state ≡ after_from s rs → (IsStep now.state r → ⊥) → AreRun s (rs ++ r ∷ []) → ⊥
 no_such_step s rs r now is none run = none (subst (λ (t : State). IsStep t r) (sym is) (last_step s rs r run.steps))
 
-one_too_many : (s : State) (rs : List Rec) (r : Rec) → length rs ≡ 100000 → AreRun s (rs ++ r ∷ []) → ⊥
+pub one_too_many : (s : State) (rs : List Rec) (r : Rec) → length rs ≡ 100000 → AreRun s (rs ++ r ∷ []) → ⊥
 one_too_many s rs r full run =
     let few : length (rs ++ r ∷ []) ≤ 100000 = run.few in
     absurd (omega (arith, few, full, length-append rs (r ∷ [])))
@@ -162,24 +164,24 @@ one_taken before now next recs i r most so_far h is begun limited going step_is 
 
 -- The whole.
 
-verdict_of : (j : Journal) (v : Verdict) → IsJudged (first j.system) j.recs j.part j.trailer v → IsVerdict j v
+verdict_of : (j : Journal) (v : Verdict) → JudgesRecords (first j.system) j.recs j.part j.trailer v → IsVerdict j v
 verdict_of j v (at_record n w is) = subst (IsVerdict j) (sym is) (wrong_verdict j n w)
 verdict_of j v (by_run now takes few is) = run_is_judged j (record { state = first j.system; limit = most_for (length j.recs); taken = 0 }) now v refl takes few is
 
-judged_verdict : (j : Journal) (r : Result Verdict NoMemory) → IfOk r (λ v. IsJudged (first j.system) j.recs j.part j.trailer v) → IfOk r (λ v. IsVerdict j v)
+judged_verdict : (j : Journal) (r : Result Verdict NoMemory) → IfOk r (λ v. JudgesRecords (first j.system) j.recs j.part j.trailer v) → IfOk r (λ v. IsVerdict j v)
 judged_verdict j (Ok v) h = verdict_of j v h
 judged_verdict j (Err e) h = h
 
 -- by the executive that has taken the records
-pub run_judged : (before now : Executive) (recs : List Rec) (part : Part) (trailer : List ℕ) (r : Result Verdict NoMemory) → before.taken ≡ 0 → before.limit ≡ most_for (length recs) → TakesRun before now recs → length recs ≤ 100000 → IfOk r (λ v. v ≡ part_verdict now.state now.taken part trailer (end_of now.limit now.taken now.state)) → IfOk r (λ v. IsJudged before.state recs part trailer v)
+pub run_judged : (before now : Executive) (recs : List Rec) (part : Part) (trailer : List ℕ) (r : Result Verdict NoMemory) → before.taken ≡ 0 → before.limit ≡ most_for (length recs) → TakesRun before now recs → length recs ≤ 100000 → IfOk r (λ v. v ≡ part_verdict now.state now.taken part trailer (end_of now.limit now.taken now.state)) → IfOk r (λ v. JudgesRecords before.state recs part trailer v)
 run_judged before now recs part trailer (Ok v) begun limited takes few is =
     let first_of : before ≡ record { state = before.state; limit = most_for (length recs); taken = 0 } = ap (λ n. let e : Executive = record { state = before.state; limit = n; taken = before.taken } in e) limited ∙ ap (λ n. let e : Executive = record { state = before.state; limit = most_for (length recs); taken = n } in e) begun in
     by_run now (subst (λ (e : Executive). TakesRun e now recs) first_of takes) few is
 run_judged before now recs part trailer (Err e) begun limited takes few is = is
 
 -- by an executive at its first state, over the journal's records and trailer
-pub checked : (j : Journal) (r : Result Verdict NoMemory) (s : State) (recs : List Rec) (trailer : List ℕ) → s ≡ first j.system → recs ≡ j.recs → trailer ≡ j.trailer → IfOk r (λ v. IsJudged s recs j.part trailer v) → IfOk r (λ v. IsVerdict j v)
+pub checked : (j : Journal) (r : Result Verdict NoMemory) (s : State) (recs : List Rec) (trailer : List ℕ) → s ≡ first j.system → recs ≡ j.recs → trailer ≡ j.trailer → IfOk r (λ v. JudgesRecords s recs j.part trailer v) → IfOk r (λ v. IsVerdict j v)
 checked j r s recs trailer begun same behind h =
-    let one = subst (λ (x : State). IfOk r (λ v. IsJudged x recs j.part trailer v)) begun h in
-    let two = subst (λ (xs : List Rec). IfOk r (λ v. IsJudged (first j.system) xs j.part trailer v)) same one in
-    judged_verdict j r (subst (λ (bs : List ℕ). IfOk r (λ v. IsJudged (first j.system) j.recs j.part bs v)) behind two)
+    let one = subst (λ (x : State). IfOk r (λ v. JudgesRecords x recs j.part trailer v)) begun h in
+    let two = subst (λ (xs : List Rec). IfOk r (λ v. JudgesRecords (first j.system) xs j.part trailer v)) same one in
+    judged_verdict j r (subst (λ (bs : List ℕ). IfOk r (λ v. JudgesRecords (first j.system) j.recs j.part bs v)) behind two)

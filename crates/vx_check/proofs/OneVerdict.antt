@@ -1,18 +1,13 @@
 -- No journal has two verdicts.
-use Rattle.std.proofs.Common.{◌≡◌, ◌⊎◌, inl, inr, ℕ, zero, suc, ◌+◌, ◌<◌, ◌≤◌, List, [], ◌∷◌, ◌++◌, length, length-append, refl, sym, ap, subst, ◌∙◌, arith, append_assoc}
+use Rattle.std.proofs.Common.{◌≡◌, ℕ, zero, suc, ◌<◌, ◌≤◌, List, [], ◌∷◌, ◌++◌, length, length-append, refl, sym, ap, subst, ◌∙◌, arith, append_assoc}
 use Rattle.vx_base.specs.declared.record.Rec.{Rec}
 use Rattle.vx_image.specs.declared.system.System.{System}
-use Rattle.vx_record.specs.State.{State}
-use Rattle.vx_record.specs.Events.{step}
-use Rattle.vx_record.specs.Runs.{AreSteps, IsRun, first}
+use Rattle.vx_record.specs.Runs.{IsRun, first}
 use Rattle.vx_journal.specs.declared.journal.Journal.{Journal}
+use Rattle.vx_check.proofs.Judging.{front_steps}
 use Rattle.vx_check.specs.Verdict.{IsFirstWrong, IsVerdict, of_record, of_run}
 use Rattle.vx_check.specs.declared.verdict.Verdict.{Verdict}
 use Rattle.vx_check.specs.declared.verdict.Verdict.TheVariants.{Bad}
-
-front_steps : (s : State) (xs ys : List Rec) → AreSteps s (xs ++ ys) → AreSteps s xs
-front_steps s [] ys h = tt
-front_steps s (x ∷ xs) ys h = (h.0, front_steps (step s x.event).after xs ys h.1)
 
 -- the front of a run is a run
 front_run : (system : System) (xs ys : List Rec) → IsRun system (xs ++ ys) → IsRun system xs

@@ -1,12 +1,10 @@
 -- The journal of a run that has ended is judged as it has ended.
-use Rattle.std.proofs.Common.{◌≡◌, ℕ, zero, suc, ◌+◌, ◌<◌, ◌≤◌, nat_le, Bool, true, false, cond, List, [], ◌∷◌, length, bytes_eq, Option, Some, None, refl, sym, ap, subst, ◌∙◌, arith}
+use Rattle.std.proofs.Common.{◌≡◌, ℕ, zero, suc, ◌≤◌, nat_le, Bool, true, false, cond, List, [], ◌∷◌, length, bytes_eq, Some, None, refl, sym, ap, subst, ◌∙◌, arith}
 use Rattle.std.proofs.lemmas.Bool.{leb-true, le-leb}
 use Rattle.std.proofs.lemmas.Slice.Eq.{bytes_eq-Decides}
 use Rattle.vx_base.specs.declared.record.End.{End}
 use Rattle.vx_base.specs.declared.record.End.TheVariants.{Limit}
 use Rattle.vx_base.specs.declared.record.Event.{Event}
-use Rattle.vx_base.specs.declared.record.Rec.{Rec}
-use Rattle.vx_image.specs.declared.system.System.{System}
 use Rattle.vx_lines.specs.Records.{ended_lines}
 use Rattle.vx_record.specs.Events.{enabled}
 use Rattle.vx_record.specs.Runs.{after, are_deleted, end_after, end_with}
@@ -17,8 +15,7 @@ use Rattle.vx_journal.specs.ReadJournal.{IsJournal}
 use Rattle.vx_journal.specs.RunJournal.{run_journal}
 use Rattle.vx_journal.specs.Transcript.{trailer_lines}
 use Rattle.vx_check.specs.Laws.{RunJudged, TranscriptJudged}
-use Rattle.vx_check.specs.Verdict.{IsVerdict, of_run, ended_verdict, limit_for, run_verdict, trailer_verdict}
-use Rattle.vx_check.specs.declared.verdict.Verdict.{Verdict}
+use Rattle.vx_check.specs.Verdict.{of_run, ended_verdict, limit_for, trailer_verdict}
 
 -- how a run has ended by its limit is how it has by its number of records
 

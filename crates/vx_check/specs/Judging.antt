@@ -1,5 +1,7 @@
 -- How the records are taken. Private contracts cite this alone.
-use Rattle.std.specs.Prelude.{◌≡◌, ℕ, ◌+◌, ◌≤◌, ◌==◌, nat_lt, List, [], ◌∷◌, ◌++◌, length, if◌then◌else◌}
+use Rattle.std.specs.Prelude.{◌≡◌, ℕ, ◌+◌, ◌≤◌, ◌==◌, nat_lt, List, [], ◌∷◌, ◌++◌, length, if◌then◌else◌, Option, None, Some}
+use Rattle.vx_base.specs.declared.record.End.{End}
+use Rattle.vx_base.specs.declared.record.End.TheVariants.{Limit}
 use Rattle.vx_base.specs.declared.record.Rec.{Rec}
 use Rattle.vx_record.specs.State.{State}
 use Rattle.vx_record.specs.Runs.{AreSteps, end_of}
@@ -13,6 +15,11 @@ use Rattle.vx_check.specs.declared.verdict.Verdict.TheVariants.{Bad}
 -- the limit of the executive: the number of records, but 1 where there is none, and at most 100,000
 abbrev pub most_for : ℕ → ℕ
 most_for n = if n == 0 then 1 else (if nat_lt n 100000 then n else 100000)
+
+-- how a run has ended behind so many records where that number is its limit, by how it has with the limit 100,000
+abbrev pub end_for : ℕ → Option End → Option End
+end_for taken (Some end) = Some end
+end_for taken None = if taken == 0 then None else Some Limit
 
 -- records are at most 100,000, and the machine's from a state on
 pub record AreRun (s : State) (recs : List Rec) : Type 0 where
@@ -31,6 +38,6 @@ pub record IsWrongFrom (s : State) (recs : List Rec) (n : ℕ) : Type 0 where
 
 -- The verdict on records that are taken from a state on, and on what stands behind them: bad at the first that is wrong; and where
 -- there is none, by the executive that has taken them.
-pub data IsJudged (s : State) (recs : List Rec) (part : Part) (trailer : List ℕ) (v : Verdict) : Type 0 where
-  at_record : (n : ℕ) → IsWrongFrom s recs n → v ≡ Bad n → IsJudged s recs part trailer v
-  by_run : (now : Executive) → TakesRun (record { state = s; limit = most_for (length recs); taken = 0 }) now recs → length recs ≤ 100000 → v ≡ part_verdict now.state now.taken part trailer (end_of now.limit now.taken now.state) → IsJudged s recs part trailer v
+pub data JudgesRecords (s : State) (recs : List Rec) (part : Part) (trailer : List ℕ) (v : Verdict) : Type 0 where
+  at_record : (n : ℕ) → IsWrongFrom s recs n → v ≡ Bad n → JudgesRecords s recs part trailer v
+  by_run : (now : Executive) → TakesRun (record { state = s; limit = most_for (length recs); taken = 0 }) now recs → length recs ≤ 100000 → v ≡ part_verdict now.state now.taken part trailer (end_of now.limit now.taken now.state) → JudgesRecords s recs part trailer v

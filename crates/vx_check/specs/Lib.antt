@@ -1,3 +1,4 @@
+pub mod Following
 pub mod Judging
 pub mod Laws
 pub mod Verdict

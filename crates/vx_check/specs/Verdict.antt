@@ -1,5 +1,5 @@
 -- The verdict on a transcript that was read: whether its records are the machine's, and its trailer.
-use Rattle.std.specs.Prelude.{◌≡◌, ◌⊎◌, ℕ, zero, suc, ◌+◌, List, [], ◌∷◌, ◌++◌, length, bytes_eq, if◌then◌else◌, Option, None, Some}
+use Rattle.std.specs.Prelude.{◌≡◌, ℕ, zero, suc, ◌+◌, List, [], ◌∷◌, ◌++◌, length, bytes_eq, if◌then◌else◌, Option, None, Some}
 use Rattle.vx_base.specs.declared.record.End.{End}
 use Rattle.vx_base.specs.declared.record.End.TheVariants as end
 use Rattle.vx_base.specs.declared.record.Rec.{Rec}
@@ -7,6 +7,7 @@ use Rattle.vx_image.specs.declared.system.System.{System}
 use Rattle.vx_lines.specs.Records.{ended_lines}
 use Rattle.vx_record.specs.State.{State}
 use Rattle.vx_record.specs.Runs.{IsRun, after, end_after}
+use Rattle.vx_journal.specs.ReadJournal.{IsJournal}
 use Rattle.vx_journal.specs.Transcript.{trailer_lines}
 use Rattle.vx_journal.specs.declared.journal.Journal.{Journal}
 use Rattle.vx_journal.specs.declared.journal.Part.{Part}
@@ -58,3 +59,9 @@ run_verdict j = part_verdict (after j.system j.recs) (length j.recs) j.part j.tr
 pub data IsVerdict (j : Journal) (v : Verdict) : Type 0 where
   of_record : (n : ℕ) → IsFirstWrong j.system j.recs n → v ≡ Bad n → IsVerdict j v
   of_run : IsRun j.system j.recs → v ≡ run_verdict j → IsVerdict j v
+
+-- The text is a transcript, and this is the verdict on it.
+pub record IsJudged (text : List ℕ) (v : Verdict) : Type 0 where
+  pub journal : Journal
+  pub says : IsJournal text journal
+  pub judged : IsVerdict journal v

@@ -5,8 +5,8 @@ ghost use Rattle.vx_exec.specs.Taken.{TakesRun};
 ghost use Rattle.vx_exec.specs.View.{plan};
 ghost use Rattle.vx_image.specs.WellFormed.{IsWellFormed};
 ghost use Rattle.vx_record.specs.Events.{step};
-ghost use Rattle.vx_record.specs.Runs.{IsStep, end_of};
-ghost use Rattle.vx_check.specs.Judging.{IsJudged, IsWrongFrom, most_for};
+ghost use Rattle.vx_record.specs.Runs.{IsStep};
+ghost use Rattle.vx_check.specs.Judging.{JudgesRecords, IsWrongFrom, most_for};
 ghost use Rattle.vx_check.specs.Verdict as spec;
 
 use crate::verdict::Verdict;
@@ -78,22 +78,22 @@ fn ended_verdict(end: End, n: u32) -> Verdict
     }
 }
 
-/// The verdict where all records are the machine's and the executive has taken them.
-fn part_verdict(
+/// The verdict where all records are the machine's and the executive has taken them, and the run has ended so.
+pub fn part_verdict(
     alloc: Global,
     exec: &Exec<Scripted>,
+    ended: Option<End>,
     part: Part,
     trailer: &[u8],
 ) -> Result<Verdict, NoMemory>
     requires { exec.now.taken ≤ 100000 }
-    ensures { IfOk result (λ verdict. verdict ≡ spec.part_verdict exec.now.state exec.now.taken part trailer.now
-        (end_of exec.now.limit exec.now.taken exec.now.state)) }
+    ensures { IfOk result (λ verdict. verdict ≡ spec.part_verdict exec.now.state exec.now.taken part trailer.now ended) }
 {
     let n = exec.taken();
     if part == Part::Cut {
         return Ok(Verdict::Prefix(n));
     }
-    let Some(end) = exec.ended() else {
+    let Some(end) = ended else {
         return Ok(Verdict::Bad(n + 1));
     };
     let mut text = Bytes::new(alloc);
@@ -115,12 +115,12 @@ fn judge(
 ) -> Result<Verdict, NoMemory>
     requires begun { exec.old.taken ≡ 0 }
     requires limited { exec.old.limit ≡ most_for (length recs.now) }
-    ensures { IfOk result (λ verdict. IsJudged exec.old.state recs.now part trailer.now verdict) }
+    ensures { IfOk result (λ verdict. JudgesRecords exec.old.state recs.now part trailer.now verdict) }
 {
     if let Some(n) = first_wrong(exec, recs)? {
         return Ok(Verdict::Bad(n));
     }
-    part_verdict(alloc, exec, part, trailer)
+    part_verdict(alloc, exec, exec.ended(), part, trailer)
 }
 
 /// Judges a transcript.

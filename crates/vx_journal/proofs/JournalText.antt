@@ -33,7 +33,7 @@ front_there line [] text m h = refl
 front_there line (f ∷ front) [] m h = absurd (cc)
 front_there line (f ∷ front) (b ∷ text) m h = front_by line f b front text m (f == b) refl (λ k is. front_there k front text m is) h
 
-records_there : (system : System) (line : ℕ) (text : List ℕ) (j : Journal) → behind_header system line text ≡ Ok j → (j.system ≡ system) × (text ≡ ended_lines (records_lines system.units 1 j.recs) ++ j.trailer)
+pub records_there : (system : System) (line : ℕ) (text : List ℕ) (j : Journal) → behind_header system line text ≡ Ok j → (j.system ≡ system) × (text ≡ ended_lines (records_lines system.units 1 j.recs) ++ j.trailer)
 records_there system line text j h =
     let one = first_read (read_records system.units line text) (λ (r : Records). behind_records system r (drop r.len text)) j h in
     let records : Records = one.0 in

@@ -1,4 +1,5 @@
 pub mod Answered
+pub mod Fronts
 pub mod JournalBack
 pub mod JournalText
 pub mod LineBehind

@@ -43,7 +43,7 @@ effect_spelled line f h = effect_by line (effect_of (unfed line)) f h
 
 -- A head that is read has no effects.
 
-abbrev IsBare : Rec → Type 0
+abbrev pub IsBare : Rec → Type 0
 IsBare r = r.effects ≡ []
 
 behind : {A : Type 0} (o : Option A) (f : A → Option Rec) → ((x : A) → IfSome (f x) IsBare) → IfSome (o >>= f) IsBare
@@ -75,7 +75,7 @@ head_by units n line (Some q) r bare h =
     let k = kept (bytes_eq (head_line units n q ++ 10 ∷ []) line) q r h in
     (sym ((bytes_eq-Decides (head_line units n q ++ 10 ∷ []) line).0 k.0) ∙ ap (λ z. head_line units n z ++ 10 ∷ []) k.1, subst IsBare k.1 bare)
 
-head_spelled : (units : List UnitDecl) (n : ℕ) (line : List ℕ) (r : Rec) → read_head units n line ≡ Some r → (line ≡ head_line units n r ++ 10 ∷ []) × IsBare r
+pub head_spelled : (units : List UnitDecl) (n : ℕ) (line : List ℕ) (r : Rec) → read_head units n line ≡ Some r → (line ≡ head_line units n r ++ 10 ∷ []) × IsBare r
 unfolding read_head
 head_spelled units n line r h = head_by units n line (head_of units (from_space (unfed line))) r (bare_head units (from_space (unfed line))) h
 

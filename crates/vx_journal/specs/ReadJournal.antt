@@ -13,6 +13,8 @@ use Rattle.vx_script.specs.declared.fault.ScriptFault.{ScriptFault}
 use Rattle.vx_grammar.specs.FirstFault.{Tells}
 use Rattle.vx_grammar.specs.Grammar.{Spells}
 use Rattle.vx_journal.specs.TrailerLines.{read_trailer}
+use Rattle.vx_journal.specs.declared.journal.Front.{Front}
+use Rattle.vx_journal.specs.declared.journal.HeaderEnd.{HeaderEnd}
 use Rattle.vx_journal.specs.declared.journal.Journal.{Journal}
 use Rattle.vx_journal.specs.declared.journal.JournalFail.{JournalFail}
 use Rattle.vx_journal.specs.declared.journal.JournalFail.TheVariants as fail
@@ -66,7 +68,20 @@ behind_script system line text = if starts_with nat_eq text header then behind_h
 unfoldable pub journal_of : System → List ℕ → Result Journal ℕ
 journal_of system text = line_behind 1 (script system) text >>= λ line. behind_script system line (drop (length (script system)) text)
 
+-- where the header ends behind the canonical script, which ends before this line and byte
+abbrev pub header_at : ℕ → ℕ → List ℕ → Result HeaderEnd ℕ
+header_at line len text = if starts_with nat_eq text header then Ok (record { line = line + 1; len = len + length header }) else Err line
+
+-- where the header ends in a text whose script part is this system's script; or the text's first bad line
+abbrev pub header_end : System → List ℕ → Result HeaderEnd ℕ
+header_end system text = line_behind 1 (script system) text >>= λ line. header_at line (length (script system)) (drop (length (script system)) text)
+
 -- What a text says.
+
+-- The text begins so: its script part says this system, and its header ends there.
+pub record IsFront (text : List ℕ) (f : Front) : Type 0 where
+  pub says : Spells (script_part text) f.system
+  pub ends : header_end f.system text ≡ Ok f.end
 
 -- The text is this journal: its script part says the journal's system, and the whole is spelled so.
 pub record IsJournal (text : List ℕ) (j : Journal) : Type 0 where
@@ -105,6 +120,13 @@ FailsScript fault (Err (fail.Script f)) = f ≡ fault
 FailsScript fault (Err fail.NoMemory) = Unit {0}
 
 -- what the failure of a result tells of the text
-abbrev pub TellsIfFailed : List ℕ → Result Journal JournalFail → Type 0
-TellsIfFailed text (Ok j) = Unit {0}
+abbrev pub TellsIfFailed : {A : Type 0} → List ℕ → Result A JournalFail → Type 0
+TellsIfFailed text (Ok x) = Unit {0}
 TellsIfFailed text (Err e) = TellsFailure text e
+
+-- what a front is that was read of a text whose script part says a system, unless memory ran out
+abbrev pub ReadsFront : System → List ℕ → Result Front JournalFail → Type 0
+ReadsFront system text (Ok f) = (f.system ≡ system) × (header_end system text ≡ Ok f.end)
+ReadsFront system text (Err (fail.Form line)) = header_end system text ≡ Err line
+ReadsFront system text (Err (fail.Script fault)) = ⊥
+ReadsFront system text (Err fail.NoMemory) = Unit {0}

@@ -27,6 +27,22 @@ pub struct Journal {
     pub trailer: Bytes,
 }
 
+/// Where the header of a transcript ends.
+#[derive(Clone, Copy, Debug, PartialEq, Eq)]
+pub struct HeaderEnd {
+    /// The number of the line behind it.
+    pub line: u32,
+    /// How many bytes stand before that line.
+    pub len: usize,
+}
+
+/// What stands before the records of a transcript: the system of its script, and where the header ends.
+#[derive(Debug, Drop)]
+pub struct Front {
+    pub system: System,
+    pub end: HeaderEnd,
+}
+
 /// Why a text is not read as a transcript.
 #[derive(Clone, Copy, Debug, PartialEq, Eq)]
 pub enum JournalFail {

@@ -15,7 +15,7 @@ ghost use Rattle.vx_journal.specs.SpelledJournal.{IsSpelledJournal};
 ghost use Rattle.vx_journal.specs.Transcript.{transcript};
 ghost use Rattle.vx_journal.specs.declared.journal.Journal.{Journal as JournalOf};
 
-use crate::journal::{Journal, JournalFail};
+use crate::journal::{Front, HeaderEnd, Journal, JournalFail};
 use crate::trailer::read_trailer;
 use std::alloc::Global;
 use vx_base::{Bytes, NoMemory};
@@ -92,34 +92,37 @@ fn behind_header(
     })
 }
 
-/// Reads what stands behind the canonical script.
-fn behind_script(
-    alloc: Global,
-    system: System,
-    line: u32,
-    text: &[u8],
-) -> Result<Journal, LinesFail>
-    requires formed { IsWellFormed system }
-    requires short { line + length text.now ≤ 4294967295 }
-    ensures { Reads result (spec.behind_script system line text.now) }
+/// Where the header ends, in a text whose script part says this system.
+fn header_end(alloc: Global, system: &System, text: &[u8]) -> Result<HeaderEnd, LinesFail>
+    requires formed { IsWellFormed system.now }
+    requires short { length text.now < 4294967295 }
+    ensures read { Reads result (spec.header_end system.now text.now) }
+    ensures within { IfOk result (λ end. end.len ≤ length text.now) }
+    ensures lines { IfOk result (λ end. end.line ≤ end.len) }
 {
-    if text.starts_with(b"$JOURNAL 1\n") {
-        behind_header(alloc, system, line + 1, &text[11..])
+    let script = print_script(alloc, system)?;
+    let line = line_behind(1, script.as_slice(), text)?;
+    let len = script.as_slice().len();
+    if text[len..].starts_with(b"$JOURNAL 1\n") {
+        Ok(HeaderEnd {
+            line: line + 1,
+            len: len + 11,
+        })
     } else {
         Err(LinesFail::Bad(line))
     }
 }
 
 /// Reads a text whose script part says this system.
-#[tactic(auto, unfolding(crate::specs::ReadJournal::journal_of))]
 fn journal_of(alloc: Global, system: System, text: &[u8]) -> Result<Journal, LinesFail>
     requires formed { IsWellFormed system }
     requires short { length text.now < 4294967295 }
     ensures { Reads result (spec.journal_of system text.now) }
 {
-    let script = print_script(alloc, &system)?;
-    let line = line_behind(1, script.as_slice(), text)?;
-    behind_script(alloc, system, line, &text[script.as_slice().len()..])
+    match header_end(alloc, &system, text) {
+        Ok(end) => behind_header(alloc, system, end.line, &text[end.len..]),
+        Err(failure) => Err(failure),
+    }
 }
 
 /// Reads a text whose script part says this system, and tells its first bad line.
@@ -154,6 +157,40 @@ pub fn read_journal(alloc: Global, text: &[u8]) -> Result<Journal, JournalFail>
     let len = script_len(text);
     match read_script(alloc, &text[..len]) {
         Ok(system) => read_behind(alloc, system, text),
+        Err(failure) => Err(JournalFail::from(failure)),
+    }
+}
+
+/// The front of a text whose script part says this system, or the text's first bad line.
+fn front_of(alloc: Global, system: System, text: &[u8]) -> Result<Front, JournalFail>
+    requires formed { IsWellFormed system }
+    requires short { length text.now < 4294967295 }
+    ensures front { spec.ReadsFront system text.now result }
+    ensures within { IfOk result (λ f. f.end.len ≤ length text.now) }
+    ensures lines { IfOk result (λ f. f.end.line ≤ f.end.len) }
+{
+    match header_end(alloc, &system, text) {
+        Ok(end) => Ok(Front { system, end }),
+        Err(LinesFail::Bad(line)) => Err(JournalFail::Form(line)),
+        Err(LinesFail::NoMemory) => Err(JournalFail::NoMemory),
+    }
+}
+
+/// Reads what stands before the records of a transcript; or tells the first fault of its script, or the first line that may not
+/// stand where it does.
+pub fn read_front(alloc: Global, text: &[u8]) -> Result<Front, JournalFail>
+    requires { length text.now < 4294967295 }
+    // What is read is what the text says, and the failure is the text's, unless memory runs out.
+    ensures front { IfOk result (λ f. spec.IsFront text.now f) }
+    ensures failure { spec.TellsIfFailed text.now result }
+    ensures well_formed { IfOk result (λ f. IsWellFormed f.system) }
+    // The records stand within the text, and no more lines before them than bytes.
+    ensures within { IfOk result (λ f. f.end.len ≤ length text.now) }
+    ensures lines { IfOk result (λ f. f.end.line ≤ f.end.len) }
+{
+    let len = script_len(text);
+    match read_script(alloc, &text[..len]) {
+        Ok(system) => front_of(alloc, system, text),
         Err(failure) => Err(JournalFail::from(failure)),
     }
 }

@@ -1,4 +1,4 @@
-use Rattle.std.proofs.Common.{◌≡◌, ◌+◌, List, ◌∷◌, ◌++◌, take, drop, length, sym, ◌∙◌}
+use Rattle.std.proofs.Common.{◌≡◌, ◌+◌, take, drop, length, sym, ◌∙◌}
 use Rattle.vx_check.proofs.Judging.{found_at, limit_kept, no_step, one_taken, split_at, wrong_count, wrong_step}
 use Rattle.vx_check.specs.Judging.{IsWrongFrom, most_for}
 use Rattle.vx_check.proofs.checking.first_wrong.Goals.{then-taken-limit-via-then-taken-limit, then-taken-limit-via-else-taken-limit+in_ok-takes+then-not-branch}

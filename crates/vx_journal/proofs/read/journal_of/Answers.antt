@@ -1,0 +1,12 @@
+use Rattle.vx_text.proofs.Turns.{rest_of}
+use Rattle.vx_journal.proofs.Fronts.{fails_before, reads_behind}
+use Rattle.vx_journal.proofs.read.journal_of.Goals as goal
+
+pub returns-in-Ok : goal.returns-in-Ok
+returns-in-Ok c =
+    let text = c.args.text.now in
+    let same = rest_of c.in-Ok.end.len text in
+    reads_behind c.args.system text c.in-Ok.end c.behind_header.result c.in-Ok.ensures.read (rw same at c.behind_header.ensures)
+
+pub returns-in-Err : goal.returns-in-Err
+returns-in-Err c = fails_before c.args.system c.args.text.now c.in-Err.failure c.in-Err.ensures.read
