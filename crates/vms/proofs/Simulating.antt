@@ -1,5 +1,5 @@
 -- What an input comes to.
-use Rattle.std.proofs.Common.{◌≡◌, ℕ, List, Option, Result, Err, subst}
+use Rattle.std.proofs.Common.{◌≡◌, ℕ, List, Option, Err, subst}
 use Rattle.std.specs.Io.KnownBytes.{Appends}
 use Rattle.vx_base.specs.declared.record.End.{End}
 use Rattle.vx_image.specs.declared.system.System.{System}

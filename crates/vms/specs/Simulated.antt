@@ -1,5 +1,5 @@
 -- What the simulation of an input that was read writes.
-use Rattle.std.specs.Prelude.{◌≡◌, ℕ, List, Option, Ok, IsTrue}
+use Rattle.std.specs.Prelude.{◌≡◌, ℕ, List, Option}
 use Rattle.std.specs.Io.KnownBytes.{Appends}
 use Rattle.vx_base.specs.declared.record.End.{End}
 use Rattle.vx_image.specs.declared.system.System.{System}

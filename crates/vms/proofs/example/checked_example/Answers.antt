@@ -1,4 +1,4 @@
-use Rattle.std.proofs.Common.{◌≡◌, ◌∷◌, [], true, refl, arith}
+use Rattle.std.proofs.Common.{◌∷◌, [], true, refl, arith}
 use Rattle.std.specs.Fmt.{digits}
 use Rattle.vx_text.specs.Lex.{lex_from}
 use Rattle.vx_lines.specs.ReadEffect.{read_effect}

@@ -1,4 +1,4 @@
-use Rattle.std.proofs.Common.{◌≡◌, subst, Err}
+use Rattle.std.proofs.Common.{subst, Err}
 use Rattle.vx_journal.specs.ReadJournal.{TellsIfFailed}
 use Rattle.vms.specs.declared.command.Command.TheVariants.{Check}
 use Rattle.vms.specs.Top.{no_journal, no_script}
