@@ -5,12 +5,13 @@ use Rattle.vx_base.specs.declared.record.End.{End}
 use Rattle.vx_base.specs.declared.record.End.TheVariants.{Done, Hung, Limit}
 use Rattle.vx_check.specs.Verdict.{IsVerdict, of_record, of_run}
 use Rattle.vx_check.specs.declared.verdict.Verdict.{Verdict}
+use Rattle.vx_gen.specs.Generated.{generated}
 use Rattle.vx_journal.specs.declared.journal.Journal.{Journal}
 use Rattle.vx_laws.proofs.Whole.{every_run_lawful}
 use Rattle.vx_record.specs.Runs.{IsRun, chosen}
 use Rattle.vms.specs.declared.status.Status.{Status}
 use Rattle.vms.specs.declared.status.Status.TheVariants as status
-use Rattle.vms.specs.Top.{Completes, ended, showed, Ends, ran, judged, IsLawful, run_is_lawful, read_is_lawful, read_is_bad, no_run, Judges, Simulates, status_of, status_of_end, WritesReport}
+use Rattle.vms.specs.Top.{Completes, ended, showed, Ends, ran, summed, judged, full_run, IsLawful, summed_is_lawful, run_is_lawful, read_is_lawful, read_is_bad, no_run, Judges, Simulates, status_of, status_of_end, WritesReport}
 
 simulated_lawful : (words : List (List ℕ)) (left left_after held held_after : Option (List ℕ)) (status : Status) (end : End) (text : List ℕ) → Simulates words left left_after end text → IsLawful words left left_after held held_after status
 simulated_lawful words left left_after held held_after status end text s =
@@ -30,6 +31,8 @@ verdict_lawful words left left_after held held_after status end w =
 
 pub ended_lawful : (words : List (List ℕ)) (left left_after held held_after : Option (List ℕ)) (status : Status) (end : End) → Ends words left left_after held held_after end → IsLawful words left left_after held held_after status
 ended_lawful words left left_after held held_after status end (ran w) = simulated_lawful words left left_after held held_after status end w.text w.simulates
+ended_lawful words left left_after held held_after status end (summed w) =
+    summed_is_lawful status w.generates.size w.generates.asked (every_run_lawful (generated w.generates.size) (chosen (generated w.generates.size) full_run.seed full_run.limit) w.generates.summed.run)
 ended_lawful words left left_after held held_after status end (judged w) = verdict_lawful words left left_after held held_after status end w
 
 pub completed_lawful : (words : List (List ℕ)) (left left_after held held_after : Option (List ℕ)) (status : Status) → Completes words left left_after held held_after → IsLawful words left left_after held held_after status

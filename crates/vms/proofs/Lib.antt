@@ -3,3 +3,4 @@ pub mod Simulated
 pub mod Simulating
 pub mod Lawful
 pub mod Reported
+pub mod Summing

@@ -4,3 +4,4 @@ pub mod Simulated
 pub mod Top
 pub mod Words
 pub mod Judged
+pub mod Summed

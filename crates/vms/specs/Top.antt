@@ -15,14 +15,18 @@ use Rattle.vx_script.specs.declared.fault.ScriptFault.{ScriptFault}
 use Rattle.vx_record.specs.Runs.{IsRun, chosen, end_after}
 use Rattle.vx_laws.specs.Laws.{KeepLaws}
 use Rattle.vx_journal.specs.ReadJournal.{script_part, IsJournal, IsBadLine}
-use Rattle.vx_journal.specs.Transcript.{transcript}
 use Rattle.vx_journal.specs.declared.journal.Journal.{Journal}
 use Rattle.vx_check.specs.Verdict.{IsVerdict}
 use Rattle.vx_check.specs.declared.verdict.Verdict.{Verdict}
 use Rattle.vx_check.specs.declared.verdict.Verdict.TheVariants as verdict
 use Rattle.vx_draw.specs.Columns.{columns}
 use Rattle.vx_draw.specs.Picture.{picture}
-use Rattle.vms.specs.Words.{command_of}
+use Rattle.vx_gen.specs.Counted.{tally_of}
+use Rattle.vx_gen.specs.Generated.{generated}
+use Rattle.vx_gen.specs.declared.tally.Tally.{Tally}
+use Rattle.vx_journal.specs.Transcript.{end_line, transcript}
+use Rattle.vx_lines.specs.Records.{ended_lines}
+use Rattle.vms.specs.Words.{command_of, size_of}
 use Rattle.vms.specs.declared.command.Command.{Command}
 use Rattle.vms.specs.declared.command.Command.TheVariants.{Sim, Show, Check}
 use Rattle.vms.specs.declared.command.Options.{Options}
@@ -70,6 +74,18 @@ form_line line = codes "vms: line " ++ (decimal line ++ codes " FORM\n")
 abbrev pub no_memory : List ℕ
 no_memory = codes "vms: no memory\n"
 
+-- The summary of a run, and how it ended.
+
+abbrev pub count_line : List ℕ → ℕ → List ℕ
+count_line word n = word ++ 32 ∷ decimal n
+
+abbrev pub summary_lines : Tally → End → List (List ℕ)
+summary_lines t end = count_line (codes "records") t.records ∷ count_line (codes "requests") t.requests ∷ count_line (codes "finished") t.finished ∷
+    count_line (codes "asts") t.asts ∷ count_line (codes "time") t.time ∷ end_line end t.records ∷ []
+
+abbrev pub summary : Tally → End → List ℕ
+summary t end = ended_lines (summary_lines t end)
+
 -- The line of a verdict, and its status.
 
 abbrev pub verdict_word : Verdict → List ℕ
@@ -116,6 +132,7 @@ report_text Columns j v = columns j.system j.recs j.trailer (wrong_in v)
 -- The words are no command's, and nothing was read.
 pub record RefusesWords (words : List (List ℕ)) (left left_after : Option (List ℕ)) : Type 0 where
   pub form : command_of words ≡ None
+  pub size : size_of words ≡ None
   pub kept : Keeps left left_after
 
 -- The words are a command's, and 67,108,865 bytes were read, one more than it takes.
@@ -171,6 +188,23 @@ pub record Simulates (words : List (List ℕ)) (left left_after : Option (List �
   pub says : Spells input system
   pub simulated : IsSimulated system options end text
 
+-- the options of a generated run
+unfoldable pub full_run : Options
+full_run = record { seed = 0; limit = 100000 }
+
+-- What the seed chooses is a run of the machine, which has ended so; and the text is the summary of its records.
+pub record IsSummed (system : System) (options : Options) (end : End) (text : List ℕ) : Type 0 where
+  pub run : IsRun system (chosen system options.seed options.limit)
+  pub ended : end_after system (chosen system options.seed options.limit) options.limit ≡ Some end
+  pub spells : text ≡ summary (tally_of (chosen system options.seed options.limit)) end
+
+-- The words are `gen N`, nothing was read, and the text is the summary of the generated system's run at seed 0 and limit 100,000.
+pub record Generates (words : List (List ℕ)) (left left_after : Option (List ℕ)) (end : End) (text : List ℕ) : Type 0 where
+  pub size : ℕ
+  pub asked : size_of words ≡ Some size
+  pub kept : Keeps left left_after
+  pub summed : IsSummed (generated size) full_run end text
+
 -- The command is `show`, the input is a script, and the text is its canonical script.
 pub record Shows (words : List (List ℕ)) (left left_after : Option (List ℕ)) (text : List ℕ) : Type 0 where
   pub input : List ℕ
@@ -193,11 +227,12 @@ pub record Judges (words : List (List ℕ)) (left left_after : Option (List ℕ)
   pub read : ReadsInput words (Check report) left left_after input
   pub reported : IsReported input report verdict text
 
--- `sim` took a run whose records keep the six laws of transcripts; or `check` or `draw` read one, whole or cut; or `show` took none; or
+-- `sim` or `gen` took a run whose records keep the six laws of transcripts; or `check` or `draw` read one, whole or cut; or `show` took none; or
 -- one was read that is not the machine's, and the sink gained the report of that: with no status but Illegal
 pub data IsLawful (words : List (List ℕ)) (left left_after held held_after : Option (List ℕ)) : Status → Type 0 where
   run_is_lawful : (status : Status) (options : Options) (input : List ℕ) (system : System) → ReadsInput words (Sim options) left left_after input → Spells input system
       → KeepLaws system (chosen system options.seed options.limit) → IsLawful words left left_after held held_after status
+  summed_is_lawful : (status : Status) (n : ℕ) → size_of words ≡ Some n → KeepLaws (generated n) (chosen (generated n) full_run.seed full_run.limit) → IsLawful words left left_after held held_after status
   read_is_lawful : (status : Status) (report : Report) (input : List ℕ) (journal : Journal) → ReadsInput words (Check report) left left_after input → IsJournal input journal
       → KeepLaws journal.system journal.recs → IsLawful words left left_after held held_after status
   no_run : (status : Status) (input : List ℕ) → ReadsInput words Show left left_after input → IsLawful words left left_after held held_after status
@@ -205,9 +240,9 @@ pub data IsLawful (words : List (List ℕ)) (left left_after held held_after : O
       → IsLawful words left left_after held held_after status.Illegal
 
 -- The words are a command's. Nothing is said of memory: the answer states no cause.
-pub record RunsOut (words : List (List ℕ)) : Type 0 where
-  pub command : Command
-  pub asked : command_of words ≡ Some command
+pub data RunsOut (words : List (List ℕ)) : Type 0 where
+  at_input : (command : Command) → command_of words ≡ Some command → RunsOut words
+  at_run : (size : ℕ) → size_of words ≡ Some size → RunsOut words
 
 -- the texts of a call: each stands for one cause
 pub data IsTextOf (words : List (List ℕ)) (left left_after : Option (List ℕ)) (faults faults_after : ℕ) : List ℕ → Type 0 where
@@ -216,6 +251,7 @@ pub data IsTextOf (words : List (List ℕ)) (left left_after : Option (List ℕ)
   of_read_fault : FailsToRead words left left_after faults faults_after → IsTextOf words left left_after faults faults_after read_fault
   of_form : (text : List ℕ) → RefusesText words left left_after text → IsTextOf words left left_after faults faults_after text
   of_run : (end : End) (text : List ℕ) → Simulates words left left_after end text → IsTextOf words left left_after faults faults_after text
+  of_summary : (end : End) (text : List ℕ) → Generates words left left_after end text → IsTextOf words left left_after faults faults_after text
   of_show : (text : List ℕ) → Shows words left left_after text → IsTextOf words left left_after faults faults_after text
   of_report : (verdict : Verdict) (text : List ℕ) → Judges words left left_after verdict text → IsTextOf words left left_after faults faults_after text
   of_no_memory : RunsOut words → IsTextOf words left left_after faults faults_after no_memory
@@ -226,6 +262,12 @@ pub data IsTextOf (words : List (List ℕ)) (left left_after : Option (List ℕ)
 pub record WritesTranscript (words : List (List ℕ)) (left left_after held held_after : Option (List ℕ)) (end : End) : Type 0 where
   pub text : List ℕ
   pub simulates : Simulates words left left_after end text
+  pub written : Appends held held_after text
+
+-- The sink gained the summary of a generated run that ended this way.
+pub record WritesSummary (words : List (List ℕ)) (left left_after held held_after : Option (List ℕ)) (end : End) : Type 0 where
+  pub text : List ℕ
+  pub generates : Generates words left left_after end text
   pub written : Appends held held_after text
 
 -- The sink gained the canonical script.
@@ -247,9 +289,10 @@ status_of_end Done = status.Done
 status_of_end Hung = status.Hung
 status_of_end Limit = status.Limit
 
--- `sim` has written a run that ended so, or `check` or `draw` has read one
+-- `sim` has written a run that ended so, `gen` its summary, or `check` or `draw` has read one
 pub data Ends (words : List (List ℕ)) (left left_after held held_after : Option (List ℕ)) (end : End) : Type 0 where
   ran : WritesTranscript words left left_after held held_after end → Ends words left left_after held held_after end
+  summed : WritesSummary words left left_after held held_after end → Ends words left left_after held held_after end
   judged : WritesReport words left left_after held held_after (status_of_end end) → Ends words left left_after held held_after end
 
 -- a run has ended with every process deleted, or `show` has shown

@@ -83,7 +83,16 @@ other_command word words =
     if bytes_eq word (codes "check") then alone (Check Line) words else (
     if bytes_eq word (codes "draw") then option_map Check (report_in words) else None))
 
--- `sim` and its options, or another command
+-- the commands that read: `sim` and its options, or another
 abbrev pub command_of : List (List ℕ) → Option Command
 command_of [] = None
 command_of (word ∷ words) = if bytes_eq word (codes "sim") then option_map sim_of (options_in words) else other_command word words
+
+-- `gen N`: N is 1 to 200
+
+abbrev pub size_in : List ℕ → Option ℕ
+size_in word = above_zero (number_up_to 200 word)
+
+abbrev pub size_of : List (List ℕ) → Option ℕ
+size_of (word ∷ number ∷ []) = if bytes_eq word (codes "gen") then size_in number else None
+size_of _ = None

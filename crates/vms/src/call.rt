@@ -1,15 +1,17 @@
 //! The top call.
 
-ghost use Rattle.std.specs.Prelude.{◌≡◌, ◌⊎◌, ◌<◌, ◌≤◌, length};
+ghost use Rattle.std.specs.Prelude.{◌≡◌, ◌⊎◌, ◌<◌, ◌≤◌, None, length};
 ghost use Rattle.std.specs.Io.KnownBytes.{Appends};
 ghost use Rattle.vx_host.specs.Causes.{Rose};
 ghost use Rattle.vms.specs.Simulated.{WritesRun, WritesRefusal, WritesShown, BreaksInput, BreaksShown};
 ghost use Rattle.vms.specs.Top.{usage, too_long, read_fault, no_memory, RefusesWords, Overflows, FailsToRead, RunsOut, Completes, Ends, IsLawful, WritesReport, WritesFault, Breaks};
+ghost use Rattle.vms.specs.Words.{size_of};
 
-use crate::command::{Command, Options, command_of};
+use crate::command::{Command, Options, command_of, size_of};
 use crate::judge::judge;
 use crate::simulate::transcript;
 use crate::status::Status;
+use crate::summary::summarize;
 use crate::tell::{fault_line, tell, tell_no_memory, tell_transcript};
 use std::alloc::Global;
 use vx_base::{Bytes, End, NoMemory};
@@ -83,13 +85,14 @@ fn show<K: Sink>(alloc: Global, input: &Bytes, sink: &mut K) -> Status
     }
 }
 
-/// What the words ask for, from the source to the sink.
-fn answer_call<S: Source, K: Sink>(
+/// What words ask for that are not `gen N`, from the source to the sink.
+fn answer_input<S: Source, K: Sink>(
     alloc: Global,
     words: &[Bytes],
     source: &mut S,
     sink: &mut K,
 ) -> Status
+    requires { size_of words.now ≡ None }
     // The transcript of the run that the seed chooses was written, or a report of the one that was read, one clause for each
     // end; or the canonical script; or a report of a transcript that is cut, or not the machine's.
     ensures done { result ≡ Status.Done →
@@ -148,16 +151,15 @@ fn answer_call<S: Source, K: Sink>(
     }
 }
 
-/// The call that the program makes: what the words ask for, from the source to the sink. It waits for nobody, and
-/// returns if the source and the sink do. The words are those after the program's name.
-pub fn quiet_call<S: Source, K: Sink>(
+/// What the words ask for, from the source to the sink.
+fn answer_call<S: Source, K: Sink>(
     alloc: Global,
     words: &[Bytes],
     source: &mut S,
     sink: &mut K,
 ) -> Status
-    // The transcript of the run that the seed chooses was written, or a report of the one that was read, one clause for each
-    // end; or the canonical script; or a report of a transcript that is cut, or not the machine's.
+    // The transcript of the run that the seed chooses was written, the summary of the generated system's, or a report of the one
+    // that was read, one clause for each end; or the canonical script; or a report of a transcript that is cut, or not the machine's.
     ensures done { result ≡ Status.Done →
         Completes words.now (S.left source.old) (S.left source.new)
         (K.held sink.old) (K.held sink.new) }
@@ -171,8 +173,65 @@ pub fn quiet_call<S: Source, K: Sink>(
         WritesReport words.now (S.left source.old) (S.left source.new)
         (K.held sink.old) (K.held sink.new) Status.Illegal }
 
-    // The records that `sim` wrote, and those that were read and found to be the machine's, of a cut transcript too, keep the six
-    // laws of transcripts.
+    // A line was written, each with its cause.
+    ensures words { result ≡ Status.Words →
+        RefusesWords words.now (S.left source.old) (S.left source.new)
+        × Appends (K.held sink.old) (K.held sink.new) usage }
+    ensures form { result ≡ Status.Form →
+        WritesFault words.now (S.left source.old) (S.left source.new)
+        (K.held sink.old) (K.held sink.new) }
+    ensures read_fault { result ≡ Status.ReadFault →
+        FailsToRead words.now (S.left source.old) (S.left source.new)
+        (S.faults source.old) (S.faults source.new)
+        × Appends (K.held sink.old) (K.held sink.new) read_fault }
+    ensures too_long { result ≡ Status.TooLong →
+        Overflows words.now (S.left source.old) (S.left source.new)
+        × Appends (K.held sink.old) (K.held sink.new) too_long }
+    ensures no_memory { result ≡ Status.NoMemory →
+        RunsOut words.now × Appends (K.held sink.old) (K.held sink.new) no_memory }
+
+    // The sink failed in the middle of one of these texts.
+    ensures sink_rose { result ≡ Status.WriteFault → Rose (K.faults sink.old) (K.faults sink.new) }
+    ensures write_fault { result ≡ Status.WriteFault →
+        Breaks words.now (S.left source.old) (S.left source.new)
+        (S.faults source.old) (S.faults source.new)
+        (K.held sink.old) (K.held sink.new) }
+
+    // No count falls.
+    ensures source_later { S.faults source.old ≤ S.faults source.new }
+    ensures sink_later { K.faults sink.old ≤ K.faults sink.new }
+{
+    match size_of(words) {
+        Some(n) => summarize(alloc, n, sink),
+        None => answer_input(alloc, words, source, sink),
+    }
+}
+
+/// The call that the program makes: what the words ask for, from the source to the sink. It waits for nobody, and
+/// returns if the source and the sink do. The words are those after the program's name.
+pub fn quiet_call<S: Source, K: Sink>(
+    alloc: Global,
+    words: &[Bytes],
+    source: &mut S,
+    sink: &mut K,
+) -> Status
+    // The transcript of the run that the seed chooses was written, the summary of the generated system's, or a report of the one
+    // that was read, one clause for each end; or the canonical script; or a report of a transcript that is cut, or not the machine's.
+    ensures done { result ≡ Status.Done →
+        Completes words.now (S.left source.old) (S.left source.new)
+        (K.held sink.old) (K.held sink.new) }
+    ensures hung { result ≡ Status.Hung →
+        Ends words.now (S.left source.old) (S.left source.new)
+        (K.held sink.old) (K.held sink.new) End.Hung }
+    ensures limit { result ≡ Status.Limit →
+        Ends words.now (S.left source.old) (S.left source.new)
+        (K.held sink.old) (K.held sink.new) End.Limit }
+    ensures illegal { result ≡ Status.Illegal →
+        WritesReport words.now (S.left source.old) (S.left source.new)
+        (K.held sink.old) (K.held sink.new) Status.Illegal }
+
+    // The records that `sim` wrote, those that `gen` counted, and those that were read and found to be the machine's, of a cut
+    // transcript too, keep the six laws of transcripts.
     ensures lawful { (result ≡ Status.Done) ⊎ (result ≡ Status.Hung) ⊎ (result ≡ Status.Limit)
         ⊎ (result ≡ Status.Illegal) →
         IsLawful words.now (S.left source.old) (S.left source.new)

@@ -14,7 +14,7 @@ pub struct Options {
     pub limit: u32,
 }
 
-/// A command of the program.
+/// A command of the program that reads its input. `gen N` reads none: `size_of`.
 #[derive(Clone, Copy, Debug, PartialEq, Eq)]
 pub enum Command {
     /// `sim`: read a script, run its images, and write the transcript.
@@ -50,6 +50,9 @@ const NOTHING_GIVEN: Given = Given {
 
 /// The most records that a run may have.
 const MOST_RECORDS: u64 = 100_000;
+
+/// The most producers that a generated system may have.
+const MOST_PRODUCERS: u64 = 200;
 
 fn with_seed(given: Given, word: &[u8]) -> Option<Given>
     requires { spec.IsLimit given.limit }
@@ -160,7 +163,16 @@ fn other_command(word: &[u8], rest: &[Bytes]) -> Option<Command>
     None
 }
 
-/// The command that the words ask for, if they are a command.
+fn size_in(word: &[u8]) -> Option<u32>
+    ensures value { result ≡ spec.above_zero (numbers.number_up_to 200 word.now) }
+    ensures above { IfSome result (λ n. 1 ≤ n) }
+    ensures within { IfSome result (λ n. n ≤ 200) }
+{
+    let n = number_up_to(MOST_PRODUCERS, word)?;
+    if n == 0 { None } else { Some(n as u32) }
+}
+
+/// The command that the words ask for, if they are one that reads.
 pub fn command_of(words: &[Bytes]) -> Option<Command>
     ensures command { result ≡ spec.command_of words.now }
     ensures limited { IfSome result spec.HasLimit }
@@ -173,4 +185,16 @@ pub fn command_of(words: &[Bytes]) -> Option<Command>
         return Some(Command::Sim(options_of(given)));
     }
     other_command(word.as_slice(), rest)
+}
+
+/// The N of `gen N`, 1 to 200, if the words are this command.
+pub fn size_of(words: &[Bytes]) -> Option<u32>
+    ensures size { result ≡ spec.size_of words.now }
+    ensures above { IfSome result (λ n. 1 ≤ n) }
+    ensures within { IfSome result (λ n. n ≤ 200) }
+{
+    match words {
+        [word, number] if word.as_slice() == b"gen".as_slice() => size_in(number.as_slice()),
+        _ => None,
+    }
 }

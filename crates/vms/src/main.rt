@@ -12,6 +12,7 @@ mod example;
 mod judge;
 mod simulate;
 mod status;
+mod summary;
 mod tell;
 
 use call::quiet_call;
