@@ -3,7 +3,7 @@
 ghost use Rattle.std.specs.Prelude.{◌≡◌};
 
 use std::marker::Model;
-use vx_base::{Id, Mode, Routine};
+use vx_base::{Duplicate, Id, Mode, NoMemory, Routine, Same};
 
 /// A queued AST: its id, its mode, whether it is charged to its process's AST limit, and its routine. Contracts see the
 /// plain `Queued` of `vx_base`.
@@ -68,5 +68,26 @@ impl<R: Routine> Delivery<R> {
             routine,
         } = self;
         routine
+    }
+}
+
+impl<R: Routine> Same for Delivery<R> {
+    fn same(&self, other: &Delivery<R>) -> bool {
+        self.id == other.id
+            && self.mode == other.mode
+            && self.charged == other.charged
+            && self.routine.tag() == other.routine.tag()
+    }
+}
+
+// The routine is made again from its tag.
+impl<R: Routine> Duplicate for Delivery<R> {
+    fn duplicate(&self) -> Result<Delivery<R>, NoMemory> {
+        Ok(Delivery {
+            id: self.id,
+            mode: self.mode,
+            charged: self.charged,
+            routine: R::scripted(self.routine.tag()),
+        })
     }
 }

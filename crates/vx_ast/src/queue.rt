@@ -1,6 +1,6 @@
 //! The queue: one list, in order of queuing.
 
-ghost use Rattle.std.specs.Prelude.{◌≡◌, ◌<◌, ◌≤◌, ◌+◌, ◌++◌, ◌∷◌, [], length, count_by, OnOk, OnErr, option_map};
+ghost use Rattle.std.specs.Prelude.{◌≡◌, ◌↔◌, ◌<◌, ◌≤◌, ◌+◌, ◌++◌, ◌∷◌, [], length, count_by, IfOk, IsTrue, OnOk, OnErr, option_map};
 ghost use Rattle.std.specs.List.{find};
 ghost use Rattle.vx_base.specs.Lists.{less};
 ghost use Rattle.vx_base.specs.Pieces.{all_on, is_enabled_in, with_enable};
@@ -12,6 +12,7 @@ use crate::delivery::Delivery;
 use std::alloc::Global;
 use std::marker::Model;
 use vx_base::{Id, Mode, NoMemory, Reserved, Routine, at_place};
+use vx_same::{duplicate_reserved, same_items};
 
 /// The queued ASTs of one process, and the modes that have AST delivery enabled.
 #[derive(Drop)]
@@ -119,6 +120,38 @@ impl<R: Routine> AstQueue<R> {
     {
         let place = place_within(self.items.as_slice(), mode);
         self.items.take(place)
+    }
+
+    /// The same ASTs again, each with a routine made from its tag, the same enables, and as much room or more.
+    pub fn duplicate(&self, alloc: Global) -> Result<AstQueue<R>, NoMemory>
+        ensures items { IfOk result (λ copy. copy.items ≡ self.now.items) }
+        ensures enables { IfOk result (λ copy. copy.enables ≡ self.now.enables) }
+        ensures room { IfOk result (λ copy. self.now.capacity ≤ copy.capacity) }
+    {
+        Ok(AstQueue {
+            items: duplicate_reserved(alloc, &self.items)?,
+            kernel: self.kernel,
+            exec: self.exec,
+            supervisor: self.supervisor,
+            user: self.user,
+        })
+    }
+
+    /// Whether it has the same ASTs as another. Takes no memory.
+    pub fn same_items(&self, other: &AstQueue<R>) -> bool
+        ensures { IsTrue result ↔ (self.now.items ≡ other.now.items) }
+    {
+        same_items(self.items.as_slice(), other.items.as_slice())
+    }
+
+    /// Whether it has the same enables as another.
+    pub fn same_enables(&self, other: &AstQueue<R>) -> bool
+        ensures { IsTrue result ↔ (self.now.enables ≡ other.now.enables) }
+    {
+        self.kernel == other.kernel
+            && self.exec == other.exec
+            && self.supervisor == other.supervisor
+            && self.user == other.user
     }
 
     /// How many ASTs are queued.

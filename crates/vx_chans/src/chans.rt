@@ -8,7 +8,8 @@ ghost use Rattle.vx_chans.specs.Chans.{number_or_none, with_channel, without_cha
 use crate::row::Row;
 use std::alloc::Global;
 use std::marker::Model;
-use vx_base::{BoxNo, Device, Mode, NoMemory};
+use vx_base::{BoxNo, Device, Duplicate, Mode, NoMemory, Same};
+use vx_same::{duplicate_options, same_options};
 
 /// Why a channel is refused.
 #[derive(Clone, Copy, Debug, PartialEq, Eq)]
@@ -166,5 +167,19 @@ fn is_box(device: Device, b: BoxNo) -> bool
     match device {
         Device::Unit(_) => false,
         Device::Mailbox(c) => b.0 == c.0,
+    }
+}
+
+impl Same for Chans {
+    fn same(&self, other: &Chans) -> bool {
+        same_options(self.rows.as_slice(), other.rows.as_slice())
+    }
+}
+
+impl Duplicate for Chans {
+    fn duplicate(&self) -> Result<Chans, NoMemory> {
+        Ok(Chans {
+            rows: duplicate_options(*self.rows.allocator(), self.rows.as_slice())?,
+        })
     }
 }

@@ -4,7 +4,7 @@ ghost use Rattle.std.specs.Prelude.{◌≡◌};
 ghost use Rattle.vx_base.specs.Clusters.{is_association, is_user};
 
 use std::marker::Model;
-use vx_base::{Name, Pid};
+use vx_base::{Duplicate, Name, NoMemory, Pid, Same};
 
 /// That a process has the cluster of a group and name as its cluster 2 or 3. Contracts see the plain `Association` of
 /// `vx_base`.
@@ -57,5 +57,20 @@ impl Association {
         ensures { result ≡ self.now.name }
     {
         self.name
+    }
+}
+
+impl Same for Association {
+    fn same(&self, other: &Association) -> bool {
+        self.p == other.p
+            && self.k == other.k
+            && self.group == other.group
+            && self.name == other.name
+    }
+}
+
+impl Duplicate for Association {
+    fn duplicate(&self) -> Result<Association, NoMemory> {
+        Ok(*self)
     }
 }

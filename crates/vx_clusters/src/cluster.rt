@@ -5,7 +5,7 @@ ghost use Rattle.vx_base.specs.Clusters.{is_cluster, with_mark};
 ghost use Rattle.vx_base.specs.Flags.{is_set, with_flag};
 
 use std::marker::Model;
-use vx_base::Name;
+use vx_base::{Duplicate, Name, NoMemory, Same};
 use vx_flags::Flags;
 
 /// A common event flag cluster, which contracts see as the plain `Cluster` of `vx_base`.
@@ -101,5 +101,27 @@ impl FlagCluster {
         ensures { result ≡ self.now.flags }
     {
         self.flags.bits()
+    }
+}
+
+impl Same for FlagCluster {
+    fn same(&self, other: &FlagCluster) -> bool {
+        self.group == other.group
+            && self.name == other.name
+            && self.permanent == other.permanent
+            && self.marked == other.marked
+            && self.flags.same(&other.flags)
+    }
+}
+
+impl Duplicate for FlagCluster {
+    fn duplicate(&self) -> Result<FlagCluster, NoMemory> {
+        Ok(FlagCluster {
+            group: self.group,
+            name: self.name,
+            permanent: self.permanent,
+            marked: self.marked,
+            flags: self.flags.duplicate()?,
+        })
     }
 }

@@ -1,6 +1,6 @@
 //! The common clusters, as services call on them.
 
-ghost use Rattle.std.specs.Prelude.{◌≡◌, ◌<◌, ◌≤◌, length, IfSome, OnOk, OnErr, Some, None, true, false, if◌then◌else◌, option_map, position};
+ghost use Rattle.std.specs.Prelude.{◌≡◌, ◌↔◌, ◌<◌, ◌≤◌, length, IfOk, IfSome, IsTrue, OnOk, OnErr, Some, None, true, false, if◌then◌else◌, option_map, position};
 ghost use Rattle.std.specs.List.{find};
 ghost use Rattle.vx_base.specs.Clusters.{cluster_number, is_association, is_cluster};
 ghost use Rattle.vx_base.specs.Flags.{is_set};
@@ -55,6 +55,22 @@ impl Clusters {
         ensures err { OnErr result (self.new ≡ self.old) }
     {
         self.table.reserve()
+    }
+
+    /// The same clusters and associations again, with the same room.
+    pub fn duplicate(&self, alloc: Global) -> Result<Clusters, NoMemory>
+        ensures { IfOk result (λ copy. copy ≡ self.now) }
+    {
+        Ok(Clusters {
+            table: self.table.duplicate(alloc)?,
+        })
+    }
+
+    /// Whether there are the same clusters, with the same flags, and the same associations. Takes no memory.
+    pub fn same(&self, other: &Clusters) -> bool
+        ensures { IsTrue result ↔ (self.now.common ≡ other.now.common) }
+    {
+        self.table.same(&other.table)
     }
 
     /// A process has the cluster of its group and this name as the cluster of a flag from 64 to 127, in place of what it

@@ -1,6 +1,6 @@
 //! The clusters and the associations, and the steps that a service makes on them.
 
-ghost use Rattle.std.specs.Prelude.{◌≡◌, ◌<◌, ◌≤◌, Bool, length, IfSome, OnOk, OnErr, true, false};
+ghost use Rattle.std.specs.Prelude.{◌≡◌, ◌↔◌, ◌<◌, ◌≤◌, Bool, length, IfOk, IfSome, IsTrue, OnOk, OnErr, true, false};
 ghost use Rattle.std.specs.Prelude.{option_map, position};
 ghost use Rattle.std.specs.List.{find};
 ghost use Rattle.vx_base.specs.Lists.{amend};
@@ -17,6 +17,7 @@ use crate::cluster::FlagCluster;
 use std::alloc::Global;
 use std::marker::Model;
 use vx_base::{Effect, Effects, Name, NoMemory, Pid, Reserved};
+use vx_same::{duplicate_reserved, same_items};
 
 // A place is a number of 32 bits.
 const MOST_CLUSTERS: usize = 4_294_967_295;
@@ -78,6 +79,26 @@ impl Table {
         self.cluster_room = self.clusters.capacity().min(MOST_CLUSTERS);
         self.association_room = self.associations.capacity();
         Ok(())
+    }
+
+    /// The same clusters and associations again, in the same room.
+    pub(crate) fn duplicate(&self, alloc: Global) -> Result<Table, NoMemory>
+        ensures { IfOk result (λ copy. copy ≡ self.now) }
+    {
+        Ok(Table {
+            clusters: duplicate_reserved(alloc, &self.clusters)?,
+            associations: duplicate_reserved(alloc, &self.associations)?,
+            cluster_room: self.cluster_room,
+            association_room: self.association_room,
+        })
+    }
+
+    /// Whether there are the same clusters and associations. Takes no memory.
+    pub(crate) fn same(&self, other: &Table) -> bool
+        ensures { IsTrue result ↔ (self.now.common ≡ other.now.common) }
+    {
+        same_items(self.clusters.as_slice(), other.clusters.as_slice())
+            && same_items(self.associations.as_slice(), other.associations.as_slice())
     }
 
     /// How many clusters there are.

@@ -5,8 +5,7 @@ use Rattle.vx_image.specs.WellFormed.{IsWellFormed}
 use Rattle.vx_record.specs.Sound.{IsSound}
 use Rattle.vx_record.specs.State.{State, unit_at}
 
--- What the state names is there, in a system that is well formed and that the executive runs so far, with at most 1,000
--- processes.
+-- What the state names is there, in a system that is well formed, with at most 1,000 processes.
 pub record IsWhole (s : State) : Type 0 where
   pub sound : IsSound s
   pub formed : IsWellFormed s.system

@@ -5,7 +5,7 @@ ghost use Rattle.vx_base.specs.Entries.{is_same_entry};
 ghost use Rattle.vx_exits.specs.Exits.{is_of_mode, is_tagged, known, handed};
 
 use std::marker::Model;
-use vx_base::{Entry, Id, Mode, Routine};
+use vx_base::{Duplicate, Entry, Id, Mode, NoMemory, Routine, Same};
 
 /// A declared exit handler, which contracts see as the plain `Handler` of `vx_base`.
 #[derive(Debug, Drop)]
@@ -67,5 +67,22 @@ fn is_same_entry(a: Entry, b: Entry) -> bool
         (Entry::Exit(a), Entry::Exit(b)) => a == b,
         (Entry::Host(a), Entry::Host(b)) => a == b,
         _ => false,
+    }
+}
+
+impl<R: Routine> Same for Declared<R> {
+    fn same(&self, other: &Declared<R>) -> bool {
+        self.id == other.id && self.mode == other.mode && self.routine.tag() == other.routine.tag()
+    }
+}
+
+// The routine is made again from its tag.
+impl<R: Routine> Duplicate for Declared<R> {
+    fn duplicate(&self) -> Result<Declared<R>, NoMemory> {
+        Ok(Declared {
+            id: self.id,
+            mode: self.mode,
+            routine: R::scripted(self.routine.tag()),
+        })
     }
 }

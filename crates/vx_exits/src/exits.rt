@@ -1,7 +1,7 @@
 //! Handlers, the newest first.
 
 ghost use Rattle.std.specs.Prelude.{◌≡◌, ◌↔◌, ◌<◌, ◌≤◌, [], length, IsTrue, IsErr, IfErr, IfSome, OnOk, OnErr};
-ghost use Rattle.std.specs.Prelude.{option_map, position};
+ghost use Rattle.std.specs.Prelude.{IfOk, option_map, position};
 ghost use Rattle.std.specs.List.{find};
 ghost use Rattle.vx_base.specs.Lists.{less};
 ghost use Rattle.vx_base.specs.Modes.{is_kernel};
@@ -12,6 +12,7 @@ use crate::declared::Declared;
 use std::alloc::Global;
 use std::marker::Model;
 use vx_base::{Entry, Id, Mode, NoMemory, Reserved, Routine};
+use vx_same::{duplicate_reserved, same_items};
 
 /// Why a call on exit handlers is refused.
 #[derive(Clone, Copy, Debug, PartialEq, Eq)]
@@ -101,6 +102,23 @@ impl<R: Routine> Exits<R> {
     {
         let handler = self.items.take_first()?;
         Some(handler.parts())
+    }
+
+    /// The same handlers again, each with a routine made from its tag, and as much room or more.
+    pub fn duplicate(&self, alloc: Global) -> Result<Exits<R>, NoMemory>
+        ensures items { IfOk result (λ copy. copy.items ≡ self.now.items) }
+        ensures room { IfOk result (λ copy. self.now.capacity ≤ copy.capacity) }
+    {
+        Ok(Exits {
+            items: duplicate_reserved(alloc, &self.items)?,
+        })
+    }
+
+    /// Whether it has the same handlers as another. Takes no memory.
+    pub fn same(&self, other: &Exits<R>) -> bool
+        ensures { IsTrue result ↔ (self.now.items ≡ other.now.items) }
+    {
+        same_items(self.items.as_slice(), other.items.as_slice())
     }
 
     /// How many handlers there are.

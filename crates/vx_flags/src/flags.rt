@@ -4,6 +4,7 @@ ghost use Rattle.std.specs.Prelude.{◌≡◌, ◌≢◌, ◌<◌, ◌^◌, ℕ,
 ghost use Rattle.vx_base.specs.Flags.{is_set, with_flag, any_set, all_set};
 
 use std::marker::Model;
+use vx_base::{Duplicate, NoMemory, Same};
 
 /// Thirty-two event flags, numbered from 0 to 31. Contracts see them as a number, flag n as its bit n.
 #[derive(Debug, Drop)]
@@ -80,5 +81,17 @@ impl Flags {
         ensures { result ≡ all_set self.now mask }
     {
         self.bits & mask == mask
+    }
+}
+
+impl Same for Flags {
+    fn same(&self, other: &Flags) -> bool {
+        self.bits == other.bits
+    }
+}
+
+impl Duplicate for Flags {
+    fn duplicate(&self) -> Result<Flags, NoMemory> {
+        Ok(Flags { bits: self.bits })
     }
 }

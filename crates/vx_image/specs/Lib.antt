@@ -1,3 +1,4 @@
+pub mod Digest
 pub mod Example
 pub mod Local
 pub mod Storage

@@ -1,6 +1,6 @@
 //! Buffers of a process.
 
-ghost use Rattle.std.specs.Prelude.{◌≡◌, ◌≤◌, length, replicate, IfOk};
+ghost use Rattle.std.specs.Prelude.{◌≡◌, ◌↔◌, ◌≤◌, length, replicate, IfOk, IsTrue};
 ghost use Rattle.vx_base.specs.Lists.{overlaid};
 
 use std::alloc::Global;
@@ -55,5 +55,21 @@ impl Page {
         ensures { self.new ≡ overlaid piece.now self.old }
     {
         lay_over(self.items.as_mut_slice(), piece);
+    }
+
+    /// The same bytes again. It takes as much memory.
+    pub(crate) fn duplicate(&self, alloc: Global) -> Result<Page, NoMemory>
+        ensures { IfOk result (λ page. page ≡ self.now) }
+    {
+        let mut page = Page::new(alloc)?;
+        page.overlay(self.bytes());
+        Ok(page)
+    }
+
+    /// Whether the bytes are the same.
+    pub(crate) fn same(&self, other: &Page) -> bool
+        ensures { IsTrue result ↔ (self.now ≡ other.now) }
+    {
+        self.bytes() == other.bytes()
     }
 }

@@ -1,13 +1,15 @@
 //! What a process stores.
 
-ghost use Rattle.std.specs.Prelude.{◌≡◌, ◌≤◌, ◌<◌, length, replicate, IfOk};
+ghost use Rattle.std.specs.Prelude.{◌≡◌, ◌↔◌, ◌≤◌, ◌<◌, length, replicate, IfOk, IsTrue};
 ghost use Rattle.vx_base.specs.Pieces.{cleared};
+ghost use Rattle.vx_image.specs.Digest.{mix_all, mix_stored};
 ghost use Rattle.vx_image.specs.Storage.{no_storage, stored_in, with_target, status_at, with_status, buffer_at, with_bytes};
 
 use crate::page::Page;
 use std::alloc::Global;
 use std::marker::Model;
 use vx_base::{Cond, NoMemory, Target};
+use vx_same::mix;
 
 /// How many variables a process has.
 const VARIABLES: usize = 26;
@@ -67,8 +69,74 @@ fn blank_buffers(alloc: Global, n: usize) -> Result<Vec<Page>, NoMemory>
     Ok(pages)
 }
 
+// The same buffers again.
+fn duplicate_buffers(alloc: Global, pages: &[Page]) -> Result<Vec<Page>, NoMemory>
+    ensures { IfOk result (λ copy. copy.items ≡ pages.now) }
+{
+    let mut copy = Vec::new(alloc);
+    for page in pages {
+        copy.push(page.duplicate(alloc)?)?;
+    }
+    Ok(copy)
+}
+
+// Whether two lists of buffers are the same.
+fn same_buffers(a: &[Page], b: &[Page]) -> bool
+    ensures { IsTrue result ↔ (a.now ≡ b.now) }
+{
+    if a.len() != b.len() {
+        return false;
+    }
+    for (i, page) in a.iter().enumerate() {
+        if !page.same(&b[i]) {
+            return false;
+        }
+    }
+    true
+}
+
+// Whether two I/O status blocks are the same.
+fn same_block(a: &Block, b: &Block) -> bool
+    ensures { IsTrue result ↔ (a.now ≡ b.now) }
+{
+    a.cond == b.cond && a.count == b.count && a.info == b.info
+}
+
+// Whether two lists of I/O status blocks are the same.
+fn same_blocks(a: &[Block], b: &[Block]) -> bool
+    ensures { IsTrue result ↔ (a.now ≡ b.now) }
+{
+    if a.len() != b.len() {
+        return false;
+    }
+    for (i, block) in a.iter().enumerate() {
+        if !same_block(block, &b[i]) {
+            return false;
+        }
+    }
+    true
+}
+
+// Whether two lists of variables are the same.
+fn same_variables(a: &[u32], b: &[u32]) -> bool
+    ensures { IsTrue result ↔ (a.now ≡ b.now) }
+{
+    a == b
+}
+
+// A digest with numbers more.
+fn mix_all(digest: u64, numbers: &[u32]) -> u64
+    ensures { result ≡ mix_all digest numbers.now }
+{
+    let mut mixed = digest;
+    for n in numbers {
+        mixed = mix(mixed, *n as u64);
+    }
+    mixed
+}
+
 impl Store {
-    /// All zero. The one call that takes memory.
+    /// All zero. This call and `duplicate` take memory, and no other.
     pub fn new(alloc: Global) -> Result<Store, NoMemory>
         ensures { IfOk result (λ store. store ≡ no_storage) }
     {
@@ -152,5 +220,34 @@ impl Store {
     {
         let page = &mut self.buffers[b as usize];
         page.overlay(piece);
+    }
+
+    /// The same again. It takes 64 KB for the buffers, as `new` does.
+    pub fn duplicate(&self, alloc: Global) -> Result<Store, NoMemory>
+        ensures { IfOk result (λ copy. copy ≡ self.now) }
+    {
+        Ok(Store {
+            vars: self.vars,
+            r0: self.r0,
+            buffers: duplicate_buffers(alloc, self.buffers.as_slice())?,
+            statuses: self.statuses,
+        })
+    }
+
+    /// Whether the same is stored.
+    pub fn same(&self, other: &Store) -> bool
+        ensures { IsTrue result ↔ (self.now ≡ other.now) }
+    {
+        self.r0 == other.r0
+            && same_variables(&self.vars, &other.vars)
+            && same_blocks(&self.statuses, &other.statuses)
+            && same_buffers(self.buffers.as_slice(), other.buffers.as_slice())
+    }
+
+    /// A digest with R0 and the variables.
+    pub fn mix(&self, digest: u64) -> u64
+        ensures { result ≡ mix_stored digest self.now }
+    {
+        mix_all(mix(digest, self.r0 as u64), &self.vars)
     }
 }

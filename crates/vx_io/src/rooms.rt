@@ -51,7 +51,9 @@ fn put(room: &mut Option<Buffer>, piece: &[u8]) -> Bytes
 
 impl Rooms {
     /// No room yet. Takes no memory.
-    pub fn new() -> Rooms {
+    pub fn new() -> Rooms
+        ensures { result ≡ record { kept = false; told = false; stored = false; read = false } }
+    {
         Rooms {
             kept: None,
             told: None,

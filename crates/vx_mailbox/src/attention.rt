@@ -1,11 +1,11 @@
 //! One attention entry.
 
-ghost use Rattle.std.specs.Prelude.{◌≡◌};
+ghost use Rattle.std.specs.Prelude.{◌≡◌, ◌↔◌, IsTrue};
 ghost use Rattle.vx_record.specs.Cancel.{is_attention_on};
 ghost use Rattle.vx_record.specs.Mailboxes.{is_attention_at, is_same_attention, this_attention};
 
 use std::marker::Model;
-use vx_base::{BoxNo, Func, Id, Mode, Pid, Routine};
+use vx_base::{BoxNo, Duplicate, Func, Id, Mode, NoMemory, Pid, Routine, Same};
 
 /// A process asks, on its channel to a mailbox, for an AST. Contracts see the plain `Attention` of `vx_base`.
 #[derive(Drop)]
@@ -101,6 +101,22 @@ impl<R: Routine> AttentionEntry<R> {
         self.b.0 == b.0 && is_same_attention(self.func, func)
     }
 
+    // Whether it has the same id, process, channel and mailbox.
+    fn is_same_place(&self, other: &AttentionEntry<R>) -> bool
+        ensures { IsTrue result ↔ ((self.now.id ≡ other.now.id) × (self.now.p ≡ other.now.p) × (self.now.chan ≡ other.now.chan) × (self.now.box ≡ other.now.box)) }
+    {
+        self.id == other.id && self.p == other.p && self.chan == other.chan && self.b == other.b
+    }
+
+    // Whether it has the same function, mode and tag.
+    fn is_same_ast(&self, other: &AttentionEntry<R>) -> bool
+        ensures { IsTrue result ↔ ((self.now.func ≡ other.now.func) × (self.now.mode ≡ other.now.mode) × (self.now.tag ≡ other.now.tag)) }
+    {
+        self.func == other.func
+            && self.mode == other.mode
+            && self.routine.tag() == other.routine.tag()
+    }
+
     /// Whether a process asks by it on a channel.
     pub(crate) fn is_on(&self, p: Pid, chan: u32) -> bool
         ensures { result ≡ is_attention_on p chan self.now }
@@ -117,5 +133,26 @@ fn is_same_attention(a: Func, b: Func) -> bool
         (Func::ReadAttn, Func::ReadAttn) => true,
         (Func::WrtAttn, Func::WrtAttn) => true,
         _ => false,
+    }
+}
+
+impl<R: Routine> Same for AttentionEntry<R> {
+    fn same(&self, other: &AttentionEntry<R>) -> bool {
+        self.is_same_place(other) && self.is_same_ast(other)
+    }
+}
+
+// The routine is made again from its tag.
+impl<R: Routine> Duplicate for AttentionEntry<R> {
+    fn duplicate(&self) -> Result<AttentionEntry<R>, NoMemory> {
+        Ok(AttentionEntry {
+            id: self.id,
+            p: self.p,
+            chan: self.chan,
+            b: self.b,
+            func: self.func,
+            mode: self.mode,
+            routine: R::scripted(self.routine.tag()),
+        })
     }
 }

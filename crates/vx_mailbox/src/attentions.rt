@@ -1,6 +1,6 @@
 //! The attention entries of all processes.
 
-ghost use Rattle.std.specs.Prelude.{◌≡◌, ◌<◌, ◌≤◌, ◌++◌, ◌∷◌, [], IfSome, OnErr, OnOk, length, option_map, position};
+ghost use Rattle.std.specs.Prelude.{◌≡◌, ◌↔◌, ◌<◌, ◌≤◌, ◌++◌, ◌∷◌, [], IfOk, IfSome, IsTrue, OnErr, OnOk, length, option_map, position};
 ghost use Rattle.std.specs.List.{find};
 ghost use Rattle.vx_base.specs.Lists.{less};
 ghost use Rattle.vx_record.specs.Cancel.{is_attention_on};
@@ -10,6 +10,7 @@ use crate::attention::AttentionEntry;
 use std::alloc::Global;
 use std::marker::Model;
 use vx_base::{BoxNo, Func, Id, Mode, NoMemory, Pid, Reserved, Routine, at_place};
+use vx_same::{duplicate_reserved, same_items};
 
 /// The attention entries of all processes, in the order that they were added in.
 #[derive(Drop)]
@@ -67,6 +68,23 @@ impl<R: Routine> Attentions<R> {
         ensures err { OnErr result (self.new ≡ self.old) }
     {
         self.entries.reserve(1)
+    }
+
+    /// The same entries again, each with a routine made from its tag, and as much room or more.
+    pub fn duplicate(&self, alloc: Global) -> Result<Attentions<R>, NoMemory>
+        ensures items { IfOk result (λ copy. copy.items ≡ self.now.items) }
+        ensures room { IfOk result (λ copy. self.now.capacity ≤ copy.capacity) }
+    {
+        Ok(Attentions {
+            entries: duplicate_reserved(alloc, &self.entries)?,
+        })
+    }
+
+    /// Whether there are the same entries, in the same order. Takes no memory.
+    pub fn same(&self, other: &Attentions<R>) -> bool
+        ensures { IsTrue result ↔ (self.now.items ≡ other.now.items) }
+    {
+        same_items(self.entries.as_slice(), other.entries.as_slice())
     }
 
     /// How many entries there are.

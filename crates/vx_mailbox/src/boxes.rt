@@ -1,6 +1,6 @@
 //! The mailboxes by number.
 
-ghost use Rattle.std.specs.Prelude.{◌≡◌, ◌<◌, ◌++◌, ◌+◌, ◌∷◌, ◌==◌, [], false, true, not, IfOk, IfSome, None, OnOk, Some, is_none, length, map, nat_le, option_map, position, replicate, slice_index_or};
+ghost use Rattle.std.specs.Prelude.{◌≡◌, ◌↔◌, ◌<◌, ◌++◌, ◌+◌, ◌∷◌, ◌==◌, [], false, true, not, IfOk, IfSome, IsTrue, None, OnOk, Some, is_none, length, map, nat_le, option_map, position, replicate, slice_index_or};
 ghost use Rattle.std.specs.List.{find, list_any};
 ghost use Rattle.vx_base.specs.Lists.{first, less};
 ghost use Rattle.vx_base.specs.Queues.{stored_bytes};
@@ -48,6 +48,34 @@ fn free_places(alloc: Global) -> Result<Vec<BoxPlace>, NoMemory>
     Ok(places)
 }
 
+// The same mailboxes again, each place with room for a message more.
+fn duplicate_places(alloc: Global, places: &[BoxPlace]) -> Result<Vec<BoxPlace>, NoMemory>
+    requires { length places.now ≡ 64 }
+    ensures boxes { IfOk result (λ copy. map box_at copy.items ≡ map box_at places.now) }
+    ensures table { IfOk result (λ copy. IsTable copy.items 0) }
+{
+    let mut copy = Vec::new(alloc);
+    for place in places {
+        copy.push(place.duplicate(alloc)?)?;
+    }
+    Ok(copy)
+}
+
+// Whether places have the same mailboxes.
+fn same_places(a: &[BoxPlace], b: &[BoxPlace]) -> bool
+    ensures { IsTrue result ↔ (map box_at a.now ≡ map box_at b.now) }
+{
+    if a.len() != b.len() {
+        return false;
+    }
+    for (i, place) in a.iter().enumerate() {
+        if !place.same(&b[i]) {
+            return false;
+        }
+    }
+    true
+}
+
 // Where the first mailbox of a name stands.
 fn place_of_name(places: &[BoxPlace], name: &[u8]) -> Option<usize>
     ensures place { result ≡ position (λ place. is_box_of name.now place.box) places.now }
@@ -85,6 +113,23 @@ impl Boxes {
             places: free_places(alloc)?,
             short: 0,
         })
+    }
+
+    /// The same mailboxes again, with room for a message more in each.
+    pub fn duplicate(&self, alloc: Global) -> Result<Boxes, NoMemory>
+        ensures { IfOk result (λ copy. copy.boxes ≡ self.now.boxes) }
+    {
+        Ok(Boxes {
+            places: duplicate_places(alloc, self.places.as_slice())?,
+            short: 0,
+        })
+    }
+
+    /// Whether there are the same mailboxes, with the same messages. Takes no memory.
+    pub fn same(&self, other: &Boxes) -> bool
+        ensures { IsTrue result ↔ (self.now.boxes ≡ other.now.boxes) }
+    {
+        same_places(self.places.as_slice(), other.places.as_slice())
     }
 
     /// Makes room for a message more in each mailbox that is there or is made. Refused or not, the mailboxes stay.

@@ -1,6 +1,6 @@
 //! The messages of a mailbox, with a count of their bytes.
 
-ghost use Rattle.std.specs.Prelude.{◌≡◌, ℕ, ◌+◌, ◌<◌, ◌≤◌, ◌++◌, ◌∷◌, [], IfOk, IfSome, OnOk, length, nat_le, option_map, position};
+ghost use Rattle.std.specs.Prelude.{◌≡◌, ℕ, ◌↔◌, ◌+◌, ◌<◌, ◌≤◌, ◌++◌, ◌∷◌, [], IfOk, IfSome, IsTrue, OnOk, length, nat_le, option_map, position};
 ghost use Rattle.std.specs.List.{find, list_any};
 ghost use Rattle.vx_base.specs.Lists.{first, less};
 ghost use Rattle.vx_base.specs.Queues.{body_bytes, stored_bytes};
@@ -11,6 +11,7 @@ ghost use Rattle.vx_record.specs.Mailboxes.{this_message};
 use std::alloc::Global;
 use std::marker::Model;
 use vx_base::{Body, Id, Msg, NoMemory, Reserved};
+use vx_same::with_room_of;
 
 /// Messages, the oldest first, with room that was made before. Their bytes are counted, as long as a number can hold the count.
 #[derive(Drop)]
@@ -93,6 +94,71 @@ fn take_all(messages: &mut Reserved<Msg>)
     }
 }
 
+// Whether two texts, or ends of file, are the same.
+fn same_body(a: &Body, b: &Body) -> bool
+    ensures { IsTrue result ↔ (a.now ≡ b.now) }
+{
+    match (a, b) {
+        (Body::Text(a), Body::Text(b)) => *a == *b,
+        (Body::Eof, Body::Eof) => true,
+        _ => false,
+    }
+}
+
+// Whether two messages are the same.
+fn same_message(a: &Msg, b: &Msg) -> bool
+    ensures { IsTrue result ↔ (a.now ≡ b.now) }
+{
+    a.id == b.id && a.writer == b.writer && a.held == b.held && same_body(&a.body, &b.body)
+}
+
+// Whether two lists of messages are the same.
+fn same_messages(a: &[Msg], b: &[Msg]) -> bool
+    ensures { IsTrue result ↔ (a.now ≡ b.now) }
+{
+    if a.len() != b.len() {
+        return false;
+    }
+    for (i, msg) in a.iter().enumerate() {
+        if !same_message(msg, &b[i]) {
+            return false;
+        }
+    }
+    true
+}
+
+fn duplicate_body(body: &Body) -> Result<Body, NoMemory>
+    ensures { IfOk result (λ copy. copy ≡ body.now) }
+{
+    match body {
+        Body::Text(bytes) => Ok(Body::Text(bytes.copy()?)),
+        Body::Eof => Ok(Body::Eof),
+    }
+}
+
+fn duplicate_message(msg: &Msg) -> Result<Msg, NoMemory>
+    ensures { IfOk result (λ copy. copy ≡ msg.now) }
+{
+    Ok(Msg {
+        id: msg.id,
+        writer: msg.writer,
+        body: duplicate_body(&msg.body)?,
+        held: msg.held,
+    })
+}
+
+// The same messages again, with as much room or more.
+fn duplicate_messages(alloc: Global, messages: &Reserved<Msg>) -> Result<Reserved<Msg>, NoMemory>
+    ensures items { IfOk result (λ copy. copy.items ≡ messages.now.items) }
+    ensures room { IfOk result (λ copy. messages.now.capacity ≤ copy.capacity) }
+{
+    let mut copy = with_room_of(alloc, messages)?;
+    for msg in messages.as_slice() {
+        copy.put(duplicate_message(msg)?);
+    }
+    Ok(copy)
+}
+
 impl Messages {
     /// No messages, and room for one.
     pub(crate) fn new(alloc: Global) -> Result<Messages, NoMemory>
@@ -105,6 +171,26 @@ impl Messages {
             items,
             bytes: Some(0),
         })
+    }
+
+    /// The same messages again, with room for one more.
+    pub(crate) fn duplicate(&self, alloc: Global) -> Result<Messages, NoMemory>
+        ensures items { IfOk result (λ copy. copy.items ≡ self.now.items) }
+        ensures room { IfOk result (λ copy. HasSpace copy 1) }
+    {
+        let mut items = duplicate_messages(alloc, &self.items)?;
+        items.reserve(1)?;
+        Ok(Messages {
+            items,
+            bytes: self.bytes,
+        })
+    }
+
+    /// Whether there are the same messages. Takes no memory.
+    pub(crate) fn same(&self, other: &Messages) -> bool
+        ensures { IsTrue result ↔ (self.now.items ≡ other.now.items) }
+    {
+        same_messages(self.items.as_slice(), other.items.as_slice())
     }
 
     /// Makes room for a message more. Refused or not, the messages stay.

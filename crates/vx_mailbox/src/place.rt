@@ -1,6 +1,6 @@
 //! The place of a mailbox: one number of the table.
 
-ghost use Rattle.std.specs.Prelude.{◌≡◌, ◌+◌, ◌≤◌, ◌++◌, ◌∷◌, ◌==◌, [], false, true, not, IfOk, IfSome, IsTrue, None, OnOk, Some, is_none, is_some, length, nat_le, option_map};
+ghost use Rattle.std.specs.Prelude.{◌≡◌, ◌↔◌, ◌+◌, ◌≤◌, ◌++◌, ◌∷◌, ◌==◌, [], false, true, not, IfOk, IfSome, IsTrue, None, OnOk, Some, is_none, is_some, length, nat_le, option_map};
 ghost use Rattle.std.specs.List.{find, list_any};
 ghost use Rattle.vx_base.specs.Lists.{first, less};
 ghost use Rattle.vx_base.specs.Queues.{stored_bytes};
@@ -43,6 +43,17 @@ impl Model for BoxPlace {
     ghost invariant = { λ p. HeldBy p.head p.messages.items };
 }
 
+// Whether two heads are the same.
+fn same_head(a: &Head, b: &Head) -> bool
+    ensures { IsTrue result ↔ (a.now ≡ b.now) }
+{
+    a.name == b.name
+        && a.permanent == b.permanent
+        && a.marked == b.marked
+        && a.maxmsg == b.maxmsg
+        && a.bufquo == b.bufquo
+}
+
 impl BoxPlace {
     /// The place of no mailbox, with room for a message.
     pub(crate) fn new(alloc: Global) -> Result<BoxPlace, NoMemory>
@@ -53,6 +64,30 @@ impl BoxPlace {
             head: None,
             messages: Messages::new(alloc)?,
         })
+    }
+
+    /// The same mailbox again, or none, with room for a message more.
+    pub(crate) fn duplicate(&self, alloc: Global) -> Result<BoxPlace, NoMemory>
+        ensures same { IfOk result (λ copy. copy.box ≡ self.now.box) }
+        ensures room { IfOk result HasRoomFor }
+    {
+        Ok(BoxPlace {
+            head: self.head,
+            messages: self.messages.duplicate(alloc)?,
+        })
+    }
+
+    /// Whether there is the same mailbox, or none. Takes no memory.
+    pub(crate) fn same(&self, other: &BoxPlace) -> bool
+        ensures { IsTrue result ↔ (self.now.box ≡ other.now.box) }
+    {
+        match (&self.head, &other.head) {
+            (Some(head), Some(other_head)) => {
+                same_head(head, other_head) && self.messages.same(&other.messages)
+            }
+            (None, None) => true,
+            _ => false,
+        }
     }
 
     /// Makes room for a message more. Refused or not, the mailbox stays.

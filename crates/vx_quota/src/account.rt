@@ -5,7 +5,7 @@ ghost use Rattle.vx_base.specs.Quotas.{no_need, together, without, is_within};
 ghost use Rattle.vx_quota.specs.Account.{has_left, charged, released};
 
 use std::marker::Model;
-use vx_base::Need;
+use vx_base::{Duplicate, Need, NoMemory};
 
 /// The quotas of a process. Contracts see what is used and the limits.
 #[derive(Debug, Drop)]
@@ -118,5 +118,14 @@ fn difference(used: Need, need: Need) -> Need
         dio: used.dio - need.dio,
         byt: used.byt - need.byt,
         tqe: used.tqe - need.tqe,
+    }
+}
+
+impl Duplicate for Account {
+    fn duplicate(&self) -> Result<Account, NoMemory> {
+        Ok(Account {
+            used: self.used,
+            limits: self.limits,
+        })
     }
 }

@@ -5,6 +5,7 @@
 //! Contracts see one list in order of acceptance, and how many requests there is room for: `specs/Requests.antt`.
 #![tactic(auto)]
 
+mod copy;
 mod found;
 mod order;
 mod outstanding;

@@ -33,6 +33,18 @@ impl Order {
         }
     }
 
+    /// The same of the same places.
+    pub(crate) fn again(&self) -> Order
+        ensures { result ≡ self.now }
+    {
+        Order {
+            rising: self.rising,
+            next: self.next,
+            from: self.from,
+            served: self.served,
+        }
+    }
+
     /// Goes on to a request that is put behind the others.
     pub(crate) fn accept(&mut self, id: Id, device: Device)
         ensures { (places : List Place) (r : Request) → r.req.id ≡ id → r.req.device ≡ device → r.served ≡ false → OrderedIf self.old.rising self.old.next self.old.from self.old.served places → OrderedIf self.new.rising self.new.next self.new.from self.new.served (places ++ record { id = id; request = Some r } ∷ []) }

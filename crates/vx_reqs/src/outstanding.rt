@@ -1,12 +1,14 @@
 //! One outstanding request.
 
-ghost use Rattle.std.specs.Prelude.{◌≡◌, false, is_some, option_map};
+ghost use Rattle.std.specs.Prelude.{◌≡◌, ◌↔◌, IsTrue, false, is_some, option_map};
 ghost use Rattle.vx_base.specs.Queues.{is_unit, is_served_by, waits_for};
 ghost use Rattle.vx_record.specs.Mailboxes.{is_box, is_waiting_func, waits_at};
-ghost use Rattle.vx_reqs.specs.Requests.{has_id, as_served, as_marked, is_to_cancel, keeps_open};
+ghost use Rattle.vx_reqs.specs.Requests.{has_id, as_served, as_marked, is_to_cancel, keeps_open, promised_of};
 
 use std::marker::Model;
-use vx_base::{BoxNo, Device, Func, Id, Mode, Pid, Req, Routine, UnitNo};
+use vx_base::{
+    BoxNo, Device, Duplicate, Func, Id, Mode, NoMemory, Pid, Req, Routine, Same, UnitNo,
+};
 
 /// A request with its AST, if it has one, whether its unit serves it, and whether it is to be aborted. Contracts see the
 /// plain `Request` of `vx_base`.
@@ -29,8 +31,6 @@ impl<R: Routine> Model for Outstanding<R> {
 }
 
 impl<R: Routine> Outstanding<R> {
-    ghost use Rattle.vx_reqs.specs.Requests.{promised_of};
-
     /// A request that waits.
     pub(crate) fn new(req: Req, ast: Option<(Mode, R)>) -> Outstanding<R>
         ensures { result ≡ record { req = req; ast = option_map (promised_of R.tagged) ast; served = false; marked = false } }
@@ -177,5 +177,76 @@ pub(crate) fn is_waiting_func(func: Func) -> bool
     match func {
         Func::Read => true,
         _ => false,
+    }
+}
+
+impl<R: Routine> Same for Outstanding<R> {
+    fn same(&self, other: &Outstanding<R>) -> bool {
+        same_req(&self.req, &other.req)
+            && same_ast(&self.ast, &other.ast)
+            && self.served == other.served
+            && self.marked == other.marked
+    }
+}
+
+impl<R: Routine> Duplicate for Outstanding<R> {
+    fn duplicate(&self) -> Result<Outstanding<R>, NoMemory> {
+        Ok(Outstanding {
+            req: self.req.copy()?,
+            ast: ast_again(&self.ast),
+            served: self.served,
+            marked: self.marked,
+        })
+    }
+}
+
+// Whether the first four fields are the same.
+fn same_origin(a: &Req, b: &Req) -> bool
+    ensures { IsTrue result ↔ ((a.now.id ≡ b.now.id) × (a.now.p ≡ b.now.p) × (a.now.chan ≡ b.now.chan) × (a.now.chan_mode ≡ b.now.chan_mode)) }
+{
+    a.id == b.id && a.p == b.p && a.chan == b.chan && a.chan_mode == b.chan_mode
+}
+
+// Whether the middle four fields are the same.
+fn same_function(a: &Req, b: &Req) -> bool
+    ensures { IsTrue result ↔ ((a.now.device ≡ b.now.device) × (a.now.func ≡ b.now.func) × (a.now.efn ≡ b.now.efn) × (a.now.iosb ≡ b.now.iosb)) }
+{
+    a.device == b.device && a.func == b.func && a.efn == b.efn && a.iosb == b.iosb
+}
+
+// Whether the last four fields are the same.
+fn same_piece(a: &Req, b: &Req) -> bool
+    ensures { IsTrue result ↔ ((a.now.buf ≡ b.now.buf) × (a.now.len ≡ b.now.len) × (a.now.blk ≡ b.now.blk) × (a.now.bytes ≡ b.now.bytes)) }
+{
+    a.buf == b.buf && a.len == b.len && a.blk == b.blk && a.bytes == b.bytes
+}
+
+// Whether two requests are the same.
+fn same_req(a: &Req, b: &Req) -> bool
+    ensures { IsTrue result ↔ (a.now ≡ b.now) }
+{
+    same_origin(a, b) && same_function(a, b) && same_piece(a, b)
+}
+
+// Whether two ASTs have one mode and one tag, or there are none.
+fn same_ast<R: Routine>(a: &Option<(Mode, R)>, b: &Option<(Mode, R)>) -> bool
+    ensures { IsTrue result ↔ (option_map (promised_of R.tagged) a.now ≡ option_map (promised_of R.tagged) b.now) }
+{
+    match (a, b) {
+        (Some((mode, routine)), Some((mode_2, routine_2))) => {
+            mode == mode_2 && routine.tag() == routine_2.tag()
+        }
+        (None, None) => true,
+        _ => false,
+    }
+}
+
+// An AST with a routine made again from its tag, if there is one.
+fn ast_again<R: Routine>(ast: &Option<(Mode, R)>) -> Option<(Mode, R)>
+    ensures { option_map (promised_of R.tagged) result ≡ option_map (promised_of R.tagged) ast.now }
+{
+    match ast {
+        Some((mode, routine)) => Some((*mode, R::scripted(routine.tag()))),
+        None => None,
     }
 }

@@ -28,6 +28,13 @@ impl Reads {
         }
     }
 
+    /// The same of the same places.
+    pub(crate) fn again(&self) -> Reads
+        ensures { result ≡ self.now }
+    {
+        Reads { from: self.from }
+    }
+
     /// Goes on to a request that is put behind the others.
     pub(crate) fn accept(&mut self, id: Id, device: Device, func: Func)
         ensures here { (b : BoxNoOf) → b.0 < 64 → (is_box b device && is_waiting_func func) ≡ true → get_or self.new.from b.0 0 ≤ id.0 }

@@ -1,12 +1,13 @@
 //! The requests: one list, in order of acceptance.
 
-ghost use Rattle.std.specs.Prelude.{◌≡◌, ◌<◌, ◌≤◌, ◌+◌, ◌++◌, ◌∷◌, [], IsTrue, false, not, length, OnOk, OnErr, option_map, is_some};
+ghost use Rattle.std.specs.Prelude.{◌≡◌, ◌↔◌, ◌<◌, ◌≤◌, ◌+◌, ◌++◌, ◌∷◌, [], IfOk, IsTrue, false, not, length, OnOk, OnErr, option_map, is_some};
 ghost use Rattle.std.specs.List.{find, list_any};
 ghost use Rattle.vx_base.specs.Lists.{less, amend};
 ghost use Rattle.vx_base.specs.Queues.{front, in_service};
 ghost use Rattle.vx_record.specs.Mailboxes.{waits_at};
 ghost use Rattle.vx_reqs.specs.Requests.{promised_of, has_id, is_found, as_marked, begun, is_to_cancel, keeps_open};
 
+use crate::copy::{duplicate_slots, same_requests};
 use crate::found::{
     any_open, id_at, mark_at, place_of_id, place_to_cancel, request_at, serve_at, take_at,
 };
@@ -69,6 +70,26 @@ impl<R: Routine> Reqs<R> {
         }
         self.room = reserve_double(&mut self.slots)?;
         Ok(())
+    }
+
+    /// The same requests again, each with a routine made from its tag, and the same room.
+    pub fn duplicate(&self, alloc: Global) -> Result<Reqs<R>, NoMemory>
+        ensures { IfOk result (λ copy. copy ≡ self.now) }
+    {
+        Ok(Reqs {
+            slots: duplicate_slots(alloc, self.slots.as_slice(), self.room)?,
+            count: self.count,
+            room: self.room,
+            order: self.order.again(),
+            reads: self.reads.again(),
+        })
+    }
+
+    /// Whether there are the same requests, in the same order. Takes no memory.
+    pub fn same(&self, other: &Reqs<R>) -> bool
+        ensures { IsTrue result ↔ (self.now.items ≡ other.now.items) }
+    {
+        same_requests(self.slots.as_slice(), other.slots.as_slice())
     }
 
     /// Accepts a request ($QIO), with the AST that it is to queue when it finishes, if it has one. Takes no memory.

@@ -1,12 +1,13 @@
 //! A timer or a scheduled wake.
 
-ghost use Rattle.std.specs.Prelude.{◌≡◌, ◌+◌, ◌<◌, ◌^◌};
+ghost use Rattle.std.specs.Prelude.{◌≡◌, ◌↔◌, ◌+◌, ◌<◌, ◌^◌, IsTrue, option_map};
 ghost use Rattle.vx_record.specs.Charges.{is_timer, takes_ast};
 ghost use Rattle.vx_record.specs.Rundown.{is_timer_in, is_wake_by};
 ghost use Rattle.vx_record.specs.Timers.{due_again, is_cancelled_timer, is_due, is_wake_for};
+ghost use Rattle.vx_timers.specs.Seen.{alarm_of};
 
 use std::marker::Model;
-use vx_base::{Id, Mode, Pid, Routine};
+use vx_base::{Duplicate, Id, Mode, NoMemory, Pid, Routine, Same};
 
 /// What happens when an entry falls due.
 #[derive(Drop)]
@@ -263,5 +264,99 @@ impl<R: Routine> Due<R> {
             } => false,
             What::Wake { target, repeat: _ } => target.0 == q.0,
         }
+    }
+}
+
+impl<R: Routine> Same for Due<R> {
+    fn same(&self, other: &Due<R>) -> bool {
+        self.id == other.id
+            && self.p == other.p
+            && self.due == other.due
+            && same_what(&self.what, &other.what)
+    }
+}
+
+impl<R: Routine> Duplicate for Due<R> {
+    fn duplicate(&self) -> Result<Due<R>, NoMemory> {
+        Ok(Due {
+            id: self.id,
+            p: self.p,
+            due: self.due,
+            what: duplicate_what(&self.what),
+        })
+    }
+}
+
+// Whether two routines have one tag, or there are none.
+fn same_tags<R: Routine>(a: &Option<R>, b: &Option<R>) -> bool
+    ensures { IsTrue result ↔ (option_map R.tagged a.now ≡ option_map R.tagged b.now) }
+{
+    match (a, b) {
+        (Some(a), Some(b)) => a.tag() == b.tag(),
+        (None, None) => true,
+        _ => false,
+    }
+}
+
+// A routine made again from its tag, if there is one.
+fn again<R: Routine>(routine: &Option<R>) -> Option<R>
+    ensures { option_map R.tagged result ≡ option_map R.tagged routine.now }
+{
+    match routine {
+        Some(routine) => Some(R::scripted(routine.tag())),
+        None => None,
+    }
+}
+
+// Whether two entries do the same when they fall due.
+fn same_what<R: Routine>(a: &What<R>, b: &What<R>) -> bool
+    ensures { IsTrue result ↔ (alarm_of R.tagged a.now ≡ alarm_of R.tagged b.now) }
+{
+    match (a, b) {
+        (
+            What::Timer {
+                efn,
+                reqid,
+                mode,
+                routine,
+            },
+            What::Timer {
+                efn: efn_2,
+                reqid: reqid_2,
+                mode: mode_2,
+                routine: routine_2,
+            },
+        ) => efn == efn_2 && reqid == reqid_2 && mode == mode_2 && same_tags(routine, routine_2),
+        (
+            What::Wake { target, repeat },
+            What::Wake {
+                target: target_2,
+                repeat: repeat_2,
+            },
+        ) => target == target_2 && repeat == repeat_2,
+        _ => false,
+    }
+}
+
+// What does the same when it falls due.
+fn duplicate_what<R: Routine>(what: &What<R>) -> What<R>
+    ensures { alarm_of R.tagged result ≡ alarm_of R.tagged what.now }
+{
+    match what {
+        What::Timer {
+            efn,
+            reqid,
+            mode,
+            routine,
+        } => What::Timer {
+            efn: *efn,
+            reqid: *reqid,
+            mode: *mode,
+            routine: again(routine),
+        },
+        What::Wake { target, repeat } => What::Wake {
+            target: *target,
+            repeat: *repeat,
+        },
     }
 }

@@ -8,6 +8,7 @@
 mod due;
 mod places;
 mod round;
+mod same;
 mod timers;
 
 pub use due::{Due, Falls, What, Which};

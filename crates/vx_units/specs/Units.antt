@@ -37,6 +37,11 @@ done_by (Some unit) s = record s { unit = unit; pending = None }
 abbrev pub done : Serving → Serving
 done s = done_by s.pending s
 
+-- a line unit's
+abbrev pub has_lines : Contents → Bool
+has_lines (Lines inputs outputs) = true
+has_lines (Blocks bytes) = false
+
 -- the lines that a line unit was given
 abbrev pub outputs_of : Contents → List (List ℕ)
 outputs_of (Lines inputs outputs) = outputs

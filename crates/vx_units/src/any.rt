@@ -1,6 +1,6 @@
 //! A unit of either kind.
 
-ghost use Rattle.std.specs.Prelude.{◌≡◌, IfOk};
+ghost use Rattle.std.specs.Prelude.{◌≡◌, ◌↔◌, IfOk, IsTrue};
 ghost use Rattle.vx_image.specs.Units.{first_unit};
 ghost use Rattle.vx_units.specs.Any.{seen};
 ghost use Rattle.vx_units.specs.Units.{idle, outputs_of};
@@ -33,6 +33,28 @@ impl AnyUnit {
         }
     }
 
+    /// The same unit again, with its pending service, and ready where it was.
+    pub fn duplicate(&self) -> Result<AnyUnit, NoMemory>
+        ensures { IfOk result (λ copy. seen copy ≡ seen self.now) }
+    {
+        match self {
+            AnyUnit::Line(unit) => Ok(AnyUnit::Line(unit.duplicate()?)),
+            AnyUnit::Block(unit) => Ok(AnyUnit::Block(unit.duplicate()?)),
+        }
+    }
+
+    /// Whether it is of the same kind and holds the same, with the same faults and as many services. Takes no memory.
+    pub fn same(&self, other: &AnyUnit) -> bool
+        ensures { IsTrue result ↔ ((seen self.now).unit ≡ (seen other.now).unit) }
+    {
+        match (self, other) {
+            (AnyUnit::Line(unit), AnyUnit::Line(other)) => unit.same(other),
+            (AnyUnit::Block(unit), AnyUnit::Block(other)) => unit.same(other),
+            (AnyUnit::Line(line), AnyUnit::Block(block)) => are_same(line, block),
+            (AnyUnit::Block(block), AnyUnit::Line(line)) => are_same(line, block),
+        }
+    }
+
     /// How many services there were.
     pub fn services(&self) -> u32
         ensures { result ≡ (seen self.now).unit.services }
@@ -52,6 +74,14 @@ impl AnyUnit {
             AnyUnit::Block(unit) => unit.outputs(),
         }
     }
+}
+
+// Whether a line unit holds the same as a block unit: it never does.
+fn are_same(line: &LineUnit, block: &BlockUnit) -> bool
+    ensures same { IsTrue result ↔ (line.now.unit ≡ block.now.unit) }
+    ensures other { IsTrue result ↔ (block.now.unit ≡ line.now.unit) }
+{
+    line.has_lines() && block.has_lines()
 }
 
 impl DeviceUnit for AnyUnit {

@@ -1,17 +1,17 @@
 //! Block units.
 
-ghost use Rattle.std.specs.Prelude.{◌≡◌, ◌≢◌, ◌<◌, ◌≤◌, ◌+◌, ◌*◌, ◌==◌, IfOk, IsTrue, length, take, drop, ◌++◌, option_map};
+ghost use Rattle.std.specs.Prelude.{◌≡◌, ◌≢◌, ◌↔◌, ◌<◌, ◌≤◌, ◌+◌, ◌*◌, ◌==◌, IfOk, IsTrue, false, length, take, drop, ◌++◌, option_map};
 ghost use Rattle.std.specs.List.{list_any};
 ghost use Rattle.vx_image.specs.Units.{first_unit};
 ghost use Rattle.vx_base.specs.Serving.{fails, is_past_end};
-ghost use Rattle.vx_units.specs.Units.{Serving, idle, bytes_of, block_at, outputs_of};
+ghost use Rattle.vx_units.specs.Units.{Serving, has_lines, idle, bytes_of, block_at, outputs_of};
 
-use crate::line::is_in;
+use crate::line::{duplicate_buffer, is_in};
 use crate::unit::DeviceUnit;
 use std::alloc::Global;
 use std::marker::Model;
 use std::mem::replace;
-use vx_base::{Buffer, Bytes, Cond, Duplicate, Func, NoMemory, Reply, Req};
+use vx_base::{Buffer, Bytes, Cond, Duplicate, Func, NoMemory, Reply, Req, Same};
 use vx_image::{Numbers, UnitDecl};
 
 /// How many bytes a block has.
@@ -66,6 +66,38 @@ impl BlockUnit {
         })
     }
 
+    /// The same unit again, with its pending service, and ready where it was.
+    pub fn duplicate(&self) -> Result<BlockUnit, NoMemory>
+        ensures { IfOk result (λ copy. copy ≡ self.now) }
+    {
+        Ok(BlockUnit {
+            alloc: self.alloc,
+            bytes: self.bytes.clone()?,
+            faults: self.faults.duplicate()?,
+            services: self.services,
+            buffer: duplicate_buffer(self.alloc, &self.buffer)?,
+            pending: duplicate_pending(&self.pending)?,
+        })
+    }
+
+    /// Whether it holds the same bytes, with the same faults and as many services. Takes no memory.
+    pub fn same(&self, other: &BlockUnit) -> bool
+        ensures { IsTrue result ↔ (self.now.unit ≡ other.now.unit) }
+    {
+        self.bytes.as_slice() == other.bytes.as_slice()
+            && self.faults.same(&other.faults)
+            && self.services == other.services
+    }
+
+    // It is no line unit.
+    pub(crate) fn has_lines(&self) -> bool
+        ensures answer { result ≡ false }
+        ensures kind { has_lines self.now.unit.contents ≡ false }
+    {
+        let _services = self.services;
+        false
+    }
+
     /// The bytes of a block, by its number from 0. None exactly where the unit has no such block.
     pub fn block(&self, n: u32) -> Option<&[u8]>
         ensures { option_map (λ b. b.now) result ≡ block_at n (bytes_of self.now.unit.contents) }
@@ -100,6 +132,17 @@ impl BlockUnit {
     {
         let number = self.services + 1;
         is_in(self.faults.as_slice(), number)
+    }
+}
+
+// The same pending service again.
+fn duplicate_pending(pending: &BlockPending) -> Result<BlockPending, NoMemory>
+    ensures { IfOk result (λ copy. copy ≡ pending.now) }
+{
+    match pending {
+        BlockPending::Idle => Ok(BlockPending::Idle),
+        BlockPending::Counted => Ok(BlockPending::Counted),
+        BlockPending::Wrote(at, piece) => Ok(BlockPending::Wrote(*at, piece.copy()?)),
     }
 }
 

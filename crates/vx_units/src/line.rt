@@ -1,17 +1,20 @@
 //! Line units.
 
-ghost use Rattle.std.specs.Prelude.{◌≡◌, ◌<◌, ◌≤◌, [], ◌+◌, ◌==◌, IfOk, IsTrue, length, take, drop};
+ghost use Rattle.std.specs.Prelude.{◌≡◌, ◌↔◌, ◌<◌, ◌≤◌, [], ◌+◌, ◌==◌, IfOk, IsTrue, length, take, drop, true};
 ghost use Rattle.std.specs.List.{list_any};
 ghost use Rattle.vx_image.specs.Units.{first_unit};
 ghost use Rattle.vx_base.specs.Serving.{fails, serve, read_line};
-ghost use Rattle.vx_units.specs.Units.{Serving, is_for_unit, idle, outputs_of};
+ghost use Rattle.vx_units.specs.Units.{Serving, has_lines, is_for_unit, idle, outputs_of};
 
 use crate::unit::DeviceUnit;
 use std::alloc::Global;
 use std::marker::Model;
 use std::mem::replace;
-use vx_base::{Buffer, Bytes, Cond, Duplicate, Func, NoMemory, Reply, Req, Reserved};
+use vx_base::{
+    Buffer, Bytes, Cond, Duplicate, Func, NoMemory, Reply, Req, Reserved, Same, Sequence,
+};
 use vx_image::{Lines, Numbers, UnitDecl};
+use vx_same::{duplicate_items, duplicate_reserved, same_items};
 
 /// What a pending service of a line unit will do: count alone, take a line of input, or give a line of output.
 #[derive(Drop)]
@@ -66,6 +69,41 @@ impl LineUnit {
         })
     }
 
+    /// The same unit again, with its pending service, and ready where it was. The lines that were read are not copied.
+    pub fn duplicate(&self) -> Result<LineUnit, NoMemory>
+        ensures { IfOk result (λ copy. copy ≡ self.now) }
+    {
+        Ok(LineUnit {
+            alloc: self.alloc,
+            inputs: duplicate_left(self.alloc, &self.inputs, self.next)?,
+            next: 0,
+            outputs: duplicate_reserved(self.alloc, &self.outputs)?,
+            faults: self.faults.duplicate()?,
+            services: self.services,
+            buffer: duplicate_buffer(self.alloc, &self.buffer)?,
+            pending: duplicate_pending(&self.pending)?,
+        })
+    }
+
+    /// Whether it holds the same lines, with the same faults and as many services. Takes no memory.
+    pub fn same(&self, other: &LineUnit) -> bool
+        ensures { IsTrue result ↔ (self.now.unit ≡ other.now.unit) }
+    {
+        same_left(&self.inputs, self.next, &other.inputs, other.next)
+            && same_items(self.outputs.as_slice(), other.outputs.as_slice())
+            && self.faults.same(&other.faults)
+            && self.services == other.services
+    }
+
+    // It is a line unit.
+    pub(crate) fn has_lines(&self) -> bool
+        ensures answer { result ≡ true }
+        ensures kind { has_lines self.now.unit.contents ≡ true }
+    {
+        let _services = self.services;
+        true
+    }
+
     /// The lines that were written.
     pub fn outputs(&self) -> &[Bytes]
         ensures { result.now ≡ outputs_of self.now.unit.contents }
@@ -95,6 +133,57 @@ pub fn is_in(numbers: &[u32], number: u32) -> bool
     ensures { result ≡ list_any (λ n. n == number) numbers.now }
 {
     numbers.iter().any(|n| *n == number)
+}
+
+/// Room for a transfer again, where there is some.
+pub(crate) fn duplicate_buffer(
+    alloc: Global,
+    buffer: &Option<Buffer>,
+) -> Result<Option<Buffer>, NoMemory>
+    ensures { IfOk result (λ copy. copy ≡ buffer.now) }
+{
+    match buffer {
+        Some(_) => Ok(Some(Buffer::new(alloc)?)),
+        None => Ok(None),
+    }
+}
+
+// The same pending service again.
+fn duplicate_pending(pending: &LinePending) -> Result<LinePending, NoMemory>
+    ensures { IfOk result (λ copy. copy ≡ pending.now) }
+{
+    match pending {
+        LinePending::Idle => Ok(LinePending::Idle),
+        LinePending::Counted => Ok(LinePending::Counted),
+        LinePending::Took => Ok(LinePending::Took),
+        LinePending::Gave(bytes) => Ok(LinePending::Gave(bytes.copy()?)),
+    }
+}
+
+// The lines from a place on.
+fn left_of(lines: &Lines, from: usize) -> &[Bytes]
+    requires { from ≤ length lines.now }
+    ensures { result.now ≡ drop from lines.now }
+{
+    &lines.as_slice()[from..]
+}
+
+// The same lines again from a place on.
+fn duplicate_left(alloc: Global, lines: &Lines, from: usize) -> Result<Lines, NoMemory>
+    requires { from ≤ length lines.now }
+    ensures { IfOk result (λ copy. copy ≡ drop from lines.now) }
+{
+    let copy = duplicate_items(alloc, left_of(lines, from))?;
+    Ok(Sequence::from_vec(copy))
+}
+
+// Whether lines from a place on are the same as others.
+fn same_left(a: &Lines, from_a: usize, b: &Lines, from_b: usize) -> bool
+    requires a { from_a ≤ length a.now }
+    requires b { from_b ≤ length b.now }
+    ensures { IsTrue result ↔ (drop from_a a.now ≡ drop from_b b.now) }
+{
+    same_items(left_of(a, from_a), left_of(b, from_b))
 }
 
 // The reply to a read of so many bytes that finds a line.
