@@ -47,7 +47,7 @@ pub fn print_standing(
 }
 
 /// Appends the PROCESS line of p.
-fn print_process(
+pub fn print_process(
     alloc: Global,
     exec: &Exec<Scripted>,
     p: Pid,
@@ -61,7 +61,8 @@ fn print_process(
     print_standing(alloc, p, name, standing, code, out)
 }
 
-fn end_word(end: End) -> &'static [u8]
+/// The word of an end, in capitals.
+pub fn end_word(end: End) -> &'static [u8]
     ensures { result.now ≡ end_word end }
 {
     match end {

@@ -57,7 +57,8 @@ fn print_event(
     }
 }
 
-fn print_answer(alloc: Global, answer: &Answer, out: &mut Bytes) -> Result<(), NoMemory>
+/// Appends an answer.
+pub fn print_answer(alloc: Global, answer: &Answer, out: &mut Bytes) -> Result<(), NoMemory>
     ensures { OnOk result (out.new ≡ out.old ++ answer_text answer.now) }
 {
     match answer {
@@ -102,8 +103,8 @@ pub fn print_head(
     out.push_all(b"\n")
 }
 
-/// Appends record n: its head, and its effects.
-fn print_record(
+/// Appends record n: its head, and its effects, each on its line.
+pub fn print_record(
     alloc: Global,
     units: &[UnitDecl],
     n: u64,
