@@ -5,7 +5,6 @@ ghost use Rattle.std.specs.Io.KnownBytes.{Appends};
 ghost use Rattle.vx_gen.specs.Generated.{generated};
 ghost use Rattle.vx_host.specs.Causes.{Rose};
 ghost use Rattle.vx_image.specs.WellFormed.{IsWellFormed};
-ghost use Rattle.vx_journal.specs.Transcript.{end_line, end_word};
 ghost use Rattle.vms.specs.Summed.{BreaksSummed, Tallies, WritesSummed};
 ghost use Rattle.vms.specs.Top.{IsSummed, count_line, full_run, no_memory, summary};
 
@@ -18,6 +17,7 @@ use vx_exec::{Exec, Seed};
 use vx_gen::{Tally, generate};
 use vx_host::Sink;
 use vx_image::System;
+use vx_journal::print_end;
 use vx_text::print_num;
 
 const FULL_RUN: Options = Options {
@@ -55,27 +55,6 @@ fn print_count(alloc: Global, word: &[u8], n: u64, out: &mut Bytes) -> Result<()
     out.push_all(word)?;
     out.push_all(b" ")?;
     print_num(alloc, out, n)?;
-    out.push_all(b"\n")
-}
-
-fn end_word(end: End) -> &'static [u8]
-    ensures { result.now ≡ end_word end }
-{
-    match end {
-        End::Done => b"DONE",
-        End::Hung => b"HUNG",
-        End::Limit => b"LIMIT",
-    }
-}
-
-/// Appends the line `$END`.
-fn print_end(alloc: Global, end: End, taken: u32, out: &mut Bytes) -> Result<(), NoMemory>
-    ensures { OnOk result (out.new ≡ out.old ++ (end_line end taken ++ 10 ∷ [])) }
-{
-    out.push_all(b"$END ")?;
-    out.push_all(end_word(end))?;
-    out.push_all(b" ")?;
-    print_num(alloc, out, u64::from(taken))?;
     out.push_all(b"\n")
 }
 

@@ -5,7 +5,7 @@ ghost use Rattle.vx_base.specs.Services.{service_rows};
 ghost use Rattle.vx_exec.specs.View.{plan};
 ghost use Rattle.vx_lines.specs.ReadEffect.{read_effect};
 ghost use Rattle.vx_lines.specs.ReadHead.{read_head};
-ghost use Rattle.vx_lines.specs.ReadRecords.{begins_with_space, head_line, is_of_record, read_line, with_head};
+ghost use Rattle.vx_lines.specs.ReadRecords.{head_line, read_line, with_head};
 ghost use Rattle.vx_lines.specs.declared.read.Reading.{Reading};
 ghost use Rattle.vx_record.specs.State.{State};
 ghost use Rattle.vx_check.specs.Following as spec;
@@ -14,7 +14,7 @@ use crate::course::{Course, Progress, course_behind, course_with, first_wrong_of
 use std::alloc::Global;
 use vx_base::{Effect, NoMemory, Rec, Scripted};
 use vx_exec::Exec;
-use vx_lines::{LinesFail, fed_len, read_effect, read_head};
+use vx_lines::{LinesFail, begins_with_space, fed_len, is_of_record, read_effect, read_head};
 use vx_table::{ServiceTable, service_table};
 
 /// The records that a text begins with: the number of the first that is not the machine's, that of the line behind them, and how many
@@ -24,26 +24,6 @@ pub struct Followed {
     pub wrong: Option<u32>,
     pub line: u32,
     pub len: usize,
-}
-
-/// Whether a text begins with a line of a record.
-fn is_of_record(text: &[u8]) -> bool
-    ensures { result ≡ is_of_record text.now }
-{
-    match text {
-        [] => false,
-        [b, ..] => b'0' <= *b && *b <= b'9' || *b == b' ',
-    }
-}
-
-/// Whether a line of a record is an effect's.
-fn begins_with_space(line: &[u8]) -> bool
-    ensures { result ≡ begins_with_space line.now }
-{
-    match line {
-        [] => false,
-        [b, ..] => *b == b' ',
-    }
 }
 
 fn with_effect(progress: Progress, effect: Option<Effect>) -> Result<Option<Progress>, NoMemory>

@@ -1,3 +1,4 @@
+pub mod Buffers
 pub mod Digest
 pub mod Example
 pub mod Local

@@ -5,6 +5,7 @@
 //! stores, and `advance` runs an image's local statements on it: `specs/Local.antt`.
 #![tactic(auto)]
 
+mod buffers;
 mod decl;
 mod example;
 mod image;

@@ -1,26 +1,33 @@
-//! Buffers of a process.
+//! A buffer of a process.
 
-ghost use Rattle.std.specs.Prelude.{◌≡◌, ◌↔◌, ◌≤◌, length, replicate, IfOk, IsTrue};
+ghost use Rattle.std.specs.Prelude.{◌≡◌, ◌↔◌, ◌≤◌, length, replicate, IsTrue};
 ghost use Rattle.vx_base.specs.Lists.{overlaid};
 
-use std::alloc::Global;
 use std::marker::Model;
-use vx_base::{BUFFER_BYTES, NoMemory};
+use vx_base::BUFFER_BYTES;
 
 /// A buffer: 2,048 bytes, which contracts see as their list.
 #[derive(Debug, Drop)]
 pub(crate) struct Page {
-    items: Vec<u8>,
+    bytes: [u8; BUFFER_BYTES],
 }
 
 impl Model for Page {
-    ghost use Rattle.std.specs.Prelude.{◌≡◌, List, ℕ, vec_len};
+    ghost use Rattle.std.specs.Prelude.{List, ℕ};
 
     ghost Value = { List ℕ };
 
-    ghost view = { λ p. p.items.items };
+    ghost view = { λ p. p.bytes };
+}
 
-    ghost invariant = { λ p. vec_len p.items ≡ 2048 };
+/// All bytes zero.
+static ZEROS: [u8; BUFFER_BYTES] = [0; BUFFER_BYTES];
+
+/// The bytes of a buffer that was never written.
+pub(crate) fn zeros() -> &'static [u8]
+    ensures { result.now ≡ replicate 2048 0 }
+{
+    &ZEROS
 }
 
 // Puts a piece over the start of bytes.
@@ -33,12 +40,19 @@ fn lay_over(bytes: &mut [u8], piece: &[u8])
 
 impl Page {
     /// All bytes zero.
-    pub(crate) fn new(alloc: Global) -> Result<Page, NoMemory>
-        ensures { IfOk result (λ page. page ≡ replicate 2048 0) }
+    pub(crate) fn new() -> Page
+        ensures { result ≡ replicate 2048 0 }
     {
-        Ok(Page {
-            items: vec![in alloc; 0; BUFFER_BYTES]?,
-        })
+        Page {
+            bytes: [0; BUFFER_BYTES],
+        }
+    }
+
+    /// The same bytes again.
+    pub(crate) fn again(&self) -> Page
+        ensures { result ≡ self.now }
+    {
+        Page { bytes: self.bytes }
     }
 
     /// Its bytes.
@@ -46,7 +60,7 @@ impl Page {
         ensures bytes { result.now ≡ self.now }
         ensures size { length self.now ≡ 2048 }
     {
-        self.items.as_slice()
+        &self.bytes
     }
 
     /// Puts a piece over its start.
@@ -54,22 +68,6 @@ impl Page {
         requires { length piece.now ≤ 2048 }
         ensures { self.new ≡ overlaid piece.now self.old }
     {
-        lay_over(self.items.as_mut_slice(), piece);
-    }
-
-    /// The same bytes again. It takes as much memory.
-    pub(crate) fn duplicate(&self, alloc: Global) -> Result<Page, NoMemory>
-        ensures { IfOk result (λ page. page ≡ self.now) }
-    {
-        let mut page = Page::new(alloc)?;
-        page.overlay(self.bytes());
-        Ok(page)
-    }
-
-    /// Whether the bytes are the same.
-    pub(crate) fn same(&self, other: &Page) -> bool
-        ensures { IsTrue result ↔ (self.now ≡ other.now) }
-    {
-        self.bytes() == other.bytes()
+        lay_over(&mut self.bytes, piece);
     }
 }

@@ -5,7 +5,7 @@ ghost use Rattle.vx_base.specs.Pieces.{cleared};
 ghost use Rattle.vx_image.specs.Digest.{mix_all, mix_stored};
 ghost use Rattle.vx_image.specs.Storage.{no_storage, stored_in, with_target, status_at, with_status, buffer_at, with_bytes};
 
-use crate::page::Page;
+use crate::buffers::Buffers;
 use std::alloc::Global;
 use std::marker::Model;
 use vx_base::{Cond, NoMemory, Target};
@@ -13,9 +13,6 @@ use vx_same::mix;
 
 /// How many variables a process has.
 const VARIABLES: usize = 26;
-
-/// How many buffers a process has.
-const BUFFERS: usize = 32;
 
 /// How many I/O status blocks a process has.
 const BLOCKS: usize = 32;
@@ -43,56 +40,16 @@ impl Model for Block {
 pub struct Store {
     vars: [u32; VARIABLES],
     r0: u32,
-    buffers: Vec<Page>,
+    buffers: Buffers,
     statuses: [Block; BLOCKS],
 }
 
 impl Model for Store {
-    ghost use Rattle.std.specs.Prelude.{◌≡◌, vec_len};
     ghost use Rattle.vx_image.specs.Storage.{Storage};
 
     ghost Value = { Storage };
 
-    ghost view = { λ s. record { vars = s.vars; r0 = s.r0; buffers = s.buffers.items; statuses = s.statuses } };
-
-    ghost invariant = { λ s. vec_len s.buffers ≡ 32 };
-}
-
-// So many buffers, all zero.
-fn blank_buffers(alloc: Global, n: usize) -> Result<Vec<Page>, NoMemory>
-    ensures { IfOk result (λ pages. pages.items ≡ replicate n (replicate 2048 0)) }
-{
-    let mut pages = Vec::new(alloc);
-    for _ in 0..n {
-        pages.push(Page::new(alloc)?)?;
-    }
-    Ok(pages)
-}
-
-// The same buffers again.
-fn duplicate_buffers(alloc: Global, pages: &[Page]) -> Result<Vec<Page>, NoMemory>
-    ensures { IfOk result (λ copy. copy.items ≡ pages.now) }
-{
-    let mut copy = Vec::new(alloc);
-    for page in pages {
-        copy.push(page.duplicate(alloc)?)?;
-    }
-    Ok(copy)
-}
-
-// Whether two lists of buffers are the same.
-fn same_buffers(a: &[Page], b: &[Page]) -> bool
-    ensures { IsTrue result ↔ (a.now ≡ b.now) }
-{
-    if a.len() != b.len() {
-        return false;
-    }
-    for (i, page) in a.iter().enumerate() {
-        if !page.same(&b[i]) {
-            return false;
-        }
-    }
-    true
+    ghost view = { λ s. record { vars = s.vars; r0 = s.r0; buffers = s.buffers; statuses = s.statuses } };
 }
 
 // Whether two I/O status blocks are the same.
@@ -148,7 +105,7 @@ impl Store {
         Ok(Store {
             vars: [0; VARIABLES],
             r0: 0,
-            buffers: blank_buffers(alloc, BUFFERS)?,
+            buffers: Buffers::new(alloc)?,
             statuses: [blank; BLOCKS],
         })
     }
@@ -208,8 +165,7 @@ impl Store {
         ensures bytes { result.now ≡ buffer_at self.now b }
         ensures size { length result.now ≡ 2048 }
     {
-        let page = &self.buffers[b as usize];
-        page.bytes()
+        self.buffers.bytes(b)
     }
 
     /// Puts a piece of at most 2,048 bytes over the start of a buffer, 0 to 31.
@@ -218,18 +174,17 @@ impl Store {
         requires size { length piece.now ≤ 2048 }
         ensures { self.new ≡ with_bytes self.old b piece.now }
     {
-        let page = &mut self.buffers[b as usize];
-        page.overlay(piece);
+        self.buffers.overlay(b, piece);
     }
 
-    /// The same again. It takes 64 KB for the buffers, as `new` does.
+    /// The same again, with room for all buffers, of which those that were never written are not touched.
     pub fn duplicate(&self, alloc: Global) -> Result<Store, NoMemory>
         ensures { IfOk result (λ copy. copy ≡ self.now) }
     {
         Ok(Store {
             vars: self.vars,
             r0: self.r0,
-            buffers: duplicate_buffers(alloc, self.buffers.as_slice())?,
+            buffers: self.buffers.duplicate(alloc)?,
             statuses: self.statuses,
         })
     }
@@ -241,7 +196,7 @@ impl Store {
         self.r0 == other.r0
             && same_variables(&self.vars, &other.vars)
             && same_blocks(&self.statuses, &other.statuses)
-            && same_buffers(self.buffers.as_slice(), other.buffers.as_slice())
+            && self.buffers.same(&other.buffers)
     }
 
     /// A digest with R0 and the variables.

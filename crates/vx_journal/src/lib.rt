@@ -11,6 +11,6 @@ mod read;
 mod trailer;
 
 pub use journal::{Front, HeaderEnd, Journal, JournalFail, Part};
-pub use print::print_trailer;
+pub use print::{print_end, print_trailer};
 pub use read::{read_front, read_journal};
 pub use trailer::read_trailer;

@@ -23,5 +23,5 @@ pub use head_reader::read_head;
 pub use law::{effects_are_read_back, heads_are_read_back, records_are_read_back};
 pub use number::number_up_to;
 pub use print::{print_records, unit_name};
-pub use read::{LinesFail, Records, fed_len, read_records};
+pub use read::{LinesFail, Records, begins_with_space, fed_len, is_of_record, read_records};
 pub use words::{behind_word, first_word, fourth_word, from_space, second_word, third_word};

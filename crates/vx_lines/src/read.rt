@@ -97,7 +97,8 @@ fn with_head(reading: Reading, head: Option<Rec>) -> Result<Option<Reading>, NoM
     }))
 }
 
-fn begins_with_space(line: &[u8]) -> bool
+/// Whether a line of a record is an effect's.
+pub fn begins_with_space(line: &[u8]) -> bool
     ensures { result ≡ spec.begins_with_space line.now }
 {
     match line {
@@ -151,7 +152,7 @@ fn read_line(
 }
 
 /// Whether a text begins with a line of a record.
-fn is_of_record(text: &[u8]) -> bool
+pub fn is_of_record(text: &[u8]) -> bool
     ensures { result ≡ spec.is_of_record text.now }
 {
     match text {
