@@ -1,5 +1,5 @@
 -- A copy of what the executive keeps holds what it held.
-use Rattle.std.proofs.Common.{◌≡◌, ℕ, zero, suc, ◌+◌, ◌≤◌, List, [], ◌∷◌, ◌++◌, map, slice_index_or, is_some, Option, None, ap, subst, sym, ◌∙◌, refl, arith}
+use Rattle.std.proofs.Common.{◌≡◌, ℕ, zero, suc, List, [], ◌∷◌, ◌++◌, map, slice_index_or, is_some, Option, None, ap, subst, sym, ◌∙◌, refl, arith}
 use Rattle.vx_base.specs.Clusters.{Common}
 use Rattle.vx_base.specs.Pieces.{Attention, DeviceUnit, Mailbox, Request, Timer}
 use Rattle.vx_base.specs.declared.number.Pid.{Pid}

@@ -1,5 +1,5 @@
 -- A copy of what the executive keeps beside its state: as much room or more, and the same accounts.
-use Rattle.std.specs.Prelude.{◌≡◌, Bool, List, [], ◌∷◌, is_some, ⊤, ⊥}
+use Rattle.std.specs.Prelude.{◌≡◌, Bool, List, [], ◌∷◌, is_some, ⊤}
 use Rattle.vx_procs.specs.Held.{Books}
 use Rattle.vx_procs.specs.Kernel.{IsWithinRoom}
 use Rattle.vx_procs.specs.Units.{Kept}

@@ -41,7 +41,6 @@ impl<R: Routine> Proc<R> {
 }
 
 // The same processes again.
-#[tactic(auto, using(crate::proofs::Again::wider_more))]
 fn duplicate_procs<R: Routine>(alloc: Global, procs: &[Proc<R>]) -> Result<Vec<Proc<R>>, NoMemory>
     ensures procs { IfOk result (λ copy. map process copy.items ≡ map process procs.now) }
     ensures books { IfOk result (λ copy. AreWider (map books_of procs.now) (map books_of copy.items)) }
@@ -68,7 +67,6 @@ fn duplicate_units(alloc: Global, units: &[KeptUnit]) -> Result<Vec<KeptUnit>, N
 impl<R: Routine> Core<R> {
     /// The same state again: each routine is made from its tag, and there is as much room or more for what is promised. Effects that
     /// were told and not taken are not copied, and no spare process.
-    #[tactic(auto, using(crate::proofs::Again::held_again))]
     pub fn duplicate(&self) -> Result<Core<R>, NoMemory>
         ensures state { IfOk result (λ copy. copy.state ≡ self.now.state) }
         ensures log { IfOk result (λ copy. copy.log.items ≡ []) }

@@ -104,7 +104,13 @@ impl<R: Routine> Core<R> {
         ensures { self.new ≡ with_state self.old (with_request self.old.state (record { req = req; ast = option_map (promised_of R.tagged) ast; served = false; marked = false })) }
     {
         let p = req.p;
-        let need = need_of(self.system.get(), req.device, req.func, ast.is_some(), req.len);
+        let need = need_of(
+            self.system.get(),
+            req.device,
+            req.func,
+            ast.is_some(),
+            req.len,
+        );
         self.procs[p.0 as usize - 1].charge(need);
         self.requests.accept(req, ast);
         self.short = Some(p);
