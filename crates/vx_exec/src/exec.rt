@@ -4,6 +4,7 @@ ghost use Rattle.std.specs.Prelude.{◌≡◌, ◌<◌, ◌≤◌, ◌+◌, ◌�
 ghost use Rattle.vx_image.specs.WellFormed.{IsWellFormed};
 ghost use Rattle.vx_record.specs.State.{IsProcess, decl_of, process_at, unit_at};
 ghost use Rattle.vx_units.specs.Units.{outputs_of};
+ghost use Rattle.vx_procs.specs.Digest.{digest_of};
 ghost use Rattle.vx_record.specs.Events.{enabled, step};
 ghost use Rattle.vx_record.specs.Runs.{end_of, first, record_of};
 ghost use Rattle.vx_exec.specs.Picks.{moved_seed, picked_event};
@@ -61,6 +62,34 @@ impl<R: Routine> Exec<R> {
             alloc,
             rooms: Rooms::new(),
         })
+    }
+
+    /// The same executive again. Each routine is made from its tag, so this is for routines of scripts. It takes as much memory as the
+    /// state holds, and 64 KB for the buffers of each process.
+    pub fn duplicate(&self) -> Result<Exec<R>, NoMemory>
+        ensures { IfOk result (λ copy. copy ≡ self.now) }
+    {
+        Ok(Exec {
+            core: self.core.duplicate()?,
+            limit: self.limit,
+            taken: self.taken,
+            alloc: self.alloc,
+            rooms: Rooms::new(),
+        })
+    }
+
+    /// Whether both are in the same state, after as many records and with the same limit. Takes no memory.
+    pub fn same(&self, other: &Exec<R>) -> bool
+        ensures { IsTrue result ↔ (self.now ≡ other.now) }
+    {
+        self.taken == other.taken && self.limit == other.limit && self.core.same(&other.core)
+    }
+
+    /// The state as a number. Equal states have the same; states that differ have the same seldom. Takes no memory.
+    pub fn digest(&self) -> u64
+        ensures { result ≡ digest_of self.now.state }
+    {
+        self.core.digest()
     }
 
     /// How many events are enabled.
@@ -128,7 +157,7 @@ impl<R: Routine> Exec<R> {
     pub fn ended(&self) -> Option<End>
         ensures { result ≡ end_of self.now.limit self.now.taken self.now.state }
     {
-        if count(&self.core) == 0 {
+        if enabled_at(&self.core, 0).is_none() {
             return Some(if are_deleted(&self.core) {
                 End::Done
             } else {

@@ -4,7 +4,7 @@
 //! made (`specs/View.antt`). What is enabled, what a step does, what a seed picks and when a run ends is the machine of
 //! `vx_record`: `count` and `enabled` are the list of its enabled events, `step` takes any one of them and leaves the state
 //! after it, `ended` is its end, and `run_system` takes the run that a seed chooses. A step whose memory is short changes nothing, and
-//! no other call of `Exec` takes memory but `new`.
+//! no other call of `Exec` takes memory but `new` and `duplicate`.
 #![tactic(auto)]
 
 mod events;

@@ -1,5 +1,5 @@
 -- What is held stays held, as attention entries are opened, fired and dropped.
-use Rattle.std.proofs.Common.{◌≡◌, ℕ, ◌+◌, ◌-◌, ◌≤◌, length, length-append, List, [], ◌∷◌, ◌++◌, slice_index_or, Option, Some, None, IsTrue, true, false, arith, refl, sym, ap, subst, ◌∙◌}
+use Rattle.std.proofs.Common.{◌≡◌, ℕ, ◌+◌, ◌-◌, ◌≤◌, length, length-append, List, [], ◌∷◌, ◌++◌, slice_index_or, Option, Some, IsTrue, true, false, arith, refl, sym, ap, subst, ◌∙◌}
 use Rattle.std.specs.List.{AllByRecursion, find}
 use Rattle.std.specs.Vec.{with_item}
 use Rattle.std.proofs.lemmas.Bool.{eqb-true}
@@ -16,7 +16,7 @@ use Rattle.vx_base.proofs.First.{found_passes}
 use Rattle.vx_record.specs.Asts.{charged_ast, with_queued}
 use Rattle.vx_record.specs.Charges.{ast_need, exceeds, is_attention_of, is_charged}
 use Rattle.vx_record.specs.Mailboxes.{this_attention}
-use Rattle.vx_record.specs.State.{Process, State, IsProcess, change, process_at}
+use Rattle.vx_record.specs.State.{Process, State, IsProcess, change}
 use Rattle.vx_record.proofs.Lists.{all_append, all_find, all_less}
 use Rattle.vx_quota.specs.Account.{Quotas, charged, released}
 use Rattle.vx_procs.specs.Attention.{fired_attention_if, without_attention}

@@ -1,3 +1,4 @@
+pub mod Again
 pub mod Bills
 pub mod Booked
 pub mod Assigned

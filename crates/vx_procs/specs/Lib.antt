@@ -1,7 +1,9 @@
+pub mod Again
 pub mod Attention
 pub mod Cells
 pub mod Channels
 pub mod Counts
+pub mod Digest
 pub mod Fresh
 pub mod Handlers
 pub mod Held

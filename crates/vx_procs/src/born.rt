@@ -12,6 +12,7 @@ ghost use Rattle.vx_procs.specs.Words.{born_if_started};
 use crate::kept::first_units;
 use crate::process::Proc;
 use crate::procs::Core;
+use crate::shared::SharedSystem;
 use std::alloc::Global;
 use vx_base::{Effects, NoMemory, Routine};
 use vx_clusters::Clusters;
@@ -59,6 +60,7 @@ impl<R: Routine> Core<R> {
         let procs = first_procs(alloc, &system.decls)?;
         let units = first_units(alloc, &system.units)?;
         let boxes = Boxes::new(alloc)?;
+        let system = SharedSystem::new(alloc, system)?;
         Ok(Core {
             system,
             time: 0,

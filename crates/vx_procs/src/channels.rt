@@ -53,7 +53,7 @@ impl<R: Routine> Core<R> {
         requires { length self.now.state.system.units < 4294967296 }
         ensures { result ≡ device_named self.now.state name.now }
     {
-        match position_of_unit(self.system.units.as_slice(), name) {
+        match position_of_unit(self.system.get().units.as_slice(), name) {
             Some(place) => Some(Device::Unit(UnitNo(place as u32))),
             None => {
                 let b = self.boxes.named(name)?;
@@ -66,7 +66,7 @@ impl<R: Routine> Core<R> {
     pub fn unit_named(&self, name: &[u8]) -> bool
         ensures { result ≡ is_some (unit_named self.now.state name.now) }
     {
-        position_of_unit(self.system.units.as_slice(), name).is_some()
+        position_of_unit(self.system.get().units.as_slice(), name).is_some()
     }
 
     /// Assigns the least free channel of a process to a device, in a mode, and gives its number, 1 to 64 ($ASSIGN). NOIOCHAN, and

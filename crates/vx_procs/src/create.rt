@@ -48,7 +48,7 @@ impl<R: Routine> Core<R> {
         requires declared { place < length self.now.state.system.decls }
         ensures { result ≡ handed_on (process_at self.now.state p) (decl_at self.now.state place) }
     {
-        handed_on(self.process_of(p), decl_in(&self.system, place))
+        handed_on(self.process_of(p), decl_in(self.system.get(), place))
     }
 
     /// Makes the process of the declaration at a place ($CREPRC), which its creator p limits, and gives its number. It uses up the

@@ -1,6 +1,6 @@
 //! A unit of the script, with what the end of its next service needs.
 
-ghost use Rattle.std.specs.Prelude.{◌≡◌, ◌<◌, IfOk, IsTrue, OnOk, Some, None, is_some, map};
+ghost use Rattle.std.specs.Prelude.{◌≡◌, ◌↔◌, ◌<◌, IfOk, IfSome, IsTrue, OnOk, Some, None, is_some, map};
 ghost use Rattle.vx_base.specs.Serving.{serve, settled};
 ghost use Rattle.vx_image.specs.Units.{first_unit};
 ghost use Rattle.vx_units.specs.Units.{is_for_unit, outputs_of};
@@ -47,6 +47,31 @@ impl KeptUnit {
         })
     }
 
+    /// The same unit again, with a log for the end of its next service where it had one.
+    pub(crate) fn duplicate(&self, alloc: Global) -> Result<KeptUnit, NoMemory>
+        ensures unit { IfOk result (λ copy. copy.unit ≡ self.now.unit) }
+        ensures log { IfOk result (λ copy. is_some copy.log ≡ is_some self.now.log) }
+    {
+        Ok(KeptUnit {
+            unit: self.unit.duplicate()?,
+            log: duplicate_log(alloc, &self.log)?,
+        })
+    }
+
+    /// Whether it holds the same, with the same faults and as many services. Takes no memory.
+    pub(crate) fn same(&self, other: &KeptUnit) -> bool
+        ensures { IsTrue result ↔ (self.now.unit ≡ other.now.unit) }
+    {
+        self.unit.same(&other.unit)
+    }
+
+    /// How many services there were.
+    pub(crate) fn services(&self) -> u32
+        ensures { result ≡ self.now.unit.services }
+    {
+        self.unit.services()
+    }
+
     /// Makes what the end of a service of a request needs. Where memory is short, what is there stays.
     pub(crate) fn prepare(&mut self, alloc: Global, req: &Req) -> Result<(), NoMemory>
         requires { IsTrue (is_for_unit req.now) }
@@ -85,6 +110,19 @@ impl KeptUnit {
     {
         self.unit.outputs()
     }
+}
+
+// A log for the end of a service, where there is one.
+fn duplicate_log(alloc: Global, log: &Option<Effects>) -> Result<Option<Effects>, NoMemory>
+    ensures there { IfOk result (λ copy. is_some copy ≡ is_some log.now) }
+    ensures end { IfOk result (λ copy. IfSome copy IsForEnd) }
+{
+    if log.is_none() {
+        return Ok(None);
+    }
+    let mut copy = Effects::new(alloc);
+    copy.reserve(END_EFFECTS)?;
+    Ok(Some(copy))
 }
 
 /// The units of the script before their first service.

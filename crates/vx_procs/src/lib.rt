@@ -3,13 +3,14 @@
 //! `Core` is what the executive keeps: what the script says, the time, the next id, the processes in number order, the common
 //! event flag clusters, timers, requests, attention entries, mailboxes, units, and the log of the event under way. Contracts see one
 //! value of it (`specs/Kernel.antt`): the plain state of the machine's definitions, the log, and how much there is room for. Only
-//! `new`, `begin` and `prepare` take memory: `begin` makes sure of spare room, of which an event uses one of each kind at most,
-//! `prepare` makes what the end of a unit's next service needs, and every other call leaves the room as it was (`specs/Held.antt`).
+//! `new`, `duplicate`, `begin` and `prepare` take memory: `begin` makes sure of spare room, of which an event uses one of each kind
+//! at most, `prepare` makes what the end of a unit's next service needs, and every other call leaves the room as it was
+//! (`specs/Held.antt`).
 //!
 //! All reads of a process are in `reads.rt`, all writes of its fields in `setters.rt`, event flags and their clusters in
 //! `clusters.rt`, timers in `timers.rt`, requests in `requests.rt`, attention entries in `attention.rt`, mailboxes in `boxes.rt`,
 //! units in `units.rt`, and creation in `create.rt`: each says the value after it as one equation, in the words of the machine.
-//! Services call these alone.
+//! Services call these alone. `copy.rt` copies the whole, `same.rt` tells two states apart, and `digest.rt` makes a number of one.
 #![tactic(auto)]
 
 mod attention;
@@ -17,8 +18,10 @@ mod born;
 mod boxes;
 mod channels;
 mod clusters;
+mod copy;
 mod create;
 mod depth;
+mod digest;
 mod frames;
 mod handlers;
 mod kept;
@@ -27,7 +30,9 @@ mod process;
 mod procs;
 mod reads;
 mod requests;
+mod same;
 mod setters;
+mod shared;
 mod timers;
 mod units;
 

@@ -9,12 +9,12 @@ ghost use Rattle.vx_procs.specs.Ready.{HasHandlerRoom, HasMessageRooms, HasNewco
 use crate::kept::KeptUnit;
 use crate::newcomer::Newcomer;
 use crate::process::Proc;
+use crate::shared::SharedSystem;
 use std::alloc::Global;
 use std::marker::Model;
 use std::mem;
 use vx_base::{Effect, EffectList, Effects, NoMemory, Pid, Routine};
 use vx_clusters::Clusters;
-use vx_image::System;
 use vx_mailbox::{Attentions, Boxes};
 use vx_reqs::Reqs;
 use vx_timers::Timers;
@@ -27,7 +27,7 @@ const LAST_TIME: u64 = 9_223_372_036_854_775_808;
 /// state, the log, and how much there is room for: `specs/Kernel.antt`.
 #[derive(Drop)]
 pub struct Core<R: Routine> {
-    pub(crate) system: System,
+    pub(crate) system: SharedSystem,
     pub(crate) time: u64,
     pub(crate) next: u32,
     pub(crate) procs: Vec<Proc<R>>,

@@ -78,7 +78,7 @@ impl<R: Routine> Core<R> {
         requires { place < length self.now.state.system.decls }
         ensures { result ≡ (decl_at self.now.state place).name }
     {
-        decl_in(&self.system, place).name
+        decl_in(self.system.get(), place).name
     }
 
     /// The declaration of a process.
@@ -87,7 +87,7 @@ impl<R: Routine> Core<R> {
         requires declared { HasDecl self.now.state p }
         ensures { result.now ≡ decl_of self.now.state p }
     {
-        decl_in(&self.system, self.process_of(p).decl)
+        decl_in(self.system.get(), self.process_of(p).decl)
     }
 
     /// The image that a process runs.
@@ -97,7 +97,7 @@ impl<R: Routine> Core<R> {
         requires image { HasImage self.now.state p }
         ensures { result.now ≡ image_of self.now.state p }
     {
-        image_in(&self.system, self.process_of(p).decl)
+        image_in(self.system.get(), self.process_of(p).decl)
     }
 
     /// The limits of a process's quotas.
@@ -347,6 +347,6 @@ impl<R: Routine> Core<R> {
     pub fn system(&self) -> &System
         ensures { result.now ≡ self.now.state.system }
     {
-        &self.system
+        self.system.get()
     }
 }

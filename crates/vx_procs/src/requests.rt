@@ -84,14 +84,14 @@ impl<R: Routine> Core<R> {
     pub fn is_direct(&self, device: Device) -> bool
         ensures { result ≡ is_direct self.now.state device }
     {
-        is_direct(&self.system, device)
+        is_direct(self.system.get(), device)
     }
 
     /// What a request needs ($QIO), with an AST or without.
     pub fn request_need(&self, device: Device, func: Func, with_ast: bool, len: u32) -> Need
         ensures { result ≡ request_need self.now.state device func with_ast len }
     {
-        need_of(&self.system, device, func, with_ast, len)
+        need_of(self.system.get(), device, func, with_ast, len)
     }
 
     /// Opens a request ($QIO) with a place for its AST, if it has one, and charges its process. Takes no memory.
@@ -104,7 +104,13 @@ impl<R: Routine> Core<R> {
         ensures { self.new ≡ with_state self.old (with_request self.old.state (record { req = req; ast = option_map (promised_of R.tagged) ast; served = false; marked = false })) }
     {
         let p = req.p;
-        let need = need_of(&self.system, req.device, req.func, ast.is_some(), req.len);
+        let need = need_of(
+            self.system.get(),
+            req.device,
+            req.func,
+            ast.is_some(),
+            req.len,
+        );
         self.procs[p.0 as usize - 1].charge(need);
         self.requests.accept(req, ast);
         self.short = Some(p);
@@ -118,7 +124,7 @@ impl<R: Routine> Core<R> {
     {
         let done = self.requests.finish(id)?;
         let (req, ast, marked) = done.parts();
-        let need = need_of(&self.system, req.device, req.func, false, req.len);
+        let need = need_of(self.system.get(), req.device, req.func, false, req.len);
         let queued = self.procs[req.p.0 as usize - 1].end_request(req.id, need, ast);
         Some(Finished {
             req,

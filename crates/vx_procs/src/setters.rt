@@ -204,7 +204,7 @@ impl<R: Routine> Core<R> {
         ensures after { self.new ≡ changed self.old p (moved_as (advanced_at self.old.state p)) }
     {
         let place = self.procs[p.0 as usize - 1].decl;
-        let image = image_in(&self.system, place);
+        let image = image_in(self.system.get(), place);
         self.procs[p.0 as usize - 1].advance(image, p)
     }
 

@@ -1,7 +1,9 @@
 use Rattle.std.proofs.Common.{◌∷◌, ◌++◌, [], Bool, false, is_some, option_map, refl, ap, sym, ◌∙◌}
 use Rattle.vx_base.specs.Pieces.{Request}
 use Rattle.vx_reqs.specs.Requests.{promised_of}
+use Rattle.vx_image.specs.declared.system.System.{System}
 use Rattle.vx_record.specs.Charges.{exceeds, request_need}
+use Rattle.vx_record.specs.Runs.{first}
 use Rattle.vx_record.specs.State.{State}
 use Rattle.vx_procs.specs.Kernel.{Kernel}
 use Rattle.vx_procs.specs.View.{state}
@@ -15,8 +17,9 @@ invariant_of-self g c =
     let q = c.args.req in
     let k = c.args.self.now in
     let r : Request = record { req = q; ast = option_map (promised_of g.R.Routine.tagged) c.args.ast; served = false; marked = false } in
-    let needs = c.need_of-need.ensures ∙ ap (λ (b : Bool). request_need (state c.self.inside) q.device q.func b q.len) (c.is_some.ensures ∙ sym (mapped_some (promised_of g.R.Routine.tagged) c.args.ast)) in
-    let within = ap (exceeds k.state q.p) (c.need_of-need.ensures ∙ (ap (λ (b : Bool). request_need (state c.self.inside) q.device q.func b q.len) c.is_some.ensures ∙ ap (λ (x : Kernel). request_need x.state q.device q.func (is_some c.args.ast) q.len) c.self.view_is)) ∙ c.requires.within in
+    let own = c.need_of-need.ensures ∙ ap (λ (x : System). request_need (first x) q.device q.func c.is_some.result q.len) c.get.ensures in
+    let needs = own ∙ ap (λ (b : Bool). request_need (state c.self.inside) q.device q.func b q.len) (c.is_some.ensures ∙ sym (mapped_some (promised_of g.R.Routine.tagged) c.args.ast)) in
+    let within = ap (exceeds k.state q.p) (own ∙ (ap (λ (b : Bool). request_need (state c.self.inside) q.device q.func b q.len) c.is_some.ensures ∙ ap (λ (x : Kernel). request_need x.state q.device q.func (is_some c.args.ast) q.len) c.self.view_is)) ∙ c.requires.within in
     held_asked r c.need_of-need.result c.self.inside k q.p c.index_mut.result.now _ c.accept.new.self c.self.view_is c.requires.spares refl refl c.requires.own needs within c.index_mut.ensures.value c.charge.ensures.after c.charge.ensures.room c.charge.ensures.account c.accept.ensures c.self.invariant
 
 pub returns : goal.returns

@@ -4,8 +4,10 @@ use Rattle.vx_base.specs.Pieces.{Promised, Request}
 use Rattle.vx_base.specs.Roomy.{Roomy}
 use Rattle.vx_base.specs.declared.request.Req.{Req}
 use Rattle.vx_reqs.specs.Requests.{promised_of}
+use Rattle.vx_image.specs.declared.system.System.{System}
 use Rattle.vx_record.specs.Charges.{request_need}
 use Rattle.vx_record.specs.Finish.{this_request}
+use Rattle.vx_record.specs.Runs.{first}
 use Rattle.vx_procs.specs.Kernel.{with_state}
 use Rattle.vx_procs.specs.Requests.{ended_if, promised_ast}
 use Rattle.vx_procs.specs.View.{kernel, process, state}
@@ -46,14 +48,16 @@ end_request-queued-requires-clause-free g c =
 pub end_request-queued-requires-clause-charged : goal.end_request-queued-requires-clause-charged
 end_request-queued-requires-clause-charged g c =
     let r = c.in_ok-done.done in
-    let needs = c.need_of-need.ensures ∙ ap (λ (x : Req). request_need (state c.self.inside) x.device x.func false x.len) c.parts-req.ensures.req in
+    let own = c.need_of-need.ensures ∙ ap (λ (x : System). request_need (first x) c.parts-req.result.0.device c.parts-req.result.0.func false c.parts-req.result.0.len) c.get.ensures in
+    let needs = own ∙ ap (λ (x : Req). request_need (state c.self.inside) x.device x.func false x.len) c.parts-req.ensures.req in
     charged_request (this_request c.args.id) c.need_of-need.result c.self.inside c.parts-req.result.0.p r c.index_mut.result.now c.self.invariant c.in_ok-done.ensures.found (sym (ap (λ (x : Req). x.p) c.parts-req.ensures.req)) needs c.index_mut.ensures.value
 
 pub invariant_of-self-2 : goal.invariant_of-self-2
 invariant_of-self-2 g c =
     let r = c.in_ok-done.done in
     let pr = process c.index_mut.result.now in
-    let needs = c.need_of-need.ensures ∙ ap (λ (x : Req). request_need (state c.self.inside) x.device x.func false x.len) c.parts-req.ensures.req in
+    let own = c.need_of-need.ensures ∙ ap (λ (x : System). request_need (first x) c.parts-req.result.0.device c.parts-req.result.0.func false c.parts-req.result.0.len) c.get.ensures in
+    let needs = own ∙ ap (λ (x : Req). request_need (state c.self.inside) x.device x.func false x.len) c.parts-req.ensures.req in
     let after = c.end_request-queued.ensures.after ∙ (ap (λ (x : Req). with_queued_if (promised_ast x.id (option_map (promised_of g.R.Routine.tagged) c.parts-req.result.1)) pr) c.parts-req.ensures.req ∙ ap (λ (a : Option Promised). with_queued_if (promised_ast r.req.id a) pr) c.parts-req.ensures.ast) in
     held_ended (this_request c.args.id) c.need_of-need.result c.self.inside c.parts-req.result.0.p r c.index_mut.result.now _ c.finish.new.self c.in_ok-done.ensures.found (sym (ap (λ (x : Req). x.p) c.parts-req.ensures.req)) needs c.in_ok-done.ensures.after c.index_mut.ensures.value after c.end_request-queued.ensures.room c.end_request-queued.ensures.account c.self.invariant
 

@@ -3,6 +3,7 @@ use Rattle.std.specs.Prelude.{None}
 use Rattle.vx_base.specs.Pieces.{Attention, Mailbox, Request, Timer}
 use Rattle.vx_base.specs.Roomy.{Roomy}
 use Rattle.vx_clusters.specs.Clusters.{Shared}
+use Rattle.vx_image.specs.declared.system.System.{System}
 use Rattle.vx_record.specs.Runs.{first}
 use Rattle.vx_record.specs.State.{State}
 use Rattle.vx_procs.specs.Held.{AreHeld}
@@ -17,7 +18,8 @@ invariant_of-result g c =
     let ls = map log_of c.in_ok-units.units.items in
     let held = first_held c.args.system us ls procs c.in_ok-procs.ensures.fresh in
     let boxed = subst (λ (bs : List (Option Mailbox)). let s : State = record (first c.args.system) { procs = map process procs; boxes = bs; units = us } in AreHeld s None (map books_of procs) ls) (sym c.in_ok-boxes.ensures) held in
-    let timed = subst (λ (ts : Roomy Timer). let s : State = record (first c.args.system) { procs = map process procs; timers = ts.items; boxes = c.in_ok-boxes.boxes.boxes; units = us } in AreHeld s None (map books_of procs) ls) (sym c.new-3.ensures) boxed in
-    let asked = subst (λ (rs : Roomy Request). let s : State = record (first c.args.system) { procs = map process procs; timers = c.new-3.result.items; requests = rs.items; boxes = c.in_ok-boxes.boxes.boxes; units = us } in AreHeld s None (map books_of procs) ls) (sym c.new-4.ensures) timed in
-    let called = subst (λ (es : Roomy Attention). let s : State = record (first c.args.system) { procs = map process procs; timers = c.new-3.result.items; requests = c.new-4.result.items; attention = es.items; boxes = c.in_ok-boxes.boxes.boxes; units = us } in AreHeld s None (map books_of procs) ls) (sym c.new-5.ensures) asked in
-    subst (λ (x : Shared). let s : State = record (first c.args.system) { procs = map process procs; common = x.common; timers = c.new-3.result.items; requests = c.new-4.result.items; attention = c.new-5.result.items; boxes = c.in_ok-boxes.boxes.boxes; units = us } in AreHeld s None (map books_of procs) ls) (sym c.new-2.ensures) called
+    let timed = subst (λ (ts : Roomy Timer). let s : State = record (first c.args.system) { procs = map process procs; timers = ts.items; boxes = c.in_ok-boxes.boxes.boxes; units = us } in AreHeld s None (map books_of procs) ls) (sym c.new-4.ensures) boxed in
+    let asked = subst (λ (rs : Roomy Request). let s : State = record (first c.args.system) { procs = map process procs; timers = c.new-4.result.items; requests = rs.items; boxes = c.in_ok-boxes.boxes.boxes; units = us } in AreHeld s None (map books_of procs) ls) (sym c.new-5.ensures) timed in
+    let called = subst (λ (es : Roomy Attention). let s : State = record (first c.args.system) { procs = map process procs; timers = c.new-4.result.items; requests = c.new-5.result.items; attention = es.items; boxes = c.in_ok-boxes.boxes.boxes; units = us } in AreHeld s None (map books_of procs) ls) (sym c.new-6.ensures) asked in
+    let joined = subst (λ (x : Shared). let s : State = record (first c.args.system) { procs = map process procs; common = x.common; timers = c.new-4.result.items; requests = c.new-5.result.items; attention = c.new-6.result.items; boxes = c.in_ok-boxes.boxes.boxes; units = us } in AreHeld s None (map books_of procs) ls) (sym c.new-3.ensures) called in
+    subst (λ (y : System). let s : State = record (first c.args.system) { system = y; procs = map process procs; common = c.new-3.result.common; timers = c.new-4.result.items; requests = c.new-5.result.items; attention = c.new-6.result.items; boxes = c.in_ok-boxes.boxes.boxes; units = us } in AreHeld s None (map books_of procs) ls) (sym c.in_ok-system.ensures) joined

@@ -1,5 +1,6 @@
 use Rattle.std.proofs.Common.{◌≡◌, ap, ◌∙◌}
 use Rattle.vx_image.specs.declared.image.Image.{Image}
+use Rattle.vx_image.specs.declared.system.System.{System}
 use Rattle.vx_record.specs.State.{Process, image_of}
 use Rattle.vx_procs.specs.Kernel.{Kernel}
 use Rattle.vx_procs.specs.View.{process, state}
@@ -18,7 +19,7 @@ returns-clause-after g c =
     let core = c.self.inside in
     let r = c.index_mut.result.now in
     let made = made_in core c.args.self.now c.args.p c.self.view_is c.requires.made in
-    let image : c.image_in-image.result.now ≡ image_of (state core) c.args.p = c.image_in-image.ensures ∙ ap (λ (pr : Process). image_in core.system pr.decl) (seen core c.args.p c.index.result.now made c.index.ensures) in
+    let image : c.image_in-image.result.now ≡ image_of (state core) c.args.p = c.image_in-image.ensures ∙ (ap (λ (x : System). image_in x c.index.result.now.decl) c.get.ensures ∙ ap (λ (pr : Process). image_in core.system pr.decl) (seen core c.args.p c.index.result.now made c.index.ensures)) in
     let ran : advanced_of c.image_in-image.result.now c.args.p (process r) ≡ advanced_at (state core) c.args.p =
     ap (λ (i : Image). advanced_of i c.args.p (process r)) image
     ∙ ap (λ (pr : Process). advanced_of (image_of (state core) c.args.p) c.args.p pr) (seen core c.args.p r made c.index_mut.ensures.value) in

@@ -1,0 +1,73 @@
+-- A copy of what the executive keeps holds what it held.
+use Rattle.std.proofs.Common.{◌≡◌, ℕ, zero, suc, List, [], ◌∷◌, ◌++◌, map, slice_index_or, is_some, Option, None, ap, subst, sym, ◌∙◌, refl, arith}
+use Rattle.vx_base.specs.Clusters.{Common}
+use Rattle.vx_base.specs.Pieces.{Attention, DeviceUnit, Mailbox, Request, Timer}
+use Rattle.vx_base.specs.declared.number.Pid.{Pid}
+use Rattle.vx_image.specs.declared.system.System.{System}
+use Rattle.vx_record.specs.State.{Process, State}
+use Rattle.vx_procs.specs.Again.{AreWider, IsWider, is_logged}
+use Rattle.vx_procs.specs.Held.{AreHeld, Books, IsBooked, books_at, no_books}
+use Rattle.vx_procs.specs.Units.{Kept}
+use Rattle.vx_procs.specs.View.{log_of}
+
+itself : IsWider no_books no_books
+itself = record { room = record { frames = omega arith; asts = omega arith; handlers = omega arith }; account = refl }
+
+wider_at : (olds news : List Books) → AreWider olds news → (k : ℕ) → IsWider (slice_index_or olds k no_books) (slice_index_or news k no_books)
+wider_at [] [] w k = itself
+wider_at [] (b ∷ news) w k = absurd w
+wider_at (a ∷ olds) [] w k = absurd w
+wider_at (a ∷ olds) (b ∷ news) w zero = w.0
+wider_at (a ∷ olds) (b ∷ news) w (suc k) = wider_at olds news w.1 k
+
+-- one process more
+pub wider_more : (olds news : List Books) (a b : Books) → AreWider olds news → IsWider a b → AreWider (olds ++ a ∷ []) (news ++ b ∷ [])
+wider_more [] [] a b w h = (h, tt)
+wider_more [] (c ∷ news) a b w h = absurd w
+wider_more (c ∷ olds) [] a b w h = absurd w
+wider_more (c ∷ olds) (d ∷ news) a b w h = (w.0, wider_more olds news a b w.1 h)
+
+logged_at : (ks ms : List Kept) → map is_logged ms ≡ map is_logged ks → (k : ℕ) → is_some (slice_index_or (map log_of ms) k None) ≡ is_some (slice_index_or (map log_of ks) k None)
+logged_at [] [] e k = refl
+logged_at [] (m ∷ ms) e k = absurd (cc)
+logged_at (x ∷ ks) [] e k = absurd (cc)
+logged_at (x ∷ ks) (m ∷ ms) e zero = cc
+logged_at (x ∷ ks) (m ∷ ms) e (suc k) = let rest : map is_logged ms ≡ map is_logged ks = cc in logged_at ks ms rest k
+
+booked_wider : (s : State) (short : Option Pid) (p : Pid) (a b : Books) → IsWider a b → IsBooked s short p a → IsBooked s short p b
+booked_wider s short p a b w h =
+    let frames = w.room.frames in
+    let asts = w.room.asts in
+    let had_frames = h.frames in
+    let had_asts = h.asts in
+    record {
+      frames = omega (arith, frames, had_frames);
+      asts = omega (arith, asts, had_asts);
+      used = ap (λ q. q.used) w.account ∙ h.used;
+      limits = ap (λ q. q.limits) w.account ∙ h.limits;
+    }
+
+pub held_again : (s t : State) (short : Option Pid) (olds news : List Books) (ks ms : List Kept) → t ≡ s → AreWider olds news → map is_logged ms ≡ map is_logged ks → AreHeld s short olds (map log_of ks) → AreHeld t short news (map log_of ms)
+held_again s t short olds news ks ms same wider logged h = subst (λ (x : State). AreHeld x short news (map log_of ms)) (sym same) (record {
+  booked = λ p made. booked_wider s short p (books_at olds p) (books_at news p) (wider_at olds news wider _) (h.booked p made);
+  timers = h.timers;
+  requests = h.requests;
+  attention = h.attention;
+  served = λ u. rw (logged_at ks ms logged u.0) (h.served u);
+  marked = h.marked;
+})
+
+-- a state is one with the same in each field
+pub same_state : (s t : State) → t.system ≡ s.system → t.time ≡ s.time → t.next ≡ s.next → t.procs ≡ s.procs → t.common ≡ s.common →
+    t.requests ≡ s.requests → t.timers ≡ s.timers → t.attention ≡ s.attention → t.boxes ≡ s.boxes → t.units ≡ s.units → t ≡ s
+same_state s t system time next procs common requests timers attention boxes units =
+    ap (λ (x : System). let r : State = record t { system = x } in r) system
+    ∙ (ap (λ (x : ℕ). let r : State = record t { system = s.system; time = x } in r) time
+    ∙ (ap (λ (x : ℕ). let r : State = record t { system = s.system; time = s.time; next = x } in r) next
+    ∙ (ap (λ (x : List Process). let r : State = record t { system = s.system; time = s.time; next = s.next; procs = x } in r) procs
+    ∙ (ap (λ (x : Common). let r : State = record t { system = s.system; time = s.time; next = s.next; procs = s.procs; common = x } in r) common
+    ∙ (ap (λ (x : List Request). let r : State = record s { requests = x; timers = t.timers; attention = t.attention; boxes = t.boxes; units = t.units } in r) requests
+    ∙ (ap (λ (x : List Timer). let r : State = record s { timers = x; attention = t.attention; boxes = t.boxes; units = t.units } in r) timers
+    ∙ (ap (λ (x : List Attention). let r : State = record s { attention = x; boxes = t.boxes; units = t.units } in r) attention
+    ∙ (ap (λ (x : List (Option Mailbox)). let r : State = record s { boxes = x; units = t.units } in r) boxes
+    ∙ ap (λ (x : List DeviceUnit). let r : State = record s { units = x } in r) units))))))))

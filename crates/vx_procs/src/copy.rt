@@ -1,0 +1,92 @@
+//! The executive's state, copied.
+
+ghost use Rattle.std.specs.Prelude.{◌≡◌, [], IfOk, map};
+ghost use Rattle.vx_procs.specs.Again.{AreWider, is_logged};
+ghost use Rattle.vx_procs.specs.Kernel.{IsWithinRoom};
+ghost use Rattle.vx_procs.specs.View.{books_of, process, room_of, unit_of};
+
+use crate::kept::KeptUnit;
+use crate::process::Proc;
+use crate::procs::Core;
+use std::alloc::Global;
+use vx_base::{Duplicate, Effects, NoMemory, Routine};
+
+impl<R: Routine> Proc<R> {
+    /// The same process again, each of its routines made from its tag, with as much room or more.
+    fn duplicate(&self, alloc: Global) -> Result<Proc<R>, NoMemory>
+        ensures process { IfOk result (λ copy. process copy ≡ process self.now) }
+        ensures room { IfOk result (λ copy. IsWithinRoom (room_of self.now) (room_of copy)) }
+        ensures account { IfOk result (λ copy. copy.account ≡ self.now.account) }
+    {
+        Ok(Proc {
+            decl: self.decl,
+            group: self.group,
+            member: self.member,
+            privs: self.privs,
+            store: self.store.duplicate(alloc)?,
+            frames: self.frames.duplicate(alloc)?,
+            asts: self.asts.duplicate(alloc)?,
+            chans: self.chans.duplicate()?,
+            exits: self.exits.duplicate(alloc)?,
+            cluster_0: self.cluster_0.duplicate()?,
+            cluster_1: self.cluster_1.duplicate()?,
+            wake_pending: self.wake_pending,
+            suspended: self.suspended,
+            delete_pending: self.delete_pending,
+            exit_code: self.exit_code,
+            phase: self.phase,
+            account: self.account.duplicate()?,
+        })
+    }
+}
+
+// The same processes again.
+fn duplicate_procs<R: Routine>(alloc: Global, procs: &[Proc<R>]) -> Result<Vec<Proc<R>>, NoMemory>
+    ensures procs { IfOk result (λ copy. map process copy.items ≡ map process procs.now) }
+    ensures books { IfOk result (λ copy. AreWider (map books_of procs.now) (map books_of copy.items)) }
+{
+    let mut copy = Vec::new(alloc);
+    for proc in procs {
+        copy.push(proc.duplicate(alloc)?)?;
+    }
+    Ok(copy)
+}
+
+// The same units again.
+fn duplicate_units(alloc: Global, units: &[KeptUnit]) -> Result<Vec<KeptUnit>, NoMemory>
+    ensures units { IfOk result (λ copy. map unit_of copy.items ≡ map unit_of units.now) }
+    ensures logs { IfOk result (λ copy. map is_logged copy.items ≡ map is_logged units.now) }
+{
+    let mut copy = Vec::new(alloc);
+    for unit in units {
+        copy.push(unit.duplicate(alloc)?)?;
+    }
+    Ok(copy)
+}
+
+impl<R: Routine> Core<R> {
+    /// The same state again: each routine is made from its tag, and there is as much room or more for what is promised. Effects that
+    /// were told and not taken are not copied, and no spare process.
+    pub fn duplicate(&self) -> Result<Core<R>, NoMemory>
+        ensures state { IfOk result (λ copy. copy.state ≡ self.now.state) }
+        ensures log { IfOk result (λ copy. copy.log.items ≡ []) }
+    {
+        let alloc = self.alloc;
+        Ok(Core {
+            system: self.system.share()?,
+            time: self.time,
+            next: self.next,
+            procs: duplicate_procs(alloc, self.procs.as_slice())?,
+            clusters: self.clusters.duplicate(alloc)?,
+            spare: None,
+            timers: self.timers.duplicate(alloc)?,
+            requests: self.requests.duplicate(alloc)?,
+            attention: self.attention.duplicate(alloc)?,
+            boxes: self.boxes.duplicate(alloc)?,
+            units: duplicate_units(alloc, self.units.as_slice())?,
+            log: Effects::new(alloc),
+            short: self.short,
+            alloc,
+        })
+    }
+}

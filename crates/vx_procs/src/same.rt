@@ -1,0 +1,143 @@
+//! States told apart.
+
+ghost use Rattle.std.specs.Prelude.{◌≡◌, ◌↔◌, IsTrue, map};
+ghost use Rattle.vx_procs.specs.View.{process, unit_of};
+
+use crate::kept::KeptUnit;
+use crate::process::Proc;
+use crate::procs::Core;
+use vx_base::{Privs, Routine, Same};
+
+// Whether the first three privileges are the same.
+fn same_first_privs(a: &Privs, b: &Privs) -> bool
+    ensures { IsTrue result ↔ ((a.now.cmexec ≡ b.now.cmexec) × (a.now.cmkrnl ≡ b.now.cmkrnl) × (a.now.group ≡ b.now.group)) }
+{
+    a.cmexec == b.cmexec && a.cmkrnl == b.cmkrnl && a.group == b.group
+}
+
+// Whether the last three privileges are the same.
+fn same_last_privs(a: &Privs, b: &Privs) -> bool
+    ensures { IsTrue result ↔ ((a.now.prmceb ≡ b.now.prmceb) × (a.now.prmmbx ≡ b.now.prmmbx) × (a.now.world ≡ b.now.world)) }
+{
+    a.prmceb == b.prmceb && a.prmmbx == b.prmmbx && a.world == b.world
+}
+
+fn same_privs(a: &Privs, b: &Privs) -> bool
+    ensures { IsTrue result ↔ (a.now ≡ b.now) }
+{
+    same_first_privs(a, b) && same_last_privs(a, b)
+}
+
+impl<R: Routine> Proc<R> {
+    // Whether the declaration, the identification code and the privileges are the same.
+    fn is_same_origin(&self, other: &Proc<R>) -> bool
+        ensures { IsTrue result ↔ ((self.now.decl ≡ other.now.decl) × (self.now.group ≡ other.now.group) × (self.now.member ≡ other.now.member) × (self.now.privs ≡ other.now.privs)) }
+    {
+        self.decl == other.decl
+            && self.group == other.group
+            && self.member == other.member
+            && same_privs(&self.privs, &other.privs)
+    }
+
+    // Whether what it stores, the frames and the ASTs are the same.
+    fn is_same_inside(&self, other: &Proc<R>) -> bool
+        ensures { IsTrue result ↔ ((self.now.store ≡ other.now.store) × (self.now.frames.items ≡ other.now.frames.items) × (self.now.asts.items ≡ other.now.asts.items) × (self.now.asts.enables ≡ other.now.asts.enables)) }
+    {
+        self.store.same(&other.store)
+            && self.frames.same(&other.frames)
+            && self.asts.same_items(&other.asts)
+            && self.asts.same_enables(&other.asts)
+    }
+
+    // Whether the channels, the exit handlers and the event flags are the same.
+    fn is_same_outside(&self, other: &Proc<R>) -> bool
+        ensures { IsTrue result ↔ ((self.now.chans ≡ other.now.chans) × (self.now.exits.items ≡ other.now.exits.items) × (self.now.cluster_0 ≡ other.now.cluster_0) × (self.now.cluster_1 ≡ other.now.cluster_1)) }
+    {
+        self.chans.same(&other.chans)
+            && self.exits.same(&other.exits)
+            && self.cluster_0.same(&other.cluster_0)
+            && self.cluster_1.same(&other.cluster_1)
+    }
+
+    // Whether what pends, the exit code and the phase are the same.
+    fn is_same_phase(&self, other: &Proc<R>) -> bool
+        ensures { IsTrue result ↔ ((self.now.wake_pending ≡ other.now.wake_pending) × (self.now.suspended ≡ other.now.suspended) × (self.now.delete_pending ≡ other.now.delete_pending) × (self.now.exit_code ≡ other.now.exit_code) × (self.now.phase ≡ other.now.phase)) }
+    {
+        self.wake_pending == other.wake_pending
+            && self.suspended == other.suspended
+            && self.delete_pending == other.delete_pending
+            && self.exit_code == other.exit_code
+            && self.phase == other.phase
+    }
+
+    // Whether the processes are the same.
+    fn same(&self, other: &Proc<R>) -> bool
+        ensures { IsTrue result ↔ (process self.now ≡ process other.now) }
+    {
+        self.is_same_origin(other)
+            && self.is_same_inside(other)
+            && self.is_same_outside(other)
+            && self.is_same_phase(other)
+    }
+}
+
+// Whether two lists of processes are the same.
+fn same_procs<R: Routine>(a: &[Proc<R>], b: &[Proc<R>]) -> bool
+    ensures { IsTrue result ↔ (map process a.now ≡ map process b.now) }
+{
+    if a.len() != b.len() {
+        return false;
+    }
+    for (i, proc) in a.iter().enumerate() {
+        if !proc.same(&b[i]) {
+            return false;
+        }
+    }
+    true
+}
+
+// Whether two lists of units are the same.
+fn same_units(a: &[KeptUnit], b: &[KeptUnit]) -> bool
+    ensures { IsTrue result ↔ (map unit_of a.now ≡ map unit_of b.now) }
+{
+    if a.len() != b.len() {
+        return false;
+    }
+    for (i, unit) in a.iter().enumerate() {
+        if !unit.same(&b[i]) {
+            return false;
+        }
+    }
+    true
+}
+
+impl<R: Routine> Core<R> {
+    // Whether the system, the time, the next id, the processes and the common clusters are the same.
+    fn is_same_first(&self, other: &Core<R>) -> bool
+        ensures { IsTrue result ↔ ((self.now.state.system ≡ other.now.state.system) × (self.now.state.time ≡ other.now.state.time) × (self.now.state.next ≡ other.now.state.next) × (self.now.state.procs ≡ other.now.state.procs) × (self.now.state.common ≡ other.now.state.common)) }
+    {
+        self.time == other.time
+            && self.next == other.next
+            && same_procs(self.procs.as_slice(), other.procs.as_slice())
+            && self.clusters.same(&other.clusters)
+            && self.system.get().same(other.system.get())
+    }
+
+    // Whether the requests, the timers, the attention entries, the mailboxes and the units are the same.
+    fn is_same_last(&self, other: &Core<R>) -> bool
+        ensures { IsTrue result ↔ ((self.now.state.requests ≡ other.now.state.requests) × (self.now.state.timers ≡ other.now.state.timers) × (self.now.state.attention ≡ other.now.state.attention) × (self.now.state.boxes ≡ other.now.state.boxes) × (self.now.state.units ≡ other.now.state.units)) }
+    {
+        self.requests.same(&other.requests)
+            && self.timers.same(&other.timers)
+            && self.attention.same(&other.attention)
+            && self.boxes.same(&other.boxes)
+            && same_units(self.units.as_slice(), other.units.as_slice())
+    }
+
+    /// Whether the states are the same: room and what was told are passed over. Takes no memory.
+    pub fn same(&self, other: &Core<R>) -> bool
+        ensures { IsTrue result ↔ (self.now.state ≡ other.now.state) }
+    {
+        self.is_same_first(other) && self.is_same_last(other)
+    }
+}
