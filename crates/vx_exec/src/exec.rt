@@ -64,8 +64,8 @@ impl<R: Routine> Exec<R> {
         })
     }
 
-    /// The same executive again. Each routine is made from its tag, so this is for routines of scripts. It takes as much memory as the
-    /// state holds, and 64 KB for the buffers of each process.
+    /// The same executive again. Each routine is made from its tag, so this is for routines of scripts. What the script says is
+    /// shared, and of a process's buffers only those up to the last one written are filled.
     pub fn duplicate(&self) -> Result<Exec<R>, NoMemory>
         ensures { IfOk result (λ copy. copy ≡ self.now) }
     {
