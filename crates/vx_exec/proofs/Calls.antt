@@ -1,10 +1,8 @@
 -- The services that local statements stop at stand at places of the image.
-use Rattle.std.proofs.Common.{◌≡◌, ℕ, zero, suc, ◌<◌, List, [], ◌∷◌, Bool, true, length, IsTrue, Option, Some, None, IfSome, slice_get, refl, arith}
-use Rattle.std.specs.List.{AllByRecursion}
+use Rattle.std.proofs.Common.{◌≡◌, ℕ, zero, suc, ◌<◌, List, [], ◌∷◌, length, IsTrue, Option, Some, None, slice_get, refl, arith}
 use Rattle.std.proofs.lemmas.Bool.{and_parts}
 use Rattle.vx_base.specs.Services.{are_args, args_list, is_of_kind, params_of}
 use Rattle.vx_base.specs.declared.call.Args.{Args}
-use Rattle.vx_base.specs.declared.number.Pid.{Pid}
 use Rattle.vx_base.specs.declared.service.Kind.TheVariants as kind
 use Rattle.vx_base.specs.declared.service.Service.TheVariants.{AscEfc, CreMbx, DlcEfc}
 use Rattle.vx_image.specs.Local.{Reader, Moved, Advanced, local_at, stop_at, go_on, run_local, advanced}
@@ -14,9 +12,6 @@ use Rattle.vx_image.specs.declared.stmt.Stmt.{Stmt}
 use Rattle.vx_image.specs.declared.stmt.Stmt.TheVariants as stmt
 use Rattle.vx_image.specs.declared.stop.Stop.{Stop}
 use Rattle.vx_image.specs.declared.stop.Stop.TheVariants as stop
-use Rattle.vx_record.specs.State.{State, image_of, decl_of, no_image}
-use Rattle.vx_record.proofs.Lists.{all_get}
-use Rattle.vx_record.proofs.SoundCalls.{all_from_list}
 
 -- the statement of a service at which local statements stop is the image's
 abbrev pub IsStopAt : Image → ℕ → Stop → Type 0

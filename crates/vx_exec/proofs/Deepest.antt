@@ -1,8 +1,7 @@
 -- How deep processes are, and what a deletion tells.
-use Rattle.std.proofs.Common.{◌≡◌, ◌==◌, ℕ, zero, suc, ◌+◌, ◌≤◌, List, [], ◌∷◌, Bool, true, false, nat_le, length, length-append, slice_index_or, slice_set, refl, ap, sym, arith}
+use Rattle.std.proofs.Common.{◌≡◌, ℕ, zero, suc, ◌≤◌, List, [], ◌∷◌, Bool, true, false, nat_le, slice_index_or, slice_set, refl, arith}
 use Rattle.std.proofs.lemmas.Bool.Decides.{nat_tests}
-use Rattle.vx_base.specs.declared.number.Pid.{Pid}
-use Rattle.vx_record.specs.State.{Process, State, change, nobody, process_at}
+use Rattle.vx_record.specs.State.{Process, nobody}
 use Rattle.vx_procs.specs.Words.{deeper, deepest, depth}
 
 greater : (a b : ℕ) (t : Bool) → nat_le a b ≡ t → (a ≤ deeper a b) × (b ≤ deeper a b)

@@ -9,10 +9,9 @@ use Rattle.vx_base.specs.declared.number.Pid.{Pid}
 use Rattle.vx_base.specs.declared.request.Device.{Device}
 use Rattle.vx_base.specs.declared.request.Device.TheVariants as device
 use Rattle.vx_record.specs.Sound.{ChannelStands, Ground, IsRooted, RequestStands, ground, process_of}
-use Rattle.vx_record.specs.State.{Process, State, IsProcess, change, nobody, process_at}
+use Rattle.vx_record.specs.State.{Process, State, change, nobody, process_at}
 use Rattle.vx_record.proofs.Ground.{Base, at_set, device_moves, request_moves, row_moves}
 use Rattle.vx_record.proofs.Lists.{all_weaker}
-use Rattle.vx_rundown.proofs.Changed.{process_there}
 use Rattle.vx_io.specs.Asking.{AreOpen}
 
 -- a process that another one became

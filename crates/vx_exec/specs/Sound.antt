@@ -1,5 +1,5 @@
 -- What an executive keeps of its state.
-use Rattle.std.specs.Prelude.{ℕ, ◌+◌, ◌≤◌, IsTrue, length}
+use Rattle.std.specs.Prelude.{ℕ, ◌+◌, ◌≤◌, length}
 use Rattle.vx_base.specs.declared.number.UnitNo.{UnitNo}
 use Rattle.vx_image.specs.WellFormed.{IsWellFormed}
 use Rattle.vx_record.specs.Sound.{IsSound}

@@ -2,7 +2,7 @@ use Rattle.std.proofs.Common.{ap, subst, sym, ◌∙◌}
 use Rattle.vx_record.specs.Requests.{Asked, qiow}
 use Rattle.vx_record.specs.Services.{routine_or_none}
 use Rattle.vx_procs.specs.Kernel.{Fits}
-use Rattle.vx_exec.proofs.Running.{asked_same, asked_waits}
+use Rattle.vx_exec.proofs.Running.{asked_same}
 use Rattle.vx_exec.proofs.services.ask_and_wait.Goals as goal
 
 pub qiow-requires-clause-room : goal.qiow-requires-clause-room
