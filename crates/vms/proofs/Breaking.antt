@@ -1,26 +1,37 @@
 -- A front of the text of a call.
-use Rattle.std.proofs.Common.{◌≡◌, ℕ, List, Option, Some, subst, sym, ◌∙◌}
+use Rattle.std.proofs.Common.{◌≡◌, ℕ, List, Option, None, Some, subst, sym, ◌∙◌}
 use Rattle.std.specs.Io.KnownBytes.{Keeps}
+use Rattle.std.specs.Option.{IsSome}
 use Rattle.vx_base.specs.declared.record.End.{End}
 use Rattle.vx_check.specs.declared.verdict.Verdict.{Verdict}
 use Rattle.vms.specs.declared.command.Command.{Command}
-use Rattle.vms.specs.declared.command.Command.TheVariants.{Sim, Show, Check}
+use Rattle.vms.specs.declared.command.Command.TheVariants.{Sim, Follow, Explore, Show, Check}
 use Rattle.vms.specs.declared.command.Options.{Options}
 use Rattle.vms.specs.declared.command.Report.{Report}
+use Rattle.vms.specs.declared.picks.Picks.{Picks}
+use Rattle.vms.specs.declared.scope.Scope.{Scope}
+use Rattle.vms.specs.Exploring.{BreaksExplored, in_endings, in_cut_line}
+use Rattle.vms.specs.Exploring.{in_fault_line as in_explored_fault, in_want_line as in_explored_want}
+use Rattle.vms.specs.Following.{BreaksPicked, in_picked, in_lack, in_fault_line, in_want_line}
 use Rattle.vms.specs.Judged.{BreaksJudged, IsFinding, in_report, in_line, in_shortage}
 use Rattle.vms.specs.declared.judge.Finding.{Finding}
 use Rattle.vms.specs.declared.judge.Finding.TheVariants.{Judged, Refused}
-use Rattle.vms.specs.Simulated.{BreaksInput, in_run, in_refusal, in_no_memory, BreaksShown, in_script, in_fault, in_want}
+use Rattle.vms.specs.Simulated.{BreaksInput, in_run, in_refusal, in_no_memory, in_transcript, in_cut, StopsInput, at_once, on_the_way, BreaksShown, in_script, in_fault, in_want}
 use Rattle.vms.specs.Summed.{BreaksSummed, WritesSummed, in_summary}
 use Rattle.vms.specs.Summed.{in_shortage as in_run_shortage}
-use Rattle.vms.specs.Top.{no_memory, IsReported, IsRefused, ReadsInput, Breaks, WritesSummary, of_form, of_run, of_show, of_summary, of_report, of_no_memory, at_input, at_run}
+use Rattle.vms.specs.Top.{no_memory, IsReported, IsRefused, ReadsInput, RunsOut, Breaks, TellsNoMemory, alone, behind_lines, WritesSummary, of_cut_run, of_form, of_run, of_places, of_missing, of_endings, of_cut, of_show, of_summary, of_report, of_no_memory, at_input, at_run}
 use Rattle.vms.specs.Words.{command_of, size_of}
 
 -- a front of what an input comes to is a front of the text of the call that read it
 pub breaks_input : (words : List (List ℕ)) (options : Options) (left left_after : Option (List ℕ)) (faults faults_after : ℕ) (held held_after : Option (List ℕ)) (input : List ℕ) → ReadsInput words (Sim options) left left_after input → BreaksInput input options held held_after → Breaks words left left_after faults faults_after held held_after
-breaks_input words options left left_after faults faults_after held held_after input read (in_run system end text says simulated front) = record {
+breaks_input words options left left_after faults faults_after held held_after input read (in_run system says (in_transcript gained)) = record {
+  text = gained.text;
+  own = of_run gained.end gained.text (record { options = options; input = input; read = read; system = system; says = says; simulated = gained.simulated });
+  front = gained.front;
+}
+breaks_input words options left left_after faults faults_after held held_after input read (in_run system says (in_cut text cut front)) = record {
   text = text;
-  own = of_run end text (record { options = options; input = input; read = read; system = system; says = says; simulated = simulated });
+  own = of_cut_run text (record { options = options; input = input; read = read; system = system; says = says; cut = cut });
   front = front;
 }
 breaks_input words options left left_after faults faults_after held held_after input read (in_refusal text refused front) = record {
@@ -33,6 +44,58 @@ breaks_input words options left left_after faults faults_after held held_after i
   own = of_no_memory (at_input (Sim options) read.asked);
   front = front;
 }
+
+-- the same of a run that places choose
+pub breaks_picked : (words : List (List ℕ)) (picks : Picks) (left left_after : Option (List ℕ)) (faults faults_after : ℕ) (held held_after : Option (List ℕ)) (input : List ℕ) → ReadsInput words (Follow picks) left left_after input → BreaksPicked input picks held held_after → Breaks words left left_after faults faults_after held held_after
+breaks_picked words picks left left_after faults faults_after held held_after input read (in_picked end text followed front) = record {
+  text = text;
+  own = of_places end text (record { picks = picks; input = input; read = read; followed = followed });
+  front = front;
+}
+breaks_picked words picks left left_after faults faults_after held held_after input read (in_lack text lacks front) = record {
+  text = text;
+  own = of_missing text (record { picks = picks; input = input; read = read; lacks = lacks });
+  front = front;
+}
+breaks_picked words picks left left_after faults faults_after held held_after input read (in_fault_line text refused front) = record {
+  text = text;
+  own = of_form text (record { command = Follow picks; input = input; read = read; refused = refused });
+  front = front;
+}
+breaks_picked words picks left left_after faults faults_after held held_after input read (in_want_line front) = record {
+  text = no_memory;
+  own = of_no_memory (at_input (Follow picks) read.asked);
+  front = front;
+}
+
+-- the same of an exploration
+pub breaks_explored : (words : List (List ℕ)) (scope : Scope) (left left_after : Option (List ℕ)) (faults faults_after : ℕ) (held held_after : Option (List ℕ)) (input : List ℕ) → ReadsInput words (Explore scope) left left_after input → BreaksExplored input scope held held_after → Breaks words left left_after faults faults_after held held_after
+breaks_explored words scope left left_after faults faults_after held held_after input read (in_endings end text explored front) = record {
+  text = text;
+  own = of_endings end text (record { scope = scope; input = input; read = read; explored = explored });
+  front = front;
+}
+breaks_explored words scope left left_after faults faults_after held held_after input read (in_cut_line text cut front) = record {
+  text = text;
+  own = of_cut text (record { scope = scope; input = input; read = read; cut = cut });
+  front = front;
+}
+breaks_explored words scope left left_after faults faults_after held held_after input read (in_explored_fault text refused front) = record {
+  text = text;
+  own = of_form text (record { command = Explore scope; input = input; read = read; refused = refused });
+  front = front;
+}
+breaks_explored words scope left left_after faults faults_after held held_after input read (in_explored_want front) = record {
+  text = no_memory;
+  own = of_no_memory (at_input (Explore scope) read.asked);
+  front = front;
+}
+
+-- the line on memory, alone or behind lines of the transcript
+pub tells_no_memory : (words : List (List ℕ)) (options : Options) (left left_after held held_after : Option (List ℕ)) (input : List ℕ) → ReadsInput words (Sim options) left left_after input → StopsInput input options held held_after → TellsNoMemory words left left_after held held_after
+tells_no_memory words options left left_after held held_after input read (at_once written) = alone written
+tells_no_memory words options left left_after held held_after input read (on_the_way system says gained) =
+    behind_lines gained.text (record { options = options; input = input; read = read; system = system; says = says; cut = gained.cut }) gained.written
 
 -- the same of what is shown
 pub breaks_shown : (words : List (List ℕ)) (left left_after : Option (List ℕ)) (faults faults_after : ℕ) (held held_after : Option (List ℕ)) (input : List ℕ) → ReadsInput words Show left left_after input → BreaksShown input held held_after → Breaks words left left_after faults faults_after held held_after
@@ -102,3 +165,8 @@ writes_summary words size left left_after held held_after end asked kept w = rec
   generates = record { size = size; asked = asked; kept = kept; summed = w.summed };
   written = w.written;
 }
+
+-- the words are a command's, of which memory ran out
+pub runs_out : (words : List (List ℕ)) (answer : Option Command) → command_of words ≡ answer → IsSome answer → RunsOut words
+runs_out words None is there = absurd (cc)
+runs_out words (Some command) is there = at_input command is

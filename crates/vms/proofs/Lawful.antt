@@ -8,14 +8,24 @@ use Rattle.vx_check.specs.declared.verdict.Verdict.{Verdict}
 use Rattle.vx_gen.specs.Generated.{generated}
 use Rattle.vx_journal.specs.declared.journal.Journal.{Journal}
 use Rattle.vx_laws.proofs.Whole.{every_run_lawful}
+use Rattle.vx_picks.specs.Picked.{picked}
 use Rattle.vx_record.specs.Runs.{IsRun, chosen}
 use Rattle.vms.specs.declared.status.Status.{Status}
 use Rattle.vms.specs.declared.status.Status.TheVariants as status
-use Rattle.vms.specs.Top.{Completes, ended, showed, Ends, ran, summed, judged, full_run, IsLawful, summed_is_lawful, run_is_lawful, read_is_lawful, read_is_bad, no_run, Judges, Simulates, status_of, status_of_end, WritesReport}
+use Rattle.vms.specs.Top.{Completes, ended, showed, Ends, ran, placed, explored, summed, judged, full_run, Explores, Follows, IsLawful, explored_are_lawful, followed_is_lawful, summed_is_lawful, run_is_lawful, place_is_missing, Rejects, reported, missed, read_is_lawful, read_is_bad, no_run, Judges, Simulates, status_of, status_of_end, WritesReport}
 
 simulated_lawful : (words : List (List ℕ)) (left left_after held held_after : Option (List ℕ)) (status : Status) (end : End) (text : List ℕ) → Simulates words left left_after end text → IsLawful words left left_after held held_after status
 simulated_lawful words left left_after held held_after status end text s =
     run_is_lawful status s.options s.input s.system s.read s.says (every_run_lawful s.system (chosen s.system s.options.seed s.options.limit) s.simulated.run)
+
+placed_lawful : (words : List (List ℕ)) (left left_after held held_after : Option (List ℕ)) (status : Status) (end : End) (text : List ℕ) → Follows words left left_after end text → IsLawful words left left_after held held_after status
+placed_lawful words left left_after held held_after status end text f =
+    let s = f.followed.system in
+    followed_is_lawful status f.picks f.input s f.read f.followed.says (every_run_lawful s (picked s f.picks.places f.picks.limit) f.followed.followed.run)
+
+explored_lawful : (words : List (List ℕ)) (left left_after held held_after : Option (List ℕ)) (status : Status) (end : End) (text : List ℕ) → Explores words left left_after end text → IsLawful words left left_after held held_after status
+explored_lawful words left left_after held held_after status end text e =
+    explored_are_lawful status e.scope e.input e.explored.system e.read e.explored.says (every_run_lawful e.explored.system)
 
 -- a verdict with the status of an ending is no verdict on a record
 judged_run : (journal : Journal) (verdict : Verdict) (end : End) → IsVerdict journal verdict → status_of verdict ≡ status_of_end end → IsRun journal.system journal.recs
@@ -31,6 +41,8 @@ verdict_lawful words left left_after held held_after status end w =
 
 pub ended_lawful : (words : List (List ℕ)) (left left_after held held_after : Option (List ℕ)) (status : Status) (end : End) → Ends words left left_after held held_after end → IsLawful words left left_after held held_after status
 ended_lawful words left left_after held held_after status end (ran w) = simulated_lawful words left left_after held held_after status end w.text w.simulates
+ended_lawful words left left_after held held_after status end (placed w) = placed_lawful words left left_after held held_after status end w.text w.follows
+ended_lawful words left left_after held held_after status end (explored w) = explored_lawful words left left_after held held_after status end w.text w.explores
 ended_lawful words left left_after held held_after status end (summed w) =
     summed_is_lawful status w.generates.size w.generates.asked (every_run_lawful (generated w.generates.size) (chosen (generated w.generates.size) full_run.seed full_run.limit) w.generates.summed.run)
 ended_lawful words left left_after held held_after status end (judged w) = verdict_lawful words left left_after held held_after status end w
@@ -46,5 +58,6 @@ judged_lawful words left left_after held held_after verdict text judges (of_run 
     read_is_lawful status.Illegal judges.report judges.input j judges.read judges.reported.says (every_run_lawful j.system j.recs run)
 judged_lawful words left left_after held held_after verdict text judges (of_record n wrong is) written = read_is_bad n text (rw is at judges) written
 
-pub illegal_lawful : (words : List (List ℕ)) (left left_after held held_after : Option (List ℕ)) → WritesReport words left left_after held held_after status.Illegal → IsLawful words left left_after held held_after status.Illegal
-illegal_lawful words left left_after held held_after w = judged_lawful words left left_after held held_after w.verdict w.text w.judges w.judges.reported.judged w.written
+pub rejected_lawful : (words : List (List ℕ)) (left left_after held held_after : Option (List ℕ)) → Rejects words left left_after held held_after → IsLawful words left left_after held held_after status.Illegal
+rejected_lawful words left left_after held held_after (missed w) = place_is_missing w.text w.misses w.written
+rejected_lawful words left left_after held held_after (reported w) = judged_lawful words left left_after held held_after w.verdict w.text w.judges w.judges.reported.judged w.written

@@ -1,6 +1,10 @@
 pub mod Breaking
+pub mod ChosenRuns
 pub mod Simulated
 pub mod Simulating
 pub mod Lawful
 pub mod Reported
 pub mod Summing
+pub mod Listed
+pub mod Picking
+pub mod Exploring

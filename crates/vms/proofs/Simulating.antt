@@ -8,20 +8,14 @@ use Rattle.vx_grammar.specs.Grammar.{Spells}
 use Rattle.vx_script.specs.declared.fault.ScriptFail.{ScriptFail}
 use Rattle.vx_script.specs.declared.fault.ScriptFail.TheVariants as fail
 use Rattle.vx_script.specs.declared.fault.ScriptFault.{ScriptFault}
-use Rattle.vms.specs.Simulated.{WritesRun, WritesRefusal}
-use Rattle.vms.specs.Top.{IsSimulated, fault_line, no_script, script_in}
+use Rattle.vms.specs.Simulated.{GainsRun, WritesRun, WritesRefusal}
+use Rattle.vms.specs.Top.{fault_line, no_script, script_in}
 use Rattle.vms.specs.declared.command.Command.{Command}
 use Rattle.vms.specs.declared.command.Options.{Options}
 
--- a transcript that was written is that of a run with this ending
-pub writes_run : (input : List ℕ) (options : Options) (held held_after : Option (List ℕ)) (system : System) (text : List ℕ) (end want : End) → Spells input system → IsSimulated system options end text → (end ≡ want) × Appends held held_after text → WritesRun input options held held_after want
-writes_run input options held held_after system text end want says simulated told = record {
-  system = system;
-  says = says;
-  text = text;
-  simulated = subst (λ z. IsSimulated system options z text) told.0 simulated;
-  written = told.1;
-}
+-- a transcript that was written of a system is that of the input that says it
+pub writes_run : (input : List ℕ) (options : Options) (held held_after : Option (List ℕ)) (system : System) (end : End) → Spells input system → GainsRun system options held held_after end → WritesRun input options held held_after end
+writes_run input options held held_after system end says gained = record { system = system; says = says; text = gained.text; simulated = gained.simulated; written = gained.written }
 
 -- what a failed reading tells, of the input and its fault
 pub told : (text input : List ℕ) (failure : ScriptFail) (fault : ScriptFault) → text ≡ input → failure ≡ fail.Fault fault → TellsIfFault text (Err failure) → Tells input fault

@@ -1,7 +1,7 @@
 -- The program's statuses.
 use Rattle.std.specs.Prelude.{ℕ}
 use Rattle.vms.specs.declared.status.Status.{Status}
-use Rattle.vms.specs.declared.status.Status.TheVariants.{Done, Hung, Words, Form, Limit, Illegal, ReadFault, WriteFault, NoMemory, TooLong}
+use Rattle.vms.specs.declared.status.Status.TheVariants.{Done, Hung, Words, Form, Limit, Illegal, ReadFault, WriteFault, NoMemory, TooLong, Cut}
 
 abbrev pub code_of : Status → ℕ
 code_of Done = 0
@@ -14,3 +14,4 @@ code_of ReadFault = 6
 code_of WriteFault = 7
 code_of NoMemory = 8
 code_of TooLong = 9
+code_of Cut = 10

@@ -5,3 +5,9 @@ pub mod Top
 pub mod Words
 pub mod Judged
 pub mod Summed
+pub mod Places
+pub mod Listing
+pub mod Followed
+pub mod Following
+pub mod Explored
+pub mod Exploring

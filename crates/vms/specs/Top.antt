@@ -2,6 +2,7 @@
 use Rattle.std.specs.Prelude.{◌≡◌, ℕ, List, [], ◌∷◌, ◌++◌, codes, decimal, Option, None, Some}
 use Rattle.std.specs.Io.KnownBytes.{Appends, Keeps}
 use Rattle.vx_base.specs.declared.record.End.{End}
+use Rattle.vx_base.specs.declared.record.Rec.{Rec}
 use Rattle.vx_base.specs.declared.record.End.TheVariants.{Done, Hung, Limit}
 use Rattle.vx_image.specs.declared.system.System.{System}
 use Rattle.vx_host.specs.Causes.{Rose}
@@ -26,12 +27,17 @@ use Rattle.vx_gen.specs.Generated.{generated}
 use Rattle.vx_gen.specs.declared.tally.Tally.{Tally}
 use Rattle.vx_journal.specs.Transcript.{end_line, transcript}
 use Rattle.vx_lines.specs.Records.{ended_lines}
+use Rattle.vx_picks.specs.Picked.{picked}
+use Rattle.vms.specs.Explored.{IsCutShort, IsExplored}
+use Rattle.vms.specs.Followed.{IsFollowed, LacksPlace}
 use Rattle.vms.specs.Words.{command_of, size_of}
 use Rattle.vms.specs.declared.command.Command.{Command}
-use Rattle.vms.specs.declared.command.Command.TheVariants.{Sim, Show, Check}
+use Rattle.vms.specs.declared.command.Command.TheVariants.{Sim, Follow, Explore, Show, Check}
 use Rattle.vms.specs.declared.command.Options.{Options}
 use Rattle.vms.specs.declared.command.Report.{Report}
 use Rattle.vms.specs.declared.command.Report.TheVariants.{Line, Picture, Columns}
+use Rattle.vms.specs.declared.picks.Picks.{Picks}
+use Rattle.vms.specs.declared.scope.Scope.{Scope}
 use Rattle.vms.specs.declared.status.Status.{Status}
 use Rattle.vms.specs.declared.status.Status.TheVariants as status
 
@@ -156,6 +162,8 @@ pub record ReadsInput (words : List (List ℕ)) (command : Command) (left left_a
 -- the part of an input that is read as a script: all of it, and of a transcript the lines before the first that begins with $JOURNAL
 abbrev pub script_in : Command → List ℕ → List ℕ
 script_in (Sim options) input = input
+script_in (Follow picks) input = input
+script_in (Explore scope) input = input
 script_in Show input = input
 script_in (Check report) input = script_part input
 
@@ -179,6 +187,14 @@ pub record IsSimulated (system : System) (options : Options) (end : End) (text :
   pub ended : end_after system (chosen system options.seed options.limit) options.limit ≡ Some end
   pub spells : text ≡ transcript system (chosen system options.seed options.limit) end
 
+-- Memory ran out in that run: the text is whole lines from the front of its transcript, and then the line on memory.
+pub record IsCut (system : System) (options : Options) (text : List ℕ) : Type 0 where
+  pub end : End
+  pub lines : List (List ℕ)
+  pub rest : List ℕ
+  pub simulated : IsSimulated system options end (ended_lines lines ++ rest)
+  pub spells : text ≡ ended_lines lines ++ no_memory
+
 -- The command is `sim`, the input is the script of a system, and the text is the transcript of the run that the seed chooses.
 pub record Simulates (words : List (List ℕ)) (left left_after : Option (List ℕ)) (end : End) (text : List ℕ) : Type 0 where
   pub options : Options
@@ -187,6 +203,43 @@ pub record Simulates (words : List (List ℕ)) (left left_after : Option (List �
   pub system : System
   pub says : Spells input system
   pub simulated : IsSimulated system options end text
+
+-- The command is `sim --picks`, and the text is the transcript of the run of its input that the places choose.
+pub record Follows (words : List (List ℕ)) (left left_after : Option (List ℕ)) (end : End) (text : List ℕ) : Type 0 where
+  pub picks : Picks
+  pub input : List ℕ
+  pub read : ReadsInput words (Follow picks) left left_after input
+  pub followed : IsFollowed input picks end text
+
+-- The command is `sim --picks`, a place is not there, and the text is the line that tells it.
+pub record Misses (words : List (List ℕ)) (left left_after : Option (List ℕ)) (text : List ℕ) : Type 0 where
+  pub picks : Picks
+  pub input : List ℕ
+  pub read : ReadsInput words (Follow picks) left left_after input
+  pub lacks : LacksPlace input picks text
+
+-- The command is `explore`, and the text tells how all runs of its input end, the worst of them so.
+pub record Explores (words : List (List ℕ)) (left left_after : Option (List ℕ)) (end : End) (text : List ℕ) : Type 0 where
+  pub scope : Scope
+  pub input : List ℕ
+  pub read : ReadsInput words (Explore scope) left left_after input
+  pub explored : IsExplored input scope end text
+
+-- The command is `explore`, its input has too many states, and the text is the line that tells it.
+pub record CutsShort (words : List (List ℕ)) (left left_after : Option (List ℕ)) (text : List ℕ) : Type 0 where
+  pub scope : Scope
+  pub input : List ℕ
+  pub read : ReadsInput words (Explore scope) left left_after input
+  pub cut : IsCutShort input scope text
+
+-- The command is `sim`, the input is the script of a system, and the text is lines of that transcript, and then the line on memory.
+pub record CutsRun (words : List (List ℕ)) (left left_after : Option (List ℕ)) (text : List ℕ) : Type 0 where
+  pub options : Options
+  pub input : List ℕ
+  pub read : ReadsInput words (Sim options) left left_after input
+  pub system : System
+  pub says : Spells input system
+  pub cut : IsCut system options text
 
 -- the options of a generated run
 unfoldable pub full_run : Options
@@ -227,17 +280,22 @@ pub record Judges (words : List (List ℕ)) (left left_after : Option (List ℕ)
   pub read : ReadsInput words (Check report) left left_after input
   pub reported : IsReported input report verdict text
 
--- `sim` or `gen` took a run whose records keep the six laws of transcripts; or `check` or `draw` read one, whole or cut; or `show` took none; or
--- one was read that is not the machine's, and the sink gained the report of that: with no status but Illegal
+-- `sim` or `gen` took a run whose records keep the six laws of transcripts; or `explore` told of runs that all keep them; or `check` or `draw` read one, whole or cut; or `show` took none; or
+-- one was read that is not the machine's, or a place is not there, and the sink gained the report of that: with no status but Illegal
 pub data IsLawful (words : List (List ℕ)) (left left_after held held_after : Option (List ℕ)) : Status → Type 0 where
   run_is_lawful : (status : Status) (options : Options) (input : List ℕ) (system : System) → ReadsInput words (Sim options) left left_after input → Spells input system
       → KeepLaws system (chosen system options.seed options.limit) → IsLawful words left left_after held held_after status
+  followed_is_lawful : (status : Status) (picks : Picks) (input : List ℕ) (system : System) → ReadsInput words (Follow picks) left left_after input → Spells input system
+      → KeepLaws system (picked system picks.places picks.limit) → IsLawful words left left_after held held_after status
+  explored_are_lawful : (status : Status) (scope : Scope) (input : List ℕ) (system : System) → ReadsInput words (Explore scope) left left_after input → Spells input system
+      → ((recs : List Rec) → IsRun system recs → KeepLaws system recs) → IsLawful words left left_after held held_after status
   summed_is_lawful : (status : Status) (n : ℕ) → size_of words ≡ Some n → KeepLaws (generated n) (chosen (generated n) full_run.seed full_run.limit) → IsLawful words left left_after held held_after status
   read_is_lawful : (status : Status) (report : Report) (input : List ℕ) (journal : Journal) → ReadsInput words (Check report) left left_after input → IsJournal input journal
       → KeepLaws journal.system journal.recs → IsLawful words left left_after held held_after status
   no_run : (status : Status) (input : List ℕ) → ReadsInput words Show left left_after input → IsLawful words left left_after held held_after status
   read_is_bad : (n : ℕ) (text : List ℕ) → Judges words left left_after (verdict.Bad n) text → Appends held held_after text
       → IsLawful words left left_after held held_after status.Illegal
+  place_is_missing : (text : List ℕ) → Misses words left left_after text → Appends held held_after text → IsLawful words left left_after held held_after status.Illegal
 
 -- The words are a command's. Nothing is said of memory: the answer states no cause.
 pub data RunsOut (words : List (List ℕ)) : Type 0 where
@@ -251,10 +309,15 @@ pub data IsTextOf (words : List (List ℕ)) (left left_after : Option (List ℕ)
   of_read_fault : FailsToRead words left left_after faults faults_after → IsTextOf words left left_after faults faults_after read_fault
   of_form : (text : List ℕ) → RefusesText words left left_after text → IsTextOf words left left_after faults faults_after text
   of_run : (end : End) (text : List ℕ) → Simulates words left left_after end text → IsTextOf words left left_after faults faults_after text
+  of_places : (end : End) (text : List ℕ) → Follows words left left_after end text → IsTextOf words left left_after faults faults_after text
+  of_missing : (text : List ℕ) → Misses words left left_after text → IsTextOf words left left_after faults faults_after text
+  of_endings : (end : End) (text : List ℕ) → Explores words left left_after end text → IsTextOf words left left_after faults faults_after text
+  of_cut : (text : List ℕ) → CutsShort words left left_after text → IsTextOf words left left_after faults faults_after text
   of_summary : (end : End) (text : List ℕ) → Generates words left left_after end text → IsTextOf words left left_after faults faults_after text
   of_show : (text : List ℕ) → Shows words left left_after text → IsTextOf words left left_after faults faults_after text
   of_report : (verdict : Verdict) (text : List ℕ) → Judges words left left_after verdict text → IsTextOf words left left_after faults faults_after text
   of_no_memory : RunsOut words → IsTextOf words left left_after faults faults_after no_memory
+  of_cut_run : (text : List ℕ) → CutsRun words left left_after text → IsTextOf words left left_after faults faults_after text
 
 -- What became of the text: the sink holds `held` before the call and `held_after` after it.
 
@@ -262,6 +325,30 @@ pub data IsTextOf (words : List (List ℕ)) (left left_after : Option (List ℕ)
 pub record WritesTranscript (words : List (List ℕ)) (left left_after held held_after : Option (List ℕ)) (end : End) : Type 0 where
   pub text : List ℕ
   pub simulates : Simulates words left left_after end text
+  pub written : Appends held held_after text
+
+-- The sink gained the transcript of a run that places chose, and that ended this way.
+pub record WritesPlaced (words : List (List ℕ)) (left left_after held held_after : Option (List ℕ)) (end : End) : Type 0 where
+  pub text : List ℕ
+  pub follows : Follows words left left_after end text
+  pub written : Appends held held_after text
+
+-- The sink gained the line of a place that is not there.
+pub record WritesMissing (words : List (List ℕ)) (left left_after held held_after : Option (List ℕ)) : Type 0 where
+  pub text : List ℕ
+  pub misses : Misses words left left_after text
+  pub written : Appends held held_after text
+
+-- The sink gained the text that tells how all runs end, the worst of them this way.
+pub record WritesEndings (words : List (List ℕ)) (left left_after held held_after : Option (List ℕ)) (end : End) : Type 0 where
+  pub text : List ℕ
+  pub explores : Explores words left left_after end text
+  pub written : Appends held held_after text
+
+-- The sink gained the line on too many states.
+pub record WritesCut (words : List (List ℕ)) (left left_after held held_after : Option (List ℕ)) : Type 0 where
+  pub text : List ℕ
+  pub cuts : CutsShort words left left_after text
   pub written : Appends held held_after text
 
 -- The sink gained the summary of a generated run that ended this way.
@@ -289,11 +376,19 @@ status_of_end Done = status.Done
 status_of_end Hung = status.Hung
 status_of_end Limit = status.Limit
 
--- `sim` has written a run that ended so, `gen` its summary, or `check` or `draw` has read one
+-- `sim` has written a run that ended so, `explore` has told of runs that ended so and of none that ended worse, `gen` has written the summary
+-- of one, or `check` or `draw` has read one
 pub data Ends (words : List (List ℕ)) (left left_after held held_after : Option (List ℕ)) (end : End) : Type 0 where
   ran : WritesTranscript words left left_after held held_after end → Ends words left left_after held held_after end
+  placed : WritesPlaced words left left_after held held_after end → Ends words left left_after held held_after end
+  explored : WritesEndings words left left_after held held_after end → Ends words left left_after held held_after end
   summed : WritesSummary words left left_after held held_after end → Ends words left left_after held held_after end
   judged : WritesReport words left left_after held held_after (status_of_end end) → Ends words left left_after held held_after end
+
+-- `check` or `draw` has read a transcript that is cut or not the machine's, or a place of `sim --picks` is not there
+pub data Rejects (words : List (List ℕ)) (left left_after held held_after : Option (List ℕ)) : Type 0 where
+  reported : WritesReport words left left_after held held_after status.Illegal → Rejects words left left_after held held_after
+  missed : WritesMissing words left left_after held held_after → Rejects words left left_after held held_after
 
 -- a run has ended with every process deleted, or `show` has shown
 pub data Completes (words : List (List ℕ)) (left left_after held held_after : Option (List ℕ)) : Type 0 where
@@ -305,6 +400,11 @@ pub record WritesFault (words : List (List ℕ)) (left left_after held held_afte
   pub text : List ℕ
   pub refuses : RefusesText words left left_after text
   pub written : Appends held held_after text
+
+-- the sink gained the line on memory alone, or, of `sim`, behind whole lines from the front of the transcript
+pub data TellsNoMemory (words : List (List ℕ)) (left left_after held held_after : Option (List ℕ)) : Type 0 where
+  alone : Appends held held_after no_memory → TellsNoMemory words left left_after held held_after
+  behind_lines : (text : List ℕ) → CutsRun words left left_after text → Appends held held_after text → TellsNoMemory words left left_after held held_after
 
 -- The sink gained the start of the text of the call.
 pub record Breaks (words : List (List ℕ)) (left left_after : Option (List ℕ)) (faults faults_after : ℕ) (held held_after : Option (List ℕ)) : Type 0 where

@@ -3,16 +3,18 @@
 ghost use Rattle.std.specs.Prelude.{◌≡◌, ◌⊎◌, ◌<◌, ◌≤◌, None, length};
 ghost use Rattle.std.specs.Io.KnownBytes.{Appends};
 ghost use Rattle.vx_host.specs.Causes.{Rose};
-ghost use Rattle.vms.specs.Simulated.{WritesRun, WritesRefusal, WritesShown, BreaksInput, BreaksShown};
-ghost use Rattle.vms.specs.Top.{usage, too_long, read_fault, no_memory, RefusesWords, Overflows, FailsToRead, RunsOut, Completes, Ends, IsLawful, WritesReport, WritesFault, Breaks};
+ghost use Rattle.vms.specs.Simulated.{WritesRun, WritesRefusal, WritesShown, BreaksInput, BreaksShown, StopsInput};
+ghost use Rattle.vms.specs.Top.{usage, too_long, read_fault, no_memory, RefusesWords, Overflows, FailsToRead, RunsOut, Completes, Ends, IsLawful, Rejects, WritesCut, WritesFault, Breaks, TellsNoMemory};
 ghost use Rattle.vms.specs.Words.{size_of};
 
 use crate::command::{Command, Options, command_of, size_of};
+use crate::explore::explore;
+use crate::follow::follow;
 use crate::judge::judge;
-use crate::simulate::transcript;
+use crate::simulate::run;
 use crate::status::Status;
 use crate::summary::summarize;
-use crate::tell::{fault_line, tell, tell_no_memory, tell_transcript};
+use crate::tell::{fault_line, tell, tell_no_memory};
 use std::alloc::Global;
 use vx_base::{Bytes, End, NoMemory};
 use vx_grammar::read_script;
@@ -22,7 +24,7 @@ use vx_script::{ScriptFail, print_script};
 /// The most bytes of an input.
 const MOST: u32 = 67_108_864;
 
-/// Simulates an input that was read whole, and writes its transcript or why there is none.
+/// Simulates an input that was read whole, and writes its transcript as the run goes, or why there is none.
 fn simulate<K: Sink>(alloc: Global, options: Options, input: &Bytes, sink: &mut K) -> Status
     requires size { length input.now < 4294967295 }
     requires above { 1 ≤ options.limit }
@@ -38,17 +40,14 @@ fn simulate<K: Sink>(alloc: Global, options: Options, input: &Bytes, sink: &mut 
     ensures form { result ≡ Status.Form →
         WritesRefusal (Command.Sim options) input.now (K.held sink.old) (K.held sink.new) }
     ensures no_memory { result ≡ Status.NoMemory →
-        Appends (K.held sink.old) (K.held sink.new) no_memory }
+        StopsInput input.now options (K.held sink.old) (K.held sink.new) }
     ensures front { result ≡ Status.WriteFault →
         BreaksInput input.now options (K.held sink.old) (K.held sink.new) }
     ensures cause { result ≡ Status.WriteFault → Rose (K.faults sink.old) (K.faults sink.new) }
     ensures later { K.faults sink.old ≤ K.faults sink.new }
 {
     match read_script(alloc, input.as_slice()) {
-        Ok(system) => match transcript(alloc, system, options) {
-            Ok((text, end)) => tell_transcript(sink, text.as_slice(), end),
-            Err(NoMemory) => tell_no_memory(sink),
-        },
+        Ok(system) => run(alloc, system, options, sink),
         Err(ScriptFail::Fault(fault)) => match fault_line(alloc, fault) {
             Ok(text) => tell(sink, text.as_slice(), Status::Form),
             Err(NoMemory) => tell_no_memory(sink),
@@ -93,8 +92,9 @@ fn answer_input<S: Source, K: Sink>(
     sink: &mut K,
 ) -> Status
     requires { size_of words.now ≡ None }
-    // The transcript of the run that the seed chooses was written, or a report of the one that was read, one clause for each
-    // end; or the canonical script; or a report of a transcript that is cut, or not the machine's.
+    // The transcript of the run that the seed or the places choose was written, or a report of the one that was read, one clause
+    // for each end; or the canonical script; or a report of a transcript that is cut, or not the machine's; or the line of a place
+    // that is not there.
     ensures done { result ≡ Status.Done →
         Completes words.now (S.left source.old) (S.left source.new)
         (K.held sink.old) (K.held sink.new) }
@@ -105,8 +105,11 @@ fn answer_input<S: Source, K: Sink>(
         Ends words.now (S.left source.old) (S.left source.new)
         (K.held sink.old) (K.held sink.new) End.Limit }
     ensures illegal { result ≡ Status.Illegal →
-        WritesReport words.now (S.left source.old) (S.left source.new)
-        (K.held sink.old) (K.held sink.new) Status.Illegal }
+        Rejects words.now (S.left source.old) (S.left source.new)
+        (K.held sink.old) (K.held sink.new) }
+    ensures cut { result ≡ Status.Cut →
+        WritesCut words.now (S.left source.old) (S.left source.new)
+        (K.held sink.old) (K.held sink.new) }
 
     // A line was written, each with its cause.
     ensures words { result ≡ Status.Words →
@@ -123,7 +126,8 @@ fn answer_input<S: Source, K: Sink>(
         Overflows words.now (S.left source.old) (S.left source.new)
         × Appends (K.held sink.old) (K.held sink.new) too_long }
     ensures no_memory { result ≡ Status.NoMemory →
-        RunsOut words.now × Appends (K.held sink.old) (K.held sink.new) no_memory }
+        RunsOut words.now × TellsNoMemory words.now (S.left source.old) (S.left source.new)
+        (K.held sink.old) (K.held sink.new) }
 
     // The sink failed in the middle of one of these texts.
     ensures sink_rose { result ≡ Status.WriteFault → Rose (K.faults sink.old) (K.faults sink.new) }
@@ -136,12 +140,17 @@ fn answer_input<S: Source, K: Sink>(
     ensures source_later { S.faults source.old ≤ S.faults source.new }
     ensures sink_later { K.faults sink.old ≤ K.faults sink.new }
 {
-    let Some(command) = command_of(words) else {
+    let Ok(asked) = command_of(alloc, words) else {
+        return tell_no_memory(sink);
+    };
+    let Some(command) = asked else {
         return tell(sink, b"vms: usage\n", Status::Words);
     };
     match read_all(alloc, source, MOST) {
         Ok(input) => match command {
             Command::Sim(options) => simulate(alloc, options, &input, sink),
+            Command::Follow(picks) => follow(alloc, &picks, &input, sink),
+            Command::Explore(scope) => explore(alloc, scope, &input, sink),
             Command::Show => show(alloc, &input, sink),
             Command::Check(report) => judge(alloc, report, &input, sink),
         },
@@ -158,8 +167,9 @@ fn answer_call<S: Source, K: Sink>(
     source: &mut S,
     sink: &mut K,
 ) -> Status
-    // The transcript of the run that the seed chooses was written, the summary of the generated system's, or a report of the one
-    // that was read, one clause for each end; or the canonical script; or a report of a transcript that is cut, or not the machine's.
+    // The transcript of the run that the seed or the places choose was written, the summary of the generated system's, or a report
+    // of the one that was read, one clause for each end; or the canonical script; or a report of a transcript that is cut, or not the
+    // machine's; or the line of a place that is not there.
     ensures done { result ≡ Status.Done →
         Completes words.now (S.left source.old) (S.left source.new)
         (K.held sink.old) (K.held sink.new) }
@@ -170,8 +180,11 @@ fn answer_call<S: Source, K: Sink>(
         Ends words.now (S.left source.old) (S.left source.new)
         (K.held sink.old) (K.held sink.new) End.Limit }
     ensures illegal { result ≡ Status.Illegal →
-        WritesReport words.now (S.left source.old) (S.left source.new)
-        (K.held sink.old) (K.held sink.new) Status.Illegal }
+        Rejects words.now (S.left source.old) (S.left source.new)
+        (K.held sink.old) (K.held sink.new) }
+    ensures cut { result ≡ Status.Cut →
+        WritesCut words.now (S.left source.old) (S.left source.new)
+        (K.held sink.old) (K.held sink.new) }
 
     // A line was written, each with its cause.
     ensures words { result ≡ Status.Words →
@@ -188,7 +201,8 @@ fn answer_call<S: Source, K: Sink>(
         Overflows words.now (S.left source.old) (S.left source.new)
         × Appends (K.held sink.old) (K.held sink.new) too_long }
     ensures no_memory { result ≡ Status.NoMemory →
-        RunsOut words.now × Appends (K.held sink.old) (K.held sink.new) no_memory }
+        RunsOut words.now × TellsNoMemory words.now (S.left source.old) (S.left source.new)
+        (K.held sink.old) (K.held sink.new) }
 
     // The sink failed in the middle of one of these texts.
     ensures sink_rose { result ≡ Status.WriteFault → Rose (K.faults sink.old) (K.faults sink.new) }
@@ -215,8 +229,9 @@ pub fn quiet_call<S: Source, K: Sink>(
     source: &mut S,
     sink: &mut K,
 ) -> Status
-    // The transcript of the run that the seed chooses was written, the summary of the generated system's, or a report of the one
-    // that was read, one clause for each end; or the canonical script; or a report of a transcript that is cut, or not the machine's.
+    // The transcript of the run that the seed or the places choose was written, the summary of the generated system's, or a report
+    // of the one that was read, one clause for each end; or the canonical script; or a report of a transcript that is cut, or not the
+    // machine's; or the line of a place that is not there.
     ensures done { result ≡ Status.Done →
         Completes words.now (S.left source.old) (S.left source.new)
         (K.held sink.old) (K.held sink.new) }
@@ -227,8 +242,11 @@ pub fn quiet_call<S: Source, K: Sink>(
         Ends words.now (S.left source.old) (S.left source.new)
         (K.held sink.old) (K.held sink.new) End.Limit }
     ensures illegal { result ≡ Status.Illegal →
-        WritesReport words.now (S.left source.old) (S.left source.new)
-        (K.held sink.old) (K.held sink.new) Status.Illegal }
+        Rejects words.now (S.left source.old) (S.left source.new)
+        (K.held sink.old) (K.held sink.new) }
+    ensures cut { result ≡ Status.Cut →
+        WritesCut words.now (S.left source.old) (S.left source.new)
+        (K.held sink.old) (K.held sink.new) }
 
     // The records that `sim` wrote, those that `gen` counted, and those that were read and found to be the machine's, of a cut
     // transcript too, keep the six laws of transcripts.
@@ -252,7 +270,8 @@ pub fn quiet_call<S: Source, K: Sink>(
         Overflows words.now (S.left source.old) (S.left source.new)
         × Appends (K.held sink.old) (K.held sink.new) too_long }
     ensures no_memory { result ≡ Status.NoMemory →
-        RunsOut words.now × Appends (K.held sink.old) (K.held sink.new) no_memory }
+        RunsOut words.now × TellsNoMemory words.now (S.left source.old) (S.left source.new)
+        (K.held sink.old) (K.held sink.new) }
 
     // The sink failed in the middle of one of these texts.
     ensures sink_rose { result ≡ Status.WriteFault → Rose (K.faults sink.old) (K.faults sink.new) }

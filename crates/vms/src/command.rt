@@ -1,10 +1,13 @@
 //! What the words ask for.
 
-ghost use Rattle.std.specs.Prelude.{◌≡◌, ◌≤◌, IfSome};
+ghost use Rattle.std.specs.Prelude.{◌≡◌, ◌≤◌, IfErr, IfOk, IfSome, IsSome};
 ghost use Rattle.vx_lines.specs.Numbers as numbers;
 ghost use Rattle.vms.specs.Words as spec;
 
-use vx_base::Bytes;
+use crate::picks::{Picks, picks_in};
+use crate::scope::{Scope, scope_in};
+use std::alloc::Global;
+use vx_base::{Bytes, NoMemory};
 use vx_lines::number_up_to;
 
 /// The options of `sim`: the seed of the schedule, and how many records a run may have, 1 to 100,000.
@@ -15,10 +18,14 @@ pub struct Options {
 }
 
 /// A command of the program that reads its input. `gen N` reads none: `size_of`.
-#[derive(Clone, Copy, Debug, PartialEq, Eq)]
+#[derive(Debug, Drop)]
 pub enum Command {
-    /// `sim`: read a script, run its images, and write the transcript.
+    /// `sim`: read a script, run its images as a seed chooses, and write the transcript.
     Sim(Options),
+    /// `sim --picks`: the same, as a list of places chooses.
+    Follow(Picks),
+    /// `explore`: read a script, and tell how all its runs end.
+    Explore(Scope),
     /// `show`: read a script, and write it canonically.
     Show,
     /// `check` and `draw`: read a transcript, judge it, and write a report of it.
@@ -69,8 +76,9 @@ fn with_seed(given: Given, word: &[u8]) -> Option<Given>
     })
 }
 
-fn limit_in(word: &[u8]) -> Option<u32>
-    ensures value { result ≡ spec.above_zero (numbers.number_up_to 100000 word.now) }
+/// How many records a run may have, if the word says it.
+pub fn limit_in(word: &[u8]) -> Option<u32>
+    ensures value { result ≡ spec.limit_in word.now }
     ensures above { IfSome result (λ n. 1 ≤ n) }
     ensures within { IfSome result (λ n. n ≤ 100000) }
 {
@@ -160,6 +168,12 @@ fn other_command(word: &[u8], rest: &[Bytes]) -> Option<Command>
             None => None,
         };
     }
+    if word == b"explore".as_slice() {
+        return match scope_in(rest) {
+            Some(scope) => Some(Command::Explore(scope)),
+            None => None,
+        };
+    }
     None
 }
 
@@ -172,19 +186,34 @@ fn size_in(word: &[u8]) -> Option<u32>
     if n == 0 { None } else { Some(n as u32) }
 }
 
-/// The command that the words ask for, if they are one that reads.
-pub fn command_of(words: &[Bytes]) -> Option<Command>
-    ensures command { result ≡ spec.command_of words.now }
-    ensures limited { IfSome result spec.HasLimit }
+// `sim` with the words behind it.
+fn sim_in(alloc: Global, words: &[Bytes]) -> Result<Option<Command>, NoMemory>
+    ensures command { IfOk result (λ command. command ≡ spec.sim_in words.now) }
+    ensures limited { IfOk result (λ command. IfSome command spec.HasLimit) }
+    ensures no_memory { IfErr result (λ e. IsSome (spec.sim_in words.now)) }
+{
+    if let Some(given) = options_in(words) {
+        return Ok(Some(Command::Sim(options_of(given))));
+    }
+    match picks_in(alloc, words)? {
+        Some(picks) => Ok(Some(Command::Follow(picks))),
+        None => Ok(None),
+    }
+}
+
+/// The command that the words ask for, if they are one that reads. Words that are none take no memory.
+pub fn command_of(alloc: Global, words: &[Bytes]) -> Result<Option<Command>, NoMemory>
+    ensures command { IfOk result (λ command. command ≡ spec.command_of words.now) }
+    ensures limited { IfOk result (λ command. IfSome command spec.HasLimit) }
+    ensures no_memory { IfErr result (λ e. IsSome (spec.command_of words.now)) }
 {
     let [word, rest @ ..] = words else {
-        return None;
+        return Ok(None);
     };
     if word.as_slice() == b"sim".as_slice() {
-        let given = options_in(rest)?;
-        return Some(Command::Sim(options_of(given)));
+        return sim_in(alloc, rest);
     }
-    other_command(word.as_slice(), rest)
+    Ok(other_command(word.as_slice(), rest))
 }
 
 /// The N of `gen N`, 1 to 200, if the words are this command.

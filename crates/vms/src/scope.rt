@@ -74,14 +74,12 @@ pub fn scope_in(words: &[Bytes]) -> Option<Scope>
         }
         [first, limit, second, states]
             if first.as_slice() == b"--limit".as_slice()
-                && second.as_slice() == b"--states".as_slice() =>
-        {
+                && second.as_slice() == b"--states".as_slice() => {
             with_both(limit.as_slice(), states.as_slice())
         }
         [first, states, second, limit]
             if first.as_slice() == b"--states".as_slice()
-                && second.as_slice() == b"--limit".as_slice() =>
-        {
+                && second.as_slice() == b"--limit".as_slice() => {
             with_both(limit.as_slice(), states.as_slice())
         }
         _ => None,

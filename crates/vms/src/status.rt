@@ -17,7 +17,7 @@ pub enum Status {
     Form,
     /// The run reached its limit with an event enabled, and its transcript was written or found to be the machine's.
     Limit,
-    /// The transcript is cut, or is not the machine's.
+    /// The transcript is cut, or is not the machine's; or a record has no event at the place that the words name for it.
     Illegal,
     /// The source failed.
     ReadFault,
@@ -27,6 +27,8 @@ pub enum Status {
     NoMemory,
     /// The input is longer than 67,108,864 bytes.
     TooLong,
+    /// More states would have been kept than the words allow.
+    Cut,
 }
 
 impl Status {
@@ -47,6 +49,7 @@ impl Status {
             Status::WriteFault => 7,
             Status::NoMemory => 8,
             Status::TooLong => 9,
+            Status::Cut => 10,
         }
     }
 }

@@ -4,6 +4,7 @@ ghost use Rattle.std.specs.Prelude.{◌≡◌, ◌≢◌, ◌⊎◌, ◌≤◌, 
 ghost use Rattle.std.specs.Io.KnownBytes.{Appends};
 ghost use Rattle.vx_host.specs.Causes.{Rose};
 ghost use Rattle.vx_host.specs.Streams.{AppendsFront};
+ghost use Rattle.vms.specs.Followed.{pick_line};
 ghost use Rattle.vms.specs.Top.{fault_line, form_line, kind_word, no_memory, verdict_line, verdict_number, verdict_word};
 
 use crate::status::Status;
@@ -108,6 +109,19 @@ pub fn form_line(alloc: Global, line: u32) -> Result<Bytes, NoMemory>
     text.push_all(b"vms: line ")?;
     print_num(alloc, &mut text, u64::from(line))?;
     text.push_all(b" FORM\n")?;
+    Ok(text)
+}
+
+/// The line of a record that has no event at its place, by its number and how many events are enabled there.
+pub fn pick_line(alloc: Global, number: u32, count: u32) -> Result<Bytes, NoMemory>
+    ensures { IfOk result (λ text. text ≡ pick_line number count) }
+{
+    let mut text = Bytes::new(alloc);
+    text.push_all(b"vms: pick ")?;
+    print_num(alloc, &mut text, u64::from(number))?;
+    text.push_all(b" of ")?;
+    print_num(alloc, &mut text, u64::from(count))?;
+    text.push_all(b"\n")?;
     Ok(text)
 }
 

@@ -1,7 +1,7 @@
 use Rattle.std.proofs.Common.{sym, ◌∙◌}
 use Rattle.std.proofs.KnownBytes.{Keeps-refl}
 use Rattle.vx_base.specs.declared.record.End.TheVariants.{Done, Hung, Limit}
-use Rattle.vms.specs.Top.{at_run, ended, summed}
+use Rattle.vms.specs.Top.{alone, at_run, ended, summed}
 use Rattle.vms.proofs.Breaking.{breaks_summed, writes_summary}
 use Rattle.vms.proofs.call.answer_call.Goals as goal
 
@@ -15,7 +15,7 @@ pub returns-in-Some-clause-limit : goal.returns-in-Some-clause-limit
 returns-in-Some-clause-limit g c = λ e. summed (writes_summary c.args.words.now c.in-Some.n _ _ _ _ Limit (sym c.size_of.ensures.size ∙ c.in-Some.is) (Keeps-refl _) (c.summarize.ensures.limit e))
 
 pub returns-in-Some-clause-no_memory : goal.returns-in-Some-clause-no_memory
-returns-in-Some-clause-no_memory g c = λ e. (at_run c.in-Some.n (sym c.size_of.ensures.size ∙ c.in-Some.is), c.summarize.ensures.no_memory e)
+returns-in-Some-clause-no_memory g c = λ e. (at_run c.in-Some.n (sym c.size_of.ensures.size ∙ c.in-Some.is), alone (c.summarize.ensures.no_memory e))
 
 pub returns-in-Some-clause-write_fault : goal.returns-in-Some-clause-write_fault
 returns-in-Some-clause-write_fault g c = λ e. breaks_summed c.args.words.now c.in-Some.n _ _ _ _ _ _ (sym c.size_of.ensures.size ∙ c.in-Some.is) (Keeps-refl _) (c.summarize.ensures.front e)

@@ -1,5 +1,5 @@
 use Rattle.std.proofs.Common.{inl, inr, sym}
-use Rattle.vms.proofs.Lawful.{completed_lawful, ended_lawful, illegal_lawful}
+use Rattle.vms.proofs.Lawful.{completed_lawful, ended_lawful, rejected_lawful}
 use Rattle.vms.proofs.call.quiet_call.Goals as goal
 
 pub returns-clause-lawful : goal.returns-clause-lawful
@@ -9,7 +9,7 @@ returns-clause-lawful g c = λ e. elim e [
     | inl hung ↦ ended_lawful _ _ _ _ _ _ _ (c.answer_call.ensures.hung hung)
     | inr rest ↦ elim rest [
       | inl limit ↦ ended_lawful _ _ _ _ _ _ _ (c.answer_call.ensures.limit limit)
-      | inr illegal ↦ rw (sym illegal) at (illegal_lawful _ _ _ _ _ (c.answer_call.ensures.illegal illegal))
+      | inr illegal ↦ rw (sym illegal) at (rejected_lawful _ _ _ _ _ (c.answer_call.ensures.illegal illegal))
     ]
   ]
 ]
