@@ -29,7 +29,7 @@ fn image_of(alloc: Global, text: &[u8], next: u32, stmts: Vec<Stmt>) -> Result<I
     Ok(Image {
         name: name(text),
         labels,
-        stmts: Stmts::from_vec(stmts),
+        stmts: Stmts::from_vec(alloc, stmts)?,
     })
 }
 

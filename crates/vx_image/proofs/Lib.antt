@@ -1,3 +1,6 @@
 pub mod Computed
 pub mod Filled
+pub mod KeptStmts
+pub mod KeptTerms
+pub mod Packed
 pub mod Steps

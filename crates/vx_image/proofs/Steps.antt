@@ -1,12 +1,14 @@
 -- Runs of local statements, and what an image of a well formed system says of its statements.
-use Rattle.std.proofs.Common.{◌≡◌, ℕ, suc, ◌+◌, ◌-◌, ◌<◌, List, [], ◌∷◌, Some, None, IsTrue, refl, sym, ◌∙◌, ap, arith, rules, slice_get}
+use Rattle.std.proofs.Common.{◌≡◌, ℕ, zero, suc, ◌+◌, ◌-◌, ◌<◌, List, [], ◌∷◌, Option, Some, None, IsTrue, option_map, refl, sym, ◌∙◌, ap, arith, rules, slice_get}
 use Rattle.std.specs.List.{list_all}
 use Rattle.vx_image.specs.Local.{Reader, Moved, Advanced, local, run_local, stopped, stop_at, is_storable}
 use Rattle.vx_image.specs.Storage.{Storage}
+use Rattle.vx_image.specs.Stmts.{meant}
 use Rattle.vx_image.specs.WellFormed.{is_stmt, IsImage}
 use Rattle.vx_image.specs.declared.image.Image.{Image}
 use Rattle.vx_image.specs.declared.stmt.Stmt.{Stmt}
 use Rattle.vx_image.specs.declared.stmt.Stmt.TheVariants as stmt
+use Rattle.vx_image.specs.declared.stmt.StmtRef.{StmtRef}
 use Rattle.vx_image.specs.declared.stop.Stop.{Stop}
 
 -- after a local statement a run goes on with one statement less
@@ -57,3 +59,13 @@ all_storable decls image (s ∷ stmts) h = grind (arith, storable decls image s,
 -- the statements of an image of a well formed system find room in a store
 pub image_storable : (image : Image) → IsImage image → IsTrue (list_all is_storable image.stmts)
 image_storable image (decls, h) = grind (arith, all_storable decls image image.stmts)
+
+-- each of them does
+pub storable_at : (stmts : List Stmt) (k : ℕ) (s : Stmt) → IsTrue (list_all is_storable stmts) → slice_get stmts k ≡ Some s → IsTrue (is_storable s)
+storable_at [] k s all at = grind arith
+storable_at (t ∷ stmts) zero s all at = grind arith
+storable_at (t ∷ stmts) (suc k) s all at = grind (arith, storable_at stmts k s)
+
+-- what was read stands there
+pub stands_at : (stmts : List Stmt) (k : ℕ) (read : Option StmtRef) (s : StmtRef) → option_map meant read ≡ slice_get stmts k → read ≡ Some s → slice_get stmts k ≡ Some (meant s)
+stands_at stmts k read s is found = sym is ∙ ap (λ (o : Option StmtRef). option_map meant o) found

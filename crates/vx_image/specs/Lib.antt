@@ -2,6 +2,10 @@ pub mod Buffers
 pub mod Digest
 pub mod Example
 pub mod Local
+pub mod Packed
+pub mod Small
+pub mod Stmts
 pub mod Storage
+pub mod Terms
 pub mod Units
 pub mod WellFormed

@@ -1,6 +1,6 @@
 //! Images.
 
-use crate::stmt::Stmts;
+use crate::stmts::Stmts;
 use vx_base::{Name, Sequence};
 
 /// A label of an image, and the place of the statement that it names, from 0: the number of statements where it names the

@@ -2,10 +2,11 @@
 
 ghost use Rattle.std.specs.Prelude.{◌≡◌, ◌<◌, ◌≤◌, IsTrue, Some, None, MatchOption, slice_index};
 ghost use Rattle.vx_image.specs.Local.{value_of, sum_of, difference_of, compares, field_of, place_of, local, is_storable};
+ghost use Rattle.vx_image.specs.Stmts.{meant};
 ghost use Rattle.vx_image.specs.Storage.{buffer_at, status_at};
 
 use crate::image::Image;
-use crate::stmt::{Field, Rel, Stmt};
+use crate::stmt::{Field, Rel, StmtRef};
 use crate::store::Store;
 use vx_base::{Operand, Pid, Target};
 
@@ -89,27 +90,27 @@ pub(crate) fn local(
     prm: u32,
     p: Pid,
     place: u32,
-    stmt: &Stmt,
+    stmt: &StmtRef<'_>,
 ) -> Option<u32>
     requires place { place < 10000 }
-    requires storable { IsTrue (is_storable stmt.now) }
-    ensures { MatchOption result ((local image.now (record { prm = prm; p = p }) store.old place stmt.now ≡ None) × (store.new ≡ store.old)) (λ next. local image.now (record { prm = prm; p = p }) store.old place stmt.now ≡ Some (record { store = store.new; place = next })) }
+    requires storable { IsTrue (is_storable (meant stmt.now)) }
+    ensures { MatchOption result ((local image.now (record { prm = prm; p = p }) store.old place (meant stmt.now) ≡ None) × (store.new ≡ store.old)) (λ next. local image.now (record { prm = prm; p = p }) store.old place (meant stmt.now) ≡ Some (record { store = store.new; place = next })) }
 {
     match stmt {
-        Stmt::Let(target, x) => {
+        StmtRef::Let(target, x) => {
             let n = value_of(store, prm, p, *x);
             store.set(*target, n);
         }
-        Stmt::Add(target, x, y) => {
+        StmtRef::Add(target, x, y) => {
             let n = sum_of(value_of(store, prm, p, *x), value_of(store, prm, p, *y));
             store.set(*target, n);
         }
-        Stmt::Sub(target, x, y) => {
+        StmtRef::Sub(target, x, y) => {
             let n = difference_of(value_of(store, prm, p, *x), value_of(store, prm, p, *y));
             store.set(*target, n);
         }
-        Stmt::Goto(label) => return Some(place_of(image, *label)),
-        Stmt::If(x, rel, y, label) => {
+        StmtRef::Goto(label) => return Some(place_of(image, *label)),
+        StmtRef::If(x, rel, y, label) => {
             if compares(
                 *rel,
                 value_of(store, prm, p, *x),
@@ -118,16 +119,16 @@ pub(crate) fn local(
                 return Some(place_of(image, *label));
             }
         }
-        Stmt::Put(b, bytes) => store.put(*b as u32, bytes.as_slice()),
-        Stmt::Byte(target, b, x) => {
+        StmtRef::Put(b, bytes) => store.put(*b as u32, bytes),
+        StmtRef::Byte(target, b, x) => {
             let n = byte_at(store, *b, value_of(store, prm, p, *x));
             store.set(*target, n);
         }
-        Stmt::Iosb(target, i, field) => {
+        StmtRef::Iosb(target, i, field) => {
             let n = field_of(store, *i, *field);
             store.set(*target, n);
         }
-        Stmt::Return | Stmt::Service(_) => return None,
+        StmtRef::Return | StmtRef::Service(_) => return None,
     }
     Some(place + 1)
 }

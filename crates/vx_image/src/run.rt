@@ -3,11 +3,12 @@
 ghost use Rattle.std.specs.Prelude.{◌≡◌, ◌≤◌, IsTrue, length, Some};
 ghost use Rattle.std.specs.List.{list_all};
 ghost use Rattle.vx_image.specs.Local.{computed_arg, computed, stop_at, run_local, advanced, is_storable};
+ghost use Rattle.vx_image.specs.Stmts.{meant};
 ghost use Rattle.vx_image.specs.WellFormed.{IsImage};
 
 use crate::image::Image;
 use crate::local::{local, value_of};
-use crate::stmt::Stmt;
+use crate::stmt::StmtRef;
 use crate::stop::Stop;
 use crate::store::Store;
 use vx_base::{Arg, Args, Call, Operand, Pid};
@@ -45,11 +46,11 @@ fn computed(store: &Store, prm: u32, p: Pid, call: &Call) -> Call
 }
 
 // What a statement that is not local stops at.
-fn stop_at(store: &Store, prm: u32, p: Pid, stmt: &Stmt) -> Stop
-    ensures { result ≡ stop_at (record { prm = prm; p = p }) store.now (Some stmt.now) }
+fn stop_at(store: &Store, prm: u32, p: Pid, stmt: &StmtRef<'_>) -> Stop
+    ensures { result ≡ stop_at (record { prm = prm; p = p }) store.now (Some (meant stmt.now)) }
 {
     match stmt {
-        Stmt::Service(call) => Stop::Call(computed(store, prm, p, call)),
+        StmtRef::Service(call) => Stop::Call(computed(store, prm, p, call)),
         _ => Stop::Return,
     }
 }
@@ -67,15 +68,14 @@ pub(crate) fn run_local(
     requires storable { IsTrue (list_all is_storable image.now.stmts) }
     ensures { record { store = store.new; place = result.0; stop = result.1 } ≡ run_local most image.now (record { prm = prm; p = p }) store.old pc }
 {
-    let stmts = image.stmts.as_slice();
     let mut place = pc;
     for _ in 0..most {
-        let Some(stmt) = stmts.get(place as usize) else {
+        let Some(stmt) = image.stmts.get(place as usize) else {
             return (place, Stop::End);
         };
-        match local(image, store, prm, p, place, stmt) {
+        match local(image, store, prm, p, place, &stmt) {
             Some(next) => place = next,
-            None => return (place, stop_at(store, prm, p, stmt)),
+            None => return (place, stop_at(store, prm, p, &stmt)),
         }
     }
     (place, Stop::Local)

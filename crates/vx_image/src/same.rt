@@ -4,10 +4,9 @@ ghost use Rattle.std.specs.Prelude.{◌≡◌, ◌↔◌, IsTrue, IfOk};
 
 use crate::decl::ProcDecl;
 use crate::image::{Image, Label};
-use crate::stmt::Stmt;
 use crate::system::System;
 use crate::unit::UnitDecl;
-use vx_base::{Duplicate, Need, NoMemory, Operand, Privs, Same};
+use vx_base::{Duplicate, Need, NoMemory, Privs, Same};
 
 impl Same for Label {
     fn same(&self, other: &Label) -> bool {
@@ -18,50 +17,6 @@ impl Same for Label {
 impl Duplicate for Label {
     fn duplicate(&self) -> Result<Label, NoMemory> {
         Ok(*self)
-    }
-}
-
-// Whether two operands are the same as two others.
-fn same_pair(x: Operand, y: Operand, x2: Operand, y2: Operand) -> bool
-    ensures { IsTrue result ↔ ((x ≡ x2) × (y ≡ y2)) }
-{
-    x == x2 && y == y2
-}
-
-impl Same for Stmt {
-    fn same(&self, other: &Stmt) -> bool {
-        match (self, other) {
-            (Stmt::Let(t, x), Stmt::Let(t2, x2)) => t == t2 && x == x2,
-            (Stmt::Add(t, x, y), Stmt::Add(t2, x2, y2)) => t == t2 && same_pair(*x, *y, *x2, *y2),
-            (Stmt::Sub(t, x, y), Stmt::Sub(t2, x2, y2)) => t == t2 && same_pair(*x, *y, *x2, *y2),
-            (Stmt::Goto(k), Stmt::Goto(k2)) => k == k2,
-            (Stmt::If(x, r, y, k), Stmt::If(x2, r2, y2, k2)) => r == r2
-                && k == k2
-                && same_pair(*x, *y, *x2, *y2),
-            (Stmt::Put(b, bytes), Stmt::Put(b2, bytes2)) => b == b2 && *bytes == *bytes2,
-            (Stmt::Byte(t, b, x), Stmt::Byte(t2, b2, x2)) => t == t2 && b == b2 && x == x2,
-            (Stmt::Iosb(t, i, f), Stmt::Iosb(t2, i2, f2)) => t == t2 && i == i2 && f == f2,
-            (Stmt::Return, Stmt::Return) => true,
-            (Stmt::Service(call), Stmt::Service(call2)) => call.same(call2),
-            _ => false,
-        }
-    }
-}
-
-impl Duplicate for Stmt {
-    fn duplicate(&self) -> Result<Stmt, NoMemory> {
-        Ok(match self {
-            Stmt::Let(t, x) => Stmt::Let(*t, *x),
-            Stmt::Add(t, x, y) => Stmt::Add(*t, *x, *y),
-            Stmt::Sub(t, x, y) => Stmt::Sub(*t, *x, *y),
-            Stmt::Goto(k) => Stmt::Goto(*k),
-            Stmt::If(x, r, y, k) => Stmt::If(*x, *r, *y, *k),
-            Stmt::Put(b, bytes) => Stmt::Put(*b, bytes.copy()?),
-            Stmt::Byte(t, b, x) => Stmt::Byte(*t, *b, *x),
-            Stmt::Iosb(t, i, f) => Stmt::Iosb(*t, *i, *f),
-            Stmt::Return => Stmt::Return,
-            Stmt::Service(call) => Stmt::Service(*call),
-        })
     }
 }
 

@@ -1,6 +1,9 @@
 //! Statements of an image.
 
-use vx_base::{Bytes, Call, Operand, Sequence, Target};
+ghost use Rattle.std.specs.Prelude.{◌≡◌, ◌↔◌, IsTrue};
+ghost use Rattle.vx_image.specs.Stmts.{meant};
+
+use vx_base::{Bytes, Call, Operand, Target};
 
 /// How two values are compared, as numbers without a sign.
 #[derive(Clone, Copy, Debug, PartialEq, Eq)]
@@ -52,5 +55,45 @@ pub enum Stmt {
     Service(Call),
 }
 
-/// Statements in order.
-pub type Stmts = Sequence<Stmt>;
+/// A statement that was read from a list: a `Stmt` whose bytes stand in the list.
+#[derive(Clone, Copy, Debug)]
+pub enum StmtRef<'a> {
+    Let(Target, Operand),
+    Add(Target, Operand, Operand),
+    Sub(Target, Operand, Operand),
+    Goto(u32),
+    If(Operand, Rel, Operand, u32),
+    Put(u8, &'a [u8]),
+    Byte(Target, u8, Operand),
+    Iosb(Target, u8, Field),
+    Return,
+    Service(Call),
+}
+
+// Whether two operands are the same as two others.
+fn same_pair(x: Operand, y: Operand, x2: Operand, y2: Operand) -> bool
+    ensures { IsTrue result ↔ ((x ≡ x2) × (y ≡ y2)) }
+{
+    x == x2 && y == y2
+}
+
+/// Whether two statements are the same.
+pub(crate) fn same_stmt(a: &StmtRef<'_>, b: &StmtRef<'_>) -> bool
+    ensures { IsTrue result ↔ (meant a.now ≡ meant b.now) }
+{
+    match (a, b) {
+        (StmtRef::Let(t, x), StmtRef::Let(t2, x2)) => t == t2 && x == x2,
+        (StmtRef::Add(t, x, y), StmtRef::Add(t2, x2, y2)) => t == t2 && same_pair(*x, *y, *x2, *y2),
+        (StmtRef::Sub(t, x, y), StmtRef::Sub(t2, x2, y2)) => t == t2 && same_pair(*x, *y, *x2, *y2),
+        (StmtRef::Goto(k), StmtRef::Goto(k2)) => k == k2,
+        (StmtRef::If(x, r, y, k), StmtRef::If(x2, r2, y2, k2)) => {
+            r == r2 && k == k2 && same_pair(*x, *y, *x2, *y2)
+        }
+        (StmtRef::Put(b, bytes), StmtRef::Put(b2, bytes2)) => b == b2 && *bytes == *bytes2,
+        (StmtRef::Byte(t, b, x), StmtRef::Byte(t2, b2, x2)) => t == t2 && b == b2 && x == x2,
+        (StmtRef::Iosb(t, i, f), StmtRef::Iosb(t2, i2, f2)) => t == t2 && i == i2 && f == f2,
+        (StmtRef::Return, StmtRef::Return) => true,
+        (StmtRef::Service(call), StmtRef::Service(call2)) => call.same(call2),
+        _ => false,
+    }
+}

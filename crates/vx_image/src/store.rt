@@ -2,7 +2,7 @@
 
 ghost use Rattle.std.specs.Prelude.{◌≡◌, ◌↔◌, ◌≤◌, ◌<◌, length, replicate, IfOk, IsTrue};
 ghost use Rattle.vx_base.specs.Pieces.{cleared};
-ghost use Rattle.vx_image.specs.Digest.{mix_all, mix_stored};
+ghost use Rattle.vx_image.specs.Digest.{mix_all, mix_statuses, mix_stored};
 ghost use Rattle.vx_image.specs.Storage.{no_storage, stored_in, with_target, status_at, with_status, buffer_at, with_bytes};
 
 use crate::buffers::Buffers;
@@ -88,6 +88,17 @@ fn mix_all(digest: u64, numbers: &[u32]) -> u64
     let mut mixed = digest;
     for n in numbers {
         mixed = mix(mixed, *n as u64);
+    }
+    mixed
+}
+
+// A digest with the numbers of I/O status blocks.
+fn mix_statuses(digest: u64, blocks: &[Block]) -> u64
+    ensures { result ≡ mix_statuses digest blocks.now }
+{
+    let mut mixed = digest;
+    for block in blocks {
+        mixed = mix(mix(mixed, block.count as u64), block.info as u64);
     }
     mixed
 }
@@ -199,10 +210,13 @@ impl Store {
             && self.buffers.same(&other.buffers)
     }
 
-    /// A digest with R0 and the variables.
+    /// A digest with R0, the variables, and the numbers of the I/O status blocks.
     pub fn mix(&self, digest: u64) -> u64
         ensures { result ≡ mix_stored digest self.now }
     {
-        mix_all(mix(digest, self.r0 as u64), &self.vars)
+        mix_statuses(
+            mix_all(mix(digest, self.r0 as u64), &self.vars),
+            &self.statuses,
+        )
     }
 }

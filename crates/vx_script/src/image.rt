@@ -11,6 +11,7 @@ use crate::ending::with_image;
 use crate::fault::LineFail;
 use crate::fields::{begins_with_sign, behind, end_at};
 use crate::parts::{Parts, Reading};
+use crate::services::Services;
 use crate::statement::stmt_of;
 use std::alloc::Global;
 use vx_base::Name;
@@ -18,13 +19,18 @@ use vx_image::Label;
 use vx_text::{Tok, Token};
 
 // A statement, where one stands.
-fn with_stmt(line: u32, image: &mut DraftImage, tokens: &[Token]) -> Result<(), LineFail>
+fn with_stmt(
+    services: &Services,
+    line: u32,
+    image: &mut DraftImage,
+    tokens: &[Token],
+) -> Result<(), LineFail>
     ensures { LeavesLine result image.new (spec.with_stmt line image.old (toks tokens.now)) }
 {
     if tokens.is_empty() {
         return Ok(());
     }
-    let draft = stmt_of(tokens)?;
+    let draft = stmt_of(services, tokens)?;
     room_for(MOST_STMTS, image.lines.len() as usize)?;
     image.lines.push(DraftLine { line, draft })?;
     Ok(())
@@ -40,12 +46,18 @@ fn with_label(image: &mut DraftImage, name: Name) -> Result<(), LineFail>
 }
 
 // A label, and the statement behind it if any.
-fn labelled(line: u32, image: &mut DraftImage, name: Name, tokens: &[Token]) -> Result<(), LineFail>
+fn labelled(
+    services: &Services,
+    line: u32,
+    image: &mut DraftImage,
+    name: Name,
+    tokens: &[Token],
+) -> Result<(), LineFail>
     ensures { LeavesLine result image.new (spec.labelled line image.old name (toks tokens.now)) }
 {
     unused_name(image.labels.place(name), name)?;
     with_label(image, name)?;
-    with_stmt(line, image, tokens)
+    with_stmt(services, line, image, tokens)
 }
 
 /// An image stands open.
@@ -70,6 +82,7 @@ fn ended(
 
 // A line that begins with a label; the tokens are those behind its colon.
 fn label_line(
+    services: &Services,
     line: u32,
     reading: &mut Reading,
     mut image: DraftImage,
@@ -78,7 +91,7 @@ fn label_line(
 ) -> Result<(), LineFail>
     ensures { LeavesLine result reading.new (spec.going_on reading.old.parts (spec.labelled line image label (toks tokens.now))) }
 {
-    let added = labelled(line, &mut image, label, tokens);
+    let added = labelled(services, line, &mut image, label, tokens);
     keep_open(image, reading);
     added
 }
@@ -86,6 +99,7 @@ fn label_line(
 // A line that begins with a word; the tokens are all of the line's.
 fn word_line(
     alloc: Global,
+    services: &Services,
     line: u32,
     reading: &mut Reading,
     image: DraftImage,
@@ -96,16 +110,17 @@ fn word_line(
     ensures { LeavesLine result reading.new (spec.word_line line reading.old.parts image word (toks tokens.now)) }
 {
     if begins_with_sign(b':', behind(tokens, 1)) {
-        label_line(line, reading, image, word, behind(tokens, 2))
+        label_line(services, line, reading, image, word, behind(tokens, 2))
     } else if word.text() == b"END".as_slice() {
         ended(alloc, &mut reading.parts, image, behind(tokens, 1))
     } else {
-        other_line(line, reading, image, tokens)
+        other_line(services, line, reading, image, tokens)
     }
 }
 
 // A line that is a statement alone, or has no tokens.
 fn other_line(
+    services: &Services,
     line: u32,
     reading: &mut Reading,
     mut image: DraftImage,
@@ -113,7 +128,7 @@ fn other_line(
 ) -> Result<(), LineFail>
     ensures { LeavesLine result reading.new (spec.going_on reading.old.parts (spec.with_stmt line image (toks tokens.now))) }
 {
-    let added = with_stmt(line, &mut image, tokens);
+    let added = with_stmt(services, line, &mut image, tokens);
     keep_open(image, reading);
     added
 }
@@ -133,6 +148,7 @@ fn first_word(tokens: &[Token]) -> Option<Name>
 /// A line of an image.
 pub fn inside(
     alloc: Global,
+    services: &Services,
     line: u32,
     reading: &mut Reading,
     image: DraftImage,
@@ -142,7 +158,7 @@ pub fn inside(
     ensures { LeavesLine result reading.new (spec.inside line reading.old.parts image (toks tokens.now)) }
 {
     match first_word(tokens) {
-        Some(word) => word_line(alloc, line, reading, image, word, tokens),
-        None => other_line(line, reading, image, tokens),
+        Some(word) => word_line(alloc, services, line, reading, image, word, tokens),
+        None => other_line(services, line, reading, image, tokens),
     }
 }

@@ -24,6 +24,7 @@ mod print_word;
 mod privileges;
 mod read;
 mod resolve;
+mod services;
 mod statement;
 
 pub use fault::{FaultKind, ScriptFail, ScriptFault};

@@ -7,7 +7,7 @@ ghost use Rattle.vx_script.specs.Script.{ended_lines};
 use crate::print_stmt::print_stmt;
 use std::alloc::Global;
 use vx_base::{Bytes, NoMemory};
-use vx_image::{Image, Label, Stmt};
+use vx_image::{Image, Label, Stmts};
 
 fn print_label(label: &Label, out: &mut Bytes) -> Result<(), NoMemory>
     ensures { OnOk result (out.new ≡ out.old ++ (spec.label_line label.now ++ 10 ∷ [])) }
@@ -27,7 +27,8 @@ fn print_labels(labels: &[Label], out: &mut Bytes) -> Result<(), NoMemory>
 
 /// How many labels stand first that name this place or one before it.
 fn labels_up_to(place: usize, labels: &[Label]) -> usize
-    ensures { result ≡ spec.labels_up_to place labels.now }
+    ensures count { result ≡ spec.labels_up_to place labels.now }
+    ensures within { result ≤ length labels.now }
 {
     labels
         .iter()
@@ -39,17 +40,17 @@ fn labels_up_to(place: usize, labels: &[Label]) -> usize
 fn print_body(
     alloc: Global,
     labels: &[Label],
-    stmts: &[Stmt],
+    stmts: &Stmts,
     out: &mut Bytes,
 ) -> Result<(), NoMemory>
     ensures { OnOk result (out.new ≡ out.old
         ++ ended_lines (spec.body_lines labels.now 0 labels.now stmts.now)) }
 {
     let mut left = labels;
-    for (place, stmt) in stmts.iter().enumerate() {
+    for place in 0..stmts.len() {
         let (own, behind) = left.split_at(labels_up_to(place, left));
         print_labels(own, out)?;
-        print_stmt(alloc, labels, stmt, out)?;
+        print_stmt(alloc, labels, &stmts.at(place), out)?;
         left = behind;
     }
     print_labels(left, out)
@@ -62,6 +63,6 @@ pub fn print_image(alloc: Global, image: &Image, out: &mut Bytes) -> Result<(), 
     out.push_all(b"IMAGE ")?;
     out.push_all(image.name.text())?;
     out.push_all(b"\n")?;
-    print_body(alloc, image.labels.as_slice(), image.stmts.as_slice(), out)?;
+    print_body(alloc, image.labels.as_slice(), &image.stmts, out)?;
     out.push_all(b"END\n")
 }

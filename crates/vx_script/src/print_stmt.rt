@@ -4,13 +4,14 @@ ghost use Rattle.std.specs.Prelude.{OnOk, [], ◌++◌, ◌∷◌, ◌≡◌};
 ghost use Rattle.vx_script.specs.Script as spec;
 ghost use Rattle.vx_script.specs.Script.{spaced};
 ghost use Rattle.vx_script.specs.Statements.{rel_name, field_name};
+ghost use Rattle.vx_image.specs.Stmts.{meant};
 ghost use Rattle.vx_image.specs.declared.stmt.Stmt.TheVariants as stmt;
 ghost use Rattle.vx_table.specs.Spelling.{operand_text, target_text};
 
 use crate::print_word::{print_number, print_place, print_text, print_value, print_word};
 use std::alloc::Global;
 use vx_base::{Bytes, NoMemory, Operand, Target};
-use vx_image::{Field, Label, Rel, Stmt};
+use vx_image::{Field, Label, Rel, StmtRef};
 use vx_table::call_text;
 
 fn rel_name(rel: Rel) -> &'static [u8]
@@ -144,22 +145,22 @@ fn print_iosb(
 fn print_words(
     alloc: Global,
     labels: &[Label],
-    stmt: &Stmt,
+    stmt: &StmtRef<'_>,
     out: &mut Bytes,
 ) -> Result<(), NoMemory>
-    ensures { OnOk result (out.new ≡ out.old ++ spaced (spec.stmt_words labels.now stmt.now)) }
+    ensures { OnOk result (out.new ≡ out.old ++ spaced (spec.stmt_words labels.now (meant stmt.now))) }
 {
     match stmt {
-        Stmt::Let(t, x) => print_let(alloc, *t, *x, out),
-        Stmt::Add(t, x, y) => print_sum(alloc, *t, *x, b"+", *y, out),
-        Stmt::Sub(t, x, y) => print_sum(alloc, *t, *x, b"-", *y, out),
-        Stmt::Goto(k) => print_goto(labels, *k, out),
-        Stmt::If(x, r, y, k) => print_if(alloc, labels, *x, *r, *y, *k, out),
-        Stmt::Put(b, bytes) => print_put(alloc, *b, bytes.as_slice(), out),
-        Stmt::Byte(t, b, x) => print_byte(alloc, *t, *b, *x, out),
-        Stmt::Iosb(t, i, f) => print_iosb(alloc, *t, *i, *f, out),
-        Stmt::Return => print_word(b"RETURN", out),
-        Stmt::Service(call) => print_word(call_text(alloc, call)?.as_slice(), out),
+        StmtRef::Let(t, x) => print_let(alloc, *t, *x, out),
+        StmtRef::Add(t, x, y) => print_sum(alloc, *t, *x, b"+", *y, out),
+        StmtRef::Sub(t, x, y) => print_sum(alloc, *t, *x, b"-", *y, out),
+        StmtRef::Goto(k) => print_goto(labels, *k, out),
+        StmtRef::If(x, r, y, k) => print_if(alloc, labels, *x, *r, *y, *k, out),
+        StmtRef::Put(b, bytes) => print_put(alloc, *b, bytes, out),
+        StmtRef::Byte(t, b, x) => print_byte(alloc, *t, *b, *x, out),
+        StmtRef::Iosb(t, i, f) => print_iosb(alloc, *t, *i, *f, out),
+        StmtRef::Return => print_word(b"RETURN", out),
+        StmtRef::Service(call) => print_word(call_text(alloc, call)?.as_slice(), out),
     }
 }
 
@@ -167,10 +168,10 @@ fn print_words(
 pub fn print_stmt(
     alloc: Global,
     labels: &[Label],
-    stmt: &Stmt,
+    stmt: &StmtRef<'_>,
     out: &mut Bytes,
 ) -> Result<(), NoMemory>
-    ensures { OnOk result (out.new ≡ out.old ++ (spec.stmt_line labels.now stmt.now ++ 10 ∷ [])) }
+    ensures { OnOk result (out.new ≡ out.old ++ (spec.stmt_line labels.now (meant stmt.now) ++ 10 ∷ [])) }
 {
     out.push_all(b" ")?;
     print_words(alloc, labels, stmt, out)?;

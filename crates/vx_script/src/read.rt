@@ -12,6 +12,7 @@ use crate::fault::{FaultKind, LineFail, ScriptFail, ScriptFault};
 use crate::image::{inside, keep_open};
 use crate::parts::{Parts, Reading};
 use crate::resolve::resolve;
+use crate::services::Services;
 use std::alloc::Global;
 use vx_base::{Name, Sequence};
 use vx_image::System;
@@ -108,6 +109,7 @@ fn outside(
 
 fn accepted(
     alloc: Global,
+    services: &Services,
     line: u32,
     reading: &mut Reading,
     tokens: &[Token],
@@ -116,7 +118,7 @@ fn accepted(
 {
     match reading.current.take() {
         None => outside(alloc, line, reading, tokens),
-        Some(image) => inside(alloc, line, reading, image, tokens),
+        Some(image) => inside(alloc, services, line, reading, image, tokens),
     }
 }
 
@@ -133,21 +135,33 @@ fn line_fail(fail: LexFail) -> LineFail
 }
 
 #[tactic(auto, unfolding(crate::specs::Reading::take_line))]
-fn take_line(alloc: Global, line: u32, reading: &mut Reading, text: &[u8]) -> Result<(), LineFail>
+fn take_line(
+    alloc: Global,
+    services: &Services,
+    line: u32,
+    reading: &mut Reading,
+    text: &[u8],
+) -> Result<(), LineFail>
     requires { length text.now < 4294967295 }
     ensures { LeavesLine result reading.new (spec.take_line line reading.old text.now) }
 {
     match tokens(alloc, text) {
-        Ok(tokens) => accepted(alloc, line, reading, &tokens),
+        Ok(tokens) => accepted(alloc, services, line, reading, &tokens),
         Err(fail) => Err(line_fail(fail)),
     }
 }
 
-fn next_line(alloc: Global, line: u32, reading: &mut Reading, text: &[u8]) -> Result<(), ScriptFail>
+fn next_line(
+    alloc: Global,
+    services: &Services,
+    line: u32,
+    reading: &mut Reading,
+    text: &[u8],
+) -> Result<(), ScriptFail>
     requires { length text.now < 4294967295 }
     ensures { LeavesScript result reading.new (at_line line (spec.take_line line reading.old text.now)) }
 {
-    match take_line(alloc, line, reading, text) {
+    match take_line(alloc, services, line, reading, text) {
         Ok(()) => Ok(()),
         Err(LineFail::Fault(kind)) => Err(ScriptFail::Fault(ScriptFault { line, kind })),
         Err(LineFail::NoMemory) => Err(ScriptFail::NoMemory),
@@ -229,11 +243,12 @@ fn read_lines(alloc: Global, reading: &mut Reading, text: &[u8]) -> Result<Syste
     requires { length text.now < 4294967295 }
     ensures { ReadsScript result (spec.read_lines 1 reading.old (lines_of text.now)) }
 {
+    let services = Services::new();
     let mut line: u32 = 1;
     let mut rest = text;
     while !rest.is_empty() {
         let len = line_len(rest);
-        next_line(alloc, line, reading, first_line(rest, len))?;
+        next_line(alloc, &services, line, reading, first_line(rest, len))?;
         line += 1;
         rest = bytes_behind(rest, len + 1);
     }

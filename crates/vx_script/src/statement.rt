@@ -13,9 +13,10 @@ use crate::fault::{FaultKind, LineFail};
 use crate::fields::{
     behind, end_at, is_sign, name_at, number_at, operand_at, sign_at, target_at, text_at, word_at,
 };
+use crate::services::Services;
 use vx_base::{Name, Operand, Target};
 use vx_image::{Field, Rel, Stmt};
-use vx_table::{CallFail, service_table};
+use vx_table::CallFail;
 use vx_text::{Tok, Token};
 
 fn added(v: Target, x: Operand, tokens: &[Token]) -> Result<Draft, FaultKind>
@@ -237,18 +238,18 @@ fn call_kind(fail: CallFail) -> FaultKind
 }
 
 // A call of a service, which is the first token.
-fn call_stmt(tokens: &[Token]) -> Result<Draft, FaultKind>
+fn call_stmt(services: &Services, tokens: &[Token]) -> Result<Draft, FaultKind>
     requires { BeginsCall (toks tokens.now) }
     ensures { result ≡ spec.called (read_call service_rows (toks tokens.now)) }
 {
-    match service_table().read_call(tokens) {
+    match services.read_call(tokens) {
         Ok(call) => Ok(Draft::Plain(Stmt::Service(call))),
         Err(fail) => Err(call_kind(fail)),
     }
 }
 
 /// The statement that tokens are.
-pub fn stmt_of(tokens: &[Token]) -> Result<Draft, LineFail>
+pub fn stmt_of(services: &Services, tokens: &[Token]) -> Result<Draft, LineFail>
     ensures { ReadsLine result (spec.stmt_at (toks tokens.now)) }
 {
     let [first, rest @ ..] = tokens else {
@@ -256,7 +257,7 @@ pub fn stmt_of(tokens: &[Token]) -> Result<Draft, LineFail>
     };
     match &first.tok {
         Tok::Word(word) => local_stmt(word, rest),
-        Tok::Service(_) => as_line(call_stmt(tokens)),
+        Tok::Service(_) => as_line(call_stmt(services, tokens)),
         _ => Err(LineFail::Fault(FaultKind::Word)),
     }
 }
