@@ -26,6 +26,7 @@ impl Model for Explored {
 }
 
 impl Explored {
+    /// An executive, whose runs from here on are explored. Takes no memory.
     pub fn new(alloc: Global, exec: Exec<Scripted>) -> Explored
         ensures { result ≡ exec }
     {
@@ -58,6 +59,7 @@ impl Machine for Explored {
         match exec.enabled(pick) {
             Some(event) => {
                 exec.step(event)?;
+                exec.trim();
                 Ok(Explored::new(self.alloc, exec))
             }
             None => unreachable!(),

@@ -3,7 +3,7 @@ use Rattle.std.proofs.Common.{◌≡◌, ℕ, zero, suc, ◌+◌, ◌-◌, ◌<�
 use Rattle.std.proofs.lemmas.Bool.{cases_eq, leb-true}
 use Rattle.std.proofs.lemmas.Bool.Decides.{nat_tests}
 use Rattle.std.proofs.lemmas.List.{drop_more}
-use Rattle.std.specs.List.{AllByRecursion}
+use Rattle.std.specs.List.{AllByRecursion, find}
 use Rattle.vx_base.specs.Pieces.{DeviceUnit, Queued, Request, Timer}
 use Rattle.vx_base.specs.Queues.{front, in_service}
 use Rattle.vx_base.specs.declared.frame.Frame.{Frame}
@@ -20,6 +20,7 @@ use Rattle.vx_record.specs.Runs.{next_seed, picked}
 use Rattle.vx_record.specs.Sound.{WaitStands, WaitsStand}
 use Rattle.vx_record.proofs.Changes.{stands_at}
 use Rattle.vx_record.proofs.Lists.{either, all_append, all_at}
+use Rattle.vx_exec.specs.Leases.{is_open}
 use Rattle.vx_exec.specs.Picks.{picked_event}
 use Rattle.vx_exec.specs.Ready.{HasOwner, process_of}
 use Rattle.vx_exec.specs.Sound.{IsWhole}
@@ -306,3 +307,40 @@ past_units s ys place left found past so_far = ap (λ (us : List DeviceUnit). sl
 -- there are 32 units at most
 pub few_units : (s : State) → IsWhole s → length s.units ≤ 32
 few_units s whole = omega (arith, whole.sound.units, leb-true (length s.system.units) 32 whole.formed.few_units)
+
+-- The first event that ends no service.
+
+-- a process ends none
+process_open : (s : State) (p : Pid) (e : Event) → option_to_list (Some e) ≡ process_events s p → is_open e ≡ true
+process_open s p e is = shape (λ es. e ∷ [] ≡ es → is_open e ≡ true) s p (λ x. absurd (cc)) (λ x. let same : e ≡ event.Run p = cc in ap is_open same) (λ x. let same : e ≡ event.Rdn p = cc in ap is_open same) (λ x. let same : e ≡ event.Ast p = cc in ap is_open same) is
+
+find_here : (now later : List Event) (e : Event) (found : Option Event) → now ≡ e ∷ later → is_open e ≡ true → find is_open now ≡ found → Some e ≡ found
+find_here now later e found is opens so_far = sym (ap (λ (b : Bool). if b then Some e else find is_open later) opens) ∙ (ap (find is_open) (sym is) ∙ so_far)
+
+find_past : (now later : List Event) (e : Event) (found : Option Event) → now ≡ e ∷ later → is_open e ≡ false → find is_open now ≡ found → find is_open later ≡ found
+find_past now later e found is ends so_far = sym (ap (λ (b : Bool). if b then Some e else find is_open later) ends) ∙ (ap (find is_open) (sym is) ∙ so_far)
+
+pub open_process : (s : State) (ys : List Event) (place : ℕ) (e : Event) (found : Option Event) → place < length s.procs → option_to_list (Some e) ≡ process_events s (pid (place + 1)) → find is_open (later_processes s place ys) ≡ found → Some e ≡ found
+open_process s ys place e found within is so_far = find_here (later_processes s place ys) (later_processes s (place + 1) ys) e found (some_process s ys place e within is) (process_open s (pid (place + 1)) e is) so_far
+
+pub no_open_process : (s : State) (ys : List Event) (place : ℕ) (found : Option Event) → place < length s.procs → option_to_list None ≡ process_events s (pid (place + 1)) → find is_open (later_processes s place ys) ≡ found → find is_open (later_processes s (place + 1) ys) ≡ found
+no_open_process s ys place found within is so_far = ap (find is_open) (sym (no_process s ys place within is)) ∙ so_far
+
+pub open_unit : (s : State) (ys : List Event) (place : ℕ) (e : Event) (found : Option Event) → place < length s.units → option_to_list (Some e) ≡ unit_events s (record { 0 = place }) → is_open e ≡ true → find is_open (later_units s place ys) ≡ found → Some e ≡ found
+open_unit s ys place e found within is opens so_far = find_here (later_units s place ys) (later_units s (place + 1) ys) e found (some_unit s ys place e within is) opens so_far
+
+pub closed_unit : (s : State) (ys : List Event) (place : ℕ) (e : Event) (found : Option Event) → place < length s.units → option_to_list (Some e) ≡ unit_events s (record { 0 = place }) → is_open e ≡ false → find is_open (later_units s place ys) ≡ found → find is_open (later_units s (place + 1) ys) ≡ found
+closed_unit s ys place e found within is ends so_far = find_past (later_units s place ys) (later_units s (place + 1) ys) e found (some_unit s ys place e within is) ends so_far
+
+pub no_open_unit : (s : State) (ys : List Event) (place : ℕ) (found : Option Event) → place < length s.units → option_to_list None ≡ unit_events s (record { 0 = place }) → find is_open (later_units s place ys) ≡ found → find is_open (later_units s (place + 1) ys) ≡ found
+no_open_unit s ys place found within is so_far = ap (find is_open) (sym (no_unit_event s ys place within is)) ∙ so_far
+
+pub past_open_processes : (s : State) (ys : List Event) (place : ℕ) (found : Option Event) → length s.procs ≤ place → find is_open (later_processes s place ys) ≡ found → find is_open ys ≡ found
+past_open_processes s ys place found past so_far = ap (λ (prs : List Process). find is_open (processes_from s (place + 1) prs ++ ys)) (sym (drop_end s.procs place past)) ∙ so_far
+
+pub past_open_units : (s : State) (place : ℕ) (found : Option Event) → length s.units ≤ place → find is_open (later_units s place (tick_events s.timers)) ≡ found → slice_get (tick_events s.timers) 0 ≡ found
+past_open_units s place found past so_far = tick_first s.timers ∙ (ap (λ (us : List DeviceUnit). find is_open (units_from s place us ++ tick_events s.timers)) (sym (drop_end s.units place past)) ∙ so_far)
+  where
+    tick_first : (ts : List Timer) → slice_get (tick_events ts) 0 ≡ find is_open (tick_events ts)
+    tick_first [] = refl
+    tick_first (t ∷ ts) = refl

@@ -6,6 +6,7 @@ pub mod Cancels
 pub mod Deepest
 pub mod Down
 pub mod Enabled
+pub mod Engines
 pub mod Ends
 pub mod Few
 pub mod Fired

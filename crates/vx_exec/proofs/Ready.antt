@@ -29,6 +29,7 @@ use Rattle.vx_procs.specs.Ready.{HasHandlerRoom}
 use Rattle.vx_io.specs.Finishing.{AreRequests}
 use Rattle.vx_rundown.specs.Leaving.{IsLeaving}
 use Rattle.vx_rundown.proofs.Standing.{own_handlers_at, own_ids_at}
+use Rattle.vx_exec.specs.Engines.{IsHomeFor}
 use Rattle.vx_exec.specs.Ready.{HasBegun, HasOwner, IsIdle, IsNext, IsOpen, IsReadyFor, IsRoomMade, most}
 use Rattle.vx_exec.specs.Sound.{IsGoing, IsWhole}
 use Rattle.vx_exec.proofs.Down.{rundown_goes}
@@ -101,15 +102,15 @@ leaving_of k e p limit taken going owner begun =
       spares = begun.spares;
     }
 
-pub ready_for : (k : Kernel) (e : Event) (limit taken : ℕ) → IsGoing k.state limit taken → HasOwner k.state e → IsRoomMade k e → IsReadyFor k e
-ready_for k (event.Run p) limit taken going made begun = next_of k (event.Run p) p limit taken going made begun begun.handler
-ready_for k (event.Ast p) limit taken going made begun = next_of k (event.Ast p) p limit taken going made begun begun.handler
-ready_for k (event.Rdn p) limit taken going owner begun = leaving_of k (event.Rdn p) p limit taken going owner begun
-ready_for k event.Tick limit taken going made begun = record { order = going.whole.sound.timer_ids; counted = begun.time }
-ready_for k (event.Beg u) limit taken going waits begun = record { prepared = begun.0; requests = requests_of k.state going.whole }
-ready_for k (event.Don u) limit taken going serves begun =
+pub ready_for : (k : Kernel) (e : Event) (limit taken : ℕ) → IsGoing k.state limit taken → HasOwner k.state e → IsHomeFor k e → IsRoomMade k e → IsReadyFor k e
+ready_for k (event.Run p) limit taken going made home begun = next_of k (event.Run p) p limit taken going made begun begun.handler
+ready_for k (event.Ast p) limit taken going made home begun = next_of k (event.Ast p) p limit taken going made begun begun.handler
+ready_for k (event.Rdn p) limit taken going owner home begun = leaving_of k (event.Rdn p) p limit taken going owner begun
+ready_for k event.Tick limit taken going made home begun = record { order = going.whole.sound.timer_ids; counted = begun.time }
+ready_for k (event.Beg u) limit taken going waits home begun = record { prepared = begun.0; requests = requests_of k.state going.whole }
+ready_for k (event.Don u) limit taken going serves home begun =
     let few = going.services u in
-    record { serves = serves; requests = requests_of k.state going.whole; count = omega (arith, few, going.within, going.limited) }
+    record { serves = serves; requests = requests_of k.state going.whole; count = omega (arith, few, going.within, going.limited); home = home }
 
 -- Each step.
 

@@ -1,4 +1,6 @@
 pub mod Asked
+pub mod Engines
+pub mod Leases
 pub mod Picks
 pub mod Ready
 pub mod Sound

@@ -1,5 +1,5 @@
 -- What an event relies on, once room was made for it.
-use Rattle.std.specs.Prelude.{◌≡◌, ℕ, [], Option, Some, None, true, IfSome, ◌+◌, ◌*◌, ◌≤◌, IsSome, IsTrue, length, ⊤, ◌^◌, ◌<◌}
+use Rattle.std.specs.Prelude.{◌≡◌, ℕ, [], Option, Some, None, true, false, IfSome, ◌+◌, ◌*◌, ◌≤◌, IsSome, IsTrue, length, ⊤, ◌^◌, ◌<◌}
 use Rattle.vx_base.specs.Queues.{front, in_service}
 use Rattle.vx_base.specs.declared.mode.Mode.{Mode}
 use Rattle.vx_base.specs.declared.number.Id.{Id}
@@ -19,7 +19,8 @@ use Rattle.vx_record.specs.Sound.{AreOrdered, WaitsStand, timer_id}
 use Rattle.vx_io.specs.Asking.{AreOpen}
 use Rattle.vx_io.specs.Finishing.{AreRequests}
 use Rattle.vx_io.specs.Rooms.{AreFull, Room}
-use Rattle.vx_procs.specs.Kernel.{Fits, IsPrepared, Kernel, opened}
+use Rattle.vx_units.specs.Leases.{is_out}
+use Rattle.vx_procs.specs.Kernel.{Fits, IsPrepared, Kernel, opened, stand_for}
 use Rattle.vx_procs.specs.Ready.{HasHandlerRoom, HasMessageRooms, HasNewcomer, HasSpares, IsReady}
 use Rattle.vx_procs.specs.Words.{deepest, handlers_have_own_ids, have_own_ids}
 use Rattle.vx_rundown.specs.Leaving.{IsLeaving}
@@ -79,11 +80,13 @@ pub record IsToBegin (k : Kernel) (u : UnitNo) : Type 0 where
   pub prepared : IsPrepared k u
   pub requests : AreRequests k.state
 
--- What a DON relies on: the unit serves a request; requests stand, and their ids rise; and the services can be counted on.
+-- What a DON relies on: the unit serves a request, and is not out; requests stand, and their ids rise; and the services can be counted
+-- on.
 pub record IsToEnd (k : Kernel) (u : UnitNo) : Type 0 where
   pub serves : IsSome (in_service u k.state.requests)
   pub requests : AreRequests k.state
   pub count : (unit_at k.state u).services < 4294967295
+  pub home : is_out (stand_for k u) ≡ false
 
 -- what an event relies on
 abbrev pub IsReadyFor : Kernel → Event → Type 0

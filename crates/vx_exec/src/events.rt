@@ -5,6 +5,8 @@ ghost use Rattle.vx_record.specs.State.{IsProcess, process_at};
 ghost use Rattle.vx_record.specs.Events.{can_run, can_run_down, enabled, process_events, processes_from, tick_events, unit_events, units_from};
 ghost use Rattle.vx_record.specs.Runs.{are_deleted};
 ghost use Rattle.vx_record.specs.Sound.{WaitsStand};
+ghost use Rattle.std.specs.List.{find};
+ghost use Rattle.vx_exec.specs.Leases.{first_open, is_open};
 ghost use Rattle.vx_exec.specs.Ready.{process_of};
 ghost use Rattle.vx_exec.specs.Sound.{IsWhole};
 
@@ -198,6 +200,46 @@ pub(crate) fn enabled_at<R: Routine>(core: &Core<R>, i: u32) -> Option<Event>
         }
     }
     unit_event_at(core, left)
+}
+
+// Whether an event ends no service.
+fn is_open(event: Event) -> bool
+    ensures { result ≡ is_open event }
+{
+    match event {
+        Event::Don(_) => false,
+        Event::Run(_) | Event::Ast(_) | Event::Rdn(_) | Event::Beg(_) | Event::Tick => true,
+    }
+}
+
+// The first event of a unit that ends no service, and then that of time.
+fn first_open_later<R: Routine>(core: &Core<R>) -> Option<Event>
+    requires { IsWhole core.now.state }
+    ensures { result ≡ find is_open (units_from core.now.state 0 core.now.state.units ++ tick_events core.now.state.timers) }
+{
+    for place in 0..core.unit_count() as u32 {
+        if let Some(event) = unit_event(core, UnitNo(place)) {
+            if is_open(event) {
+                return Some(event);
+            }
+        }
+    }
+    tick_at(core, 0)
+}
+
+/// The first enabled event that ends no service: that of the first process that has one, else the BEG of the first unit that has one,
+/// else time's.
+#[tactic(auto, using(crate::proofs::Enabled::waits_at))]
+pub(crate) fn first_open<R: Routine>(core: &Core<R>) -> Option<Event>
+    requires { IsWhole core.now.state }
+    ensures { result ≡ first_open core.now.state }
+{
+    for place in 0..core.process_count() as u32 {
+        if let Some(event) = event_of(core, Pid(place + 1)) {
+            return Some(event);
+        }
+    }
+    first_open_later(core)
 }
 
 // Whether an event is the event of a process, if that is there.

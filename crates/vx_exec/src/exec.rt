@@ -7,13 +7,13 @@ ghost use Rattle.vx_units.specs.Units.{outputs_of};
 ghost use Rattle.vx_procs.specs.Digest.{digest_of};
 ghost use Rattle.vx_record.specs.Events.{enabled, step};
 ghost use Rattle.vx_record.specs.Runs.{end_of, first, record_of};
+ghost use Rattle.vx_exec.specs.Engines.{IsWithin, leasing};
 ghost use Rattle.vx_exec.specs.Picks.{moved_seed, picked_event};
 ghost use Rattle.vx_exec.specs.Standing.{code_of, standing_of};
 ghost use Rattle.vx_exec.specs.View.{is_don, plan};
 
-use crate::events::{are_deleted, count, enabled_at, is_enabled};
-use crate::machine::step;
-use crate::room::{make_room, make_rooms};
+use crate::engine::Engine;
+use crate::events::{count, enabled_at, is_enabled};
 use crate::seed::Seed;
 use crate::standing::{Standing, standing_of};
 use std::alloc::Global;
@@ -23,15 +23,11 @@ use vx_image::System;
 use vx_io::Rooms;
 use vx_procs::Core;
 
-/// The executive of one system: what it keeps, how many records its runs may have, and how many its steps have made. Spare room for
-/// the bytes of a request is made before a process runs.
+/// The executive of one system: what it keeps, how many records its runs may have, and how many its steps have made. No unit of it is
+/// out.
 #[derive(Drop)]
 pub struct Exec<R: Routine> {
-    core: Core<R>,
-    limit: u32,
-    taken: u32,
-    alloc: Global,
-    rooms: Rooms,
+    engine: Engine<R>,
 }
 
 impl<R: Routine> Model for Exec<R> {
@@ -39,11 +35,11 @@ impl<R: Routine> Model for Exec<R> {
 
     ghost Value = { Executive };
 
-    ghost use Rattle.vx_exec.specs.Sound.{IsGoing};
+    ghost use Rattle.vx_exec.specs.Engines.{IsWithin, leasing};
 
-    ghost view = { λ e. record { state = e.core.state; limit = e.limit; taken = e.taken } };
+    ghost view = { λ e. (leasing e.engine).exec };
 
-    ghost invariant = { λ e. IsGoing e.core.state e.limit e.taken };
+    ghost invariant = { λ e. IsWithin e.engine };
 }
 
 impl<R: Routine> Exec<R> {
@@ -56,11 +52,13 @@ impl<R: Routine> Exec<R> {
     {
         let core = Core::new(alloc, system)?;
         Ok(Exec {
-            core,
-            limit,
-            taken: 0,
-            alloc,
-            rooms: Rooms::new(),
+            engine: Engine {
+                core,
+                limit,
+                taken: 0,
+                alloc,
+                rooms: Rooms::new(),
+            },
         })
     }
 
@@ -70,47 +68,75 @@ impl<R: Routine> Exec<R> {
         ensures { IfOk result (λ copy. copy ≡ self.now) }
     {
         Ok(Exec {
-            core: self.core.duplicate()?,
-            limit: self.limit,
-            taken: self.taken,
-            alloc: self.alloc,
-            rooms: Rooms::new(),
+            engine: Engine {
+                core: self.engine.core.duplicate()?,
+                limit: self.engine.limit,
+                taken: self.engine.taken,
+                alloc: self.engine.alloc,
+                rooms: Rooms::new(),
+            },
         })
+    }
+
+    /// Gives back spare room, which the next step makes again. An executive that is kept takes less without it. Takes no memory.
+    pub fn trim(&mut self)
+        ensures { self.new ≡ self.old }
+    {
+        self.engine.core.trim();
+        self.engine.rooms = Rooms::new();
+    }
+
+    // What it is made of.
+    pub(crate) fn into_engine(self) -> Engine<R>
+        ensures on { IsWithin result }
+        ensures exec { (leasing result).exec ≡ self }
+    {
+        self.engine
+    }
+
+    // The executive that is made of this, of which no unit is out.
+    pub(crate) fn from_engine(engine: Engine<R>) -> Exec<R>
+        requires { IsWithin engine }
+        ensures { result ≡ (leasing engine).exec }
+    {
+        Exec { engine }
     }
 
     /// Whether both are in the same state, after as many records and with the same limit. Takes no memory.
     pub fn same(&self, other: &Exec<R>) -> bool
         ensures { IsTrue result ↔ (self.now ≡ other.now) }
     {
-        self.taken == other.taken && self.limit == other.limit && self.core.same(&other.core)
+        self.engine.taken == other.engine.taken
+            && self.engine.limit == other.engine.limit
+            && self.engine.core.same(&other.engine.core)
     }
 
     /// The state as a number. Equal states have the same; states that differ have the same seldom. Takes no memory.
     pub fn digest(&self) -> u64
         ensures { result ≡ digest_of self.now.state }
     {
-        self.core.digest()
+        self.engine.core.digest()
     }
 
     /// How many events are enabled.
     pub fn count(&self) -> u32
         ensures { result ≡ length (enabled self.now.state) }
     {
-        count(&self.core)
+        count(&self.engine.core)
     }
 
     /// The enabled event at a place from 0: the processes in number order, the units in the script's order, and then time.
     pub fn enabled(&self, i: u32) -> Option<Event>
         ensures { result ≡ slice_get (enabled self.now.state) i }
     {
-        enabled_at(&self.core, i)
+        enabled_at(&self.engine.core, i)
     }
 
     /// Whether an event is enabled. It takes the same time however many processes and units there are.
     pub fn is_enabled(&self, event: Event) -> bool
         ensures { IsTrue result ↔ Contains (enabled self.now.state) event }
     {
-        is_enabled(&self.core, event)
+        is_enabled(&self.engine.core, event)
     }
 
     /// The enabled event that the seed picks, and the seed moves: where nothing is enabled there is none, and the seed
@@ -120,13 +146,13 @@ impl<R: Routine> Exec<R> {
         ensures event { result ≡ picked_event seed.old.x (enabled self.now.state) }
         ensures seed { seed.new.x ≡ moved_seed seed.old.x (enabled self.now.state) }
     {
-        let n = count(&self.core);
+        let n = count(&self.engine.core);
         if n == 0 {
             return None;
         }
         let next = seed.next();
         *seed = next;
-        enabled_at(&self.core, next.index(n))
+        enabled_at(&self.engine.core, next.index(n))
     }
 
     /// Takes an enabled event, and gives its record. Where memory is short, nothing has changed. A DON needs none, and never fails.
@@ -142,68 +168,49 @@ impl<R: Routine> Exec<R> {
         ensures don_never_fails { IsTrue (is_don event) → IsOk result }
         ensures plan { plan self.new ≡ plan self.old }
     {
-        make_rooms(self.alloc, &mut self.rooms, event)?;
-        make_room(&mut self.core, event)?;
-        let answer = step(&mut self.core, event, &mut self.rooms);
-        self.taken += 1;
-        Ok(Rec {
-            event,
-            answer,
-            effects: self.core.take_log(),
-        })
+        self.engine.step(event)
     }
 
     /// How the run has ended, if it has.
     pub fn ended(&self) -> Option<End>
         ensures { result ≡ end_of self.now.limit self.now.taken self.now.state }
     {
-        if enabled_at(&self.core, 0).is_none() {
-            return Some(if are_deleted(&self.core) {
-                End::Done
-            } else {
-                End::Hung
-            });
-        }
-        if self.limit <= self.taken {
-            Some(End::Limit)
-        } else {
-            None
-        }
+        self.engine.ended()
     }
 
     /// The system.
     pub fn system(&self) -> &System
         ensures { result.now ≡ self.now.state.system }
     {
-        self.core.system()
+        self.engine.core.system()
     }
 
     /// How many records its runs may have.
     pub fn limit(&self) -> u32
         ensures { result ≡ self.now.limit }
     {
-        self.limit
+        self.engine.limit
     }
 
     /// How many records its steps have made.
     pub fn taken(&self) -> u32
         ensures { result ≡ self.now.taken }
     {
-        self.taken
+        self.engine.taken
     }
 
     /// How many processes have been made, which is the number of the last.
     pub fn process_count(&self) -> u32
         ensures { result ≡ length self.now.state.procs }
     {
-        self.core.process_count() as u32
+        self.engine.core.process_count() as u32
     }
 
     /// How many units there are.
     pub fn unit_count(&self) -> u32
         ensures { result ≡ length self.now.state.units }
     {
-        self.core.unit_count() as u32
+        self.engine.core.unit_count() as u32
     }
 
     /// The lines that were written to a unit, oldest first; a block unit has none.
@@ -211,7 +218,7 @@ impl<R: Routine> Exec<R> {
         requires { u.0 < length self.now.state.units }
         ensures { result.now ≡ outputs_of (unit_at self.now.state u).contents }
     {
-        self.core.outputs(u)
+        self.engine.core.outputs(u)
     }
 
     /// The name of a process, how it stands, and its exit code, 0 unless it is gone.
@@ -221,8 +228,8 @@ impl<R: Routine> Exec<R> {
         ensures standing { result.1 ≡ standing_of (process_at self.now.state p) }
         ensures code { result.2 ≡ code_of (process_at self.now.state p) }
     {
-        let name = self.core.declaration(p).name;
-        let (standing, code) = standing_of(&self.core, p);
+        let name = self.engine.core.declaration(p).name;
+        let (standing, code) = standing_of(&self.engine.core, p);
         (name, standing, code)
     }
 }

@@ -5,10 +5,15 @@
 //! `vx_record`: `count` and `enabled` are the list of its enabled events, `step` takes any one of them and leaves the state
 //! after it, `ended` is its end, and `run_system` takes the run that a seed chooses. A step whose memory is short changes nothing, and
 //! no other call of `Exec` takes memory but `new` and `duplicate`.
+//!
+//! `LeasingExec` is an executive whose units may be out: a unit that serves is taken out with its request, is served while the executive
+//! takes other events, and is given back with the reply (`specs/Leases.antt`). It steps as `Exec` does. An `Exec` never has a unit out.
 #![tactic(auto)]
 
+mod engine;
 mod events;
 mod exec;
+mod leasing;
 mod machine;
 mod room;
 mod run;
@@ -17,6 +22,7 @@ mod services;
 mod standing;
 
 pub use exec::Exec;
+pub use leasing::LeasingExec;
 pub use run::{run_system, take_run};
 pub use seed::Seed;
 pub use standing::Standing;

@@ -1,7 +1,10 @@
 //! Room for one event, which is made before it.
 
-ghost use Rattle.std.specs.Prelude.{◌≡◌, ◌≤◌, IfSome, IsOk, IsSome, IsTrue, OnOk};
+ghost use Rattle.std.specs.Prelude.{◌≡◌, ◌≤◌, IfSome, IsOk, IsSome, IsTrue, OnErr, OnOk, slice_set};
 ghost use Rattle.vx_base.specs.Queues.{front};
+ghost use Rattle.vx_units.specs.Leases.{Home};
+ghost use Rattle.vx_procs.specs.Kernel.{stands};
+ghost use Rattle.vx_exec.specs.Engines.{stands_prepared};
 ghost use Rattle.vx_exec.specs.Ready.{HasBegun, HasOwner, HasRooms, IsRoomMade, most};
 ghost use Rattle.vx_exec.specs.View.{is_don};
 ghost use Rattle.vx_base.specs.declared.record.Event.TheVariants.{Beg};
@@ -42,6 +45,7 @@ fn most<R: Routine>(core: &Core<R>, event: Event) -> Option<u32>
 fn make_spares<R: Routine>(core: &mut Core<R>, event: Event) -> Result<(), NoMemory>
     requires { HasOwner core.old.state event }
     ensures same { core.new.state ≡ core.old.state }
+    ensures ends { core.new.ends ≡ core.old.ends }
     ensures made { OnOk result (HasBegun core.new event) }
 {
     match most(core, event) {
@@ -55,6 +59,8 @@ fn prepare<R: Routine>(core: &mut Core<R>, u: UnitNo) -> Result<(), NoMemory>
     requires { IsSome (front u core.old.state.requests) }
     ensures same { core.new.state ≡ core.old.state }
     ensures made { OnOk result (IsRoomMade core.new (Beg u)) }
+    ensures home { OnOk result (stands core.new ≡ slice_set (stands core.old) u.0 Home) }
+    ensures stay { OnErr result (core.new.ends ≡ core.old.ends) }
 {
     core.begin(0, None)?;
     core.prepare(u)
@@ -77,6 +83,8 @@ pub(crate) fn make_room<R: Routine>(core: &mut Core<R>, event: Event) -> Result<
     requires { HasOwner core.old.state event }
     ensures same { core.new.state ≡ core.old.state }
     ensures made { OnOk result (IsRoomMade core.new event) }
+    ensures home { OnOk result (stands core.new ≡ stands_prepared event (stands core.old)) }
+    ensures stay { OnErr result (stands core.new ≡ stands core.old) }
     ensures don_never_fails { IsTrue (is_don event) → IsOk result }
 {
     match event {

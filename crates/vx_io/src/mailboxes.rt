@@ -7,7 +7,7 @@ ghost use Rattle.vx_record.specs.Mailboxes.{mailbox_at};
 ghost use Rattle.vx_record.specs.Sound.{BoxStands, ground};
 ghost use Rattle.vx_record.specs.State.{IsProcess, box_at};
 ghost use Rattle.vx_procs.specs.Kernel.{Acts, Does, DoesQuietly, Fits};
-ghost use Rattle.vx_procs.specs.Ready.{IsReady};
+ghost use Rattle.vx_procs.specs.Ready.{HasMessageRooms, IsReady};
 ghost use Rattle.vx_io.specs.Asking.{AreOpen};
 
 use crate::asking::device_channel;
@@ -57,6 +57,7 @@ fn make_box<R: Routine>(
     requires made { IsProcess core.old.state p }
     requires within { b.0 < 64 }
     requires free { box_at core.old.state b ≡ None }
+    requires messages { HasMessageRooms core.old }
     requires room { Fits core.old (make_box core.old.state p mode (new_box name perm maxmsg bufquo) b.0 (free_channel_of core.old.state p)).effects }
     ensures { Does (make_box core.old.state p mode (new_box name perm maxmsg bufquo) b.0 (free_channel_of core.old.state p)) result core.old core.new }
 {
@@ -81,6 +82,7 @@ fn create_box<R: Routine>(
     bufquo: u32,
 ) -> Result<u32, Cond>
     requires made { IsProcess core.old.state p }
+    requires messages { HasMessageRooms core.old }
     requires room { Fits core.old (create_box core.old.state p mode (new_box name perm maxmsg bufquo)).effects }
     ensures { Does (create_box core.old.state p mode (new_box name perm maxmsg bufquo)) result core.old core.new }
 {
@@ -105,6 +107,7 @@ fn find_or_create<R: Routine>(
     bufquo: u32,
 ) -> Result<u32, Cond>
     requires made { IsProcess core.old.state p }
+    requires messages { HasMessageRooms core.old }
     requires room { Fits core.old (find_or_create core.old.state p mode (new_box name perm maxmsg bufquo) (box_named core.old.state name)).effects }
     ensures { Does (find_or_create core.old.state p mode (new_box name perm maxmsg bufquo) (box_named core.old.state name)) result core.old core.new }
 {
@@ -128,6 +131,7 @@ pub fn crembx<R: Routine>(
     mode: Mode,
 ) -> Result<u32, Cond>
     requires made { IsProcess core.old.state p }
+    requires messages { HasMessageRooms core.old }
     requires room { Fits core.old (crembx core.old.state p name perm maxmsg bufquo mode).effects }
     ensures { Does (crembx core.old.state p name perm maxmsg bufquo mode) result core.old core.new }
 {

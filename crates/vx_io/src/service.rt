@@ -1,11 +1,12 @@
 //! BEG and DON: a unit begins and ends a service.
 
-ghost use Rattle.std.specs.Prelude.{◌≡◌, ◌<◌, [], IsSome, if◌then◌else◌};
+ghost use Rattle.std.specs.Prelude.{◌≡◌, ◌<◌, [], IsSome, false, if◌then◌else◌};
 ghost use Rattle.vx_base.specs.Queues.{front, in_service};
 ghost use Rattle.vx_record.specs.State.{unit_at};
 ghost use Rattle.vx_record.specs.Events.{beg, don};
 ghost use Rattle.vx_base.specs.declared.cond.Cond.TheVariants.{Abort};
-ghost use Rattle.vx_procs.specs.Kernel.{Does, IsPrepared, opened};
+ghost use Rattle.vx_units.specs.Leases.{is_out};
+ghost use Rattle.vx_procs.specs.Kernel.{Does, IsPrepared, opened, stand_for};
 ghost use Rattle.vx_io.specs.Finishing.{AreRequests};
 
 use crate::finish::finish;
@@ -41,11 +42,12 @@ pub fn begin<R: Routine>(core: &mut Core<R>, u: UnitNo) -> Answer
 }
 
 /// DON: a unit has served its request, which finishes, in the log that was made for that before, and in which nothing was told
-/// yet. Takes no memory.
+/// yet. A unit that was given back has served before. Takes no memory.
 pub fn done<R: Routine>(core: &mut Core<R>, u: UnitNo) -> Answer
     requires serves { IsSome (in_service u core.old.state.requests) }
     requires requests { AreRequests core.old.state }
     requires count { (unit_at core.old.state u).services < 4294967295 }
+    requires home { is_out (stand_for core.old u) ≡ false }
     ensures does { Does (don core.old.state u (in_service u core.old.state.requests)) result (opened core.old u) core.new }
     ensures untold { (opened core.old u).log.items ≡ [] }
 {

@@ -76,7 +76,7 @@ changed_there g places k b r new view stands is e = changed_at g places k b r ne
 
 -- Rooms.
 
--- every place has room, but perhaps the one that was set
+-- every mailbox has room, but perhaps the one that was set
 rooms_set : (places : List Place) (i : ℕ) (new : Place) (short : ℕ) → ((k : ℕ) → k < 64 → k ≢ short → k ≢ i → HasRoomFor (slice_index_or places k no_place)) → (i ≢ short → HasRoomFor new) → length places ≡ 64 → (k : ℕ) → k < 64 → k ≢ short → HasRoomFor (slice_index_or (slice_set places i new) k no_place)
 rooms_set places i new short others here count k lt apart =
     elim (cases_eq k i) [
@@ -92,13 +92,21 @@ box_seen places k within = get_or-map box_at places k no_place None within
 room_seen : (places : List Place) (k : ℕ) → k < length places → slice_index_or (map room_at places) k 0 ≡ (slice_index_or places k no_place).room
 room_seen places k within = get_or-map room_at places k no_place 0 within
 
-room_in : (places : List Place) (k : ℕ) → k < length places → length (or_no_box (slice_index_or (map box_at places) k None)).messages + 1 ≤ slice_index_or (map room_at places) k 0 → HasRoomFor (slice_index_or places k no_place)
-room_in places k within room = omega (arith, room, ap (λ (o : Option Mailbox). length (or_no_box o).messages) (box_seen places k within), room_seen places k within)
+-- room of the place k, as the table says it
+abbrev HasRoomIn : List Place → ℕ → Type 0
+HasRoomIn places k = IsTrue (is_some (slice_index_or (map box_at places) k None)) → length (or_no_box (slice_index_or (map box_at places) k None)).messages + 1 ≤ slice_index_or (map room_at places) k 0
 
-room_of : (places : List Place) (k : ℕ) → k < length places → HasRoomFor (slice_index_or places k no_place) → length (or_no_box (slice_index_or (map box_at places) k None)).messages + 1 ≤ slice_index_or (map room_at places) k 0
-room_of places k within room = omega (arith, room, ap (λ (o : Option Mailbox). length (or_no_box o).messages) (box_seen places k within), room_seen places k within)
+room_in : (places : List Place) (k : ℕ) → k < length places → HasRoomIn places k → HasRoomFor (slice_index_or places k no_place)
+room_in places k within room there =
+    let has = room (ap is_some (box_seen places k within) ∙ there) in
+    omega (arith, has, ap (λ (o : Option Mailbox). length (or_no_box o).messages) (box_seen places k within), room_seen places k within)
 
--- the table after a message was put where there was room in each
+room_of : (places : List Place) (k : ℕ) → k < length places → HasRoomFor (slice_index_or places k no_place) → HasRoomIn places k
+room_of places k within room there =
+    let has = room (sym (ap is_some (box_seen places k within)) ∙ there) in
+    omega (arith, has, ap (λ (o : Option Mailbox). length (or_no_box o).messages) (box_seen places k within), room_seen places k within)
+
+-- the table after a mailbox was made, or a message was put, where there was room in each
 pub table_put : (places : List Place) (short i : ℕ) (k : Boxes) (new : Place) → table_of places ≡ k → IsTable places short → HaveRoom k.boxes k.rooms → i < length places → IsTable (slice_set places i new) i
 table_put places short i k new view t rooms within =
     let old : HaveRoom (map box_at places) (map room_at places) = subst (λ (x : Boxes). HaveRoom x.boxes x.rooms) (sym view) rooms in

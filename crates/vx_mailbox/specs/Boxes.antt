@@ -32,9 +32,9 @@ holding box messages = record box { messages = messages }
 abbrev pub IsShort : Msg → Type 0
 IsShort m = length (body_bytes m.body) ≤ 2048
 
--- there is room for a message more in each mailbox that is there or is made
+-- there is room for a message more in each mailbox
 abbrev pub HaveRoom : List (Option Mailbox) → List ℕ → Type 0
-HaveRoom boxes rooms = (b : BoxNo) → b.0 < 64 → length (box_in boxes b).messages + 1 ≤ slice_index_or rooms b.0 0
+HaveRoom boxes rooms = (b : BoxNo) → b.0 < 64 → StandsIn boxes b → length (box_in boxes b).messages + 1 ≤ slice_index_or rooms b.0 0
 
 -- The attention entries in id order, and how many there is room for in all.
 abbrev pub Attentions : Type 0

@@ -1,3 +1,4 @@
 pub mod Boxes
+pub mod Digest
 pub mod Heads
 pub mod Places

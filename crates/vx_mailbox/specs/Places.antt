@@ -1,5 +1,5 @@
 -- The places of mailboxes: one for each number.
-use Rattle.std.specs.Prelude.{◌≡◌, ◌≢◌, ℕ, ◌+◌, ◌<◌, ◌≤◌, List, length, map, Option, None, IfSome, slice_index_or}
+use Rattle.std.specs.Prelude.{◌≡◌, ◌≢◌, ℕ, ◌+◌, ◌<◌, ◌≤◌, List, length, map, Option, None, IfSome, IsTrue, is_some, slice_index_or}
 use Rattle.std.specs.List.{AllByRecursion}
 use Rattle.vx_base.specs.Pieces.{Mailbox}
 use Rattle.vx_base.specs.Queues.{stored_bytes}
@@ -25,15 +25,15 @@ no_place = record { box = None; room = 0 }
 abbrev pub with_box : Place → Option Mailbox → Place
 with_box place box = record place { box = box }
 
--- there is room for a message more
+-- there is room for a message more, if there is a mailbox
 abbrev pub HasRoomFor : Place → Type 0
-HasRoomFor place = length (or_no_box place.box).messages + 1 ≤ place.room
+HasRoomFor place = IsTrue (is_some place.box) → length (or_no_box place.box).messages + 1 ≤ place.room
 
 -- the table of the places
 abbrev pub table_of : List Place → Boxes
 table_of places = record { boxes = map box_at places; rooms = map room_at places }
 
--- there are 64 places, and each has room for a message more but the one that may be short
+-- there are 64 places, and each mailbox has room for a message more but the one that may be short
 pub record IsTable (places : List Place) (short : ℕ) : Type 0 where
   pub count : length places ≡ 64
   pub within : short < 64

@@ -5,6 +5,7 @@ ghost use Rattle.std.specs.List.{find, list_any};
 ghost use Rattle.vx_base.specs.Lists.{first, less};
 ghost use Rattle.vx_base.specs.Queues.{stored_bytes};
 ghost use Rattle.vx_mailbox.specs.Boxes.{HaveRoom, IsShort, StandsIn, box_in, holding, with_box_in};
+ghost use Rattle.vx_mailbox.specs.Digest.{mix_boxes};
 ghost use Rattle.vx_mailbox.specs.Places.{box_at, IsTable};
 ghost use Rattle.vx_record.specs.Channels.{is_box_of};
 ghost use Rattle.vx_record.specs.Mailboxes.{this_message};
@@ -17,8 +18,8 @@ use vx_base::{BoxNo, Id, Msg, Name, NoMemory};
 /// How many mailboxes there can be.
 const PLACES: u32 = 64;
 
-/// The mailboxes of a system, by number. Each of the 64 places has room for a message more, but for the one where the last message
-/// was put, which may be short of it.
+/// The mailboxes of a system, by number, in 64 places. Each mailbox has room for a message more, but for the one that was made or got a
+/// message last, which may be short of it.
 #[derive(Drop)]
 pub struct Boxes {
     places: Vec<BoxPlace>,
@@ -43,12 +44,12 @@ fn free_places(alloc: Global) -> Result<Vec<BoxPlace>, NoMemory>
 {
     let mut places = Vec::new(alloc);
     for _ in 0..PLACES {
-        places.push(BoxPlace::new(alloc)?)?;
+        places.push(BoxPlace::new(alloc))?;
     }
     Ok(places)
 }
 
-// The same mailboxes again, each place with room for a message more.
+// The same mailboxes again, each with room for a message more.
 fn duplicate_places(alloc: Global, places: &[BoxPlace]) -> Result<Vec<BoxPlace>, NoMemory>
     requires { length places.now ≡ 64 }
     ensures boxes { IfOk result (λ copy. map box_at copy.items ≡ map box_at places.now) }
@@ -74,6 +75,17 @@ fn same_places(a: &[BoxPlace], b: &[BoxPlace]) -> bool
         }
     }
     true
+}
+
+// A digest with what the mailboxes of places store.
+fn mix_places(digest: u64, places: &[BoxPlace]) -> u64
+    ensures { result ≡ mix_boxes digest (map box_at places.now) }
+{
+    let mut mixed = digest;
+    for place in places {
+        mixed = place.mix(mixed);
+    }
+    mixed
 }
 
 // Where the first mailbox of a name stands.
@@ -132,7 +144,14 @@ impl Boxes {
         same_places(self.places.as_slice(), other.places.as_slice())
     }
 
-    /// Makes room for a message more in each mailbox that is there or is made. Refused or not, the mailboxes stay.
+    /// A digest with what the mailboxes store. Takes no memory.
+    pub fn mix(&self, digest: u64) -> u64
+        ensures { result ≡ mix_boxes digest self.now.boxes }
+    {
+        mix_places(digest, self.places.as_slice())
+    }
+
+    /// Makes room for a message more in each mailbox. Refused or not, the mailboxes stay.
     pub fn reserve(&mut self) -> Result<(), NoMemory>
         ensures same { self.new.boxes ≡ self.old.boxes }
         ensures ok { OnOk result (HaveRoom self.new.boxes self.new.rooms) }
@@ -262,9 +281,11 @@ impl Boxes {
     pub fn make(&mut self, b: BoxNo, name: Name, permanent: bool, maxmsg: u32, bufquo: u32)
         requires within { b.0 < 64 }
         requires none { slice_index_or self.old.boxes b.0 None ≡ None }
+        requires room { HaveRoom self.old.boxes self.old.rooms }
         ensures { self.new ≡ record self.old { boxes = with_box_in self.old.boxes b (Some (record { name = name; permanent = permanent; marked = false; maxmsg = maxmsg; bufquo = bufquo; messages = [] })) } }
     {
         self.places[b.0 as usize].make(name, permanent, maxmsg, bufquo);
+        self.short = b.0 as usize;
     }
 
     /// The mailbox is gone, with its messages.

@@ -6,12 +6,13 @@ ghost use Rattle.vx_base.specs.Lists.{first, less};
 ghost use Rattle.vx_base.specs.Queues.{body_bytes, stored_bytes};
 ghost use Rattle.vx_base.specs.Roomy.{HasSpace, with_items};
 ghost use Rattle.vx_mailbox.specs.Boxes.{IsShort};
+ghost use Rattle.vx_mailbox.specs.Digest.{mix_messages};
 ghost use Rattle.vx_record.specs.Mailboxes.{this_message};
 
 use std::alloc::Global;
 use std::marker::Model;
 use vx_base::{Body, Id, Msg, NoMemory, Reserved};
-use vx_same::with_room_of;
+use vx_same::{mix, with_room_of};
 
 /// Messages, the oldest first, with room that was made before. Their bytes are counted, as long as a number can hold the count.
 #[derive(Drop)]
@@ -127,6 +128,17 @@ fn same_messages(a: &[Msg], b: &[Msg]) -> bool
     true
 }
 
+// A digest with messages.
+fn mix_messages(digest: u64, messages: &[Msg]) -> u64
+    ensures { result ≡ mix_messages digest messages.now }
+{
+    let mut mixed = digest;
+    for m in messages {
+        mixed = mix(mix(mixed, m.id.0 as u64), m.writer.0 as u64);
+    }
+    mixed
+}
+
 fn duplicate_body(body: &Body) -> Result<Body, NoMemory>
     ensures { IfOk result (λ copy. copy ≡ body.now) }
 {
@@ -160,17 +172,14 @@ fn duplicate_messages(alloc: Global, messages: &Reserved<Msg>) -> Result<Reserve
 }
 
 impl Messages {
-    /// No messages, and room for one.
-    pub(crate) fn new(alloc: Global) -> Result<Messages, NoMemory>
-        ensures items { IfOk result (λ messages. messages.items ≡ []) }
-        ensures room { IfOk result (λ messages. 1 ≤ messages.capacity) }
+    /// No messages. Takes no memory.
+    pub(crate) fn new(alloc: Global) -> Messages
+        ensures { result.items ≡ [] }
     {
-        let mut items = Reserved::new(alloc);
-        items.reserve(1)?;
-        Ok(Messages {
-            items,
+        Messages {
+            items: Reserved::new(alloc),
             bytes: Some(0),
-        })
+        }
     }
 
     /// The same messages again, with room for one more.
@@ -191,6 +200,13 @@ impl Messages {
         ensures { IsTrue result ↔ (self.now.items ≡ other.now.items) }
     {
         same_messages(self.items.as_slice(), other.items.as_slice())
+    }
+
+    /// A digest with the messages. Takes no memory.
+    pub(crate) fn mix(&self, digest: u64) -> u64
+        ensures { result ≡ mix_messages digest self.now.items }
+    {
+        mix_messages(digest, self.items.as_slice())
     }
 
     /// Makes room for a message more. Refused or not, the messages stay.

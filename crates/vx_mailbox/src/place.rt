@@ -5,6 +5,7 @@ ghost use Rattle.std.specs.List.{find, list_any};
 ghost use Rattle.vx_base.specs.Lists.{first, less};
 ghost use Rattle.vx_base.specs.Queues.{stored_bytes};
 ghost use Rattle.vx_mailbox.specs.Boxes.{IsShort, holding};
+ghost use Rattle.vx_mailbox.specs.Digest.{mix_messages};
 ghost use Rattle.vx_mailbox.specs.Places.{HasRoomFor, with_box};
 ghost use Rattle.vx_record.specs.Channels.{is_box_of};
 ghost use Rattle.vx_record.specs.Mailboxes.{or_no_box, this_message};
@@ -55,26 +56,29 @@ fn same_head(a: &Head, b: &Head) -> bool
 }
 
 impl BoxPlace {
-    /// The place of no mailbox, with room for a message.
-    pub(crate) fn new(alloc: Global) -> Result<BoxPlace, NoMemory>
-        ensures none { IfOk result (λ place. place.box ≡ None) }
-        ensures room { IfOk result (λ place. HasRoomFor place) }
+    /// The place of no mailbox. Takes no memory.
+    pub(crate) fn new(alloc: Global) -> BoxPlace
+        ensures none { result.box ≡ None }
+        ensures room { HasRoomFor result }
     {
-        Ok(BoxPlace {
+        BoxPlace {
             head: None,
-            messages: Messages::new(alloc)?,
-        })
+            messages: Messages::new(alloc),
+        }
     }
 
-    /// The same mailbox again, or none, with room for a message more.
+    /// The same mailbox again, with room for a message more; or none, and no memory is taken.
     pub(crate) fn duplicate(&self, alloc: Global) -> Result<BoxPlace, NoMemory>
         ensures same { IfOk result (λ copy. copy.box ≡ self.now.box) }
         ensures room { IfOk result HasRoomFor }
     {
-        Ok(BoxPlace {
-            head: self.head,
-            messages: self.messages.duplicate(alloc)?,
-        })
+        match self.head {
+            Some(head) => Ok(BoxPlace {
+                head: Some(head),
+                messages: self.messages.duplicate(alloc)?,
+            }),
+            None => Ok(BoxPlace::new(alloc)),
+        }
     }
 
     /// Whether there is the same mailbox, or none. Takes no memory.
@@ -88,6 +92,13 @@ impl BoxPlace {
             (None, None) => true,
             _ => false,
         }
+    }
+
+    /// A digest with what its mailbox stores. Takes no memory.
+    pub(crate) fn mix(&self, digest: u64) -> u64
+        ensures { result ≡ mix_messages digest (or_no_box self.now.box).messages }
+    {
+        self.messages().mix(digest)
     }
 
     /// Makes room for a message more. Refused or not, the mailbox stays.

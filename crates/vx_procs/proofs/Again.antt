@@ -1,14 +1,15 @@
 -- A copy of what the executive keeps holds what it held.
-use Rattle.std.proofs.Common.{◌≡◌, ℕ, zero, suc, List, [], ◌∷◌, ◌++◌, map, slice_index_or, is_some, Option, None, ap, subst, sym, ◌∙◌, refl, arith}
+use Rattle.std.proofs.Common.{◌≡◌, ℕ, zero, suc, List, [], ◌∷◌, ◌++◌, map, slice_index_or, Option, None, ap, subst, sym, ◌∙◌, refl, arith}
 use Rattle.vx_base.specs.Clusters.{Common}
 use Rattle.vx_base.specs.Pieces.{Attention, DeviceUnit, Mailbox, Request, Timer}
 use Rattle.vx_base.specs.declared.number.Pid.{Pid}
 use Rattle.vx_image.specs.declared.system.System.{System}
 use Rattle.vx_record.specs.State.{Process, State}
-use Rattle.vx_procs.specs.Again.{AreWider, IsWider, is_logged}
-use Rattle.vx_procs.specs.Held.{AreHeld, Books, IsBooked, books_at, no_books}
-use Rattle.vx_procs.specs.Units.{Kept}
-use Rattle.vx_procs.specs.View.{log_of}
+use Rattle.vx_base.specs.declared.request.Req.{Req}
+use Rattle.vx_procs.specs.Again.{AreWider, IsWider, asked_in}
+use Rattle.vx_procs.specs.Held.{AreHeld, Books, IsBooked, ServesAsked, books_at, no_books}
+use Rattle.vx_procs.specs.Units.{Kept, asked_of}
+use Rattle.vx_procs.specs.View.{ending_of}
 
 itself : IsWider no_books no_books
 itself = record { room = record { frames = omega arith; asts = omega arith; handlers = omega arith }; account = refl }
@@ -27,12 +28,12 @@ wider_more [] (c ∷ news) a b w h = absurd w
 wider_more (c ∷ olds) [] a b w h = absurd w
 wider_more (c ∷ olds) (d ∷ news) a b w h = (w.0, wider_more olds news a b w.1 h)
 
-logged_at : (ks ms : List Kept) → map is_logged ms ≡ map is_logged ks → (k : ℕ) → is_some (slice_index_or (map log_of ms) k None) ≡ is_some (slice_index_or (map log_of ks) k None)
-logged_at [] [] e k = refl
-logged_at [] (m ∷ ms) e k = absurd (cc)
-logged_at (x ∷ ks) [] e k = absurd (cc)
-logged_at (x ∷ ks) (m ∷ ms) e zero = cc
-logged_at (x ∷ ks) (m ∷ ms) e (suc k) = let rest : map is_logged ms ≡ map is_logged ks = cc in logged_at ks ms rest k
+asked_at : (ks ms : List Kept) → map asked_in ms ≡ map asked_in ks → (k : ℕ) → asked_of (slice_index_or (map ending_of ms) k None) ≡ asked_of (slice_index_or (map ending_of ks) k None)
+asked_at [] [] e k = refl
+asked_at [] (m ∷ ms) e k = absurd (cc)
+asked_at (x ∷ ks) [] e k = absurd (cc)
+asked_at (x ∷ ks) (m ∷ ms) e zero = cc
+asked_at (x ∷ ks) (m ∷ ms) e (suc k) = let rest : map asked_in ms ≡ map asked_in ks = cc in asked_at ks ms rest k
 
 booked_wider : (s : State) (short : Option Pid) (p : Pid) (a b : Books) → IsWider a b → IsBooked s short p a → IsBooked s short p b
 booked_wider s short p a b w h =
@@ -47,13 +48,13 @@ booked_wider s short p a b w h =
       limits = ap (λ q. q.limits) w.account ∙ h.limits;
     }
 
-pub held_again : (s t : State) (short : Option Pid) (olds news : List Books) (ks ms : List Kept) → t ≡ s → AreWider olds news → map is_logged ms ≡ map is_logged ks → AreHeld s short olds (map log_of ks) → AreHeld t short news (map log_of ms)
-held_again s t short olds news ks ms same wider logged h = subst (λ (x : State). AreHeld x short news (map log_of ms)) (sym same) (record {
+pub held_again : (s t : State) (short : Option Pid) (olds news : List Books) (ks ms : List Kept) → t ≡ s → AreWider olds news → map asked_in ms ≡ map asked_in ks → AreHeld s short olds (map ending_of ks) → AreHeld t short news (map ending_of ms)
+held_again s t short olds news ks ms same wider asked h = subst (λ (x : State). AreHeld x short news (map ending_of ms)) (sym same) (record {
   booked = λ p made. booked_wider s short p (books_at olds p) (books_at news p) (wider_at olds news wider _) (h.booked p made);
   timers = h.timers;
   requests = h.requests;
   attention = h.attention;
-  served = λ u. rw (logged_at ks ms logged u.0) (h.served u);
+  served = λ u. subst (λ (a : Option Req). ServesAsked s.requests u a) (sym (asked_at ks ms asked u.0)) (h.served u);
   marked = h.marked;
 })
 

@@ -23,7 +23,7 @@ use Rattle.vx_procs.specs.Attention.{fired_attention_if, without_attention}
 use Rattle.vx_procs.specs.Held.{books_at}
 use Rattle.vx_procs.specs.Kernel.{Kernel, Room, with_state}
 use Rattle.vx_procs.specs.Ready.{HasSpares}
-use Rattle.vx_procs.specs.View.{process, state, kernel, logs, books, books_of, room_of, IsHeld}
+use Rattle.vx_procs.specs.View.{process, state, kernel, ends, books, books_of, room_of, IsHeld}
 use Rattle.vx_procs.specs.declared.procs.Core.TheInside.{Inside}
 use Rattle.vx_procs.specs.declared.process.Proc.{Proc}
 use Rattle.vx_procs.proofs.Booked.{attention_apart, attention_own, here_by, others_called, spare_used, spared, tally-append, tally-less}
@@ -46,7 +46,7 @@ held_called a c k p r new es view is_made has own within is e room account put h
     let more : tally (is_attention_of p) es.items ≡ tally (is_attention_of p) c.attention.items + 1 =
     let there = ap (λ (xs : List Attention). tally (is_attention_of p) xs) items in
     omega (arith, there, tally-append (is_attention_of p) c.attention.items (a ∷ []), ap one (attention_own p a own)) in
-    held_there c (Some p) p new c.timers.items c.requests.items es.items (logs c) made
+    held_there c (Some p) p new c.timers.items c.requests.items es.items (ends c) made
     (here_by (record s { attention = es.items }) (Some p) p (process new) c.timers.items (books_of r) (books_of new) made (booked_here c p r h made is).limits
     (ap (λ (x : Process). x.decl) e ∙ ap (λ (x : Process). x.decl) was)
     (omega (arith, spare_room.0, spare_used p, ap (λ (x : Process). length x.frames) e, ap (λ (x : Room). x.frames) room))
@@ -109,7 +109,7 @@ held_out asts back id c p a r new es all found own left is decl frames more long
     let counts = counts_here c p r h made is in
     let items : es.items ≡ less (this_attention id) c.attention.items = ap (λ (x : Roomy Attention). x.items) left in
     let gone = fewer p id c.attention.items es.items a found own items in
-    held_there c c.short p new c.timers.items c.requests.items es.items (logs c) made
+    held_there c c.short p new c.timers.items c.requests.items es.items (ends c) made
     (here_by (record s { attention = es.items }) c.short p (process new) c.timers.items (books_of r) (books_of new) made b.limits
     (decl ∙ ap (λ (x : Process). x.decl) was)
     (omega (arith, b.frames, ap (λ (xs : List Frame). length xs) frames, ap (λ (x : Process). length x.frames) was, ap (λ (x : Room). x.frames) room))

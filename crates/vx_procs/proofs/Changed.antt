@@ -6,7 +6,6 @@ use Rattle.std.proofs.lemmas.List.{map-set, get_or-map, length-map, set-get_or}
 use Rattle.std.proofs.Math.Seq.{map-set_same}
 use Rattle.std.specs.Vec.{with_item}
 use Rattle.vx_base.specs.Roomy.{Roomy, with_items}
-use Rattle.vx_base.specs.Log.{Log}
 use Rattle.vx_base.specs.Pieces.{Attention, Queued, Request, Timer}
 use Rattle.vx_base.specs.declared.number.Pid.{Pid}
 use Rattle.vx_base.specs.Lists.{tally}
@@ -17,7 +16,8 @@ use Rattle.vx_record.proofs.Ground.{some_weaker}
 use Rattle.vx_procs.specs.Held.{AreHeld, AreServed, Books, IsBooked, IsOwn, IsTargetMade, books_at, no_books}
 use Rattle.vx_procs.specs.Kernel.{Kernel, Room, changed, with_state}
 use Rattle.vx_procs.specs.Requests.{IsOwnRequest}
-use Rattle.vx_procs.specs.View.{process, state, kernel, logs, newcomers, books, room_of, books_of, IsHeld}
+use Rattle.vx_procs.specs.Units.{Ending}
+use Rattle.vx_procs.specs.View.{process, state, kernel, ends, newcomers, books, room_of, books_of, IsHeld}
 use Rattle.vx_procs.specs.declared.procs.Core.TheInside.{Inside}
 use Rattle.vx_procs.specs.declared.process.Proc.{Proc}
 
@@ -93,7 +93,7 @@ own_requests s i pr ts rs es h =
     }) rs h
 
 -- one process changed, with its books, and the timers, the requests and the attention entries: each other process is booked
-pub held_by : (s : State) (bs : List Books) (after : Option Pid) (p : Pid) (pr : Process) (b : Books) (ts : List Timer) (rs : List Request) (es : List Attention) (ls : List (Option Log)) → IsProcess s p → p.0 - 1 < length bs → IsBooked (record s { procs = slice_set s.procs (p.0 - 1) pr; timers = ts; requests = rs; attention = es }) after p b → ((q : Pid) → IsProcess s q → q.0 ≢ p.0 → IsBooked (record s { timers = ts; requests = rs; attention = es }) after q (books_at bs q)) → AllByRecursion (IsOwn s) ts → AllByRecursion (λ r. IsOwnRequest s r.req) rs → AllByRecursion (λ a. IsProcess s a.p) es → AreServed rs ls → IfSome after (IsProcess s) → AreHeld (record s { procs = slice_set s.procs (p.0 - 1) pr; timers = ts; requests = rs; attention = es }) after (slice_set bs (p.0 - 1) b) ls
+pub held_by : (s : State) (bs : List Books) (after : Option Pid) (p : Pid) (pr : Process) (b : Books) (ts : List Timer) (rs : List Request) (es : List Attention) (ls : List (Option Ending)) → IsProcess s p → p.0 - 1 < length bs → IsBooked (record s { procs = slice_set s.procs (p.0 - 1) pr; timers = ts; requests = rs; attention = es }) after p b → ((q : Pid) → IsProcess s q → q.0 ≢ p.0 → IsBooked (record s { timers = ts; requests = rs; attention = es }) after q (books_at bs q)) → AllByRecursion (IsOwn s) ts → AllByRecursion (λ r. IsOwnRequest s r.req) rs → AllByRecursion (λ a. IsProcess s a.p) es → AreServed rs ls → IfSome after (IsProcess s) → AreHeld (record s { procs = slice_set s.procs (p.0 - 1) pr; timers = ts; requests = rs; attention = es }) after (slice_set bs (p.0 - 1) b) ls
 held_by s bs after p pr b ts rs es ls made within here others own asked called served short =
     let i = p.0 - 1 in
     let t : State = record s { procs = slice_set s.procs i pr; timers = ts; requests = rs; attention = es } in
@@ -120,7 +120,7 @@ held_by s bs after p pr b ts rs es ls made within here others own asked called s
     }
 
 -- the same of the code
-pub held_there : {R : Type 0} (c : Inside R) (after : Option Pid) (p : Pid) (new : Proc R) (ts : List Timer) (rs : List Request) (es : List Attention) (ls : List (Option Log)) → IsProcess (state c) p → IsBooked (record (state c) { procs = slice_set (state c).procs (p.0 - 1) (process new); timers = ts; requests = rs; attention = es }) after p (books_of new) → ((q : Pid) → IsProcess (state c) q → q.0 ≢ p.0 → IsBooked (record (state c) { timers = ts; requests = rs; attention = es }) after q (books_at (books c) q)) → AllByRecursion (IsOwn (state c)) ts → AllByRecursion (λ r. IsOwnRequest (state c) r.req) rs → AllByRecursion (λ a. IsProcess (state c) a.p) es → AreServed rs ls → IfSome after (IsProcess (state c)) → AreHeld (record (state c) { procs = map process (slice_set c.procs.items (p.0 - 1) new); timers = ts; requests = rs; attention = es }) after (map books_of (slice_set c.procs.items (p.0 - 1) new)) ls
+pub held_there : {R : Type 0} (c : Inside R) (after : Option Pid) (p : Pid) (new : Proc R) (ts : List Timer) (rs : List Request) (es : List Attention) (ls : List (Option Ending)) → IsProcess (state c) p → IsBooked (record (state c) { procs = slice_set (state c).procs (p.0 - 1) (process new); timers = ts; requests = rs; attention = es }) after p (books_of new) → ((q : Pid) → IsProcess (state c) q → q.0 ≢ p.0 → IsBooked (record (state c) { timers = ts; requests = rs; attention = es }) after q (books_at (books c) q)) → AllByRecursion (IsOwn (state c)) ts → AllByRecursion (λ r. IsOwnRequest (state c) r.req) rs → AllByRecursion (λ a. IsProcess (state c) a.p) es → AreServed rs ls → IfSome after (IsProcess (state c)) → AreHeld (record (state c) { procs = map process (slice_set c.procs.items (p.0 - 1) new); timers = ts; requests = rs; attention = es }) after (map books_of (slice_set c.procs.items (p.0 - 1) new)) ls
 held_there c after p new ts rs es ls made here others own asked called served short =
     let i = p.0 - 1 in
     let s = state c in
@@ -130,9 +130,9 @@ held_there c after p new ts rs es ls made here others own asked called served sh
     (subst (λ (bs : List Books). AreHeld (record s { procs = slice_set s.procs i (process new); timers = ts; requests = rs; attention = es }) after bs ls) (sym (map-set books_of c.procs.items i new)) held)
 
 -- with the timers alone
-pub held_set : {R : Type 0} (c : Inside R) (after : Option Pid) (p : Pid) (new : Proc R) (ts : List Timer) → IsHeld c → IsProcess (state c) p → IsBooked (record (state c) { procs = slice_set (state c).procs (p.0 - 1) (process new); timers = ts }) after p (books_of new) → ((q : Pid) → IsProcess (state c) q → q.0 ≢ p.0 → IsBooked (state c) c.short q (books_at (books c) q) → IsBooked (record (state c) { timers = ts }) after q (books_at (books c) q)) → AllByRecursion (IsOwn (state c)) ts → IfSome after (IsProcess (state c)) → AreHeld (record (state c) { procs = map process (slice_set c.procs.items (p.0 - 1) new); timers = ts }) after (map books_of (slice_set c.procs.items (p.0 - 1) new)) (logs c)
+pub held_set : {R : Type 0} (c : Inside R) (after : Option Pid) (p : Pid) (new : Proc R) (ts : List Timer) → IsHeld c → IsProcess (state c) p → IsBooked (record (state c) { procs = slice_set (state c).procs (p.0 - 1) (process new); timers = ts }) after p (books_of new) → ((q : Pid) → IsProcess (state c) q → q.0 ≢ p.0 → IsBooked (state c) c.short q (books_at (books c) q) → IsBooked (record (state c) { timers = ts }) after q (books_at (books c) q)) → AllByRecursion (IsOwn (state c)) ts → IfSome after (IsProcess (state c)) → AreHeld (record (state c) { procs = map process (slice_set c.procs.items (p.0 - 1) new); timers = ts }) after (map books_of (slice_set c.procs.items (p.0 - 1) new)) (ends c)
 held_set c after p new ts h made here others own short =
-    held_there c after p new ts (state c).requests (state c).attention (logs c) made here (λ q m other. others q m other (h.booked q m)) own h.requests h.attention h.served short
+    held_there c after p new ts (state c).requests (state c).attention (ends c) made here (λ q m other. others q m other (h.booked q m)) own h.requests h.attention h.served short
 
 -- a process as it is put there
 pub put_there : (s : State) (p : Pid) (pr : Process) (ts : List Timer) → IsProcess s p → process_at (record s { procs = slice_set s.procs (p.0 - 1) pr; timers = ts }) p ≡ pr

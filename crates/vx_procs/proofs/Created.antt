@@ -6,7 +6,6 @@ use Rattle.std.proofs.lemmas.List.{append-nil, get_or_append_left, length-map, m
 use Rattle.std.proofs.Math.Seq.{get_or-append_seam}
 use Rattle.vx_base.specs.Flags.{one}
 use Rattle.vx_base.specs.Lists.{tally}
-use Rattle.vx_base.specs.Log.{Log}
 use Rattle.vx_base.specs.Pieces.{Attention, Alarm, OfTimer, OfWake, Queued, Request, Timer}
 use Rattle.vx_base.specs.Quotas.{no_need}
 use Rattle.vx_base.specs.declared.number.Pid.{Pid}
@@ -22,7 +21,8 @@ use Rattle.vx_procs.specs.Held.{AreHeld, Books, IsBooked, IsOwn, IsTargetMade, b
 use Rattle.vx_procs.specs.Kernel.{Kernel, Room, with_state}
 use Rattle.vx_procs.specs.Ready.{HasNewcomer}
 use Rattle.vx_procs.specs.Requests.{IsOwnRequest}
-use Rattle.vx_procs.specs.View.{process, state, kernel, logs, newcomers, books, books_of, room_of, IsHeld}
+use Rattle.vx_procs.specs.Units.{Ending}
+use Rattle.vx_procs.specs.View.{process, state, kernel, ends, newcomers, books, books_of, room_of, IsHeld}
 use Rattle.vx_procs.specs.Words.{with_created}
 use Rattle.vx_procs.specs.declared.procs.Core.TheInside.{Inside}
 use Rattle.vx_procs.specs.declared.process.Proc.{Proc}
@@ -104,7 +104,7 @@ last_at : {A : Type 0} (xs : List A) (y d : A) → slice_index_or (xs ++ y ∷ [
 last_at xs y d = let e : length xs + 1 - 1 ≡ length xs = omega arith in ap (λ (n : ℕ). slice_index_or (xs ++ y ∷ []) n d) e ∙ get_or-append_seam xs y [] d
 
 -- one process more, with its books
-held_with : (s : State) (bs : List Books) (ls : List (Option Log)) (short : Option Pid) (pr : Process) (b : Books) → AreHeld s short bs ls → length bs ≡ length s.procs → IsBooked (record s { procs = s.procs ++ pr ∷ [] }) short (pid (length s.procs + 1)) b → AreHeld (record s { procs = s.procs ++ pr ∷ [] }) short (bs ++ b ∷ []) ls
+held_with : (s : State) (bs : List Books) (ls : List (Option Ending)) (short : Option Pid) (pr : Process) (b : Books) → AreHeld s short bs ls → length bs ≡ length s.procs → IsBooked (record s { procs = s.procs ++ pr ∷ [] }) short (pid (length s.procs + 1)) b → AreHeld (record s { procs = s.procs ++ pr ∷ [] }) short (bs ++ b ∷ []) ls
 held_with s bs ls short pr b h same new =
     let t : State = record s { procs = s.procs ++ pr ∷ [] } in
     record {
@@ -152,10 +152,10 @@ held_created c d r items fresh h =
     let s = state c in
     let procs : map process d.procs.items ≡ s.procs ++ process r ∷ [] = ap (map process) items ∙ map-append process c.procs.items (r ∷ []) in
     let kept : map books_of d.procs.items ≡ books c ++ books_of r ∷ [] = ap (map books_of) items ∙ map-append books_of c.procs.items (r ∷ []) in
-    let held = held_with s (books c) (logs c) c.short (process r) (books_of r) h (length-map c.procs.items books_of ∙ sym (length-map c.procs.items process)) (fresh_booked c r h fresh) in
-    subst (λ (ps : List Process). AreHeld (record s { procs = ps }) c.short (map books_of d.procs.items) (logs c)) (sym procs)
-    (subst (λ (bs : List Books). AreHeld (record s { procs = s.procs ++ process r ∷ [] }) c.short bs (logs c)) (sym kept) held)
+    let held = held_with s (books c) (ends c) c.short (process r) (books_of r) h (length-map c.procs.items books_of ∙ sym (length-map c.procs.items process)) (fresh_booked c r h fresh) in
+    subst (λ (ps : List Process). AreHeld (record s { procs = ps }) c.short (map books_of d.procs.items) (ends c)) (sym procs)
+    (subst (λ (bs : List Books). AreHeld (record s { procs = s.procs ++ process r ∷ [] }) c.short bs (ends c)) (sym kept) held)
 
 -- the same processes, with other room for them
 pub held_same : {R : Type 0} (c d : Inside R) → d.procs.items ≡ c.procs.items → IsHeld c → IsHeld (record c { procs = d.procs; spare = d.spare })
-held_same c d items h = subst (λ (xs : List (Proc _)). AreHeld (record (state c) { procs = map process xs }) c.short (map books_of xs) (logs c)) (sym items) h
+held_same c d items h = subst (λ (xs : List (Proc _)). AreHeld (record (state c) { procs = map process xs }) c.short (map books_of xs) (ends c)) (sym items) h

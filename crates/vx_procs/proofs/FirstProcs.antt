@@ -4,7 +4,6 @@ use Rattle.std.proofs.Common.{◌≡◌, ℕ, zero, suc, ◌+◌, ◌-◌, ◌<�
 use Rattle.std.proofs.lemmas.List.{append_assoc, drop_more}
 use Rattle.vx_image.specs.declared.decl.ProcDecl.{ProcDecl}
 use Rattle.std.specs.List.{AllByRecursion}
-use Rattle.vx_base.specs.Log.{Log}
 use Rattle.vx_base.specs.Pieces.{DeviceUnit, Queued}
 use Rattle.vx_base.specs.Quotas.{no_need}
 use Rattle.vx_base.specs.Lists.{tally}
@@ -15,6 +14,7 @@ use Rattle.vx_quota.specs.Account.{Quotas}
 use Rattle.vx_procs.specs.Fresh.{IsFresh}
 use Rattle.vx_procs.specs.Held.{AreHeld, no_books}
 use Rattle.vx_record.specs.Runs.{born_of, born_from, first}
+use Rattle.vx_procs.specs.Units.{Ending}
 use Rattle.vx_procs.specs.View.{books_of, process}
 use Rattle.vx_procs.specs.Words.{born_if_started}
 use Rattle.vx_procs.specs.declared.process.Proc.{Proc}
@@ -49,7 +49,7 @@ fresh_at decls [] i h within = absurd (omega arith)
 fresh_at decls (x ∷ xs) zero h within = (h.0.frame, h.0.none, h.0.ast, h.0.account)
 fresh_at decls (x ∷ xs) (suc i) h within = fresh_at decls xs i h.1 (omega arith)
 
-pub first_held : {R : Type 0} (system : System) (us : List DeviceUnit) (ls : List (Option Log)) (xs : List (Proc R)) → AllByRecursion (IsFresh system.decls) xs → AreHeld (record (first system) { procs = map process xs; units = us }) None (map books_of xs) ls
+pub first_held : {R : Type 0} (system : System) (us : List DeviceUnit) (ls : List (Option Ending)) (xs : List (Proc R)) → AllByRecursion (IsFresh system.decls) xs → AreHeld (record (first system) { procs = map process xs; units = us }) None (map books_of xs) ls
 first_held system us ls xs h =
     let s : State = record (first system) { procs = map process xs; units = us } in
     record {
@@ -65,6 +65,6 @@ first_held system us ls xs h =
       timers = tt;
       requests = tt;
       attention = tt;
-      served = λ u. omega arith;
+      served = λ u. record { few = omega arith; only = tt };
       marked = tt;
     }

@@ -9,6 +9,8 @@ pub mod Ended
 pub mod Created
 pub mod FirstProcs
 pub mod Firsts
+pub mod Inside
+pub mod Leased
 pub mod Left
 pub mod Moments
 pub mod Ops

@@ -1,5 +1,5 @@
 -- What is held stays held, as requests are opened, begun, marked and finished, and units serve.
-use Rattle.std.proofs.Common.{◌≡◌, ℕ, ◌+◌, ◌-◌, ◌<◌, ◌≤◌, length, length-append, List, [], ◌∷◌, ◌++◌, Bool, true, false, cond, not, ◌==◌, ◌&&◌, inl, inr, get_or-set_same, get_or-set_other, length-set, map, slice_index_or, slice_set, Option, Some, None, IsTrue, is_some, option_map, arith, refl, sym, ap, subst, ◌∙◌}
+use Rattle.std.proofs.Common.{◌≡◌, ℕ, ◌+◌, ◌-◌, ◌<◌, ◌≤◌, length, length-append, List, [], ◌∷◌, ◌++◌, Bool, true, false, cond, not, ◌==◌, ◌&&◌, inl, inr, get_or-set_same, get_or-set_other, length-set, map, slice_index_or, slice_set, Option, Some, None, IsTrue, is_some, option_map, IsSome, arith, refl, sym, ap, subst, ◌∙◌}
 use Rattle.std.specs.List.{AllByRecursion, find, list_any}
 use Rattle.std.specs.Vec.{with_item}
 use Rattle.std.proofs.lemmas.Bool.Decides.{nat_tests}
@@ -34,12 +34,12 @@ use Rattle.vx_record.proofs.Lists.{all_amend, all_append, all_find, all_less, al
 use Rattle.vx_quota.specs.Account.{Quotas, charged, released}
 use Rattle.vx_reqs.specs.Requests.{begun}
 use Rattle.vx_units.specs.Units.{is_for_unit}
-use Rattle.vx_procs.specs.Held.{AreServed, Books, IsBooked, IsOwn, books_at, spare}
-use Rattle.vx_procs.specs.Kernel.{IsPrepared, Kernel, Room, log_for, log_or, opened, with_state}
+use Rattle.vx_procs.specs.Held.{AreServed, Books, IsBooked, IsOwn, ServesAsked, books_at, spare}
+use Rattle.vx_procs.specs.Kernel.{IsPrepared, Kernel, Room, asked_for, ending_for, log_or, opened, with_state}
 use Rattle.vx_procs.specs.Ready.{HasSpares, owed}
 use Rattle.vx_procs.specs.Requests.{IsForDevice, IsOwnRequest, begun_if, ended, ended_if, finished, promised_ast, replied, request_ast, served_if}
-use Rattle.vx_procs.specs.Units.{Kept}
-use Rattle.vx_procs.specs.View.{process, state, kernel, log_of, logs, books, books_of, room_of, unit_of, IsHeld}
+use Rattle.vx_procs.specs.Units.{Ending, IsMadeFor, Kept, asked_of, log_of, stand_of}
+use Rattle.vx_procs.specs.View.{process, state, kernel, ending_of, ends, books, books_of, room_of, unit_of, IsHeld}
 use Rattle.vx_procs.specs.Words.{with_queued_if}
 use Rattle.vx_procs.specs.declared.procs.Core.TheInside.{Inside}
 use Rattle.vx_procs.specs.declared.process.Proc.{Proc}
@@ -49,6 +49,7 @@ use Rattle.vx_procs.proofs.Booked.{counts_of, here_by, need_eq, one_few, spare_u
 use Rattle.vx_procs.proofs.Changed.{held_there, requests_as, seen}
 use Rattle.vx_procs.proofs.Ended.{found_id}
 use Rattle.vx_procs.proofs.Firsts.{amend_like, find_same}
+use Rattle.vx_procs.proofs.Inside.{stand_here}
 use Rattle.vx_procs.proofs.Ops.{booked_here, charged_limits, counts_here, left_for, queued_decl, queued_frames, spares_here, spares_in}
 
 -- what a request of p is charged
@@ -67,11 +68,38 @@ others_asked s before after rs q b h frames asts same =
       limits = h.limits;
     }
 
--- A request is opened.
+-- What a unit serves.
 
-unserved : (b served : Bool) → served ≡ false → one (b && served) ≡ 0
-unserved true served is = ap one is
+unserved : (b served : Bool) → served ≡ false → (b && served) ≡ false
+unserved true served is = is
 unserved false served is = refl
+
+serving_more : (u : UnitNo) (rs : List Request) (r : Request) (asked : Option Req) → r.served ≡ false → ServesAsked rs u asked → ServesAsked (rs ++ r ∷ []) u asked
+serving_more u rs r asked waits h =
+    let none = unserved (is_on u r) r.served waits in
+    record {
+      few = omega (arith, h.few, ap one none, tally-append (is_served_by u) rs (r ∷ []));
+      only = all_append _ rs (r ∷ []) h.only ((λ is. let e : false ≡ true = sym none ∙ is in absurd (cc)), tt);
+    }
+
+serving_less : (u : UnitNo) (test : Request → Bool) (rs : List Request) (r : Request) (asked : Option Req) → find test rs ≡ Some r → ServesAsked rs u asked → ServesAsked (less test rs) u asked
+serving_less u test rs r asked found h = record {
+  few = omega (arith, h.few, tally-less (is_served_by u) test rs r found);
+  only = all_less _ test rs h.only;
+}
+
+serving_none : (u : UnitNo) (rs : List Request) (asked : Option Req) → tally (is_served_by u) rs ≡ 0 → AllByRecursion (λ r. is_served_by u r ≡ true → asked ≡ Some r.req) rs
+serving_none u [] asked none = tt
+serving_none u (r ∷ rs) asked none = (
+  (λ is. absurd (omega (arith, none, ap one is))),
+  serving_none u rs asked (omega (arith, none)),
+)
+
+-- where it serves none, it may be asked anything
+pub free_serving : (u : UnitNo) (rs : List Request) (asked : Option Req) → tally (is_served_by u) rs ≡ 0 → ServesAsked rs u asked
+free_serving u rs asked none = record { few = omega (arith, none); only = serving_none u rs asked none }
+
+-- A request is opened.
 
 pub held_asked : {R : Type 0} (r : Request) (need : Need) (c : Inside R) (k : Kernel) (p : Pid) (old new : Proc R) (rs : Roomy Request) → kernel c ≡ k → HasSpares k → r.req.p ≡ p → r.served ≡ false → IsOwnRequest k.state r.req → need ≡ request_need (state c) r.req.device r.req.func (is_some r.ast) r.req.len → exceeds k.state p need ≡ false → old ≡ slice_index_or c.procs.items (p.0 - 1) old → process new ≡ process old → room_of new ≡ room_of old → new.account ≡ charged old.account need → rs ≡ with_items c.requests (c.requests.items ++ r ∷ []) → IsHeld c → IsHeld (record c { procs = with_item c.procs (p.0 - 1) new; requests = rs; short = Some p })
 held_asked r need c k p old new rs view has own waits is_own needs within is e room account put h =
@@ -88,7 +116,7 @@ held_asked r need c k p old new rs view has own waits is_own needs within is e r
     let left = left_for c k p old need view h made is within in
     let used : new.account.used ≡ together old.account.used need = ap (λ (a : Quotas). a.used) account ∙ ap (λ (b : Bool). (cond b (record old.account { used = together old.account.used need }) old.account).used) left in
     let few = one_few (is_same r.req.p p && is_some r.ast) in
-    held_there c (Some p) p new c.timers.items rs.items s.attention (logs c) made
+    held_there c (Some p) p new c.timers.items rs.items s.attention (ends c) made
     (here_by (record s { requests = rs.items }) (Some p) p (process new) c.timers.items (books_of old) (books_of new) made (booked_here c p old h made is).limits
     (ap (λ (x : Process). x.decl) e ∙ ap (λ (x : Process). x.decl) was)
     (omega (arith, spare_room.0, spare_used p, ap (λ (x : Process). length x.frames) e, ap (λ (x : Room). x.frames) room))
@@ -108,7 +136,7 @@ held_asked r need c k p old new rs view has own waits is_own needs within is e r
     h.timers
     (subst (λ (xs : List Request). AllByRecursion (λ x. IsOwnRequest s x.req) xs) (sym items) (all_append (λ x. IsOwnRequest s x.req) c.requests.items (r ∷ []) h.requests (its, tt)))
     h.attention
-    (λ u. omega (arith, h.served u, ap (λ (xs : List Request). tally (is_served_by u) xs) items, tally-append (is_served_by u) c.requests.items (r ∷ []), unserved (is_on u r) r.served waits))
+    (λ u. subst (λ (xs : List Request). ServesAsked xs u (asked_of (slice_index_or (ends c) u.0 None))) (sym items) (serving_more u c.requests.items r _ waits (h.served u)))
     made
 
 -- A request is out.
@@ -186,7 +214,7 @@ held_ended test need c p r old new rs found own needs left is e room account h =
     let asts = queued_asts r.req.id r.ast (process old) in
     let used = ap (λ (a : Quotas). a.used) account in
     let o = request_ast r in
-    held_there c c.short p new c.timers.items rs.items s.attention (logs c) made
+    held_there c c.short p new c.timers.items rs.items s.attention (ends c) made
     (here_by (record s { requests = rs.items }) c.short p (process new) c.timers.items (books_of old) (books_of new) made b.limits
     (ap (λ (x : Process). x.decl) e ∙ (queued_decl o (process old) ∙ ap (λ (x : Process). x.decl) was))
     (omega (arith, b.frames, ap (λ (x : Process). length x.frames) e, ap (λ (xs : List Frame). length xs) (queued_frames o (process old)), ap (λ (x : Process). length x.frames) was, ap (λ (x : Room). x.frames) room))
@@ -206,7 +234,7 @@ held_ended test need c p r old new rs found own needs left is e room account h =
     h.timers
     (subst (λ (xs : List Request). AllByRecursion (λ x. IsOwnRequest s x.req) xs) (sym items) (all_less (λ x. IsOwnRequest s x.req) test c.requests.items h.requests))
     h.attention
-    (λ u. omega (arith, h.served u, ap (λ (xs : List Request). tally (is_served_by u) xs) items, tally-less (is_served_by u) test c.requests.items r (sym found)))
+    (λ u. subst (λ (xs : List Request). ServesAsked xs u (asked_of (slice_index_or (ends c) u.0 None))) (sym items) (serving_less u test c.requests.items r _ (sym found) (h.served u)))
     h.marked
 
 -- what was found in the code's list
@@ -229,7 +257,7 @@ ended_as id c k p r old new rs view h found own is e room left =
 
 -- A request is changed in nothing that is charged.
 
-pub held_amended : {R : Type 0} (test : Request → Bool) (g : Request → Request) (c : Inside R) (rs : Roomy Request) → rs ≡ with_items c.requests (amend test g c.requests.items) → ((r : Request) → (g r).req ≡ r.req) → ((r : Request) → (g r).ast ≡ r.ast) → AreServed (amend test g c.requests.items) (logs c) → IsHeld c → IsHeld (record c { requests = rs })
+pub held_amended : {R : Type 0} (test : Request → Bool) (g : Request → Request) (c : Inside R) (rs : Roomy Request) → rs ≡ with_items c.requests (amend test g c.requests.items) → ((r : Request) → (g r).req ≡ r.req) → ((r : Request) → (g r).ast ≡ r.ast) → AreServed (amend test g c.requests.items) (ends c) → IsHeld c → IsHeld (record c { requests = rs })
 held_amended test g c rs is same_req same_ast served h =
     let s = state c in
     let items : rs.items ≡ amend test g c.requests.items = ap (λ (x : Roomy Request). x.items) is in
@@ -242,13 +270,16 @@ held_amended test g c rs is same_req same_ast served h =
       requests = all_weaker (λ r. IsOwnRequest s r.req) (λ r. IsOwnRequest t r.req) (λ r o. record { made = o.made; transfer = o.transfer; device = o.device; iosb = o.iosb; buf = o.buf }) rs.items
           (subst (λ (xs : List Request). AllByRecursion (λ r. IsOwnRequest s r.req) xs) (sym items) (all_amend (λ r. IsOwnRequest s r.req) test g (λ r o. subst (λ (x : Req). IsOwnRequest s x) (sym (same_req r)) o) c.requests.items h.requests));
       attention = h.attention;
-      served = subst (λ (xs : List Request). AreServed xs (logs c)) (sym items) served;
+      served = subst (λ (xs : List Request). AreServed xs (ends c)) (sym items) served;
       marked = h.marked;
     }
 
 pub held_marked : {R : Type 0} (id : Id) (c : Inside R) (rs : Roomy Request) → rs ≡ with_items c.requests (amend (this_request id) with_abort c.requests.items) → IsHeld c → IsHeld (record c { requests = rs })
 held_marked id c rs is h =
-    held_amended (this_request id) with_abort c rs is (λ r. refl) (λ r. refl) (λ u. omega (arith, h.served u, tally-amend (is_served_by u) (this_request id) with_abort (λ r. refl) c.requests.items)) h
+    held_amended (this_request id) with_abort c rs is (λ r. refl) (λ r. refl) (λ u. record {
+      few = omega (arith, (h.served u).few, tally-amend (is_served_by u) (this_request id) with_abort (λ r. refl) c.requests.items);
+      only = all_amend (λ r. is_served_by u r ≡ true → asked_of (slice_index_or (ends c) u.0 None) ≡ Some r.req) (this_request id) with_abort (λ r o. o) c.requests.items (h.served u).only;
+    }) h
 
 -- A unit takes a request.
 
@@ -275,28 +306,46 @@ served_more u v (r ∷ rs) =
     (λ is. omega (arith, taken_by u v r.req.device r.served is))
     (λ isnt. omega (arith, served_more u v rs))
 
-served_taken : (u : UnitNo) (rs : List Request) (ls : List (Option Log)) → list_any (is_served_by u) rs ≡ false → IsTrue (is_some (slice_index_or ls u.0 None)) → AreServed rs ls → AreServed (amend (waits_for u) taken_up rs) ls
-served_taken u rs ls free prepared h v =
-    let more = served_more u v rs in
-    elim (cases_eq v.0 u.0) [
-      | inl same ↦
-          let is : v ≡ u = ap (λ (n : ℕ). let x : UnitNo = record { 0 = n } in x) same in
-          let none = none_tally (is_served_by u) rs free in
-          let few = one_few (u.0 == u.0) in
-          let there = ap one prepared in
-          let here = served_more u u rs in
-          rw is (omega (arith, here, none, few, there))
-      | inr other ↦
-          let apart_so : (v.0 == u.0) ≡ false = false_from (v.0 == u.0) (λ same. other (eqb-true v.0 u.0 same)) in
-          omega (arith, more, ap one apart_so, h v)
-    ]
+-- what is taken is what the unit is asked
+only_taken : (u v : UnitNo) (rs : List Request) (asked : Option Req) → (v.0 ≡ u.0 → asked ≡ option_map (λ (r : Request). r.req) (find (waits_for u) rs)) → AllByRecursion (λ r. is_served_by v r ≡ true → asked ≡ Some r.req) rs → AllByRecursion (λ r. is_served_by v r ≡ true → asked ≡ Some r.req) (amend (waits_for u) taken_up rs)
+only_taken u v [] asked next h = tt
+only_taken u v (r ∷ rs) asked next h =
+    elim (waits_for u r) as (λ b. waits_for u r ≡ b → (v.0 ≡ u.0 → asked ≡ option_map (λ (x : Request). x.req) (cond b (Some r) (find (waits_for u) rs))) → AllByRecursion (λ x. is_served_by v x ≡ true → asked ≡ Some x.req) (cond b (taken_up r ∷ rs) (r ∷ amend (waits_for u) taken_up rs))) [
+      | true ↦ λ waits its. ((λ is. its (same_unit u v r.req.device (not r.served) waits is)), h.1)
+      | false ↦ λ waits its. (h.0, only_taken u v rs asked its h.1)
+    ] refl next
+  where
+    same_unit : (u v : UnitNo) (d : Device) (b : Bool) → (is_unit u d && b) ≡ true → (is_unit v d && true) ≡ true → v.0 ≡ u.0
+    same_unit u v (device.Unit w) b e f = eqb-true v.0 w.0 (and_parts (v.0 == w.0) true f).0 ∙ sym (eqb-true u.0 w.0 (and_parts (u.0 == w.0) b e).0)
+    same_unit u v (device.Mailbox n) b e f = absurd (cc)
+
+-- the request that a unit takes next is the first that waits
+next_free : (u : UnitNo) (rs : List Request) → list_any (is_served_by u) rs ≡ false → front u rs ≡ find (waits_for u) rs
+next_free u rs free = ap (λ b. cond b None (find (waits_for u) rs)) free
+
+served_taken : (u : UnitNo) (rs : List Request) (es : List (Option Ending)) → list_any (is_served_by u) rs ≡ false → IsSome (asked_of (slice_index_or es u.0 None)) → asked_of (slice_index_or es u.0 None) ≡ option_map (λ (r : Request). r.req) (front u rs) → AreServed rs es → AreServed (amend (waits_for u) taken_up rs) es
+served_taken u rs es free there next h v = record {
+  few = elim (cases_eq v.0 u.0) [
+    | inl same ↦
+        let is : v ≡ u = ap (λ (n : ℕ). let x : UnitNo = record { 0 = n } in x) same in
+        let none = none_tally (is_served_by u) rs free in
+        let few = one_few (u.0 == u.0) in
+        let prepared = ap one there in
+        let here = served_more u u rs in
+        rw is (omega (arith, here, none, few, prepared))
+    | inr other ↦
+        let apart_so : (v.0 == u.0) ≡ false = false_from (v.0 == u.0) (λ same. other (eqb-true v.0 u.0 same)) in
+        omega (arith, served_more u v rs, ap one apart_so, (h v).few)
+  ];
+  only = only_taken u v rs (asked_of (slice_index_or es v.0 None)) (λ same. ap (λ (n : ℕ). asked_of (slice_index_or es n None)) same ∙ (next ∙ ap (option_map (λ (r : Request). r.req)) (next_free u rs free))) (h v).only;
+}
 
 pub held_taken : {R : Type 0} (u : UnitNo) (c : Inside R) (k : Kernel) (rs : Roomy Request) → kernel c ≡ k → IsPrepared k u → rs ≡ with_items c.requests (begun u c.requests.items) → IsHeld c → IsHeld (record c { requests = rs })
 held_taken u c k rs view is_prepared is h =
     let prepared : IsPrepared (kernel c) u = subst (λ (x : Kernel). IsPrepared x u) (sym view) is_prepared in
     elim (list_any (is_served_by u) c.requests.items) as (λ b. list_any (is_served_by u) c.requests.items ≡ b → rs ≡ with_items c.requests (cond b c.requests.items (amend (waits_for u) taken_up c.requests.items)) → IsHeld (record c { requests = rs })) [
       | true ↦ λ _ same. subst (λ (x : Roomy Request). IsHeld (record c { requests = x })) (sym same) h
-      | false ↦ λ free taken. held_amended (waits_for u) taken_up c rs taken (λ r. refl) (λ r. refl) (served_taken u c.requests.items (logs c) free prepared h.served) h
+      | false ↦ λ free taken. held_amended (waits_for u) taken_up c rs taken (λ r. refl) (λ r. refl) (served_taken u c.requests.items (ends c) free prepared.asked prepared.next h.served) h
     ] refl is
 
 -- in id order, it is the front request of the unit
@@ -332,21 +381,21 @@ taken_as u c k rs view order is = asked_alone (begun u) c k rs view is ∙ ap (w
 
 -- A unit changes.
 
-unit_set : {R : Type 0} (c : Inside R) (u : UnitNo) (new : Kept) (ls : List (Option Log)) → ls ≡ slice_set (logs c) u.0 new.log → tally (is_served_by u) c.requests.items ≤ one (is_some new.log) → u.0 < length (logs c) → AreServed c.requests.items (logs c) → AreServed c.requests.items ls
-unit_set c u new ls is enough within h v =
+unit_set : {R : Type 0} (c : Inside R) (u : UnitNo) (new : Kept) (es : List (Option Ending)) → es ≡ slice_set (ends c) u.0 new.ending → ServesAsked c.requests.items u (asked_of new.ending) → u.0 < length (ends c) → AreServed c.requests.items (ends c) → AreServed c.requests.items es
+unit_set c u new es is its within h v =
     let rs = c.requests.items in
     elim (cases_eq v.0 u.0) [
       | inl same ↦
-          let its : v ≡ u = ap (λ (n : ℕ). let x : UnitNo = record { 0 = n } in x) same in
-          let at : slice_index_or ls u.0 None ≡ new.log = ap (λ (xs : List (Option Log)). slice_index_or xs u.0 None) is ∙ get_or-set_same (logs c) u.0 new.log None within in
-          rw its (omega (arith, enough, ap (λ (o : Option Log). one (is_some o)) at))
+          let here : v ≡ u = ap (λ (n : ℕ). let x : UnitNo = record { 0 = n } in x) same in
+          let at : slice_index_or es u.0 None ≡ new.ending = ap (λ (xs : List (Option Ending)). slice_index_or xs u.0 None) is ∙ get_or-set_same (ends c) u.0 new.ending None within in
+          subst (λ (w : UnitNo). ServesAsked rs w (asked_of (slice_index_or es w.0 None))) (sym here) (subst (λ (o : Option Ending). ServesAsked rs u (asked_of o)) (sym at) its)
       | inr other ↦
-          let at : slice_index_or ls v.0 None ≡ slice_index_or (logs c) v.0 None = ap (λ (xs : List (Option Log)). slice_index_or xs v.0 None) is ∙ get_or-set_other (logs c) u.0 v.0 new.log None other in
-          omega (arith, h v, ap (λ (o : Option Log). one (is_some o)) at)
+          let at : slice_index_or es v.0 None ≡ slice_index_or (ends c) v.0 None = ap (λ (xs : List (Option Ending)). slice_index_or xs v.0 None) is ∙ get_or-set_other (ends c) u.0 v.0 new.ending None other in
+          subst (λ (o : Option Ending). ServesAsked rs v (asked_of o)) (sym at) (h v)
     ]
 
-pub held_unit : {R : Type 0} (c : Inside R) (u : UnitNo) (new : Kept) (l : Log) → u.0 < length c.units.items → tally (is_served_by u) c.requests.items ≤ one (is_some new.log) → IsHeld c → IsHeld (record c { units = with_item c.units u.0 new; log = l })
-held_unit c u new l within enough h =
+pub held_unit : {R : Type 0} (c : Inside R) (u : UnitNo) (new : Kept) (l : Log) → u.0 < length c.units.items → ServesAsked c.requests.items u (asked_of new.ending) → IsHeld c → IsHeld (record c { units = with_item c.units u.0 new; log = l })
+held_unit c u new l within its h =
     let s = state c in
     let us = slice_set c.units.items u.0 new in
     let t : State = record s { units = map unit_of us } in
@@ -356,22 +405,22 @@ held_unit c u new l within enough h =
       timers = all_weaker (IsOwn s) (IsOwn t) (λ x o. record { made = o.made; target = o.target; ahead = o.ahead; soon = o.soon }) c.timers.items h.timers;
       requests = all_weaker (λ r. IsOwnRequest s r.req) (λ r. IsOwnRequest t r.req) (λ r o. record { made = o.made; transfer = o.transfer; device = subst (λ n. IsForDevice n r.req r.req.device) (sym many) o.device; iosb = o.iosb; buf = o.buf }) c.requests.items h.requests;
       attention = h.attention;
-      served = unit_set c u new (map log_of us) (map-set log_of c.units.items u.0 new) enough (omega (arith, within, length-map c.units.items log_of)) h.served;
+      served = unit_set c u new (map ending_of us) (map-set ending_of c.units.items u.0 new) its (omega (arith, within, length-map c.units.items ending_of)) h.served;
       marked = h.marked;
     }
 
 -- the value after it
-pub unit_as : {R : Type 0} (c : Inside R) (k : Kernel) (u : UnitNo) (new : Kept) (l : Log) → kernel c ≡ k → kernel (record c { units = with_item c.units u.0 new; log = l }) ≡ record k { state = with_unit k.state u new.unit; log = l; logs = slice_set k.logs u.0 new.log }
+pub unit_as : {R : Type 0} (c : Inside R) (k : Kernel) (u : UnitNo) (new : Kept) (l : Log) → kernel c ≡ k → kernel (record c { units = with_item c.units u.0 new; log = l }) ≡ record k { state = with_unit k.state u new.unit; log = l; ends = slice_set k.ends u.0 new.ending }
 unit_as c k u new l view =
-    ap (λ (xs : List DeviceUnit). let y : Kernel = record (kernel c) { state = record (state c) { units = xs }; log = l; logs = map log_of (slice_set c.units.items u.0 new) } in y) (map-set unit_of c.units.items u.0 new)
-    ∙ (ap (λ (xs : List (Option Log)). let y : Kernel = record (kernel c) { state = with_unit (state c) u new.unit; log = l; logs = xs } in y) (map-set log_of c.units.items u.0 new)
-    ∙ ap (λ (x : Kernel). let y : Kernel = record x { state = with_unit x.state u new.unit; log = l; logs = slice_set x.logs u.0 new.log } in y) view)
+    ap (λ (xs : List DeviceUnit). let y : Kernel = record (kernel c) { state = record (state c) { units = xs }; log = l; ends = map ending_of (slice_set c.units.items u.0 new) } in y) (map-set unit_of c.units.items u.0 new)
+    ∙ (ap (λ (xs : List (Option Ending)). let y : Kernel = record (kernel c) { state = with_unit (state c) u new.unit; log = l; ends = xs } in y) (map-set ending_of c.units.items u.0 new)
+    ∙ ap (λ (x : Kernel). let y : Kernel = record x { state = with_unit x.state u new.unit; log = l; ends = slice_set x.ends u.0 new.ending } in y) view)
 
 -- the unit that the code reads
-pub seen_unit : {R : Type 0} (c : Inside R) (k : Kernel) (u : UnitNo) (old : Kept) → kernel c ≡ k → u.0 < length c.units.items → old ≡ slice_index_or c.units.items u.0 old → (old.unit ≡ unit_at k.state u) × (old.log ≡ log_for k u)
+pub seen_unit : {R : Type 0} (c : Inside R) (k : Kernel) (u : UnitNo) (old : Kept) → kernel c ≡ k → u.0 < length c.units.items → old ≡ slice_index_or c.units.items u.0 old → (old.unit ≡ unit_at k.state u) × (old.ending ≡ ending_for k u)
 seen_unit c k u old view within is = (
   ap unit_of is ∙ (sym (get_or-map unit_of c.units.items u.0 old no_unit within) ∙ ap (λ (x : Kernel). unit_at x.state u) view),
-  ap log_of is ∙ (sym (get_or-map log_of c.units.items u.0 old None within) ∙ ap (λ (x : Kernel). log_for x u) view),
+  ap ending_of is ∙ (sym (get_or-map ending_of c.units.items u.0 old None within) ∙ ap (λ (x : Kernel). ending_for x u) view),
 )
 
 pub unit_within : {R : Type 0} (c : Inside R) (k : Kernel) (u : UnitNo) → kernel c ≡ k → u.0 < length k.state.units → u.0 < length c.units.items
@@ -379,12 +428,16 @@ unit_within c k u view within = omega (arith, subst (λ (x : Kernel). u.0 < leng
 
 -- What a unit is prepared for.
 
-pub enough_kept : (n : ℕ) (a b : Bool) → n ≤ one a → (a ≡ true → b ≡ true) → n ≤ one b
-enough_kept n true b few h = let e = ap one (h refl) in omega (arith, few, e)
-enough_kept n false b few h = omega (arith, few)
+-- a unit with a request that it takes next serves none
+pub front_free : (u : UnitNo) (rs : List Request) (q : Req) → Some q ≡ option_map (λ r. r.req) (front u rs) → tally (is_served_by u) rs ≡ 0
+front_free u rs q e =
+    elim (list_any (is_served_by u) rs) as (λ b. list_any (is_served_by u) rs ≡ b → Some q ≡ option_map (λ (r : Request). r.req) (cond b None (find (waits_for u) rs)) → tally (is_served_by u) rs ≡ 0) [
+      | true ↦ λ some next. absurd (cc)
+      | false ↦ λ free next. none_tally (is_served_by u) rs free
+    ] refl e
 
 -- a request on a unit is one for it
-unit_device : (u : UnitNo) (n : ℕ) (q : Req) (d : Device) → is_unit u d ≡ true → IsForDevice n q d → (u.0 < n) × IsTrue (is_for_unit q)
+pub unit_device : (u : UnitNo) (n : ℕ) (q : Req) (d : Device) → is_unit u d ≡ true → IsForDevice n q d → (u.0 < n) × IsTrue (is_for_unit q)
 unit_device u n q (device.Unit v) is own = let e = eqb-true u.0 v.0 is in (omega (arith, e, own.0), own.1)
 unit_device u n q (device.Mailbox b) is own = absurd (cc)
 
@@ -402,37 +455,48 @@ front_own c u q h e =
     let fits = unit_device u (length (state c).units) r.req r.req.device on its.device in
     (omega (arith, fits.0, length-map c.units.items unit_of), subst (λ (x : Req). IsTrue (is_for_unit x)) found.1.1 fits.1)
 
-pub log_there : {R : Type 0} (c : Inside R) (u : UnitNo) (new : Kept) → u.0 < length c.units.items → slice_index_or (map log_of (slice_set c.units.items u.0 new)) u.0 None ≡ new.log
-log_there c u new within =
-    ap (λ (xs : List (Option Log)). slice_index_or xs u.0 None) (map-set log_of c.units.items u.0 new) ∙ get_or-set_same (logs c) u.0 new.log None (omega (arith, within, length-map c.units.items log_of))
+pub ending_there : {R : Type 0} (c : Inside R) (u : UnitNo) (new : Kept) → u.0 < length c.units.items → slice_index_or (map ending_of (slice_set c.units.items u.0 new)) u.0 None ≡ new.ending
+ending_there c u new within =
+    ap (λ (xs : List (Option Ending)). slice_index_or xs u.0 None) (map-set ending_of c.units.items u.0 new) ∙ get_or-set_same (ends c) u.0 new.ending None (omega (arith, within, length-map c.units.items ending_of))
 
-pub prepared_as : {R : Type 0} (c : Inside R) (k : Kernel) (u : UnitNo) (old new : Kept) → kernel c ≡ k → u.0 < length c.units.items → old ≡ slice_index_or c.units.items u.0 old → new.unit ≡ old.unit → kernel (record c { units = with_item c.units u.0 new }) ≡ record k { logs = slice_set k.logs u.0 (slice_index_or (map log_of (slice_set c.units.items u.0 new)) u.0 None) }
+-- as it was made for a request
+pub made_for : {R : Type 0} (c : Inside R) (u : UnitNo) (new : Kept) (q : Req) → u.0 < length c.units.items → Some q ≡ option_map (λ r. r.req) (front u c.requests.items) → IsMadeFor new.ending q → IsPrepared (kernel (record c { units = with_item c.units u.0 new })) u
+made_for c u new q within next made =
+    let at = ending_there c u new within in
+    let asked : asked_of (slice_index_or (map ending_of (slice_set c.units.items u.0 new)) u.0 None) ≡ Some q = ap asked_of at ∙ made.asked in
+    record {
+      asked = ap is_some asked;
+      next = asked ∙ next;
+      home = stand_here (map ending_of (slice_set c.units.items u.0 new)) u.0 ∙ (ap stand_of at ∙ made.home);
+    }
+
+pub prepared_as : {R : Type 0} (c : Inside R) (k : Kernel) (u : UnitNo) (old new : Kept) → kernel c ≡ k → u.0 < length c.units.items → old ≡ slice_index_or c.units.items u.0 old → new.unit ≡ old.unit → kernel (record c { units = with_item c.units u.0 new }) ≡ record k { ends = slice_set k.ends u.0 (slice_index_or (map ending_of (slice_set c.units.items u.0 new)) u.0 None) }
 prepared_as c k u old new view within is same =
     let there = seen_unit c k u old view within is in
     unit_as c k u new c.log view
-    ∙ (ap (λ (d : DeviceUnit). let y : Kernel = record k { state = with_unit k.state u d; log = c.log; logs = slice_set k.logs u.0 new.log } in y) (same ∙ there.0)
-    ∙ (ap (λ (us : List DeviceUnit). let y : Kernel = record k { state = record k.state { units = us }; log = c.log; logs = slice_set k.logs u.0 new.log } in y) (set-get_or k.state.units u.0 no_unit)
-    ∙ (ap (λ (x : Kernel). let y : Kernel = record k { log = x.log; logs = slice_set k.logs u.0 new.log } in y) view
-    ∙ ap (λ (o : Option Log). let y : Kernel = record k { logs = slice_set k.logs u.0 o } in y) (sym (log_there c u new within)))))
+    ∙ (ap (λ (d : DeviceUnit). let y : Kernel = record k { state = with_unit k.state u d; log = c.log; ends = slice_set k.ends u.0 new.ending } in y) (same ∙ there.0)
+    ∙ (ap (λ (us : List DeviceUnit). let y : Kernel = record k { state = record k.state { units = us }; log = c.log; ends = slice_set k.ends u.0 new.ending } in y) (set-get_or k.state.units u.0 no_unit)
+    ∙ (ap (λ (x : Kernel). let y : Kernel = record k { log = x.log; ends = slice_set k.ends u.0 new.ending } in y) view
+    ∙ ap (λ (o : Option Ending). let y : Kernel = record k { ends = slice_set k.ends u.0 o } in y) (sym (ending_there c u new within)))))
 
-pub served_as : {R : Type 0} (c : Inside R) (k : Kernel) (u : UnitNo) (q : Req) (old new : Kept) (l : Log) → kernel c ≡ k → u.0 < length c.units.items → old ≡ slice_index_or c.units.items u.0 old → Some l ≡ old.log → new ≡ record { unit = settled old.unit q; log = None } → kernel (record c { units = with_item c.units u.0 new; log = l }) ≡ with_state (opened k u) (with_unit k.state u (settled (unit_at k.state u) q))
+pub served_as : {R : Type 0} (c : Inside R) (k : Kernel) (u : UnitNo) (q : Req) (old new : Kept) (l : Log) → kernel c ≡ k → u.0 < length c.units.items → old ≡ slice_index_or c.units.items u.0 old → Some l ≡ log_of old.ending → new ≡ record { unit = settled old.unit q; ending = None } → kernel (record c { units = with_item c.units u.0 new; log = l }) ≡ with_state (opened k u) (with_unit k.state u (settled (unit_at k.state u) q))
 served_as c k u q old new l view within is given after =
     let there = seen_unit c k u old view within is in
     unit_as c k u new l view
-    ∙ (ap (λ (x : Kept). let y : Kernel = record k { state = with_unit k.state u x.unit; log = l; logs = slice_set k.logs u.0 x.log } in y) after
-    ∙ (ap (λ (d : DeviceUnit). let y : Kernel = record k { state = with_unit k.state u (settled d q); log = l; logs = slice_set k.logs u.0 None } in y) there.0
-    ∙ ap (λ (o : Option Log). let y : Kernel = record k { state = with_unit k.state u (settled (unit_at k.state u) q); log = log_or k.log o; logs = slice_set k.logs u.0 None } in y) (given ∙ there.1)))
+    ∙ (ap (λ (x : Kept). let y : Kernel = record k { state = with_unit k.state u x.unit; log = l; ends = slice_set k.ends u.0 x.ending } in y) after
+    ∙ (ap (λ (d : DeviceUnit). let y : Kernel = record k { state = with_unit k.state u (settled d q); log = l; ends = slice_set k.ends u.0 None } in y) there.0
+    ∙ ap (λ (o : Option Log). let y : Kernel = record k { state = with_unit k.state u (settled (unit_at k.state u) q); log = log_or k.log o; ends = slice_set k.ends u.0 None } in y) (given ∙ ap log_of there.1)))
 
 -- The end of a service.
 
--- the unit serves the request of an id, and no other, and there is a log for its end
+-- the unit serves the request of an id, and no other, and it is the one that the unit was asked
 pub record IsServing (k : Kernel) (u : UnitNo) (id : Id) : Type 0 where
   pub r : Request
   pub found : in_service u k.state.requests ≡ Some r
   pub by_id : find (this_request id) k.state.requests ≡ Some r
   pub fits : IsTrue (is_for_unit r.req)
   pub within : u.0 < length k.state.units
-  pub prepared : IsPrepared k u
+  pub asked : asked_for k u ≡ Some r.req
   pub single : tally (is_served_by u) k.state.requests ≡ 1
 
 one_there : (n : ℕ) (b : Bool) → n + 1 ≤ one b → (b ≡ true) × (n ≡ 0)
@@ -450,14 +514,15 @@ serving c k u id view h order is = subst (λ (x : Kernel). IsServing x u id) vie
         let its = all_find (λ x. IsOwnRequest (state c) x.req) (is_served_by u) rs r h.requests found.1.0 in
         let passes = found_passes (is_served_by u) rs r found.1.0 in
         let fits = unit_device u (length (state c).units) r.req r.req.device (and_parts (is_on u r) r.served passes).0 its.device in
-        let there = one_there (tally (is_served_by u) (less (is_served_by u) rs)) (is_some (slice_index_or (logs c) u.0 None)) (omega (arith, h.served u, tally-less (is_served_by u) (is_served_by u) rs r found.1.0, ap one passes)) in
+        let asked = slice_index_or (ends c) u.0 None in
+        let there = one_there (tally (is_served_by u) (less (is_served_by u) rs)) (is_some (asked_of asked)) (omega (arith, (h.served u).few, tally-less (is_served_by u) (is_served_by u) rs r found.1.0, ap one passes)) in
         record {
           r = r;
           found = found.1.0;
           by_id = ap (λ (i : Id). find (this_request i) rs) (sym found.1.1) ∙ find_same request_id (is_served_by u) 0 c.next rs r ids found.1.0;
           fits = fits.1;
           within = fits.0;
-          prepared = there.0;
+          asked = all_find (λ x. is_served_by u x ≡ true → asked_of asked ≡ Some x.req) (is_served_by u) rs r (h.served u).only found.1.0 passes;
           single = omega (arith, there.1, tally-less (is_served_by u) (is_served_by u) rs r found.1.0, ap one passes);
         }
 

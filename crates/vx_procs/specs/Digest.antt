@@ -1,5 +1,6 @@
 -- The state as a number, by which equal states are looked up: the time, the next id, and how many requests and timers there are;
--- of each process R0, the variables, the event flags, the frames, the ASTs, and how it stands; and of each unit its services.
+-- of each process R0, the variables, the status blocks, the event flags, the frames, the ASTs, and how it stands; of each unit its
+-- services; and which requests and messages there are.
 use Rattle.std.specs.Prelude.{ℕ, ◌+◌, List, [], ◌∷◌, Option, Some, None, length}
 use Rattle.vx_base.specs.Flags.{one}
 use Rattle.vx_base.specs.Modes.{rank}
@@ -10,6 +11,8 @@ use Rattle.vx_base.specs.declared.frame.Phase.TheVariants as phase
 use Rattle.vx_frames.specs.Frames.{top_of}
 use Rattle.vx_image.specs.Digest.{mix_stored}
 use Rattle.vx_record.specs.State.{Process, State}
+use Rattle.vx_mailbox.specs.Digest.{mix_boxes}
+use Rattle.vx_reqs.specs.Digest.{mix_requests}
 use Rattle.vx_same.specs.Mix.{mix}
 
 -- the statement of a frame, 0 where there is none
@@ -49,4 +52,4 @@ abbrev pub counts_of : State → ℕ
 counts_of s = mix (mix (mix s.time s.next) (length s.requests)) (length s.timers)
 
 abbrev pub digest_of : State → ℕ
-digest_of s = mix_units (mix_processes (counts_of s) s.procs) s.units
+digest_of s = mix_boxes (mix_requests (mix_units (mix_processes (counts_of s) s.procs) s.units) s.requests) s.boxes

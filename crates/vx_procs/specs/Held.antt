@@ -1,20 +1,21 @@
 -- What the executive keeps beside its state, and what is true of it.
-use Rattle.std.specs.Prelude.{◌≡◌, ℕ, ◌+◌, ◌-◌, ◌<◌, ◌≤◌, List, Bool, false, ◌==◌, not, Option, Some, None, IfSome, is_some, length, slice_index_or, ⊤}
+use Rattle.std.specs.Prelude.{◌≡◌, ℕ, ◌+◌, ◌-◌, ◌<◌, ◌≤◌, List, Bool, true, false, ◌==◌, not, Option, Some, None, IfSome, is_some, length, slice_index_or, ⊤}
 use Rattle.std.specs.List.{AllByRecursion}
 use Rattle.vx_base.specs.Flags.{one}
 use Rattle.vx_base.specs.Lists.{tally}
-use Rattle.vx_base.specs.Log.{Log}
 use Rattle.vx_base.specs.Pieces.{Request, Timer, Alarm, OfTimer, OfWake}
 use Rattle.vx_base.specs.Queues.{is_served_by}
 use Rattle.vx_base.specs.Quotas.{no_need}
 use Rattle.vx_base.specs.declared.number.Pid.{Pid}
 use Rattle.vx_base.specs.declared.number.UnitNo.{UnitNo}
+use Rattle.vx_base.specs.declared.request.Req.{Req}
 use Rattle.vx_record.specs.State.{State, IsProcess, IsWithin, process_at, limits_of}
 use Rattle.vx_record.specs.Charges.{charge}
 use Rattle.vx_quota.specs.Account.{Quotas}
 use Rattle.vx_procs.specs.Kernel.{Room, no_room}
 use Rattle.vx_procs.specs.Ready.{owed}
 use Rattle.vx_procs.specs.Requests.{IsOwnRequest}
+use Rattle.vx_procs.specs.Units.{Ending, asked_of}
 
 -- of each process its room and its account
 pub record Books : Type 0 where
@@ -55,14 +56,18 @@ pub record IsOwn (s : State) (t : Timer) : Type 0 where
   pub ahead : s.time ≤ t.due
   pub soon : t.due < s.time + 4294967296
 
--- a unit serves one request at most, and only where there is a log for the end of its service
-abbrev pub AreServed : List Request → List (Option Log) → Type 0
-AreServed requests logs = (u : UnitNo) → tally (is_served_by u) requests ≤ one (is_some (slice_index_or logs u.0 None))
+-- a unit serves one request at most, and only the one that it is asked
+pub record ServesAsked (requests : List Request) (u : UnitNo) (asked : Option Req) : Type 0 where
+  pub few : tally (is_served_by u) requests ≤ one (is_some asked)
+  pub only : AllByRecursion (λ r. is_served_by u r ≡ true → asked ≡ Some r.req) requests
 
-pub record AreHeld (s : State) (short : Option Pid) (books : List Books) (logs : List (Option Log)) : Type 0 where
+abbrev pub AreServed : List Request → List (Option Ending) → Type 0
+AreServed requests ends = (u : UnitNo) → ServesAsked requests u (asked_of (slice_index_or ends u.0 None))
+
+pub record AreHeld (s : State) (short : Option Pid) (books : List Books) (ends : List (Option Ending)) : Type 0 where
   pub booked : (p : Pid) → IsProcess s p → IsBooked s short p (books_at books p)
   pub timers : AllByRecursion (IsOwn s) s.timers
   pub requests : AllByRecursion (λ r. IsOwnRequest s r.req) s.requests
   pub attention : AllByRecursion (λ a. IsProcess s a.p) s.attention
-  pub served : AreServed s.requests logs
+  pub served : AreServed s.requests ends
   pub marked : IfSome short (IsProcess s)

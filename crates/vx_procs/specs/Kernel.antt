@@ -1,11 +1,16 @@
 -- What callers see of the executive: its plain state, the log of the event under way, and how much there is room for.
-use Rattle.std.specs.Prelude.{◌≡◌, ℕ, ◌-◌, ◌≤◌, List, [], Option, Some, None, IsTrue, is_some, length, slice_index_or, slice_set}
+use Rattle.std.specs.Prelude.{◌≡◌, ℕ, ◌-◌, ◌≤◌, List, [], Option, Some, None, IsSome, false, length, map, option_map, slice_index_or, slice_set}
 use Rattle.vx_base.specs.Log.{Log, HasRoom, logged}
+use Rattle.vx_base.specs.Pieces.{Request}
+use Rattle.vx_base.specs.Queues.{front}
 use Rattle.vx_base.specs.declared.effects.Effect.{Effect}
 use Rattle.vx_base.specs.declared.number.Pid.{Pid}
 use Rattle.vx_base.specs.declared.number.UnitNo.{UnitNo}
+use Rattle.vx_base.specs.declared.request.Req.{Req}
 use Rattle.vx_record.specs.State.{Process, State, change}
 use Rattle.vx_record.specs.Parts.{Outcome, Part}
+use Rattle.vx_units.specs.Leases.{Stand, Home, is_out}
+use Rattle.vx_procs.specs.Units.{Ending, asked_of, log_of, stand_of, stood}
 
 -- how many frames, how many ASTs and how many exit handlers a process has room for in all
 pub record Room : Type 0 where
@@ -24,7 +29,7 @@ pub record IsWithinRoom (a b : Room) : Type 0 where
 
 -- the state; the effects so far; the room of each process, in number order, and then of the spare process, if there is one; for
 -- how many timers, common clusters, associations with them, requests and attention entries there is room in all, and for how many
--- messages in each mailbox, by its number; and of each unit the log in which the end of its next service is told, where that was made
+-- messages in each mailbox, by its number; and of each unit what the end of its next service needs, where that was made
 pub record Kernel : Type 0 where
   pub state : State
   pub log : Log
@@ -35,27 +40,49 @@ pub record Kernel : Type 0 where
   pub requests : ℕ
   pub attention : ℕ
   pub messages : List ℕ
-  pub logs : List (Option Log)
+  pub ends : List (Option Ending)
 
 abbrev pub room_at : Kernel → Pid → Room
 room_at k p = slice_index_or k.rooms (p.0 - 1) no_room
 
--- the log that was made for the end of a unit's next service
-abbrev pub log_for : Kernel → UnitNo → Option Log
-log_for k u = slice_index_or k.logs u.0 None
+-- what the end of a unit's next service needs, where that was made; and the request that the unit is asked
 
--- what the end of a unit's next service needs is there
-abbrev pub IsPrepared : Kernel → UnitNo → Type 0
-IsPrepared k u = IsTrue (is_some (log_for k u))
+abbrev pub ending_for : Kernel → UnitNo → Option Ending
+ending_for k u = slice_index_or k.ends u.0 None
 
--- that log is the log of the event under way, and the unit has none
+abbrev pub asked_for : Kernel → UnitNo → Option Req
+asked_for k u = asked_of (ending_for k u)
+
+-- where the contents of each unit are, and those of one
+
+abbrev pub stands : Kernel → List Stand
+stands k = map stand_of k.ends
+
+abbrev pub stand_for : Kernel → UnitNo → Stand
+stand_for k u = slice_index_or (stands k) u.0 Home
+
+-- no unit is out
+abbrev pub AreIn : Kernel → Type 0
+AreIn k = (u : UnitNo) → is_out (stand_for k u) ≡ false
+
+-- the contents of a unit are elsewhere
+abbrev pub with_stand : Kernel → UnitNo → Stand → Kernel
+with_stand k u stand = record k { ends = slice_set k.ends u.0 (stood stand (ending_for k u)) }
+
+-- what the end of a unit's next service needs is there, for the request that the unit takes next, and its contents are home
+pub record IsPrepared (k : Kernel) (u : UnitNo) : Type 0 where
+  pub asked : IsSome (asked_for k u)
+  pub next : asked_for k u ≡ option_map (λ (r : Request). r.req) (front u k.state.requests)
+  pub home : stand_for k u ≡ Home
+
+-- that log is the log of the event under way, and nothing is made for a next service
 
 abbrev pub log_or : Log → Option Log → Log
 log_or log None = log
 log_or log (Some other) = other
 
 abbrev pub opened : Kernel → UnitNo → Kernel
-opened k u = record k { log = log_or k.log (log_for k u); logs = slice_set k.logs u.0 None }
+opened k u = record k { log = log_or k.log (log_of (ending_for k u)); ends = slice_set k.ends u.0 None }
 
 -- another state, with all else as it was
 abbrev pub with_state : Kernel → State → Kernel

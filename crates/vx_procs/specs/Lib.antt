@@ -8,6 +8,8 @@ pub mod Fresh
 pub mod Handlers
 pub mod Held
 pub mod Kernel
+pub mod Leases
+pub mod Places
 pub mod Ready
 pub mod Requests
 pub mod Units

@@ -1,11 +1,10 @@
 -- What the processes of the code stand for.
 use Rattle.std.specs.Prelude.{List, [], ◌++◌, nat_lt, if◌then◌else◌, Option, map, option_to_list, vec_len, vec_capacity}
-use Rattle.vx_base.specs.Log.{Log}
 use Rattle.vx_base.specs.Pieces.{DeviceUnit}
 use Rattle.vx_record.specs.State.{Process, State}
 use Rattle.vx_procs.specs.Kernel.{Kernel, Room}
 use Rattle.vx_procs.specs.Held.{Books, AreHeld}
-use Rattle.vx_procs.specs.Units.{Kept}
+use Rattle.vx_procs.specs.Units.{Ending, Kept}
 use Rattle.vx_procs.specs.declared.procs.Core.TheInside.{Inside}
 use Rattle.vx_procs.specs.declared.process.Proc.{Proc}
 
@@ -37,13 +36,13 @@ room_of pr = record { frames = pr.frames.capacity; asts = pr.asts.capacity; hand
 abbrev pub books_of : {R : Type 0} → Proc R → Books
 books_of pr = record { room = room_of pr; account = pr.account }
 
--- a unit, and the log for the end of its service
+-- a unit, and what the end of its next service needs
 
 abbrev pub unit_of : Kept → DeviceUnit
 unit_of k = k.unit
 
-abbrev pub log_of : Kept → Option Log
-log_of k = k.log
+abbrev pub ending_of : Kept → Option Ending
+ending_of k = k.ending
 
 -- the whole
 abbrev pub state : {R : Type 0} → Inside R → State
@@ -64,8 +63,8 @@ state c = record {
 abbrev pub newcomers : {R : Type 0} → Inside R → List Room
 newcomers c = if nat_lt (vec_len c.procs) (vec_capacity c.procs) then option_to_list c.spare else []
 
-abbrev pub logs : {R : Type 0} → Inside R → List (Option Log)
-logs c = map log_of c.units.items
+abbrev pub ends : {R : Type 0} → Inside R → List (Option Ending)
+ends c = map ending_of c.units.items
 
 abbrev pub kernel : {R : Type 0} → Inside R → Kernel
 kernel c = record {
@@ -78,11 +77,11 @@ kernel c = record {
   requests = c.requests.capacity;
   attention = c.attention.capacity;
   messages = c.boxes.rooms;
-  logs = logs c;
+  ends = ends c;
 }
 
 abbrev pub books : {R : Type 0} → Inside R → List Books
 books c = map books_of c.procs.items
 
 abbrev pub IsHeld : {R : Type 0} → Inside R → Type 0
-IsHeld c = AreHeld (state c) c.short (books c) (logs c)
+IsHeld c = AreHeld (state c) c.short (books c) (ends c)

@@ -5,6 +5,7 @@ ghost use Rattle.std.specs.List.{AllByRecursion};
 ghost use Rattle.vx_image.specs.declared.decl.ProcDecl.{ProcDecl as ProcDeclOf};
 ghost use Rattle.vx_record.specs.State.{no_decl};
 ghost use Rattle.vx_record.specs.Runs.{born_from, first};
+ghost use Rattle.vx_procs.specs.Kernel.{AreIn};
 ghost use Rattle.vx_procs.specs.View.{process};
 ghost use Rattle.vx_procs.specs.Fresh.{IsFresh};
 ghost use Rattle.vx_procs.specs.Words.{born_if_started};
@@ -55,7 +56,8 @@ impl<R: Routine> Core<R> {
     /// declares at most 1,000.
     pub fn new(alloc: Global, system: System) -> Result<Core<R>, NoMemory>
         requires { length system.decls ≤ 1000 }
-        ensures { IfOk result (λ core. core.state ≡ first system) }
+        ensures state { IfOk result (λ core. core.state ≡ first system) }
+        ensures home { IfOk result AreIn }
     {
         let procs = first_procs(alloc, &system.decls)?;
         let units = first_units(alloc, &system.units)?;

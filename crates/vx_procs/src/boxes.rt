@@ -142,6 +142,7 @@ impl<R: Routine> Core<R> {
     pub fn make_box(&mut self, b: BoxNo, name: Name, permanent: bool, maxmsg: u32, bufquo: u32)
         requires within { b.0 < 64 }
         requires free { box_at self.old.state b ≡ None }
+        requires messages { HasMessageRooms self.old }
         ensures { self.new ≡ with_state self.old (with_box self.old.state b (Some (record { name = name; permanent = permanent; marked = false; maxmsg = maxmsg; bufquo = bufquo; messages = [] }))) }
     {
         self.boxes.make(b, name, permanent, maxmsg, bufquo)

@@ -1,8 +1,10 @@
 //! The executive's state, copied.
 
 ghost use Rattle.std.specs.Prelude.{◌≡◌, [], IfOk, map};
-ghost use Rattle.vx_procs.specs.Again.{AreWider, is_logged};
-ghost use Rattle.vx_procs.specs.Kernel.{IsWithinRoom};
+ghost use Rattle.std.specs.List.{AllByRecursion};
+ghost use Rattle.vx_procs.specs.Again.{AreWider, asked_in, stand_in};
+ghost use Rattle.vx_procs.specs.Kernel.{AreIn, IsWithinRoom};
+ghost use Rattle.vx_procs.specs.Units.{IsIn};
 ghost use Rattle.vx_procs.specs.View.{books_of, process, room_of, unit_of};
 
 use crate::kept::KeptUnit;
@@ -53,9 +55,12 @@ fn duplicate_procs<R: Routine>(alloc: Global, procs: &[Proc<R>]) -> Result<Vec<P
 }
 
 // The same units again.
+#[tactic(auto, using(crate::proofs::Inside::in_there))]
 fn duplicate_units(alloc: Global, units: &[KeptUnit]) -> Result<Vec<KeptUnit>, NoMemory>
+    requires { AllByRecursion IsIn units.now }
     ensures units { IfOk result (λ copy. map unit_of copy.items ≡ map unit_of units.now) }
-    ensures logs { IfOk result (λ copy. map is_logged copy.items ≡ map is_logged units.now) }
+    ensures asked { IfOk result (λ copy. map asked_in copy.items ≡ map asked_in units.now) }
+    ensures stands { IfOk result (λ copy. map stand_in copy.items ≡ map stand_in units.now) }
 {
     let mut copy = Vec::new(alloc);
     for unit in units {
@@ -68,7 +73,9 @@ impl<R: Routine> Core<R> {
     /// The same state again: each routine is made from its tag, and there is as much room or more for what is promised. Effects that
     /// were told and not taken are not copied, and no spare process.
     pub fn duplicate(&self) -> Result<Core<R>, NoMemory>
+        requires { AreIn self.now }
         ensures state { IfOk result (λ copy. copy.state ≡ self.now.state) }
+        ensures home { IfOk result AreIn }
         ensures log { IfOk result (λ copy. copy.log.items ≡ []) }
     {
         let alloc = self.alloc;

@@ -4,6 +4,9 @@ ghost use Rattle.std.specs.Prelude.{◌≡◌, map};
 ghost use Rattle.vx_base.specs.Flags.{one};
 ghost use Rattle.vx_frames.specs.Frames.{top_of};
 ghost use Rattle.vx_procs.specs.Digest.{counts_of, digest_of, mix_processes, mix_standing, mix_units, mix_values, mix_work, phase_number, place_in};
+ghost use Rattle.std.specs.List.{AllByRecursion};
+ghost use Rattle.vx_procs.specs.Kernel.{AreIn};
+ghost use Rattle.vx_procs.specs.Units.{IsIn};
 ghost use Rattle.vx_procs.specs.View.{process, unit_of};
 
 use crate::kept::KeptUnit;
@@ -82,7 +85,9 @@ fn mix_procs<R: Routine>(digest: u64, procs: &[Proc<R>]) -> u64
 }
 
 // A digest with units.
+#[tactic(auto, using(crate::proofs::Inside::in_there))]
 fn mix_units(digest: u64, units: &[KeptUnit]) -> u64
+    requires { AllByRecursion IsIn units.now }
     ensures { result ≡ mix_units digest (map unit_of units.now) }
 {
     let mut mixed = digest;
@@ -104,9 +109,11 @@ impl<R: Routine> Core<R> {
 
     /// The state as a number. Equal states have the same; states that differ have the same seldom. Takes no memory.
     pub fn digest(&self) -> u64
+        requires { AreIn self.now }
         ensures { result ≡ digest_of self.now.state }
     {
         let procs = mix_procs(self.mix_counts(), self.procs.as_slice());
-        mix_units(procs, self.units.as_slice())
+        let units = mix_units(procs, self.units.as_slice());
+        self.boxes.mix(self.requests.mix(units))
     }
 }

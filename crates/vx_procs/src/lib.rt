@@ -9,7 +9,7 @@
 //!
 //! All reads of a process are in `reads.rt`, all writes of its fields in `setters.rt`, event flags and their clusters in
 //! `clusters.rt`, timers in `timers.rt`, requests in `requests.rt`, attention entries in `attention.rt`, mailboxes in `boxes.rt`,
-//! units in `units.rt`, and creation in `create.rt`: each says the value after it as one equation, in the words of the machine.
+//! units in `units.rt`, units that leave to be served in `leases.rt`, and creation in `create.rt`: each says the value after it as one equation, in the words of the machine.
 //! Services call these alone. `copy.rt` copies the whole, `same.rt` tells two states apart, and `digest.rt` makes a number of one.
 #![tactic(auto)]
 
@@ -25,6 +25,7 @@ mod digest;
 mod frames;
 mod handlers;
 mod kept;
+mod leases;
 mod newcomer;
 mod process;
 mod procs;
@@ -34,6 +35,7 @@ mod same;
 mod setters;
 mod shared;
 mod timers;
+mod trim;
 mod units;
 
 pub use crate::handlers::Sought;

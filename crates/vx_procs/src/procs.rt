@@ -65,6 +65,7 @@ impl<R: Routine> Core<R> {
     pub fn begin(&mut self, effects: u32, caller: Option<Pid>) -> Result<(), NoMemory>
         requires { IfSome caller (IsProcess self.old.state) }
         ensures same { self.new.state ≡ self.old.state }
+        ensures ends { self.new.ends ≡ self.old.ends }
         ensures spares { OnOk result (HasSpares self.new) }
         ensures timer { OnOk result (length self.new.state.timers + 1 ≤ self.new.timers) }
         ensures cluster { OnOk result (length self.new.state.common.clusters + 1 ≤ self.new.clusters) }
@@ -98,6 +99,7 @@ impl<R: Routine> Core<R> {
     // Makes a spare process and a place for it, if they are missing.
     fn make_spare(&mut self) -> Result<(), NoMemory>
         ensures same { self.new.state ≡ self.old.state }
+        ensures ends { self.new.ends ≡ self.old.ends }
         ensures timers { self.new.timers ≡ self.old.timers }
         ensures clusters { self.new.clusters ≡ self.old.clusters }
         ensures associations { self.new.associations ≡ self.old.associations }
@@ -117,6 +119,7 @@ impl<R: Routine> Core<R> {
     // Makes good what spare room the last event used.
     fn mend(&mut self) -> Result<(), NoMemory>
         ensures same { self.new.state ≡ self.old.state }
+        ensures ends { self.new.ends ≡ self.old.ends }
         ensures timers { self.new.timers ≡ self.old.timers }
         ensures clusters { self.new.clusters ≡ self.old.clusters }
         ensures associations { self.new.associations ≡ self.old.associations }
@@ -138,6 +141,7 @@ impl<R: Routine> Core<R> {
     fn make_handler_room(&mut self, p: Pid) -> Result<(), NoMemory>
         requires { IsProcess self.old.state p }
         ensures same { self.new.state ≡ self.old.state }
+        ensures ends { self.new.ends ≡ self.old.ends }
         ensures timers { self.new.timers ≡ self.old.timers }
         ensures clusters { self.new.clusters ≡ self.old.clusters }
         ensures associations { self.new.associations ≡ self.old.associations }
@@ -156,6 +160,7 @@ impl<R: Routine> Core<R> {
     fn make_caller_room(&mut self, caller: Option<Pid>) -> Result<(), NoMemory>
         requires { IfSome caller (IsProcess self.old.state) }
         ensures same { self.new.state ≡ self.old.state }
+        ensures ends { self.new.ends ≡ self.old.ends }
         ensures timers { self.new.timers ≡ self.old.timers }
         ensures clusters { self.new.clusters ≡ self.old.clusters }
         ensures associations { self.new.associations ≡ self.old.associations }

@@ -1,6 +1,9 @@
 //! States told apart.
 
 ghost use Rattle.std.specs.Prelude.{◌≡◌, ◌↔◌, IsTrue, map};
+ghost use Rattle.std.specs.List.{AllByRecursion};
+ghost use Rattle.vx_procs.specs.Kernel.{AreIn};
+ghost use Rattle.vx_procs.specs.Units.{IsIn};
 ghost use Rattle.vx_procs.specs.View.{process, unit_of};
 
 use crate::kept::KeptUnit;
@@ -97,7 +100,10 @@ fn same_procs<R: Routine>(a: &[Proc<R>], b: &[Proc<R>]) -> bool
 }
 
 // Whether two lists of units are the same.
+#[tactic(auto, using(crate::proofs::Inside::in_there))]
 fn same_units(a: &[KeptUnit], b: &[KeptUnit]) -> bool
+    requires here { AllByRecursion IsIn a.now }
+    requires there { AllByRecursion IsIn b.now }
     ensures { IsTrue result ↔ (map unit_of a.now ≡ map unit_of b.now) }
 {
     if a.len() != b.len() {
@@ -125,6 +131,8 @@ impl<R: Routine> Core<R> {
 
     // Whether the requests, the timers, the attention entries, the mailboxes and the units are the same.
     fn is_same_last(&self, other: &Core<R>) -> bool
+        requires here { AreIn self.now }
+        requires there { AreIn other.now }
         ensures { IsTrue result ↔ ((self.now.state.requests ≡ other.now.state.requests) × (self.now.state.timers ≡ other.now.state.timers) × (self.now.state.attention ≡ other.now.state.attention) × (self.now.state.boxes ≡ other.now.state.boxes) × (self.now.state.units ≡ other.now.state.units)) }
     {
         self.requests.same(&other.requests)
@@ -136,6 +144,8 @@ impl<R: Routine> Core<R> {
 
     /// Whether the states are the same: room and what was told are passed over. Takes no memory.
     pub fn same(&self, other: &Core<R>) -> bool
+        requires here { AreIn self.now }
+        requires there { AreIn other.now }
         ensures { IsTrue result ↔ (self.now.state ≡ other.now.state) }
     {
         self.is_same_first(other) && self.is_same_last(other)

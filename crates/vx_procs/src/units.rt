@@ -1,6 +1,6 @@
 //! Units: made ready for the end of a service, and serving.
 
-ghost use Rattle.std.specs.Prelude.{◌≡◌, ◌<◌, ◌≤◌, IfSome, IsSome, IsTrue, OnOk, OnSome, is_some, length, option_map, slice_set};
+ghost use Rattle.std.specs.Prelude.{◌≡◌, ◌<◌, ◌≤◌, IfSome, IsSome, OnErr, OnOk, OnSome, Some, false, length, option_map, slice_set};
 ghost use Rattle.std.specs.List.{find};
 ghost use Rattle.vx_base.specs.Lists.{tally};
 ghost use Rattle.vx_base.specs.Queues.{front, in_service, is_served_by};
@@ -8,8 +8,9 @@ ghost use Rattle.vx_base.specs.Serving.{serve, settled};
 ghost use Rattle.vx_record.specs.State.{unit_at};
 ghost use Rattle.vx_record.specs.Requests.{with_unit};
 ghost use Rattle.vx_record.specs.Sound.{AreOrdered, request_id};
-ghost use Rattle.vx_units.specs.Units.{is_for_unit, outputs_of};
-ghost use Rattle.vx_procs.specs.Kernel.{IsPrepared, log_for, opened, with_state};
+ghost use Rattle.vx_units.specs.Leases.{is_out};
+ghost use Rattle.vx_units.specs.Units.{outputs_of};
+ghost use Rattle.vx_procs.specs.Kernel.{IsPrepared, asked_for, ending_for, opened, stand_for, with_state};
 ghost use Rattle.vx_procs.specs.Requests.{begun_if, served_if, replied};
 ghost use Rattle.vx_procs.specs.Units.{IsForEnd};
 
@@ -27,18 +28,20 @@ impl<R: Routine> Core<R> {
 
     /// The lines that were written to a unit; a block unit has none.
     pub fn outputs(&self, u: UnitNo) -> &[Bytes]
-        requires { u.0 < length self.now.state.units }
+        requires unit { u.0 < length self.now.state.units }
+        requires home { is_out (stand_for self.now u) ≡ false }
         ensures { result.now ≡ outputs_of (unit_at self.now.state u).contents }
     {
         self.units[u.0 as usize].outputs()
     }
 
     /// Makes what the end of the next service of a unit needs, where a request waits for it. Where memory is short, nothing is
-    /// changed.
+    /// changed; nor is a unit made ready that is out or has served.
     pub fn prepare(&mut self, u: UnitNo) -> Result<(), NoMemory>
         requires { IsSome (front u self.old.state.requests) }
         ensures ok { OnOk result (IsPrepared self.new u) }
-        ensures after { self.new ≡ record self.old { logs = slice_set self.old.logs u.0 (log_for self.new u) } }
+        ensures after { self.new ≡ record self.old { ends = slice_set self.old.ends u.0 (ending_for self.new u) } }
+        ensures err { OnErr result (self.new ≡ self.old) }
     {
         let Some(req) = self.requests.next(u) else {
             unreachable!()
@@ -56,28 +59,30 @@ impl<R: Routine> Core<R> {
         self.requests.begin(u)
     }
 
-    // A unit that serves no request serves one to the end. The log that was made for that is the log of the event.
+    // The service of the request that a unit is asked ends. The log that was made for that is the log of the event.
     fn serve(&mut self, u: UnitNo, req: &Req) -> Reply
         requires unit { u.0 < length self.old.state.units }
-        requires request { IsTrue (is_for_unit req.now) }
-        requires prepared { IsPrepared self.old u }
+        requires asked { asked_for self.old u ≡ Some req.now }
+        requires home { is_out (stand_for self.old u) ≡ false }
         requires free { tally (is_served_by u) self.old.state.requests ≡ 0 }
         requires count { (unit_at self.old.state u).services < 4294967295 }
         ensures reply { result ≡ (serve (unit_at self.old.state u) req.now).reply }
         ensures log { IsForEnd self.new.log }
         ensures after { self.new ≡ with_state (opened self.old u) (with_unit self.old.state u (settled (unit_at self.old.state u) req.now)) }
     {
-        let (reply, log) = self.units[u.0 as usize].serve(req);
+        let (reply, log) = self.units[u.0 as usize].finish(req);
         self.log = log;
         reply
     }
 
-    /// The service of a unit ends: the unit has served its request, which is taken out as `finish_request` does. The log that was
-    /// made for that end is the log of the event. None exactly where the unit serves no request. Takes no memory.
+    /// The service of a unit ends: the unit has served its request, which is taken out as `finish_request` does. A unit that was
+    /// given back has served before. The log that was made for that end is the log of the event. None exactly where the unit serves
+    /// no request. Takes no memory.
     pub fn end_service(&mut self, u: UnitNo) -> Option<(Finished, Reply)>
         requires serves { IsSome (in_service u self.old.state.requests) }
         requires order { AreOrdered request_id 0 self.old.state.next self.old.state.requests }
         requires count { (unit_at self.old.state u).services < 4294967295 }
+        requires home { is_out (stand_for self.old u) ≡ false }
         ensures found { result ≡ option_map (replied self.old.state u) (in_service u self.old.state.requests) }
         ensures log { IsForEnd self.new.log }
         ensures after { self.new ≡ with_state (opened self.old u) (served_if self.old.state u (in_service u self.old.state.requests)) }

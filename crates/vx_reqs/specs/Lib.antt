@@ -1,2 +1,3 @@
+pub mod Digest
 pub mod Places
 pub mod Requests

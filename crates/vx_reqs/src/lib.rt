@@ -6,6 +6,7 @@
 #![tactic(auto)]
 
 mod copy;
+mod digest;
 mod found;
 mod order;
 mod outstanding;

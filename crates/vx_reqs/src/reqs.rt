@@ -5,9 +5,11 @@ ghost use Rattle.std.specs.List.{find, list_any};
 ghost use Rattle.vx_base.specs.Lists.{less, amend};
 ghost use Rattle.vx_base.specs.Queues.{front, in_service};
 ghost use Rattle.vx_record.specs.Mailboxes.{waits_at};
+ghost use Rattle.vx_reqs.specs.Digest.{mix_requests};
 ghost use Rattle.vx_reqs.specs.Requests.{promised_of, has_id, is_found, as_marked, begun, is_to_cancel, keeps_open};
 
 use crate::copy::{duplicate_slots, same_requests};
+use crate::digest::mix_requests;
 use crate::found::{
     any_open, id_at, mark_at, place_of_id, place_to_cancel, request_at, serve_at, take_at,
 };
@@ -90,6 +92,13 @@ impl<R: Routine> Reqs<R> {
         ensures { IsTrue result ↔ (self.now.items ≡ other.now.items) }
     {
         same_requests(self.slots.as_slice(), other.slots.as_slice())
+    }
+
+    /// A digest with the requests. Takes no memory.
+    pub fn mix(&self, digest: u64) -> u64
+        ensures { result ≡ mix_requests digest self.now.items }
+    {
+        mix_requests(digest, self.slots.as_slice())
     }
 
     /// Accepts a request ($QIO), with the AST that it is to queue when it finishes, if it has one. Takes no memory.

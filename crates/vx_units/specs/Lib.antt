@@ -1,4 +1,5 @@
 pub mod Any
 pub mod Blocks
+pub mod Leases
 pub mod Lined
 pub mod Units

@@ -5,5 +5,7 @@ use Rattle.vx_exec.proofs.Ready.{first_going}
 use Rattle.vx_exec.proofs.exec.Exec.new.Goals as goal
 
 pub invariant_of-result : goal.invariant_of-result
-invariant_of-result g c =
-    subst (λ (s : State). IsGoing s c.args.limit 0) (sym c.in_ok-core.ensures) (first_going c.args.system c.args.limit c.requires.formed c.requires.within)
+invariant_of-result g c = record {
+  on = subst (λ (s : State). IsGoing s c.args.limit 0) (sym c.in_ok-core.ensures.state) (first_going c.args.system c.args.limit c.requires.formed c.requires.within);
+  home = c.in_ok-core.ensures.home;
+}

@@ -1,7 +1,10 @@
 use Rattle.std.proofs.Common.{[], Some, false, arith}
 use Rattle.vx_base.specs.Pieces.{Mailbox}
-use Rattle.vx_mailbox.proofs.Table.{changed_at}
+use Rattle.vx_mailbox.proofs.Table.{changed_at, table_put}
 use Rattle.vx_mailbox.proofs.boxes.Boxes.make.Goals as goal
+
+pub invariant_of-self : goal.invariant_of-self
+invariant_of-self c = table_put c.self.inside.places.items c.self.inside.short c.args.b.0 c.args.self.now _ c.self.view_is c.self.invariant c.requires.room (omega (arith, c.requires.within, c.self.invariant.count))
 
 pub returns : goal.returns
 returns c =

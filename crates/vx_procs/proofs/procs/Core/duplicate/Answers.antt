@@ -5,6 +5,7 @@ use Rattle.vx_clusters.specs.Clusters.{Shared}
 use Rattle.vx_procs.specs.Kernel.{Kernel}
 use Rattle.vx_procs.specs.View.{state}
 use Rattle.vx_procs.proofs.Again.{held_again, same_state}
+use Rattle.vx_procs.proofs.Inside.{all_units, in_again}
 use Rattle.vx_procs.proofs.procs.Core.duplicate.Goals as goal
 
 pub invariant_of-result : goal.invariant_of-result
@@ -19,7 +20,7 @@ invariant_of-result g c =
     c.in_ok-duplicate-5.ensures
     (rw c.as_slice-2.ensures.value at c.in_ok-duplicate_units.ensures.units))
     (rw c.as_slice.ensures.value at c.in_ok-duplicate_procs.ensures.books)
-    (rw c.as_slice-2.ensures.value at c.in_ok-duplicate_units.ensures.logs)
+    (rw c.as_slice-2.ensures.value at c.in_ok-duplicate_units.ensures.asked)
     c.self.invariant
 
 pub returns-clause-state : goal.returns-clause-state
@@ -33,3 +34,9 @@ returns-clause-state g c =
     c.in_ok-duplicate-5.ensures
     (rw c.as_slice-2.ensures.value at c.in_ok-duplicate_units.ensures.units)
     ∙ ap (λ (k : Kernel). k.state) c.self.view_is
+
+pub duplicate_units-requires : goal.duplicate_units-requires
+duplicate_units-requires g c = rw c.as_slice-2.ensures.value (all_units c.self.inside c.args.self.now c.self.view_is c.requires)
+
+pub returns-clause-home : goal.returns-clause-home
+returns-clause-home g c = in_again c.self.inside.units.items c.in_ok-duplicate_units.field-0.items (all_units c.self.inside c.args.self.now c.self.view_is c.requires) (rw c.as_slice-2.ensures.value at c.in_ok-duplicate_units.ensures.stands)

@@ -1,6 +1,7 @@
-use Rattle.std.proofs.Common.{IsTrue, length, subst, sym, ◌<◌}
-use Rattle.vx_units.specs.Units.{is_for_unit}
-use Rattle.vx_procs.specs.Kernel.{IsPrepared, Kernel}
+use Rattle.std.proofs.Common.{◌≡◌, Option, Some, false, length, ap, subst, sym, ◌<◌, ◌∙◌}
+use Rattle.vx_base.specs.declared.request.Req.{Req}
+use Rattle.vx_units.specs.Leases.{is_out}
+use Rattle.vx_procs.specs.Kernel.{Kernel, asked_for, stand_for}
 use Rattle.vx_procs.specs.declared.requests.Finished.{Finished}
 use Rattle.vx_procs.proofs.Requested.{serving, serving_after, serving_done, serving_ended, serving_free, serving_replied, serving_there}
 use Rattle.vx_procs.proofs.procs.Core.end_service.Goals as goal
@@ -26,17 +27,20 @@ serve-reply-requires-clause-unit g c =
     let x = serving c.self.inside k c.args.u c.in_ok-id.id c.self.view_is c.self.invariant c.requires.order c.in_ok-id.ensures in
     subst (λ (l : Kernel). c.args.u.0 < length l.state.units) (sym (serving_after k c.finish_request.new.self c.args.u c.in_ok-id.id x c.in_ok-done.ensures.after)) x.within
 
-pub serve-reply-requires-clause-request : goal.serve-reply-requires-clause-request
-serve-reply-requires-clause-request g c =
+pub serve-reply-requires-clause-asked : goal.serve-reply-requires-clause-asked
+serve-reply-requires-clause-asked g c =
     let k = c.args.self.now in
-    let x = serving c.self.inside k c.args.u c.in_ok-id.id c.self.view_is c.self.invariant c.requires.order c.in_ok-id.ensures in
-    subst (λ (d : Finished). IsTrue (is_for_unit d.req)) (sym (serving_done k c.args.u c.in_ok-id.id x c.in_ok-done.done c.in_ok-done.ensures.found)) x.fits
+    let u = c.args.u in
+    let x = serving c.self.inside k u c.in_ok-id.id c.self.view_is c.self.invariant c.requires.order c.in_ok-id.ensures in
+    let done = c.in_ok-done.done in
+    let own : asked_for k u ≡ Some done.req = x.asked ∙ ap (λ (d : Finished). let o : Option Req = Some d.req in o) (sym (serving_done k u c.in_ok-id.id x done c.in_ok-done.ensures.found)) in
+    subst (λ (l : Kernel). asked_for l u ≡ Some done.req) (sym (serving_after k c.finish_request.new.self u c.in_ok-id.id x c.in_ok-done.ensures.after)) own
 
-pub serve-reply-requires-clause-prepared : goal.serve-reply-requires-clause-prepared
-serve-reply-requires-clause-prepared g c =
+pub serve-reply-requires-clause-home : goal.serve-reply-requires-clause-home
+serve-reply-requires-clause-home g c =
     let k = c.args.self.now in
     let x = serving c.self.inside k c.args.u c.in_ok-id.id c.self.view_is c.self.invariant c.requires.order c.in_ok-id.ensures in
-    subst (λ (l : Kernel). IsPrepared l c.args.u) (sym (serving_after k c.finish_request.new.self c.args.u c.in_ok-id.id x c.in_ok-done.ensures.after)) x.prepared
+    subst (λ (l : Kernel). is_out (stand_for l c.args.u) ≡ false) (sym (serving_after k c.finish_request.new.self c.args.u c.in_ok-id.id x c.in_ok-done.ensures.after)) c.requires.home
 
 pub serve-reply-requires-clause-free : goal.serve-reply-requires-clause-free
 serve-reply-requires-clause-free g c =

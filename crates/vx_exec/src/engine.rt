@@ -1,0 +1,78 @@
+//! What both kinds of executive are made of: the one whose units may be out, and the one that never has a unit out.
+
+ghost use Rattle.std.specs.Prelude.{◌≡◌, ◌+◌, Contains, IfOk, IsOk, IsTrue, None, OnErr, OnOk};
+ghost use Rattle.vx_record.specs.Events.{enabled, step};
+ghost use Rattle.vx_record.specs.Runs.{end_of, record_of};
+ghost use Rattle.vx_exec.specs.Engines.{IsHomeFor, IsOn, leasing};
+ghost use Rattle.vx_exec.specs.Leases.{stands_after};
+ghost use Rattle.vx_exec.specs.Sound.{IsWhole};
+ghost use Rattle.vx_exec.specs.View.{is_don, plan};
+
+use crate::events::{are_deleted, enabled_at};
+use crate::machine::step;
+use crate::room::{make_room, make_rooms};
+use std::alloc::Global;
+use vx_base::{End, Event, NoMemory, Rec, Routine};
+use vx_io::Rooms;
+use vx_procs::Core;
+
+/// What is kept, how many records runs may have, and how many steps have made. Spare room for the bytes of a request is made before a
+/// process runs.
+#[derive(Drop)]
+pub(crate) struct Engine<R: Routine> {
+    pub(crate) core: Core<R>,
+    pub(crate) limit: u32,
+    pub(crate) taken: u32,
+    pub(crate) alloc: Global,
+    pub(crate) rooms: Rooms,
+}
+
+impl<R: Routine> Engine<R> {
+    /// Takes an enabled event, and gives its record. Where memory is short, nothing has changed. A DON needs none, and never fails.
+    pub(crate) fn step(&mut self, event: Event) -> Result<Rec, NoMemory>
+        requires on { IsOn self.old }
+        requires enabled { Contains (enabled self.old.core.state) event }
+        requires going { end_of self.old.limit self.old.taken self.old.core.state ≡ None }
+        requires home { IsHomeFor self.old.core event }
+        ensures on { IsOn self.new }
+        ensures rec { IfOk result (λ rec. rec ≡ record_of self.old.core.state event) }
+        ensures after { OnOk result ((leasing self.new).exec ≡ record (leasing self.old).exec {
+          state = (step self.old.core.state event).after;
+          taken = self.old.taken + 1;
+        }) }
+        ensures stands { OnOk result ((leasing self.new).stands ≡ stands_after event (leasing self.old).stands) }
+        ensures kept { OnErr result ((leasing self.new).exec ≡ (leasing self.old).exec) }
+        ensures stay { OnErr result ((leasing self.new).stands ≡ (leasing self.old).stands) }
+        ensures don_never_fails { IsTrue (is_don event) → IsOk result }
+        ensures plan { plan (leasing self.new).exec ≡ plan (leasing self.old).exec }
+    {
+        make_rooms(self.alloc, &mut self.rooms, event)?;
+        make_room(&mut self.core, event)?;
+        let answer = step(&mut self.core, event, &mut self.rooms);
+        self.taken += 1;
+        Ok(Rec {
+            event,
+            answer,
+            effects: self.core.take_log(),
+        })
+    }
+
+    /// How the run has ended, if it has.
+    pub(crate) fn ended(&self) -> Option<End>
+        requires { IsWhole self.now.core.state }
+        ensures { result ≡ end_of self.now.limit self.now.taken self.now.core.state }
+    {
+        if enabled_at(&self.core, 0).is_none() {
+            return Some(if are_deleted(&self.core) {
+                End::Done
+            } else {
+                End::Hung
+            });
+        }
+        if self.limit <= self.taken {
+            Some(End::Limit)
+        } else {
+            None
+        }
+    }
+}
