@@ -1,8 +1,12 @@
 -- A front of the text of a call.
-use Rattle.std.proofs.Common.{◌≡◌, ℕ, List, Option, None, Some, subst, sym, ◌∙◌}
+use Rattle.std.proofs.Common.{◌≡◌, ℕ, List, Option, None, Some, refl, subst, sym, ◌∙◌}
 use Rattle.std.specs.Io.KnownBytes.{Keeps}
 use Rattle.std.specs.Option.{IsSome}
 use Rattle.vx_base.specs.declared.record.End.{End}
+use Rattle.vx_host.specs.Causes.{Rose}
+use Rattle.vx_host.specs.Streams.{AppendsFront, Takes, TakesAtMost}
+use Rattle.vx_host.specs.declared.source.ReadFail.{ReadFail}
+use Rattle.vx_host.specs.declared.source.ReadFail.TheVariants as fail
 use Rattle.vx_check.specs.declared.verdict.Verdict.{Verdict}
 use Rattle.vms.specs.declared.command.Command.{Command}
 use Rattle.vms.specs.declared.command.Command.TheVariants.{Sim, Follow, Explore, Show, Check}
@@ -19,7 +23,8 @@ use Rattle.vms.specs.declared.judge.Finding.TheVariants.{Judged, Refused}
 use Rattle.vms.specs.Simulated.{BreaksInput, in_run, in_refusal, in_no_memory, in_transcript, in_cut, StopsInput, at_once, on_the_way, BreaksShown, in_script, in_fault, in_want}
 use Rattle.vms.specs.Summed.{BreaksSummed, WritesSummed, in_summary}
 use Rattle.vms.specs.Summed.{in_shortage as in_run_shortage}
-use Rattle.vms.specs.Top.{no_memory, IsReported, IsRefused, ReadsInput, RunsOut, Breaks, TellsNoMemory, alone, behind_lines, WritesSummary, of_cut_run, of_form, of_run, of_places, of_missing, of_endings, of_cut, of_show, of_summary, of_report, of_no_memory, at_input, at_run}
+use Rattle.vms.specs.Unread.{unread_line}
+use Rattle.vms.specs.Top.{no_memory, read_fault, too_long, of_overflow, of_read_fault, IsReported, IsRefused, ReadsInput, RunsOut, Breaks, TellsNoMemory, alone, behind_lines, WritesSummary, of_cut_run, of_form, of_run, of_places, of_missing, of_endings, of_cut, of_show, of_summary, of_report, of_no_memory, at_input, at_run}
 use Rattle.vms.specs.Words.{command_of, size_of}
 
 -- a front of what an input comes to is a front of the text of the call that read it
@@ -170,3 +175,17 @@ writes_summary words size left left_after held held_after end asked kept w = rec
 pub runs_out : (words : List (List ℕ)) (answer : Option Command) → command_of words ≡ answer → IsSome answer → RunsOut words
 runs_out words None is there = absurd (cc)
 runs_out words (Some command) is there = at_input command is
+
+-- a front of the line that tells why the input was not read whole
+pub breaks_unread : (words : List (List ℕ)) (command : Command) (left left_after : Option (List ℕ)) (faults faults_after : ℕ) (held held_after : Option (List ℕ)) (why : ReadFail) → command_of words ≡ Some command → (why ≡ fail.Fault → TakesAtMost 67108864 left left_after) → (why ≡ fail.Fault → Rose faults faults_after) → (why ≡ fail.TooLong → Takes 67108865 left left_after) → AppendsFront held held_after (unread_line why) → Breaks words left left_after faults faults_after held held_after
+breaks_unread words command left left_after faults faults_after held held_after fail.Fault asked within rose long front = record {
+  text = read_fault;
+  own = of_read_fault (record { command = command; asked = asked; taken = within refl; rose = rose refl });
+  front = front;
+}
+breaks_unread words command left left_after faults faults_after held held_after fail.TooLong asked within rose long front = record {
+  text = too_long;
+  own = of_overflow (record { command = command; asked = asked; taken = long refl });
+  front = front;
+}
+breaks_unread words command left left_after faults faults_after held held_after fail.NoMemory asked within rose long front = record { text = no_memory; own = of_no_memory (at_input command asked); front = front }

@@ -8,3 +8,4 @@ pub mod Summing
 pub mod Listed
 pub mod Picking
 pub mod Exploring
+pub mod Carrying

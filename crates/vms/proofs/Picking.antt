@@ -25,7 +25,7 @@ printed : (text : List ℕ) (xs ys : List (List ℕ)) → ((text ++ codes "$JOUR
 printed text xs ys = simp (flat_map-append, append_assoc)
 
 -- the script, the records and the trailer of what an executive took are the run's transcript
-spelled_run : (system : System) (closed : Executive) (recs : List Rec) (e : End) (text : List ℕ) → closed.state ≡ after system recs → closed.taken ≡ length recs → text ≡ ((script system ++ codes "$JOURNAL 1\n") ++ ended_lines (records_lines closed.state.system.units 1 recs)) ++ ended_lines (trailer_lines closed.state e closed.taken) → text ≡ transcript system recs e
+pub spelled_run : (system : System) (closed : Executive) (recs : List Rec) (e : End) (text : List ℕ) → closed.state ≡ after system recs → closed.taken ≡ length recs → text ≡ ((script system ++ codes "$JOURNAL 1\n") ++ ended_lines (records_lines closed.state.system.units 1 recs)) ++ ended_lines (trailer_lines closed.state e closed.taken) → text ≡ transcript system recs e
 spelled_run system closed recs e text now counted spells =
     let kept : closed.state.system ≡ system = ap (λ (s : State). s.system) now ∙ run_keeps_system (first system) recs in
     let front : System → List ℕ = λ s. (script system ++ codes "$JOURNAL 1\n") ++ ended_lines (records_lines s.units 1 recs) in

@@ -1,16 +1,18 @@
 -- What an input comes to.
-use Rattle.std.proofs.Common.{◌≡◌, ℕ, List, Option, Err, subst}
+use Rattle.std.proofs.Common.{◌≡◌, ◌⊎◌, inl, inr, ℕ, List, Option, Err, subst}
 use Rattle.std.specs.Io.KnownBytes.{Appends}
 use Rattle.vx_base.specs.declared.record.End.{End}
 use Rattle.vx_image.specs.declared.system.System.{System}
+use Rattle.vx_host.specs.Streams.{AppendsFront}
 use Rattle.vx_grammar.specs.FirstFault.{Tells, TellsIfFault}
 use Rattle.vx_grammar.specs.Grammar.{Spells}
 use Rattle.vx_script.specs.declared.fault.ScriptFail.{ScriptFail}
 use Rattle.vx_script.specs.declared.fault.ScriptFail.TheVariants as fail
 use Rattle.vx_script.specs.declared.fault.ScriptFault.{ScriptFault}
-use Rattle.vms.specs.Simulated.{GainsRun, WritesRun, WritesRefusal}
-use Rattle.vms.specs.Top.{fault_line, no_script, script_in}
+use Rattle.vms.specs.Simulated.{BreaksInput, BreaksShown, GainsRun, WritesRun, WritesRefusal, in_fault, in_no_memory, in_refusal, in_want}
+use Rattle.vms.specs.Top.{fault_line, no_memory, no_script, script_in}
 use Rattle.vms.specs.declared.command.Command.{Command}
+use Rattle.vms.specs.declared.command.Command.TheVariants.{Show, Sim}
 use Rattle.vms.specs.declared.command.Options.{Options}
 
 -- a transcript that was written of a system is that of the input that says it
@@ -24,3 +26,13 @@ told text input failure fault same is h = subst (λ z. Tells z fault) same (subs
 -- the line of a fault that was written refuses the input
 pub writes_fault : (input : List ℕ) (command : Command) (held held_after : Option (List ℕ)) (fault : ScriptFault) → Tells (script_in command input) fault → Appends held held_after (fault_line fault) → WritesRefusal command input held held_after
 writes_fault input command held held_after fault says written = record { text = fault_line fault; refused = no_script command fault says; written = written }
+
+-- a front of that line, or of the line on memory
+
+pub breaks_sim_fault : (input : List ℕ) (options : Options) (held held_after : Option (List ℕ)) (fault : ScriptFault) → Tells input fault → AppendsFront held held_after (fault_line fault) ⊎ AppendsFront held held_after no_memory → BreaksInput input options held held_after
+breaks_sim_fault input options held held_after fault says (inl front) = in_refusal (fault_line fault) (no_script (Sim options) fault says) front
+breaks_sim_fault input options held held_after fault says (inr front) = in_no_memory front
+
+pub breaks_show_fault : (input : List ℕ) (held held_after : Option (List ℕ)) (fault : ScriptFault) → Tells input fault → AppendsFront held held_after (fault_line fault) ⊎ AppendsFront held held_after no_memory → BreaksShown input held held_after
+breaks_show_fault input held held_after fault says (inl front) = in_fault (fault_line fault) (no_script Show fault says) front
+breaks_show_fault input held held_after fault says (inr front) = in_want front

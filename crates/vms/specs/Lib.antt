@@ -11,3 +11,7 @@ pub mod Followed
 pub mod Following
 pub mod Explored
 pub mod Exploring
+pub mod Crew
+pub mod Carried
+pub mod Threads
+pub mod Unread

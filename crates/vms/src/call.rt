@@ -14,15 +14,15 @@ use crate::judge::judge;
 use crate::simulate::run;
 use crate::status::Status;
 use crate::summary::summarize;
-use crate::tell::{fault_line, tell, tell_no_memory};
+use crate::tell::{tell, tell_fault, tell_no_memory, tell_unread};
 use std::alloc::Global;
 use vx_base::{Bytes, End, NoMemory};
 use vx_grammar::read_script;
-use vx_host::{ReadFail, Sink, Source, read_all};
+use vx_host::{Sink, Source, read_all};
 use vx_script::{ScriptFail, print_script};
 
 /// The most bytes of an input.
-const MOST: u32 = 67_108_864;
+pub const MOST: u32 = 67_108_864;
 
 /// Simulates an input that was read whole, and writes its transcript as the run goes, or why there is none.
 fn simulate<K: Sink>(alloc: Global, options: Options, input: &Bytes, sink: &mut K) -> Status
@@ -48,10 +48,7 @@ fn simulate<K: Sink>(alloc: Global, options: Options, input: &Bytes, sink: &mut 
 {
     match read_script(alloc, input.as_slice()) {
         Ok(system) => run(alloc, system, options, sink),
-        Err(ScriptFail::Fault(fault)) => match fault_line(alloc, fault) {
-            Ok(text) => tell(sink, text.as_slice(), Status::Form),
-            Err(NoMemory) => tell_no_memory(sink),
-        },
+        Err(ScriptFail::Fault(fault)) => tell_fault(alloc, fault, sink),
         Err(ScriptFail::NoMemory) => tell_no_memory(sink),
     }
 }
@@ -76,10 +73,7 @@ fn show<K: Sink>(alloc: Global, input: &Bytes, sink: &mut K) -> Status
             Ok(text) => tell(sink, text.as_slice(), Status::Done),
             Err(NoMemory) => tell_no_memory(sink),
         },
-        Err(ScriptFail::Fault(fault)) => match fault_line(alloc, fault) {
-            Ok(text) => tell(sink, text.as_slice(), Status::Form),
-            Err(NoMemory) => tell_no_memory(sink),
-        },
+        Err(ScriptFail::Fault(fault)) => tell_fault(alloc, fault, sink),
         Err(ScriptFail::NoMemory) => tell_no_memory(sink),
     }
 }
@@ -154,9 +148,7 @@ fn answer_input<S: Source, K: Sink>(
             Command::Show => show(alloc, &input, sink),
             Command::Check(report) => judge(alloc, report, &input, sink),
         },
-        Err(ReadFail::Fault) => tell(sink, b"vms: read fault\n", Status::ReadFault),
-        Err(ReadFail::TooLong) => tell(sink, b"vms: input too long\n", Status::TooLong),
-        Err(ReadFail::NoMemory) => tell_no_memory(sink),
+        Err(fail) => tell_unread(sink, fail),
     }
 }
 
@@ -221,7 +213,7 @@ fn answer_call<S: Source, K: Sink>(
     }
 }
 
-/// The call that the program makes: what the words ask for, from the source to the sink. It waits for nobody, and
+/// What the words ask for, from the source to the sink, of all words but those of `run`. It waits for nobody, and
 /// returns if the source and the sink do. The words are those after the program's name.
 pub fn quiet_call<S: Source, K: Sink>(
     alloc: Global,

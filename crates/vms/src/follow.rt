@@ -1,11 +1,9 @@
 //! Follows a list of places: from what a script says to the transcript of the run that they choose.
 
-ghost use Rattle.std.specs.Prelude.{◌≡◌, ◌⊎◌, ◌<◌, ◌≤◌, ◌++◌, codes, IfErr, IfOk, OnOk, length};
+ghost use Rattle.std.specs.Prelude.{◌≡◌, ◌⊎◌, ◌<◌, ◌≤◌, IfErr, IfOk, length};
 ghost use Rattle.std.specs.Io.KnownBytes.{Appends};
 ghost use Rattle.vx_host.specs.Causes.{Rose};
 ghost use Rattle.vx_image.specs.WellFormed.{IsWellFormed};
-ghost use Rattle.vx_journal.specs.Transcript.{trailer_lines};
-ghost use Rattle.vx_lines.specs.Records.{ended_lines, records_lines};
 ghost use Rattle.vx_picks.specs.Followed.{tells_missing};
 ghost use Rattle.vms.specs.Followed.{IsPickedText};
 ghost use Rattle.vms.specs.Following.{BreaksPicked, IsCourse, WritesLack, WritesPicked};
@@ -13,17 +11,15 @@ ghost use Rattle.vms.specs.Simulated.{WritesRefusal};
 ghost use Rattle.vms.specs.Top.{no_memory};
 
 use crate::command::Command;
+use crate::journal::print_run;
 use crate::picks::Picks;
 use crate::status::Status;
 use crate::tell::{fault_line, pick_line, tell, tell_no_memory, tell_transcript};
 use std::alloc::Global;
-use vx_base::{Bytes, End, NoMemory, Rec, Scripted};
-use vx_exec::Exec;
+use vx_base::{Bytes, End, NoMemory, Scripted};
 use vx_grammar::read_script;
 use vx_host::Sink;
 use vx_image::System;
-use vx_journal::print_trailer;
-use vx_lines::print_records;
 use vx_picks::{PickFail, run_picks};
 use vx_script::{ScriptFail, print_script};
 
@@ -36,24 +32,6 @@ pub enum Course {
     Missing(Bytes),
     /// The input is no script, and this is the line of its first fault.
     Refused(Bytes),
-}
-
-/// Appends what stands behind the script in the transcript of a run that has ended so.
-fn print_run(
-    alloc: Global,
-    exec: &Exec<Scripted>,
-    recs: &[Rec],
-    end: End,
-    text: &mut Bytes,
-) -> Result<(), NoMemory>
-    ensures { OnOk result (text.new ≡ ((text.old ++ codes "$JOURNAL 1\n")
-        ++ ended_lines (records_lines exec.now.state.system.units 1 recs.now))
-        ++ ended_lines (trailer_lines exec.now.state end exec.now.taken)) }
-{
-    text.push_all(b"$JOURNAL 1\n")?;
-    let units = exec.system().units.as_slice();
-    print_records(alloc, units, recs, text)?;
-    print_trailer(alloc, exec, end, text)
 }
 
 /// The transcript of the run that the places choose, and how the run ended.

@@ -1,16 +1,21 @@
 //! The program `vms`, a hosted executive with asynchronous services in the manner of OpenVMS.
 //!
-//! `quiet_call` is the top call: what the words ask for, from a source of bytes to a sink of bytes. Its contract says all
-//! that the program may answer and write. `main` hands it standard input, standard output and the words.
+//! `vms_call` is the top call: what the words ask for, from a source of bytes to a sink of bytes. Its contract says all
+//! that the program may answer and write. It takes the runs of `run` itself, by threads, and hands all other words to
+//! `quiet_call`, which waits for nobody. `main` hands it standard input, standard output, the words, and a gate that does nothing.
 #![tactic(auto)]
 
 ghost use Rattle.std.specs.Prelude.{◌≡◌, IfOk, map, string_bytes};
 
+#[cfg(test)]
+mod at_once;
 mod call;
 mod command;
+mod crew;
 mod example;
 mod explore;
 mod follow;
+mod journal;
 mod judge;
 mod picks;
 mod places;
@@ -19,15 +24,17 @@ mod simulate;
 mod status;
 mod summary;
 mod tell;
+mod threads;
 
-use call::quiet_call;
 use status::Status;
 use std::alloc::Global;
 use std::env;
 use std::io::ErrorKind;
 use std::process::ExitCode;
 use tell::tell_no_memory;
+use threads::vms_call;
 use vx_base::{Bytes, NoMemory};
+use vx_carrier::NoGate;
 use vx_host::{Sink, StdSink, StdSource, write_all};
 
 fn bytes_of(alloc: Global, texts: &[String]) -> Result<Vec<Bytes>, NoMemory>
@@ -58,7 +65,14 @@ fn main(rt: HostRuntime) -> ExitCode {
     let mut source = StdSource::new(rt.stdin());
     let mut sink = StdSink::new(rt.stdout());
     let status = match words_of(&rt) {
-        Ok(words) => quiet_call(rt.alloc(), words.as_slice(), &mut source, &mut sink),
+        Ok(words) => vms_call(
+            &rt,
+            rt.alloc(),
+            words.as_slice(),
+            &mut source,
+            &mut sink,
+            NoGate,
+        ),
         Err(NoMemory) => tell_no_memory(&mut sink),
     };
     ExitCode::from(status.code())

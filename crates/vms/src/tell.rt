@@ -5,13 +5,14 @@ ghost use Rattle.std.specs.Io.KnownBytes.{Appends};
 ghost use Rattle.vx_host.specs.Causes.{Rose};
 ghost use Rattle.vx_host.specs.Streams.{AppendsFront};
 ghost use Rattle.vms.specs.Followed.{pick_line};
-ghost use Rattle.vms.specs.Top.{fault_line, form_line, kind_word, no_memory, verdict_line, verdict_number, verdict_word};
+ghost use Rattle.vms.specs.Top.{fault_line, form_line, kind_word, no_memory, read_fault, too_long, verdict_line, verdict_number, verdict_word};
+ghost use Rattle.vms.specs.Unread.{unread_line};
 
 use crate::status::Status;
 use std::alloc::Global;
 use vx_base::{Bytes, End, NoMemory};
 use vx_check::Verdict;
-use vx_host::{Sink, write_all};
+use vx_host::{ReadFail, Sink, write_all};
 use vx_script::{FaultKind, ScriptFault};
 use vx_text::print_num;
 
@@ -67,6 +68,28 @@ pub fn tell_transcript<K: Sink>(sink: &mut K, text: &[u8], end: End) -> Status
     }
 }
 
+/// Writes why an input was not read whole.
+pub fn tell_unread<K: Sink>(sink: &mut K, fail: ReadFail) -> Status
+    ensures status { (result ≡ Status.ReadFault) ⊎ (result ≡ Status.TooLong) ⊎ (result ≡ Status.NoMemory)
+        ⊎ (result ≡ Status.WriteFault) }
+    ensures read_fault { result ≡ Status.ReadFault →
+        (fail ≡ ReadFail.Fault) × Appends (K.held sink.old) (K.held sink.new) read_fault }
+    ensures too_long { result ≡ Status.TooLong →
+        (fail ≡ ReadFail.TooLong) × Appends (K.held sink.old) (K.held sink.new) too_long }
+    ensures no_memory { result ≡ Status.NoMemory →
+        Appends (K.held sink.old) (K.held sink.new) no_memory }
+    ensures front { result ≡ Status.WriteFault →
+        AppendsFront (K.held sink.old) (K.held sink.new) (unread_line fail) }
+    ensures cause { result ≡ Status.WriteFault → Rose (K.faults sink.old) (K.faults sink.new) }
+    ensures later { K.faults sink.old ≤ K.faults sink.new }
+{
+    match fail {
+        ReadFail::Fault => tell(sink, b"vms: read fault\n", Status::ReadFault),
+        ReadFail::TooLong => tell(sink, b"vms: input too long\n", Status::TooLong),
+        ReadFail::NoMemory => tell_no_memory(sink),
+    }
+}
+
 fn kind_word(kind: FaultKind) -> &'static [u8]
     ensures { result.now ≡ kind_word kind }
 {
@@ -99,6 +122,25 @@ pub fn fault_line(alloc: Global, fault: ScriptFault) -> Result<Bytes, NoMemory>
     text.push_all(kind_word(fault.kind))?;
     text.push_all(b"\n")?;
     Ok(text)
+}
+
+/// Writes the line of a script's fault.
+pub fn tell_fault<K: Sink>(alloc: Global, fault: ScriptFault, sink: &mut K) -> Status
+    ensures status { (result ≡ Status.Form) ⊎ (result ≡ Status.NoMemory) ⊎ (result ≡ Status.WriteFault) }
+    ensures form { result ≡ Status.Form →
+        Appends (K.held sink.old) (K.held sink.new) (fault_line fault) }
+    ensures no_memory { result ≡ Status.NoMemory →
+        Appends (K.held sink.old) (K.held sink.new) no_memory }
+    ensures front { result ≡ Status.WriteFault →
+        AppendsFront (K.held sink.old) (K.held sink.new) (fault_line fault)
+        ⊎ AppendsFront (K.held sink.old) (K.held sink.new) no_memory }
+    ensures cause { result ≡ Status.WriteFault → Rose (K.faults sink.old) (K.faults sink.new) }
+    ensures later { K.faults sink.old ≤ K.faults sink.new }
+{
+    match fault_line(alloc, fault) {
+        Ok(text) => tell(sink, text.as_slice(), Status::Form),
+        Err(NoMemory) => tell_no_memory(sink),
+    }
 }
 
 /// The line of a transcript's first bad line.

@@ -15,7 +15,10 @@ fn small_image(alloc: Global) -> Result<Image, Fail>
     Ok(Image {
         name: Name::new(b"MAIN").ok_or("a name")?,
         labels: Labels::new(alloc),
-        stmts: Stmts::from_vec(vec![in alloc; Stmt::Let(a, Operand::Num(5)), Stmt::Return]?),
+        stmts: Stmts::from_vec(
+            alloc,
+            vec![in alloc; Stmt::Let(a, Operand::Num(5)), Stmt::Return]?,
+        )?,
     })
 }
 

@@ -10,6 +10,8 @@ mod ast;
 #[cfg(test)]
 mod base;
 #[cfg(test)]
+mod carrier;
+#[cfg(test)]
 mod chans;
 #[cfg(test)]
 mod clusters;

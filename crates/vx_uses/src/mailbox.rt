@@ -9,6 +9,7 @@ fn a_message_is_stored_and_taken(rt: HostRuntime) -> Result<(), Fail> {
     let name = Name::new(b"BOX").ok_or("a name")?;
     let mut boxes = Boxes::new(rt.alloc()).ok().ok_or("memory")?;
     let free = boxes.free().ok_or("a number")?;
+    boxes.reserve().ok().ok_or("memory")?;
     boxes.make(free, name, false, 8, 10);
     boxes.reserve().ok().ok_or("memory")?;
     let b = boxes.named(b"BOX").ok_or("a mailbox")?;

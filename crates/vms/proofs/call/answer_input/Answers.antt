@@ -1,8 +1,8 @@
 use Rattle.std.proofs.Common.{Some, ap, sym, refl, ◌∙◌}
 use Rattle.std.proofs.KnownBytes.{Keeps-refl}
-use Rattle.vms.specs.Top.{usage, too_long, read_fault, no_memory, alone, at_input, of_words, of_overflow, of_read_fault, of_no_memory}
+use Rattle.vms.specs.Top.{usage, no_memory, alone, at_input, of_words, of_no_memory}
 use Rattle.vms.specs.Words.{command_of}
-use Rattle.vms.proofs.Breaking.{asks, breaks_explored, breaks_input, breaks_judged, breaks_picked, breaks_shown, runs_out, tells_no_memory}
+use Rattle.vms.proofs.Breaking.{asks, breaks_explored, breaks_input, breaks_judged, breaks_picked, breaks_shown, breaks_unread, runs_out, tells_no_memory}
 use Rattle.vms.proofs.call.answer_input.Goals as goal
 
 pub returns-in_default-clause-no_memory : goal.returns-in_default-clause-no_memory
@@ -72,25 +72,12 @@ returns-in-Ok-read_all-clause-write_fault g c =
     let asked = asks c.args.words.now _ _ c.in-Ok.ensures.command c.in-Some.is ∙ ap (λ z. Some z) c.in-Check.is in
     λ e. breaks_judged c.args.words.now _ _ _ _ _ _ _ c.in-Ok-read_all.input (record { asked = asked; taken = c.in-Ok-read_all.ensures.all }) (c.judge.ensures.front e)
 
-pub returns-in-Err-Fault-clause-write_fault : goal.returns-in-Err-Fault-clause-write_fault
-returns-in-Err-Fault-clause-write_fault g c =
-    let asked = asks c.args.words.now _ c.in-Some.command c.in-Ok.ensures.command c.in-Some.is in
-    let taken = c.in-Err-Fault.ensures.within (rw c.in-Err-Fault.field-0-is refl) in
-    let rose = c.in-Err-Fault.ensures.fault (rw c.in-Err-Fault.field-0-is refl) in
-    λ e. record { text = read_fault; own = of_read_fault (record { command = c.in-Some.command; asked = asked; taken = taken; rose = rose }); front = c.tell-in-Err-Fault.ensures.front e }
-
-pub returns-in-Err-TooLong-clause-write_fault : goal.returns-in-Err-TooLong-clause-write_fault
-returns-in-Err-TooLong-clause-write_fault g c =
-    let asked = asks c.args.words.now _ c.in-Some.command c.in-Ok.ensures.command c.in-Some.is in
-    let taken = c.in-Err-TooLong.ensures.too_long (rw c.in-Err-TooLong.field-0-is refl) in
-    λ e. record { text = too_long; own = of_overflow (record { command = c.in-Some.command; asked = asked; taken = taken }); front = c.tell-in-Err-TooLong.ensures.front e }
-
 pub returns-clause-no_memory : goal.returns-clause-no_memory
 returns-clause-no_memory g c =
     let asked = asks c.args.words.now _ c.in-Some.command c.in-Ok.ensures.command c.in-Some.is in
-    λ e. (at_input c.in-Some.command asked, alone (c.tell_no_memory-in-Err-NoMemory.ensures.whole (λ k. cc)))
+    λ e. (at_input c.in-Some.command asked, alone (c.tell_unread.ensures.no_memory e))
 
 pub returns-clause-write_fault : goal.returns-clause-write_fault
 returns-clause-write_fault g c =
     let asked = asks c.args.words.now _ c.in-Some.command c.in-Ok.ensures.command c.in-Some.is in
-    λ e. record { text = no_memory; own = of_no_memory (at_input c.in-Some.command asked); front = c.tell_no_memory-in-Err-NoMemory.ensures.front e }
+    λ e. breaks_unread c.args.words.now c.in-Some.command _ _ _ _ _ _ c.in-Err.fail asked (λ is. c.in-Err.ensures.within (rw is refl)) (λ is. c.in-Err.ensures.fault (rw is refl)) (λ is. c.in-Err.ensures.too_long (rw is refl)) (c.tell_unread.ensures.front e)

@@ -1,0 +1,11 @@
+pub mod Units
+pub mod Listed
+pub mod Lasting
+pub mod Still
+pub mod Running
+pub mod Opened
+pub mod Back
+pub mod Seats
+pub mod First
+pub mod Crosses
+pub mod NewSeats
