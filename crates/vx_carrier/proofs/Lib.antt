@@ -1,4 +1,3 @@
-pub mod Units
 pub mod Listed
 pub mod Lasting
 pub mod Still

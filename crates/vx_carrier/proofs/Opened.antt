@@ -22,7 +22,7 @@ use Rattle.vx_carrier.specs.declared.turn.Turn.{Turn}
 use Rattle.vx_carrier.specs.declared.turn.Turn.TheVariants.{Took, Nothing, Stale, Ended, NoMemory}
 use Rattle.vx_carrier.proofs.Running.{desk_base, enabled_there, end_is, home_set, open_enabled, open_no_don, run_advanced, tally_most}
 use Rattle.vx_carrier.proofs.Still.{BeginsNone, begun_serves, serves_before}
-use Rattle.vx_carrier.proofs.Units.{step_keeps_count, step_keeps_unit}
+use Rattle.vx_record.proofs.Fixed.{step_keeps_count, step_keeps_unit}
 
 -- The lease after a BEG.
 

@@ -29,7 +29,7 @@ use Rattle.vx_record.proofs.Moves.{HasRequest}
 use Rattle.vx_record.proofs.Steps.{IsThere, is_headed, started_moves, step_moves}
 use Rattle.vx_carrier.proofs.Lasting.{HoldOfAll, Lasts, moves_hold}
 use Rattle.vx_carrier.proofs.Listed.{amended_first, amended_found, amended_holds, found_any, none_found, not_found}
-use Rattle.vx_carrier.proofs.Units.{Spares, step_keeps_unit}
+use Rattle.vx_record.proofs.Fixed.{Spares, step_keeps_unit}
 
 one : {A : Type 0} (x y : A) → Some x ≡ Some y → x ≡ y
 one x y e = cc

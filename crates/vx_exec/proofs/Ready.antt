@@ -23,7 +23,7 @@ use Rattle.vx_record.proofs.Changes.{stands_at}
 use Rattle.vx_record.proofs.Lists.{all_at, all_get, either}
 use Rattle.vx_record.proofs.SoundCalls.{all_from_list}
 use Rattle.vx_record.proofs.SoundSteps.{first_sound, step_sound}
-use Rattle.vx_record.proofs.SystemKept.{step_keeps_system}
+use Rattle.vx_record.proofs.Fixed.{step_keeps_system}
 use Rattle.vx_procs.specs.Kernel.{Fits, Kernel}
 use Rattle.vx_procs.specs.Ready.{HasHandlerRoom}
 use Rattle.vx_io.specs.Finishing.{AreRequests}

@@ -43,7 +43,7 @@ use Rattle.vx_record.proofs.Lists.{either, either_by, all_append, all_at}
 use Rattle.vx_record.proofs.Changes.{without_ast_still}
 use Rattle.vx_record.proofs.SoundLists.{all_free}
 use Rattle.vx_record.proofs.SoundRequests.{begun_sound}
-use Rattle.vx_record.proofs.SystemKept.{step_keeps_system}
+use Rattle.vx_record.proofs.Fixed.{step_keeps_system}
 
 -- What is enabled: events of processes that are there, and rundowns of processes that have no frame.
 

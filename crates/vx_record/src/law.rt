@@ -39,7 +39,7 @@ pub fn references_stand_in_every_run()
 {}
 
 /// No event changes the system.
-#[tactic(auto, using(crate::proofs::SystemKept::step_keeps_system))]
+#[tactic(auto, using(crate::proofs::Fixed::step_keeps_system))]
 pub fn events_keep_the_system()
     ensures { (s : State) (e : EventOf) → (step s e).after.system ≡ s.system }
 {}

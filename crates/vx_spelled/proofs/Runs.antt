@@ -27,7 +27,7 @@ use Rattle.vx_lines.specs.SpelledHead.{IsSpelledHead, IsSpelledUnit}
 use Rattle.vx_lines.specs.SpelledRecords.{AreSpelled, IsSpelledRec}
 use Rattle.vx_record.proofs.Lists.{all_at, not_holds}
 use Rattle.vx_record.proofs.SoundSteps.{first_sound, step_sound}
-use Rattle.vx_record.proofs.SystemKept.{step_keeps_system}
+use Rattle.vx_record.proofs.Fixed.{step_keeps_system}
 use Rattle.vx_record.specs.Events.{step}
 use Rattle.vx_record.specs.Runs.{AreSteps, IsRun, IsStep, first}
 use Rattle.vx_record.specs.Sound.{IsSound}

@@ -2,7 +2,7 @@ use Rattle.std.proofs.Common.{Contains, ap, sym, subst, ◌∙◌}
 use Rattle.vx_image.specs.declared.system.System.{System}
 use Rattle.vx_record.specs.State.{State}
 use Rattle.vx_record.specs.Events.{enabled}
-use Rattle.vx_record.proofs.SystemKept.{step_keeps_system}
+use Rattle.vx_record.proofs.Fixed.{step_keeps_system}
 use Rattle.vx_procs.specs.Kernel.{Kernel}
 use Rattle.vx_exec.specs.Sound.{IsGoing}
 use Rattle.vx_exec.specs.View.{Plan}
