@@ -25,7 +25,7 @@ use Rattle.vx_base.proofs.request.Req.TheSendSync as req
 use Rattle.vx_base.proofs.request.Reply.TheSendSync as reply
 use Rattle.vx_units.proofs.any.AnyUnit.TheSendSync as any
 use Rattle.vx_procs.specs.contracts.kept.KeptUnit as unit
-use Rattle.vx_procs.proofs.process.Proc.TheSendSync as process
+use Rattle.vx_procs.proofs.table.Procs.TheSendSync as processes
 use Rattle.vx_procs.proofs.newcomer.Newcomer.TheSendSync as newcomer
 use Rattle.vx_procs.specs.contracts.procs.Core as core
 use Rattle.vx_procs.specs.contracts.procs.Core.TheInside as kept
@@ -76,7 +76,7 @@ module _ (T : RattleType) (g : Ghosts T.Denot) where
           (
             search sendable,
             (
-              search (crosses, process.the_send) depth 20,
+              search processes.the_send,
               (
                 search clusters.the_send,
                 (

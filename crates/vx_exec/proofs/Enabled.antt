@@ -1,5 +1,6 @@
 -- What is enabled: each process has one event or none, and so has each unit, and time.
 use Rattle.std.proofs.Common.{◌≡◌, ℕ, zero, suc, ◌+◌, ◌-◌, ◌<◌, ◌≤◌, List, [], ◌∷◌, ◌++◌, length, length-append, drop, IsTrue, Option, Some, None, IfSome, IsSome, Contains, option_to_list, slice_get, slice_index_or, nat_lt, ◌⊎◌, inl, inr, Bool, true, false, if◌then◌else◌, refl, sym, ap, subst, ◌∙◌, arith}
+use Rattle.std.proofs.Math.ListN.{drop_of_length-le}
 use Rattle.std.proofs.lemmas.Bool.{cases_eq, leb-true}
 use Rattle.std.proofs.lemmas.Bool.Decides.{nat_tests}
 use Rattle.std.proofs.lemmas.List.{drop_more}
@@ -44,7 +45,7 @@ ast_shape : (P : List Event → Type 0) (s : State) (p : Pid) (o : Option Queued
 ast_shape P s p None none runs down starts = run_shape P s p none runs down
 ast_shape P s p (Some q) none runs down starts = starts
 
-shape : (P : List Event → Type 0) (s : State) (p : Pid) → P [] → P (event.Run p ∷ []) → P (event.Rdn p ∷ []) → P (event.Ast p ∷ []) → P (process_events s p)
+pub shape : (P : List Event → Type 0) (s : State) (p : Pid) → P [] → P (event.Run p ∷ []) → P (event.Rdn p ∷ []) → P (event.Ast p ∷ []) → P (process_events s p)
 shape P s p none runs down starts = either P (process_at s p).suspended _ _ none (ast_shape P s p (deliverable_ast s p) none runs down starts)
 
 process_abled : (s : State) (p : Pid) → IsProcess s p → AllByRecursion (IsAbled s) (process_events s p)
@@ -218,10 +219,7 @@ unit_iff s u e asked b is same there has only =
 pub waits_at : (s : State) (p : Pid) → IsProcess s p → IsWhole s → WaitsStand (process_at s p).frames
 waits_at s p made whole = (stands_at s p whole.sound made).waits
 
--- the events of the processes, or of the units, from one on: those of the first, and the rest
-
-pub processes_now : (s : State) (place : ℕ) → place < length s.procs → processes_from s (place + 1) (drop place s.procs) ≡ process_events s (pid (place + 1)) ++ processes_from s (place + 1 + 1) (drop (place + 1) s.procs)
-processes_now s place within = ap (λ (prs : List Process). processes_from s (place + 1) prs) (drop_more s.procs place nobody within)
+-- the events of the units from one on: those of the first, and the rest
 
 pub units_now : (s : State) (place : ℕ) → place < length s.units → units_from s place (drop place s.units) ≡ unit_events s (record { 0 = place }) ++ units_from s (place + 1) (drop (place + 1) s.units)
 units_now s place within = ap (λ (us : List DeviceUnit). units_from s place us) (drop_more s.units place no_unit within)
@@ -251,7 +249,7 @@ pub pick_there : (x : ℕ) (es : List Event) → 0 < length es → slice_get es 
 pick_there x [] some = absurd (omega arith)
 pick_there x (e ∷ es) some = get_some (e ∷ es) (picked (next_seed x) (length (e ∷ es))) e (omega arith)
 
--- One process or unit further, counting events, and looking for the one at a place.
+-- Counting events, and looking for the one at a place.
 
 pub count_step : (now here later : List Event) (count n all : ℕ) → now ≡ here ++ later → n ≡ length here → count + length now ≡ all → count + n + length later ≡ all
 count_step now here later count n all split is so_far = omega (arith, ap (λ (es : List Event). length es) split, length-append here later, is, so_far)
@@ -260,22 +258,13 @@ past_first : (e : Event) (es : List Event) (left after : ℕ) (found : Option Ev
 past_first e es zero after found other is at = absurd (other refl)
 past_first e es (suc n) after found other is at = let same : after ≡ n = omega arith in rw same at
 
--- the events of the processes, or of the units, from one on, with others behind
-
-abbrev pub later_processes : State → ℕ → List Event → List Event
-later_processes s place ys = processes_from s (place + 1) (drop place s.procs) ++ ys
+-- the events of the units from one on, with others behind
 
 abbrev pub later_units : State → ℕ → List Event → List Event
 later_units s place ys = units_from s place (drop place s.units) ++ ys
 
 with_others : (now rest own here ys : List Event) → now ≡ own ++ rest → here ≡ own → now ++ ys ≡ (here ++ rest) ++ ys
 with_others now rest own here ys split is = ap (λ (es : List Event). es ++ ys) (split ∙ ap (λ (es : List Event). es ++ rest) (sym is))
-
-pub some_process : (s : State) (ys : List Event) (place : ℕ) (e : Event) → place < length s.procs → option_to_list (Some e) ≡ process_events s (pid (place + 1)) → later_processes s place ys ≡ e ∷ later_processes s (place + 1) ys
-some_process s ys place e within is = with_others _ _ _ (e ∷ []) ys (processes_now s place within) is
-
-pub no_process : (s : State) (ys : List Event) (place : ℕ) → place < length s.procs → option_to_list None ≡ process_events s (pid (place + 1)) → later_processes s place ys ≡ later_processes s (place + 1) ys
-no_process s ys place within is = with_others _ _ _ [] ys (processes_now s place within) is
 
 pub some_unit : (s : State) (ys : List Event) (place : ℕ) (e : Event) → place < length s.units → option_to_list (Some e) ≡ unit_events s (record { 0 = place }) → later_units s place ys ≡ e ∷ later_units s (place + 1) ys
 some_unit s ys place e within is = with_others _ _ _ (e ∷ []) ys (units_now s place within) is
@@ -292,17 +281,8 @@ some_here now later left e found is none so_far = ap (λ (n : ℕ). slice_get (e
 pub none_step : (now later : List Event) (left after : ℕ) (found : Option Event) → now ≡ later → after ≡ left → slice_get now left ≡ found → slice_get later after ≡ found
 none_step now later left after found is same so_far = rw same (ap (λ (es : List Event). slice_get es left) (sym is) ∙ so_far)
 
-drop_end : {A : Type 0} (xs : List A) (n : ℕ) → length xs ≤ n → drop n xs ≡ []
-drop_end [] zero few = refl
-drop_end [] (suc n) few = refl
-drop_end (x ∷ xs) zero few = absurd (omega (arith, few))
-drop_end (x ∷ xs) (suc n) few = drop_end xs n (omega (arith, few))
-
-pub past_processes : (s : State) (ys : List Event) (place left : ℕ) (found : Option Event) → length s.procs ≤ place → slice_get (later_processes s place ys) left ≡ found → slice_get ys left ≡ found
-past_processes s ys place left found past so_far = ap (λ (prs : List Process). slice_get (processes_from s (place + 1) prs ++ ys) left) (sym (drop_end s.procs place past)) ∙ so_far
-
 pub past_units : (s : State) (ys : List Event) (place left : ℕ) (found : Option Event) → length s.units ≤ place → slice_get (later_units s place ys) left ≡ found → slice_get ys left ≡ found
-past_units s ys place left found past so_far = ap (λ (us : List DeviceUnit). slice_get (units_from s place us ++ ys) left) (sym (drop_end s.units place past)) ∙ so_far
+past_units s ys place left found past so_far = ap (λ (us : List DeviceUnit). slice_get (units_from s place us ++ ys) left) (sym (drop_of_length-le s.units past)) ∙ so_far
 
 -- there are 32 units at most
 pub few_units : (s : State) → IsWhole s → length s.units ≤ 32
@@ -310,21 +290,11 @@ few_units s whole = omega (arith, whole.sound.units, leb-true (length s.system.u
 
 -- The first event that ends no service.
 
--- a process ends none
-process_open : (s : State) (p : Pid) (e : Event) → option_to_list (Some e) ≡ process_events s p → is_open e ≡ true
-process_open s p e is = shape (λ es. e ∷ [] ≡ es → is_open e ≡ true) s p (λ x. absurd (cc)) (λ x. let same : e ≡ event.Run p = cc in ap is_open same) (λ x. let same : e ≡ event.Rdn p = cc in ap is_open same) (λ x. let same : e ≡ event.Ast p = cc in ap is_open same) is
-
 find_here : (now later : List Event) (e : Event) (found : Option Event) → now ≡ e ∷ later → is_open e ≡ true → find is_open now ≡ found → Some e ≡ found
 find_here now later e found is opens so_far = sym (ap (λ (b : Bool). if b then Some e else find is_open later) opens) ∙ (ap (find is_open) (sym is) ∙ so_far)
 
 find_past : (now later : List Event) (e : Event) (found : Option Event) → now ≡ e ∷ later → is_open e ≡ false → find is_open now ≡ found → find is_open later ≡ found
 find_past now later e found is ends so_far = sym (ap (λ (b : Bool). if b then Some e else find is_open later) ends) ∙ (ap (find is_open) (sym is) ∙ so_far)
-
-pub open_process : (s : State) (ys : List Event) (place : ℕ) (e : Event) (found : Option Event) → place < length s.procs → option_to_list (Some e) ≡ process_events s (pid (place + 1)) → find is_open (later_processes s place ys) ≡ found → Some e ≡ found
-open_process s ys place e found within is so_far = find_here (later_processes s place ys) (later_processes s (place + 1) ys) e found (some_process s ys place e within is) (process_open s (pid (place + 1)) e is) so_far
-
-pub no_open_process : (s : State) (ys : List Event) (place : ℕ) (found : Option Event) → place < length s.procs → option_to_list None ≡ process_events s (pid (place + 1)) → find is_open (later_processes s place ys) ≡ found → find is_open (later_processes s (place + 1) ys) ≡ found
-no_open_process s ys place found within is so_far = ap (find is_open) (sym (no_process s ys place within is)) ∙ so_far
 
 pub open_unit : (s : State) (ys : List Event) (place : ℕ) (e : Event) (found : Option Event) → place < length s.units → option_to_list (Some e) ≡ unit_events s (record { 0 = place }) → is_open e ≡ true → find is_open (later_units s place ys) ≡ found → Some e ≡ found
 open_unit s ys place e found within is opens so_far = find_here (later_units s place ys) (later_units s (place + 1) ys) e found (some_unit s ys place e within is) opens so_far
@@ -335,11 +305,8 @@ closed_unit s ys place e found within is ends so_far = find_past (later_units s 
 pub no_open_unit : (s : State) (ys : List Event) (place : ℕ) (found : Option Event) → place < length s.units → option_to_list None ≡ unit_events s (record { 0 = place }) → find is_open (later_units s place ys) ≡ found → find is_open (later_units s (place + 1) ys) ≡ found
 no_open_unit s ys place found within is so_far = ap (find is_open) (sym (no_unit_event s ys place within is)) ∙ so_far
 
-pub past_open_processes : (s : State) (ys : List Event) (place : ℕ) (found : Option Event) → length s.procs ≤ place → find is_open (later_processes s place ys) ≡ found → find is_open ys ≡ found
-past_open_processes s ys place found past so_far = ap (λ (prs : List Process). find is_open (processes_from s (place + 1) prs ++ ys)) (sym (drop_end s.procs place past)) ∙ so_far
-
 pub past_open_units : (s : State) (place : ℕ) (found : Option Event) → length s.units ≤ place → find is_open (later_units s place (tick_events s.timers)) ≡ found → slice_get (tick_events s.timers) 0 ≡ found
-past_open_units s place found past so_far = tick_first s.timers ∙ (ap (λ (us : List DeviceUnit). find is_open (units_from s place us ++ tick_events s.timers)) (sym (drop_end s.units place past)) ∙ so_far)
+past_open_units s place found past so_far = tick_first s.timers ∙ (ap (λ (us : List DeviceUnit). find is_open (units_from s place us ++ tick_events s.timers)) (sym (drop_of_length-le s.units past)) ∙ so_far)
   where
     tick_first : (ts : List Timer) → slice_get (tick_events ts) 0 ≡ find is_open (tick_events ts)
     tick_first [] = refl

@@ -1,4 +1,5 @@
 pub mod Asks
+pub mod Blocks
 pub mod Boxed
 pub mod Called
 pub mod Calls
@@ -12,6 +13,7 @@ pub mod Few
 pub mod Fired
 pub mod Goes
 pub mod Open
+pub mod Owned
 pub mod Ready
 pub mod Running
 pub mod Runs

@@ -1,4 +1,5 @@
 pub mod Asked
+pub mod Blocks
 pub mod Engines
 pub mod Leases
 pub mod Picks

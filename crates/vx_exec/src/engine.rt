@@ -50,6 +50,7 @@ impl<R: Routine> Engine<R> {
         make_room(&mut self.core, event)?;
         let answer = step(&mut self.core, event, &mut self.rooms);
         self.taken += 1;
+        self.core.settle();
         Ok(Rec {
             event,
             answer,

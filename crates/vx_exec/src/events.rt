@@ -10,6 +10,7 @@ ghost use Rattle.vx_exec.specs.Leases.{first_open, is_open};
 ghost use Rattle.vx_exec.specs.Ready.{process_of};
 ghost use Rattle.vx_exec.specs.Sound.{IsWhole};
 
+use crate::block::{block_count, count_in, event_in};
 use vx_base::{Event, Phase, Pid, Routine, UnitNo};
 use vx_ctl::wait_condition;
 use vx_procs::Core;
@@ -45,8 +46,8 @@ fn can_run_down<R: Routine>(core: &Core<R>, p: Pid) -> bool
     }
 }
 
-// The event of a process, if it has one.
-fn event_of<R: Routine>(core: &Core<R>, p: Pid) -> Option<Event>
+/// The event of a process, if it has one.
+pub(crate) fn event_of<R: Routine>(core: &Core<R>, p: Pid) -> Option<Event>
     requires made { IsProcess core.now.state p }
     requires waits { WaitsStand (process_at core.now.state p).frames }
     ensures { option_to_list result ≡ process_events core.now.state p }
@@ -67,8 +68,8 @@ fn event_of<R: Routine>(core: &Core<R>, p: Pid) -> Option<Event>
     }
 }
 
-// How many events a process has: one or none.
-fn events_of<R: Routine>(core: &Core<R>, p: Pid) -> u32
+/// How many events a process has: one or none.
+pub(crate) fn events_of<R: Routine>(core: &Core<R>, p: Pid) -> u32
     requires made { IsProcess core.now.state p }
     requires waits { WaitsStand (process_at core.now.state p).frames }
     ensures count { result ≡ length (process_events core.now.state p) }
@@ -91,15 +92,14 @@ pub(crate) fn process_of(event: Event) -> Option<Pid>
 }
 
 // How many events processes have.
-#[tactic(auto, using(crate::proofs::Enabled::waits_at))]
 fn process_count<R: Routine>(core: &Core<R>) -> u32
     requires { IsWhole core.now.state }
     ensures count { result ≡ length (processes_from core.now.state 1 core.now.state.procs) }
     ensures few { result ≤ 1000 }
 {
     let mut count: u32 = 0;
-    for place in 0..core.process_count() as u32 {
-        count += events_of(core, Pid(place + 1));
+    for b in 0..block_count(core) {
+        count += count_in(core, b);
     }
     count
 }
@@ -185,18 +185,15 @@ fn unit_event_at<R: Routine>(core: &Core<R>, i: u32) -> Option<Event>
 
 /// The enabled event at a place from 0: the processes in number order, then the units in the script's order, each with one
 /// event or none, and then time.
-#[tactic(auto, using(crate::proofs::Enabled::waits_at))]
 pub(crate) fn enabled_at<R: Routine>(core: &Core<R>, i: u32) -> Option<Event>
     requires { IsWhole core.now.state }
     ensures { result ≡ slice_get (enabled core.now.state) i }
 {
     let mut left = i;
-    for place in 0..core.process_count() as u32 {
-        if let Some(event) = event_of(core, Pid(place + 1)) {
-            if left == 0 {
-                return Some(event);
-            }
-            left -= 1;
+    for b in 0..block_count(core) {
+        match event_in(core, b, left) {
+            Ok(event) => return Some(event),
+            Err(behind) => left = behind,
         }
     }
     unit_event_at(core, left)
@@ -229,13 +226,12 @@ fn first_open_later<R: Routine>(core: &Core<R>) -> Option<Event>
 
 /// The first enabled event that ends no service: that of the first process that has one, else the BEG of the first unit that has one,
 /// else time's.
-#[tactic(auto, using(crate::proofs::Enabled::waits_at))]
 pub(crate) fn first_open<R: Routine>(core: &Core<R>) -> Option<Event>
     requires { IsWhole core.now.state }
     ensures { result ≡ first_open core.now.state }
 {
-    for place in 0..core.process_count() as u32 {
-        if let Some(event) = event_of(core, Pid(place + 1)) {
+    for b in 0..block_count(core) {
+        if let Ok(event) = event_in(core, b, 0) {
             return Some(event);
         }
     }

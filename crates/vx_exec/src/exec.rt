@@ -50,7 +50,8 @@ impl<R: Routine> Exec<R> {
         requires within { limit ≤ 100000 }
         ensures { IfOk result (λ exec. exec ≡ record { state = first system; limit = limit; taken = 0 }) }
     {
-        let core = Core::new(alloc, system)?;
+        let mut core = Core::new(alloc, system)?;
+        core.settle();
         Ok(Exec {
             engine: Engine {
                 core,
@@ -67,9 +68,11 @@ impl<R: Routine> Exec<R> {
     pub fn duplicate(&self) -> Result<Exec<R>, NoMemory>
         ensures { IfOk result (λ copy. copy ≡ self.now) }
     {
+        let mut core = self.engine.core.duplicate()?;
+        core.settle();
         Ok(Exec {
             engine: Engine {
-                core: self.engine.core.duplicate()?,
+                core,
                 limit: self.engine.limit,
                 taken: self.engine.taken,
                 alloc: self.engine.alloc,

@@ -1,10 +1,12 @@
 pub mod Again
 pub mod Bills
+pub mod Blocks
 pub mod Booked
 pub mod Assigned
 pub mod Called
 pub mod Cells
 pub mod Changed
+pub mod Deepest
 pub mod Ended
 pub mod Created
 pub mod FirstProcs
@@ -15,8 +17,11 @@ pub mod Left
 pub mod Moments
 pub mod Ops
 pub mod Own
+pub mod OwnExamples
 pub mod Quiet
+pub mod Remembered
 pub mod Requested
 pub mod Rest
 pub mod Stack
+pub mod Standing
 pub mod Started

@@ -9,9 +9,12 @@ pub mod Handlers
 pub mod Held
 pub mod Kernel
 pub mod Leases
+pub mod Own
 pub mod Places
+pub mod Processes
 pub mod Ready
 pub mod Requests
+pub mod Summaries
 pub mod Units
 pub mod Unused
 pub mod View

@@ -1,40 +1,12 @@
 -- What the processes of the code stand for.
 use Rattle.std.specs.Prelude.{List, [], ◌++◌, nat_lt, if◌then◌else◌, Option, map, option_to_list, vec_len, vec_capacity}
 use Rattle.vx_base.specs.Pieces.{DeviceUnit}
-use Rattle.vx_record.specs.State.{Process, State}
+use Rattle.vx_record.specs.State.{State}
 use Rattle.vx_procs.specs.Kernel.{Kernel, Room}
 use Rattle.vx_procs.specs.Held.{Books, AreHeld}
+pub use Rattle.vx_procs.specs.Processes.{process, room_of, books_of}
 use Rattle.vx_procs.specs.Units.{Ending, Kept}
 use Rattle.vx_procs.specs.declared.procs.Core.TheInside.{Inside}
-use Rattle.vx_procs.specs.declared.process.Proc.{Proc}
-
--- a process
-abbrev pub process : {R : Type 0} → Proc R → Process
-process pr = record {
-  decl = pr.decl;
-  group = pr.group;
-  member = pr.member;
-  privs = pr.privs;
-  store = pr.store;
-  frames = pr.frames.items;
-  enables = pr.asts.enables;
-  asts = pr.asts.items;
-  channels = pr.chans;
-  handlers = pr.exits.items;
-  cluster_0 = pr.cluster_0;
-  cluster_1 = pr.cluster_1;
-  wake_pending = pr.wake_pending;
-  suspended = pr.suspended;
-  delete_pending = pr.delete_pending;
-  exit_code = pr.exit_code;
-  phase = pr.phase;
-}
-
-abbrev pub room_of : {R : Type 0} → Proc R → Room
-room_of pr = record { frames = pr.frames.capacity; asts = pr.asts.capacity; handlers = pr.exits.capacity }
-
-abbrev pub books_of : {R : Type 0} → Proc R → Books
-books_of pr = record { room = room_of pr; account = pr.account }
 
 -- a unit, and what the end of its next service needs
 

@@ -54,7 +54,7 @@ impl<R: Routine> Core<R> {
         requires within { exceeds self.old.state p (ast_need true) ≡ false }
         ensures { self.new ≡ with_state self.old (with_attention self.old.state (record { id = id; p = p; chan = chan; box = b; func = func; mode = mode; tag = R.tagged routine })) }
     {
-        self.procs[p.0 as usize - 1].charge(ast_need(true));
+        self.procs.at_mut(p).charge(ast_need(true));
         self.attention.add(id, p, chan, b, func, mode, routine);
         self.short = Some(p);
     }
@@ -69,7 +69,9 @@ impl<R: Routine> Core<R> {
             return false;
         };
         let (id, p, mode) = (entry.id(), entry.p(), entry.mode());
-        self.procs[p.0 as usize - 1].call_attention(id, mode, entry.into_routine());
+        self.procs
+            .at_mut(p)
+            .call_attention(id, mode, entry.into_routine());
         true
     }
 
@@ -81,6 +83,6 @@ impl<R: Routine> Core<R> {
             return;
         };
         let p = entry.p();
-        self.procs[p.0 as usize - 1].release(ast_need(true));
+        self.procs.at_mut(p).release(ast_need(true));
     }
 }

@@ -14,6 +14,7 @@ use crate::kept::first_units;
 use crate::process::Proc;
 use crate::procs::Core;
 use crate::shared::SharedSystem;
+use crate::table::Procs;
 use std::alloc::Global;
 use vx_base::{Effects, NoMemory, Routine};
 use vx_clusters::Clusters;
@@ -39,7 +40,7 @@ fn add_started<R: Routine>(
 }
 
 // The processes that are there from the start.
-fn first_procs<R: Routine>(alloc: Global, decls: &ProcDecls) -> Result<Vec<Proc<R>>, NoMemory>
+fn first_procs<R: Routine>(alloc: Global, decls: &ProcDecls) -> Result<Procs<R>, NoMemory>
     requires { length decls.now ≤ 1000 }
     ensures procs { IfOk result (λ procs. map process procs.items ≡ born_from 0 decls.now) }
     ensures fresh { IfOk result (λ procs. AllByRecursion (IsFresh decls.now) procs.items) }
@@ -48,7 +49,7 @@ fn first_procs<R: Routine>(alloc: Global, decls: &ProcDecls) -> Result<Vec<Proc<
     for (place, decl) in decls.as_slice().iter().enumerate() {
         add_started(alloc, &mut procs, place as u32, decl)?;
     }
-    Ok(procs)
+    Ok(Procs::new(alloc, procs))
 }
 
 impl<R: Routine> Core<R> {

@@ -75,7 +75,7 @@ impl<R: Routine> Core<R> {
         requires { IsProcess self.old.state p }
         ensures { DoesQuietly (assign_at self.old.state p device mode (free_channel_of self.old.state p)) result self.old self.new }
     {
-        or_cond(self.procs[p.0 as usize - 1].chans.assign(device, mode))
+        or_cond(self.procs.at_mut(p).chans.assign(device, mode))
     }
 
     /// The device and the mode of a channel that a process may use now. IVCHAN exactly where the number is none of a channel, NOPRIV
@@ -107,7 +107,7 @@ impl<R: Routine> Core<R> {
         requires assigned { IsSome (channel_at (process_at self.old.state p).channels n) }
         ensures { self.new ≡ changed self.old p (with_channel n None) }
     {
-        self.procs[p.0 as usize - 1].chans.free(n)
+        self.procs.at_mut(p).chans.free(n)
     }
 
     /// The least channel of a process above a number that is assigned in a mode or an outer one.

@@ -102,7 +102,7 @@ impl<R: Routine> Core<R> {
         requires local { n < 64 }
         ensures { self.new ≡ changed self.old p (with_local_flag n on) }
     {
-        self.procs[p.0 as usize - 1].put_flag(n, on)
+        self.procs.at_mut(p).put_flag(n, on)
     }
 
     // Sets or clears flag n, 0 to 31, of the common cluster of a group and name.

@@ -10,6 +10,7 @@ ghost use Rattle.vx_procs.specs.View.{books_of, process, room_of, unit_of};
 use crate::kept::KeptUnit;
 use crate::process::Proc;
 use crate::procs::Core;
+use crate::table::Procs;
 use std::alloc::Global;
 use vx_base::{Duplicate, Effects, NoMemory, Routine};
 
@@ -43,7 +44,7 @@ impl<R: Routine> Proc<R> {
 }
 
 // The same processes again.
-fn duplicate_procs<R: Routine>(alloc: Global, procs: &[Proc<R>]) -> Result<Vec<Proc<R>>, NoMemory>
+fn duplicate_procs<R: Routine>(alloc: Global, procs: &[Proc<R>]) -> Result<Procs<R>, NoMemory>
     ensures procs { IfOk result (λ copy. map process copy.items ≡ map process procs.now) }
     ensures books { IfOk result (λ copy. AreWider (map books_of procs.now) (map books_of copy.items)) }
 {
@@ -51,7 +52,7 @@ fn duplicate_procs<R: Routine>(alloc: Global, procs: &[Proc<R>]) -> Result<Vec<P
     for proc in procs {
         copy.push(proc.duplicate(alloc)?)?;
     }
-    Ok(copy)
+    Ok(Procs::new(alloc, copy))
 }
 
 // The same units again.
@@ -71,7 +72,7 @@ fn duplicate_units(alloc: Global, units: &[KeptUnit]) -> Result<Vec<KeptUnit>, N
 
 impl<R: Routine> Core<R> {
     /// The same state again: each routine is made from its tag, and there is as much room or more for what is promised. Effects that
-    /// were told and not taken are not copied, and no spare process.
+    /// were told and not taken are not copied, and no spare process, and nothing is remembered of the processes.
     pub fn duplicate(&self) -> Result<Core<R>, NoMemory>
         requires { AreIn self.now }
         ensures state { IfOk result (λ copy. copy.state ≡ self.now.state) }

@@ -67,9 +67,7 @@ impl<R: Routine> Core<R> {
             unreachable!()
         };
         let created = spare.into_proc(place, &decl);
-        match self.procs.push(created) {
-            Ok(()) => number,
-            Err(_) => unreachable!(),
-        }
+        self.procs.put(created);
+        number
     }
 }

@@ -9,7 +9,7 @@ use crate::procs::Core;
 use vx_base::Routine;
 
 // The greater of two numbers.
-fn deeper(a: u128, b: u128) -> u128
+pub(crate) fn deeper(a: u128, b: u128) -> u128
     ensures { result ≡ deeper a b }
 {
     if a <= b { b } else { a }
@@ -25,7 +25,7 @@ impl<R: Routine> Proc<R> {
 }
 
 // The most that one of some processes has.
-fn deepest<R: Routine>(procs: &[Proc<R>]) -> u128
+pub(crate) fn deepest<R: Routine>(procs: &[Proc<R>]) -> u128
     ensures { result ≡ deepest (map process procs.now) }
 {
     let mut most = 0;
@@ -36,10 +36,11 @@ fn deepest<R: Routine>(procs: &[Proc<R>]) -> u128
 }
 
 impl<R: Routine> Core<R> {
-    /// The most frames and exit handlers that one process has. Goes over all processes.
+    /// The most frames and exit handlers that one process has. Goes over the blocks of 32, and over those processes of which
+    /// nothing is remembered.
     pub fn depth(&self) -> u128
         ensures { result ≡ deepest self.now.state.procs }
     {
-        deepest(self.procs.as_slice())
+        self.procs.deepest()
     }
 }

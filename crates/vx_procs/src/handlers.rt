@@ -52,9 +52,7 @@ impl<R: Routine> Core<R> {
         requires room { HasHandlerRoom self.old p }
         ensures { self.new ≡ changed self.old p (with_handler (record { id = id; mode = mode; tag = R.tagged routine })) }
     {
-        let _declared = self.procs[p.0 as usize - 1]
-            .exits
-            .declare(id, mode, routine);
+        let _declared = self.procs.at_mut(p).exits.declare(id, mode, routine);
     }
 
     /// Takes out the newest of the exit handlers of a process that are looked for, with its routine: the handler is entered.
@@ -64,7 +62,7 @@ impl<R: Routine> Core<R> {
         ensures after { self.new ≡ changed self.old p (without_sought which) }
         ensures kept { result ≡ None → self.new ≡ self.old }
     {
-        self.procs[p.0 as usize - 1].take_handler(which)
+        self.procs.at_mut(p).take_handler(which)
     }
 
     /// Takes out the newest of the exit handlers of a process that are looked for, and gives its id. Its routine is never entered.

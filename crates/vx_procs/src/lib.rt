@@ -10,7 +10,8 @@
 //! All reads of a process are in `reads.rt`, all writes of its fields in `setters.rt`, event flags and their clusters in
 //! `clusters.rt`, timers in `timers.rt`, requests in `requests.rt`, attention entries in `attention.rt`, mailboxes in `boxes.rt`,
 //! units in `units.rt`, units that leave to be served in `leases.rt`, and creation in `create.rt`: each says the value after it as one equation, in the words of the machine.
-//! Services call these alone. `copy.rt` copies the whole, `same.rt` tells two states apart, and `digest.rt` makes a number of one.
+//! Services call these alone. The processes stand in a table (`table.rt`) that remembers how many of each 32 have an event, as far as
+//! each alone tells it (`own_event.rt`), and how deep they are; `settle.rt` brings that up to date and reads it. `copy.rt` copies the whole, `same.rt` tells two states apart, and `digest.rt` makes a number of one.
 #![tactic(auto)]
 
 mod attention;
@@ -27,13 +28,16 @@ mod handlers;
 mod kept;
 mod leases;
 mod newcomer;
+mod own_event;
 mod process;
 mod procs;
 mod reads;
 mod requests;
 mod same;
 mod setters;
+mod settle;
 mod shared;
+mod table;
 mod timers;
 mod trim;
 mod units;

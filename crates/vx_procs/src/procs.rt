@@ -8,8 +8,8 @@ ghost use Rattle.vx_procs.specs.Ready.{HasHandlerRoom, HasMessageRooms, HasNewco
 
 use crate::kept::KeptUnit;
 use crate::newcomer::Newcomer;
-use crate::process::Proc;
 use crate::shared::SharedSystem;
+use crate::table::Procs;
 use std::alloc::Global;
 use std::marker::Model;
 use std::mem;
@@ -30,7 +30,7 @@ pub struct Core<R: Routine> {
     pub(crate) system: SharedSystem,
     pub(crate) time: u64,
     pub(crate) next: u32,
-    pub(crate) procs: Vec<Proc<R>>,
+    pub(crate) procs: Procs<R>,
     pub(crate) clusters: Clusters,
     // what the next process takes memory for, if it is made
     pub(crate) spare: Option<Newcomer<R>>,
@@ -108,7 +108,7 @@ impl<R: Routine> Core<R> {
         ensures messages { self.new.messages ≡ self.old.messages }
         ensures newcomer { OnOk result (HasNewcomer self.new) }
     {
-        self.procs.reserve(1)?;
+        self.procs.reserve()?;
         if self.spare.is_some() {
             return Ok(());
         }
@@ -132,7 +132,7 @@ impl<R: Routine> Core<R> {
         let Some(p) = self.short else {
             return Ok(());
         };
-        self.procs[p.0 as usize - 1].reserve()?;
+        self.procs.at_mut(p).reserve()?;
         self.short = None;
         Ok(())
     }
@@ -152,7 +152,7 @@ impl<R: Routine> Core<R> {
         ensures spares { HasSpares self.old → HasSpares self.new }
         ensures room { OnOk result (HasHandlerRoom self.new p) }
     {
-        self.procs[p.0 as usize - 1].exits.reserve()?;
+        self.procs.at_mut(p).exits.reserve()?;
         Ok(())
     }
 

@@ -70,7 +70,7 @@ impl<R: Routine> Core<R> {
         requires { IsProcess self.now.state p }
         ensures { process result.now ≡ process_at self.now.state p }
     {
-        &self.procs[p.0 as usize - 1]
+        self.procs.at(p)
     }
 
     /// The name of the declaration at a place, from 0.
@@ -207,7 +207,7 @@ impl<R: Routine> Core<R> {
         requires { IsProcess self.now.state p }
         ensures { result ≡ exceeds self.now.state p need }
     {
-        self.procs[p.0 as usize - 1].exceeds(need)
+        self.procs.at(p).exceeds(need)
     }
 
     /// Its privileges.

@@ -111,7 +111,7 @@ impl<R: Routine> Core<R> {
             ast.is_some(),
             req.len,
         );
-        self.procs[p.0 as usize - 1].charge(need);
+        self.procs.at_mut(p).charge(need);
         self.requests.accept(req, ast);
         self.short = Some(p);
     }
@@ -125,7 +125,7 @@ impl<R: Routine> Core<R> {
         let done = self.requests.finish(id)?;
         let (req, ast, marked) = done.parts();
         let need = need_of(self.system.get(), req.device, req.func, false, req.len);
-        let queued = self.procs[req.p.0 as usize - 1].end_request(req.id, need, ast);
+        let queued = self.procs.at_mut(req.p).end_request(req.id, need, ast);
         Some(Finished {
             req,
             marked,

@@ -42,7 +42,7 @@ impl<R: Routine> Core<R> {
         requires { IsProcess self.old.state p }
         ensures { self.new ≡ changed self.old p (with_wake on) }
     {
-        self.procs[p.0 as usize - 1].wake_pending = on;
+        self.procs.at_mut(p).wake_pending = on;
     }
 
     /// A process is suspended, or it is not ($SUSPND, $RESUME).
@@ -50,7 +50,7 @@ impl<R: Routine> Core<R> {
         requires { IsProcess self.old.state p }
         ensures { self.new ≡ changed self.old p (with_suspension on) }
     {
-        self.procs[p.0 as usize - 1].suspended = on;
+        self.procs.at_mut(p).suspended = on;
     }
 
     /// A process is so far on its way out.
@@ -58,7 +58,7 @@ impl<R: Routine> Core<R> {
         requires { IsProcess self.old.state p }
         ensures { self.new ≡ changed self.old p (in_phase phase) }
     {
-        self.procs[p.0 as usize - 1].phase = phase;
+        self.procs.at_mut(p).phase = phase;
     }
 
     /// Puts a number into a variable of a process, or into its R0.
@@ -66,7 +66,7 @@ impl<R: Routine> Core<R> {
         requires { IsProcess self.old.state p }
         ensures { self.new ≡ changed self.old p (with_variable target n) }
     {
-        self.procs[p.0 as usize - 1].store.set(target, n)
+        self.procs.at_mut(p).store.set(target, n)
     }
 
     /// Puts a number into R0 of a process.
@@ -74,7 +74,7 @@ impl<R: Routine> Core<R> {
         requires { IsProcess self.old.state p }
         ensures { self.new ≡ changed self.old p (with_r0 n) }
     {
-        self.procs[p.0 as usize - 1].store.set(Target::R0, n)
+        self.procs.at_mut(p).store.set(Target::R0, n)
     }
 
     /// Puts at most 2,048 bytes over the start of a buffer of a process, 0 to 31.
@@ -84,7 +84,7 @@ impl<R: Routine> Core<R> {
         requires size { length bytes.now ≤ 2048 }
         ensures { self.new ≡ changed self.old p (with_stored_bytes b bytes.now) }
     {
-        self.procs[p.0 as usize - 1].store.put(b, bytes)
+        self.procs.at_mut(p).store.put(b, bytes)
     }
 
     /// Fills an I/O status block of a process, 1 to 32, or clears it where the condition is none and the numbers are 0.
@@ -94,9 +94,7 @@ impl<R: Routine> Core<R> {
         requires within { i ≤ 32 }
         ensures { self.new ≡ changed self.old p (with_stored_status i (record { cond = cond; count = count; info = info })) }
     {
-        self.procs[p.0 as usize - 1]
-            .store
-            .set_iosb(i, cond, count, info)
+        self.procs.at_mut(p).store.set_iosb(i, cond, count, info)
     }
 
     /// Enables or disables AST delivery in a mode of a process ($SETAST), and tells how it was.
@@ -105,7 +103,7 @@ impl<R: Routine> Core<R> {
         ensures was { result ≡ is_enabled_in (process_at self.old.state p).enables mode }
         ensures after { self.new ≡ changed self.old p (with_delivery mode on) }
     {
-        self.procs[p.0 as usize - 1].asts.enable(mode, on)
+        self.procs.at_mut(p).asts.enable(mode, on)
     }
 
     /// Queues an AST for a process ($DCLAST, $FORCEX). Takes no memory.
@@ -115,7 +113,7 @@ impl<R: Routine> Core<R> {
         requires within { charged ≡ true → exceeds self.old.state p (ast_need true) ≡ false }
         ensures { self.new ≡ changed self.old p (with_queued (record { id = id; mode = mode; tag = R.tagged routine; charged = charged })) }
     {
-        self.procs[p.0 as usize - 1].queue(id, mode, routine, charged);
+        self.procs.at_mut(p).queue(id, mode, routine, charged);
         self.short = Some(p);
     }
 
@@ -126,7 +124,7 @@ impl<R: Routine> Core<R> {
         ensures found { result ≡ deliverable_ast self.old.state p }
         ensures after { self.new ≡ changed self.old p (without_started (deliverable_ast self.old.state p)) }
     {
-        self.procs[p.0 as usize - 1].take()
+        self.procs.at_mut(p).take()
     }
 
     /// Takes out the first of the ASTs queued for a process that is of a mode or an outer one, if there is one, and gives its id.
@@ -136,7 +134,7 @@ impl<R: Routine> Core<R> {
         ensures id { result ≡ option_map (λ q. q.id) (find (is_ast_reached mode) (process_at self.old.state p).asts) }
         ensures after { self.new ≡ changed self.old p (without_reached mode) }
     {
-        self.procs[p.0 as usize - 1].drop_ast(mode)
+        self.procs.at_mut(p).drop_ast(mode)
     }
 
     /// Enters a frame, which is not further out than the top frame. Takes no memory.
@@ -146,7 +144,7 @@ impl<R: Routine> Core<R> {
         requires inward { IsTrue (may_stand_on frame (process_at self.old.state p).frames) }
         ensures { self.new ≡ changed self.old p (with_frame frame) }
     {
-        self.procs[p.0 as usize - 1].frames.push(frame);
+        self.procs.at_mut(p).frames.push(frame);
         self.short = Some(p);
     }
 
@@ -156,7 +154,7 @@ impl<R: Routine> Core<R> {
         ensures top { result ≡ top_of (process_at self.old.state p).frames }
         ensures after { self.new ≡ changed self.old p below_top }
     {
-        self.procs[p.0 as usize - 1].frames.pop()
+        self.procs.at_mut(p).frames.pop()
     }
 
     /// Leaves the frame of an AST, if there is one, and puts R0 back to what it was before the AST.
@@ -164,7 +162,7 @@ impl<R: Routine> Core<R> {
         requires { IsProcess self.old.state p }
         ensures { self.new ≡ changed self.old p (put_back r0) }
     {
-        self.procs[p.0 as usize - 1].put_back(r0)
+        self.procs.at_mut(p).put_back(r0)
     }
 
     /// The top frame of a process, if it has one, waits for something, or for nothing.
@@ -172,7 +170,7 @@ impl<R: Routine> Core<R> {
         requires { IsProcess self.old.state p }
         ensures { self.new ≡ changed self.old p (with_wait wait) }
     {
-        wait_at_top(&mut self.procs[p.0 as usize - 1].frames, wait)
+        wait_at_top(&mut self.procs.at_mut(p).frames, wait)
     }
 
     /// The wait of a process ends with a condition, which R0 takes; a wake is used up.
@@ -180,7 +178,7 @@ impl<R: Routine> Core<R> {
         requires { IsProcess self.old.state p }
         ensures { self.new ≡ changed self.old p (resumed_with wait cond) }
     {
-        self.procs[p.0 as usize - 1].resume(wait, cond)
+        self.procs.at_mut(p).resume(wait, cond)
     }
 
     /// The top frame of a process, if it has one, goes on behind the statement at a place.
@@ -189,7 +187,7 @@ impl<R: Routine> Core<R> {
         requires place { place < 4294967295 }
         ensures { self.new ≡ changed self.old p (moved_behind place) }
     {
-        place_top(&mut self.procs[p.0 as usize - 1].frames, place + 1)
+        place_top(&mut self.procs.at_mut(p).frames, place + 1)
     }
 
     /// Runs the local statements of a process from where its top frame stands, at most 1,000, and gives the new place and why
@@ -203,9 +201,9 @@ impl<R: Routine> Core<R> {
         ensures stop { result.1 ≡ (advanced_at self.old.state p).stop }
         ensures after { self.new ≡ changed self.old p (moved_as (advanced_at self.old.state p)) }
     {
-        let place = self.procs[p.0 as usize - 1].decl;
+        let place = self.procs.at(p).decl;
         let image = image_in(self.system.get(), place);
-        self.procs[p.0 as usize - 1].advance(image, p)
+        self.procs.at_mut(p).advance(image, p)
     }
 
     /// All frames of a process go, with an exit code ($EXIT): each AST among them is no longer active, the top one first, and an
@@ -215,7 +213,7 @@ impl<R: Routine> Core<R> {
         requires free { Fits self.old (exited self.old.state p code).effects }
         ensures { Acts (exited self.old.state p code) self.old self.new }
     {
-        self.procs[p.0 as usize - 1].exit(code, &mut self.log)
+        self.procs.at_mut(p).exit(code, &mut self.log)
     }
 
     /// All frames of a process go, as it is named for deletion ($DELPRC): each AST among them is no longer active, the top one first,
@@ -225,6 +223,6 @@ impl<R: Routine> Core<R> {
         requires free { Fits self.old (frames_deleted self.old.state p).effects }
         ensures { Acts (frames_deleted self.old.state p) self.old self.new }
     {
-        self.procs[p.0 as usize - 1].delete(&mut self.log)
+        self.procs.at_mut(p).delete(&mut self.log)
     }
 }

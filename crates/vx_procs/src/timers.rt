@@ -56,7 +56,7 @@ impl<R: Routine> Core<R> {
         ensures { self.new ≡ with_state self.old (with_timer self.old.state due) }
     {
         let p = due.p();
-        self.procs[p.0 as usize - 1].charge(due_need(&due));
+        self.procs.at_mut(p).charge(due_need(&due));
         self.timers.put(due);
         self.short = Some(p);
     }
@@ -124,7 +124,7 @@ impl<R: Routine> Core<R> {
             return false;
         };
         let (id, p) = (due.id(), due.p());
-        self.procs[p.0 as usize - 1].fire(id, due.into_what())
+        self.procs.at_mut(p).fire(id, due.into_what())
     }
 
     /// The first entry that is due by then, if there is one, stays, charged, and is due so many ticks later.
@@ -143,7 +143,7 @@ impl<R: Routine> Core<R> {
     {
         let due = self.timers.take_first(which)?;
         let (id, p) = (due.id(), due.p());
-        self.procs[p.0 as usize - 1].release(due_need(&due));
+        self.procs.at_mut(p).release(due_need(&due));
         Some(id)
     }
 }

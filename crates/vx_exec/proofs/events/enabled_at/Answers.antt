@@ -1,30 +1,20 @@
-use Rattle.std.proofs.Common.{◌<◌, ◌≤◌, ◌++◌, length, arith, ◌+◌, ◌∙◌}
-use Rattle.vx_record.specs.Events.{tick_events, units_from}
-use Rattle.vx_exec.proofs.Enabled.{later_processes, no_process, none_step, past_processes, some_here, some_process, some_step}
+use Rattle.std.proofs.Common.{◌≤◌, ◌*◌, ◌++◌, length, slice_get, arith, ◌∙◌}
+use Rattle.vx_record.specs.Events.{enabled, tick_events, units_from}
+use Rattle.vx_exec.proofs.Blocks.{block_has, block_passed, blocks_passed}
 use Rattle.vx_exec.proofs.events.enabled_at.Goals as goal
-use Rattle.vx_exec.proofs.events.enabled_at.Goals.{in-Some+else-left-eq0, in_default}
 
-pub loop-place-preserved : goal.loop-place-preserved
-loop-place-preserved g c =
+pub loop-b-preserved : goal.loop-b-preserved
+loop-b-preserved g c =
     let s = c.args.core.now.state in
-    let i = c.loop-place.place in
-    let ys = units_from s 0 s.units ++ tick_events s.timers in
-    let within : i < length s.procs = omega (arith, c.process_count-place-end.ensures, c.loop-place-test.true) in
-    elim c.match-event_of.branch [
-      | in-Some+else-left-eq0 w ↦ some_step (later_processes s i ys) (later_processes s (i + 1) ys) c.loop-place.left c.match-event_of.left w.in-Some.event _ (some_process s ys i w.in-Some.event within w.in-Some.ensures) w.if-left-eq0.false w.left-is c.loop-place.invariant
-      | in_default w ↦ none_step (later_processes s i ys) (later_processes s (i + 1) ys) c.loop-place.left c.match-event_of.left _ (no_process s ys i within w.in_default.ensures) w.left-is c.loop-place.invariant
-    ]
+    block_passed s c.loop-b.b (units_from s 0 s.units ++ tick_events s.timers) c.loop-b.left c.in-Err.behind (slice_get (enabled s) c.args.i) c.in-Err.ensures.behind c.loop-b.invariant
 
-pub returns-then-left-eq0 : goal.returns-then-left-eq0
-returns-then-left-eq0 g c =
+pub returns-in-Ok : goal.returns-in-Ok
+returns-in-Ok g c =
     let s = c.args.core.now.state in
-    let i = c.loop-place.place in
-    let ys = units_from s 0 s.units ++ tick_events s.timers in
-    let within : i < length s.procs = omega (arith, c.process_count-place-end.ensures, c.loop-place-test.true) in
-    some_here (later_processes s i ys) (later_processes s (i + 1) ys) c.loop-place.left c.in-Some.event _ (some_process s ys i c.in-Some.event within c.in-Some.ensures) c.if-left-eq0.true c.loop-place.invariant
+    block_has s c.loop-b.b (units_from s 0 s.units ++ tick_events s.timers) c.loop-b.left c.in-Ok.event (slice_get (enabled s) c.args.i) c.in-Ok.ensures.event c.loop-b.invariant
 
 pub returns : goal.returns
 returns g c =
     let s = c.args.core.now.state in
-    let past : length s.procs ≤ c.loop-place.place = omega (arith, c.process_count-place-end.ensures, c.loop-place-test.false) in
-    c.unit_event_at.ensures ∙ past_processes s (units_from s 0 s.units ++ tick_events s.timers) c.loop-place.place c.loop-place.left _ past c.loop-place.invariant
+    let past : length s.procs ≤ 32 * c.loop-b.b = omega (arith, c.block_count-b-end.ensures.covers, c.loop-b-test.false) in
+    c.unit_event_at.ensures ∙ blocks_passed s c.loop-b.b (units_from s 0 s.units ++ tick_events s.timers) c.loop-b.left (slice_get (enabled s) c.args.i) past c.loop-b.invariant

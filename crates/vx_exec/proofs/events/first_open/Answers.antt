@@ -1,24 +1,22 @@
-use Rattle.std.proofs.Common.{◌<◌, ◌≤◌, ◌++◌, length, arith, ◌∙◌}
-use Rattle.vx_record.specs.Events.{tick_events, units_from}
-use Rattle.vx_exec.proofs.Enabled.{no_open_process, open_process, past_open_processes}
+use Rattle.std.proofs.Common.{◌≤◌, ◌*◌, ◌++◌, length, arith, ◌∙◌}
+use Rattle.std.specs.List.{find}
+use Rattle.vx_record.specs.Events.{enabled, tick_events, units_from}
+use Rattle.vx_exec.specs.Leases.{is_open}
+use Rattle.vx_exec.proofs.Blocks.{block_closed, block_opens, blocks_closed}
 use Rattle.vx_exec.proofs.events.first_open.Goals as goal
 
-pub loop-place-preserved : goal.loop-place-preserved
-loop-place-preserved g c =
+pub loop-b-preserved : goal.loop-b-preserved
+loop-b-preserved g c =
     let s = c.args.core.now.state in
-    let i = c.loop-place.place in
-    let within : i < length s.procs = omega (arith, c.process_count-place-end.ensures, c.loop-place-test.true) in
-    no_open_process s (units_from s 0 s.units ++ tick_events s.timers) i _ within c.in_default.ensures c.loop-place.invariant
+    block_closed s c.loop-b.b (units_from s 0 s.units ++ tick_events s.timers) c.in_default.field-0 (find is_open (enabled s)) c.in_default.ensures.behind c.loop-b.invariant
 
-pub returns-in-Some : goal.returns-in-Some
-returns-in-Some g c =
+pub returns-in-Ok : goal.returns-in-Ok
+returns-in-Ok g c =
     let s = c.args.core.now.state in
-    let i = c.loop-place.place in
-    let within : i < length s.procs = omega (arith, c.process_count-place-end.ensures, c.loop-place-test.true) in
-    open_process s (units_from s 0 s.units ++ tick_events s.timers) i c.in-Some.event _ within c.in-Some.ensures c.loop-place.invariant
+    block_opens s c.loop-b.b (units_from s 0 s.units ++ tick_events s.timers) c.in-Ok.event (find is_open (enabled s)) c.in-Ok.ensures.event c.loop-b.invariant
 
 pub returns : goal.returns
 returns g c =
     let s = c.args.core.now.state in
-    let past : length s.procs ≤ c.loop-place.place = omega (arith, c.process_count-place-end.ensures, c.loop-place-test.false) in
-    c.first_open_later.ensures ∙ past_open_processes s (units_from s 0 s.units ++ tick_events s.timers) c.loop-place.place _ past c.loop-place.invariant
+    let past : length s.procs ≤ 32 * c.loop-b.b = omega (arith, c.block_count-b-end.ensures.covers, c.loop-b-test.false) in
+    c.first_open_later.ensures ∙ blocks_closed s c.loop-b.b (units_from s 0 s.units ++ tick_events s.timers) (find is_open (enabled s)) past c.loop-b.invariant

@@ -1,11 +1,12 @@
-use Rattle.std.proofs.Common.{sym, subst}
+use Rattle.std.proofs.Common.{ap, subst, sym, ◌∙◌}
 use Rattle.vx_record.specs.State.{State}
+use Rattle.vx_procs.specs.Kernel.{AreIn, Kernel}
 use Rattle.vx_exec.specs.Sound.{IsGoing}
 use Rattle.vx_exec.proofs.Ready.{first_going}
 use Rattle.vx_exec.proofs.exec.Exec.new.Goals as goal
 
 pub invariant_of-result : goal.invariant_of-result
 invariant_of-result g c = record {
-  on = subst (λ (s : State). IsGoing s c.args.limit 0) (sym c.in_ok-core.ensures.state) (first_going c.args.system c.args.limit c.requires.formed c.requires.within);
-  home = c.in_ok-core.ensures.home;
+  on = subst (λ (s : State). IsGoing s c.args.limit 0) (sym (ap (λ (k : Kernel). k.state) c.settle.ensures ∙ c.in_ok-core.ensures.state)) (first_going c.args.system c.args.limit c.requires.formed c.requires.within);
+  home = subst AreIn (sym c.settle.ensures) c.in_ok-core.ensures.home;
 }

@@ -20,9 +20,9 @@ invariant_of-self g c =
     let own = c.need_of-need.ensures ∙ ap (λ (x : System). request_need (first x) q.device q.func c.is_some.result q.len) c.get.ensures in
     let needs = own ∙ ap (λ (b : Bool). request_need (state c.self.inside) q.device q.func b q.len) (c.is_some.ensures ∙ sym (mapped_some (promised_of g.R.Routine.tagged) c.args.ast)) in
     let within = ap (exceeds k.state q.p) (own ∙ (ap (λ (b : Bool). request_need (state c.self.inside) q.device q.func b q.len) c.is_some.ensures ∙ ap (λ (x : Kernel). request_need x.state q.device q.func (is_some c.args.ast) q.len) c.self.view_is)) ∙ c.requires.within in
-    held_asked r c.need_of-need.result c.self.inside k q.p c.index_mut.result.now _ c.accept.new.self c.self.view_is c.requires.spares refl refl c.requires.own needs within c.index_mut.ensures.value c.charge.ensures.after c.charge.ensures.room c.charge.ensures.account c.accept.ensures c.self.invariant
+    held_asked r c.need_of-need.result c.self.inside k q.p c.at_mut.result.now _ c.accept.new.self c.self.view_is c.requires.spares refl refl c.requires.own needs within c.at_mut.ensures.value c.charge.ensures.after c.charge.ensures.room c.charge.ensures.account c.accept.ensures c.self.invariant
 
 pub returns : goal.returns
 returns g c =
     let r : Request = record { req = c.args.req; ast = option_map (promised_of g.R.Routine.tagged) c.args.ast; served = false; marked = false } in
-    requests_alone (λ (s : State). s.requests ++ r ∷ []) c.self.inside c.args.self.now c.args.req.p c.index_mut.result.now _ c.accept.new.self c.self.view_is c.requires.own.made c.index_mut.ensures.value c.charge.ensures.after c.charge.ensures.room c.accept.ensures
+    requests_alone (λ (s : State). s.requests ++ r ∷ []) c.self.inside c.args.self.now c.args.req.p c.at_mut.result.now _ c.accept.new.self c.self.view_is c.requires.own.made c.at_mut.ensures.value c.charge.ensures.after c.charge.ensures.room c.accept.ensures

@@ -12,21 +12,21 @@ pub invariant_of-result : goal.invariant_of-result
 invariant_of-result g c =
     held_again (state c.self.inside) _ c.self.inside.short _ _ c.self.inside.units.items c.in_ok-duplicate_units.field-0.items
     (same_state _ _ c.in_ok-share.ensures refl refl
-    (rw c.as_slice.ensures.value at c.in_ok-duplicate_procs.ensures.procs)
+    (rw c.as_slice.ensures at c.in_ok-duplicate_procs.ensures.procs)
     (ap (λ (x : Shared). x.common) c.in_ok-duplicate.ensures)
     (ap (λ (x : Roomy Request). x.items) c.in_ok-duplicate-3.ensures)
     (ap (λ (x : Roomy Timer). x.items) c.in_ok-duplicate-2.ensures)
     c.in_ok-duplicate-4.ensures.items
     c.in_ok-duplicate-5.ensures
     (rw c.as_slice-2.ensures.value at c.in_ok-duplicate_units.ensures.units))
-    (rw c.as_slice.ensures.value at c.in_ok-duplicate_procs.ensures.books)
+    (rw c.as_slice.ensures at c.in_ok-duplicate_procs.ensures.books)
     (rw c.as_slice-2.ensures.value at c.in_ok-duplicate_units.ensures.asked)
     c.self.invariant
 
 pub returns-clause-state : goal.returns-clause-state
 returns-clause-state g c =
     same_state (state c.self.inside) _ c.in_ok-share.ensures refl refl
-    (rw c.as_slice.ensures.value at c.in_ok-duplicate_procs.ensures.procs)
+    (rw c.as_slice.ensures at c.in_ok-duplicate_procs.ensures.procs)
     (ap (λ (x : Shared). x.common) c.in_ok-duplicate.ensures)
     (ap (λ (x : Roomy Request). x.items) c.in_ok-duplicate-3.ensures)
     (ap (λ (x : Roomy Timer). x.items) c.in_ok-duplicate-2.ensures)

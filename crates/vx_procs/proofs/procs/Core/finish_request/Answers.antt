@@ -12,9 +12,9 @@ use Rattle.vx_procs.specs.Kernel.{with_state}
 use Rattle.vx_procs.specs.Requests.{ended_if, promised_ast}
 use Rattle.vx_procs.specs.View.{kernel, process, state}
 use Rattle.vx_procs.specs.Words.{with_queued_if}
-use Rattle.vx_procs.proofs.Changed.{stands}
 use Rattle.vx_procs.proofs.Ops.{mapped_some, same_timers}
 use Rattle.vx_procs.proofs.Requested.{asked_in, charged_request, ended_as, held_ended, own_found, place_kept}
+use Rattle.vx_procs.proofs.Standing.{standing}
 use Rattle.vx_procs.proofs.procs.Core.finish_request.Goals as goal
 
 pub invariant_of-self : goal.invariant_of-self
@@ -28,20 +28,15 @@ returns-in_err-done-clause-after g c =
     ap (λ (rs : Roomy Request). kernel (record c.self.inside { requests = rs })) same
     ∙ (c.self.view_is ∙ ap (λ (o : Option Request). with_state k (ended_if k.state o)) (asked_in test c.self.inside k None c.self.view_is c.in_err-done.ensures.found))
 
-pub overflow_sub-req : goal.overflow_sub-req
-overflow_sub-req g c =
+pub at_mut-requires : goal.at_mut-requires
+at_mut-requires g c =
     let own = own_found (this_request c.args.id) c.self.inside c.in_ok-done.done c.self.invariant c.in_ok-done.ensures.found in
-    omega (arith, own.made.above, ap (λ (x : Req). x.p.0) c.parts-req.ensures.req)
-
-pub index_mut-requires : goal.index_mut-requires
-index_mut-requires g c =
-    let own = own_found (this_request c.args.id) c.self.inside c.in_ok-done.done c.self.invariant c.in_ok-done.ensures.found in
-    omega (arith, stands c.self.inside c.in_ok-done.done.req.p own.made, ap (λ (x : Req). x.p.0) c.parts-req.ensures.req)
+    standing c.self.inside c.in_ok-done.done.req.p c.parts-req.result.0.p (ap (λ (x : Req). x.p) c.parts-req.ensures.req) own.made
 
 pub end_request-queued-requires-clause-free : goal.end_request-queued-requires-clause-free
 end_request-queued-requires-clause-free g c =
     let r = c.in_ok-done.done in
-    let place = place_kept (this_request c.args.id) c.self.inside c.parts-req.result.0.p r c.index_mut.result.now c.self.invariant c.in_ok-done.ensures.found (sym (ap (λ (x : Req). x.p) c.parts-req.ensures.req)) c.index_mut.ensures.value in
+    let place = place_kept (this_request c.args.id) c.self.inside c.parts-req.result.0.p r c.at_mut.result.now c.self.invariant c.in_ok-done.ensures.found (sym (ap (λ (x : Req). x.p) c.parts-req.ensures.req)) c.at_mut.ensures.value in
     let same = sym (mapped_some (promised_of g.R.Routine.tagged) c.parts-req.result.1) ∙ ap (λ (a : Option Promised). is_some a) c.parts-req.ensures.ast in
     omega (arith, place, ap one same)
 
@@ -50,20 +45,20 @@ end_request-queued-requires-clause-charged g c =
     let r = c.in_ok-done.done in
     let own = c.need_of-need.ensures ∙ ap (λ (x : System). request_need (first x) c.parts-req.result.0.device c.parts-req.result.0.func false c.parts-req.result.0.len) c.get.ensures in
     let needs = own ∙ ap (λ (x : Req). request_need (state c.self.inside) x.device x.func false x.len) c.parts-req.ensures.req in
-    charged_request (this_request c.args.id) c.need_of-need.result c.self.inside c.parts-req.result.0.p r c.index_mut.result.now c.self.invariant c.in_ok-done.ensures.found (sym (ap (λ (x : Req). x.p) c.parts-req.ensures.req)) needs c.index_mut.ensures.value
+    charged_request (this_request c.args.id) c.need_of-need.result c.self.inside c.parts-req.result.0.p r c.at_mut.result.now c.self.invariant c.in_ok-done.ensures.found (sym (ap (λ (x : Req). x.p) c.parts-req.ensures.req)) needs c.at_mut.ensures.value
 
 pub invariant_of-self-2 : goal.invariant_of-self-2
 invariant_of-self-2 g c =
     let r = c.in_ok-done.done in
-    let pr = process c.index_mut.result.now in
+    let pr = process c.at_mut.result.now in
     let own = c.need_of-need.ensures ∙ ap (λ (x : System). request_need (first x) c.parts-req.result.0.device c.parts-req.result.0.func false c.parts-req.result.0.len) c.get.ensures in
     let needs = own ∙ ap (λ (x : Req). request_need (state c.self.inside) x.device x.func false x.len) c.parts-req.ensures.req in
     let after = c.end_request-queued.ensures.after ∙ (ap (λ (x : Req). with_queued_if (promised_ast x.id (option_map (promised_of g.R.Routine.tagged) c.parts-req.result.1)) pr) c.parts-req.ensures.req ∙ ap (λ (a : Option Promised). with_queued_if (promised_ast r.req.id a) pr) c.parts-req.ensures.ast) in
-    held_ended (this_request c.args.id) c.need_of-need.result c.self.inside c.parts-req.result.0.p r c.index_mut.result.now _ c.finish.new.self c.in_ok-done.ensures.found (sym (ap (λ (x : Req). x.p) c.parts-req.ensures.req)) needs c.in_ok-done.ensures.after c.index_mut.ensures.value after c.end_request-queued.ensures.room c.end_request-queued.ensures.account c.self.invariant
+    held_ended (this_request c.args.id) c.need_of-need.result c.self.inside c.parts-req.result.0.p r c.at_mut.result.now _ c.finish.new.self c.in_ok-done.ensures.found (sym (ap (λ (x : Req). x.p) c.parts-req.ensures.req)) needs c.in_ok-done.ensures.after c.at_mut.ensures.value after c.end_request-queued.ensures.room c.end_request-queued.ensures.account c.self.invariant
 
 pub returns-clause-after : goal.returns-clause-after
 returns-clause-after g c =
     let r = c.in_ok-done.done in
-    let pr = process c.index_mut.result.now in
+    let pr = process c.at_mut.result.now in
     let after = c.end_request-queued.ensures.after ∙ (ap (λ (x : Req). with_queued_if (promised_ast x.id (option_map (promised_of g.R.Routine.tagged) c.parts-req.result.1)) pr) c.parts-req.ensures.req ∙ ap (λ (a : Option Promised). with_queued_if (promised_ast r.req.id a) pr) c.parts-req.ensures.ast) in
-    ended_as c.args.id c.self.inside c.args.self.now c.parts-req.result.0.p r c.index_mut.result.now _ c.finish.new.self c.self.view_is c.self.invariant c.in_ok-done.ensures.found (sym (ap (λ (x : Req). x.p) c.parts-req.ensures.req)) c.index_mut.ensures.value after c.end_request-queued.ensures.room c.in_ok-done.ensures.after
+    ended_as c.args.id c.self.inside c.args.self.now c.parts-req.result.0.p r c.at_mut.result.now _ c.finish.new.self c.self.view_is c.self.invariant c.in_ok-done.ensures.found (sym (ap (λ (x : Req). x.p) c.parts-req.ensures.req)) c.at_mut.ensures.value after c.end_request-queued.ensures.room c.in_ok-done.ensures.after

@@ -10,5 +10,5 @@ use Rattle.vx_procs.proofs.procs.Core.is_assigned.Goals as goal
 pub returns : goal.returns
 returns g c =
     let items = c.self.inside.procs.items in
-    let here : c.any_assigned.result ≡ list_any (λ (pr : Proc _). has_channel_to c.args.b (process pr)) items = c.any_assigned.ensures ∙ ap (λ (xs : List (Proc _)). list_any (λ (pr : Proc _). has_channel_to c.args.b (process pr)) xs) c.as_slice.ensures.value in
+    let here : c.any_assigned.result ≡ list_any (λ (pr : Proc _). has_channel_to c.args.b (process pr)) items = c.any_assigned.ensures ∙ ap (λ (xs : List (Proc _)). list_any (λ (pr : Proc _). has_channel_to c.args.b (process pr)) xs) c.as_slice.ensures in
     here ∙ (procs_to c.args.b items ∙ ap (λ (k : Kernel). is_assigned k.state c.args.b) c.self.view_is)

@@ -4,7 +4,7 @@ use Rattle.vx_procs.proofs.Quiet.{resumed_quiet}
 use Rattle.vx_procs.proofs.procs.Core.resume.Goals as goal
 
 pub invariant_of-self : goal.invariant_of-self
-invariant_of-self g c = held_as (resumed_with c.args.wait c.args.cond) c.self.inside c.args.self.now c.args.p c.index_mut.result.now _ c.self.view_is c.requires c.index_mut.ensures.value c.resume.ensures.after c.resume.ensures.books (resumed_quiet c.args.wait c.args.cond _) c.self.invariant
+invariant_of-self g c = held_as (resumed_with c.args.wait c.args.cond) c.self.inside c.args.self.now c.args.p c.at_mut.result.now _ c.self.view_is c.requires c.at_mut.ensures.value c.resume.ensures.after c.resume.ensures.books (resumed_quiet c.args.wait c.args.cond _) c.self.invariant
 
 pub returns : goal.returns
-returns g c = changed_as (resumed_with c.args.wait c.args.cond) c.self.inside c.args.self.now c.args.p c.index_mut.result.now _ c.self.view_is c.requires c.index_mut.ensures.value c.resume.ensures.after c.resume.ensures.books
+returns g c = changed_as (resumed_with c.args.wait c.args.cond) c.self.inside c.args.self.now c.args.p c.at_mut.result.now _ c.self.view_is c.requires c.at_mut.ensures.value c.resume.ensures.after c.resume.ensures.books
