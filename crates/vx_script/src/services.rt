@@ -28,7 +28,9 @@ impl Model for Services {
 
 impl Services {
     /// The table. Takes no memory.
-    pub fn new() -> Services {
+    pub fn new() -> Services
+        ensures { result ≡ service_rows }
+    {
         Services {
             table: service_table(),
         }
