@@ -1,41 +1,19 @@
 //! The program `vms`, a hosted executive with asynchronous services in the manner of OpenVMS.
 //!
-//! `vms_call` is the top call: what the words ask for, from a source of bytes to a sink of bytes. Its contract says all
-//! that the program may answer and write. It takes the runs of `run` itself, by threads, and hands all other words to
-//! `quiet_call`, which waits for nobody. `main` hands it standard input, standard output, the words, and a gate that does nothing.
+//! `main` hands standard input, standard output, the words, and a gate that does nothing to `vms_call` of `vx_commands`, whose contract
+//! says all that the program may answer and write.
 #![tactic(auto)]
 
 ghost use Rattle.std.specs.Prelude.{◌≡◌, IfOk, map, string_bytes};
 
-#[cfg(test)]
-mod at_once;
-mod call;
-mod command;
-mod crew;
-mod example;
-mod explore;
-mod follow;
-mod journal;
-mod judge;
-mod picks;
-mod places;
-mod scope;
-mod simulate;
-mod status;
-mod summary;
-mod tell;
-mod threads;
-
-use status::Status;
 use std::alloc::Global;
 use std::env;
 use std::io::ErrorKind;
 use std::process::ExitCode;
-use tell::tell_no_memory;
-use threads::vms_call;
 use vx_base::{Bytes, NoMemory};
 use vx_carrier::NoGate;
-use vx_host::{Sink, StdSink, StdSource, write_all};
+use vx_commands::{tell_no_memory, vms_call};
+use vx_host::{StdSink, StdSource};
 
 fn bytes_of(alloc: Global, texts: &[String]) -> Result<Vec<Bytes>, NoMemory>
     ensures { IfOk result (λ words. words.items ≡ map string_bytes texts.now) }

@@ -16,6 +16,8 @@ mod chans;
 #[cfg(test)]
 mod clusters;
 #[cfg(test)]
+mod commands;
+#[cfg(test)]
 mod exits;
 #[cfg(test)]
 mod explore;

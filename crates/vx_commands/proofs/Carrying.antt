@@ -1,0 +1,96 @@
+-- A run that threads took, and what is written of it.
+use Rattle.std.proofs.Common.{◌≡◌, ℕ, List, ◌++◌, Option, Some, ◌⊎◌, inl, inr, refl, ap, subst, sym, ◌∙◌, codes}
+use Rattle.std.specs.Io.KnownBytes.{Appends}
+use Rattle.vx_base.specs.declared.record.End.{End}
+use Rattle.vx_base.specs.declared.record.Rec.{Rec}
+use Rattle.vx_carrier.specs.Pool.{IsPoolRun}
+use Rattle.vx_exec.specs.View.{Executive}
+use Rattle.vx_grammar.specs.FirstFault.{Tells}
+use Rattle.vx_grammar.specs.Grammar.{Spells}
+use Rattle.vx_host.specs.Causes.{Rose}
+use Rattle.vx_host.specs.Streams.{AppendsFront, Takes, TakesAtMost}
+use Rattle.vx_host.specs.declared.source.ReadFail.{ReadFail}
+use Rattle.vx_host.specs.declared.source.ReadFail.TheVariants as fail
+use Rattle.vx_image.specs.declared.system.System.{System}
+use Rattle.vx_journal.specs.Transcript.{trailer_lines}
+use Rattle.vx_laws.proofs.Whole.{every_run_lawful}
+use Rattle.vx_lines.specs.Records.{ended_lines, records_lines}
+use Rattle.vx_record.specs.Runs.{first}
+use Rattle.vx_script.specs.Script.{script}
+use Rattle.vx_script.specs.declared.fault.ScriptFault.{ScriptFault}
+use Rattle.vx_commands.proofs.Picking.{spelled_run}
+use Rattle.vx_commands.specs.Carried.{BreaksCarried, BreaksRunOf, GainsCarried, GainsFault, GainsRunOf, IsCarried, IsCarriedText, in_carried, in_no_script, in_run_of, in_shortage, in_want}
+use Rattle.vx_commands.specs.Crew.{crew_of}
+use Rattle.vx_commands.specs.Threads.{BreaksInRun, KeepsLawsInRun, ReadsForRun, WritesCarried, of_carried, of_failed_read, of_long_input, of_no_script, of_want}
+use Rattle.vx_commands.specs.Top.{fault_line, no_memory, read_fault, status_of_end, too_long}
+use Rattle.vx_commands.specs.Unread.{unread_line}
+use Rattle.vx_commands.specs.declared.crew.Crew.{Crew}
+use Rattle.vx_commands.specs.declared.status.Status.{Status}
+
+-- what was printed of a pool's run is the run's transcript
+pub is_carried_text : (system : System) (limit : ℕ) (before closed : Executive) (recs : List Rec) (e : End) (text : List ℕ) → before ≡ record { state = first system; limit = limit; taken = 0 } → IsPoolRun before closed recs e → text ≡ ((script system ++ codes "$JOURNAL 1\n") ++ ended_lines (records_lines closed.state.system.units 1 recs)) ++ ended_lines (trailer_lines closed.state e closed.taken) → IsCarriedText system limit e text
+is_carried_text system limit before closed recs e text opens is spells =
+    let ran : IsPoolRun (record { state = first system; limit = limit; taken = 0 }) closed recs e = subst (λ (b : Executive). IsPoolRun b closed recs e) opens is in
+    record { recs = recs; run = ran.run; ended = ran.ended; spells = spelled_run system closed recs e text ran.now ran.counted spells }
+
+-- What was written of a system was written of the input that says it.
+
+pub gains_carried : (input : List ℕ) (limit : ℕ) (held held_after : Option (List ℕ)) (system : System) (end : End) → Spells input system → GainsRunOf system limit held held_after end → GainsCarried input limit held held_after end
+gains_carried input limit held held_after system end says gained = record { text = gained.text; carried = record { system = system; says = says; carried = gained.carried }; written = gained.written }
+
+pub breaks_carried : (input : List ℕ) (limit : ℕ) (held held_after : Option (List ℕ)) (system : System) → Spells input system → BreaksRunOf system limit held held_after → BreaksCarried input limit held held_after
+breaks_carried input limit held held_after system says (in_run_of end text carried front) = in_carried end text (record { system = system; says = says; carried = carried }) front
+breaks_carried input limit held held_after system says (in_shortage front) = in_want front
+
+pub gains_fault : (input : List ℕ) (held held_after : Option (List ℕ)) (fault : ScriptFault) → Tells input fault → Appends held held_after (fault_line fault) → GainsFault input held held_after
+gains_fault input held held_after fault tells written = record { text = fault_line fault; refused = record { fault = fault; tells = tells; spells = refl }; written = written }
+
+pub breaks_fault : (input : List ℕ) (limit : ℕ) (held held_after : Option (List ℕ)) (fault : ScriptFault) → Tells input fault → AppendsFront held held_after (fault_line fault) ⊎ AppendsFront held held_after no_memory → BreaksCarried input limit held held_after
+breaks_fault input limit held held_after fault tells (inl front) = in_no_script (fault_line fault) (record { fault = fault; tells = tells; spells = refl }) front
+breaks_fault input limit held held_after fault tells (inr front) = in_want front
+
+-- A front of what was written is a front of the text of `run`.
+
+pub front_in_run : (words : List (List ℕ)) (crew : Crew) (left left_after : Option (List ℕ)) (faults faults_after : ℕ) (held held_after : Option (List ℕ)) (input : List ℕ) → ReadsForRun words crew left left_after input → BreaksCarried input crew.limit held held_after → BreaksInRun words left left_after faults faults_after held held_after
+front_in_run words crew left left_after faults faults_after held held_after input read (in_carried end text carried front) = record {
+  text = text;
+  own = of_carried end text (record { crew = crew; input = input; read = read; carried = carried });
+  front = front;
+}
+front_in_run words crew left left_after faults faults_after held held_after input read (in_no_script text refused front) = record {
+  text = text;
+  own = of_no_script text (record { crew = crew; input = input; read = read; refused = refused });
+  front = front;
+}
+front_in_run words crew left left_after faults faults_after held held_after input read (in_want front) = record { text = no_memory; own = of_want crew read.asked; front = front }
+
+pub front_unread : (words : List (List ℕ)) (crew : Crew) (left left_after : Option (List ℕ)) (faults faults_after : ℕ) (held held_after : Option (List ℕ)) (why : ReadFail) → crew_of words ≡ Some crew → (why ≡ fail.Fault → TakesAtMost 67108864 left left_after) → (why ≡ fail.Fault → Rose faults faults_after) → (why ≡ fail.TooLong → Takes 67108865 left left_after) → AppendsFront held held_after (unread_line why) → BreaksInRun words left left_after faults faults_after held held_after
+front_unread words crew left left_after faults faults_after held held_after fail.Fault asked within rose long front = record {
+  text = read_fault;
+  own = of_failed_read (record { crew = crew; asked = asked; taken = within refl; rose = rose refl });
+  front = front;
+}
+front_unread words crew left left_after faults faults_after held held_after fail.TooLong asked within rose long front = record {
+  text = too_long;
+  own = of_long_input (record { crew = crew; asked = asked; taken = long refl });
+  front = front;
+}
+front_unread words crew left left_after faults faults_after held held_after fail.NoMemory asked within rose long front = record { text = no_memory; own = of_want crew asked; front = front }
+
+-- the records whose transcript was written keep the laws
+pub keeps_laws : (words : List (List ℕ)) (crew : Crew) (left left_after held held_after : Option (List ℕ)) (input : List ℕ) (status : Status) (end : End) → ReadsForRun words crew left left_after input → GainsCarried input crew.limit held held_after end → status ≡ status_of_end end → KeepsLawsInRun words left left_after held held_after status
+keeps_laws words crew left left_after held held_after input status end read gained so =
+    let run = gained.carried.carried in
+    let system = gained.carried.system in
+    record {
+      crew = crew;
+      input = input;
+      read = read;
+      system = system;
+      says = gained.carried.says;
+      recs = run.recs;
+      end = end;
+      so = so;
+      written = subst (λ (text : List ℕ). Appends held held_after text) run.spells gained.written;
+      lawful = every_run_lawful system run.recs run.run;
+    }

@@ -1,0 +1,52 @@
+-- A run that places choose, and what is written of it.
+use Rattle.std.proofs.Common.{◌≡◌, ℕ, List, ◌∷◌, ◌++◌, Some, length, ap, subst, ◌∙◌, append_assoc, codes}
+use Rattle.std.proofs.lemmas.Grind.{flat_map-append}
+use Rattle.vx_base.specs.declared.record.End.{End}
+use Rattle.vx_base.specs.declared.record.Rec.{Rec}
+use Rattle.vx_exec.specs.View.{Executive}
+use Rattle.vx_image.specs.declared.system.System.{System}
+use Rattle.vx_journal.specs.Transcript.{trailer_lines, transcript}
+use Rattle.vx_lines.specs.Records.{records_lines}
+use Rattle.vx_picks.specs.Followed.{IsPickedRun}
+use Rattle.vx_record.proofs.SoundSteps.{run_keeps_system}
+use Rattle.vx_record.specs.Runs.{IsRun, after, end_after, first}
+use Rattle.vx_record.specs.State.{State}
+use Rattle.vx_script.specs.Script.{ended_lines, script}
+use Rattle.vx_commands.specs.Followed.{IsFollowed, IsPickedText, LacksPlace}
+use Rattle.vx_commands.specs.Following.{IsCourse}
+use Rattle.vx_commands.specs.Top.{IsRefused}
+use Rattle.vx_commands.specs.declared.command.Command.TheVariants.{Follow}
+use Rattle.vx_commands.specs.declared.follow.Course.{Course}
+use Rattle.vx_commands.specs.declared.follow.Course.TheVariants.{Ended, Missing, Refused}
+use Rattle.vx_commands.specs.declared.picks.Picks.{Picks}
+
+-- lines that were printed one part after another
+printed : (text : List ℕ) (xs ys : List (List ℕ)) → ((text ++ codes "$JOURNAL 1\n") ++ ended_lines xs) ++ ended_lines ys ≡ text ++ ended_lines (codes "$JOURNAL 1" ∷ (xs ++ ys))
+printed text xs ys = simp (flat_map-append, append_assoc)
+
+-- the script, the records and the trailer of what an executive took are the run's transcript
+pub spelled_run : (system : System) (closed : Executive) (recs : List Rec) (e : End) (text : List ℕ) → closed.state ≡ after system recs → closed.taken ≡ length recs → text ≡ ((script system ++ codes "$JOURNAL 1\n") ++ ended_lines (records_lines closed.state.system.units 1 recs)) ++ ended_lines (trailer_lines closed.state e closed.taken) → text ≡ transcript system recs e
+spelled_run system closed recs e text now counted spells =
+    let kept : closed.state.system ≡ system = ap (λ (s : State). s.system) now ∙ run_keeps_system (first system) recs in
+    let front : System → List ℕ = λ s. (script system ++ codes "$JOURNAL 1\n") ++ ended_lines (records_lines s.units 1 recs) in
+    let own : text ≡ front system ++ ended_lines (trailer_lines closed.state e closed.taken) = spells ∙ ap (λ s. front s ++ ended_lines (trailer_lines closed.state e closed.taken)) kept in
+    let there : text ≡ front system ++ ended_lines (trailer_lines (after system recs) e closed.taken) = own ∙ ap (λ s. front system ++ ended_lines (trailer_lines s e closed.taken)) now in
+    there ∙ (ap (λ n. front system ++ ended_lines (trailer_lines (after system recs) e n)) counted ∙ printed (script system) (records_lines system.units 1 recs) (trailer_lines (after system recs) e (length recs)))
+
+pub is_picked_text : (system : System) (picks : Picks) (closed : Executive) (recs : List Rec) (e : End) (text : List ℕ) → IsPickedRun system picks.places picks.limit closed recs e → text ≡ ((script system ++ codes "$JOURNAL 1\n") ++ ended_lines (records_lines closed.state.system.units 1 recs)) ++ ended_lines (trailer_lines closed.state e closed.taken) → IsPickedText system picks e text
+is_picked_text system picks closed recs e text is spells = record {
+  run = subst (λ rs. IsRun system rs) is.picked is.run;
+  ended = subst (λ rs. end_after system rs picks.limit ≡ Some e) is.picked is.ended;
+  spells = spelled_run system closed recs e text is.now is.counted spells ∙ ap (λ rs. transcript system rs e) is.picked;
+}
+
+-- what was found is a run, a lack or a refusal
+
+pub ended_by : (input seen : List ℕ) (picks : Picks) (c : Course) (end : End) (text : List ℕ) → seen ≡ input → c ≡ Ended end text → IsCourse seen picks c → IsFollowed input picks end text
+ended_by input seen picks c end text same is h = subst (λ (xs : List ℕ). IsFollowed xs picks end text) same (subst (IsCourse seen picks) is h)
+
+pub missed_by : (input seen : List ℕ) (picks : Picks) (c : Course) (text : List ℕ) → seen ≡ input → c ≡ Missing text → IsCourse seen picks c → LacksPlace input picks text
+missed_by input seen picks c text same is h = subst (λ (xs : List ℕ). LacksPlace xs picks text) same (subst (IsCourse seen picks) is h)
+
+pub refused_by : (input seen : List ℕ) (picks : Picks) (c : Course) (text : List ℕ) → seen ≡ input → c ≡ Refused text → IsCourse seen picks c → IsRefused input (Follow picks) text
+refused_by input seen picks c text same is h = subst (λ (xs : List ℕ). IsRefused xs (Follow picks) text) same (subst (IsCourse seen picks) is h)

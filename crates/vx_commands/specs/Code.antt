@@ -1,0 +1,17 @@
+-- The program's statuses.
+use Rattle.std.specs.Prelude.{ℕ}
+use Rattle.vx_commands.specs.declared.status.Status.{Status}
+use Rattle.vx_commands.specs.declared.status.Status.TheVariants.{Done, Hung, Words, Form, Limit, Illegal, ReadFault, WriteFault, NoMemory, TooLong, Cut}
+
+abbrev pub code_of : Status → ℕ
+code_of Done = 0
+code_of Hung = 1
+code_of Words = 2
+code_of Form = 3
+code_of Limit = 4
+code_of Illegal = 5
+code_of ReadFault = 6
+code_of WriteFault = 7
+code_of NoMemory = 8
+code_of TooLong = 9
+code_of Cut = 10

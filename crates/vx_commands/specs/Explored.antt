@@ -1,0 +1,46 @@
+-- What exploring an input comes to: how all its runs end, or that there are too many states.
+use Rattle.std.specs.Prelude.{◌≡◌, ℕ, List, [], ◌∷◌, ◌++◌, Contains, map}
+use Rattle.std.specs.List.{AllByRecursion}
+use Rattle.vx_base.specs.declared.record.End.{End}
+use Rattle.vx_base.specs.declared.record.Rec.{Rec}
+use Rattle.vx_endings.specs.Endings.{endings}
+use Rattle.vx_endings.specs.EndsSo.{EndsSo, IsWitnessed}
+use Rattle.vx_endings.specs.Interleavings.{IsTooWide}
+use Rattle.vx_endings.specs.Text.{cut_line, endings_text}
+use Rattle.vx_endings.specs.Worst.{worst_end}
+use Rattle.vx_endings.specs.declared.ending.RunEnding.{RunEnding}
+use Rattle.vx_explore.specs.declared.found.Found.{Found}
+use Rattle.vx_grammar.specs.Grammar.{Spells}
+use Rattle.vx_image.specs.declared.system.System.{System}
+use Rattle.vx_commands.specs.declared.scope.Scope.{Scope}
+
+-- These rows tell how all runs end of at most so many records. They are the summary of the list of all runs; each run that has ended
+-- ends as one of them; and each is the end of the run that its places choose.
+pub record AreEndings (system : System) (limit : ℕ) (rows : List (Found RunEnding)) : Type 0 where
+  pub summed : rows ≡ endings system limit
+  pub every_run : (recs : List Rec) (ending : RunEnding) → EndsSo system limit recs ending → Contains (map (λ row. row.what) rows) ending
+  pub every_row : AllByRecursion (IsWitnessed system limit) rows
+
+-- The text tells how all runs of a system end, and this is the worst end of them.
+pub record TellsEndings (system : System) (scope : Scope) (end : End) (text : List ℕ) : Type 0 where
+  pub rows : List (Found RunEnding)
+  pub endings : AreEndings system scope.limit rows
+  pub worst : end ≡ worst_end rows
+  pub spells : text ≡ endings_text scope.limit rows
+
+-- Some number of records leads to more states than may be kept, and the text is the line that tells it.
+pub record TellsCut (system : System) (scope : Scope) (text : List ℕ) : Type 0 where
+  pub wide : IsTooWide system scope.limit scope.states
+  pub spells : text ≡ cut_line scope.states ++ 10 ∷ []
+
+-- The input is the script of a system, and the text tells how all its runs end.
+pub record IsExplored (input : List ℕ) (scope : Scope) (end : End) (text : List ℕ) : Type 0 where
+  pub system : System
+  pub says : Spells input system
+  pub told : TellsEndings system scope end text
+
+-- The input is the script of a system that has too many states.
+pub record IsCutShort (input : List ℕ) (scope : Scope) (text : List ℕ) : Type 0 where
+  pub system : System
+  pub says : Spells input system
+  pub told : TellsCut system scope text

@@ -1,0 +1,280 @@
+//! The top call.
+
+ghost use Rattle.std.specs.Prelude.{◌≡◌, ◌⊎◌, ◌<◌, ◌≤◌, None, length};
+ghost use Rattle.std.specs.Io.KnownBytes.{Appends};
+ghost use Rattle.vx_host.specs.Causes.{Rose};
+ghost use Rattle.vx_commands.specs.Simulated.{WritesRun, WritesRefusal, WritesShown, BreaksInput, BreaksShown, StopsInput};
+ghost use Rattle.vx_commands.specs.Top.{usage, too_long, read_fault, no_memory, RefusesWords, Overflows, FailsToRead, RunsOut, Completes, Ends, IsLawful, Rejects, WritesCut, WritesFault, Breaks, TellsNoMemory};
+ghost use Rattle.vx_commands.specs.Words.{size_of};
+
+use crate::command::{Command, Options, command_of, size_of};
+use crate::explore::explore;
+use crate::follow::follow;
+use crate::judge::judge;
+use crate::simulate::run;
+use crate::status::Status;
+use crate::summary::summarize;
+use crate::tell::{tell, tell_fault, tell_no_memory, tell_unread};
+use std::alloc::Global;
+use vx_base::{Bytes, End, NoMemory};
+use vx_grammar::read_script;
+use vx_host::{Sink, Source, read_all};
+use vx_script::{ScriptFail, print_script};
+
+/// The most bytes of an input.
+pub const MOST: u32 = 67_108_864;
+
+/// Simulates an input that was read whole, and writes its transcript as the run goes, or why there is none.
+fn simulate<K: Sink>(alloc: Global, options: Options, input: &Bytes, sink: &mut K) -> Status
+    requires size { length input.now < 4294967295 }
+    requires above { 1 ≤ options.limit }
+    requires within { options.limit ≤ 100000 }
+    ensures status { (result ≡ Status.Done) ⊎ (result ≡ Status.Hung) ⊎ (result ≡ Status.Limit)
+        ⊎ (result ≡ Status.Form) ⊎ (result ≡ Status.NoMemory) ⊎ (result ≡ Status.WriteFault) }
+    ensures done { result ≡ Status.Done →
+        WritesRun input.now options (K.held sink.old) (K.held sink.new) End.Done }
+    ensures hung { result ≡ Status.Hung →
+        WritesRun input.now options (K.held sink.old) (K.held sink.new) End.Hung }
+    ensures limit { result ≡ Status.Limit →
+        WritesRun input.now options (K.held sink.old) (K.held sink.new) End.Limit }
+    ensures form { result ≡ Status.Form →
+        WritesRefusal (Command.Sim options) input.now (K.held sink.old) (K.held sink.new) }
+    ensures no_memory { result ≡ Status.NoMemory →
+        StopsInput input.now options (K.held sink.old) (K.held sink.new) }
+    ensures front { result ≡ Status.WriteFault →
+        BreaksInput input.now options (K.held sink.old) (K.held sink.new) }
+    ensures cause { result ≡ Status.WriteFault → Rose (K.faults sink.old) (K.faults sink.new) }
+    ensures later { K.faults sink.old ≤ K.faults sink.new }
+{
+    match read_script(alloc, input.as_slice()) {
+        Ok(system) => run(alloc, system, options, sink),
+        Err(ScriptFail::Fault(fault)) => tell_fault(alloc, fault, sink),
+        Err(ScriptFail::NoMemory) => tell_no_memory(sink),
+    }
+}
+
+/// Writes the canonical script of an input that was read whole, or why there is none.
+fn show<K: Sink>(alloc: Global, input: &Bytes, sink: &mut K) -> Status
+    requires { length input.now < 4294967295 }
+    ensures status { (result ≡ Status.Done) ⊎ (result ≡ Status.Form)
+        ⊎ (result ≡ Status.NoMemory) ⊎ (result ≡ Status.WriteFault) }
+    ensures done { result ≡ Status.Done → WritesShown input.now (K.held sink.old) (K.held sink.new) }
+    ensures form { result ≡ Status.Form →
+        WritesRefusal Command.Show input.now (K.held sink.old) (K.held sink.new) }
+    ensures no_memory { result ≡ Status.NoMemory →
+        Appends (K.held sink.old) (K.held sink.new) no_memory }
+    ensures front { result ≡ Status.WriteFault →
+        BreaksShown input.now (K.held sink.old) (K.held sink.new) }
+    ensures cause { result ≡ Status.WriteFault → Rose (K.faults sink.old) (K.faults sink.new) }
+    ensures later { K.faults sink.old ≤ K.faults sink.new }
+{
+    match read_script(alloc, input.as_slice()) {
+        Ok(system) => match print_script(alloc, &system) {
+            Ok(text) => tell(sink, text.as_slice(), Status::Done),
+            Err(NoMemory) => tell_no_memory(sink),
+        },
+        Err(ScriptFail::Fault(fault)) => tell_fault(alloc, fault, sink),
+        Err(ScriptFail::NoMemory) => tell_no_memory(sink),
+    }
+}
+
+/// What words ask for that are not `gen N`, from the source to the sink.
+fn answer_input<S: Source, K: Sink>(
+    alloc: Global,
+    words: &[Bytes],
+    source: &mut S,
+    sink: &mut K,
+) -> Status
+    requires { size_of words.now ≡ None }
+    // The transcript of the run that the seed or the places choose was written, or a report of the one that was read, one clause
+    // for each end; or the canonical script; or a report of a transcript that is cut, or not the machine's; or the line of a place
+    // that is not there.
+    ensures done { result ≡ Status.Done →
+        Completes words.now (S.left source.old) (S.left source.new)
+        (K.held sink.old) (K.held sink.new) }
+    ensures hung { result ≡ Status.Hung →
+        Ends words.now (S.left source.old) (S.left source.new)
+        (K.held sink.old) (K.held sink.new) End.Hung }
+    ensures limit { result ≡ Status.Limit →
+        Ends words.now (S.left source.old) (S.left source.new)
+        (K.held sink.old) (K.held sink.new) End.Limit }
+    ensures illegal { result ≡ Status.Illegal →
+        Rejects words.now (S.left source.old) (S.left source.new)
+        (K.held sink.old) (K.held sink.new) }
+    ensures cut { result ≡ Status.Cut →
+        WritesCut words.now (S.left source.old) (S.left source.new)
+        (K.held sink.old) (K.held sink.new) }
+
+    // A line was written, each with its cause.
+    ensures words { result ≡ Status.Words →
+        RefusesWords words.now (S.left source.old) (S.left source.new)
+        × Appends (K.held sink.old) (K.held sink.new) usage }
+    ensures form { result ≡ Status.Form →
+        WritesFault words.now (S.left source.old) (S.left source.new)
+        (K.held sink.old) (K.held sink.new) }
+    ensures read_fault { result ≡ Status.ReadFault →
+        FailsToRead words.now (S.left source.old) (S.left source.new)
+        (S.faults source.old) (S.faults source.new)
+        × Appends (K.held sink.old) (K.held sink.new) read_fault }
+    ensures too_long { result ≡ Status.TooLong →
+        Overflows words.now (S.left source.old) (S.left source.new)
+        × Appends (K.held sink.old) (K.held sink.new) too_long }
+    ensures no_memory { result ≡ Status.NoMemory →
+        RunsOut words.now × TellsNoMemory words.now (S.left source.old) (S.left source.new)
+        (K.held sink.old) (K.held sink.new) }
+
+    // The sink failed in the middle of one of these texts.
+    ensures sink_rose { result ≡ Status.WriteFault → Rose (K.faults sink.old) (K.faults sink.new) }
+    ensures write_fault { result ≡ Status.WriteFault →
+        Breaks words.now (S.left source.old) (S.left source.new)
+        (S.faults source.old) (S.faults source.new)
+        (K.held sink.old) (K.held sink.new) }
+
+    // No count falls.
+    ensures source_later { S.faults source.old ≤ S.faults source.new }
+    ensures sink_later { K.faults sink.old ≤ K.faults sink.new }
+{
+    let Ok(asked) = command_of(alloc, words) else {
+        return tell_no_memory(sink);
+    };
+    let Some(command) = asked else {
+        return tell(sink, b"vms: usage\n", Status::Words);
+    };
+    match read_all(alloc, source, MOST) {
+        Ok(input) => match command {
+            Command::Sim(options) => simulate(alloc, options, &input, sink),
+            Command::Follow(picks) => follow(alloc, &picks, &input, sink),
+            Command::Explore(scope) => explore(alloc, scope, &input, sink),
+            Command::Show => show(alloc, &input, sink),
+            Command::Check(report) => judge(alloc, report, &input, sink),
+        },
+        Err(fail) => tell_unread(sink, fail),
+    }
+}
+
+/// What the words ask for, from the source to the sink.
+fn answer_call<S: Source, K: Sink>(
+    alloc: Global,
+    words: &[Bytes],
+    source: &mut S,
+    sink: &mut K,
+) -> Status
+    // The transcript of the run that the seed or the places choose was written, the summary of the generated system's, or a report
+    // of the one that was read, one clause for each end; or the canonical script; or a report of a transcript that is cut, or not the
+    // machine's; or the line of a place that is not there.
+    ensures done { result ≡ Status.Done →
+        Completes words.now (S.left source.old) (S.left source.new)
+        (K.held sink.old) (K.held sink.new) }
+    ensures hung { result ≡ Status.Hung →
+        Ends words.now (S.left source.old) (S.left source.new)
+        (K.held sink.old) (K.held sink.new) End.Hung }
+    ensures limit { result ≡ Status.Limit →
+        Ends words.now (S.left source.old) (S.left source.new)
+        (K.held sink.old) (K.held sink.new) End.Limit }
+    ensures illegal { result ≡ Status.Illegal →
+        Rejects words.now (S.left source.old) (S.left source.new)
+        (K.held sink.old) (K.held sink.new) }
+    ensures cut { result ≡ Status.Cut →
+        WritesCut words.now (S.left source.old) (S.left source.new)
+        (K.held sink.old) (K.held sink.new) }
+
+    // A line was written, each with its cause.
+    ensures words { result ≡ Status.Words →
+        RefusesWords words.now (S.left source.old) (S.left source.new)
+        × Appends (K.held sink.old) (K.held sink.new) usage }
+    ensures form { result ≡ Status.Form →
+        WritesFault words.now (S.left source.old) (S.left source.new)
+        (K.held sink.old) (K.held sink.new) }
+    ensures read_fault { result ≡ Status.ReadFault →
+        FailsToRead words.now (S.left source.old) (S.left source.new)
+        (S.faults source.old) (S.faults source.new)
+        × Appends (K.held sink.old) (K.held sink.new) read_fault }
+    ensures too_long { result ≡ Status.TooLong →
+        Overflows words.now (S.left source.old) (S.left source.new)
+        × Appends (K.held sink.old) (K.held sink.new) too_long }
+    ensures no_memory { result ≡ Status.NoMemory →
+        RunsOut words.now × TellsNoMemory words.now (S.left source.old) (S.left source.new)
+        (K.held sink.old) (K.held sink.new) }
+
+    // The sink failed in the middle of one of these texts.
+    ensures sink_rose { result ≡ Status.WriteFault → Rose (K.faults sink.old) (K.faults sink.new) }
+    ensures write_fault { result ≡ Status.WriteFault →
+        Breaks words.now (S.left source.old) (S.left source.new)
+        (S.faults source.old) (S.faults source.new)
+        (K.held sink.old) (K.held sink.new) }
+
+    // No count falls.
+    ensures source_later { S.faults source.old ≤ S.faults source.new }
+    ensures sink_later { K.faults sink.old ≤ K.faults sink.new }
+{
+    match size_of(words) {
+        Some(n) => summarize(alloc, n, sink),
+        None => answer_input(alloc, words, source, sink),
+    }
+}
+
+/// What the words ask for, from the source to the sink, of all words but those of `run`. It waits for nobody, and
+/// returns if the source and the sink do. The words are those after the program's name.
+pub fn quiet_call<S: Source, K: Sink>(
+    alloc: Global,
+    words: &[Bytes],
+    source: &mut S,
+    sink: &mut K,
+) -> Status
+    // The transcript of the run that the seed or the places choose was written, the summary of the generated system's, or a report
+    // of the one that was read, one clause for each end; or the canonical script; or a report of a transcript that is cut, or not the
+    // machine's; or the line of a place that is not there.
+    ensures done { result ≡ Status.Done →
+        Completes words.now (S.left source.old) (S.left source.new)
+        (K.held sink.old) (K.held sink.new) }
+    ensures hung { result ≡ Status.Hung →
+        Ends words.now (S.left source.old) (S.left source.new)
+        (K.held sink.old) (K.held sink.new) End.Hung }
+    ensures limit { result ≡ Status.Limit →
+        Ends words.now (S.left source.old) (S.left source.new)
+        (K.held sink.old) (K.held sink.new) End.Limit }
+    ensures illegal { result ≡ Status.Illegal →
+        Rejects words.now (S.left source.old) (S.left source.new)
+        (K.held sink.old) (K.held sink.new) }
+    ensures cut { result ≡ Status.Cut →
+        WritesCut words.now (S.left source.old) (S.left source.new)
+        (K.held sink.old) (K.held sink.new) }
+
+    // The records that `sim` wrote, those that `gen` counted, and those that were read and found to be the machine's, of a cut
+    // transcript too, keep the six laws of transcripts.
+    ensures lawful { (result ≡ Status.Done) ⊎ (result ≡ Status.Hung) ⊎ (result ≡ Status.Limit)
+        ⊎ (result ≡ Status.Illegal) →
+        IsLawful words.now (S.left source.old) (S.left source.new)
+        (K.held sink.old) (K.held sink.new) result }
+
+    // A line was written, each with its cause.
+    ensures words { result ≡ Status.Words →
+        RefusesWords words.now (S.left source.old) (S.left source.new)
+        × Appends (K.held sink.old) (K.held sink.new) usage }
+    ensures form { result ≡ Status.Form →
+        WritesFault words.now (S.left source.old) (S.left source.new)
+        (K.held sink.old) (K.held sink.new) }
+    ensures read_fault { result ≡ Status.ReadFault →
+        FailsToRead words.now (S.left source.old) (S.left source.new)
+        (S.faults source.old) (S.faults source.new)
+        × Appends (K.held sink.old) (K.held sink.new) read_fault }
+    ensures too_long { result ≡ Status.TooLong →
+        Overflows words.now (S.left source.old) (S.left source.new)
+        × Appends (K.held sink.old) (K.held sink.new) too_long }
+    ensures no_memory { result ≡ Status.NoMemory →
+        RunsOut words.now × TellsNoMemory words.now (S.left source.old) (S.left source.new)
+        (K.held sink.old) (K.held sink.new) }
+
+    // The sink failed in the middle of one of these texts.
+    ensures sink_rose { result ≡ Status.WriteFault → Rose (K.faults sink.old) (K.faults sink.new) }
+    ensures write_fault { result ≡ Status.WriteFault →
+        Breaks words.now (S.left source.old) (S.left source.new)
+        (S.faults source.old) (S.faults source.new)
+        (K.held sink.old) (K.held sink.new) }
+
+    // No count falls.
+    ensures source_later { S.faults source.old ≤ S.faults source.new }
+    ensures sink_later { K.faults sink.old ≤ K.faults sink.new }
+{
+    answer_call(alloc, words, source, sink)
+}

@@ -1,0 +1,55 @@
+//! The ways in which a call ends.
+
+ghost use Rattle.std.specs.Prelude.{◌≡◌};
+
+/// What a call answers.
+#[derive(Clone, Copy, Debug, PartialEq, Eq)]
+pub enum Status {
+    /// The run ended with every process deleted, and its transcript was written or found to be the machine's; or the canonical
+    /// script was written.
+    Done,
+    /// The run ended with nothing enabled and a process that is not deleted, and its transcript was written or found to be the
+    /// machine's.
+    Hung,
+    /// The words are no command.
+    Words,
+    /// The input is no script, or for `check` no transcript, or the executive does not run its system yet.
+    Form,
+    /// The run reached its limit with an event enabled, and its transcript was written or found to be the machine's.
+    Limit,
+    /// The transcript is cut, or is not the machine's; or a record has no event at the place that the words name for it.
+    Illegal,
+    /// The source failed.
+    ReadFault,
+    /// The sink failed, after the start of a text.
+    WriteFault,
+    /// Memory ran out.
+    NoMemory,
+    /// The input is longer than 67,108,864 bytes.
+    TooLong,
+    /// More states would have been kept than the words allow.
+    Cut,
+}
+
+impl Status {
+    ghost use Rattle.vx_commands.specs.Code.{code_of};
+
+    /// The exit status of the program.
+    pub fn code(self) -> u8
+        ensures { result ≡ code_of self }
+    {
+        match self {
+            Status::Done => 0,
+            Status::Hung => 1,
+            Status::Words => 2,
+            Status::Form => 3,
+            Status::Limit => 4,
+            Status::Illegal => 5,
+            Status::ReadFault => 6,
+            Status::WriteFault => 7,
+            Status::NoMemory => 8,
+            Status::TooLong => 9,
+            Status::Cut => 10,
+        }
+    }
+}

@@ -1,0 +1,108 @@
+//! Two units in service at once: what threads may do and no contract says.
+
+use std::alloc::Global;
+use std::sync::atomic::{AtomicU64, Ordering};
+use std::test::*;
+use std::thread;
+use vx_base::{Bytes, NoMemory, UnitNo};
+use vx_carrier::Gate;
+use vx_commands::{Status, vms_call};
+use vx_host::{MemSink, MemSource};
+
+/// Two processes, each of which reads a line of its own unit.
+const SCRIPT: &[u8] = b"UNIT TA LINE
+UNIT TB LINE
+IMAGE FIRST
+$ASSIGN A,TA
+$QIOW 1,A,READ,1,,,0,8
+$EXIT
+END
+IMAGE SECOND
+$ASSIGN A,TB
+$QIOW 1,A,READ,1,,,0,8
+$EXIT
+END
+PROCESS P FIRST
+PROCESS Q SECOND
+";
+
+/// How often the units have been seen in service, and how often one waited for the other in vain.
+#[derive(Drop)]
+struct Notes {
+    first: AtomicU64,
+    second: AtomicU64,
+    missed: AtomicU64,
+}
+
+/// Each unit's first service waits until the other unit is in service too.
+#[derive(Drop)]
+struct Meeting<'a> {
+    notes: &'a Notes,
+}
+
+impl Gate for Meeting<'_> {
+    fn serving(&self, unit: UnitNo, _number: u32) {
+        let (mine, other) = if unit.0 == 0 {
+            (&self.notes.first, &self.notes.second)
+        } else {
+            (&self.notes.second, &self.notes.first)
+        };
+        if mine.fetch_add(1, Ordering::SeqCst) > 0 {
+            return;
+        }
+        for _ in 0..1_000_000u32 {
+            if other.load(Ordering::SeqCst) > 0 {
+                return;
+            }
+            thread::yield_now();
+        }
+        self.notes.missed.fetch_add(1, Ordering::SeqCst);
+    }
+}
+
+fn bytes_of(alloc: Global, text: &[u8]) -> Result<Bytes, NoMemory> {
+    let mut bytes = Bytes::new(alloc);
+    bytes.push_all(text)?;
+    Ok(bytes)
+}
+
+fn words_of(alloc: Global, texts: &[&[u8]]) -> Result<Vec<Bytes>, NoMemory> {
+    let mut words = Vec::new(alloc);
+    for text in texts {
+        words.push(bytes_of(alloc, text)?)?;
+    }
+    Ok(words)
+}
+
+/// Whether the text has this line, whole.
+fn has_line(text: &[u8], line: &[u8]) -> bool {
+    text.split(|b| *b == b'\n').any(|it| it == line)
+}
+
+#[test]
+fn two_units_are_in_service_at_once(rt: HostRuntime) -> Result<(), Fail> {
+    let alloc = rt.alloc();
+    let notes = Notes {
+        first: AtomicU64::new(0),
+        second: AtomicU64::new(0),
+        missed: AtomicU64::new(0),
+    };
+    let words = words_of(alloc, &[b"run", b"--cpus", b"2"])
+        .ok()
+        .ok_or("memory")?;
+    let script = bytes_of(alloc, SCRIPT).ok().ok_or("memory")?;
+    let mut source = MemSource::new(script, 4096, Vec::new(alloc));
+    let mut sink = MemSink::new(alloc, 65_536, 65_536, Vec::new(alloc))
+        .ok()
+        .ok_or("memory")?;
+    let gate = Meeting { notes: &notes };
+    let status = vms_call(&rt, alloc, words.as_slice(), &mut source, &mut sink, gate);
+    assert_eq!(rt; status, Status::Done);
+    assert_eq!(rt; notes.missed.load(Ordering::SeqCst), 0);
+    assert_eq!(rt; notes.first.load(Ordering::SeqCst), 1);
+    assert_eq!(rt; notes.second.load(Ordering::SeqCst), 1);
+    // `sim` has `6 DON TA #1` there: it takes the first event, and no unit is out when it does.
+    assert!(rt; has_line(sink.held(), b"5 BEG TA #1"));
+    assert!(rt; has_line(sink.held(), b"6 BEG TB #2"));
+    Ok(())
+}
