@@ -13,6 +13,9 @@ use crate::procs::Core;
 use crate::table::Procs;
 use std::alloc::Global;
 use vx_base::{Duplicate, Effects, NoMemory, Routine};
+use vx_mailbox::{Attentions, Boxes};
+use vx_reqs::Reqs;
+use vx_timers::Timers;
 
 impl<R: Routine> Proc<R> {
     /// The same process again, each of its routines made from its tag, with as much room or more.
@@ -21,24 +24,32 @@ impl<R: Routine> Proc<R> {
         ensures room { IfOk result (λ copy. IsWithinRoom (room_of self.now) (room_of copy)) }
         ensures account { IfOk result (λ copy. copy.account ≡ self.now.account) }
     {
+        let cluster_0 = self.cluster_0.duplicate()?;
+        let cluster_1 = self.cluster_1.duplicate()?;
+        let account = self.account.duplicate()?;
+        let frames = self.frames.duplicate(alloc)?;
+        let asts = self.asts.duplicate(alloc)?;
+        let chans = self.chans.duplicate()?;
+        let exits = self.exits.duplicate(alloc)?;
+        let store = self.store.duplicate(alloc)?;
         Ok(Proc {
             decl: self.decl,
             group: self.group,
             member: self.member,
             privs: self.privs,
-            store: self.store.duplicate(alloc)?,
-            frames: self.frames.duplicate(alloc)?,
-            asts: self.asts.duplicate(alloc)?,
-            chans: self.chans.duplicate()?,
-            exits: self.exits.duplicate(alloc)?,
-            cluster_0: self.cluster_0.duplicate()?,
-            cluster_1: self.cluster_1.duplicate()?,
+            store,
+            frames,
+            asts,
+            chans,
+            exits,
+            cluster_0,
+            cluster_1,
             wake_pending: self.wake_pending,
             suspended: self.suspended,
             delete_pending: self.delete_pending,
             exit_code: self.exit_code,
             phase: self.phase,
-            account: self.account.duplicate()?,
+            account,
         })
     }
 }
@@ -70,6 +81,32 @@ fn duplicate_units(alloc: Global, units: &[KeptUnit]) -> Result<Vec<KeptUnit>, N
     Ok(copy)
 }
 
+// The same timers and requests again.
+fn duplicate_queues<R: Routine>(
+    alloc: Global,
+    timers: &Timers<R>,
+    requests: &Reqs<R>,
+) -> Result<(Timers<R>, Reqs<R>), NoMemory>
+    ensures timers { IfOk result (λ copy. copy.0 ≡ timers.now) }
+    ensures requests { IfOk result (λ copy. copy.1 ≡ requests.now) }
+{
+    let timers = timers.duplicate(alloc)?;
+    Ok((timers, requests.duplicate(alloc)?))
+}
+
+// The same mailboxes and attention entries again.
+fn duplicate_mail<R: Routine>(
+    alloc: Global,
+    boxes: &Boxes,
+    attention: &Attentions<R>,
+) -> Result<(Boxes, Attentions<R>), NoMemory>
+    ensures boxes { IfOk result (λ copy. copy.0.boxes ≡ boxes.now.boxes) }
+    ensures attention { IfOk result (λ copy. copy.1.items ≡ attention.now.items) }
+{
+    let boxes = boxes.duplicate(alloc)?;
+    Ok((boxes, attention.duplicate(alloc)?))
+}
+
 impl<R: Routine> Core<R> {
     /// The same state again: each routine is made from its tag, and there is as much room or more for what is promised. Effects that
     /// were told and not taken are not copied, and no spare process, and nothing is remembered of the processes.
@@ -80,18 +117,26 @@ impl<R: Routine> Core<R> {
         ensures log { IfOk result (λ copy. copy.log.items ≡ []) }
     {
         let alloc = self.alloc;
+        let system = self.system.share()?;
+        let clusters = self.clusters.duplicate(alloc)?;
+        let queues = duplicate_queues(alloc, &self.timers, &self.requests)?;
+        let mail = duplicate_mail(alloc, &self.boxes, &self.attention)?;
+        let units = duplicate_units(alloc, self.units.as_slice())?;
+        let procs = duplicate_procs(alloc, self.procs.as_slice())?;
+        let (timers, requests) = queues;
+        let (boxes, attention) = mail;
         Ok(Core {
-            system: self.system.share()?,
+            system,
             time: self.time,
             next: self.next,
-            procs: duplicate_procs(alloc, self.procs.as_slice())?,
-            clusters: self.clusters.duplicate(alloc)?,
+            procs,
+            clusters,
             spare: None,
-            timers: self.timers.duplicate(alloc)?,
-            requests: self.requests.duplicate(alloc)?,
-            attention: self.attention.duplicate(alloc)?,
-            boxes: self.boxes.duplicate(alloc)?,
-            units: duplicate_units(alloc, self.units.as_slice())?,
+            timers,
+            requests,
+            attention,
+            boxes,
+            units,
             log: Effects::new(alloc),
             short: self.short,
             alloc,

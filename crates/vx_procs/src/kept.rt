@@ -147,15 +147,14 @@ impl KeptUnit {
         ensures ok { OnOk result (IsMadeFor self.new.ending req.now) }
         ensures err { OnErr result (self.new ≡ self.old) }
     {
-        let log = end_log(alloc)?;
-        let asked = req.copy()?;
+        let Contents::Here(unit) = &mut self.contents else {
+            return Err(NoMemory);
+        };
         if let Asked::Served(..) = &self.asked {
             return Err(NoMemory);
         }
-        match &mut self.contents {
-            Contents::Here(unit) => unit.ready(req)?,
-            Contents::Away(_) => return Err(NoMemory),
-        }
+        let (asked, log) = ready_for(alloc, req)?;
+        unit.ready(req)?;
         self.asked = Asked::Ready(asked, log);
         Ok(())
     }
@@ -238,6 +237,15 @@ fn end_log(alloc: Global) -> Result<Effects, NoMemory>
     let mut log = Effects::new(alloc);
     log.reserve(END_EFFECTS)?;
     Ok(log)
+}
+
+// A copy of a request, and a log for the end of its service.
+fn ready_for(alloc: Global, req: &Req) -> Result<(Req, Effects), NoMemory>
+    ensures asked { IfOk result (λ ready. ready.0 ≡ req.now) }
+    ensures log { IfOk result (λ ready. IsForEnd ready.1) }
+{
+    let log = end_log(alloc)?;
+    Ok((req.copy()?, log))
 }
 
 // The same reply again.

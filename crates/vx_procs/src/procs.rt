@@ -1,6 +1,6 @@
 //! What the executive keeps.
 
-ghost use Rattle.std.specs.Prelude.{◌≡◌, ◌+◌, ◌<◌, ◌≤◌, ◌^◌, [], ◌∷◌, IfSome, OnOk, length};
+ghost use Rattle.std.specs.Prelude.{◌≡◌, ◌+◌, ◌<◌, ◌≤◌, ◌^◌, [], ◌∷◌, IfOk, IfSome, OnOk, length};
 ghost use Rattle.vx_base.specs.Log.{HasRoom};
 ghost use Rattle.vx_procs.specs.Kernel.{Fits, told};
 ghost use Rattle.vx_record.specs.State.{IsProcess};
@@ -57,6 +57,16 @@ impl<R: Routine> Model for Core<R> {
     ghost invariant = { IsHeld };
 }
 
+// An empty log with room for so many effects.
+fn fresh_log(alloc: Global, effects: u32) -> Result<Effects, NoMemory>
+    ensures empty { IfOk result (λ log. log.items ≡ []) }
+    ensures room { IfOk result (λ log. HasRoom log effects) }
+{
+    let mut log = Effects::new(alloc);
+    log.reserve(effects)?;
+    Ok(log)
+}
+
 impl<R: Routine> Core<R> {
     /// Makes good what spare room the last event used, and makes room for a timer, a process, a cluster, an association, a request and
     /// an attention entry more, for a message more in each mailbox, for an exit handler more of the process whose event it is, and for
@@ -82,8 +92,6 @@ impl<R: Routine> Core<R> {
         if self.time >= LAST_TIME {
             return Err(NoMemory);
         }
-        let mut log = Effects::new(self.alloc);
-        log.reserve(effects)?;
         self.timers.reserve(1)?;
         self.clusters.reserve()?;
         self.requests.reserve()?;
@@ -92,7 +100,7 @@ impl<R: Routine> Core<R> {
         self.make_spare()?;
         self.mend()?;
         self.make_caller_room(caller)?;
-        self.log = log;
+        self.log = fresh_log(self.alloc, effects)?;
         Ok(())
     }
 

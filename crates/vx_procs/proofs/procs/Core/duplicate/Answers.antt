@@ -10,33 +10,33 @@ use Rattle.vx_procs.proofs.procs.Core.duplicate.Goals as goal
 
 pub invariant_of-result : goal.invariant_of-result
 invariant_of-result g c =
-    held_again (state c.self.inside) _ c.self.inside.short _ _ c.self.inside.units.items c.in_ok-duplicate_units.field-0.items
-    (same_state _ _ c.in_ok-share.ensures refl refl
-    (rw c.as_slice.ensures at c.in_ok-duplicate_procs.ensures.procs)
-    (ap (λ (x : Shared). x.common) c.in_ok-duplicate.ensures)
-    (ap (λ (x : Roomy Request). x.items) c.in_ok-duplicate-3.ensures)
-    (ap (λ (x : Roomy Timer). x.items) c.in_ok-duplicate-2.ensures)
-    c.in_ok-duplicate-4.ensures.items
-    c.in_ok-duplicate-5.ensures
-    (rw c.as_slice-2.ensures.value at c.in_ok-duplicate_units.ensures.units))
-    (rw c.as_slice.ensures at c.in_ok-duplicate_procs.ensures.books)
-    (rw c.as_slice-2.ensures.value at c.in_ok-duplicate_units.ensures.asked)
+    held_again (state c.self.inside) _ c.self.inside.short _ _ c.self.inside.units.items c.in_ok-units.units.items
+    (same_state _ _ c.in_ok-system.ensures refl refl
+    (rw c.as_slice-2.ensures at c.in_ok-procs.ensures.procs)
+    (ap (λ (x : Shared). x.common) c.in_ok-clusters.ensures)
+    (ap (λ (x : Roomy Request). x.items) c.in_ok-queues.ensures.requests)
+    (ap (λ (x : Roomy Timer). x.items) c.in_ok-queues.ensures.timers)
+    c.in_ok-mail.ensures.attention
+    c.in_ok-mail.ensures.boxes
+    (rw c.as_slice.ensures.value at c.in_ok-units.ensures.units))
+    (rw c.as_slice-2.ensures at c.in_ok-procs.ensures.books)
+    (rw c.as_slice.ensures.value at c.in_ok-units.ensures.asked)
     c.self.invariant
 
 pub returns-clause-state : goal.returns-clause-state
 returns-clause-state g c =
-    same_state (state c.self.inside) _ c.in_ok-share.ensures refl refl
-    (rw c.as_slice.ensures at c.in_ok-duplicate_procs.ensures.procs)
-    (ap (λ (x : Shared). x.common) c.in_ok-duplicate.ensures)
-    (ap (λ (x : Roomy Request). x.items) c.in_ok-duplicate-3.ensures)
-    (ap (λ (x : Roomy Timer). x.items) c.in_ok-duplicate-2.ensures)
-    c.in_ok-duplicate-4.ensures.items
-    c.in_ok-duplicate-5.ensures
-    (rw c.as_slice-2.ensures.value at c.in_ok-duplicate_units.ensures.units)
+    same_state (state c.self.inside) _ c.in_ok-system.ensures refl refl
+    (rw c.as_slice-2.ensures at c.in_ok-procs.ensures.procs)
+    (ap (λ (x : Shared). x.common) c.in_ok-clusters.ensures)
+    (ap (λ (x : Roomy Request). x.items) c.in_ok-queues.ensures.requests)
+    (ap (λ (x : Roomy Timer). x.items) c.in_ok-queues.ensures.timers)
+    c.in_ok-mail.ensures.attention
+    c.in_ok-mail.ensures.boxes
+    (rw c.as_slice.ensures.value at c.in_ok-units.ensures.units)
     ∙ ap (λ (k : Kernel). k.state) c.self.view_is
 
 pub duplicate_units-requires : goal.duplicate_units-requires
-duplicate_units-requires g c = rw c.as_slice-2.ensures.value (all_units c.self.inside c.args.self.now c.self.view_is c.requires)
+duplicate_units-requires g c = rw c.as_slice.ensures.value (all_units c.self.inside c.args.self.now c.self.view_is c.requires)
 
 pub returns-clause-home : goal.returns-clause-home
-returns-clause-home g c = in_again c.self.inside.units.items c.in_ok-duplicate_units.field-0.items (all_units c.self.inside c.args.self.now c.self.view_is c.requires) (rw c.as_slice-2.ensures.value at c.in_ok-duplicate_units.ensures.stands)
+returns-clause-home g c = in_again c.self.inside.units.items c.in_ok-units.units.items (all_units c.self.inside c.args.self.now c.self.view_is c.requires) (rw c.as_slice.ensures.value at c.in_ok-units.ensures.stands)
