@@ -161,7 +161,9 @@ fn write_run<K: Sink>(
 {
     let front = front_text(alloc, &system)?;
     let mut exec = Exec::new(alloc, system, options.limit)?;
-    write_journal(alloc, &mut exec, front, options, sink)
+    let end = write_journal(alloc, &mut exec, front, options, sink);
+    drop(exec);
+    end
 }
 
 /// Runs a system, and writes the transcript of the run that the seed chooses, up to the line on memory if memory runs out.

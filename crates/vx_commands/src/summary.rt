@@ -5,6 +5,7 @@ ghost use Rattle.std.specs.Io.KnownBytes.{Appends};
 ghost use Rattle.vx_gen.specs.Generated.{generated};
 ghost use Rattle.vx_host.specs.Causes.{Rose};
 ghost use Rattle.vx_image.specs.WellFormed.{IsWellFormed};
+ghost use Rattle.vx_record.specs.Runs.{first};
 ghost use Rattle.vx_commands.specs.Summed.{BreaksSummed, Tallies, WritesSummed};
 ghost use Rattle.vx_commands.specs.Top.{IsSummed, count_line, full_run, no_memory, summary};
 
@@ -70,6 +71,22 @@ fn print_summary(alloc: Global, tally: &Tally, end: End, out: &mut Bytes) -> Res
     print_end(alloc, end, tally.records, out)
 }
 
+/// Takes the run that the seed chooses: its summary, and how it ended.
+fn sum_run(
+    alloc: Global,
+    exec: &mut Exec<Scripted>,
+    options: Options,
+) -> Result<(Bytes, End), NoMemory>
+    requires opened { exec.old ≡ record { state = first exec.old.state.system; limit = options.limit; taken = 0 } }
+    requires within { options.limit ≤ 100000 }
+    ensures { IfOk result (λ run. IsSummed exec.old.state.system options run.1 run.0) }
+{
+    let (tally, end) = tally_run(exec, options.seed)?;
+    let mut text = Bytes::new(alloc);
+    print_summary(alloc, &tally, end, &mut text)?;
+    Ok((text, end))
+}
+
 /// The summary of the run that the seed chooses, and how the run ended.
 fn sum_up(alloc: Global, system: System, options: Options) -> Result<(Bytes, End), NoMemory>
     requires formed { IsWellFormed system }
@@ -78,10 +95,9 @@ fn sum_up(alloc: Global, system: System, options: Options) -> Result<(Bytes, End
     ensures { IfOk result (λ run. IsSummed system options run.1 run.0) }
 {
     let mut exec = Exec::new(alloc, system, options.limit)?;
-    let (tally, end) = tally_run(&mut exec, options.seed)?;
-    let mut text = Bytes::new(alloc);
-    print_summary(alloc, &tally, end, &mut text)?;
-    Ok((text, end))
+    let run = sum_run(alloc, &mut exec, options);
+    drop(exec);
+    run
 }
 
 /// The summary of a generated system's run.
