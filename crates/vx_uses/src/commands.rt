@@ -1,9 +1,10 @@
 //! Two units in service at once: what threads may do and no contract says.
 
 use std::alloc::Global;
+use std::sync::Wait;
 use std::sync::atomic::{AtomicU64, Ordering};
 use std::test::*;
-use std::thread;
+use std::thread::{self, Threads};
 use vx_base::{Bytes, NoMemory, UnitNo};
 use vx_carrier::Gate;
 use vx_commands::{Status, vms_call};
@@ -79,30 +80,47 @@ fn has_line(text: &[u8], line: &[u8]) -> bool {
     text.split(|b| *b == b'\n').any(|it| it == line)
 }
 
+/// How a call of `run` ended, and whether its transcript has both units in service at once.
+#[derive(Clone, Copy, Debug)]
+struct Told {
+    status: Status,
+    is_first_begun: bool,
+    is_second_begun: bool,
+}
+
+/// Runs the script by two threads, with this gate.
+fn run_by_two<Q: Threads + Wait + Sync>(
+    rt: &Q,
+    alloc: Global,
+    gate: Meeting<'_>,
+) -> Result<Told, NoMemory> {
+    let words = words_of(alloc, &[b"run", b"--cpus", b"2"])?;
+    let mut source = MemSource::new(bytes_of(alloc, SCRIPT)?, 4096, Vec::new(alloc));
+    let mut sink = MemSink::new(alloc, 65_536, 65_536, Vec::new(alloc))?;
+    let status = vms_call(rt, alloc, words.as_slice(), &mut source, &mut sink, gate);
+    // `sim` has `6 DON TA #1` there: it takes the first event, and no unit is out when it does.
+    Ok(Told {
+        status,
+        is_first_begun: has_line(sink.held(), b"5 BEG TA #1"),
+        is_second_begun: has_line(sink.held(), b"6 BEG TB #2"),
+    })
+}
+
 #[test]
 fn two_units_are_in_service_at_once(rt: HostRuntime) -> Result<(), Fail> {
-    let alloc = rt.alloc();
     let notes = Notes {
         first: AtomicU64::new(0),
         second: AtomicU64::new(0),
         missed: AtomicU64::new(0),
     };
-    let words = words_of(alloc, &[b"run", b"--cpus", b"2"])
+    let told = run_by_two(&rt, rt.alloc(), Meeting { notes: &notes })
         .ok()
         .ok_or("memory")?;
-    let script = bytes_of(alloc, SCRIPT).ok().ok_or("memory")?;
-    let mut source = MemSource::new(script, 4096, Vec::new(alloc));
-    let mut sink = MemSink::new(alloc, 65_536, 65_536, Vec::new(alloc))
-        .ok()
-        .ok_or("memory")?;
-    let gate = Meeting { notes: &notes };
-    let status = vms_call(&rt, alloc, words.as_slice(), &mut source, &mut sink, gate);
-    assert_eq!(rt; status, Status::Done);
+    assert_eq!(rt; told.status, Status::Done);
     assert_eq!(rt; notes.missed.load(Ordering::SeqCst), 0);
     assert_eq!(rt; notes.first.load(Ordering::SeqCst), 1);
     assert_eq!(rt; notes.second.load(Ordering::SeqCst), 1);
-    // `sim` has `6 DON TA #1` there: it takes the first event, and no unit is out when it does.
-    assert!(rt; has_line(sink.held(), b"5 BEG TA #1"));
-    assert!(rt; has_line(sink.held(), b"6 BEG TB #2"));
+    assert!(rt; told.is_first_begun);
+    assert!(rt; told.is_second_begun);
     Ok(())
 }
