@@ -6,6 +6,7 @@
 #![tactic(auto)]
 
 mod buffers;
+mod call_ref;
 mod decl;
 mod example;
 mod image;
@@ -22,6 +23,7 @@ mod terms;
 mod texts;
 mod unit;
 
+pub use call_ref::CallRef;
 pub use decl::{ProcDecl, ProcDecls};
 pub use example::{past_example, round_example, wrapping_example};
 pub use image::{Image, Images, Label, Labels};

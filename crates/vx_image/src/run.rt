@@ -2,55 +2,26 @@
 
 ghost use Rattle.std.specs.Prelude.{◌≡◌, ◌≤◌, IsTrue, length, Some};
 ghost use Rattle.std.specs.List.{list_all};
-ghost use Rattle.vx_image.specs.Local.{computed_arg, computed, stop_at, run_local, advanced, is_storable};
+ghost use Rattle.vx_image.specs.Local.{stop_at, run_local, advanced, is_storable};
 ghost use Rattle.vx_image.specs.Stmts.{meant};
 ghost use Rattle.vx_image.specs.WellFormed.{IsImage};
 
 use crate::image::Image;
-use crate::local::{local, value_of};
+use crate::local::local;
 use crate::stmt::StmtRef;
 use crate::stop::Stop;
 use crate::store::Store;
-use vx_base::{Arg, Args, Call, Operand, Pid};
+use vx_base::Pid;
 
 /// The most local statements of one run.
 pub(crate) const MOST_LOCAL: u32 = 1000;
-
-fn computed_arg(store: &Store, prm: u32, p: Pid, arg: Arg) -> Arg
-    ensures { result ≡ computed_arg (record { prm = prm; p = p }) store.now arg }
-{
-    match arg {
-        Arg::Value(x) => Arg::Value(Operand::Num(value_of(store, prm, p, x))),
-        _ => arg,
-    }
-}
-
-fn computed(store: &Store, prm: u32, p: Pid, call: &Call) -> Call
-    ensures { result ≡ computed (record { prm = prm; p = p }) store.now call.now }
-{
-    let args = &call.args;
-    Call {
-        service: call.service,
-        args: Args {
-            a0: computed_arg(store, prm, p, args.a0),
-            a1: computed_arg(store, prm, p, args.a1),
-            a2: computed_arg(store, prm, p, args.a2),
-            a3: computed_arg(store, prm, p, args.a3),
-            a4: computed_arg(store, prm, p, args.a4),
-            a5: computed_arg(store, prm, p, args.a5),
-            a6: computed_arg(store, prm, p, args.a6),
-            a7: computed_arg(store, prm, p, args.a7),
-            a8: computed_arg(store, prm, p, args.a8),
-        },
-    }
-}
 
 // What a statement that is not local stops at.
 fn stop_at(store: &Store, prm: u32, p: Pid, stmt: &StmtRef<'_>) -> Stop
     ensures { result ≡ stop_at (record { prm = prm; p = p }) store.now (Some (meant stmt.now)) }
 {
     match stmt {
-        StmtRef::Service(call) => Stop::Call(computed(store, prm, p, call)),
+        StmtRef::Service(call) => Stop::Call(call.computed(store, prm, p)),
         _ => Stop::Return,
     }
 }

@@ -3,6 +3,7 @@
 ghost use Rattle.std.specs.Prelude.{◌≡◌, ◌↔◌, IsTrue};
 ghost use Rattle.vx_image.specs.Stmts.{meant};
 
+use crate::call_ref::CallRef;
 use vx_base::{Bytes, Call, Operand, Target};
 
 /// How two values are compared, as numbers without a sign.
@@ -55,8 +56,8 @@ pub enum Stmt {
     Service(Call),
 }
 
-/// A statement that was read from a list: a `Stmt` whose bytes stand in the list.
-#[derive(Clone, Copy, Debug)]
+/// A statement that was read from a list: a `Stmt` whose bytes, or whose call's arguments, stand in the list.
+#[derive(Debug, Drop)]
 pub enum StmtRef<'a> {
     Let(Target, Operand),
     Add(Target, Operand, Operand),
@@ -67,7 +68,7 @@ pub enum StmtRef<'a> {
     Byte(Target, u8, Operand),
     Iosb(Target, u8, Field),
     Return,
-    Service(Call),
+    Service(CallRef<'a>),
 }
 
 // Whether two operands are the same as two others.
@@ -93,7 +94,7 @@ pub(crate) fn same_stmt(a: &StmtRef<'_>, b: &StmtRef<'_>) -> bool
         (StmtRef::Byte(t, b, x), StmtRef::Byte(t2, b2, x2)) => t == t2 && b == b2 && x == x2,
         (StmtRef::Iosb(t, i, f), StmtRef::Iosb(t2, i2, f2)) => t == t2 && i == i2 && f == f2,
         (StmtRef::Return, StmtRef::Return) => true,
-        (StmtRef::Service(call), StmtRef::Service(call2)) => call.same(call2),
+        (StmtRef::Service(call), StmtRef::Service(call2)) => call.call().same(&call2.call()),
         _ => false,
     }
 }

@@ -8,6 +8,7 @@ ghost use Rattle.vx_image.specs.Stmts.{meant};
 ghost use Rattle.vx_image.specs.declared.stmt.Stmt.TheVariants as stmt;
 ghost use Rattle.vx_image.specs.Terms.{OfArg, OfText, arg_in, text_in};
 
+use crate::call_ref::CallRef;
 use crate::stmt::{Field, Rel, Stmt, StmtRef, same_stmt};
 use crate::terms::Terms;
 use crate::texts::short;
@@ -87,7 +88,7 @@ fn number_of(arg: Arg) -> u32
 
 // An argument of a statement, `Unused` past its last.
 #[tactic(auto, using(crate::proofs::KeptStmts::own_arg, crate::proofs::KeptStmts::no_arg_behind))]
-fn arg_at(terms: &Terms, head: &Head, k: u8) -> Arg
+pub(crate) fn arg_at(terms: &Terms, head: &Head, k: u8) -> Arg
     ensures { result ≡ arg_in (own terms.now head.now) k }
 {
     if k < head.count {
@@ -109,7 +110,7 @@ fn text_at<'a>(terms: &'a Terms, head: &Head) -> &'a [u8]
     }
 }
 
-fn args_at(terms: &Terms, head: &Head) -> Args
+pub(crate) fn args_at(terms: &Terms, head: &Head) -> Args
     ensures { result ≡ args_in (own terms.now head.now) }
 {
     Args {
@@ -170,10 +171,7 @@ fn stmt_at<'a>(terms: &'a Terms, head: &Head) -> StmtRef<'a>
         Kind::Byte(b) => StmtRef::Byte(target_at(terms, head, 0), b, operand_at(terms, head, 1)),
         Kind::Iosb(i, field) => StmtRef::Iosb(target_at(terms, head, 0), i, field),
         Kind::Return => StmtRef::Return,
-        Kind::Service(service) => StmtRef::Service(Call {
-            service,
-            args: args_at(terms, head),
-        }),
+        Kind::Service(service) => StmtRef::Service(CallRef::new(terms, *head, service)),
     }
 }
 

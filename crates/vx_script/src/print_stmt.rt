@@ -160,7 +160,7 @@ fn print_words(
         StmtRef::Byte(t, b, x) => print_byte(alloc, *t, *b, *x, out),
         StmtRef::Iosb(t, i, f) => print_iosb(alloc, *t, *i, *f, out),
         StmtRef::Return => print_word(b"RETURN", out),
-        StmtRef::Service(call) => print_word(call_text(alloc, call)?.as_slice(), out),
+        StmtRef::Service(call) => print_word(call_text(alloc, &call.call())?.as_slice(), out),
     }
 }
 
