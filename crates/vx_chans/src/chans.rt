@@ -6,10 +6,13 @@ ghost use Rattle.std.specs.List.{list_any};
 ghost use Rattle.vx_chans.specs.Chans.{number_or_none, with_channel, without_channel, found, is_box, is_to};
 
 use crate::row::Row;
+use crate::snapshot::ChansSnapshot;
 use std::alloc::Global;
 use std::marker::Model;
-use vx_base::{BoxNo, Device, Duplicate, Mode, NoMemory, Same};
-use vx_same::{duplicate_options, same_options};
+use vx_base::{BoxNo, Device, Mode, NoMemory};
+
+/// How many channels a process has.
+pub(crate) const CHANNELS: usize = 64;
 
 /// Why a channel is refused.
 #[derive(Clone, Copy, Debug, PartialEq, Eq)]
@@ -45,8 +48,23 @@ impl Chans {
         ensures { IfOk result (λ chans. chans ≡ replicate 64 None) }
     {
         Ok(Chans {
-            rows: Vec::from_array(alloc, [None; 64])?,
+            rows: Vec::from_array(alloc, [None; CHANNELS])?,
         })
+    }
+
+    /// The channels of 64 rows. Takes no memory.
+    pub(crate) fn from_rows(rows: Vec<Option<Row>>) -> Chans
+        requires { length rows.items ≡ 64 }
+        ensures { result ≡ rows.items }
+    {
+        Chans { rows }
+    }
+
+    /// What is assigned, in as little room as it takes.
+    pub fn snapshot(&self, alloc: Global) -> Result<ChansSnapshot, NoMemory>
+        ensures { IfOk result (λ s. s ≡ self.now) }
+    {
+        ChansSnapshot::new(alloc, self.rows.as_slice())
     }
 
     /// Assigns the least free channel to a device, in a mode, and answers its number, 1 to 64 ($ASSIGN). NoIoChan, and
@@ -167,19 +185,5 @@ fn is_box(device: Device, b: BoxNo) -> bool
     match device {
         Device::Unit(_) => false,
         Device::Mailbox(c) => b.0 == c.0,
-    }
-}
-
-impl Same for Chans {
-    fn same(&self, other: &Chans) -> bool {
-        same_options(self.rows.as_slice(), other.rows.as_slice())
-    }
-}
-
-impl Duplicate for Chans {
-    fn duplicate(&self) -> Result<Chans, NoMemory> {
-        Ok(Chans {
-            rows: duplicate_options(*self.rows.allocator(), self.rows.as_slice())?,
-        })
     }
 }

@@ -3,5 +3,7 @@
 
 mod chans;
 mod row;
+mod snapshot;
 
 pub use chans::{ChanFail, Chans};
+pub use snapshot::ChansSnapshot;

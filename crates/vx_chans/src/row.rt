@@ -3,7 +3,7 @@
 ghost use Rattle.std.specs.Prelude.{◌≡◌};
 
 use std::marker::Model;
-use vx_base::{Device, Duplicate, Mode, NoMemory, Same};
+use vx_base::{Device, Mode, Same};
 
 /// An assigned channel, which contracts see as the plain `Channel` of `vx_base`.
 #[derive(Clone, Copy, Debug)]
@@ -45,11 +45,5 @@ impl Row {
 impl Same for Row {
     fn same(&self, other: &Row) -> bool {
         self.device == other.device && self.mode == other.mode
-    }
-}
-
-impl Duplicate for Row {
-    fn duplicate(&self) -> Result<Row, NoMemory> {
-        Ok(*self)
     }
 }

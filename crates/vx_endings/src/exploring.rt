@@ -30,5 +30,7 @@ pub fn endings(
     ensures cut { IfOk result (IfCut (IsTooWide system limit states)) }
 {
     let exec = Exec::new(alloc, system, limit)?;
-    explore(alloc, Explored::new(alloc, exec), limit, states as usize)
+    let first = Explored::new(alloc, &exec);
+    drop(exec);
+    explore(alloc, first?, limit, states as usize)
 }

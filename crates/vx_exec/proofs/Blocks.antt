@@ -1,5 +1,5 @@
 -- Events of processes, block by block.
-use Rattle.std.proofs.Common.{◌≡◌, ℕ, zero, suc, ◌+◌, ◌-◌, ◌*◌, ◌/◌, ◌%◌, ◌<◌, ◌≤◌, List, [], ◌∷◌, ◌++◌, inl, inr, length, length-append, length-drop, length-take, min, drop, take, Option, Some, None, option_to_list, slice_get, Bool, true, if◌then◌else◌, refl, sym, ap, ◌∙◌, arith}
+use Rattle.std.proofs.Common.{◌≡◌, ℕ, zero, suc, ◌+◌, ◌-◌, ◌*◌, ◌/◌, ◌%◌, ◌<◌, ◌≤◌, List, [], ◌∷◌, ◌++◌, inl, inr, length, length-append, length-drop, length-take, min, drop, take, Option, Some, option_to_list, slice_get, Bool, true, if◌then◌else◌, refl, sym, ap, ◌∙◌, arith}
 use Rattle.std.proofs.Math.ListN.{drop_of_length-le}
 use Rattle.std.proofs.Math.Nat.{add-zero}
 use Rattle.std.proofs.lemmas.Bool.{cases_lt}
@@ -15,7 +15,7 @@ use Rattle.vx_procs.specs.Own.{block_of}
 use Rattle.vx_exec.specs.Blocks.{events_from, events_in}
 use Rattle.vx_exec.specs.Leases.{is_open}
 use Rattle.vx_exec.specs.Sound.{IsWhole}
-use Rattle.vx_exec.proofs.Enabled.{none_step, shape, some_here, some_step}
+use Rattle.vx_exec.proofs.Enabled.{shape, some_here}
 
 -- How many blocks there are, and how long one is.
 
@@ -105,25 +105,25 @@ rest_end s b place past = ap (λ (prs : List Process). processes_from s (32 * b 
 pub count_end : (s : State) (b place count : ℕ) → length (block_of b s.procs) ≤ place → count + length (rest_in s b place) ≡ length (events_in s b) → count ≡ length (events_in s b)
 count_end s b place count past so_far = omega (arith, so_far, ap (λ (es : List Event). length es) (rest_end s b place past))
 
+-- behind the first of two lists
+get_right : (xs ys : List Event) (i left : ℕ) → i ≡ length xs + left → slice_get (xs ++ ys) i ≡ slice_get ys left
+get_right [] ys i left is = ap (λ (n : ℕ). slice_get ys n) (omega (arith, is))
+get_right (x ∷ xs) ys zero left is = absurd (omega (arith, is))
+get_right (x ∷ xs) ys (suc i) left is = get_right xs ys i left (omega (arith, is))
+
 -- The event at a place of a block: what is left is the rest, and the place counts from there.
 pub record IsSeeking (all now : List Event) (i left : ℕ) : Type 0 where
   pub found : slice_get now left ≡ slice_get all i
   pub passed : length all + left ≡ length now + i
 
-pub seek_past : (s : State) (b place : ℕ) (i left after : ℕ) (e : Event) → place < length (block_of b s.procs) → option_to_list (Some e) ≡ process_events s (pid (32 * b + 1 + place)) → ¬ (left ≡ 0) → after ≡ left - 1 → IsSeeking (events_in s b) (rest_in s b place) i left → IsSeeking (events_in s b) (rest_in s b (place + 1)) i after
-seek_past s b place i left after e within is other one so_far =
-    let now : rest_in s b place ≡ e ∷ rest_in s b (place + 1) = rest_now s b place within ∙ ap (λ (es : List Event). es ++ rest_in s b (place + 1)) (sym is) in
+pub seek_past : (s : State) (b place : ℕ) (i left n after : ℕ) → place < length (block_of b s.procs) → n ≡ length (process_events s (pid (32 * b + 1 + place))) → left ≡ n + after → IsSeeking (events_in s b) (rest_in s b place) i left → IsSeeking (events_in s b) (rest_in s b (place + 1)) i after
+seek_past s b place i left n after within is passed so_far =
+    let here = process_events s (pid (32 * b + 1 + place)) in
+    let later = rest_in s b (place + 1) in
+    let now : rest_in s b place ≡ here ++ later = rest_now s b place within in
     record {
-      found = some_step (rest_in s b place) (rest_in s b (place + 1)) left after e _ now other one so_far.found;
-      passed = omega (arith, ap (λ (es : List Event). length es) now, other, one, so_far.passed);
-    }
-
-pub seek_on : (s : State) (b place : ℕ) (i left after : ℕ) → place < length (block_of b s.procs) → option_to_list None ≡ process_events s (pid (32 * b + 1 + place)) → after ≡ left → IsSeeking (events_in s b) (rest_in s b place) i left → IsSeeking (events_in s b) (rest_in s b (place + 1)) i after
-seek_on s b place i left after within is same so_far =
-    let now : rest_in s b place ≡ rest_in s b (place + 1) = rest_now s b place within ∙ ap (λ (es : List Event). es ++ rest_in s b (place + 1)) (sym is) in
-    record {
-      found = none_step (rest_in s b place) (rest_in s b (place + 1)) left after _ now same so_far.found;
-      passed = omega (arith, ap (λ (es : List Event). length es) now, same, so_far.passed);
+      found = sym (get_right here later left after (omega (arith, is, passed))) ∙ (ap (λ (es : List Event). slice_get es left) (sym now) ∙ so_far.found);
+      passed = omega (arith, ap (λ (es : List Event). length es) now, length-append here later, is, passed, so_far.passed);
     }
 
 pub seek_here : (s : State) (b place : ℕ) (i left : ℕ) (e : Event) → place < length (block_of b s.procs) → option_to_list (Some e) ≡ process_events s (pid (32 * b + 1 + place)) → left ≡ 0 → IsSeeking (events_in s b) (rest_in s b place) i left → slice_get (events_in s b) i ≡ Some e
@@ -140,11 +140,6 @@ get_left : (xs ys : List Event) (i : ℕ) (e : Event) → slice_get xs i ≡ Som
 get_left [] ys i e is = absurd (cc)
 get_left (x ∷ xs) ys zero e is = is
 get_left (x ∷ xs) ys (suc i) e is = get_left xs ys i e is
-
-get_right : (xs ys : List Event) (i left : ℕ) → i ≡ length xs + left → slice_get (xs ++ ys) i ≡ slice_get ys left
-get_right [] ys i left is = ap (λ (n : ℕ). slice_get ys n) (omega (arith, is))
-get_right (x ∷ xs) ys zero left is = absurd (omega (arith, is))
-get_right (x ∷ xs) ys (suc i) left is = get_right xs ys i left (omega (arith, is))
 
 abbrev pub from_block : State → ℕ → List Event → List Event
 from_block s b ys = events_from s b ++ ys

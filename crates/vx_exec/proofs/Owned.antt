@@ -75,6 +75,18 @@ own_told s p b e =
     let o = deliverable_ast s p in
     elim pr.suspended as (λ (t : Bool). (if t then Some false else ast_or_own pr o) ≡ Some b → length (if t then [] else ast_or_run s p o) ≡ one b) [ true ↦ λ is. ap one (told false b is) | false ↦ λ is. ast_told s p o b is ] e
 
+-- known to have one
+pub one_known : (s : State) (p : Pid) → own_event (process_at s p) ≡ Some true → 1 ≡ length (process_events s p)
+one_known s p e = sym (own_told s p true e)
+
+-- known to have none
+pub none_known : (s : State) (p : Pid) → own_event (process_at s p) ≡ Some false → [] ≡ process_events s p
+none_known s p e = empty (process_events s p) (own_told s p false e)
+  where
+    empty : (es : List Event) → length es ≡ 0 → [] ≡ es
+    empty [] is = refl
+    empty (x ∷ es) is = absurd (cc)
+
 -- Those of a block.
 
 or_false_told : (o : Option Bool) → is_some o ≡ true → o ≡ Some (or_false o)

@@ -1,4 +1,5 @@
-//! Events of processes, by blocks of 32. Of a block whose number of events is known no process is asked.
+//! Events of processes, by blocks of 32. Of a block whose number of events is known no process is asked but the one whose event is
+//! sought, and those before it of which nothing is known.
 
 ghost use Rattle.std.specs.Prelude.{◌≡◌, ◌+◌, ◌*◌, ◌<◌, ◌≤◌, IfErr, IfOk, Some, length, slice_get};
 ghost use Rattle.vx_procs.specs.Own.{block_of};
@@ -33,7 +34,7 @@ fn block_size<R: Routine>(core: &Core<R>, b: u32) -> u32
     BLOCK.min((core.process_count() as u32).saturating_sub(BLOCK * b))
 }
 
-// How many events the processes of a block have. Asks each.
+// How many events the processes of a block have. Asks each of which that is not known.
 #[tactic(auto, using(crate::proofs::Enabled::waits_at))]
 fn counted_in<R: Routine>(core: &Core<R>, b: u32) -> u32
     requires whole { IsWhole core.now.state }
@@ -62,7 +63,8 @@ pub(crate) fn count_in<R: Routine>(core: &Core<R>, b: u32) -> u32
     }
 }
 
-// The event at a place from 0 among those of a block's processes, or that place counted from behind them. Asks each up to the event.
+// The event at a place from 0 among those of a block's processes, or that place counted from behind them. Asks
+// the process of that event, and those before it of which nothing is known.
 #[tactic(auto, using(crate::proofs::Enabled::waits_at))]
 fn event_among<R: Routine>(core: &Core<R>, b: u32, i: u32) -> Result<Event, u32>
     requires whole { IsWhole core.now.state }
@@ -73,11 +75,11 @@ fn event_among<R: Routine>(core: &Core<R>, b: u32, i: u32) -> Result<Event, u32>
     let first = BLOCK * b + 1;
     let mut left = i;
     for place in 0..block_size(core, b) {
-        if let Some(event) = event_of(core, Pid(first + place)) {
-            if left == 0 {
-                return Ok(event);
-            }
-            left -= 1;
+        let p = Pid(first + place);
+        if left > 0 {
+            left -= events_of(core, p);
+        } else if let Some(event) = event_of(core, p) {
+            return Ok(event);
         }
     }
     Err(left)

@@ -46,8 +46,8 @@ fn can_run_down<R: Routine>(core: &Core<R>, p: Pid) -> bool
     }
 }
 
-/// The event of a process, if it has one.
-pub(crate) fn event_of<R: Routine>(core: &Core<R>, p: Pid) -> Option<Event>
+// The event of a process, if it has one. Asks the process, and what it waits for.
+fn asked_event<R: Routine>(core: &Core<R>, p: Pid) -> Option<Event>
     requires made { IsProcess core.now.state p }
     requires waits { WaitsStand (process_at core.now.state p).frames }
     ensures { option_to_list result ≡ process_events core.now.state p }
@@ -68,16 +68,34 @@ pub(crate) fn event_of<R: Routine>(core: &Core<R>, p: Pid) -> Option<Event>
     }
 }
 
-/// How many events a process has: one or none.
+/// The event of a process, if it has one. A process that is known to have none is not asked.
+#[tactic(auto, using(crate::proofs::Owned::none_known))]
+pub(crate) fn event_of<R: Routine>(core: &Core<R>, p: Pid) -> Option<Event>
+    requires made { IsProcess core.now.state p }
+    requires waits { WaitsStand (process_at core.now.state p).frames }
+    ensures { option_to_list result ≡ process_events core.now.state p }
+{
+    match core.known_event(p) {
+        Some(false) => None,
+        _ => asked_event(core, p),
+    }
+}
+
+/// How many events a process has: one or none. It is asked only if that is not known.
+#[tactic(auto, using(crate::proofs::Owned::one_known, crate::proofs::Owned::none_known))]
 pub(crate) fn events_of<R: Routine>(core: &Core<R>, p: Pid) -> u32
     requires made { IsProcess core.now.state p }
     requires waits { WaitsStand (process_at core.now.state p).frames }
     ensures count { result ≡ length (process_events core.now.state p) }
     ensures few { result ≤ 1 }
 {
-    match event_of(core, p) {
-        Some(_) => 1,
-        None => 0,
+    match core.known_event(p) {
+        Some(true) => 1,
+        Some(false) => 0,
+        None => match asked_event(core, p) {
+            Some(_) => 1,
+            None => 0,
+        },
     }
 }
 

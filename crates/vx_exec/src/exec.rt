@@ -4,7 +4,6 @@ ghost use Rattle.std.specs.Prelude.{◌≡◌, ◌<◌, ◌≤◌, ◌+◌, ◌�
 ghost use Rattle.vx_image.specs.WellFormed.{IsWellFormed};
 ghost use Rattle.vx_record.specs.State.{IsProcess, decl_of, process_at, unit_at};
 ghost use Rattle.vx_units.specs.Units.{outputs_of};
-ghost use Rattle.vx_procs.specs.Digest.{digest_of};
 ghost use Rattle.vx_record.specs.Events.{enabled, step};
 ghost use Rattle.vx_record.specs.Runs.{end_of, first, record_of};
 ghost use Rattle.vx_exec.specs.Engines.{IsWithin, leasing};
@@ -15,6 +14,7 @@ ghost use Rattle.vx_exec.specs.View.{is_don, plan};
 use crate::engine::Engine;
 use crate::events::{count, enabled_at, is_enabled};
 use crate::seed::Seed;
+use crate::snapshot::ExecSnapshot;
 use crate::standing::{Standing, standing_of};
 use std::alloc::Global;
 use std::marker::Model;
@@ -63,30 +63,17 @@ impl<R: Routine> Exec<R> {
         })
     }
 
-    /// The same executive again. Each routine is made from its tag, so this is for routines of scripts. What the script says is
-    /// shared, and of a process's buffers only those up to the last one written are filled.
-    pub fn duplicate(&self) -> Result<Exec<R>, NoMemory>
-        ensures { IfOk result (λ copy. copy ≡ self.now) }
+    /// The same executive put away, in as little room as it takes. Each routine is made from its tag, so this is for routines of scripts.
+    pub fn snapshot(&self) -> Result<ExecSnapshot<R>, NoMemory>
+        ensures { IfOk result (λ snapshot. snapshot ≡ self.now) }
     {
-        let mut core = self.engine.core.duplicate()?;
-        core.settle();
-        Ok(Exec {
-            engine: Engine {
-                core,
-                limit: self.engine.limit,
-                taken: self.engine.taken,
-                alloc: self.engine.alloc,
-                rooms: Rooms::new(),
-            },
-        })
-    }
-
-    /// Gives back spare room, which the next step makes again. An executive that is kept takes less without it. Takes no memory.
-    pub fn trim(&mut self)
-        ensures { self.new ≡ self.old }
-    {
-        self.engine.core.trim();
-        self.engine.rooms = Rooms::new();
+        let core = self.engine.core.snapshot()?;
+        Ok(ExecSnapshot::new(
+            core,
+            self.engine.limit,
+            self.engine.taken,
+            self.engine.alloc,
+        ))
     }
 
     // What it is made of.
@@ -103,22 +90,6 @@ impl<R: Routine> Exec<R> {
         ensures { result ≡ (leasing engine).exec }
     {
         Exec { engine }
-    }
-
-    /// Whether both are in the same state, after as many records and with the same limit. Takes no memory.
-    pub fn same(&self, other: &Exec<R>) -> bool
-        ensures { IsTrue result ↔ (self.now ≡ other.now) }
-    {
-        self.engine.taken == other.engine.taken
-            && self.engine.limit == other.engine.limit
-            && self.engine.core.same(&other.engine.core)
-    }
-
-    /// The state as a number. Equal states have the same; states that differ have the same seldom. Takes no memory.
-    pub fn digest(&self) -> u64
-        ensures { result ≡ digest_of self.now.state }
-    {
-        self.engine.core.digest()
     }
 
     /// How many events are enabled.

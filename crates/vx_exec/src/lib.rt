@@ -4,7 +4,8 @@
 //! made (`specs/View.antt`). What is enabled, what a step does, what a seed picks and when a run ends is the machine of
 //! `vx_record`: `count` and `enabled` are the list of its enabled events, `step` takes any one of them and leaves the state
 //! after it, `ended` is its end, and `run_system` takes the run that a seed chooses. A step whose memory is short changes nothing, and
-//! no other call of `Exec` takes memory but `new` and `duplicate`.
+//! no other call of `Exec` takes memory but `new` and `snapshot`. An `ExecSnapshot` is an executive put away: it takes no more room than it holds,
+//! tells whether another is the same, and can be brought back.
 //!
 //! `LeasingExec` is an executive whose units may be out: a unit that serves is taken out with its request, is served while the executive
 //! takes other events, and is given back with the reply (`specs/Leases.antt`). It steps as `Exec` does. An `Exec` never has a unit out.
@@ -20,11 +21,13 @@ mod room;
 mod run;
 mod seed;
 mod services;
+mod snapshot;
 mod standing;
 
 pub use exec::Exec;
 pub use leasing::LeasingExec;
 pub use run::{run_system, take_run};
 pub use seed::Seed;
+pub use snapshot::ExecSnapshot;
 pub use standing::Standing;
 pub use vx_base::End;

@@ -1,11 +1,15 @@
--- Buffers of which the first are filled.
+-- Lists of which the first items are kept.
 use native.Mathlib.Numerals.{unary_clauses}
-use Rattle.std.proofs.Common.{◌≡◌, ℕ, zero, suc, ◌-◌, ◌<◌, ◌≤◌, List, [], ◌∷◌, ◌++◌, drop, length, replicate, slice_index_or, slice_set, take, ap, refl, sym, ◌∙◌, subst, ◌+◌, arith}
+use Rattle.std.proofs.Common.{◌≡◌, ℕ, zero, suc, ◌-◌, ◌<◌, ◌≤◌, List, [], ◌∷◌, ◌++◌, drop, length, max, replicate, slice_index_or, slice_set, take, ap, refl, sym, ◌∙◌, subst, ◌+◌, arith}
 use Rattle.std.proofs.Math.Seq.{take-suc}
-use Rattle.std.proofs.lemmas.List.{drop-replicate, get_or_append_left, length-append, length-replicate, length-set, set-append_left, take-append-drop}
+use Rattle.std.proofs.Math.Nat.{le-max_left, le-max_right}
+use Rattle.std.proofs.lemmas.Slice.{drop-append-drop}
+use Rattle.std.proofs.lemmas.List.{drop-drop, drop-replicate, drop_more, get_or_append_left, length-append, length-replicate, length-set, set-append_left, take-append-drop}
 use Rattle.vx_base.specs.Lists.{overlaid}
 use Rattle.vx_base.specs.Roomy.{Roomy, with_items}
-use Rattle.vx_image.specs.Buffers.{filled}
+use Rattle.vx_base.specs.Pieces.{Status, cleared}
+use Rattle.vx_image.specs.Filled.{all_statuses, filled, page_of}
+use Rattle.vx_same.proofs.Trimmed.{front, laid}
 
 next_blank : {A : Type 0} (b : A) (xs : List A) (n : ℕ) → length xs < n → (xs ++ b ∷ []) ++ replicate (n - length (xs ++ b ∷ [])) b ≡ xs ++ replicate (n - length xs) b
 next_blank b [] zero lt = absurd (omega (arith, lt))
@@ -68,3 +72,43 @@ next_same xs ys k few_a few_b lt front same =
     let total_b = total ys few_b in
     let step : suc k ≡ k + 1 = omega arith in
     subst (λ (n : ℕ). take n (filled xs) ≡ take n (filled ys)) step (one_longer [] (filled xs) (filled ys) k (omega (arith, total_a, lt)) (omega (arith, total_b, lt)) front same)
+
+-- Kept up to where the others begin, and laid over others.
+
+pub page_laid : (piece blank page : List ℕ) → blank ≡ replicate 2048 0 → page ≡ overlaid piece blank → page ≡ page_of piece
+page_laid piece blank page zeros put = put ∙ (ap (λ (ys : List ℕ). overlaid piece ys) zeros ∙ laid 2048 0 piece)
+
+pub page_front : (bytes : List ℕ) (k : ℕ) → length bytes ≡ 2048 → k ≤ 2048 → drop k bytes ≡ replicate (2048 - k) 0 → page_of (take k bytes) ≡ bytes
+page_front bytes k size within behind = front 2048 0 bytes k size within behind
+
+pub statuses_front : (blocks : List Status) (k : ℕ) → length blocks ≡ 32 → k ≤ length blocks → drop k blocks ≡ replicate (length blocks - k) cleared → all_statuses (take k blocks) ≡ blocks
+statuses_front blocks k size within behind = front 32 cleared blocks k size (omega (arith, size, within)) (subst (λ (n : ℕ). drop k blocks ≡ replicate (n - k) cleared) size behind)
+
+pub statuses_laid : (first blank blocks : List Status) → blank ≡ replicate 32 cleared → blocks ≡ first ++ drop (length first) blank → blocks ≡ all_statuses first
+statuses_laid first blank blocks clear put = put ∙ (ap (λ (ys : List Status). first ++ drop (length first) ys) clear ∙ laid 32 cleared first)
+
+-- further behind the same
+zeros_past : (bytes : List ℕ) (k m : ℕ) → k ≤ m → drop k bytes ≡ replicate (2048 - k) 0 → drop m bytes ≡ replicate (2048 - m) 0
+zeros_past bytes k m further behind =
+    let past : k + (m - k) ≡ m = omega (arith, further) in
+    let left : (2048 - k) - (m - k) ≡ 2048 - m = omega (arith, further) in
+    ap (λ (n : ℕ). drop n bytes) (sym past)
+    ∙ (sym (drop-drop (m - k) k bytes)
+    ∙ (ap (drop (m - k)) behind
+    ∙ (drop-replicate (m - k) (2048 - k) 0 ∙ ap (λ (n : ℕ). replicate n 0) left)))
+
+-- behind a piece that is laid over the start, and behind what was written before, nothing was written
+pub zeros_behind : (piece bytes : List ℕ) (k : ℕ) → drop k bytes ≡ replicate (2048 - k) 0 → drop (max k (length piece)) (overlaid piece bytes) ≡ replicate (2048 - max k (length piece)) 0
+zeros_behind piece bytes k behind =
+    drop-append-drop (length piece) bytes piece (max k (length piece)) (le-max_right k (length piece)) refl
+    ∙ zeros_past bytes k (max k (length piece)) (le-max_left k (length piece)) behind
+
+-- the block before is clear too
+pub next_clear : (blocks : List Status) (k : ℕ) (b : Status) → 0 < k → k ≤ length blocks → b ≡ slice_index_or blocks (k - 1) b → b ≡ cleared → drop k blocks ≡ replicate (length blocks - k) cleared → drop (k - 1) blocks ≡ replicate (length blocks - (k - 1)) cleared
+next_clear blocks k b some within is clear behind =
+    let here : (k - 1) + 1 ≡ k = omega (arith, some) in
+    let more : suc (length blocks - k) ≡ length blocks - (k - 1) = omega (arith, some, within) in
+    drop_more blocks (k - 1) b (omega (arith, some, within))
+    ∙ (ap (λ (x : Status). x ∷ drop ((k - 1) + 1) blocks) (sym is ∙ clear)
+    ∙ (ap (λ (n : ℕ). cleared ∷ drop n blocks) here
+    ∙ (ap (λ (xs : List Status). cleared ∷ xs) behind ∙ ap (λ (n : ℕ). replicate n cleared) more)))

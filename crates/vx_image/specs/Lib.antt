@@ -1,4 +1,4 @@
-pub mod Buffers
+pub mod Filled
 pub mod Digest
 pub mod Example
 pub mod Local

@@ -2,9 +2,9 @@
 
 ghost use Rattle.std.specs.Prelude.{◌≡◌, ◌↔◌, ◌<◌, ◌≤◌, [], length, replicate, slice_index_or, slice_set, IfOk, IsTrue};
 ghost use Rattle.vx_base.specs.Lists.{overlaid};
-ghost use Rattle.vx_image.specs.Buffers.{filled};
+ghost use Rattle.vx_image.specs.Filled.{filled, page_of};
 
-use crate::page::{Page, zeros};
+use crate::page::{Page, PageSnapshot, same_page, zeros};
 use std::alloc::Global;
 use std::marker::Model;
 use vx_base::{NoMemory, Reserved};
@@ -13,7 +13,7 @@ use vx_base::{NoMemory, Reserved};
 const BUFFERS: usize = 32;
 
 /// 32 buffers. There is room for all of them from the start, but only those up to the last one ever written are filled, so the
-/// others cost nothing in a copy. Contracts see all.
+/// others cost nothing. Contracts see all.
 #[derive(Debug, Drop)]
 pub(crate) struct Buffers {
     pages: Reserved<Page>,
@@ -21,7 +21,7 @@ pub(crate) struct Buffers {
 
 impl Model for Buffers {
     ghost use Rattle.std.specs.Prelude.{◌≤◌, List, ℕ, length};
-    ghost use Rattle.vx_image.specs.Buffers.{filled};
+    ghost use Rattle.vx_image.specs.Filled.{filled};
 
     ghost Value = { List (List ℕ) };
 
@@ -44,13 +44,6 @@ fn fill(pages: &mut Reserved<Page>, n: usize)
     while pages.len() < n {
         pages.put(Page::new());
     }
-}
-
-// Whether two lists of bytes are the same.
-fn same_bytes(a: &[u8], b: &[u8]) -> bool
-    ensures { IsTrue result ↔ (a.now ≡ b.now) }
-{
-    a == b
 }
 
 impl Buffers {
@@ -86,28 +79,71 @@ impl Buffers {
         fill(&mut self.pages, place + 1);
         self.pages.at_mut(place).overlay(piece);
     }
+}
 
-    /// The same bytes again. It takes as much memory as `new`.
-    pub(crate) fn duplicate(&self, alloc: Global) -> Result<Buffers, NoMemory>
+/// The buffers put away: the bytes of those up to the last one ever written. Contracts see all.
+#[derive(Drop)]
+pub(crate) struct BuffersSnapshot {
+    pages: Vec<PageSnapshot>,
+}
+
+impl Model for BuffersSnapshot {
+    ghost use Rattle.std.specs.Prelude.{◌≤◌, List, ℕ, length};
+    ghost use Rattle.vx_image.specs.Filled.{filled};
+
+    ghost Value = { List (List ℕ) };
+
+    ghost view = { λ s. filled s.pages.items };
+
+    ghost invariant = { λ s. length s.pages.items ≤ 32 };
+}
+
+impl BuffersSnapshot {
+    /// Buffers put away.
+    pub(crate) fn of(alloc: Global, buffers: &Buffers) -> Result<BuffersSnapshot, NoMemory>
+        ensures { IfOk result (λ snapshot. snapshot ≡ buffers.now) }
+    {
+        let written = buffers.pages.as_slice();
+        let mut pages = Vec::new(alloc);
+        pages.reserve(written.len())?;
+        for page in written {
+            pages.push(PageSnapshot::of(alloc, page)?)?;
+        }
+        Ok(BuffersSnapshot { pages })
+    }
+
+    /// The buffers. It takes as much memory as `Buffers::new`.
+    pub(crate) fn restore(&self, alloc: Global) -> Result<Buffers, NoMemory>
         ensures { IfOk result (λ buffers. buffers ≡ self.now) }
     {
         let mut pages = Reserved::new(alloc);
         pages.reserve(BUFFERS as u32)?;
-        let written = self.pages.as_slice();
-        for page in written {
-            pages.put(page.again());
+        for page in &self.pages {
+            pages.put(page.page());
         }
         Ok(Buffers { pages })
     }
 
-    /// Whether the bytes are the same.
+    // The bytes of a buffer up to the last that was ever written.
+    fn written(&self, b: u32) -> &[u8]
+        requires { b < 32 }
+        ensures bytes { page_of result.now ≡ slice_index_or self.now b [] }
+        ensures few { length result.now ≤ 2048 }
+    {
+        match self.pages.get(b as usize) {
+            Some(page) => page.written(),
+            None => &[],
+        }
+    }
+
+    /// Whether the bytes are the same. Takes no memory.
     #[tactic(auto, using(crate::proofs::Filled::all_same, crate::proofs::Filled::next_same))]
-    pub(crate) fn same(&self, other: &Buffers) -> bool
+    pub(crate) fn same(&self, other: &BuffersSnapshot) -> bool
         ensures { IsTrue result ↔ (self.now ≡ other.now) }
     {
-        let written = self.pages.len().max(other.pages.len()) as u32;
-        for b in 0..written {
-            if !same_bytes(self.bytes(b), other.bytes(b)) {
+        let kept = self.pages.len().max(other.pages.len()) as u32;
+        for b in 0..kept {
+            if !same_page(self.written(b), other.written(b)) {
                 return false;
             }
         }

@@ -2,7 +2,7 @@
 //!
 //! A `System` is what a script says: units, images and process declarations. For definitions these are plain data, which
 //! they compare with plain equality. What a script may say is `specs/WellFormed.antt`. A `Store` is what one process
-//! stores, and `advance` runs an image's local statements on it: `specs/Local.antt`.
+//! stores, `StoreSnapshot` the same put away, and `advance` runs an image's local statements on it: `specs/Local.antt`.
 #![tactic(auto)]
 
 mod buffers;
@@ -14,6 +14,8 @@ mod local;
 mod page;
 mod run;
 mod same;
+mod snapshot;
+mod status;
 mod stmt;
 mod stmts;
 mod stop;
@@ -28,6 +30,7 @@ pub use decl::{ProcDecl, ProcDecls};
 pub use example::{past_example, round_example, wrapping_example};
 pub use image::{Image, Images, Label, Labels};
 pub use run::advance;
+pub use snapshot::StoreSnapshot;
 pub use stmt::{Field, Rel, Stmt, StmtRef};
 pub use stmts::Stmts;
 pub use stop::Stop;

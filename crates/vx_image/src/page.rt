@@ -1,23 +1,28 @@
 //! A buffer of a process.
 
-ghost use Rattle.std.specs.Prelude.{◌≡◌, ◌↔◌, ◌≤◌, length, replicate, IsTrue};
+ghost use Rattle.std.specs.Prelude.{◌≡◌, ◌↔◌, ◌≤◌, length, replicate, IfOk, IsTrue};
 ghost use Rattle.vx_base.specs.Lists.{overlaid};
+ghost use Rattle.vx_image.specs.Filled.{page_of};
 
+use std::alloc::Global;
 use std::marker::Model;
-use vx_base::BUFFER_BYTES;
+use vx_base::{BUFFER_BYTES, NoMemory};
 
-/// A buffer: 2,048 bytes, which contracts see as their list.
+/// A buffer: 2,048 bytes, which contracts see as their list. Behind the last byte that was ever written all are zero.
 #[derive(Debug, Drop)]
 pub(crate) struct Page {
     bytes: [u8; BUFFER_BYTES],
+    written: usize,
 }
 
 impl Model for Page {
-    ghost use Rattle.std.specs.Prelude.{List, ℕ};
+    ghost use Rattle.std.specs.Prelude.{◌≡◌, ◌-◌, ◌≤◌, List, ℕ, drop, replicate};
 
     ghost Value = { List ℕ };
 
     ghost view = { λ p. p.bytes };
+
+    ghost invariant = { λ p. (p.written ≤ 2048) × (drop p.written p.bytes ≡ replicate (2048 - p.written) 0) };
 }
 
 /// All bytes zero.
@@ -45,14 +50,19 @@ impl Page {
     {
         Page {
             bytes: [0; BUFFER_BYTES],
+            written: 0,
         }
     }
 
-    /// The same bytes again.
-    pub(crate) fn again(&self) -> Page
-        ensures { result ≡ self.now }
+    /// These bytes, and zeros behind them.
+    #[tactic(auto, using(crate::proofs::Filled::page_laid))]
+    pub(crate) fn of(bytes: &[u8]) -> Page
+        requires { length bytes.now ≤ 2048 }
+        ensures { result ≡ page_of bytes.now }
     {
-        Page { bytes: self.bytes }
+        let mut page = Page::new();
+        page.overlay(bytes);
+        page
     }
 
     /// Its bytes.
@@ -63,11 +73,81 @@ impl Page {
         &self.bytes
     }
 
+    /// Its bytes up to the last that was ever written.
+    #[tactic(auto, using(crate::proofs::Filled::page_front))]
+    pub(crate) fn written(&self) -> &[u8]
+        ensures bytes { page_of result.now ≡ self.now }
+        ensures few { length result.now ≤ 2048 }
+    {
+        &self.bytes[..self.written]
+    }
+
     /// Puts a piece over its start.
+    #[tactic(auto, using(crate::proofs::Filled::zeros_behind))]
     pub(crate) fn overlay(&mut self, piece: &[u8])
         requires { length piece.now ≤ 2048 }
         ensures { self.new ≡ overlaid piece.now self.old }
     {
         lay_over(&mut self.bytes, piece);
+        self.written = self.written.max(piece.len());
+    }
+}
+
+/// A buffer put away: its bytes up to the last that was ever written. Contracts see the 2,048.
+#[derive(Drop)]
+pub(crate) struct PageSnapshot {
+    bytes: Vec<u8>,
+}
+
+impl Model for PageSnapshot {
+    ghost use Rattle.std.specs.Prelude.{◌≤◌, List, ℕ, length};
+    ghost use Rattle.vx_image.specs.Filled.{page_of};
+
+    ghost Value = { List ℕ };
+
+    ghost view = { λ s. page_of s.bytes.items };
+
+    ghost invariant = { λ s. length s.bytes.items ≤ 2048 };
+}
+
+// Whether two lists of bytes are the same.
+fn same_bytes(a: &[u8], b: &[u8]) -> bool
+    ensures { IsTrue result ↔ (a.now ≡ b.now) }
+{
+    a == b
+}
+
+/// Whether two buffers are the same, of which the first bytes are given.
+pub(crate) fn same_page(a: &[u8], b: &[u8]) -> bool
+    requires here { length a.now ≤ 2048 }
+    requires there { length b.now ≤ 2048 }
+    ensures { IsTrue result ↔ (page_of a.now ≡ page_of b.now) }
+{
+    same_bytes(a, b) || same_bytes(Page::of(a).bytes(), Page::of(b).bytes())
+}
+
+impl PageSnapshot {
+    /// A buffer put away.
+    pub(crate) fn of(alloc: Global, page: &Page) -> Result<PageSnapshot, NoMemory>
+        ensures { IfOk result (λ snapshot. snapshot ≡ page.now) }
+    {
+        let mut bytes = Vec::new(alloc);
+        bytes.extend_from_slice(page.written())?;
+        Ok(PageSnapshot { bytes })
+    }
+
+    /// The buffer. Takes no memory.
+    pub(crate) fn page(&self) -> Page
+        ensures { result ≡ self.now }
+    {
+        Page::of(&self.bytes)
+    }
+
+    /// Its bytes up to the last that was ever written.
+    pub(crate) fn written(&self) -> &[u8]
+        ensures bytes { page_of result.now ≡ self.now }
+        ensures few { length result.now ≤ 2048 }
+    {
+        &self.bytes
     }
 }

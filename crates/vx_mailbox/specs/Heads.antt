@@ -4,10 +4,14 @@ use Rattle.vx_base.specs.Pieces.{Mailbox}
 use Rattle.vx_base.specs.declared.request.Msg.{Msg}
 use Rattle.vx_mailbox.specs.declared.place.Head.{Head}
 
+-- the mailbox with this head and these messages
+abbrev pub mailbox_of : Head → List Msg → Mailbox
+mailbox_of head messages = record { name = head.name; permanent = head.permanent; marked = head.marked; maxmsg = head.maxmsg; bufquo = head.bufquo; messages = messages }
+
 -- the mailbox with this head, if there is one, and these messages
 abbrev pub box_of : Option Head → List Msg → Option Mailbox
 box_of None messages = None
-box_of (Some head) messages = Some (record { name = head.name; permanent = head.permanent; marked = head.marked; maxmsg = head.maxmsg; bufquo = head.bufquo; messages = messages })
+box_of (Some head) messages = Some (mailbox_of head messages)
 
 -- where there is no mailbox, no message is stored
 abbrev pub HeldBy : Option Head → List Msg → Type 0

@@ -1,22 +1,22 @@
 //! The mailboxes by number.
 
-ghost use Rattle.std.specs.Prelude.{◌≡◌, ◌↔◌, ◌<◌, ◌++◌, ◌+◌, ◌∷◌, ◌==◌, [], false, true, not, IfOk, IfSome, IsTrue, None, OnOk, Some, is_none, length, map, nat_le, option_map, position, replicate, slice_index_or};
-ghost use Rattle.std.specs.List.{find, list_any};
+ghost use Rattle.std.specs.Prelude.{◌≡◌, ◌<◌, ◌++◌, ◌+◌, ◌∷◌, ◌==◌, [], false, true, not, IfOk, IfSome, None, OnOk, Some, is_none, length, map, nat_le, option_map, position, replicate, slice_index_or};
+ghost use Rattle.std.specs.List.{AllByRecursion, find, list_any};
 ghost use Rattle.vx_base.specs.Lists.{first, less};
 ghost use Rattle.vx_base.specs.Queues.{stored_bytes};
 ghost use Rattle.vx_mailbox.specs.Boxes.{HaveRoom, IsShort, StandsIn, box_in, holding, with_box_in};
-ghost use Rattle.vx_mailbox.specs.Digest.{mix_boxes};
-ghost use Rattle.vx_mailbox.specs.Places.{box_at, IsTable};
+ghost use Rattle.vx_mailbox.specs.Places.{HasRoomFor, box_at, table_of};
 ghost use Rattle.vx_record.specs.Channels.{is_box_of};
 ghost use Rattle.vx_record.specs.Mailboxes.{this_message};
 
 use crate::place::BoxPlace;
+use crate::snapshot::BoxesSnapshot;
 use std::alloc::Global;
 use std::marker::Model;
 use vx_base::{BoxNo, Id, Msg, Name, NoMemory};
 
 /// How many mailboxes there can be.
-const PLACES: u32 = 64;
+pub(crate) const PLACES: usize = 64;
 
 /// The mailboxes of a system, by number, in 64 places. Each mailbox has room for a message more, but for the one that was made or got a
 /// message last, which may be short of it.
@@ -37,55 +37,16 @@ impl Model for Boxes {
     ghost invariant = { λ b. IsTable b.places.items b.short };
 }
 
-// The places of no mailboxes.
-fn free_places(alloc: Global) -> Result<Vec<BoxPlace>, NoMemory>
-    ensures boxes { IfOk result (λ places. map box_at places.items ≡ replicate 64 None) }
-    ensures table { IfOk result (λ places. IsTable places.items 0) }
+/// Adds so many places without mailboxes.
+pub(crate) fn add_free(alloc: Global, places: &mut Vec<BoxPlace>, n: usize) -> Result<(), NoMemory>
+    requires { AllByRecursion HasRoomFor places.old.items }
+    ensures boxes { OnOk result (map box_at places.new.items ≡ map box_at places.old.items ++ replicate n None) }
+    ensures rooms { OnOk result (AllByRecursion HasRoomFor places.new.items) }
 {
-    let mut places = Vec::new(alloc);
-    for _ in 0..PLACES {
+    for _ in 0..n {
         places.push(BoxPlace::new(alloc))?;
     }
-    Ok(places)
-}
-
-// The same mailboxes again, each with room for a message more.
-fn duplicate_places(alloc: Global, places: &[BoxPlace]) -> Result<Vec<BoxPlace>, NoMemory>
-    requires { length places.now ≡ 64 }
-    ensures boxes { IfOk result (λ copy. map box_at copy.items ≡ map box_at places.now) }
-    ensures table { IfOk result (λ copy. IsTable copy.items 0) }
-{
-    let mut copy = Vec::new(alloc);
-    for place in places {
-        copy.push(place.duplicate(alloc)?)?;
-    }
-    Ok(copy)
-}
-
-// Whether places have the same mailboxes.
-fn same_places(a: &[BoxPlace], b: &[BoxPlace]) -> bool
-    ensures { IsTrue result ↔ (map box_at a.now ≡ map box_at b.now) }
-{
-    if a.len() != b.len() {
-        return false;
-    }
-    for (i, place) in a.iter().enumerate() {
-        if !place.same(&b[i]) {
-            return false;
-        }
-    }
-    true
-}
-
-// A digest with what the mailboxes of places store.
-fn mix_places(digest: u64, places: &[BoxPlace]) -> u64
-    ensures { result ≡ mix_boxes digest (map box_at places.now) }
-{
-    let mut mixed = digest;
-    for place in places {
-        mixed = place.mix(mixed);
-    }
-    mixed
+    Ok(())
 }
 
 // Where the first mailbox of a name stands.
@@ -121,34 +82,25 @@ impl Boxes {
     pub fn new(alloc: Global) -> Result<Boxes, NoMemory>
         ensures { IfOk result (λ b. b.boxes ≡ replicate 64 None) }
     {
-        Ok(Boxes {
-            places: free_places(alloc)?,
-            short: 0,
-        })
+        let mut places = Vec::with_capacity(alloc, PLACES)?;
+        add_free(alloc, &mut places, PLACES)?;
+        Ok(Boxes::from_places(places))
     }
 
-    /// The same mailboxes again, with room for a message more in each.
-    pub fn duplicate(&self, alloc: Global) -> Result<Boxes, NoMemory>
-        ensures { IfOk result (λ copy. copy.boxes ≡ self.now.boxes) }
+    /// The mailboxes of 64 places. Takes no memory.
+    pub(crate) fn from_places(places: Vec<BoxPlace>) -> Boxes
+        requires count { length places.items ≡ 64 }
+        requires rooms { AllByRecursion HasRoomFor places.items }
+        ensures { result ≡ table_of places.items }
     {
-        Ok(Boxes {
-            places: duplicate_places(alloc, self.places.as_slice())?,
-            short: 0,
-        })
+        Boxes { places, short: 0 }
     }
 
-    /// Whether there are the same mailboxes, with the same messages. Takes no memory.
-    pub fn same(&self, other: &Boxes) -> bool
-        ensures { IsTrue result ↔ (self.now.boxes ≡ other.now.boxes) }
+    /// The mailboxes and their messages, in as little room as they take.
+    pub fn snapshot(&self, alloc: Global) -> Result<BoxesSnapshot, NoMemory>
+        ensures { IfOk result (λ s. s ≡ self.now.boxes) }
     {
-        same_places(self.places.as_slice(), other.places.as_slice())
-    }
-
-    /// A digest with what the mailboxes store. Takes no memory.
-    pub fn mix(&self, digest: u64) -> u64
-        ensures { result ≡ mix_boxes digest self.now.boxes }
-    {
-        mix_places(digest, self.places.as_slice())
+        BoxesSnapshot::new(alloc, self.places.as_slice())
     }
 
     /// Makes room for a message more in each mailbox. Refused or not, the mailboxes stay.

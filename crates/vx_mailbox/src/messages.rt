@@ -1,18 +1,17 @@
 //! The messages of a mailbox, with a count of their bytes.
 
-ghost use Rattle.std.specs.Prelude.{◌≡◌, ℕ, ◌↔◌, ◌+◌, ◌<◌, ◌≤◌, ◌++◌, ◌∷◌, [], IfOk, IfSome, IsTrue, OnOk, length, nat_le, option_map, position};
-ghost use Rattle.std.specs.List.{find, list_any};
+ghost use Rattle.std.specs.Prelude.{◌≡◌, ℕ, ◌+◌, ◌<◌, ◌≤◌, ◌++◌, ◌∷◌, [], IfOk, IfSome, OnOk, length, nat_le, option_map, position};
+ghost use Rattle.std.specs.List.{AllByRecursion, find, list_any};
 ghost use Rattle.vx_base.specs.Lists.{first, less};
 ghost use Rattle.vx_base.specs.Queues.{body_bytes, stored_bytes};
 ghost use Rattle.vx_base.specs.Roomy.{HasSpace, with_items};
 ghost use Rattle.vx_mailbox.specs.Boxes.{IsShort};
-ghost use Rattle.vx_mailbox.specs.Digest.{mix_messages};
 ghost use Rattle.vx_record.specs.Mailboxes.{this_message};
 
+use crate::message::duplicate_message;
 use std::alloc::Global;
 use std::marker::Model;
 use vx_base::{Body, Id, Msg, NoMemory, Reserved};
-use vx_same::{mix, with_room_of};
 
 /// Messages, the oldest first, with room that was made before. Their bytes are counted, as long as a number can hold the count.
 #[derive(Drop)]
@@ -95,82 +94,6 @@ fn take_all(messages: &mut Reserved<Msg>)
     }
 }
 
-// Whether two texts, or ends of file, are the same.
-fn same_body(a: &Body, b: &Body) -> bool
-    ensures { IsTrue result ↔ (a.now ≡ b.now) }
-{
-    match (a, b) {
-        (Body::Text(a), Body::Text(b)) => *a == *b,
-        (Body::Eof, Body::Eof) => true,
-        _ => false,
-    }
-}
-
-// Whether two messages are the same.
-fn same_message(a: &Msg, b: &Msg) -> bool
-    ensures { IsTrue result ↔ (a.now ≡ b.now) }
-{
-    a.id == b.id && a.writer == b.writer && a.held == b.held && same_body(&a.body, &b.body)
-}
-
-// Whether two lists of messages are the same.
-fn same_messages(a: &[Msg], b: &[Msg]) -> bool
-    ensures { IsTrue result ↔ (a.now ≡ b.now) }
-{
-    if a.len() != b.len() {
-        return false;
-    }
-    for (i, msg) in a.iter().enumerate() {
-        if !same_message(msg, &b[i]) {
-            return false;
-        }
-    }
-    true
-}
-
-// A digest with messages.
-fn mix_messages(digest: u64, messages: &[Msg]) -> u64
-    ensures { result ≡ mix_messages digest messages.now }
-{
-    let mut mixed = digest;
-    for m in messages {
-        mixed = mix(mix(mixed, m.id.0 as u64), m.writer.0 as u64);
-    }
-    mixed
-}
-
-fn duplicate_body(body: &Body) -> Result<Body, NoMemory>
-    ensures { IfOk result (λ copy. copy ≡ body.now) }
-{
-    match body {
-        Body::Text(bytes) => Ok(Body::Text(bytes.copy()?)),
-        Body::Eof => Ok(Body::Eof),
-    }
-}
-
-fn duplicate_message(msg: &Msg) -> Result<Msg, NoMemory>
-    ensures { IfOk result (λ copy. copy ≡ msg.now) }
-{
-    Ok(Msg {
-        id: msg.id,
-        writer: msg.writer,
-        body: duplicate_body(&msg.body)?,
-        held: msg.held,
-    })
-}
-
-// The same messages again, with as much room or more.
-fn duplicate_messages(alloc: Global, messages: &Reserved<Msg>) -> Result<Reserved<Msg>, NoMemory>
-    ensures items { IfOk result (λ copy. copy.items ≡ messages.now.items) }
-    ensures room { IfOk result (λ copy. messages.now.capacity ≤ copy.capacity) }
-{
-    let mut copy = with_room_of(alloc, messages)?;
-    for msg in messages.as_slice() {
-        copy.put(duplicate_message(msg)?);
-    }
-    Ok(copy)
-}
-
 impl Messages {
     /// No messages. Takes no memory.
     pub(crate) fn new(alloc: Global) -> Messages
@@ -182,31 +105,19 @@ impl Messages {
         }
     }
 
-    /// The same messages again, with room for one more.
-    pub(crate) fn duplicate(&self, alloc: Global) -> Result<Messages, NoMemory>
-        ensures items { IfOk result (λ copy. copy.items ≡ self.now.items) }
+    /// The messages of a list again, with room for one more.
+    pub(crate) fn restored(alloc: Global, messages: &[Msg]) -> Result<Messages, NoMemory>
+        requires { AllByRecursion IsShort messages.now }
+        ensures items { IfOk result (λ copy. copy.items ≡ messages.now) }
         ensures room { IfOk result (λ copy. HasSpace copy 1) }
     {
-        let mut items = duplicate_messages(alloc, &self.items)?;
-        items.reserve(1)?;
-        Ok(Messages {
-            items,
-            bytes: self.bytes,
-        })
-    }
-
-    /// Whether there are the same messages. Takes no memory.
-    pub(crate) fn same(&self, other: &Messages) -> bool
-        ensures { IsTrue result ↔ (self.now.items ≡ other.now.items) }
-    {
-        same_messages(self.items.as_slice(), other.items.as_slice())
-    }
-
-    /// A digest with the messages. Takes no memory.
-    pub(crate) fn mix(&self, digest: u64) -> u64
-        ensures { result ≡ mix_messages digest self.now.items }
-    {
-        mix_messages(digest, self.items.as_slice())
+        let mut copy = Messages::new(alloc);
+        for msg in messages {
+            copy.reserve()?;
+            copy.put(duplicate_message(msg)?);
+        }
+        copy.reserve()?;
+        Ok(copy)
     }
 
     /// Makes room for a message more. Refused or not, the messages stay.
@@ -219,7 +130,8 @@ impl Messages {
 
     /// The messages.
     pub(crate) fn as_slice(&self) -> &[Msg]
-        ensures { result.now ≡ self.now.items }
+        ensures items { result.now ≡ self.now.items }
+        ensures short { AllByRecursion IsShort result.now }
     {
         self.items.as_slice()
     }

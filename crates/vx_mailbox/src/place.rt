@@ -1,19 +1,20 @@
 //! The place of a mailbox: one number of the table.
 
-ghost use Rattle.std.specs.Prelude.{◌≡◌, ◌↔◌, ◌+◌, ◌≤◌, ◌++◌, ◌∷◌, ◌==◌, [], false, true, not, IfOk, IfSome, IsTrue, None, OnOk, Some, is_none, is_some, length, nat_le, option_map};
+ghost use Rattle.std.specs.Prelude.{◌≡◌, ◌+◌, ◌≤◌, ◌++◌, ◌∷◌, ◌==◌, [], false, true, not, IfOk, IfSome, IsTrue, None, OnOk, Some, is_none, is_some, length, nat_le, option_map};
 ghost use Rattle.std.specs.List.{find, list_any};
 ghost use Rattle.vx_base.specs.Lists.{first, less};
 ghost use Rattle.vx_base.specs.Queues.{stored_bytes};
 ghost use Rattle.vx_mailbox.specs.Boxes.{IsShort, holding};
-ghost use Rattle.vx_mailbox.specs.Digest.{mix_messages};
+ghost use Rattle.vx_mailbox.specs.Heads.{mailbox_of};
 ghost use Rattle.vx_mailbox.specs.Places.{HasRoomFor, with_box};
 ghost use Rattle.vx_record.specs.Channels.{is_box_of};
 ghost use Rattle.vx_record.specs.Mailboxes.{or_no_box, this_message};
 
+use crate::mailbox::MailboxSnapshot;
 use crate::messages::Messages;
 use std::alloc::Global;
 use std::marker::Model;
-use vx_base::{Id, Msg, Name, NoMemory};
+use vx_base::{Id, Msg, Name, NoMemory, Same};
 
 /// A mailbox without its messages: its name, whether it is permanent and marked for deletion, the longest message that it takes, and
 /// how many bytes it stores at most.
@@ -44,17 +45,6 @@ impl Model for BoxPlace {
     ghost invariant = { λ p. HeldBy p.head p.messages.items };
 }
 
-// Whether two heads are the same.
-fn same_head(a: &Head, b: &Head) -> bool
-    ensures { IsTrue result ↔ (a.now ≡ b.now) }
-{
-    a.name == b.name
-        && a.permanent == b.permanent
-        && a.marked == b.marked
-        && a.maxmsg == b.maxmsg
-        && a.bufquo == b.bufquo
-}
-
 impl BoxPlace {
     /// The place of no mailbox. Takes no memory.
     pub(crate) fn new(alloc: Global) -> BoxPlace
@@ -67,38 +57,24 @@ impl BoxPlace {
         }
     }
 
-    /// The same mailbox again, with room for a message more; or none, and no memory is taken.
-    pub(crate) fn duplicate(&self, alloc: Global) -> Result<BoxPlace, NoMemory>
-        ensures same { IfOk result (λ copy. copy.box ≡ self.now.box) }
-        ensures room { IfOk result HasRoomFor }
+    /// The place of a mailbox in the room of its messages. Takes no memory.
+    pub(crate) fn with(head: Head, messages: Messages) -> BoxPlace
+        ensures { result ≡ record { box = Some (mailbox_of head messages.items); room = messages.capacity } }
+    {
+        BoxPlace {
+            head: Some(head),
+            messages,
+        }
+    }
+
+    /// Its mailbox, with its messages in room for exactly these; or none, and no memory is taken.
+    pub(crate) fn snapshot(&self, alloc: Global) -> Result<Option<MailboxSnapshot>, NoMemory>
+        ensures { IfOk result (λ s. s ≡ self.now.box) }
     {
         match self.head {
-            Some(head) => Ok(BoxPlace {
-                head: Some(head),
-                messages: self.messages.duplicate(alloc)?,
-            }),
-            None => Ok(BoxPlace::new(alloc)),
+            Some(head) => Ok(Some(MailboxSnapshot::new(alloc, head, self.messages.as_slice())?)),
+            None => Ok(None),
         }
-    }
-
-    /// Whether there is the same mailbox, or none. Takes no memory.
-    pub(crate) fn same(&self, other: &BoxPlace) -> bool
-        ensures { IsTrue result ↔ (self.now.box ≡ other.now.box) }
-    {
-        match (&self.head, &other.head) {
-            (Some(head), Some(other_head)) => {
-                same_head(head, other_head) && self.messages.same(&other.messages)
-            }
-            (None, None) => true,
-            _ => false,
-        }
-    }
-
-    /// A digest with what its mailbox stores. Takes no memory.
-    pub(crate) fn mix(&self, digest: u64) -> u64
-        ensures { result ≡ mix_messages digest (or_no_box self.now.box).messages }
-    {
-        self.messages().mix(digest)
     }
 
     /// Makes room for a message more. Refused or not, the mailbox stays.
@@ -264,5 +240,15 @@ impl BoxPlace {
         if let Some(head) = &mut self.head {
             head.marked = true;
         }
+    }
+}
+
+impl Same for Head {
+    fn same(&self, other: &Head) -> bool {
+        self.name == other.name
+            && self.permanent == other.permanent
+            && self.marked == other.marked
+            && self.maxmsg == other.maxmsg
+            && self.bufquo == other.bufquo
     }
 }

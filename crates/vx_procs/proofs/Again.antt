@@ -1,5 +1,6 @@
--- A copy of what the executive keeps holds what it held.
-use Rattle.std.proofs.Common.{◌≡◌, ℕ, zero, suc, List, [], ◌∷◌, ◌++◌, map, slice_index_or, Option, None, ap, subst, sym, ◌∙◌, refl, arith}
+-- What is put away and brought back holds what was held.
+use Rattle.std.proofs.Common.{◌≡◌, ℕ, zero, suc, ◌+◌, ◌<◌, List, [], ◌∷◌, ◌++◌, length, map, slice_index_or, take, Option, None, ap, subst, sym, ◌∙◌, refl, arith}
+use Rattle.std.proofs.lemmas.List.{map-append, map_more}
 use Rattle.vx_base.specs.Clusters.{Common}
 use Rattle.vx_base.specs.Pieces.{Attention, DeviceUnit, Mailbox, Request, Timer}
 use Rattle.vx_base.specs.declared.number.Pid.{Pid}
@@ -27,6 +28,24 @@ wider_more [] [] a b w h = (h, tt)
 wider_more [] (c ∷ news) a b w h = absurd w
 wider_more (c ∷ olds) [] a b w h = absurd w
 wider_more (c ∷ olds) (d ∷ news) a b w h = (w.0, wider_more olds news a b w.1 h)
+
+-- one process more is put away, or brought back
+
+pub process_pushed : {A B : Type 0} (f : A → Process) (g : B → Process) (olds : List A) (copied pushed : List B) (i : ℕ) (a : A) (b : B) → i < length olds → a ≡ slice_index_or olds i a → pushed ≡ copied ++ b ∷ [] → g b ≡ f a → map g copied ≡ map f (take i olds) → map g pushed ≡ map f (take (i + 1) olds)
+process_pushed f g olds copied pushed i a b within is pushed_is same front =
+    ap (map g) pushed_is
+    ∙ (map-append g copied (b ∷ [])
+    ∙ (ap (λ (ps : List Process). ps ++ g b ∷ []) front
+    ∙ (ap (λ (p : Process). map f (take i olds) ++ p ∷ []) (same ∙ ap f is)
+    ∙ sym (map_more f olds i a within))))
+
+pub books_pushed : {A B : Type 0} (f : A → Books) (g : B → Books) (olds : List A) (copied pushed : List B) (i : ℕ) (a : A) (b : B) → i < length olds → a ≡ slice_index_or olds i a → pushed ≡ copied ++ b ∷ [] → IsWider (f a) (g b) → AreWider (map f (take i olds)) (map g copied) → AreWider (map f (take (i + 1) olds)) (map g pushed)
+books_pushed f g olds copied pushed i a b within is pushed_is wide front =
+    let was : map f (take (i + 1) olds) ≡ map f (take i olds) ++ f a ∷ [] = map_more f olds i a within ∙ ap (λ (x : Books). map f (take i olds) ++ x ∷ []) (ap f (sym is)) in
+    let new : map g pushed ≡ map g copied ++ g b ∷ [] = ap (map g) pushed_is ∙ map-append g copied (b ∷ []) in
+    subst (λ (bs : List Books). AreWider bs (map g pushed)) (sym was)
+    (subst (λ (bs : List Books). AreWider (map f (take i olds) ++ f a ∷ []) bs) (sym new)
+    (wider_more (map f (take i olds)) (map g copied) (f a) (g b) front wide))
 
 asked_at : (ks ms : List Kept) → map asked_in ms ≡ map asked_in ks → (k : ℕ) → asked_of (slice_index_or (map ending_of ms) k None) ≡ asked_of (slice_index_or (map ending_of ks) k None)
 asked_at [] [] e k = refl

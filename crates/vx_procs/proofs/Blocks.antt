@@ -1,7 +1,7 @@
 -- Blocks of a list.
-use Rattle.std.proofs.Common.{◌≡◌, ◌≢◌, ℕ, ◌+◌, ◌*◌, ◌/◌, ◌-◌, ◌^◌, min, ◌<◌, ◌≤◌, List, [], ◌∷◌, ◌++◌, length, map, take, drop, slice_set, inl, inr, arith, sym, ap, ◌∙◌, length-append}
+use Rattle.std.proofs.Common.{◌≡◌, ◌≢◌, ℕ, ◌+◌, ◌*◌, ◌/◌, ◌-◌, ◌^◌, min, ◌<◌, ◌≤◌, List, [], ◌∷◌, ◌++◌, length, map, take, drop, slice_index_or, slice_set, inl, inr, arith, sym, ap, ◌∙◌, length-append}
 use Rattle.std.proofs.lemmas.Bool.{cases_lt}
-use Rattle.std.proofs.lemmas.List.{drop-append-le, drop-drop, drop-map, drop-set-add, drop-set-lt, drop_all, length-drop, length-take, take-append-drop, take-append-le, take-map, take-set-le, take_all, take_min}
+use Rattle.std.proofs.lemmas.List.{drop-append-le, drop-drop, drop-map, drop-set-add, drop-set-lt, drop_all, get_or-drop, get_or-take, length-drop, length-take, take-append-drop, take-append-le, take-map, take-set-le, take_all, take_min}
 use Rattle.std.proofs.Math.Nat.{div-eq_of_lt-le}
 use Rattle.vx_procs.specs.Own.{block_of}
 
@@ -59,3 +59,7 @@ block_cut b from to xs is fits ends =
 
 pub block_few : {A : Type 0} (b : ℕ) (xs : List A) → length (block_of b xs) ≤ 32
 block_few b xs = omega (arith, length-take 32 (drop (32 * b) xs))
+
+-- what stands at a place of a block
+pub in_block : {A : Type 0} (b : ℕ) (xs : List A) (i : ℕ) (d : A) → i < 32 → slice_index_or (block_of b xs) i d ≡ slice_index_or xs (32 * b + i) d
+in_block b xs i d near = get_or-take 32 (drop (32 * b) xs) i d near ∙ get_or-drop (32 * b) xs i d

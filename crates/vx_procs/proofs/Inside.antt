@@ -52,3 +52,6 @@ in_again ks ms h same u =
     stands_in : (xs : List Kept) → map stand_of (map ending_of xs) ≡ map stand_in xs
     stands_in [] = refl
     stands_in (k ∷ xs) = ap (λ (ys : List Stand). stand_in k ∷ ys) (stands_in xs)
+
+pub units_again : (ks ms : List Kept) → AllByRecursion IsIn ks → map stand_in ms ≡ map stand_in ks → AllByRecursion IsIn ms
+units_again ks ms h same = all_in ms (in_again ks ms h same)

@@ -14,6 +14,7 @@ pub mod Places
 pub mod Processes
 pub mod Ready
 pub mod Requests
+pub mod Snapshots
 pub mod Summaries
 pub mod Units
 pub mod Unused

@@ -1,6 +1,6 @@
 //! How deep processes are: what the deletion of any of them tells at most.
 
-ghost use Rattle.std.specs.Prelude.{◌≡◌, map};
+ghost use Rattle.std.specs.Prelude.{◌≡◌};
 ghost use Rattle.vx_procs.specs.View.{process};
 ghost use Rattle.vx_procs.specs.Words.{deeper, deepest, depth};
 
@@ -8,7 +8,7 @@ use crate::process::Proc;
 use crate::procs::Core;
 use vx_base::Routine;
 
-// The greater of two numbers.
+/// The greater of two numbers.
 pub(crate) fn deeper(a: u128, b: u128) -> u128
     ensures { result ≡ deeper a b }
 {
@@ -16,28 +16,17 @@ pub(crate) fn deeper(a: u128, b: u128) -> u128
 }
 
 impl<R: Routine> Proc<R> {
-    // How many frames and exit handlers it has.
-    fn depth(&self) -> u128
+    /// How many frames and exit handlers it has.
+    pub(crate) fn depth(&self) -> u128
         ensures { result ≡ depth (process self.now) }
     {
         self.frames.len() as u128 + self.exits.len() as u128
     }
 }
 
-// The most that one of some processes has.
-pub(crate) fn deepest<R: Routine>(procs: &[Proc<R>]) -> u128
-    ensures { result ≡ deepest (map process procs.now) }
-{
-    let mut most = 0;
-    for proc in procs {
-        most = deeper(most, proc.depth());
-    }
-    most
-}
-
 impl<R: Routine> Core<R> {
-    /// The most frames and exit handlers that one process has. Goes over the blocks of 32, and over those processes of which
-    /// nothing is remembered.
+    /// The most frames and exit handlers that one process has. Goes over the blocks of 32, and over the processes of those of which
+    /// nothing is remembered. Takes no memory.
     pub fn depth(&self) -> u128
         ensures { result ≡ deepest self.now.state.procs }
     {

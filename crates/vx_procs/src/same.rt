@@ -2,13 +2,13 @@
 
 ghost use Rattle.std.specs.Prelude.{◌≡◌, ◌↔◌, IsTrue, map};
 ghost use Rattle.std.specs.List.{AllByRecursion};
-ghost use Rattle.vx_procs.specs.Kernel.{AreIn};
 ghost use Rattle.vx_procs.specs.Units.{IsIn};
-ghost use Rattle.vx_procs.specs.View.{process, unit_of};
+ghost use Rattle.vx_procs.specs.Snapshots.{process_in};
+ghost use Rattle.vx_procs.specs.View.{unit_of};
 
 use crate::kept::KeptUnit;
-use crate::process::Proc;
-use crate::procs::Core;
+use crate::proc_snapshot::ProcSnapshot;
+use crate::snapshot::CoreSnapshot;
 use vx_base::{Privs, Routine, Same};
 
 // Whether the first three privileges are the same.
@@ -31,9 +31,9 @@ fn same_privs(a: &Privs, b: &Privs) -> bool
     same_first_privs(a, b) && same_last_privs(a, b)
 }
 
-impl<R: Routine> Proc<R> {
+impl<R: Routine> ProcSnapshot<R> {
     // Whether the declaration, the identification code and the privileges are the same.
-    fn is_same_origin(&self, other: &Proc<R>) -> bool
+    fn is_same_origin(&self, other: &ProcSnapshot<R>) -> bool
         ensures { IsTrue result ↔ ((self.now.decl ≡ other.now.decl) × (self.now.group ≡ other.now.group) × (self.now.member ≡ other.now.member) × (self.now.privs ≡ other.now.privs)) }
     {
         self.decl == other.decl
@@ -43,7 +43,7 @@ impl<R: Routine> Proc<R> {
     }
 
     // Whether what it stores, the frames and the ASTs are the same.
-    fn is_same_inside(&self, other: &Proc<R>) -> bool
+    fn is_same_inside(&self, other: &ProcSnapshot<R>) -> bool
         ensures { IsTrue result ↔ ((self.now.store ≡ other.now.store) × (self.now.frames.items ≡ other.now.frames.items) × (self.now.asts.items ≡ other.now.asts.items) × (self.now.asts.enables ≡ other.now.asts.enables)) }
     {
         self.store.same(&other.store)
@@ -53,7 +53,7 @@ impl<R: Routine> Proc<R> {
     }
 
     // Whether the channels, the exit handlers and the event flags are the same.
-    fn is_same_outside(&self, other: &Proc<R>) -> bool
+    fn is_same_outside(&self, other: &ProcSnapshot<R>) -> bool
         ensures { IsTrue result ↔ ((self.now.chans ≡ other.now.chans) × (self.now.exits.items ≡ other.now.exits.items) × (self.now.cluster_0 ≡ other.now.cluster_0) × (self.now.cluster_1 ≡ other.now.cluster_1)) }
     {
         self.chans.same(&other.chans)
@@ -63,7 +63,7 @@ impl<R: Routine> Proc<R> {
     }
 
     // Whether what pends, the exit code and the phase are the same.
-    fn is_same_phase(&self, other: &Proc<R>) -> bool
+    fn is_same_phase(&self, other: &ProcSnapshot<R>) -> bool
         ensures { IsTrue result ↔ ((self.now.wake_pending ≡ other.now.wake_pending) × (self.now.suspended ≡ other.now.suspended) × (self.now.delete_pending ≡ other.now.delete_pending) × (self.now.exit_code ≡ other.now.exit_code) × (self.now.phase ≡ other.now.phase)) }
     {
         self.wake_pending == other.wake_pending
@@ -74,8 +74,8 @@ impl<R: Routine> Proc<R> {
     }
 
     // Whether the processes are the same.
-    fn same(&self, other: &Proc<R>) -> bool
-        ensures { IsTrue result ↔ (process self.now ≡ process other.now) }
+    fn same(&self, other: &ProcSnapshot<R>) -> bool
+        ensures { IsTrue result ↔ (process_in self.now ≡ process_in other.now) }
     {
         self.is_same_origin(other)
             && self.is_same_inside(other)
@@ -85,8 +85,8 @@ impl<R: Routine> Proc<R> {
 }
 
 // Whether two lists of processes are the same.
-fn same_procs<R: Routine>(a: &[Proc<R>], b: &[Proc<R>]) -> bool
-    ensures { IsTrue result ↔ (map process a.now ≡ map process b.now) }
+fn same_procs<R: Routine>(a: &[ProcSnapshot<R>], b: &[ProcSnapshot<R>]) -> bool
+    ensures { IsTrue result ↔ (map process_in a.now ≡ map process_in b.now) }
 {
     if a.len() != b.len() {
         return false;
@@ -117,36 +117,32 @@ fn same_units(a: &[KeptUnit], b: &[KeptUnit]) -> bool
     true
 }
 
-impl<R: Routine> Core<R> {
+impl<R: Routine> CoreSnapshot<R> {
     // Whether the system, the time, the next id, the processes and the common clusters are the same.
-    fn is_same_first(&self, other: &Core<R>) -> bool
-        ensures { IsTrue result ↔ ((self.now.state.system ≡ other.now.state.system) × (self.now.state.time ≡ other.now.state.time) × (self.now.state.next ≡ other.now.state.next) × (self.now.state.procs ≡ other.now.state.procs) × (self.now.state.common ≡ other.now.state.common)) }
+    fn is_same_first(&self, other: &CoreSnapshot<R>) -> bool
+        ensures { IsTrue result ↔ ((self.now.system ≡ other.now.system) × (self.now.time ≡ other.now.time) × (self.now.next ≡ other.now.next) × (self.now.procs ≡ other.now.procs) × (self.now.common ≡ other.now.common)) }
     {
         self.time == other.time
             && self.next == other.next
-            && same_procs(self.procs.as_slice(), other.procs.as_slice())
+            && same_procs(&self.procs, &other.procs)
             && self.clusters.same(&other.clusters)
             && self.system.get().same(other.system.get())
     }
 
     // Whether the requests, the timers, the attention entries, the mailboxes and the units are the same.
-    fn is_same_last(&self, other: &Core<R>) -> bool
-        requires here { AreIn self.now }
-        requires there { AreIn other.now }
-        ensures { IsTrue result ↔ ((self.now.state.requests ≡ other.now.state.requests) × (self.now.state.timers ≡ other.now.state.timers) × (self.now.state.attention ≡ other.now.state.attention) × (self.now.state.boxes ≡ other.now.state.boxes) × (self.now.state.units ≡ other.now.state.units)) }
+    fn is_same_last(&self, other: &CoreSnapshot<R>) -> bool
+        ensures { IsTrue result ↔ ((self.now.requests ≡ other.now.requests) × (self.now.timers ≡ other.now.timers) × (self.now.attention ≡ other.now.attention) × (self.now.boxes ≡ other.now.boxes) × (self.now.units ≡ other.now.units)) }
     {
         self.requests.same(&other.requests)
             && self.timers.same(&other.timers)
             && self.attention.same(&other.attention)
             && self.boxes.same(&other.boxes)
-            && same_units(self.units.as_slice(), other.units.as_slice())
+            && same_units(&self.units, &other.units)
     }
 
-    /// Whether the states are the same: room and what was told are passed over. Takes no memory.
-    pub fn same(&self, other: &Core<R>) -> bool
-        requires here { AreIn self.now }
-        requires there { AreIn other.now }
-        ensures { IsTrue result ↔ (self.now.state ≡ other.now.state) }
+    /// Whether the states are the same. Takes no memory.
+    pub fn same(&self, other: &CoreSnapshot<R>) -> bool
+        ensures { IsTrue result ↔ (self.now ≡ other.now) }
     {
         self.is_same_first(other) && self.is_same_last(other)
     }

@@ -1,38 +1,34 @@
 //! The processes, and what is remembered of them.
 //!
-//! The processes stand in blocks of 32. Of a block it is remembered how many of its processes have an event, and how deep they are.
-//! Who is lent a process to change makes its block forgotten first, so what is remembered of the others stays right.
+//! Of each process it is remembered whether it has an event, if it alone tells that, and how deep it is. The processes stand in
+//! blocks of 32, and of a block it is remembered how many of its processes have an event, and how deep the deepest is. Who is lent a
+//! process to change makes it and its block forgotten first, so what is remembered of the others stays right.
 
-ghost use Rattle.std.specs.Prelude.{◌≡◌, ℕ, ◌+◌, ◌-◌, ◌<◌, ◌≤◌, ◌++◌, ◌∷◌, [], None, length, map, slice_index_or, slice_set, vec_capacity, vec_len, IfSome, OnOk};
+ghost use Rattle.std.specs.Prelude.{◌≡◌, ◌+◌, ◌-◌, ◌<◌, ◌++◌, ◌∷◌, [], None, Some, length, map, slice_index_or, vec_capacity, vec_len, IfSome, OnOk};
 ghost use Rattle.std.specs.Borrow.{sem, Lends};
 ghost use Rattle.std.specs.Vec.{with_item};
-ghost use Rattle.vx_procs.specs.Own.{AreOwn, block_of};
+ghost use Rattle.vx_procs.specs.Own.{AreOwn, block_of, own_event};
 ghost use Rattle.vx_procs.specs.Processes.{process};
+ghost use Rattle.vx_record.specs.State.{IsWithin, nobody};
 ghost use Rattle.vx_procs.specs.Summaries.{AreRight, IsSummary};
 ghost use Rattle.vx_procs.specs.Words.{deepest};
-ghost use Rattle.vx_record.specs.State.{IsWithin};
 
-use crate::depth::{deeper, deepest};
+use crate::block::{BLOCK, block};
+use crate::depth::deeper;
+use crate::places::{cover, forget, remembered};
 use crate::process::Proc;
+use crate::seen::{Seen, look};
+use crate::summary::{Summary, deepest_in, summarize};
 use std::alloc::Global;
 use std::marker::Model;
 use vx_base::{NoMemory, Pid, Routine};
-
-/// How many processes a block has.
-const BLOCK: usize = 32;
-
-/// What is remembered of a block of processes: how many of them have an event, if each alone tells whether it has one; and
-/// the most frames and exit handlers that one has.
-#[derive(Clone, Copy, Debug)]
-struct Summary {
-    events: Option<u32>,
-    depth: u128,
-}
 
 /// The processes in the order of their numbers. Contracts see these alone.
 #[derive(Drop)]
 pub(crate) struct Procs<R: Routine> {
     items: Vec<Proc<R>>,
+    // a place for each process; None if nothing is remembered of it
+    seen: Vec<Option<Seen>>,
     // a place for each block; None if nothing is remembered of it
     summaries: Vec<Option<Summary>>,
 }
@@ -48,70 +44,22 @@ impl<R: Routine> Model for Procs<R> {
 
     ghost view = { λ t. t.items };
 
-    ghost invariant = { λ t. AreRight t.summaries.items t.items.items };
+    ghost invariant = { λ t. AreRight t.seen.items t.summaries.items t.items.items };
 }
 
-// How many of some processes have an event, if each alone tells whether it has one.
-fn count_events<R: Routine>(procs: &[Proc<R>]) -> Option<u32>
-    requires { length procs.now ≤ 32 }
-    ensures { IfSome result (λ n. AreOwn n (map process procs.now)) }
-{
-    let mut count: u32 = 0;
-    for proc in procs {
-        if proc.own_event()? {
-            count += 1;
-        }
-    }
-    Some(count)
-}
-
-// What there is to remember of some processes.
-fn summarize<R: Routine>(procs: &[Proc<R>]) -> Summary
-    requires { length procs.now ≤ 32 }
-    ensures { IsSummary result (map process procs.now) }
-{
-    Summary {
-        events: count_events(procs),
-        depth: deepest(procs),
-    }
-}
-
-// The processes of a block.
-fn block<R: Routine>(procs: &[Proc<R>], b: usize) -> &[Proc<R>]
-    ensures { result.now ≡ block_of b procs.now }
-{
-    let from = b.saturating_mul(BLOCK).min(procs.len());
-    let rest = &procs[from..];
-    &rest[..BLOCK.min(rest.len())]
-}
-
-// Makes a place for each of so many blocks.
-fn cover(summaries: &mut Vec<Option<Summary>>, blocks: usize) -> Result<(), NoMemory>
-    ensures { (b : ℕ) → slice_index_or summaries.new.items b None ≡ slice_index_or summaries.old.items b None }
-{
-    while summaries.len() < blocks {
-        summaries.push(None)?;
-    }
-    Ok(())
-}
-
-// Forgets a block.
-fn forget(summaries: &mut Vec<Option<Summary>>, b: usize)
-    ensures { summaries.new.items ≡ slice_set summaries.old.items b None }
-{
-    if b < summaries.len() {
-        summaries[b] = None;
-    }
-}
-
-// Remembers each block that was forgotten.
-fn refresh<R: Routine>(summaries: &mut Vec<Option<Summary>>, procs: &[Proc<R>])
-    requires { AreRight summaries.old.items procs.now }
-    ensures { AreRight summaries.new.items procs.now }
+// Remembers each block that was forgotten, and of its processes those that were.
+fn refresh<R: Routine>(
+    seen: &mut Vec<Option<Seen>>,
+    summaries: &mut Vec<Option<Summary>>,
+    procs: &[Proc<R>],
+)
+    requires { AreRight seen.old.items summaries.old.items procs.now }
+    ensures { AreRight seen.new.items summaries.new.items procs.now }
 {
     for b in 0..summaries.len() {
         if summaries[b].is_none() {
-            summaries[b] = Some(summarize(block(procs, b)));
+            look(seen, procs, b);
+            summaries[b] = Some(summarize(block(seen, b), block(procs, b)));
         }
     }
 }
@@ -126,6 +74,7 @@ impl<R: Routine> Procs<R> {
     {
         Procs {
             items,
+            seen: Vec::new(alloc),
             summaries: Vec::new(alloc),
         }
     }
@@ -159,6 +108,7 @@ impl<R: Routine> Procs<R> {
         ensures value { result.now ≡ slice_index_or self.old.items (p.0 - 1) result.now }
     {
         let place = p.0 as usize - 1;
+        forget(&mut self.seen, place);
         forget(&mut self.summaries, place / BLOCK);
         &mut self.items[place]
     }
@@ -169,6 +119,7 @@ impl<R: Routine> Procs<R> {
         ensures room { OnOk result (vec_len self.new < vec_capacity self.new) }
     {
         self.items.reserve(1)?;
+        cover(&mut self.seen, self.items.len() + 1)?;
         cover(&mut self.summaries, self.items.len() / BLOCK + 1)
     }
 
@@ -177,7 +128,9 @@ impl<R: Routine> Procs<R> {
         requires { vec_len self.old < vec_capacity self.old }
         ensures { self.new.items ≡ self.old.items ++ proc ∷ [] }
     {
-        forget(&mut self.summaries, self.items.len() / BLOCK);
+        let place = self.items.len();
+        forget(&mut self.seen, place);
+        forget(&mut self.summaries, place / BLOCK);
         match self.items.push(proc) {
             Ok(()) => (),
             Err(_) => unreachable!(),
@@ -188,24 +141,29 @@ impl<R: Routine> Procs<R> {
     pub(crate) fn refresh(&mut self)
         ensures { self.new ≡ self.old }
     {
-        refresh(&mut self.summaries, self.items.as_slice());
+        refresh(&mut self.seen, &mut self.summaries, self.items.as_slice());
+    }
+
+    /// Whether a process has an event; None where that is not known without a look at it.
+    pub(crate) fn event_of(&self, p: Pid) -> Option<bool>
+        requires { IsWithin (length self.now.items) p }
+        ensures { IfSome result (λ has. own_event (slice_index_or (map process self.now.items) (p.0 - 1) nobody) ≡ Some has) }
+    {
+        remembered(&self.seen, p.0 as usize - 1)?.event()
     }
 
     // What is remembered of a block.
     fn summary(&self, b: usize) -> Option<Summary>
         ensures { IfSome result (λ m. IsSummary m (block_of b (map process self.now.items))) }
     {
-        match self.summaries.get(b) {
-            Some(summary) => *summary,
-            None => None,
-        }
+        remembered(&self.summaries, b)
     }
 
     /// How many processes of a block have an event; None where that is not known without a look at each.
     pub(crate) fn events_in(&self, b: usize) -> Option<u32>
         ensures { IfSome result (λ n. AreOwn n (block_of b (map process self.now.items))) }
     {
-        self.summary(b)?.events
+        self.summary(b)?.events()
     }
 
     // The most frames and exit handlers that one of a block has.
@@ -213,8 +171,8 @@ impl<R: Routine> Procs<R> {
         ensures { result ≡ deepest (block_of b (map process self.now.items)) }
     {
         match self.summary(b) {
-            Some(summary) => summary.depth,
-            None => deepest(block(self.items.as_slice(), b)),
+            Some(summary) => summary.depth(),
+            None => deepest_in(block(&self.seen, b), block(self.items.as_slice(), b)),
         }
     }
 

@@ -1,5 +1,5 @@
 use Rattle.std.proofs.Common.{◌≡◌, ◌≤◌, ◌-◌, length}
-use Rattle.vx_image.specs.Buffers.{filled}
+use Rattle.vx_image.specs.Filled.{filled}
 use Rattle.vx_image.proofs.buffers.fill.Given as goal
 
 abbrev pub invariant-loop-pages : goal.invariant-loop-pages

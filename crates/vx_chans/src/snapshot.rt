@@ -1,0 +1,81 @@
+//! The channels of a process in as little room as they take.
+
+ghost use Rattle.std.specs.Prelude.{◌≡◌, ◌↔◌, ◌≤◌, IfOk, IsTrue, None, length};
+ghost use Rattle.vx_same.specs.Trimmed.{filled_to, trimmed};
+
+use crate::chans::{CHANNELS, Chans};
+use crate::row::Row;
+use std::alloc::Global;
+use std::marker::Model;
+use vx_base::{NoMemory, Same};
+use vx_same::same_options;
+
+/// The channels up to the last one that is assigned. Contracts see all 64, as those of `Chans`.
+#[derive(Drop)]
+pub struct ChansSnapshot {
+    rows: Vec<Option<Row>>,
+}
+
+impl Model for ChansSnapshot {
+    ghost use Rattle.std.specs.Prelude.{◌≡◌, ◌≤◌, List, None, Option, vec_len};
+    ghost use Rattle.vx_base.specs.Pieces.{Channel};
+    ghost use Rattle.vx_same.specs.Trimmed.{filled_to, trimmed};
+
+    ghost Value = { List (Option Channel) };
+
+    ghost view = { λ s. filled_to 64 None s.rows.items };
+
+    ghost invariant = { λ s. (vec_len s.rows ≤ 64) × (trimmed s.rows.items ≡ s.rows.items) };
+}
+
+// The rows up to the last one that is assigned.
+#[tactic(auto, using(vx_same::proofs::Trimmed::some_last, vx_same::proofs::Trimmed::none_last))]
+fn trimmed(rows: &[Option<Row>]) -> &[Option<Row>]
+    ensures { result.now ≡ trimmed rows.now }
+{
+    let mut kept = rows;
+    while let Some((None, front)) = kept.split_last() {
+        kept = front;
+    }
+    kept
+}
+
+// All 64, of which those behind the given ones are free.
+fn filled(alloc: Global, rows: &[Option<Row>]) -> Result<Vec<Option<Row>>, NoMemory>
+    requires { length rows.now ≤ 64 }
+    ensures rows { IfOk result (λ all. all.items ≡ filled_to 64 None rows.now) }
+    ensures count { IfOk result (λ all. length all.items ≡ 64) }
+{
+    let mut all = Vec::with_capacity(alloc, CHANNELS)?;
+    all.extend_from_slice(rows)?;
+    all.resize(CHANNELS, None)?;
+    Ok(all)
+}
+
+impl ChansSnapshot {
+    /// The channels of 64 rows. Takes memory for those up to the last one that is assigned.
+    #[tactic(auto, using(vx_same::proofs::Trimmed::shorter, vx_same::proofs::Trimmed::filled_again, vx_same::proofs::Trimmed::trimmed_again))]
+    pub(crate) fn new(alloc: Global, rows: &[Option<Row>]) -> Result<ChansSnapshot, NoMemory>
+        requires { length rows.now ≡ 64 }
+        ensures { IfOk result (λ s. s ≡ rows.now) }
+    {
+        Ok(ChansSnapshot {
+            rows: Vec::from_slice(alloc, trimmed(rows))?,
+        })
+    }
+
+    /// The same channels again, with room for all 64.
+    pub fn restore(&self, alloc: Global) -> Result<Chans, NoMemory>
+        ensures { IfOk result (λ c. c ≡ self.now) }
+    {
+        Ok(Chans::from_rows(filled(alloc, self.rows.as_slice())?))
+    }
+
+    /// Whether the same channels are assigned to the same devices, in the same modes. Takes no memory.
+    #[tactic(auto, using(vx_same::proofs::Trimmed::same_filled))]
+    pub fn same(&self, other: &ChansSnapshot) -> bool
+        ensures { IsTrue result ↔ (self.now ≡ other.now) }
+    {
+        same_options(self.rows.as_slice(), other.rows.as_slice())
+    }
+}

@@ -1,0 +1,82 @@
+//! The executive, put away.
+
+ghost use Rattle.std.specs.Prelude.{◌≡◌, ◌↔◌, IfOk, IsTrue};
+ghost use Rattle.vx_procs.specs.Digest.{digest_of};
+ghost use Rattle.vx_exec.specs.Sound.{IsGoing};
+
+use crate::engine::Engine;
+use crate::exec::Exec;
+use std::alloc::Global;
+use std::marker::Model;
+use vx_base::{NoMemory, Routine};
+use vx_io::Rooms;
+use vx_procs::CoreSnapshot;
+
+/// An executive at one moment, in as little room as it takes: what the script says is shared, what was never written takes nothing, and
+/// there is no room for what may come. Two can be compared, and one can be brought back as often as is wanted. It is for
+/// routines of scripts, which are made from their tags.
+#[derive(Drop)]
+pub struct ExecSnapshot<R: Routine> {
+    core: CoreSnapshot<R>,
+    limit: u32,
+    taken: u32,
+    alloc: Global,
+}
+
+impl<R: Routine> Model for ExecSnapshot<R> {
+    ghost use Rattle.vx_exec.specs.Sound.{IsGoing};
+    ghost use Rattle.vx_exec.specs.View.{Executive};
+
+    ghost Value = { Executive };
+
+    ghost view = { λ s. record { state = s.core; limit = s.limit; taken = s.taken } };
+
+    ghost invariant = { λ s. IsGoing s.core s.limit s.taken };
+}
+
+impl<R: Routine> ExecSnapshot<R> {
+    /// A state of a run that goes on, the limit of the run, and how many records it has.
+    pub(crate) fn new(
+        core: CoreSnapshot<R>,
+        limit: u32,
+        taken: u32,
+        alloc: Global,
+    ) -> ExecSnapshot<R>
+        requires { IsGoing core limit taken }
+        ensures { result ≡ record { state = core; limit = limit; taken = taken } }
+    {
+        ExecSnapshot {
+            core,
+            limit,
+            taken,
+            alloc,
+        }
+    }
+
+    /// The executive that was put away.
+    pub fn restore(&self) -> Result<Exec<R>, NoMemory>
+        ensures { IfOk result (λ exec. exec ≡ self.now) }
+    {
+        Ok(Exec::from_engine(Engine {
+            core: self.core.restore()?,
+            limit: self.limit,
+            taken: self.taken,
+            alloc: self.alloc,
+            rooms: Rooms::new(),
+        }))
+    }
+
+    /// Whether both are in the same state, after as many records and with the same limit. Takes no memory.
+    pub fn same(&self, other: &ExecSnapshot<R>) -> bool
+        ensures { IsTrue result ↔ (self.now ≡ other.now) }
+    {
+        self.taken == other.taken && self.limit == other.limit && self.core.same(&other.core)
+    }
+
+    /// The state as a number. Equal states have the same; states that differ have the same seldom. Takes no memory.
+    pub fn digest(&self) -> u64
+        ensures { result ≡ digest_of self.now.state }
+    {
+        self.core.digest()
+    }
+}

@@ -1,0 +1,96 @@
+//! What a process stores, put away in as little room as it takes.
+
+ghost use Rattle.std.specs.Prelude.{◌≡◌, ◌↔◌, IfOk, IsTrue};
+ghost use Rattle.vx_image.specs.Digest.{mix_all, mix_stored};
+
+use crate::buffers::BuffersSnapshot;
+use crate::status::StatusesSnapshot;
+use crate::store::{Store, VARIABLES};
+use std::alloc::Global;
+use std::marker::Model;
+use vx_base::NoMemory;
+use vx_same::mix;
+
+/// What a process stores, put away: of its buffers the bytes that were ever written, and its I/O status blocks up to the last that
+/// is not clear. Contracts see all that is stored.
+#[derive(Drop)]
+pub struct StoreSnapshot {
+    vars: [u32; VARIABLES],
+    r0: u32,
+    buffers: BuffersSnapshot,
+    statuses: StatusesSnapshot,
+}
+
+impl Model for StoreSnapshot {
+    ghost use Rattle.vx_image.specs.Storage.{Storage};
+
+    ghost Value = { Storage };
+
+    ghost view = { λ s. record { vars = s.vars; r0 = s.r0; buffers = s.buffers; statuses = s.statuses } };
+}
+
+// Whether two lists of variables are the same.
+fn same_variables(a: &[u32], b: &[u32]) -> bool
+    ensures { IsTrue result ↔ (a.now ≡ b.now) }
+{
+    a == b
+}
+
+// A digest with numbers more.
+fn mix_all(digest: u64, numbers: &[u32]) -> u64
+    ensures { result ≡ mix_all digest numbers.now }
+{
+    let mut mixed = digest;
+    for n in numbers {
+        mixed = mix(mixed, *n as u64);
+    }
+    mixed
+}
+
+impl Store {
+    /// The same, put away. It takes memory for what was written.
+    pub fn snapshot(&self, alloc: Global) -> Result<StoreSnapshot, NoMemory>
+        ensures { IfOk result (λ snapshot. snapshot ≡ self.now) }
+    {
+        let buffers = BuffersSnapshot::of(alloc, &self.buffers)?;
+        let statuses = StatusesSnapshot::of(alloc, &self.statuses)?;
+        Ok(StoreSnapshot {
+            vars: self.vars,
+            r0: self.r0,
+            buffers,
+            statuses,
+        })
+    }
+}
+
+impl StoreSnapshot {
+    /// What was put away, with room for all buffers. It takes as much memory as `Store::new`.
+    pub fn restore(&self, alloc: Global) -> Result<Store, NoMemory>
+        ensures { IfOk result (λ store. store ≡ self.now) }
+    {
+        Ok(Store {
+            vars: self.vars,
+            r0: self.r0,
+            buffers: self.buffers.restore(alloc)?,
+            statuses: self.statuses.restore(),
+        })
+    }
+
+    /// Whether the same is stored. Takes no memory.
+    pub fn same(&self, other: &StoreSnapshot) -> bool
+        ensures { IsTrue result ↔ (self.now ≡ other.now) }
+    {
+        self.r0 == other.r0
+            && same_variables(&self.vars, &other.vars)
+            && self.statuses.same(&other.statuses)
+            && self.buffers.same(&other.buffers)
+    }
+
+    /// A digest with R0, the variables, and the numbers of the I/O status blocks. Takes no memory.
+    pub fn mix(&self, digest: u64) -> u64
+        ensures { result ≡ mix_stored digest self.now }
+    {
+        let values = mix_all(mix(digest, self.r0 as u64), &self.vars);
+        self.statuses.mix(values)
+    }
+}

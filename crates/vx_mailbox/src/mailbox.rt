@@ -1,0 +1,75 @@
+//! One mailbox in as little room as it takes.
+
+ghost use Rattle.std.specs.Prelude.{◌≡◌, IfOk, Some};
+ghost use Rattle.std.specs.List.{AllByRecursion};
+ghost use Rattle.vx_mailbox.specs.Boxes.{IsShort};
+ghost use Rattle.vx_mailbox.specs.Digest.{mix_messages};
+ghost use Rattle.vx_mailbox.specs.Heads.{mailbox_of};
+ghost use Rattle.vx_mailbox.specs.Places.{HasRoomFor};
+
+use crate::message::{duplicate_messages, mix_messages, same_messages};
+use crate::messages::Messages;
+use crate::place::{BoxPlace, Head};
+use std::alloc::Global;
+use std::marker::Model;
+use vx_base::{Msg, NoMemory, Same};
+
+/// A mailbox, with room for exactly its messages. Contracts see the plain `Mailbox` of `vx_base`.
+#[derive(Drop)]
+pub(crate) struct MailboxSnapshot {
+    head: Head,
+    messages: Vec<Msg>,
+}
+
+impl Model for MailboxSnapshot {
+    ghost use Rattle.std.specs.List.{AllByRecursion};
+    ghost use Rattle.vx_base.specs.Pieces.{Mailbox};
+    ghost use Rattle.vx_mailbox.specs.Boxes.{IsShort};
+    ghost use Rattle.vx_mailbox.specs.Heads.{mailbox_of};
+
+    ghost Value = { Mailbox };
+
+    ghost view = { λ s. mailbox_of s.head s.messages.items };
+
+    ghost invariant = { λ s. AllByRecursion IsShort s.messages.items };
+}
+
+impl MailboxSnapshot {
+    /// The mailbox of a head and messages, which are copied.
+    pub(crate) fn new(
+        alloc: Global,
+        head: Head,
+        messages: &[Msg],
+    ) -> Result<MailboxSnapshot, NoMemory>
+        requires { AllByRecursion IsShort messages.now }
+        ensures { IfOk result (λ s. s ≡ mailbox_of head messages.now) }
+    {
+        Ok(MailboxSnapshot {
+            head,
+            messages: duplicate_messages(alloc, messages)?,
+        })
+    }
+
+    /// The same mailbox again, with room for a message more.
+    pub(crate) fn restore(&self, alloc: Global) -> Result<BoxPlace, NoMemory>
+        ensures same { IfOk result (λ place. place.box ≡ Some self.now) }
+        ensures room { IfOk result HasRoomFor }
+    {
+        let messages = Messages::restored(alloc, self.messages.as_slice())?;
+        Ok(BoxPlace::with(self.head, messages))
+    }
+
+    /// A digest with what it stores. Takes no memory.
+    pub(crate) fn mix(&self, digest: u64) -> u64
+        ensures { result ≡ mix_messages digest self.now.messages }
+    {
+        mix_messages(digest, self.messages.as_slice())
+    }
+}
+
+impl Same for MailboxSnapshot {
+    fn same(&self, other: &MailboxSnapshot) -> bool {
+        self.head.same(&other.head)
+            && same_messages(self.messages.as_slice(), other.messages.as_slice())
+    }
+}

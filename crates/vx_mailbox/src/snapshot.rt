@@ -1,0 +1,146 @@
+//! The mailboxes in as little room as they take.
+
+ghost use Rattle.std.specs.Prelude.{◌≡◌, ◌↔◌, ◌∷◌, [], IfOk, IsTrue, length, map};
+ghost use Rattle.std.specs.List.{AllByRecursion};
+ghost use Rattle.vx_mailbox.specs.Digest.{mix_boxes};
+ghost use Rattle.vx_mailbox.specs.Places.{HasRoomFor, box_at};
+ghost use Rattle.vx_same.specs.Trimmed.{trimmed};
+
+use crate::boxes::{Boxes, PLACES, add_free};
+use crate::mailbox::MailboxSnapshot;
+use crate::place::BoxPlace;
+use std::alloc::Global;
+use std::marker::Model;
+use vx_base::NoMemory;
+use vx_same::same_options;
+
+/// The mailboxes up to the last one, each with room for exactly its messages. Contracts see all 64 numbers.
+#[derive(Drop)]
+pub struct BoxesSnapshot {
+    boxes: Vec<Option<MailboxSnapshot>>,
+}
+
+impl Model for BoxesSnapshot {
+    ghost use Rattle.std.specs.Prelude.{◌≡◌, ◌≤◌, List, None, Option, vec_len};
+    ghost use Rattle.vx_base.specs.Pieces.{Mailbox};
+    ghost use Rattle.vx_same.specs.Trimmed.{filled_to, trimmed};
+
+    ghost Value = { List (Option Mailbox) };
+
+    ghost view = { λ s. filled_to 64 None s.boxes.items };
+
+    ghost invariant = { λ s. (vec_len s.boxes ≤ 64) × (trimmed s.boxes.items ≡ s.boxes.items) };
+}
+
+// The places up to the last mailbox.
+#[tactic(auto, using(crate::proofs::Trimmed::used_last, crate::proofs::Trimmed::free_last))]
+fn trimmed(places: &[BoxPlace]) -> &[BoxPlace]
+    ensures { map box_at result.now ≡ trimmed (map box_at places.now) }
+{
+    let mut kept = places;
+    while let Some((last, front)) = kept.split_last() {
+        if !last.is_free() {
+            return kept;
+        }
+        kept = front;
+    }
+    kept
+}
+
+// The mailboxes of places up to the last one, each with room for exactly its messages.
+fn put_away(alloc: Global, places: &[BoxPlace]) -> Result<Vec<Option<MailboxSnapshot>>, NoMemory>
+    ensures { IfOk result (λ boxes. boxes.items ≡ trimmed (map box_at places.now)) }
+{
+    let kept = trimmed(places);
+    let mut boxes = Vec::with_capacity(alloc, kept.len())?;
+    for place in kept {
+        boxes.push(place.snapshot(alloc)?)?;
+    }
+    Ok(boxes)
+}
+
+// The place of a mailbox, with room for a message more, or of none.
+fn restored(alloc: Global, mailbox: &Option<MailboxSnapshot>) -> Result<BoxPlace, NoMemory>
+    ensures same { IfOk result (λ place. place.box ≡ mailbox.now) }
+    ensures room { IfOk result HasRoomFor }
+{
+    match mailbox {
+        Some(mailbox) => mailbox.restore(alloc),
+        None => Ok(BoxPlace::new(alloc)),
+    }
+}
+
+// The places of mailboxes, each with room for a message more, and room for all 64.
+fn restored_places(
+    alloc: Global,
+    boxes: &[Option<MailboxSnapshot>],
+) -> Result<Vec<BoxPlace>, NoMemory>
+    ensures boxes { IfOk result (λ places. map box_at places.items ≡ boxes.now) }
+    ensures rooms { IfOk result (λ places. AllByRecursion HasRoomFor places.items) }
+{
+    let mut places = Vec::with_capacity(alloc, PLACES)?;
+    for mailbox in boxes {
+        places.push(restored(alloc, mailbox)?)?;
+    }
+    Ok(places)
+}
+
+// A digest with what a mailbox stores, if there is one.
+fn mix_mailbox(digest: u64, mailbox: &Option<MailboxSnapshot>) -> u64
+    ensures { result ≡ mix_boxes digest (mailbox.now ∷ []) }
+{
+    match mailbox {
+        Some(mailbox) => mailbox.mix(digest),
+        None => digest,
+    }
+}
+
+// A digest with what mailboxes store.
+fn mix_mailboxes(digest: u64, boxes: &[Option<MailboxSnapshot>]) -> u64
+    ensures { result ≡ mix_boxes digest boxes.now }
+{
+    let mut mixed = digest;
+    for mailbox in boxes {
+        mixed = mix_mailbox(mixed, mailbox);
+    }
+    mixed
+}
+
+impl BoxesSnapshot {
+    /// The mailboxes of 64 places. Takes memory for those up to the last mailbox, and for their messages.
+    #[tactic(auto, using(crate::proofs::Trimmed::trimmed_few, crate::proofs::Trimmed::boxes_again, vx_same::proofs::Trimmed::trimmed_again))]
+    pub(crate) fn new(alloc: Global, places: &[BoxPlace]) -> Result<BoxesSnapshot, NoMemory>
+        requires { length places.now ≡ 64 }
+        ensures { IfOk result (λ s. s ≡ map box_at places.now) }
+    {
+        Ok(BoxesSnapshot {
+            boxes: put_away(alloc, places)?,
+        })
+    }
+
+    /// The same mailboxes again, with room for a message more in each.
+    pub fn restore(&self, alloc: Global) -> Result<Boxes, NoMemory>
+        ensures { IfOk result (λ b. b.boxes ≡ self.now) }
+    {
+        let mut places = restored_places(alloc, self.boxes.as_slice())?;
+        let free = PLACES - places.len();
+        add_free(alloc, &mut places, free)?;
+        Ok(Boxes::from_places(places))
+    }
+
+    /// Whether there are the same mailboxes, with the same messages. Takes no memory.
+    #[tactic(auto, using(vx_same::proofs::Trimmed::same_filled))]
+    pub fn same(&self, other: &BoxesSnapshot) -> bool
+        ensures { IsTrue result ↔ (self.now ≡ other.now) }
+    {
+        same_options(self.boxes.as_slice(), other.boxes.as_slice())
+    }
+
+    /// A digest with what the mailboxes store. Takes no memory.
+    #[tactic(auto, using(crate::proofs::Trimmed::mix_filled))]
+    pub fn mix(&self, digest: u64) -> u64
+        ensures { result ≡ mix_boxes digest self.now }
+    {
+        mix_mailboxes(digest, self.boxes.as_slice())
+    }
+}

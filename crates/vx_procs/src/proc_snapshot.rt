@@ -1,0 +1,113 @@
+//! One process, put away.
+
+ghost use Rattle.std.specs.Prelude.{◌≡◌, IfOk};
+ghost use Rattle.vx_procs.specs.Kernel.{IsWithinRoom};
+ghost use Rattle.vx_procs.specs.Snapshots.{process_in, room_in};
+ghost use Rattle.vx_procs.specs.View.{process, room_of};
+
+use crate::process::Proc;
+use std::alloc::Global;
+use vx_ast::AstQueue;
+use vx_base::{Duplicate, NoMemory, Phase, Privs, Routine};
+use vx_chans::ChansSnapshot;
+use vx_exits::Exits;
+use vx_flags::Flags;
+use vx_frames::Frames;
+use vx_image::StoreSnapshot;
+use vx_quota::Account;
+
+/// A process put away: what `Proc` has, with what it stores and its channels in as little room as they take.
+#[derive(Drop)]
+pub(crate) struct ProcSnapshot<R: Routine> {
+    pub(crate) decl: u32,
+    pub(crate) group: u32,
+    pub(crate) member: u32,
+    pub(crate) privs: Privs,
+    pub(crate) store: StoreSnapshot,
+    pub(crate) frames: Frames,
+    pub(crate) asts: AstQueue<R>,
+    pub(crate) chans: ChansSnapshot,
+    pub(crate) exits: Exits<R>,
+    pub(crate) cluster_0: Flags,
+    pub(crate) cluster_1: Flags,
+    pub(crate) wake_pending: bool,
+    pub(crate) suspended: bool,
+    pub(crate) delete_pending: bool,
+    pub(crate) exit_code: u32,
+    pub(crate) phase: Phase,
+    pub(crate) account: Account,
+}
+
+impl<R: Routine> Proc<R> {
+    /// The same process put away, each of its routines made from its tag.
+    pub(crate) fn snapshot(&self, alloc: Global) -> Result<ProcSnapshot<R>, NoMemory>
+        ensures process { IfOk result (λ snapshot. process_in snapshot ≡ process self.now) }
+        ensures room { IfOk result (λ snapshot. IsWithinRoom (room_of self.now) (room_in snapshot)) }
+        ensures account { IfOk result (λ snapshot. snapshot.account ≡ self.now.account) }
+    {
+        let cluster_0 = self.cluster_0.duplicate()?;
+        let cluster_1 = self.cluster_1.duplicate()?;
+        let account = self.account.duplicate()?;
+        let frames = self.frames.duplicate(alloc)?;
+        let asts = self.asts.duplicate(alloc)?;
+        let chans = self.chans.snapshot(alloc)?;
+        let exits = self.exits.duplicate(alloc)?;
+        let store = self.store.snapshot(alloc)?;
+        Ok(ProcSnapshot {
+            decl: self.decl,
+            group: self.group,
+            member: self.member,
+            privs: self.privs,
+            store,
+            frames,
+            asts,
+            chans,
+            exits,
+            cluster_0,
+            cluster_1,
+            wake_pending: self.wake_pending,
+            suspended: self.suspended,
+            delete_pending: self.delete_pending,
+            exit_code: self.exit_code,
+            phase: self.phase,
+            account,
+        })
+    }
+}
+
+impl<R: Routine> ProcSnapshot<R> {
+    /// The process that was put away, each of its routines made from its tag, with as much room or more.
+    pub(crate) fn restore(&self, alloc: Global) -> Result<Proc<R>, NoMemory>
+        ensures process { IfOk result (λ proc. process proc ≡ process_in self.now) }
+        ensures room { IfOk result (λ proc. IsWithinRoom (room_in self.now) (room_of proc)) }
+        ensures account { IfOk result (λ proc. proc.account ≡ self.now.account) }
+    {
+        let cluster_0 = self.cluster_0.duplicate()?;
+        let cluster_1 = self.cluster_1.duplicate()?;
+        let account = self.account.duplicate()?;
+        let frames = self.frames.duplicate(alloc)?;
+        let asts = self.asts.duplicate(alloc)?;
+        let chans = self.chans.restore(alloc)?;
+        let exits = self.exits.duplicate(alloc)?;
+        let store = self.store.restore(alloc)?;
+        Ok(Proc {
+            decl: self.decl,
+            group: self.group,
+            member: self.member,
+            privs: self.privs,
+            store,
+            frames,
+            asts,
+            chans,
+            exits,
+            cluster_0,
+            cluster_1,
+            wake_pending: self.wake_pending,
+            suspended: self.suspended,
+            delete_pending: self.delete_pending,
+            exit_code: self.exit_code,
+            phase: self.phase,
+            account,
+        })
+    }
+}
