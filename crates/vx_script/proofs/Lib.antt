@@ -10,10 +10,12 @@ pub mod KeysInRange
 pub mod OpenImages
 pub mod EndedImages
 pub mod FaultLines
+pub mod DistinctUnits
 pub mod UnitLines
 pub mod DeclLines
 pub mod KeptParts
 pub mod InputLines
+pub mod MovedLines
 pub mod ResolvedSystem
 pub mod Accepted
 pub mod Rises

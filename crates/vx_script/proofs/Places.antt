@@ -1,6 +1,7 @@
 -- Where a name stands in a list.
-use Rattle.std.proofs.Common.{◌≡◌, ℕ, ◌+◌, Bool, true, false, cond, ◌||◌, nat_lt, List, [], ◌∷◌, length, map, Option, Some, None, is_some, position, refl, sym, ap, ◌∙◌}
+use Rattle.std.proofs.Common.{◌≡◌, ℕ, suc, ◌+◌, ◌<◌, Bool, true, false, cond, not, ◌||◌, nat_lt, List, [], ◌∷◌, length, map, Option, Some, None, is_some, position, refl, sym, ap, ◌∙◌}
 use Rattle.std.specs.List.{list_any, position_from, position_or_len}
+use Rattle.std.proofs.lemmas.Bool.{ltb-true}
 use Rattle.std.proofs.lemmas.Iterator.Adapters.{position_from-zero}
 use Rattle.vx_text.proofs.Runs.{by_test}
 use Rattle.vx_script.specs.Resolving.{place_or_zero}
@@ -29,3 +30,23 @@ pub placed : {A : Type 0} (p : A → Bool) (xs : List A) → is_some (position p
 placed p xs =
     by_test (λ (o : Option ℕ). is_some o ≡ true → nat_lt (place_or_zero o) (length xs) ≡ true) (nat_lt (position_or_len p xs) (length xs))
     (Some (position_or_len p xs)) None (λ e h. e) (λ e h. cc)
+
+-- a place that is there is that of the first that passes
+pub first_placed : {A : Type 0} (p : A → Bool) (xs : List A) (k : ℕ) → position p xs ≡ Some k → (position_or_len p xs ≡ k) × (position_or_len p xs < length xs)
+first_placed p xs k =
+    by_test (λ (o : Option ℕ). o ≡ Some k → (position_or_len p xs ≡ k) × (position_or_len p xs < length xs)) (nat_lt (position_or_len p xs) (length xs))
+    (Some (position_or_len p xs)) None (λ e h. (cc, ltb-true (position_or_len p xs) (length xs) e)) (λ e h. cc)
+
+-- a place is read off what is made of each
+
+first_map : {A B : Type 0} (p : B → Bool) (f : A → B) (xs : List A) → position_or_len (λ x. p (f x)) xs ≡ position_or_len p (map f xs)
+first_map p f [] = refl
+first_map p f (x ∷ xs) = ap (λ n. cond (not (p (f x))) (1 + n) 0) (first_map p f xs)
+
+as_long : {A B : Type 0} (f : A → B) (xs : List A) → length xs ≡ length (map f xs)
+as_long f [] = refl
+as_long f (x ∷ xs) = ap (λ n. suc n) (as_long f xs)
+
+pub place_map : {A B : Type 0} (p : B → Bool) (f : A → B) (xs : List A) → position (λ x. p (f x)) xs ≡ position p (map f xs)
+place_map p f xs = ap (λ n. cond (nat_lt n (length xs)) (Some n) None) (first_map p f xs)
+    ∙ ap (λ n. cond (nat_lt (position_or_len p (map f xs)) n) (Some (position_or_len p (map f xs))) None) (as_long f xs)

@@ -1,20 +1,20 @@
 -- The UNIT lines.
-use Rattle.std.proofs.Common.{◌≡◌, ◌∙◌, ℕ, true, false, nat_le, nat_lt, List, [], ◌∷◌, ◌++◌, length, map, drop, None, IfOk, bytes_eq, refl, ap}
+use Rattle.std.proofs.Common.{◌≡◌, ℕ, true, nat_le, nat_lt, List, [], ◌∷◌, ◌++◌, length, map, drop, None, IfOk, refl}
 use Rattle.std.specs.List.{list_all}
 use Rattle.std.proofs.lemmas.Bool.{le-leb}
 use Rattle.vx_image.specs.declared.unit.UnitDecl.{UnitDecl}
-use Rattle.vx_image.specs.WellFormed.{is_among, are_distinct}
+use Rattle.vx_image.specs.WellFormed.{are_distinct}
 use Rattle.vx_text.specs.declared.token.Tok.{Tok}
 use Rattle.vx_script.specs.Fields.{end_at, name_at, number_at, room_for, device_at, blocks_of}
 use Rattle.vx_script.specs.Declarations.{unused_name, unit_line}
 use Rattle.vx_script.specs.Places.{unit_place}
 use Rattle.vx_script.specs.declared.declaration.Device.{Device}
 use Rattle.vx_script.specs.declared.declaration.Device.TheVariants as device
-use Rattle.vx_script.proofs.Appended.{all_push, map_push, few_push, distinct_push}
+use Rattle.vx_script.proofs.Appended.{all_push, few_push}
 use Rattle.vx_script.proofs.Chains.{after, after_by}
+use Rattle.vx_script.proofs.DistinctUnits.{one_more}
 use Rattle.vx_script.proofs.InRange.{IsBetween, number}
 use Rattle.vx_script.proofs.OpenImages.{IsFresh, is_fresh, has_room}
-use Rattle.vx_script.proofs.Places.{any_map, no_place}
 
 -- few units, with different names, and not too many blocks
 pub record AreUnits (units : List UnitDecl) : Type 0 where
@@ -31,15 +31,12 @@ blocks_are device.Block tokens =
     after_by (number_at 1 4096 tokens) _ (IsBetween 1 4096) IsBlocks (number 1 4096 tokens) λ n h.
     after (end_at (drop 1 tokens)) _ IsBlocks λ _ _. le-leb n 4096 h.1
 
-one_more : (units : List UnitDecl) (u : UnitDecl) → AreUnits units → unit_place u.name units ≡ None → nat_le u.blocks 4096 ≡ true
+with_unit : (units : List UnitDecl) (u : UnitDecl) → AreUnits units → unit_place u.name units ≡ None → nat_le u.blocks 4096 ≡ true
     → nat_lt (length units) 32 ≡ true → AreUnits (units ++ u ∷ [])
-one_more units u h new blocks room =
-    let name = λ (v : UnitDecl). v.name in
-    let absent : is_among u.name (map name units) ≡ false =
-    any_map (bytes_eq u.name) name units ∙ no_place (λ (v : UnitDecl). bytes_eq u.name v.name) units new in
+with_unit units u h new blocks room =
     record {
       few = few_push 32 units u room;
-      names = ap are_distinct (map_push name units u) ∙ distinct_push (map name units) u.name h.names absent;
+      names = one_more units u h.names new;
       blocks = all_push (λ u. nat_le u.blocks 4096) units u h.blocks blocks;
     }
 
@@ -54,4 +51,4 @@ unit_read units tokens h =
     after (device_at (drop 1 tokens)) _ (WithUnit units) λ d _.
     after_by (blocks_of d (drop 2 tokens)) _ IsBlocks (WithUnit units) (blocks_are d (drop 2 tokens)) λ blocks k.
     after_by (room_for 32 (length units)) _ (λ _. nat_lt (length units) 32 ≡ true) (WithUnit units) (has_room 32 (length units)) λ _ room.
-    one_more units (record { name = name; blocks = blocks; inputs = []; faults = [] }) h (rw new.0 new.1) k room
+    with_unit units (record { name = name; blocks = blocks; inputs = []; faults = [] }) h (rw new.0 new.1) k room

@@ -84,6 +84,10 @@ text_in _ = Err kind.Quote
 abbrev pub text_at : List Tok → Result (List ℕ) FaultKind
 text_at tokens = first_of tokens >>= text_in
 
+-- the same, with nothing behind it
+abbrev pub last_text : List Tok → Result (List ℕ) FaultKind
+last_text tokens = text_at tokens >>= λ text. end_at (drop 1 tokens) >>= λ _. Ok text
+
 -- Values and variables.
 
 abbrev pub operand_at : List Tok → Result Operand FaultKind

@@ -1,17 +1,21 @@
--- Words of the contracts of the reader's own functions: how it cuts a text, and what a function of a line returns. No public
--- contract cites them.
-use Rattle.std.specs.Prelude.{◌≡◌, ℕ, ◌==◌, ◌&&◌, not, List, [], ◌∷◌, if◌then◌else◌, Result, Ok, Err}
+-- Words of the contracts of the reader's own functions: how it cuts a text, what a function of a line leaves behind, and how units
+-- get their lines. No public contract cites them.
+use Rattle.std.specs.Prelude.{◌≡◌, ℕ, ◌==◌, ◌&&◌, not, List, [], ◌∷◌, ◌++◌, map, if◌then◌else◌, Result, Ok, Err}
 use Rattle.std.specs.List.{prefix_len}
+use Rattle.vx_image.specs.declared.unit.UnitDecl.{UnitDecl}
 use Rattle.vx_text.specs.declared.token.LexFail.{LexFail}
 use Rattle.vx_text.specs.declared.token.LexFail.TheVariants as lex_fail
 use Rattle.vx_script.specs.Fields.{kind_of}
 use Rattle.vx_script.specs.Lines.{begins_with}
+use Rattle.vx_script.specs.Resolving.{input_if}
 use Rattle.vx_script.specs.Results.{ScriptFails}
 use Rattle.vx_script.specs.declared.fault.FaultKind.{FaultKind}
 use Rattle.vx_script.specs.declared.fault.LineFail.{LineFail}
 use Rattle.vx_script.specs.declared.fault.LineFail.TheVariants as line_fail
 use Rattle.vx_script.specs.declared.fault.ScriptFail.{ScriptFail}
 use Rattle.vx_script.specs.declared.fault.ScriptFault.{ScriptFault}
+use Rattle.vx_script.specs.declared.lines.InputLine.{InputLine}
+use Rattle.vx_script.specs.declared.parts.Parts.{Parts}
 
 -- what stands before the first line feed, or before a return in front of it
 abbrev pub first_line : List ℕ → List ℕ
@@ -33,17 +37,12 @@ abbrev pub fail_of : LexFail → LineFail
 fail_of lex_fail.NoMemory = line_fail.NoMemory
 fail_of e = line_fail.Fault (kind_of e)
 
--- What a function of a line returned is what reading gives, unless memory ran out.
+-- What a function of a line left behind is what reading gives, unless the line has a fault or memory ran out.
 
 abbrev pub LineFails : {Y : Type 0} → LineFail → Result Y FaultKind → Type 0
 LineFails line_fail.NoMemory read = Unit {0}
 LineFails (line_fail.Fault kind) read = read ≡ Err kind
 
-abbrev pub ReadsLine : {X : Type 0} → Result X LineFail → Result X FaultKind → Type 0
-ReadsLine (Ok x) read = read ≡ Ok x
-ReadsLine (Err e) read = LineFails e read
-
--- What a function of a line left behind is what reading gives, unless the line has a fault or memory ran out.
 abbrev pub LeavesLine : {X : Type 0} → Result (Unit {0}) LineFail → X → Result X FaultKind → Type 0
 LeavesLine (Ok _) left read = read ≡ Ok left
 LeavesLine (Err e) left read = LineFails e read
@@ -52,3 +51,16 @@ LeavesLine (Err e) left read = LineFails e read
 abbrev pub LeavesScript : {X : Type 0} → Result (Unit {0}) ScriptFail → X → Result X ScriptFault → Type 0
 LeavesScript (Ok _) left read = read ≡ Ok left
 LeavesScript (Err e) left read = ScriptFails e read
+
+-- How units get their lines.
+
+-- what was read, with these INPUT lines
+abbrev pub with_inputs : List InputLine → Parts → Parts
+with_inputs inputs parts = record parts { inputs = inputs }
+
+abbrev pub unit_names : List UnitDecl → List (List ℕ)
+unit_names units = map (λ u. u.name) units
+
+-- the unit, with the text of an INPUT line at the end of its lines if it is one of the unit
+abbrev pub with_line_if : InputLine → UnitDecl → UnitDecl
+with_line_if input u = record u { inputs = u.inputs ++ input_if u.name input }

@@ -1,16 +1,17 @@
 //! The lines that stand in no image. The tokens are those behind the line's word.
 
-ghost use Rattle.std.specs.Prelude.{◌≡◌};
+ghost use Rattle.std.specs.Prelude.{◌≡◌, IfOk, None};
 ghost use Rattle.vx_table.specs.Reading.{toks};
 ghost use Rattle.vx_script.specs.Declarations as spec;
 ghost use Rattle.vx_script.specs.Fields as field;
-ghost use Rattle.vx_script.specs.Steps.{ReadsLine};
+ghost use Rattle.vx_script.specs.Places.{unit_place};
 
 use crate::draft::DraftImage;
-use crate::fault::{FaultKind, LineFail};
-use crate::fields::{behind, end_at, name_at, number_at, text_at};
+use crate::fault::FaultKind;
+use crate::fields::{behind, behind_mut, end_at, last_text, name_at, number_at};
 use crate::keys::{NO_KEYS, keys_at};
 use crate::lines::{DeclLine, FaultLine, InputLine};
+use crate::units::Units;
 use std::alloc::Global;
 use vx_base::{Name, Sequence};
 use vx_image::{Image, UnitDecl};
@@ -104,12 +105,9 @@ fn blocks_of(device: Device, tokens: &[Token]) -> Result<u32, FaultKind>
 
 /// UNIT name LINE, and UNIT name BLOCK n.
 #[tactic(auto, unfolding(crate::specs::Declarations::unit_line))]
-pub fn unit_line(
-    alloc: Global,
-    units: &Register<UnitDecl>,
-    tokens: &[Token],
-) -> Result<UnitDecl, FaultKind>
-    ensures { result ≡ spec.unit_line units.now (toks tokens.now) }
+pub fn unit_line(alloc: Global, units: &Units, tokens: &[Token]) -> Result<UnitDecl, FaultKind>
+    ensures line { result ≡ spec.unit_line units.now (toks tokens.now) }
+    ensures unused { IfOk result (λ unit. unit_place unit.name units.now ≡ None) }
 {
     let name = name_at(tokens)?;
     let name = unused_name(units.place(name), name)?;
@@ -124,14 +122,13 @@ pub fn unit_line(
     })
 }
 
-/// INPUT unit "text".
+/// INPUT unit "text". The text moves out of its token.
 #[tactic(auto, unfolding(crate::specs::Declarations::input_line))]
-pub fn input_line(line: u32, tokens: &[Token]) -> Result<InputLine, LineFail>
-    ensures { ReadsLine result (spec.input_line line (toks tokens.now)) }
+pub fn input_line(line: u32, tokens: &mut [Token]) -> Result<InputLine, FaultKind>
+    ensures { result ≡ spec.input_line line (toks tokens.old) }
 {
     let unit = name_at(tokens)?;
-    let text = text_at(behind(tokens, 1))?;
-    end_at(behind(tokens, 2))?;
+    let text = last_text(behind_mut(tokens, 1))?;
     Ok(InputLine { line, unit, text })
 }
 

@@ -5,10 +5,10 @@ ghost use Rattle.vx_table.specs.Reading.{toks};
 ghost use Rattle.vx_script.specs.Fields as spec;
 ghost use Rattle.vx_table.specs.Reading.{operand_of as the_operand_of};
 ghost use Rattle.vx_script.specs.Results.{given};
-ghost use Rattle.vx_script.specs.Steps.{ReadsLine};
 ghost use Rattle.vx_script.specs.declared.fault.FaultKind.TheVariants as kind;
 
-use crate::fault::{FaultKind, LineFail};
+use crate::fault::FaultKind;
+use std::mem;
 use vx_base::{Bytes, Name, Operand, Target};
 use vx_table::{operand_of, target_word};
 use vx_text::{Tok, Token};
@@ -32,6 +32,24 @@ pub fn behind(tokens: &[Token], count: usize) -> &[Token]
     ensures { toks result.now ≡ drop count (toks tokens.now) }
 {
     dropped(tokens, count)
+}
+
+fn dropped_mut(tokens: &mut [Token], count: usize) -> &mut [Token]
+    ensures { result.now ≡ drop count tokens.old }
+{
+    if count < tokens.len() {
+        &mut tokens[count..]
+    } else {
+        &mut []
+    }
+}
+
+/// The tokens behind the first so many, of which one may be taken.
+#[tactic(auto, using(crate::proofs::Tokens::toks_behind))]
+pub fn behind_mut(tokens: &mut [Token], count: usize) -> &mut [Token]
+    ensures { toks result.now ≡ drop count (toks tokens.old) }
+{
+    dropped_mut(tokens, count)
 }
 
 /// No token is left.
@@ -141,24 +159,33 @@ pub fn number_at(low: u32, high: u32, tokens: &[Token]) -> Result<u32, FaultKind
     number_in(low, high, &first.tok)
 }
 
-fn text_in(tok: &Tok) -> Result<Bytes, LineFail>
-    ensures { ReadsLine result (spec.text_in tok.now) }
+fn text_in(tok: Tok) -> Result<Bytes, FaultKind>
+    ensures { result ≡ spec.text_in tok }
 {
     match tok {
-        Tok::Quote(bytes) if bytes.len() <= MOST_TEXT => Ok(bytes.copy()?),
-        Tok::Quote(_) => Err(LineFail::Fault(FaultKind::Range)),
-        _ => Err(LineFail::Fault(FaultKind::Quote)),
+        Tok::Quote(bytes) if bytes.len() <= MOST_TEXT => Ok(bytes),
+        Tok::Quote(_) => Err(FaultKind::Range),
+        _ => Err(FaultKind::Quote),
     }
 }
 
-/// The text that stands first, of at most 2,048 bytes.
-pub fn text_at(tokens: &[Token]) -> Result<Bytes, LineFail>
-    ensures { ReadsLine result (spec.text_at (toks tokens.now)) }
+// Takes out what stands in a token, and leaves a 0.
+fn take_tok(token: &mut Token) -> Tok
+    ensures { result ≡ token.old.tok }
+{
+    mem::replace(&mut token.tok, Tok::Num(0))
+}
+
+/// The text that stands first, of at most 2,048 bytes, where no token stands behind it. Its bytes move out of its token.
+pub fn last_text(tokens: &mut [Token]) -> Result<Bytes, FaultKind>
+    ensures { result ≡ spec.last_text (toks tokens.old) }
 {
     let [first, ..] = tokens else {
-        return Err(LineFail::Fault(FaultKind::Missing));
+        return Err(FaultKind::Missing);
     };
-    text_in(&first.tok)
+    let text = text_in(take_tok(first))?;
+    end_at(behind(tokens, 1))?;
+    Ok(text)
 }
 
 fn operand_in(tok: &Tok) -> Result<Operand, FaultKind>

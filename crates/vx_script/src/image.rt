@@ -9,7 +9,7 @@ use crate::declaration::{room_for, unused_name};
 use crate::draft::{DraftImage, DraftLine, MOST_STMTS};
 use crate::ending::with_image;
 use crate::fault::LineFail;
-use crate::fields::{begins_with_sign, behind, end_at};
+use crate::fields::{begins_with_sign, behind, behind_mut, end_at};
 use crate::parts::{Parts, Reading};
 use crate::services::Services;
 use crate::statement::stmt_of;
@@ -23,9 +23,9 @@ fn with_stmt(
     services: &Services,
     line: u32,
     image: &mut DraftImage,
-    tokens: &[Token],
+    tokens: &mut [Token],
 ) -> Result<(), LineFail>
-    ensures { LeavesLine result image.new (spec.with_stmt line image.old (toks tokens.now)) }
+    ensures { LeavesLine result image.new (spec.with_stmt line image.old (toks tokens.old)) }
 {
     if tokens.is_empty() {
         return Ok(());
@@ -51,9 +51,9 @@ fn labelled(
     line: u32,
     image: &mut DraftImage,
     name: Name,
-    tokens: &[Token],
+    tokens: &mut [Token],
 ) -> Result<(), LineFail>
-    ensures { LeavesLine result image.new (spec.labelled line image.old name (toks tokens.now)) }
+    ensures { LeavesLine result image.new (spec.labelled line image.old name (toks tokens.old)) }
 {
     unused_name(image.labels.place(name), name)?;
     with_label(image, name)?;
@@ -87,9 +87,9 @@ fn label_line(
     reading: &mut Reading,
     mut image: DraftImage,
     label: Name,
-    tokens: &[Token],
+    tokens: &mut [Token],
 ) -> Result<(), LineFail>
-    ensures { LeavesLine result reading.new (spec.going_on reading.old.parts (spec.labelled line image label (toks tokens.now))) }
+    ensures { LeavesLine result reading.new (spec.going_on reading.old.parts (spec.labelled line image label (toks tokens.old))) }
 {
     let added = labelled(services, line, &mut image, label, tokens);
     keep_open(image, reading);
@@ -104,13 +104,13 @@ fn word_line(
     reading: &mut Reading,
     image: DraftImage,
     word: Name,
-    tokens: &[Token],
+    tokens: &mut [Token],
 ) -> Result<(), LineFail>
     requires { reading.old.current ≡ None }
-    ensures { LeavesLine result reading.new (spec.word_line line reading.old.parts image word (toks tokens.now)) }
+    ensures { LeavesLine result reading.new (spec.word_line line reading.old.parts image word (toks tokens.old)) }
 {
     if begins_with_sign(b':', behind(tokens, 1)) {
-        label_line(services, line, reading, image, word, behind(tokens, 2))
+        label_line(services, line, reading, image, word, behind_mut(tokens, 2))
     } else if word.text() == b"END".as_slice() {
         ended(alloc, &mut reading.parts, image, behind(tokens, 1))
     } else {
@@ -124,9 +124,9 @@ fn other_line(
     line: u32,
     reading: &mut Reading,
     mut image: DraftImage,
-    tokens: &[Token],
+    tokens: &mut [Token],
 ) -> Result<(), LineFail>
-    ensures { LeavesLine result reading.new (spec.going_on reading.old.parts (spec.with_stmt line image (toks tokens.now))) }
+    ensures { LeavesLine result reading.new (spec.going_on reading.old.parts (spec.with_stmt line image (toks tokens.old))) }
 {
     let added = with_stmt(services, line, &mut image, tokens);
     keep_open(image, reading);
@@ -152,10 +152,10 @@ pub fn inside(
     line: u32,
     reading: &mut Reading,
     image: DraftImage,
-    tokens: &[Token],
+    tokens: &mut [Token],
 ) -> Result<(), LineFail>
     requires { reading.old.current ≡ None }
-    ensures { LeavesLine result reading.new (spec.inside line reading.old.parts image (toks tokens.now)) }
+    ensures { LeavesLine result reading.new (spec.inside line reading.old.parts image (toks tokens.old)) }
 {
     match first_word(tokens) {
         Some(word) => word_line(alloc, services, line, reading, image, word, tokens),

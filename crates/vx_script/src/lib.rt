@@ -26,6 +26,7 @@ mod read;
 mod resolve;
 mod services;
 mod statement;
+mod units;
 
 pub use fault::{FaultKind, ScriptFail, ScriptFault};
 pub use print::print_script;

@@ -1,16 +1,17 @@
 //! What was read so far.
 
 use crate::draft::DraftImage;
-use crate::lines::{Creation, DeclLine, FaultLine, InputLine};
+use crate::lines::{Creation, DeclLine, FaultLine, InputLines};
+use crate::units::Units;
 use vx_base::Sequence;
-use vx_image::{Image, UnitDecl};
+use vx_image::Image;
 use vx_names::{NumberedRegister, Register};
 
 /// What the lines say that were read, without an image that is not ended. The units have neither input lines nor faults yet.
 #[derive(Drop)]
 pub struct Parts {
-    pub units: Register<UnitDecl>,
-    pub inputs: Sequence<InputLine>,
+    pub units: Units,
+    pub inputs: InputLines,
     pub faults: NumberedRegister<FaultLine>,
     pub images: Register<Image>,
     pub decls: Register<DeclLine>,

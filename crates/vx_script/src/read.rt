@@ -10,9 +10,11 @@ ghost use Rattle.vx_script.specs.Results.{ReadsScript, at_line};
 use crate::declaration::{fault_line, image_line, input_line, process_line, unit_line};
 use crate::fault::{FaultKind, LineFail, ScriptFail, ScriptFault};
 use crate::image::{inside, keep_open};
+use crate::lines::InputLines;
 use crate::parts::{Parts, Reading};
 use crate::resolve::resolve;
 use crate::services::Services;
+use crate::units::Units;
 use std::alloc::Global;
 use vx_base::{Name, Sequence};
 use vx_image::System;
@@ -27,8 +29,8 @@ fn with_unit(alloc: Global, parts: &mut Parts, tokens: &[Token]) -> Result<(), L
     Ok(())
 }
 
-fn with_input(line: u32, parts: &mut Parts, tokens: &[Token]) -> Result<(), LineFail>
-    ensures { LeavesLine result (spec.between_images parts.new) (spec.with_input line parts.old (toks tokens.now)) }
+fn with_input(line: u32, parts: &mut Parts, tokens: &mut [Token]) -> Result<(), LineFail>
+    ensures { LeavesLine result (spec.between_images parts.new) (spec.with_input line parts.old (toks tokens.old)) }
 {
     let input = input_line(line, tokens)?;
     parts.inputs.push(input)?;
@@ -66,10 +68,10 @@ fn outer_line(
     line: u32,
     reading: &mut Reading,
     word: &Name,
-    tokens: &[Token],
+    tokens: &mut [Token],
 ) -> Result<(), LineFail>
     requires { reading.old.current ≡ None }
-    ensures { LeavesLine result reading.new (spec.outer_line line reading.old.parts word.now (toks tokens.now)) }
+    ensures { LeavesLine result reading.new (spec.outer_line line reading.old.parts word.now (toks tokens.old)) }
 {
     let word = word.text();
     if word == b"UNIT".as_slice() {
@@ -93,10 +95,10 @@ fn outside(
     alloc: Global,
     line: u32,
     reading: &mut Reading,
-    tokens: &[Token],
+    tokens: &mut [Token],
 ) -> Result<(), LineFail>
     requires { reading.old.current ≡ None }
-    ensures { LeavesLine result reading.new (spec.outside line reading.old.parts (toks tokens.now)) }
+    ensures { LeavesLine result reading.new (spec.outside line reading.old.parts (toks tokens.old)) }
 {
     let [first, rest @ ..] = tokens else {
         return Ok(());
@@ -112,9 +114,9 @@ fn accepted(
     services: &Services,
     line: u32,
     reading: &mut Reading,
-    tokens: &[Token],
+    tokens: &mut [Token],
 ) -> Result<(), LineFail>
-    ensures { LeavesLine result reading.new (spec.accepted line reading.old (toks tokens.now)) }
+    ensures { LeavesLine result reading.new (spec.accepted line reading.old (toks tokens.old)) }
 {
     match reading.current.take() {
         None => outside(alloc, line, reading, tokens),
@@ -146,7 +148,7 @@ fn take_line(
     ensures { LeavesLine result reading.new (spec.take_line line reading.old text.now) }
 {
     match tokens(alloc, text) {
-        Ok(tokens) => accepted(alloc, services, line, reading, &tokens),
+        Ok(mut tokens) => accepted(alloc, services, line, reading, &mut tokens),
         Err(fail) => Err(line_fail(fail)),
     }
 }
@@ -224,8 +226,8 @@ fn nothing_read(alloc: Global) -> Reading
     ensures { result ≡ spec.nothing_read }
 {
     let parts = Parts {
-        units: Register::new(alloc),
-        inputs: Sequence::new(alloc),
+        units: Units::new(alloc),
+        inputs: InputLines::new(alloc),
         faults: NumberedRegister::new(alloc),
         images: Register::new(alloc),
         decls: Register::new(alloc),

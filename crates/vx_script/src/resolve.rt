@@ -1,18 +1,20 @@
 //! The second pass: what the lines name is looked up, and the system is put together.
 
-ghost use Rattle.std.specs.Prelude.{◌≡◌, ◌++◌, OnOk, IfOk, map};
+ghost use Rattle.std.specs.Prelude.{◌≡◌, ◌++◌, [], OnOk, IfOk, map};
 ghost use Rattle.std.specs.List.{list_any};
 ghost use Rattle.vx_script.specs.Resolving as spec;
 ghost use Rattle.vx_script.specs.Keys as setting;
 ghost use Rattle.vx_script.specs.Places.{image_place, is_line_unit, rising};
 ghost use Rattle.vx_script.specs.Results.{ReadsScript};
+ghost use Rattle.vx_script.specs.Steps.{unit_names, with_inputs, with_line_if};
 
 use crate::ending::least_line;
 use crate::fault::{FaultKind, ScriptFail, ScriptFault};
 use crate::keys::{Keys, Uic};
-use crate::lines::{DeclLine, FaultLine, InputLine};
+use crate::lines::{DeclLine, FaultLine, InputLine, InputLines};
 use crate::parts::Parts;
 use crate::privileges::NO_PRIVS;
+use crate::units::Units;
 use std::alloc::Global;
 use std::mem;
 use vx_base::{Mode, Name, Need, NoMemory};
@@ -94,27 +96,6 @@ fn first_unknown(parts: &Parts) -> Option<u32>
     least_line(parts.unlabelled, least_line(unknown_creation(parts), rest))
 }
 
-// Appends the text of an INPUT line, where it is one of the unit.
-fn add_input(name: Name, input: &InputLine, lines: &mut Lines) -> Result<(), NoMemory>
-    ensures { OnOk result (lines.new ≡ lines.old ++ spec.input_if name input.now) }
-{
-    if name.text() == input.unit.text() {
-        lines.push(input.text.copy()?)?;
-    }
-    Ok(())
-}
-
-// The input lines of a unit, in order.
-fn inputs_of(alloc: Global, name: Name, inputs: &[InputLine]) -> Result<Lines, NoMemory>
-    ensures { IfOk result (λ lines. lines ≡ spec.inputs_of name inputs.now) }
-{
-    let mut lines = Lines::new(alloc);
-    for input in inputs {
-        add_input(name, input, &mut lines)?;
-    }
-    Ok(lines)
-}
-
 // Appends the number of a FAULT line, where it is one of the unit.
 fn add_fault(name: Name, fault: &FaultLine, numbers: &mut Vec<u32>) -> Result<(), NoMemory>
     ensures { OnOk result (numbers.new.items ≡ numbers.old.items ++ spec.fault_if name fault.now) }
@@ -142,27 +123,49 @@ fn rising(mut numbers: Vec<u32>) -> Numbers
     Numbers::from_vec(numbers)
 }
 
-fn unit_of(alloc: Global, parts: &Parts, unit: &UnitDecl) -> Result<UnitDecl, NoMemory>
-    ensures { IfOk result (λ u. u ≡ spec.unit_of parts.now unit.now) }
+// A unit with its faults, and no input lines yet.
+fn unit_without_lines(alloc: Global, parts: &Parts, unit: &UnitDecl) -> Result<UnitDecl, NoMemory>
+    ensures { IfOk result (λ u. u ≡ spec.unit_of (with_inputs [] parts.now) unit.now) }
 {
-    let inputs = inputs_of(alloc, unit.name, parts.inputs.as_slice())?;
     let numbers = numbers_of(alloc, unit.name, parts.faults.as_slice())?;
     Ok(UnitDecl {
         name: unit.name,
         blocks: unit.blocks,
-        inputs,
+        inputs: Lines::new(alloc),
         faults: rising(numbers),
     })
 }
 
-fn units_of(alloc: Global, parts: &Parts) -> Result<UnitDecls, NoMemory>
-    ensures { IfOk result (λ units. units ≡ map (spec.unit_of parts.now) parts.now.units) }
+fn units_without_lines(alloc: Global, parts: &Parts) -> Result<Vec<UnitDecl>, NoMemory>
+    ensures { IfOk result (λ units. units.items ≡ map (spec.unit_of (with_inputs [] parts.now)) parts.now.units) }
 {
-    let mut units = UnitDecls::new(alloc);
+    let mut units = Vec::new(alloc);
     for unit in parts.units.as_slice() {
-        units.push(unit_of(alloc, parts, unit)?)?;
+        units.push(unit_without_lines(alloc, parts, unit)?)?;
     }
     Ok(units)
+}
+
+// Moves the text of an INPUT line to the end of its unit's lines. The units stand where `places` has their names.
+fn add_line(places: &Units, input: InputLine, units: &mut Vec<UnitDecl>) -> Result<(), NoMemory>
+    requires { unit_names units.old.items ≡ unit_names places.now }
+    ensures { OnOk result (units.new.items ≡ map (with_line_if input) units.old.items) }
+{
+    match places.place(input.unit) {
+        Some(place) => units[place as usize].inputs.push(input.text),
+        None => Ok(()),
+    }
+}
+
+// The units with their faults and with the lines that are theirs among these.
+fn units_of(alloc: Global, parts: &Parts, inputs: InputLines) -> Result<UnitDecls, NoMemory>
+    ensures { IfOk result (λ units. units ≡ map (spec.unit_of (with_inputs inputs parts.now)) parts.now.units) }
+{
+    let mut units = units_without_lines(alloc, parts)?;
+    for input in inputs.into_vec() {
+        add_line(&parts.units, input, &mut units)?;
+    }
+    Ok(UnitDecls::from_vec(units))
 }
 
 fn limits_of(keys: &Keys) -> Need
@@ -216,11 +219,12 @@ fn decls_of(alloc: Global, parts: &Parts) -> Result<ProcDecls, NoMemory>
     Ok(decls)
 }
 
-// The system; the parts keep no image.
+// The system; the parts keep no INPUT line and no image.
 fn system_of(alloc: Global, parts: &mut Parts) -> Result<System, NoMemory>
     ensures { IfOk result (λ s. s ≡ spec.system_of parts.old) }
 {
-    let units = units_of(alloc, parts)?;
+    let inputs = mem::replace(&mut parts.inputs, InputLines::new(alloc));
+    let units = units_of(alloc, parts, inputs)?;
     let decls = decls_of(alloc, parts)?;
     let images = mem::replace(&mut parts.images, Register::new(alloc));
     Ok(System {
@@ -230,7 +234,7 @@ fn system_of(alloc: Global, parts: &mut Parts) -> Result<System, NoMemory>
     })
 }
 
-/// The system of what was read, or the first line that names what is not there. The parts keep no image.
+/// The system of what was read, or the first line that names what is not there. The parts keep no INPUT line and no image.
 pub fn resolve(alloc: Global, parts: &mut Parts) -> Result<System, ScriptFail>
     ensures { ReadsScript result (spec.resolve parts.old) }
 {

@@ -5,13 +5,13 @@ ghost use Rattle.vx_base.specs.Services.{service_rows};
 ghost use Rattle.vx_table.specs.Reading.{toks, read_call, BeginsCall};
 ghost use Rattle.vx_script.specs.Statements as spec;
 ghost use Rattle.vx_script.specs.Results.{given};
-ghost use Rattle.vx_script.specs.Steps.{ReadsLine};
 ghost use Rattle.vx_script.specs.declared.fault.FaultKind.TheVariants as kind;
 
 use crate::draft::Draft;
-use crate::fault::{FaultKind, LineFail};
+use crate::fault::FaultKind;
 use crate::fields::{
-    behind, end_at, is_sign, name_at, number_at, operand_at, sign_at, target_at, text_at, word_at,
+    behind, behind_mut, end_at, is_sign, last_text, name_at, number_at, operand_at, sign_at,
+    target_at, word_at,
 };
 use crate::services::Services;
 use vx_base::{Name, Operand, Target};
@@ -122,12 +122,11 @@ fn if_stmt(tokens: &[Token]) -> Result<Draft, FaultKind>
 
 // PUT b "text".
 #[tactic(auto, unfolding(crate::specs::Statements::put_stmt))]
-fn put_stmt(tokens: &[Token]) -> Result<Draft, LineFail>
-    ensures { ReadsLine result (spec.put_stmt (toks tokens.now)) }
+fn put_stmt(tokens: &mut [Token]) -> Result<Draft, FaultKind>
+    ensures { result ≡ spec.put_stmt (toks tokens.old) }
 {
     let b = number_at(0, 31, tokens)?;
-    let bytes = text_at(behind(tokens, 1))?;
-    end_at(behind(tokens, 2))?;
+    let bytes = last_text(behind_mut(tokens, 1))?;
     Ok(Draft::Plain(Stmt::Put(b as u8, bytes)))
 }
 
@@ -196,35 +195,28 @@ fn return_stmt(tokens: &[Token]) -> Result<Draft, FaultKind>
     Ok(Draft::Plain(Stmt::Return))
 }
 
-// A statement that takes no memory to read, or its fault.
-fn as_line(read: Result<Draft, FaultKind>) -> Result<Draft, LineFail>
-    ensures { ReadsLine result read }
-{
-    Ok(read?)
-}
-
 // A local statement, by its word.
 #[tactic(auto, unfolding(crate::specs::Statements::local_stmt))]
-fn local_stmt(word: &Name, tokens: &[Token]) -> Result<Draft, LineFail>
-    ensures { ReadsLine result (spec.local_stmt word.now (toks tokens.now)) }
+fn local_stmt(word: Name, tokens: &mut [Token]) -> Result<Draft, FaultKind>
+    ensures { result ≡ spec.local_stmt word (toks tokens.old) }
 {
     let word = word.text();
     if word == b"LET".as_slice() {
-        as_line(let_stmt(tokens))
+        let_stmt(tokens)
     } else if word == b"GOTO".as_slice() {
-        as_line(goto_stmt(tokens))
+        goto_stmt(tokens)
     } else if word == b"IF".as_slice() {
-        as_line(if_stmt(tokens))
+        if_stmt(tokens)
     } else if word == b"PUT".as_slice() {
         put_stmt(tokens)
     } else if word == b"BYTE".as_slice() {
-        as_line(byte_stmt(tokens))
+        byte_stmt(tokens)
     } else if word == b"IOSB".as_slice() {
-        as_line(iosb_stmt(tokens))
+        iosb_stmt(tokens)
     } else if word == b"RETURN".as_slice() {
-        as_line(return_stmt(tokens))
+        return_stmt(tokens)
     } else {
-        Err(LineFail::Fault(FaultKind::Word))
+        Err(FaultKind::Word)
     }
 }
 
@@ -248,16 +240,16 @@ fn call_stmt(services: &Services, tokens: &[Token]) -> Result<Draft, FaultKind>
     }
 }
 
-/// The statement that tokens are.
-pub fn stmt_of(services: &Services, tokens: &[Token]) -> Result<Draft, LineFail>
-    ensures { ReadsLine result (spec.stmt_at (toks tokens.now)) }
+/// The statement that tokens are. A quoted text moves out of its token.
+pub fn stmt_of(services: &Services, tokens: &mut [Token]) -> Result<Draft, FaultKind>
+    ensures { result ≡ spec.stmt_at (toks tokens.old) }
 {
-    let [first, rest @ ..] = tokens else {
-        return Err(LineFail::Fault(FaultKind::Word));
+    let [first, ..] = &*tokens else {
+        return Err(FaultKind::Word);
     };
     match &first.tok {
-        Tok::Word(word) => local_stmt(word, rest),
-        Tok::Service(_) => as_line(call_stmt(services, tokens)),
-        _ => Err(LineFail::Fault(FaultKind::Word)),
+        Tok::Word(word) => local_stmt(*word, behind_mut(tokens, 1)),
+        Tok::Service(_) => call_stmt(services, tokens),
+        _ => Err(FaultKind::Word),
     }
 }
