@@ -1,12 +1,10 @@
 -- A text is its first line, and the lines behind it.
-use Rattle.std.proofs.Common.{◌≡◌, ℕ, zero, suc, ◌+◌, ◌<◌, ◌≤◌, ◌==◌, not, Bool, true, false, cond, List, [], ◌∷◌, ◌++◌, length, take, drop, nat_lt, refl, sym, ap, ◌∙◌, arith, None, Some, Ok, Err}
+use Rattle.std.proofs.Common.{◌≡◌, ℕ, zero, suc, ◌+◌, ◌<◌, ◌≤◌, ◌==◌, not, Bool, true, false, cond, List, [], ◌∷◌, length, take, drop, nat_lt, refl, sym, ap, ◌∙◌, arith, None, Some, Ok, Err}
 use Rattle.std.proofs.lemmas.List.{length-take-le}
 use borrow.Author.Tests.{ltb-false}
 use Rattle.vx_image.specs.declared.unit.UnitDecl.{UnitDecl}
 use Rattle.vx_lines.specs.Cutting.{line_len, fed_len}
 use Rattle.vx_lines.specs.ReadRecords.{onto_first, fed_lines, is_of_record, read_lines, read_line, or_bad, read_so_far, nothing_read, read_records}
-use Rattle.vx_lines.specs.declared.read.LinesFail.{LinesFail}
-use Rattle.vx_lines.specs.declared.read.LinesFail.TheVariants as fail
 use Rattle.vx_lines.specs.declared.read.Reading.{Reading}
 
 -- how many bytes the first line has, by the first byte

@@ -10,8 +10,6 @@ use Rattle.vx_base.specs.declared.mode.Mode.{Mode}
 use Rattle.vx_base.specs.declared.number.Id.{Id}
 use Rattle.vx_base.specs.declared.number.Pid.{Pid}
 use Rattle.vx_base.specs.declared.number.UnitNo.{UnitNo}
-use Rattle.vx_base.specs.declared.request.Body.{Body}
-use Rattle.vx_base.specs.declared.request.Body.TheVariants as body
 use Rattle.vx_image.specs.declared.unit.UnitDecl.{UnitDecl}
 use Rattle.vx_text.specs.First.{cond_named}
 use Rattle.vx_text.specs.Lex.{lex}

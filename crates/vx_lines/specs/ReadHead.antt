@@ -1,5 +1,5 @@
 -- How the head of a record is read: by its words, and only if the record is spelled as the line.
-use Rattle.std.specs.Prelude.{ℕ, ◌==◌, ◌&&◌, Bool, true, false, List, [], ◌∷◌, ◌++◌, drop, codes, bytes_eq, if◌then◌else◌, Option, Some, None, option_map, Result, Ok, Err}
+use Rattle.std.specs.Prelude.{ℕ, Bool, true, false, List, [], ◌∷◌, ◌++◌, drop, codes, bytes_eq, if◌then◌else◌, Option, Some, None, option_map, Result, Ok, Err}
 use Rattle.std.specs.List.{list_all}
 use Rattle.vx_base.specs.Services.{args_list, service_rows}
 use Rattle.vx_base.specs.declared.call.Arg.{Arg}

@@ -1,5 +1,5 @@
 -- How the lines of records are read.
-use Rattle.std.specs.Prelude.{◌≡◌, ℕ, ◌+◌, ◌==◌, ◌||◌, Bool, false, List, [], ◌∷◌, ◌++◌, length, if◌then◌else◌, Option, Some, None, Result, Ok, Err, option_to_list}
+use Rattle.std.specs.Prelude.{◌≡◌, ℕ, ◌+◌, ◌==◌, ◌||◌, Bool, true, false, List, [], ◌∷◌, ◌++◌, length, if◌then◌else◌, Option, Some, None, Result, Ok, Err, option_to_list}
 use Rattle.vx_base.specs.Name.{is_digit}
 use Rattle.vx_base.specs.declared.effects.Effect.{Effect}
 use Rattle.vx_base.specs.declared.record.Rec.{Rec}
@@ -74,6 +74,11 @@ nothing_read = record { recs = []; current = None }
 -- the records that a text begins with, whose first line has this number, or its first bad line
 unfoldable pub read_records : List UnitDecl → ℕ → List ℕ → Result Records ℕ
 read_records units line text = read_lines units line 0 nothing_read (fed_lines text)
+
+-- A line may stand there, and the reader is left as it was read; or it may not.
+abbrev pub Leaves : Bool → Reading → Option Reading → Type 0
+Leaves true new read = read ≡ Some new
+Leaves false new read = read ≡ None
 
 -- What a function returned is what reading gives, unless memory ran out.
 

@@ -1,5 +1,5 @@
 -- The words of a line: each stands behind a space.
-use Rattle.std.specs.Prelude.{ℕ, ◌-◌, ◌==◌, not, Bool, List, [], ◌∷◌, ◌++◌, length, drop, take, reverse, Option, Some, None}
+use Rattle.std.specs.Prelude.{ℕ, ◌-◌, ◌==◌, not, Bool, List, length, drop, take, reverse, Option, Some, None}
 use Rattle.std.specs.List.{prefix_len}
 
 infixl 10 ◌>>=◌

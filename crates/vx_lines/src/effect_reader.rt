@@ -1,7 +1,6 @@
 //! Reads effects.
 
 ghost use Rattle.std.specs.Prelude.{◌≡◌, ◌<◌, ◌≤◌, IfOk, length};
-ghost use Rattle.std.specs.List.{prefix_len};
 ghost use Rattle.vx_lines.specs.ReadEffect as spec;
 
 use crate::effect::print_effect;
@@ -10,7 +9,8 @@ use crate::fields::{
     kind_of, mode_or_none, name_of, number_of, pid_of, text_of,
 };
 use crate::words::{
-    behind_word, fifth_word, first_word, fourth_word, second_word, sixth_word, third_word,
+    behind_word, fifth_word, first_word, fourth_word, is_word, len_before, second_word, sixth_word,
+    third_word,
 };
 use std::alloc::Global;
 use vx_base::{Body, Bytes, Effect, NoMemory};
@@ -44,18 +44,19 @@ fn fin_in(line: &[u8]) -> Option<Effect>
 fn only_id(word: &[u8], line: &[u8]) -> Option<Effect>
     ensures { result ≡ spec.only_id word.now line.now }
 {
-    if word == b"MARK".as_slice() {
-        id_of(second_word(line)).map(Effect::Mark)
-    } else if word == b"QUE".as_slice() {
-        id_of(second_word(line)).map(Effect::Que)
-    } else if word == b"FIRE".as_slice() {
-        id_of(second_word(line)).map(Effect::Fire)
-    } else if word == b"DROP".as_slice() {
-        id_of(second_word(line)).map(Effect::Drop)
-    } else if word == b"ENTER".as_slice() {
-        id_of(second_word(line)).map(Effect::Enter)
-    } else if word == b"LEAVE".as_slice() {
-        id_of(second_word(line)).map(Effect::Leave)
+    let id = id_of(second_word(line));
+    if is_word(word, b"MARK") {
+        id.map(Effect::Mark)
+    } else if is_word(word, b"QUE") {
+        id.map(Effect::Que)
+    } else if is_word(word, b"FIRE") {
+        id.map(Effect::Fire)
+    } else if is_word(word, b"DROP") {
+        id.map(Effect::Drop)
+    } else if is_word(word, b"ENTER") {
+        id.map(Effect::Enter)
+    } else if is_word(word, b"LEAVE") {
+        id.map(Effect::Leave)
     } else {
         None
     }
@@ -64,9 +65,9 @@ fn only_id(word: &[u8], line: &[u8]) -> Option<Effect>
 fn of_id(word: &[u8], line: &[u8]) -> Option<Effect>
     ensures { result ≡ spec.of_id word.now line.now }
 {
-    if word == b"OPEN".as_slice() {
+    if is_word(word, b"OPEN") {
         open_in(line)
-    } else if word == b"FIN".as_slice() {
+    } else if is_word(word, b"FIN") {
         fin_in(line)
     } else {
         only_id(word, line)
@@ -101,11 +102,11 @@ fn clu_in(line: &[u8]) -> Option<Effect>
 fn of_flags(word: &[u8], line: &[u8]) -> Option<Effect>
     ensures { result ≡ spec.of_flags word.now line.now }
 {
-    if word == b"FLAG".as_slice() {
+    if is_word(word, b"FLAG") {
         flag_in(line)
-    } else if word == b"CEF".as_slice() {
+    } else if is_word(word, b"CEF") {
         cef_in(line)
-    } else if word == b"CLU".as_slice() {
+    } else if is_word(word, b"CLU") {
         clu_in(line)
     } else {
         of_id(word, line)
@@ -158,15 +159,15 @@ fn new_in(line: &[u8]) -> Option<Effect>
 fn of_pid(word: &[u8], line: &[u8]) -> Option<Effect>
     ensures { result ≡ spec.of_pid word.now line.now }
 {
-    if word == b"IOSB".as_slice() {
+    if is_word(word, b"IOSB") {
         iosb_in(line)
-    } else if word == b"VAR".as_slice() {
+    } else if is_word(word, b"VAR") {
         var_in(line)
-    } else if word == b"ENB".as_slice() {
+    } else if is_word(word, b"ENB") {
         enb_in(line)
-    } else if word == b"NEW".as_slice() {
+    } else if is_word(word, b"NEW") {
         new_in(line)
-    } else if word == b"GONE".as_slice() {
+    } else if is_word(word, b"GONE") {
         pid_of(second_word(line)).map(Effect::Gone)
     } else {
         of_flags(word, line)
@@ -201,11 +202,11 @@ fn mbx_in(line: &[u8]) -> Option<Effect>
 fn of_box(word: &[u8], line: &[u8]) -> Option<Effect>
     ensures { result ≡ spec.of_box word.now line.now }
 {
-    if word == b"MGET".as_slice() {
+    if is_word(word, b"MGET") {
         get_in(line)
-    } else if word == b"MCUT".as_slice() {
+    } else if is_word(word, b"MCUT") {
         cut_in(line)
-    } else if word == b"MBX".as_slice() {
+    } else if is_word(word, b"MBX") {
         mbx_in(line)
     } else {
         of_pid(word, line)
@@ -232,7 +233,7 @@ fn body_of(alloc: Global, line: &[u8]) -> Result<Option<Body>, NoMemory>
     requires { length line.now < 4294967295 }
     ensures { IfOk result (λ body. body ≡ spec.body_of line.now) }
 {
-    if line == b" EOF".as_slice() {
+    if is_word(line, b" EOF") {
         return Ok(Some(Body::Eof));
     }
     Ok(text_of(alloc, line)?.map(Body::Text))
@@ -251,9 +252,9 @@ fn with_bytes(alloc: Global, word: &[u8], line: &[u8]) -> Result<Option<Effect>,
     requires { length line.now < 4294967295 }
     ensures { IfOk result (λ effect. effect ≡ spec.with_bytes word.now line.now) }
 {
-    if word == b"BUF".as_slice() {
+    if is_word(word, b"BUF") {
         Ok(buf_in(line, text_of(alloc, behind_three(line))?))
-    } else if word == b"MPUT".as_slice() {
+    } else if is_word(word, b"MPUT") {
         Ok(put_in(line, body_of(alloc, behind_three(line))?))
     } else {
         Ok(of_box(word, line))
@@ -267,19 +268,12 @@ fn effect_of(alloc: Global, line: &[u8]) -> Result<Option<Effect>, NoMemory>
     with_bytes(alloc, first_word(line), line)
 }
 
-fn unfed_len(line: &[u8]) -> usize
-    ensures len { result ≡ prefix_len spec.is_no_feed line.now }
-    ensures within { result ≤ length line.now }
-{
-    line.iter().take_while(|b| **b != b'\n').count()
-}
-
 /// A line without its line feed.
 pub fn unfed(line: &[u8]) -> &[u8]
     ensures text { result.now ≡ spec.unfed line.now }
     ensures within { length result.now ≤ length line.now }
 {
-    &line[..unfed_len(line)]
+    &line[..len_before(b'\n', line)]
 }
 
 fn if_spelled(alloc: Global, line: &[u8], effect: Effect) -> Result<Option<Effect>, NoMemory>

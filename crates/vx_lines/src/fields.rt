@@ -6,7 +6,7 @@ ghost use Rattle.vx_text.specs.First.{cond_named};
 ghost use Rattle.vx_lines.specs.Fields as spec;
 
 use crate::number::value_up_to;
-use crate::words::{behind_part, first_part, from_colon};
+use crate::words::{behind_part, first_part, from_colon, is_word};
 use std::alloc::Global;
 use vx_base::{Bytes, Cell, Cond, Id, Mode, Name, NoMemory, Opened, Pid, UnitNo};
 use vx_image::UnitDecl;
@@ -61,21 +61,21 @@ pub fn name_of(word: &[u8]) -> Option<Name>
 pub fn kind_of(word: &[u8]) -> Option<Opened>
     ensures { result ≡ spec.kind_of word.now }
 {
-    if word == b"BIO".as_slice() {
+    if is_word(word, b"BIO") {
         Some(Opened::Bio)
-    } else if word == b"DIO".as_slice() {
+    } else if is_word(word, b"DIO") {
         Some(Opened::Dio)
-    } else if word == b"ATTN".as_slice() {
+    } else if is_word(word, b"ATTN") {
         Some(Opened::Attn)
-    } else if word == b"TIMER".as_slice() {
+    } else if is_word(word, b"TIMER") {
         Some(Opened::Timer)
-    } else if word == b"WAKE".as_slice() {
+    } else if is_word(word, b"WAKE") {
         Some(Opened::Wake)
-    } else if word == b"AST".as_slice() {
+    } else if is_word(word, b"AST") {
         Some(Opened::Ast)
-    } else if word == b"FORCE".as_slice() {
+    } else if is_word(word, b"FORCE") {
         Some(Opened::Force)
-    } else if word == b"EXH".as_slice() {
+    } else if is_word(word, b"EXH") {
         Some(Opened::Exh)
     } else {
         None
@@ -86,7 +86,7 @@ pub fn kind_of(word: &[u8]) -> Option<Opened>
 pub fn mode_or_none(word: &[u8]) -> Option<Option<Mode>>
     ensures { result ≡ spec.mode_or_none word.now }
 {
-    if word == b"-".as_slice() {
+    if is_word(word, b"-") {
         Some(None)
     } else {
         mode_word(word).map(Some)
@@ -104,7 +104,7 @@ pub fn cond_of(word: &[u8]) -> Option<Cond>
 pub fn cond_or_none(word: &[u8]) -> Option<Option<Cond>>
     ensures { result ≡ spec.cond_or_none word.now }
 {
-    if word == b"-".as_slice() {
+    if is_word(word, b"-") {
         Some(None)
     } else {
         cond_of(word).map(Some)
@@ -163,7 +163,7 @@ pub fn cluster_of(word: &[u8]) -> Option<(u32, Name)>
 pub fn cluster_or_none(word: &[u8]) -> Option<Option<(u32, Name)>>
     ensures { result ≡ spec.cluster_or_none word.now }
 {
-    if word == b"-".as_slice() {
+    if is_word(word, b"-") {
         Some(None)
     } else {
         cluster_of(word).map(Some)

@@ -11,7 +11,7 @@ use crate::fields::{cond_of, id_of, pid_of, unit_of};
 use crate::number::value_up_to;
 use crate::print::print_head;
 use crate::words::{
-    before_last, behind_word, first_word, fourth_word, from_space, last_word, second_word,
+    before_last, behind_word, first_word, fourth_word, from_space, is_word, last_word, second_word,
     third_word,
 };
 use std::alloc::Global;
@@ -84,7 +84,7 @@ fn served(call: Option<Call>, word: &[u8]) -> Option<Answer>
     ensures { result ≡ spec.served_by call word.now }
 {
     let call = call?;
-    if word == b"WAIT".as_slice() {
+    if is_word(word, b"WAIT") {
         return Some(Answer::Wait(call));
     }
     let cond = cond_of(word)?;
@@ -114,13 +114,13 @@ fn ran_in(
     requires short { length line.now < 4294967295 }
     ensures { IfOk result (λ answer. answer ≡ spec.ran_in word.now line.now) }
 {
-    if word == b"RESUME".as_slice() {
+    if is_word(word, b"RESUME") {
         Ok(cond_of(fourth_word(line)).map(Answer::Resume))
-    } else if word == b"RETURN".as_slice() {
+    } else if is_word(word, b"RETURN") {
         Ok(Some(Answer::Return))
-    } else if word == b"END".as_slice() {
+    } else if is_word(word, b"END") {
         Ok(Some(Answer::End))
-    } else if word == b"LOCAL".as_slice() {
+    } else if is_word(word, b"LOCAL") {
         Ok(Some(Answer::Local))
     } else {
         let call = before_last(behind_word(behind_word(line)));
@@ -131,11 +131,11 @@ fn ran_in(
 fn down_in(word: &[u8]) -> Option<Answer>
     ensures { result ≡ spec.down_in word.now }
 {
-    if word == b"HANDLER".as_slice() {
+    if is_word(word, b"HANDLER") {
         Some(Answer::Handler)
-    } else if word == b"BUSY".as_slice() {
+    } else if is_word(word, b"BUSY") {
         Some(Answer::Busy)
-    } else if word == b"GONE".as_slice() {
+    } else if is_word(word, b"GONE") {
         Some(Answer::Gone)
     } else {
         None
@@ -214,15 +214,15 @@ fn other_head(alloc: Global, units: &[UnitDecl], word: &[u8], line: &[u8]) -> Op
     requires { length units.now ≤ 32 }
     ensures { result ≡ spec.other_head units.now word.now line.now }
 {
-    if word == b"AST".as_slice() {
+    if is_word(word, b"AST") {
         ast_in(alloc, line)
-    } else if word == b"RDN".as_slice() {
+    } else if is_word(word, b"RDN") {
         rdn_in(alloc, line)
-    } else if word == b"BEG".as_slice() {
+    } else if is_word(word, b"BEG") {
         beg_in(alloc, units, line)
-    } else if word == b"DON".as_slice() {
+    } else if is_word(word, b"DON") {
         don_in(alloc, units, line)
-    } else if word == b"TICK".as_slice() {
+    } else if is_word(word, b"TICK") {
         tick_in(alloc, line)
     } else {
         None
@@ -241,7 +241,7 @@ fn head_of(
     ensures { IfOk result (λ rec. rec ≡ spec.head_of units.now line.now) }
 {
     let word = first_word(line);
-    if word == b"RUN".as_slice() {
+    if is_word(word, b"RUN") {
         run_in(alloc, table, line)
     } else {
         Ok(other_head(alloc, units, word, line))

@@ -3,12 +3,13 @@
 //! Each function appends its text. If memory runs out, it may have appended the start of it.
 
 ghost use Rattle.std.specs.Prelude.{◌≡◌, ◌++◌, ◌∷◌, [], OnOk};
-ghost use Rattle.vx_lines.specs.Records.{ended_lines, unit_name, event_text, answer_text, head_line, record_lines, records_lines};
+ghost use Rattle.vx_table.specs.Spelling.{call_text};
+ghost use Rattle.vx_lines.specs.Records.{ended_lines, spaced, unit_name, event_text, answer_text, head_line, record_lines, records_lines};
 
 use crate::effect::print_effects;
-use crate::effect_parts::{print_id, print_spaced, print_spaced_num};
+use crate::effect_parts::{print_id, print_of_pid, print_spaced};
 use std::alloc::Global;
-use vx_base::{Answer, Bytes, Event, NoMemory, Rec, UnitNo};
+use vx_base::{Answer, Bytes, Call, Event, NoMemory, Rec, UnitNo};
 use vx_image::UnitDecl;
 use vx_table::call_text;
 use vx_text::print_num;
@@ -23,38 +24,45 @@ pub fn unit_name(units: &[UnitDecl], u: UnitNo) -> &[u8]
     }
 }
 
-/// Appends an event; a unit's by its name.
+// Appends what begins with a unit: a word and the unit's name.
+fn print_of_unit(
+    word: &[u8],
+    units: &[UnitDecl],
+    u: UnitNo,
+    out: &mut Bytes,
+) -> Result<(), NoMemory>
+    ensures { OnOk result (out.new ≡ out.old ++ spaced (word.now ∷ unit_name units.now u ∷ [])) }
+{
+    print_spaced(word, out)?;
+    print_spaced(unit_name(units, u), out)
+}
+
+// Appends a space and an event; a unit's by its name.
 fn print_event(
     alloc: Global,
     units: &[UnitDecl],
     event: Event,
     out: &mut Bytes,
 ) -> Result<(), NoMemory>
-    ensures { OnOk result (out.new ≡ out.old ++ event_text units.now event) }
+    ensures { OnOk result (out.new ≡ out.old ++ 32 ∷ event_text units.now event) }
 {
     match event {
-        Event::Run(p) => {
-            out.push_all(b"RUN")?;
-            print_spaced_num(alloc, p.0, out)
-        }
-        Event::Ast(p) => {
-            out.push_all(b"AST")?;
-            print_spaced_num(alloc, p.0, out)
-        }
-        Event::Rdn(p) => {
-            out.push_all(b"RDN")?;
-            print_spaced_num(alloc, p.0, out)
-        }
-        Event::Beg(u) => {
-            out.push_all(b"BEG")?;
-            print_spaced(unit_name(units, u), out)
-        }
-        Event::Don(u) => {
-            out.push_all(b"DON")?;
-            print_spaced(unit_name(units, u), out)
-        }
-        Event::Tick => out.push_all(b"TICK"),
+        Event::Run(p) => print_of_pid(alloc, b"RUN", p, out),
+        Event::Ast(p) => print_of_pid(alloc, b"AST", p, out),
+        Event::Rdn(p) => print_of_pid(alloc, b"RDN", p, out),
+        Event::Beg(u) => print_of_unit(b"BEG", units, u, out),
+        Event::Don(u) => print_of_unit(b"DON", units, u, out),
+        Event::Tick => out.push_all(b" TICK"),
     }
+}
+
+// Appends a call, a space and a word.
+fn print_called(alloc: Global, call: &Call, word: &[u8], out: &mut Bytes) -> Result<(), NoMemory>
+    ensures { OnOk result (out.new ≡ out.old ++ call_text call.now ++ 32 ∷ word.now) }
+{
+    let text = call_text(alloc, call)?;
+    out.push_all(text.as_slice())?;
+    print_spaced(word, out)
 }
 
 /// Appends an answer.
@@ -62,14 +70,8 @@ pub fn print_answer(alloc: Global, answer: &Answer, out: &mut Bytes) -> Result<(
     ensures { OnOk result (out.new ≡ out.old ++ answer_text answer.now) }
 {
     match answer {
-        Answer::Service(call, cond) => {
-            out.push_all(call_text(alloc, call)?.as_slice())?;
-            print_spaced(cond.name().as_bytes(), out)
-        }
-        Answer::Wait(call) => {
-            out.push_all(call_text(alloc, call)?.as_slice())?;
-            out.push_all(b" WAIT")
-        }
+        Answer::Service(call, cond) => print_called(alloc, call, cond.name().as_bytes(), out),
+        Answer::Wait(call) => print_called(alloc, call, b"WAIT", out),
         Answer::Resume(cond) => {
             out.push_all(b"RESUME")?;
             print_spaced(cond.name().as_bytes(), out)
@@ -96,7 +98,6 @@ pub fn print_head(
     ensures { OnOk result (out.new ≡ out.old ++ (head_line units.now n rec.now ++ 10 ∷ [])) }
 {
     print_num(alloc, out, n)?;
-    out.push_all(b" ")?;
     print_event(alloc, units, rec.event, out)?;
     out.push_all(b" ")?;
     print_answer(alloc, &rec.answer, out)?;

@@ -1,20 +1,22 @@
 //! Reads the lines of records.
 
-ghost use Rattle.std.specs.Prelude.{◌≡◌, ◌+◌, ◌<◌, ◌≤◌, IfOk, length, drop};
+ghost use Rattle.std.specs.Prelude.{◌≡◌, ◌+◌, ◌<◌, ◌≤◌, IfOk, OnOk, length, drop};
 ghost use Rattle.vx_base.specs.Services.{service_rows};
-ghost use Rattle.vx_lines.specs.Cutting.{fed_len, line_len};
+ghost use Rattle.vx_lines.specs.Cutting.{fed_len};
 ghost use Rattle.vx_lines.specs.ReadRecords as spec;
 ghost use Rattle.vx_lines.specs.declared.read.LinesFail.TheVariants as lines_fail;
 
 use crate::effect_reader::read_effect;
 use crate::head_reader::read_head;
+use crate::words::len_before;
 use std::alloc::Global;
+use std::mem::replace;
 use vx_base::{Effect, NoMemory, Rec, Recs};
 use vx_image::UnitDecl;
 use vx_table::{ServiceTable, service_table};
 
 /// Why lines are not read.
-#[derive(Clone, Copy, Debug, PartialEq, Eq)]
+#[derive(Clone, Copy)]
 pub enum LinesFail {
     /// The line of this number is the first that may not stand there.
     Bad(u32),
@@ -31,7 +33,7 @@ impl From<NoMemory> for LinesFail {
 }
 
 /// Records that were read, the number of the line behind them, and how many bytes they take.
-#[derive(Debug, Drop)]
+#[derive(Drop)]
 pub struct Records {
     pub recs: Recs,
     pub line: u32,
@@ -45,33 +47,26 @@ pub struct Reading {
     pub current: Option<Rec>,
 }
 
-fn with_effect(reading: Reading, effect: Option<Effect>) -> Result<Option<Reading>, NoMemory>
-    ensures { IfOk result (λ next. next ≡ spec.with_effect reading effect) }
+// One more effect of the record that is being read, if both are there.
+fn add_effect(reading: &mut Reading, effect: Option<Effect>) -> Result<bool, NoMemory>
+    ensures { IfOk result (λ may. spec.Leaves may reading.new (spec.with_effect reading.old effect)) }
 {
-    let Reading { recs, current } = reading;
-    let Some(mut rec) = current else {
-        return Ok(None);
-    };
-    let Some(effect) = effect else {
-        return Ok(None);
-    };
-    rec.effects.push(effect)?;
-    Ok(Some(Reading {
-        recs,
-        current: Some(rec),
-    }))
+    match (&mut reading.current, effect) {
+        (Some(rec), Some(effect)) => {
+            rec.effects.push(effect)?;
+            Ok(true)
+        }
+        _ => Ok(false),
+    }
 }
 
-fn read_so_far(reading: Reading) -> Result<Recs, NoMemory>
-    ensures { IfOk result (λ recs. recs ≡ spec.read_so_far reading) }
+// Puts the record that is being read to the others, and reads this one on.
+fn turn_to(reading: &mut Reading, next: Option<Rec>) -> Result<(), NoMemory>
+    ensures { OnOk result (reading.new ≡ record { recs = spec.read_so_far reading.old; current = next }) }
 {
-    let Reading { mut recs, current } = reading;
-    match current {
-        None => Ok(recs),
-        Some(rec) => {
-            recs.push(rec)?;
-            Ok(recs)
-        }
+    match replace(&mut reading.current, next) {
+        Some(rec) => reading.recs.push(rec),
+        None => Ok(()),
     }
 }
 
@@ -84,17 +79,17 @@ fn next_number(reading: &Reading) -> u64
     }
 }
 
-fn with_head(reading: Reading, head: Option<Rec>) -> Result<Option<Reading>, NoMemory>
-    ensures { IfOk result (λ next. next ≡ spec.with_head reading head) }
+// One more record, if there is one.
+fn add_record(reading: &mut Reading, head: Option<Rec>) -> Result<bool, NoMemory>
+    ensures { IfOk result (λ may. spec.Leaves may reading.new (spec.with_head reading.old head)) }
 {
-    let Some(rec) = head else {
-        return Ok(None);
-    };
-    let recs = read_so_far(reading)?;
-    Ok(Some(Reading {
-        recs,
-        current: Some(rec),
-    }))
+    match head {
+        Some(rec) => {
+            turn_to(reading, Some(rec))?;
+            Ok(true)
+        }
+        None => Ok(false),
+    }
 }
 
 /// Whether a line of a record is an effect's.
@@ -107,28 +102,28 @@ pub fn begins_with_space(line: &[u8]) -> bool
     }
 }
 
-fn effect_line(alloc: Global, reading: Reading, line: &[u8]) -> Result<Option<Reading>, NoMemory>
+fn effect_line(alloc: Global, reading: &mut Reading, line: &[u8]) -> Result<bool, NoMemory>
     requires { length line.now < 4294967295 }
-    ensures { IfOk result (λ next. next ≡ spec.effect_line reading line.now) }
+    ensures { IfOk result (λ may. spec.Leaves may reading.new (spec.effect_line reading.old line.now)) }
 {
     let effect = read_effect(alloc, line)?;
-    with_effect(reading, effect)
+    add_effect(reading, effect)
 }
 
 fn head_line(
     alloc: Global,
     table: &ServiceTable<36>,
     units: &[UnitDecl],
-    reading: Reading,
+    reading: &mut Reading,
     line: &[u8],
-) -> Result<Option<Reading>, NoMemory>
+) -> Result<bool, NoMemory>
     requires rows { table.now ≡ service_rows }
     requires few { length units.now ≤ 32 }
     requires short { length line.now < 4294967295 }
-    ensures { IfOk result (λ next. next ≡ spec.head_line units.now reading line.now) }
+    ensures { IfOk result (λ may. spec.Leaves may reading.new (spec.head_line units.now reading.old line.now)) }
 {
-    let head = read_head(alloc, table, units, next_number(&reading), line)?;
-    with_head(reading, head)
+    let head = read_head(alloc, table, units, next_number(reading), line)?;
+    add_record(reading, head)
 }
 
 #[tactic(auto, unfolding(crate::specs::ReadRecords::read_line))]
@@ -136,13 +131,13 @@ fn read_line(
     alloc: Global,
     table: &ServiceTable<36>,
     units: &[UnitDecl],
-    reading: Reading,
+    reading: &mut Reading,
     line: &[u8],
-) -> Result<Option<Reading>, NoMemory>
+) -> Result<bool, NoMemory>
     requires rows { table.now ≡ service_rows }
     requires few { length units.now ≤ 32 }
     requires short { length line.now < 4294967295 }
-    ensures { IfOk result (λ next. next ≡ spec.read_line units.now reading line.now) }
+    ensures { IfOk result (λ may. spec.Leaves may reading.new (spec.read_line units.now reading.old line.now)) }
 {
     if begins_with_space(line) {
         effect_line(alloc, reading, line)
@@ -161,19 +156,12 @@ pub fn is_of_record(text: &[u8]) -> bool
     }
 }
 
-fn line_len(text: &[u8]) -> usize
-    ensures len { result ≡ line_len text.now }
-    ensures within { result ≤ length text.now }
-{
-    text.iter().take_while(|b| **b != b'\n').count()
-}
-
 /// How many bytes the first line of a text has, with its line feed.
 pub fn fed_len(text: &[u8]) -> usize
     ensures len { result ≡ fed_len text.now }
     ensures within { result ≤ length text.now }
 {
-    let len = line_len(text);
+    let len = len_before(b'\n', text);
     if len < text.len() { len + 1 } else { len }
 }
 
@@ -201,14 +189,14 @@ pub fn read_records(
     while is_of_record(&text[at..]) {
         let rest = &text[at..];
         let len = fed_len(rest);
-        let Some(next) = read_line(alloc, &table, units, reading, &rest[..len])? else {
+        if !read_line(alloc, &table, units, &mut reading, &rest[..len])? {
             return Err(LinesFail::Bad(line));
-        };
-        reading = next;
+        }
         line += 1;
         at += len;
     }
-    let recs = read_so_far(reading)?;
+    turn_to(&mut reading, None)?;
+    let Reading { recs, .. } = reading;
     Ok(Records {
         recs,
         line,

@@ -1,7 +1,15 @@
 //! The words of a line: each stands behind a space.
 
-ghost use Rattle.std.specs.Prelude.{◌≡◌, ◌≤◌, length, drop};
+ghost use Rattle.std.specs.Prelude.{◌≡◌, ◌≤◌, ◌==◌, not, bytes_eq, length, drop};
+ghost use Rattle.std.specs.List.{prefix_len};
 ghost use Rattle.vx_lines.specs.Words as spec;
+
+/// Whether a word is this one.
+pub fn is_word(word: &[u8], other: &[u8]) -> bool
+    ensures { result ≡ bytes_eq word.now other.now }
+{
+    word == other
+}
 
 fn dropped(bytes: &[u8], count: usize) -> &[u8]
     ensures text { result.now ≡ drop count bytes.now }
@@ -14,11 +22,12 @@ fn dropped(bytes: &[u8], count: usize) -> &[u8]
     }
 }
 
-fn word_len(bytes: &[u8]) -> usize
-    ensures len { result ≡ spec.word_len bytes.now }
+/// How many bytes stand before the first of this value.
+pub fn len_before(byte: u8, bytes: &[u8]) -> usize
+    ensures len { result ≡ prefix_len (λ b. not (b == byte)) bytes.now }
     ensures within { result ≤ length bytes.now }
 {
-    bytes.iter().take_while(|b| **b != b' ').count()
+    bytes.iter().take_while(|b| **b != byte).count()
 }
 
 /// The word behind the space that stands first.
@@ -26,7 +35,7 @@ pub fn first_word(line: &[u8]) -> &[u8]
     ensures { result.now ≡ spec.first_word line.now }
 {
     let rest = dropped(line, 1);
-    &rest[..word_len(rest)]
+    &rest[..len_before(b' ', rest)]
 }
 
 /// The line behind its first word.
@@ -35,7 +44,7 @@ pub fn behind_word(line: &[u8]) -> &[u8]
     ensures within { length result.now ≤ length line.now }
 {
     let rest = dropped(line, 1);
-    &rest[word_len(rest)..]
+    &rest[len_before(b' ', rest)..]
 }
 
 /// The line behind what stands before its first space.
@@ -43,7 +52,7 @@ pub fn from_space(line: &[u8]) -> &[u8]
     ensures text { result.now ≡ drop (spec.word_len line.now) line.now }
     ensures within { length result.now ≤ length line.now }
 {
-    &line[word_len(line)..]
+    &line[len_before(b' ', line)..]
 }
 
 /// The second word of a line that begins with a space; empty where there is none.
@@ -103,25 +112,18 @@ pub fn before_last(line: &[u8]) -> &[u8]
     &line[..(line.len() - last_len(line)).saturating_sub(1)]
 }
 
-fn part_len(word: &[u8]) -> usize
-    ensures len { result ≡ spec.part_len word.now }
-    ensures within { result ≤ length word.now }
-{
-    word.iter().take_while(|b| **b != b':').count()
-}
-
 /// The part of a word before its first colon.
 pub fn first_part(word: &[u8]) -> &[u8]
     ensures { result.now ≡ spec.first_part word.now }
 {
-    &word[..part_len(word)]
+    &word[..len_before(b':', word)]
 }
 
 /// The word from its first colon on.
 pub fn from_colon(word: &[u8]) -> &[u8]
     ensures { result.now ≡ spec.from_colon word.now }
 {
-    &word[part_len(word)..]
+    &word[len_before(b':', word)..]
 }
 
 /// The word behind its first colon.

@@ -1,4 +1,4 @@
-use Rattle.std.proofs.Common.{◌≡◌, ◌+◌, ◌-◌, ◌≤◌, ℕ, length, drop}
+use Rattle.std.proofs.Common.{◌≡◌, ◌+◌, ◌-◌, ◌≤◌, length, drop}
 use Rattle.vx_base.specs.Services.{service_rows}
 use Rattle.vx_lines.specs.ReadRecords.{read_lines, nothing_read, fed_lines}
 use Rattle.vx_lines.proofs.read.read_records.Given as goal
