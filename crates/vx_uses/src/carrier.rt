@@ -2,11 +2,10 @@
 
 ghost use Rattle.std.specs.Prelude.{◌≤◌};
 
+use crate::meeting::{Meeting, Notes};
 use std::alloc::Global;
 use std::sync::Wait;
-use std::sync::atomic::{AtomicU64, Ordering};
 use std::test::*;
-use std::thread;
 use std::thread::Threads;
 use vx_base::{End, Event, NoMemory, Recs, Scripted, UnitNo};
 use vx_carrier::{Gate, NoGate, run_pool};
@@ -15,48 +14,6 @@ use vx_grammar::read_script;
 
 const SCRIPT: &[u8] =
     b"UNIT TA LINE\nINPUT TA \"A\"\nUNIT TB LINE\nINPUT TB \"B\"\nIMAGE MA\n$ASSIGN A,TA\n$QIOW 1,A,READ,1,,,0,8\n$EXIT\nEND\nIMAGE MB\n$ASSIGN A,TB\n$QIOW 1,A,READ,1,,,0,8\n$EXIT\nEND\nPROCESS PA MA\nPROCESS PB MB\n";
-
-/// How often each unit was told of, and whether one waited for the other in vain.
-#[derive(Drop)]
-struct Notes {
-    ta: AtomicU64,
-    tb: AtomicU64,
-    failed: AtomicU64,
-}
-
-/// A gate that notes each unit, and in its first call waits until it has seen the other's note.
-#[derive(Drop)]
-struct Noter<'a> {
-    notes: &'a Notes,
-}
-
-impl Gate for Noter<'_> {
-    fn serving(&self, unit: UnitNo, _number: u32) {
-        let (mine, other) = if unit.0 == 0 {
-            (&self.notes.ta, &self.notes.tb)
-        } else {
-            (&self.notes.tb, &self.notes.ta)
-        };
-        if mine.fetch_add(1, Ordering::SeqCst) > 0 {
-            return;
-        }
-        for _ in 0..1_000_000u32 {
-            if other.load(Ordering::SeqCst) > 0 {
-                return;
-            }
-            thread::yield_now();
-        }
-        self.notes.failed.fetch_add(1, Ordering::SeqCst);
-    }
-}
-
-fn no_notes() -> Notes {
-    Notes {
-        ta: AtomicU64::new(0),
-        tb: AtomicU64::new(0),
-        failed: AtomicU64::new(0),
-    }
-}
 
 // The records and the end of a run of the script by so many carriers.
 fn run_by<Q: Threads + Wait + Sync, G: Gate + Sync>(
@@ -89,14 +46,11 @@ fn event_at(recs: &Recs, place: usize) -> Option<Event> {
 // Both units are out at once, so each gate sees the other's note.
 #[test]
 fn two_services_at_once(rt: HostRuntime) -> Result<(), Fail> {
-    let notes = no_notes();
-    let gate = Noter { notes: &notes };
-    let (recs, end) = run_by(&rt, rt.alloc(), gate, 2, 10_000)
+    let notes = Notes::new();
+    let (recs, end) = run_by(&rt, rt.alloc(), Meeting::at(&notes), 2, 10_000)
         .ok()
         .ok_or("memory")?;
-    assert_eq!(rt; notes.failed.load(Ordering::SeqCst), 0);
-    assert_eq!(rt; notes.ta.load(Ordering::SeqCst), 1);
-    assert_eq!(rt; notes.tb.load(Ordering::SeqCst), 1);
+    assert_eq!(rt; notes.seen(), [1, 1, 0]);
     assert!(rt; event_at(&recs, 4) == Some(Event::Beg(UnitNo(0))));
     assert!(rt; event_at(&recs, 5) == Some(Event::Beg(UnitNo(1))));
     assert!(rt; end == End::Done);
@@ -106,12 +60,11 @@ fn two_services_at_once(rt: HostRuntime) -> Result<(), Fail> {
 // One carrier serves a unit before it takes the next turn, so its first gate waits in vain.
 #[test]
 fn one_service_at_a_time(rt: HostRuntime) -> Result<(), Fail> {
-    let notes = no_notes();
-    let gate = Noter { notes: &notes };
-    let (recs, end) = run_by(&rt, rt.alloc(), gate, 1, 10_000)
+    let notes = Notes::new();
+    let (recs, end) = run_by(&rt, rt.alloc(), Meeting::at(&notes), 1, 10_000)
         .ok()
         .ok_or("memory")?;
-    assert_eq!(rt; notes.failed.load(Ordering::SeqCst), 1);
+    assert_eq!(rt; notes.seen(), [1, 1, 1]);
     assert!(rt; event_at(&recs, 5) == Some(Event::Don(UnitNo(0))));
     assert!(rt; end == End::Done);
     Ok(())

@@ -1,12 +1,11 @@
 //! Two units in service at once: what threads may do and no contract says.
 
+use crate::meeting::{Meeting, Notes};
 use std::alloc::Global;
 use std::sync::Wait;
-use std::sync::atomic::{AtomicU64, Ordering};
 use std::test::*;
-use std::thread::{self, Threads};
-use vx_base::{Bytes, NoMemory, UnitNo};
-use vx_carrier::Gate;
+use std::thread::Threads;
+use vx_base::{Bytes, NoMemory};
 use vx_commands::{Status, vms_call};
 use vx_host::{MemSink, MemSource};
 
@@ -26,40 +25,6 @@ END
 PROCESS P FIRST
 PROCESS Q SECOND
 ";
-
-/// How often the units have been seen in service, and how often one waited for the other in vain.
-#[derive(Drop)]
-struct Notes {
-    first: AtomicU64,
-    second: AtomicU64,
-    missed: AtomicU64,
-}
-
-/// Each unit's first service waits until the other unit is in service too.
-#[derive(Drop)]
-struct Meeting<'a> {
-    notes: &'a Notes,
-}
-
-impl Gate for Meeting<'_> {
-    fn serving(&self, unit: UnitNo, _number: u32) {
-        let (mine, other) = if unit.0 == 0 {
-            (&self.notes.first, &self.notes.second)
-        } else {
-            (&self.notes.second, &self.notes.first)
-        };
-        if mine.fetch_add(1, Ordering::SeqCst) > 0 {
-            return;
-        }
-        for _ in 0..1_000_000u32 {
-            if other.load(Ordering::SeqCst) > 0 {
-                return;
-            }
-            thread::yield_now();
-        }
-        self.notes.missed.fetch_add(1, Ordering::SeqCst);
-    }
-}
 
 fn bytes_of(alloc: Global, text: &[u8]) -> Result<Bytes, NoMemory> {
     let mut bytes = Bytes::new(alloc);
@@ -108,18 +73,12 @@ fn run_by_two<Q: Threads + Wait + Sync>(
 
 #[test]
 fn two_units_are_in_service_at_once(rt: HostRuntime) -> Result<(), Fail> {
-    let notes = Notes {
-        first: AtomicU64::new(0),
-        second: AtomicU64::new(0),
-        missed: AtomicU64::new(0),
-    };
-    let told = run_by_two(&rt, rt.alloc(), Meeting { notes: &notes })
+    let notes = Notes::new();
+    let told = run_by_two(&rt, rt.alloc(), Meeting::at(&notes))
         .ok()
         .ok_or("memory")?;
     assert_eq!(rt; told.status, Status::Done);
-    assert_eq!(rt; notes.missed.load(Ordering::SeqCst), 0);
-    assert_eq!(rt; notes.first.load(Ordering::SeqCst), 1);
-    assert_eq!(rt; notes.second.load(Ordering::SeqCst), 1);
+    assert_eq!(rt; notes.seen(), [1, 1, 0]);
     assert!(rt; told.is_first_begun);
     assert!(rt; told.is_second_begun);
     Ok(())

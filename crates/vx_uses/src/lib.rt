@@ -36,6 +36,8 @@ mod judge_boxes;
 #[cfg(test)]
 mod mailbox;
 #[cfg(test)]
+mod meeting;
+#[cfg(test)]
 mod names;
 #[cfg(test)]
 mod quota;
