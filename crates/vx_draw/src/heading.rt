@@ -64,7 +64,7 @@ pub fn process_names(
     Ok(names)
 }
 
-/// The heading of process n: its number, a space and its name.
+/// The heading of process n: its number, a space and its name. Takes memory.
 pub fn process_heading(alloc: Global, n: u64, name: &Name) -> Result<Bytes, NoMemory>
     ensures { IfOk result (λ text. text ≡ decimal n ++ 32 ∷ name.now) }
 {

@@ -323,7 +323,7 @@ fn print_start(alloc: Global, width: u128, height: u128, out: &mut Bytes) -> Res
     out.push_all(STYLE)
 }
 
-// Appends the rows of records, from the processes on that are there from the start.
+// Appends the rows of records, on a canvas of its own.
 fn print_canvas(
     alloc: Global,
     places: Places,
