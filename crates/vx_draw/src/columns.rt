@@ -7,7 +7,7 @@ ghost use Rattle.vx_draw.specs.Columns as spec;
 
 use crate::deed::print_deed;
 use crate::front::{behind, front, sound_part, wrong_record};
-use crate::heading::process_names;
+use crate::heading::{process_heading, process_names};
 use std::alloc::Global;
 use vx_base::{Bytes, Event, Name, NoMemory, Rec};
 use vx_image::{System, UnitDecl};
@@ -37,10 +37,7 @@ fn print_process_heading(
 ) -> Result<(), NoMemory>
     ensures { OnOk result (out.new ≡ out.old ++ spec.heading_cell (decimal n ++ 32 ∷ name.now)) }
 {
-    let mut text = Bytes::new(alloc);
-    print_num(alloc, &mut text, n)?;
-    text.push_all(b" ")?;
-    text.push_all(name.text())?;
+    let text = process_heading(alloc, n, name)?;
     print_heading(alloc, text.as_slice(), out)
 }
 
@@ -206,6 +203,26 @@ fn print_ending(
     }
 }
 
+// Appends a transcript with these names of processes.
+fn print_named(
+    alloc: Global,
+    names: &[Name],
+    units: &[UnitDecl],
+    recs: &[Rec],
+    n: Option<u32>,
+    wrong: Option<&Rec>,
+    trailer: &[u8],
+    out: &mut Bytes,
+) -> Result<(), NoMemory>
+    ensures { OnOk result (out.new ≡ out.old
+        ++ spec.with_names names.now units.now recs.now n (option_map (λ rec. rec.now) wrong.entry) trailer.now) }
+{
+    print_heading_line(alloc, names, units, out)?;
+    let rule = rule(alloc, names, units)?;
+    print_lines(alloc, rule.as_slice(), names.len(), recs, out)?;
+    print_ending(alloc, rule.as_slice(), names.len(), n, wrong, trailer, out)
+}
+
 /// Appends a transcript as columns of text: a line of headings, a line a record, and the trailer as it is. `wrong` is the
 /// number of the first record that is not the machine's, if one is not: that record is the last that is told, and has `??` in
 /// front; if there is no record of the number, the trailer has.
@@ -222,15 +239,12 @@ pub fn print_columns(
     let sound = sound_part(wrong, recs);
     let names = process_names(alloc, system, sound)?;
     let units = system.units.as_slice();
-    let rule = rule(alloc, names.as_slice(), units)?;
-    print_heading_line(alloc, names.as_slice(), units, out)?;
-    let processes = names.as_slice().len();
-    print_lines(alloc, rule.as_slice(), processes, sound, out)?;
     let first_wrong = wrong_record(wrong, recs);
-    print_ending(
+    print_named(
         alloc,
-        rule.as_slice(),
-        processes,
+        names.as_slice(),
+        units,
+        sound,
         wrong,
         first_wrong,
         trailer,

@@ -12,7 +12,7 @@ use std::marker::Model;
 use vx_base::{Bytes, Mode, NoMemory, Pid};
 
 /// A frame from a height on: its mode, and whether it waits.
-#[derive(Clone, Copy, Debug)]
+#[derive(Clone, Copy)]
 pub struct Bar {
     pub mode: Mode,
     pub since: u128,
@@ -20,7 +20,7 @@ pub struct Bar {
 }
 
 /// What becomes of a process's frames at a height.
-#[derive(Clone, Copy, Debug)]
+#[derive(Clone, Copy)]
 pub enum Move {
     /// Nothing.
     Stay,

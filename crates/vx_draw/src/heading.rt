@@ -1,11 +1,12 @@
 //! The names of the columns.
 
-ghost use Rattle.std.specs.Prelude.{◌≡◌, ◌++◌, OnOk, IfOk};
+ghost use Rattle.std.specs.Prelude.{◌≡◌, ◌++◌, ◌∷◌, decimal, OnOk, IfOk};
 ghost use Rattle.vx_draw.specs.Headings.{started_names, effects_names, new_names, process_names, new_name, is_cluster, has_cluster, has_clusters};
 
 use std::alloc::Global;
-use vx_base::{Effect, Name, NoMemory, Rec, Sequence};
+use vx_base::{Bytes, Effect, Name, NoMemory, Rec, Sequence};
 use vx_image::{ProcDecl, System};
+use vx_text::print_num;
 
 // Appends the names of the processes that are there from the start.
 fn add_started(decls: &[ProcDecl], names: &mut Sequence<Name>) -> Result<(), NoMemory>
@@ -61,6 +62,17 @@ pub fn process_names(
     add_started(system.decls.as_slice(), &mut names)?;
     add_made(recs, &mut names)?;
     Ok(names)
+}
+
+/// The heading of process n: its number, a space and its name. Takes memory.
+pub fn process_heading(alloc: Global, n: u64, name: &Name) -> Result<Bytes, NoMemory>
+    ensures { IfOk result (λ text. text ≡ decimal n ++ 32 ∷ name.now) }
+{
+    let mut text = Bytes::new(alloc);
+    print_num(alloc, &mut text, n)?;
+    text.push_all(b" ")?;
+    text.push_all(name.text())?;
+    Ok(text)
 }
 
 fn is_cluster(effect: &Effect) -> bool

@@ -22,7 +22,7 @@ use vx_lines::print_effects;
 use vx_text::print_num;
 
 /// What a mark looks like.
-#[derive(Clone, Copy, Debug)]
+#[derive(Clone, Copy)]
 pub enum Figure {
     Square,
     Down,
@@ -32,7 +32,7 @@ pub enum Figure {
 }
 
 /// A mark: where it stands, where lines to the owner of its column end, and what it looks like.
-#[derive(Clone, Copy, Debug)]
+#[derive(Clone, Copy)]
 pub struct Mark {
     pub x: u64,
     pub owner: u128,

@@ -4,13 +4,14 @@
 
 ghost use Rattle.std.specs.Prelude.{◌≡◌, ◌+◌, ◌*◌, ◌∷◌, ◌++◌, ◌==◌, ◌<◌, ◌^◌, decimal, flat_map, OnOk, IfOk, option_map};
 ghost use Rattle.vx_draw.specs.Places.{process_x, box_x};
+ghost use Rattle.vx_draw.specs.Rows.{rows_text};
 ghost use Rattle.vx_draw.specs.Picture as spec;
 
 use crate::boxes::{BoxName, Boxes, boxes_of};
 use crate::deed::print_deed;
 use crate::frames::Stacks;
 use crate::front::{behind, sound_part, wrong_record};
-use crate::heading::{has_clusters, process_names};
+use crate::heading::{has_clusters, process_heading, process_names};
 use crate::moves::runs_from;
 use crate::places::{Places, anchor, column_x, columns_of};
 use crate::rows::{Canvas, print_number_label, print_rows};
@@ -23,7 +24,6 @@ use crate::trails::Trails;
 use std::alloc::Global;
 use vx_base::{Bytes, Name, NoMemory, Rec};
 use vx_image::{ProcDecl, System, UnitDecl};
-use vx_text::print_num;
 
 // Appends a heading at x, and its column down to a height.
 #[tactic(auto, unfolding(crate::specs::Picture::heading))]
@@ -51,10 +51,7 @@ fn print_process_heading(
 ) -> Result<(), NoMemory>
     ensures { OnOk result (out.new ≡ out.old ++ spec.heading (process_x n) until (decimal n ++ 32 ∷ name.now)) }
 {
-    let mut text = Bytes::new(alloc);
-    print_num(alloc, &mut text, n)?;
-    text.push_all(b" ")?;
-    text.push_all(name.text())?;
+    let text = process_heading(alloc, n, name)?;
     print_heading(alloc, column_x(n), until, text.as_slice(), out)
 }
 
@@ -326,6 +323,23 @@ fn print_start(alloc: Global, width: u128, height: u128, out: &mut Bytes) -> Res
     out.push_all(STYLE)
 }
 
+// Appends the rows of records, on a canvas of its own.
+fn print_canvas(
+    alloc: Global,
+    places: Places,
+    boxes: &Boxes,
+    decls: &[ProcDecl],
+    names: &[Name],
+    recs: &[Rec],
+    out: &mut Bytes,
+) -> Result<(), NoMemory>
+    ensures { OnOk result (out.new ≡ out.old
+        ++ rows_text places boxes.now decls.now 1 recs.now (spec.first_canvas decls.now names.now)) }
+{
+    let mut canvas = first_canvas(alloc, decls, names)?;
+    print_rows(alloc, places, boxes, decls, recs, &mut canvas, out)
+}
+
 // Appends a picture, with what stands below the rows.
 fn print_all(
     alloc: Global,
@@ -343,7 +357,6 @@ fn print_all(
 {
     let decls = system.decls.as_slice();
     let units = system.units.as_slice();
-    let mut canvas = first_canvas(alloc, decls, names)?;
     print_start(alloc, u128::from(places.end), until, out)?;
     print_headings(
         alloc,
@@ -355,7 +368,7 @@ fn print_all(
         has_clusters(recs),
         out,
     )?;
-    print_rows(alloc, places, boxes, decls, recs, &mut canvas, out)?;
+    print_canvas(alloc, places, boxes, decls, names, recs, out)?;
     out.push_all(below)?;
     out.push_all(b"</svg>\n")
 }

@@ -6,7 +6,7 @@ ghost use Rattle.vx_draw.specs.Places as spec;
 use vx_base::{Event, Pid};
 
 /// Where the columns behind those of the processes begin: those of units, of mailboxes and of clusters; and where the last ends.
-#[derive(Clone, Copy, Debug)]
+#[derive(Clone, Copy)]
 pub struct Places {
     pub units: u32,
     pub boxes: u32,

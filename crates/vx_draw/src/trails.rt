@@ -9,7 +9,7 @@ use std::marker::Model;
 use vx_base::{Bytes, Id, Mode, NoMemory};
 
 /// Where an id was last told, the mode of its routine, and whether that is a forced exit.
-#[derive(Clone, Copy, Debug)]
+#[derive(Clone, Copy)]
 pub struct Trail {
     pub x: u128,
     pub y: u128,
@@ -18,7 +18,7 @@ pub struct Trail {
 }
 
 /// What is told of an id.
-#[derive(Clone, Copy, Debug)]
+#[derive(Clone, Copy)]
 pub enum Tale {
     /// Nothing.
     Nothing,

@@ -62,7 +62,6 @@ impl<T: Drop> BoxLists<T> {
     {
         let mut items = self.take(&name);
         items.push(item)?;
-        self.set(name, items)?;
-        Ok(())
+        self.set(name, items)
     }
 }

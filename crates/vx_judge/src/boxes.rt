@@ -200,8 +200,7 @@ impl Judge for Boxes {
             &self.requests,
         )?;
         self.channels.pass_effect(rec, earlier, effect)?;
-        stores::pass_effect(&mut self.stored, effect)?;
-        Ok(())
+        stores::pass_effect(&mut self.stored, effect)
     }
 }
 

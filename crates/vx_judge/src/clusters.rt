@@ -83,10 +83,7 @@ impl Clusters {
         ensures { OnOk result ((past : List Item) → AreJoined self.old past → AreJoined self.new (Did effect.now ∷ past)) }
     {
         match effect {
-            Effect::Clu { p, k, cluster } => {
-                self.set(*p, *k, *cluster)?;
-                Ok(())
-            }
+            Effect::Clu { p, k, cluster } => self.set(*p, *k, *cluster),
             _ => Ok(()),
         }
     }

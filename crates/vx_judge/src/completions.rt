@@ -90,8 +90,7 @@ impl Judge for Completions {
         effect: &Effect,
     ) -> Result<(), NoMemory> {
         self.debts.pass_effect(rec, earlier, effect)?;
-        self.clusters.pass_effect(effect)?;
-        Ok(())
+        self.clusters.pass_effect(effect)
     }
 }
 

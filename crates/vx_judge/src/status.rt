@@ -94,8 +94,7 @@ impl Judge for Status {
 
     fn pass_head(&mut self, rec: &Rec) -> Result<(), NoMemory> {
         self.waits.pass_head(rec.event, &rec.answer, &self.lives)?;
-        self.lives.pass_head(rec.event, &rec.answer)?;
-        Ok(())
+        self.lives.pass_head(rec.event, &rec.answer)
     }
 
     fn pass_effect(

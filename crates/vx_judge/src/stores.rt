@@ -45,8 +45,7 @@ fn cut(stores: &mut BoxLists<Message>, name: Text, id: Id) -> Result<(), NoMemor
     let mut messages = stores.take(&name);
     let place = place_of(messages.as_slice(), id);
     take_out(&mut messages, place);
-    stores.set(name, messages)?;
-    Ok(())
+    stores.set(name, messages)
 }
 
 /// Goes past an effect: MPUT stores a message behind the others of its box, MGET and MCUT take it out, MBX empties the box.
@@ -63,14 +62,8 @@ pub fn pass_effect(stores: &mut BoxLists<Message>, effect: &Effect) -> Result<()
             stores.push(Text::of(name), message)?;
             Ok(())
         }
-        Effect::MGet { name, w, .. } => {
-            cut(stores, Text::of(name), *w)?;
-            Ok(())
-        }
-        Effect::MCut { name, w } => {
-            cut(stores, Text::of(name), *w)?;
-            Ok(())
-        }
+        Effect::MGet { name, w, .. } => cut(stores, Text::of(name), *w),
+        Effect::MCut { name, w } => cut(stores, Text::of(name), *w),
         _ => Ok(()),
     }
 }

@@ -7,7 +7,7 @@ use std::marker::Model;
 use vx_base::Name;
 
 /// A name that can be hashed, or no name, which contracts see as a text without bytes.
-#[derive(Clone, Copy, Debug)]
+#[derive(Clone, Copy)]
 pub struct Text {
     bytes: [u8; 31],
     len: u8,

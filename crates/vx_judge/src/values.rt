@@ -240,7 +240,6 @@ impl Values {
     {
         self.cells.pass_effect(effect)?;
         self.clusters.pass_effect(effect)?;
-        self.blocks.pass_effect(effect)?;
-        Ok(())
+        self.blocks.pass_effect(effect)
     }
 }

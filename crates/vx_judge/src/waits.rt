@@ -163,8 +163,7 @@ impl Waits {
     {
         let p = process_turned(event, answer);
         self.change(p, turn_of(event, answer, lives))?;
-        self.tell(p, answer)?;
-        Ok(())
+        self.tell(p, answer)
     }
 
     /// Goes past an effect: an exit handler is entered.
@@ -173,10 +172,7 @@ impl Waits {
     {
         match effect {
             Effect::Enter(id) => match lives.of(*id) {
-                Some(l) => {
-                    self.enter(l.p)?;
-                    Ok(())
-                }
+                Some(l) => self.enter(l.p),
                 None => Ok(()),
             },
             _ => Ok(()),

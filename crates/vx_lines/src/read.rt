@@ -47,7 +47,7 @@ pub struct Reading {
     pub current: Option<Rec>,
 }
 
-// One more effect of the record that is being read, if both are there.
+// Adds an effect to the record that is being read; answers whether both are there.
 fn add_effect(reading: &mut Reading, effect: Option<Effect>) -> Result<bool, NoMemory>
     ensures { IfOk result (λ may. spec.Leaves may reading.new (spec.with_effect reading.old effect)) }
 {
@@ -60,7 +60,7 @@ fn add_effect(reading: &mut Reading, effect: Option<Effect>) -> Result<bool, NoM
     }
 }
 
-// Puts the record that is being read to the others, and reads this one on.
+// Puts the record that is being read behind the others, and this one in its place.
 fn turn_to(reading: &mut Reading, next: Option<Rec>) -> Result<(), NoMemory>
     ensures { OnOk result (reading.new ≡ record { recs = spec.read_so_far reading.old; current = next }) }
 {
@@ -79,7 +79,7 @@ fn next_number(reading: &Reading) -> u64
     }
 }
 
-// One more record, if there is one.
+// Begins one more record; answers whether there is one.
 fn add_record(reading: &mut Reading, head: Option<Rec>) -> Result<bool, NoMemory>
     ensures { IfOk result (λ may. spec.Leaves may reading.new (spec.with_head reading.old head)) }
 {
