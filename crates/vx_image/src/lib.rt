@@ -30,6 +30,7 @@ pub use decl::{ProcDecl, ProcDecls};
 pub use example::{past_example, round_example, wrapping_example};
 pub use image::{Image, Images, Label, Labels};
 pub use run::advance;
+pub use same::same_privs;
 pub use snapshot::StoreSnapshot;
 pub use stmt::{Field, Rel, Stmt, StmtRef};
 pub use stmts::Stmts;

@@ -83,7 +83,8 @@ fn same_last_privs(a: &Privs, b: &Privs) -> bool
     a.prmceb == b.prmceb && a.prmmbx == b.prmmbx && a.world == b.world
 }
 
-fn same_privs(a: &Privs, b: &Privs) -> bool
+/// Whether the privileges are the same.
+pub fn same_privs(a: &Privs, b: &Privs) -> bool
     ensures { IsTrue result ↔ (a.now ≡ b.now) }
 {
     same_first_privs(a, b) && same_last_privs(a, b)

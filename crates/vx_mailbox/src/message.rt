@@ -7,22 +7,11 @@ use std::alloc::Global;
 use vx_base::{Body, Msg, NoMemory};
 use vx_same::mix;
 
-// Whether two texts, or ends of file, are the same.
-fn same_body(a: &Body, b: &Body) -> bool
-    ensures { IsTrue result ↔ (a.now ≡ b.now) }
-{
-    match (a, b) {
-        (Body::Text(a), Body::Text(b)) => *a == *b,
-        (Body::Eof, Body::Eof) => true,
-        _ => false,
-    }
-}
-
 // Whether two messages are the same.
 fn same_message(a: &Msg, b: &Msg) -> bool
     ensures { IsTrue result ↔ (a.now ≡ b.now) }
 {
-    a.id == b.id && a.writer == b.writer && a.held == b.held && same_body(&a.body, &b.body)
+    *a == *b
 }
 
 /// Whether two lists of messages are the same. Takes no memory.

@@ -9,27 +9,8 @@ ghost use Rattle.vx_procs.specs.View.{unit_of};
 use crate::kept::KeptUnit;
 use crate::proc_snapshot::ProcSnapshot;
 use crate::snapshot::CoreSnapshot;
-use vx_base::{Privs, Routine, Same};
-
-// Whether the first three privileges are the same.
-fn same_first_privs(a: &Privs, b: &Privs) -> bool
-    ensures { IsTrue result ↔ ((a.now.cmexec ≡ b.now.cmexec) × (a.now.cmkrnl ≡ b.now.cmkrnl) × (a.now.group ≡ b.now.group)) }
-{
-    a.cmexec == b.cmexec && a.cmkrnl == b.cmkrnl && a.group == b.group
-}
-
-// Whether the last three privileges are the same.
-fn same_last_privs(a: &Privs, b: &Privs) -> bool
-    ensures { IsTrue result ↔ ((a.now.prmceb ≡ b.now.prmceb) × (a.now.prmmbx ≡ b.now.prmmbx) × (a.now.world ≡ b.now.world)) }
-{
-    a.prmceb == b.prmceb && a.prmmbx == b.prmmbx && a.world == b.world
-}
-
-fn same_privs(a: &Privs, b: &Privs) -> bool
-    ensures { IsTrue result ↔ (a.now ≡ b.now) }
-{
-    same_first_privs(a, b) && same_last_privs(a, b)
-}
+use vx_base::{Routine, Same};
+use vx_image::same_privs;
 
 impl<R: Routine> ProcSnapshot<R> {
     // Whether the declaration, the identification code and the privileges are the same.

@@ -4,7 +4,6 @@ ghost use Rattle.std.specs.Prelude.{◌≡◌};
 ghost use Rattle.vx_base.specs.Services.{service_rows};
 ghost use Rattle.vx_table.specs.Reading.{toks, read_call, BeginsCall};
 ghost use Rattle.vx_script.specs.Statements as spec;
-ghost use Rattle.vx_script.specs.Results.{given};
 ghost use Rattle.vx_script.specs.declared.fault.FaultKind.TheVariants as kind;
 
 use crate::draft::Draft;

@@ -7,7 +7,7 @@ use vx_carrier::Gate;
 
 /// How often each of two units has been seen in service, and how often one waited for the other in vain.
 #[derive(Drop)]
-pub struct Notes {
+pub(crate) struct Notes {
     first: AtomicU64,
     second: AtomicU64,
     missed: AtomicU64,
@@ -15,13 +15,13 @@ pub struct Notes {
 
 /// Each unit's first service waits until the other unit is in service too.
 #[derive(Drop)]
-pub struct Meeting<'a> {
+pub(crate) struct Meeting<'a> {
     notes: &'a Notes,
 }
 
 impl Notes {
     /// Nothing seen yet.
-    pub fn new() -> Notes {
+    pub(crate) fn new() -> Notes {
         Notes {
             first: AtomicU64::new(0),
             second: AtomicU64::new(0),
@@ -30,7 +30,7 @@ impl Notes {
     }
 
     /// How often unit 0, unit 1, and a wait in vain were seen.
-    pub fn seen(&self) -> [u64; 3] {
+    pub(crate) fn seen(&self) -> [u64; 3] {
         [
             self.first.load(Ordering::SeqCst),
             self.second.load(Ordering::SeqCst),
@@ -41,7 +41,7 @@ impl Notes {
 
 impl Meeting<'_> {
     /// A gate that notes here.
-    pub fn at(notes: &Notes) -> Meeting<'_> {
+    pub(crate) fn at(notes: &Notes) -> Meeting<'_> {
         Meeting { notes }
     }
 }
