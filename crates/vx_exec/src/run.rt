@@ -45,6 +45,11 @@ pub fn run_system<R: Routine>(
     ensures { IfOk result (λ run. IsChosenRun system seed limit run.0 run.1 run.2) }
 {
     let mut exec = Exec::new(alloc, system, limit)?;
-    let (recs, end) = take_run(alloc, &mut exec, seed)?;
-    Ok((exec, recs, end))
+    match take_run(alloc, &mut exec, seed) {
+        Ok((recs, end)) => Ok((exec, recs, end)),
+        Err(failure) => {
+            drop(exec);
+            Err(failure)
+        }
+    }
 }

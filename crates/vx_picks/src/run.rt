@@ -85,6 +85,9 @@ pub fn run_picks<R: Routine>(
     let mut exec = Exec::new(alloc, system, limit)?;
     match take_picks(alloc, &mut exec, places) {
         Ok((recs, end)) => Ok((exec, recs, end)),
-        Err(fail) => Err(fail),
+        Err(fail) => {
+            drop(exec);
+            Err(fail)
+        }
     }
 }
