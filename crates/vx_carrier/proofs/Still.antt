@@ -289,9 +289,6 @@ course_step u r0 held s (event.Beg v) on m b n h = goes_on u r0 held s (event.Be
 course_step u r0 held s (event.Don v) on m b n h = ends_or_on u v r0 held s (u.0 == v.0) refl on b n h
 course_step u r0 held s event.Tick on m b n h = goes_on u r0 held s event.Tick tt on m b n h
 
-next_lasts : Lasts 0 (λ (r : Request). Unit {0})
-next_lasts = record { marked = λ r h. tt; opened = λ r a f. tt }
-
 course_after : (u : UnitNo) (r0 : Req) (held : DeviceUnit) (s : State) (e : Event) → IsThere s e → HasBegun u r0 held s → AllByRecursion (IsOther r0.id.0) s.requests ⊎ IsServing u r0 held s → HasBegun u r0 held (step s e).after
 course_after u r0 held s e m k (inl gone) =
     let after = others_after r0.id.0 s e m k.base k.above gone in

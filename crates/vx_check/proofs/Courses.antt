@@ -188,10 +188,6 @@ pub course_opened : (before after : Executive) (course : Course) (number : ℕ) 
 course_opened before after course number head (Ok next) right opens = λ s r h bare place. head_taken s before after course next r number head h right bare place opens
 course_opened before after course number head (Err e) right opens = tt
 
--- what follows a head
-pub head_followed : (s : State) (before after : Executive) (p q : Progress) (r : Reading) (head : Rec) → IsFollowing s before p r → q.count ≡ p.count + 1 → Follows s after q.course (headed r head) → FollowsLine s after (Some q) (with_head r (Some head))
-head_followed s before after p q r head h more course = (headed r head, (refl, record { count = omega (arith, h.count, more, length-append (read_so_far r) (head ∷ [])); course = course }))
-
 -- An effect.
 
 abbrev effected : Reading → Rec → Effect → Reading

@@ -26,11 +26,6 @@ step_if s r made there is same =
     let own : r ≡ record_of s r.event = sym same ∙ is in
     record { enabled = there; answer = ap (λ (z : Rec). z.answer) own; effects = ap (λ (z : Rec). z.effects) own }
 
-pub step_only : (s : State) (r made : Rec) → made ≡ record_of s r.event → IsStep s r → made ≡ r
-step_only s r made is h =
-    let own : record_of s r.event ≡ record { event = r.event; answer = r.answer; effects = (step s r.event).effects } = ap (λ a. record { event = r.event; answer = a; effects = (step s r.event).effects }) (sym h.answer) in
-    is ∙ own ∙ ap (λ es. record { event = r.event; answer = r.answer; effects = es }) (sym h.effects)
-
 -- Records behind one another.
 
 pub last_step : (s : State) (rs : List Rec) (r : Rec) → AreSteps s (rs ++ r ∷ []) → IsStep (after_from s rs) r

@@ -71,18 +71,8 @@ ends_plan : (s : State) (now : Executive) (recs : List Rec) (o : Option ℕ) →
 ends_plan s now recs None h = h.0.planned
 ends_plan s now recs (Some n) h = h.0
 
-pub follows_limit : (s : State) (now : Executive) (line : ℕ) (text : List ℕ) (f : Followed) → FollowsAll s now line text f → now.limit ≡ 100000
-follows_limit s now line text f h = ap (λ (p : Plan). p.limit) (ends_plan s now h.recs f.wrong h.ends)
-
 pub follows_system : (s : State) (now : Executive) (line : ℕ) (text : List ℕ) (f : Followed) → FollowsAll s now line text f → now.state.system ≡ s.system
 follows_system s now line text f h = ap (λ (p : Plan). p.system) (ends_plan s now h.recs f.wrong h.ends)
-
-ends_taken : (s : State) (now : Executive) (recs : List Rec) (o : Option ℕ) → Ends s now recs o → o ≡ None → now.taken ≤ 100000
-ends_taken s now recs None h is = omega (arith, h.0.counted, h.1)
-ends_taken s now recs (Some n) h is = absurd (cc)
-
-pub follows_taken : (s : State) (now : Executive) (line : ℕ) (text : List ℕ) (f : Followed) → FollowsAll s now line text f → f.wrong ≡ None → now.taken ≤ 100000
-follows_taken s now line text f h is = ends_taken s now h.recs f.wrong h.ends is
 
 -- What stands behind a header.
 
@@ -93,15 +83,6 @@ journal_by system recs trailer part = record { system = system; recs = recs; par
 trailer_behind : (system : System) (line : ℕ) (text : List ℕ) (records : Records) → read_records system.units line text ≡ Ok records → behind_header system line text ≡ (read_trailer system.units records.line (drop records.len text) >>= λ part. Ok (journal_by system records.recs (drop records.len text) part))
 trailer_behind system line text records reads = ap (λ (o : Result Records ℕ). o >>= λ (r : Records). behind_records system r (drop r.len text)) reads
 
--- a bad line among the records is one of the whole
-pub records_fail : (system : System) (line : ℕ) (text : List ℕ) (e : LinesFail) → Fails e (read_records system.units line text) → Fails e (behind_header system line text)
-records_fail system line text (lines_fail.Bad n) reads = ap (λ (o : Result Records ℕ). o >>= λ (r : Records). behind_records system r (drop r.len text)) reads
-records_fail system line text lines_fail.NoMemory reads = tt
-
-pub trailer_fail : (system : System) (line : ℕ) (text : List ℕ) (records : Records) (e : LinesFail) → read_records system.units line text ≡ Ok records → Fails e (read_trailer system.units records.line (drop records.len text)) → Fails e (behind_header system line text)
-trailer_fail system line text records (lines_fail.Bad n) reads bad = trailer_behind system line text records reads ∙ ap (λ (o : Result Part ℕ). o >>= λ part. Ok (journal_by system records.recs (drop records.len text) part)) bad
-trailer_fail system line text records lines_fail.NoMemory reads bad = tt
-
 pub judged_behind : (system : System) (now : Executive) (line : ℕ) (text : List ℕ) (f : Followed) (part : Part) (v : Verdict) → FollowsAll (first system) now line text f → read_trailer system.units f.line (drop f.len text) ≡ Ok part → v ≡ verdict_on now f.wrong part (drop f.len text) → IsVerdictBehind system line text v
 judged_behind system now line text f part v follows reads is =
     let records : Records = record { recs = follows.recs; line = f.line; len = f.len } in
@@ -111,9 +92,6 @@ judged_behind system now line text f part v follows reads is =
       reads = trailer_behind system line text records follows.reads ∙ ap (λ (o : Result Part ℕ). o >>= λ p. Ok (journal_by system follows.recs (drop f.len text) p)) reads;
       judged = verdict_is j now v f.wrong follows.ends is;
     }
-
-pub trailer_fails : (system : System) (now : Executive) (line : ℕ) (text : List ℕ) (f : Followed) (e : LinesFail) → FollowsAll (first system) now line text f → Fails e (read_trailer system.units f.line (drop f.len text)) → Fails e (behind_header system line text)
-trailer_fails system now line text f e follows bad = trailer_fail system line text (record { recs = follows.recs; line = f.line; len = f.len }) e follows.reads bad
 
 -- The text.
 

@@ -24,18 +24,12 @@ pub record Tallying (before now : Executive) (seed next : ℕ) (tally : Tally) :
   pub taking : Taking before now seed next recs
   pub counts : tally ≡ tally_of recs
 
-pub none_tallied : (e : Executive) (seed : ℕ) (tally : Tally) → tally ≡ tally_of [] → Tallying e e seed seed tally
-none_tallied e seed tally counts = record { recs = []; taking = begun e seed; counts = counts }
-
 pub more_tallied : (before now later : Executive) (seed x y : ℕ) (r : Rec) (e : Event) (tally more : Tally) → Tallying before now seed x tally → None ≡ end_of now.limit now.taken now.state → Some e ≡ picked_event x (enabled now.state) → y ≡ moved_seed x (enabled now.state) → r ≡ record_of now.state e → later ≡ record now { state = (step now.state e).after; taken = now.taken + 1 } → plan later ≡ plan now → ((recs : List Rec) → tally ≡ tally_of recs → more ≡ tally_of (recs ++ r ∷ [])) → Tallying before later seed y more
 more_tallied before now later seed x y r e tally more so_far going picks moves is becomes planned adds = record {
   recs = so_far.recs ++ r ∷ [];
   taking = taken_more before now later seed x y so_far.recs r e so_far.taking going picks moves is becomes planned;
   counts = adds so_far.recs so_far.counts;
 }
-
-pub run_tallied : (before now : Executive) (seed next : ℕ) (tally : Tally) (end : End) → Tallying before now seed next tally → Some end ≡ end_of now.limit now.taken now.state → Tallies before now seed tally end
-run_tallied before now seed next tally end so_far ended = record { recs = so_far.recs; ran = ended_run before now seed next so_far.recs end so_far.taking ended; counts = so_far.counts }
 
 -- the run that the executive took is the one that the seed chooses, and its summary is written
 pub is_summed : (system : System) (options : Options) (before closed : Executive) (tally : Tally) (e : End) (text : List ℕ) → options.limit ≤ 100000 → before ≡ record { state = first system; limit = options.limit; taken = 0 } → Tallies before closed options.seed tally e → text ≡ summary tally e → IsSummed system options e text

@@ -49,11 +49,3 @@ flagged_exceeds s (Local q n) on p need =
     ap (λ (xs : List Queued). not (is_within (together (with_asts xs) need) (limits_of (with_cell s (Local q n) on) p))) quiet.asts
     ∙ ap (λ (i : ℕ). not (is_within (together (charge s p) need) (limits i))) quiet.decl
 flagged_exceeds s (Common group name n) on p need = refl
-
-pub flagged_timers : (s : State) (c : Cell) (on : Bool) → (with_cell s c on).timers ≡ s.timers
-flagged_timers s (Local q n) on = refl
-flagged_timers s (Common group name n) on = refl
-
-pub flagged_next : (s : State) (c : Cell) (on : Bool) → (with_cell s c on).next ≡ s.next
-flagged_next s (Local q n) on = refl
-flagged_next s (Common group name n) on = refl

@@ -80,18 +80,6 @@ lends_for l k event.Tick same h = tt
 lends_for l k (event.Beg u) same h = tt
 lends_for l k (event.Don u) same h = subst (λ (ss : List Stand). is_out (slice_index_or ss u.0 Home) ≡ false) same h
 
--- its value is one with the same executive and the same places
-pub same_leasing : (l : Leasing) (exec : Executive) (ss : List Stand) → l.exec ≡ exec → l.stands ≡ ss → l ≡ record { exec = exec; stands = ss }
-same_leasing l exec ss e s = ap (λ (x : Executive). let y : Leasing = record { exec = x; stands = l.stands } in y) e ∙ ap (λ (x : List Stand). let y : Leasing = record { exec = exec; stands = x } in y) s
-
-pub leasing_step : {A E : Type 0} (l : Leasing) (r : Result A E) (exec : Executive) (ss : List Stand) → OnOk r (l.exec ≡ exec) → OnOk r (l.stands ≡ ss) → OnOk r (l ≡ record { exec = exec; stands = ss })
-leasing_step l (Ok x) exec ss e s = same_leasing l exec ss e s
-leasing_step l (Err x) exec ss e s = tt
-
-pub leasing_stays : {A E : Type 0} (l m : Leasing) (r : Result A E) → OnErr r (l.exec ≡ m.exec) → OnErr r (l.stands ≡ m.stands) → OnErr r (l ≡ m)
-leasing_stays l m (Ok x) e s = tt
-leasing_stays l m (Err x) e s = same_leasing l m.exec m.stands e s
-
 -- What leaves, and comes back.
 
 stand_stood : (stand : Stand) (o : Option Ending) → IsSome o → stand_of (stood stand o) ≡ stand

@@ -76,9 +76,6 @@ asked_same s p a q tag what routine = ap (λ (x : Asking). given x tag) what ∙
 pub asked_once : (k l : Kernel) (p : Pid) (a : Args) (q : Asked) (cond : Cond) → q ≡ asked k.state p a → Does (qio k.state p q) cond k l → Does (service_of k.state p a Qio) (Answered cond) k l
 asked_once k l p a q cond same h = subst (λ (x : Asked). Does (at_once (qio k.state p x)) (Answered cond) k l) same (once (qio k.state p q) cond k l h)
 
-pub asked_waits : (k l : Kernel) (p : Pid) (a : Args) (q : Asked) (answer : Served) → q ≡ asked k.state p a → Does (qiow k.state p q) answer k l → Does (service_of k.state p a QioW) answer k l
-asked_waits k l p a q answer same h = subst (λ (x : Asked). Does (qiow k.state p x) answer k l) same h
-
 -- A call.
 
 served_effects : (p : Pid) (c : Call) (o : Outcome Served) (a : Served) → (served_call p c o a).effects ≡ o.effects
@@ -87,30 +84,6 @@ served_effects p c o Waits = refl
 
 pub called_room : (p : Pid) (c : Call) (o : Outcome Served) (k : Kernel) → Fits k (called p c o).effects → Fits k o.effects
 called_room p c o k room = omega (arith, ap length (served_effects p c o o.answer), room)
-
-pub answered_call : (p : Pid) (c : Call) (o : Outcome Served) (cond : Cond) (n : ℕ) (k l m : Kernel) → Does o (Answered cond) k l → n ≡ number_of cond → m ≡ changed l p (with_r0 n) → Does (called p c o) (answer.Service c cond) k m
-answered_call p c o cond n k l m h number leaves =
-    let e : called p c o ≡ served_call p c o (Answered cond) = ap (served_call p c o) (sym h.answers) in
-    subst (λ (x : Outcome Answer). Does x (answer.Service c cond) k m) (sym e) (record {
-      answers = refl;
-      leaves = leaves ∙ (ap (λ (i : ℕ). changed l p (with_r0 i)) number ∙ ap (λ (x : Kernel). changed x p (with_r0 (number_of cond))) h.leaves);
-    })
-
-pub waiting_call : (p : Pid) (c : Call) (o : Outcome Served) (k l : Kernel) → Does o Waits k l → Does (called p c o) (answer.Wait c) k l
-waiting_call p c o k l h =
-    let e : called p c o ≡ served_call p c o Waits = ap (served_call p c o) (sym h.answers) in
-    subst (λ (x : Outcome Answer). Does x (answer.Wait c) k l) (sym e) (record { answers = refl; leaves = h.leaves })
-
--- Frames that end.
-
-pub main_ended : (k l : Kernel) (p : Pid) (fs : List Frame) (f : Frame) (code : ℕ) → Some f ≡ top_of fs → f.kind ≡ kind.Main → code ≡ r0_of k.state p → Acts (exited k.state p code) k l → Does (returned k.state p fs) answer.End k l
-main_ended k l p [] f code top is r0 h = absurd (cc)
-main_ended k l p (g ∷ fs) f code top is r0 h =
-    let same : f ≡ g = cc in
-    let its : g.kind ≡ kind.Main = ap (λ (x : Frame). x.kind) (sym same) ∙ is in
-    let e : returned k.state p (g ∷ fs) ≡ answered answer.End (exited k.state p (r0_of k.state p)) = ap (returned_from k.state p g) its in
-    let acts : Acts (exited k.state p (r0_of k.state p)) k l = subst (λ (n : ℕ). Acts (exited k.state p n) k l) r0 h in
-    subst (λ (x : Outcome Answer). Does x answer.End k l) (sym e) (record { answers = refl; leaves = acts })
 
 -- Local statements, and what they stop at.
 
@@ -142,9 +115,6 @@ advanced_call k p n x set place stops =
     let s = k.state in
     let a = advanced_at s p in
     rw (place, stops) (call_stands (image_of s p) a.place a.stop (few_stmts (image_of s p) set.ready.formed) (stands_from s p (process_at s p).frames) (fits_from s p (process_at s p).frames set.ready.formed))
-
-pub advanced_as : (s : State) (p : Pid) (a : Advanced) (n : ℕ) (x : Stop) → n ≡ a.place → x ≡ a.stop → run_on (change s p (moved_as a)) p n x ≡ run_advanced s p a
-advanced_as s p a n x place stops = ap (λ (m : ℕ). run_on (change s p (moved_as a)) p m x) place ∙ ap (run_on (change s p (moved_as a)) p a.place) stops
 
 -- What an event relies on, as its process changes.
 
@@ -220,17 +190,7 @@ goes_from s p (g ∷ fs) f top none =
 pub goes_at : (s : State) (p : Pid) (f : Frame) → Some f ≡ top_of (process_at s p).frames → None ≡ f.wait → run s p (process_at s p).frames ≡ run_advanced s p (advanced_at s p)
 goes_at s p f top none = goes_from s p (process_at s p).frames f top none
 
--- Or its wait ends.
-
-waits_from : (s : State) (p : Pid) (fs : List Frame) (f : Frame) (w : Wait) → Some f ≡ top_of fs → Some w ≡ f.wait → run s p fs ≡ run_frame s p f (Some w)
-waits_from s p [] f w top some = absurd (cc)
-waits_from s p (g ∷ fs) f w top some =
-    let same : f ≡ g = cc in
-    let its : g.wait ≡ Some w = ap (λ (x : Frame). x.wait) (sym same) ∙ sym some in
-    ap (run_frame s p g) its ∙ ap (λ (h : Frame). run_frame s p h (Some w)) (sym same)
-
-pub resumes_at : (s : State) (p : Pid) (f : Frame) (w : Wait) → Some f ≡ top_of (process_at s p).frames → Some w ≡ f.wait → run s p (process_at s p).frames ≡ run_frame s p f (Some w)
-resumes_at s p f w top some = waits_from s p (process_at s p).frames f w top some
+-- Or it has no frame.
 
 none_from : (s : State) (p : Pid) (fs : List Frame) → None ≡ top_of fs → run s p fs ≡ answered answer.Local (nothing s)
 none_from s p [] none = refl
@@ -310,25 +270,3 @@ inward_taken k l p q made is there =
     let o = deliverable_ast s p in
     let same : current l.state p ≡ current s p = ap (λ (x : Kernel). current x.state p) there ∙ (ap (λ (pr : Process). top_mode pr.frames) (process_there s p (without_started o) made) ∙ ap top_mode (same_frames o (process_at s p))) in
     subst (λ (m : Mode). IsTrue (reaches m q.mode)) (sym same) (inward_of s p q (sym is))
-
--- the state after it was taken, and its start
-
-started_like : (s : State) (p : Pid) (q : Queued) (tag : Entry) → started s p q tag ≡ started_as s p q.id q.mode tag
-started_like s p q (entry.Label k prm) = refl
-started_like s p q (entry.Exit code) = refl
-started_like s p q (entry.Host prm) = refl
-
-pub delivered_as : (s t : State) (p : Pid) (o : Option Queued) (q : Queued) (at : Entry) → Some q ≡ o → t ≡ change s p (without_started o) → at ≡ q.tag → delivered s p o ≡ answered (answer.Ast q.id) (started_as t p q.id q.mode at)
-delivered_as s t p None q at is there tag = absurd (cc)
-delivered_as s t p (Some r) q at is there tag =
-    let same : r ≡ q = cc in
-    let as_taken : delivered s p (Some r) ≡ delivered s p (Some q) = ap (λ (x : Queued). delivered s p (Some x)) same in
-    let here : change s p (without_ast q.id) ≡ t = sym (there ∙ ap (λ (x : Queued). change s p (without_ast x.id)) same) in
-    let told : Part → Outcome Answer = answered (answer.Ast q.id) in
-    as_taken
-    ∙ (ap told (started_like (change s p (without_ast q.id)) p q q.tag)
-    ∙ (ap (λ (u : State). told (started_as u p q.id q.mode q.tag)) here ∙ ap (λ (x : Entry). told (started_as t p q.id q.mode x)) (sym tag)))
-
-pub delivered_none : (s t : State) (p : Pid) (o : Option Queued) → None ≡ o → t ≡ change s p (without_started o) → delivered s p o ≡ answered answer.Local (nothing s)
-delivered_none s t p None none there = refl
-delivered_none s t p (Some q) none there = absurd (cc)

@@ -40,14 +40,6 @@ picked_there x (f ∷ es) e is =
     let within : i < length (f ∷ es) = omega arith in
     (i, within, get_default (f ∷ es) i e f within ∙ sym same)
 
--- while a run goes on, something is picked
-none_picked : (x limit taken : ℕ) (deleted : Bool) (es : List Event) → None ≡ end_with limit taken deleted es → None ≡ picked_event x es → ⊥
-none_picked x limit taken deleted [] going none = cc
-none_picked x limit taken deleted (e ∷ es) going none = cc
-
-pub always_picked : (x limit taken : ℕ) (s : State) → None ≡ end_of limit taken s → None ≡ picked_event x (enabled s) → ⊥
-always_picked x limit taken s going none = none_picked x limit taken (are_deleted s) (enabled s) going none
-
 goes_below : (limit taken : ℕ) (deleted : Bool) (es : List Event) → None ≡ end_with limit taken deleted es → taken < limit
 goes_below limit taken deleted [] h = absurd (cc)
 goes_below limit taken deleted (e ∷ es) h = grind (arith, nat_tests, h)

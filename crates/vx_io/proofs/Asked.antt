@@ -48,10 +48,6 @@ channel_stands s p n ch h e = by_number (is_channel_number n) e
     by_number true e = usable_stands (ground s) (current s p) (channel_at (process_at s p).channels n) ch (all_get (ChannelStands (ground s)) (process_at s p).channels (n - 1) None tt h) e
     by_number false e = absurd (cc)
 
-pub device_there : (s : State) (p : Pid) (n : ℕ) (r : Result (Device × Mode) Cond) → AllByRecursion (ChannelStands (ground s)) (process_at s p).channels → channel_test s p n ≡ channel_of r → IfOk r (λ found. DeviceStands (ground s) found.0)
-device_there s p n (Ok found) h e = channel_stands s p n (record { device = found.0; mode = found.1 }) h e
-device_there s p n (Err c) h e = tt
-
 -- Reads that wait, and room for bytes.
 
 pub none_waits : {A B : Type 0} (f : A → B) (p : A → Bool) (xs : List A) → is_none (option_map f (find p xs)) ≡ not (list_any p xs)
@@ -74,13 +70,6 @@ not_within a b =
       | true ↦ λ within. let e = leb-true a b within in sym (false_from (nat_lt b a) (λ above. let f = ltb-true b a above in omega (arith, e, f)))
       | false ↦ λ beyond. let e = leb-false a b beyond in sym (lt-ltb b a (omega (arith, e)))
     ] refl
-
--- what the tests of a mailbox's room come to
-pub full_as : (b : BoxNo) (s : State) (o : Option Id) (fits : Bool) (len : ℕ) → o ≡ option_map (λ r. r.req.id) (find (waits_at b) s.requests) → fits ≡ nat_le (stored_bytes (mailbox_at s b).messages + len) (mailbox_at s b).bufquo → (is_none o && not fits) ≡ (not (list_any (waits_at b) s.requests) && nat_lt (mailbox_at s b).bufquo (stored_bytes (mailbox_at s b).messages + len))
-full_as b s o fits len found within =
-    ap (λ (x : Option Id). is_none x && not fits) found
-    ∙ (ap (λ x. x && not fits) (none_waits (λ (r : Request). r.req.id) (waits_at b) s.requests)
-    ∙ ap (λ x. not (list_any (waits_at b) s.requests) && x) (ap not within ∙ not_within (stored_bytes (mailbox_at s b).messages + len) (mailbox_at s b).bufquo))
 
 -- The tests up to the channel's passed.
 pub tested : (s : State) (p : Pid) (q : Asked) (c : Cell) (ch : Channel) → is_bad q ≡ false → q.efn ≤ 127 → cell s p q.efn ≡ Some c → channel_test s p q.chan ≡ Ok ch → request_test s p q ≡ device_test s p q c ch

@@ -45,9 +45,6 @@ is_serving s id x b e = sym (e ∙ ap (is_found (λ (r : Request). r.served)) x.
 marked_part : (s : State) (id : Id) (x : IsToCancel s id) → x.r.served ≡ true → cancel_found s (find (this_request id) s.requests) ≡ mark_part s x.r
 marked_part s id x served = ap (cancel_found s) x.found ∙ served_part s x.r served x.going
 
-pub marked_room : (k : Kernel) (id : Id) (x : IsToCancel k.state id) → x.r.served ≡ true → Fits k (cancel_found k.state (find (this_request id) k.state.requests)).effects → Fits k (effect.Mark id ∷ [])
-marked_room k id x served room = subst (λ (a : Part). Fits k a.effects) (marked_part k.state id x served) room
-
 pub marked_as : (k l : Kernel) (id : Id) (x : IsToCancel k.state id) → x.r.served ≡ true → Acts (tells (effect.Mark id) (to_abort id k.state)) k l → Acts (cancel_found k.state (find (this_request id) k.state.requests)) k l
 marked_as k l id x served did =
     let under = found_under k.state id x.r x.found in

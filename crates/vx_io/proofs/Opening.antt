@@ -181,12 +181,6 @@ opened_serving k l p q o b mode func with_ast len h range did =
     } in
     subst (λ (y : Kernel). IsServing y.state b) (sym did) here
 
-pub opened_messages : (k l : Kernel) (p : Pid) (q : Asking) (o : Option Entry) (b : BoxNo) (mode : Mode) → HasMessageRooms k → Acts (opened_request k.state p (asked q o) (to_device (device.Mailbox b) mode)) k l → HasMessageRooms l
-opened_messages k l p q o b mode h did = subst HasMessageRooms (sym did) h
-
-pub opened_made : (k l : Kernel) (p : Pid) (q : Asking) (o : Option Entry) (b : BoxNo) (mode : Mode) → IsProcess k.state p → Acts (opened_request k.state p (asked q o) (to_device (device.Mailbox b) mode)) k l → IsProcess l.state p
-opened_made k l p q o b mode h did = subst (λ (y : Kernel). IsProcess y.state p) (sym did) (record { above = h.above; within = h.within })
-
 -- what it does there is what the machine says
 
 moved_same : (s : State) (p : Pid) (q : Asking) (o : Option Entry) (b : BoxNo) (mode : Mode) → AreOrdered request_id 0 s.next s.requests → moved (with_new s p q o b mode) p (asked q None) b (next_id s) ≡ begun_on (with_new s p q o b mode) (new_request s p (asked q o) (to_device (device.Mailbox b) mode)) (device.Mailbox b)

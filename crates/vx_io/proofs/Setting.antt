@@ -31,12 +31,6 @@ use Rattle.vx_io.proofs.Opening.{last_found}
 status_entries : (s : State) (p : Pid) (i : ℕ) (st : Status) → (iosb_part s p i st).after.attention ≡ s.attention
 status_entries s p i st = either (λ (x : Part). x.after.attention ≡ s.attention) (not (i == 0)) (put_status s p i st) (nothing s) refl refl
 
-status_boxes : (s : State) (p : Pid) (i : ℕ) (st : Status) → (iosb_part s p i st).after.boxes ≡ s.boxes
-status_boxes s p i st = either (λ (x : Part). x.after.boxes ≡ s.boxes) (not (i == 0)) (put_status s p i st) (nothing s) refl refl
-
-status_many : (s : State) (p : Pid) (i : ℕ) (st : Status) → length (iosb_part s p i st).after.procs ≡ length s.procs
-status_many s p i st = either (λ (x : Part). length x.after.procs ≡ length s.procs) (not (i == 0)) (put_status s p i st) (nothing s) (length-set s.procs (p.0 - 1) (with_stored_status i st (process_at s p))) refl
-
 flag_entries : (s : State) (o : Option Cell) → (flag_where_named s o true).after.attention ≡ s.attention
 flag_entries s None = refl
 flag_entries s (Some (Local q n)) = refl
@@ -61,32 +55,11 @@ attending p q a s = and_then (flagging p q s) (λ d. attend d a)
 abbrev first_half : State → Pid → Asked → Attention → Part
 first_half s p q a = and_then (attention_opened s p q a) (filling p q)
 
--- it is opened
-pub open_room : (k : Kernel) (p : Pid) (q : Asked) (a : Attention) → Fits k (attention_set k.state p q a).effects → Fits k (attention_opened k.state p q a).effects
-open_room k p q a room = room_first k (attention_opened k.state p q a) (filling p q) (room_first k (first_half k.state p q a) (attending p q a) room)
-
-pub open_made : (k l : Kernel) (p : Pid) (q : Asked) (a : Attention) → Acts (attention_opened k.state p q a) k l → IsProcess k.state p → IsProcess l.state p
-open_made k l p q a did made = subst (λ (y : Kernel). IsProcess y.state p) (sym did) (record { above = made.above; within = made.within })
-
--- its status block is filled
-pub fill_room : (k l : Kernel) (p : Pid) (q : Asked) (a : Attention) → Acts (attention_opened k.state p q a) k l → Fits k (attention_set k.state p q a).effects → Fits l (filling p q l.state).effects
-fill_room k l p q a did room = room_second k l (attention_opened k.state p q a) (filling p q) did (room_first k (first_half k.state p q a) (attending p q a) room)
-
-pub fill_made : (k l m : Kernel) (p : Pid) (q : Asked) (a : Attention) → Acts (attention_opened k.state p q a) k l → Acts (filling p q l.state) l m → IsProcess k.state p → IsProcess m.state p
-fill_made k l m p q a did then made =
-    let here = open_made k l p q a did made in
-    let many = ap (λ (y : Kernel). length y.state.procs) then ∙ status_many l.state p q.iosb done_at_once in
-    record { above = here.above; within = omega (arith, here.within, many) }
-
 half_done : (k l m : Kernel) (p : Pid) (q : Asked) (a : Attention) → Acts (attention_opened k.state p q a) k l → Acts (filling p q l.state) l m → m ≡ acted k (first_half k.state p q a)
 half_done k l m p q a did then = acts_both k l m (attention_opened k.state p q a) (filling p q) did then
 
 rest_room : (k l m : Kernel) (p : Pid) (q : Asked) (a : Attention) → Acts (attention_opened k.state p q a) k l → Acts (filling p q l.state) l m → Fits k (attention_set k.state p q a).effects → Fits m (attending p q a m.state).effects
 rest_room k l m p q a did then room = room_second k m (first_half k.state p q a) (attending p q a) (half_done k l m p q a did then) room
-
--- its event flag is set
-pub flag_room : (k l m : Kernel) (p : Pid) (q : Asked) (a : Attention) → Acts (attention_opened k.state p q a) k l → Acts (filling p q l.state) l m → Fits k (attention_set k.state p q a).effects → Fits m (flagging p q m.state).effects
-flag_room k l m p q a did then room = room_first m (flagging p q m.state) (λ d. attend d a) (rest_room k l m p q a did then room)
 
 entries_there : (k l m n : Kernel) (p : Pid) (q : Asked) (a : Attention) → Acts (attention_opened k.state p q a) k l → Acts (filling p q l.state) l m → Acts (flagging p q m.state) m n → n.state.attention ≡ k.state.attention ++ a ∷ []
 entries_there k l m n p q a did then last =
@@ -94,14 +67,6 @@ entries_there k l m n p q a did then last =
     ∙ (flag_entries m.state (cell m.state p q.efn)
     ∙ (ap (λ (y : Kernel). y.state.attention) then
     ∙ (status_entries l.state p q.iosb done_at_once ∙ ap (λ (y : Kernel). y.state.attention) did)))
-
-pub boxes_there : (k l m n : Kernel) (p : Pid) (q : Asked) (a : Attention) (b : BoxNo) → Acts (attention_opened k.state p q a) k l → Acts (filling p q l.state) l m → Acts (flagging p q m.state) m n → BoxStands (ground k.state) b → BoxStands (ground n.state) b
-boxes_there k l m n p q a b did then last stands =
-    let same = ap (λ (y : Kernel). y.state.boxes) last
-    ∙ (flag_boxes m.state (cell m.state p q.efn)
-    ∙ (ap (λ (y : Kernel). y.state.boxes) then
-    ∙ (status_boxes l.state p q.iosb done_at_once ∙ ap (λ (y : Kernel). y.state.boxes) did))) in
-    subst (λ (xs : List (Option Mailbox)). is_some (slice_index_or xs b.0 None) ≡ true) (sym same) stands
 
 -- and it fires, if there is already what it asks for
 attend_same : (k n : Kernel) (a : Attention) (id : Id) → id ≡ a.id → a.id.0 ≡ k.state.next → AreOrdered attention_id 0 k.state.next k.state.attention → n.state.attention ≡ k.state.attention ++ a ∷ [] → attend_by n.state a.box a.func id ≡ attend n.state a
@@ -111,11 +76,6 @@ attend_same k n a id is next order there =
     let found : find (this_attention a.id) t.attention ≡ Some a =
     ap (λ (xs : List Attention). find (this_attention a.id) xs) there ∙ (ap (λ i. find (λ (y : Attention). y.id.0 == i) (k.state.attention ++ a ∷ [])) next ∙ last) in
     ap (λ (i : Id). attend_by t a.box a.func i) is ∙ ap (λ (o : Option Attention). part_if (is_answered t a.box a.func) (fire_found t o) t) found
-
-pub attend_room : (k l m n : Kernel) (p : Pid) (q : Asked) (a : Attention) (id : Id) → id ≡ a.id → a.id.0 ≡ k.state.next → AreOrdered attention_id 0 k.state.next k.state.attention → Acts (attention_opened k.state p q a) k l → Acts (filling p q l.state) l m → Acts (flagging p q m.state) m n → Fits k (attention_set k.state p q a).effects → Fits n (attend_by n.state a.box a.func id).effects
-attend_room k l m n p q a id is next order did then last room =
-    subst (λ (x : Part). Fits n x.effects) (sym (attend_same k n a id is next order (entries_there k l m n p q a did then last)))
-    (room_second m n (flagging p q m.state) (λ d. attend d a) last (rest_room k l m p q a did then room))
 
 pub set_as : (k l m n o : Kernel) (p : Pid) (q : Asked) (a : Attention) (id : Id) → id ≡ a.id → a.id.0 ≡ k.state.next → AreOrdered attention_id 0 k.state.next k.state.attention → Acts (attention_opened k.state p q a) k l → Acts (filling p q l.state) l m → Acts (flagging p q m.state) m n → Acts (attend_by n.state a.box a.func id) n o → Acts (attention_set k.state p q a) k o
 set_as k l m n o p q a id is next order did then last ends =

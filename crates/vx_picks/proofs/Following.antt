@@ -106,13 +106,6 @@ ended_run before now places left recs end so_far ended = record {
   ended = sym ended;
 }
 
-pub stopped_run : (before now : Executive) (places left : List ℕ) (recs : List Rec) → Following before now places left recs → None ≡ end_of now.limit now.taken now.state → None ≡ slice_get (enabled now.state) (next_place left) → StopsBefore before now places (now.taken + 1) (length (enabled now.state))
-stopped_run before now places left recs so_far going none = record {
-  recs = recs;
-  follows = follows_all before now places left recs so_far (picked_nowhere (now.limit - now.taken) now.state left none);
-  going = sym going;
-  next = refl;
-  count = refl;
 }
 
 -- Runs from the first state.

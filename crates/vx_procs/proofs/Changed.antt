@@ -59,9 +59,6 @@ pub record IsQuiet (x y : Process) : Type 0 where
   pub asts : y.asts ≡ x.asts
   pub frames : length y.frames ≤ length x.frames
 
-quiet_same : (x : Process) → IsQuiet x x
-quiet_same x = record { decl = refl; asts = refl; frames = omega arith }
-
 pub booked_quiet : (s : State) (ps : List Process) (short : Option Pid) (q : Pid) (b : Books) → IsQuiet (process_at s q) (process_at (record s { procs = ps }) q) → IsBooked s short q b → IsBooked (record s { procs = ps }) short q b
 booked_quiet s ps short q b quiet h = record {
   frames = omega (arith, h.frames, quiet.frames);

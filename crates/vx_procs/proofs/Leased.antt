@@ -140,14 +140,6 @@ pub not_to_lease : {R : Type 0} (c : Inside R) (k : Kernel) (u : UnitNo) (r : Re
 not_to_lease c k u r old view busy is none to =
     none_asked old.ending r.req (none (read_stand c k u old view busy.within is ∙ to.home)) (read_asked c k u old view busy.within is ∙ (ap (λ (x : Kernel). asked_for x u) (sym view) ∙ busy.asked))
 
--- where it serves none there is nothing to take out
-pub nothing_to_lease : {R : Type 0} (c : Inside R) (k : Kernel) (u : UnitNo) → kernel c ≡ k → None ≡ option_map (λ (r : Request). r.req.id) (in_service u c.requests.items) → IsToLease k u → ⊥
-nothing_to_lease c k u view none to = none_served (in_service u c.requests.items) none (subst (λ (x : Kernel). IsSome (in_service u x.state.requests)) (sym view) to.serves)
-  where
-    none_served : (o : Option Request) → None ≡ option_map (λ (r : Request). r.req.id) o → IsSome o → ⊥
-    none_served None e h = absurd (cc)
-    none_served (Some r) e h = absurd (cc)
-
 -- Whether a unit is out.
 
 out_is : (s : Stand) → is_out s ≡ true → s ≡ Out
@@ -163,10 +155,6 @@ out_iff c k u id served old b view h found same is out =
       (λ t. record { out = out_is (stand_for k u) (ap is_out (sym stand) ∙ (sym out ∙ t)); request = asked }),
       (λ x. out ∙ (ap is_out stand ∙ ap is_out x.out)),
     )
-
--- it is out for no other request
-pub out_for_other : (k : Kernel) (u : UnitNo) (id : Id) (o : Option Id) → o ≡ option_map (λ (r : Request). r.req.id) (in_service u k.state.requests) → (o ≡ Some id → ⊥) → IsOutFor k u id → ⊥
-out_for_other k u id o found other x = other (found ∙ x.request)
 
 -- Back.
 

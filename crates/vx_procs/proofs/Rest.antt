@@ -47,9 +47,6 @@ pub record IsAnswering {A : Type 0} (whole : Outcome A) (first : Kernel) (rest :
 pub answering_begun : {A : Type 0} (whole : Outcome A) (k : Kernel) → Fits k whole.effects → IsAnswering whole k whole k
 answering_begun whole k room = record { answers = refl; doing = doing_begun (part_of whole) k room }
 
-pub answering_room : {A : Type 0} (whole : Outcome A) (first k : Kernel) (rest : Outcome A) (a : Part) (f : State → Outcome A) → rest ≡ followed_by a f → IsAnswering whole first rest k → Fits k a.effects
-answering_room whole first k rest a f splits h = doing_room (part_of whole) first k (part_of rest) a (λ s. part_of (f s)) (ap part_of splits) h.doing
-
 pub answering_on : {A : Type 0} (whole : Outcome A) (first k l : Kernel) (rest : Outcome A) (a : Part) (f : State → Outcome A) → rest ≡ followed_by a f → l ≡ acted k a → IsAnswering whole first rest k → IsAnswering whole first (f l.state) l
 answering_on whole first k l rest a f splits there h = record {
   answers = ap (λ (x : Kernel). (f x.state).answer) there ∙ (ap (λ (o : Outcome _). o.answer) (sym splits) ∙ h.answers);

@@ -46,12 +46,6 @@ pub taken_started : (pr : Process) (current : Mode) (active : Option Mode) (r : 
 taken_started pr current active None own e = refl
 taken_started pr current active (Some q) own e = ap (λ (xs : List Queued). record pr { asts = xs }) (first_like pr.enables current active pr.asts q own e)
 
--- one AST has an id of its own
-pub one_own : (asts : List Queued) → length asts ≤ 1 → IsTrue (have_own_ids asts)
-one_own [] few = refl
-one_own (q ∷ []) few = refl
-one_own (q ∷ r ∷ asts) few = absurd (omega arith)
-
 -- the AST that may start, from the top frame on
 
 deliverable_from : (pr : Process) (fs : List Frame) (f : Frame) (active : Option Mode) → Some f ≡ stack.top_of fs → active ≡ active_mode fs → deliverable pr.enables f.mode active pr.asts ≡ deliverable_at pr fs
