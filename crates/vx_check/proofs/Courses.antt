@@ -9,7 +9,7 @@ use Rattle.vx_base.specs.declared.effects.Effect.{Effect}
 use Rattle.vx_base.specs.declared.record.Answer.{Answer}
 use Rattle.vx_base.specs.declared.record.Event.{Event}
 use Rattle.vx_base.specs.declared.record.Rec.{Rec}
-use Rattle.vx_lines.specs.ReadRecords.{read_so_far, with_effect as read_with_effect, with_head}
+use Rattle.vx_lines.specs.ReadRecords.{read_so_far, with_effect as read_with_effect}
 use Rattle.vx_lines.specs.Words.{◌>>=◌}
 use Rattle.vx_lines.specs.declared.read.Reading.{Reading}
 use Rattle.vx_record.specs.State.{State}

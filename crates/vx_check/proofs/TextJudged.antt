@@ -6,8 +6,7 @@ use Rattle.vx_base.specs.declared.record.End.TheVariants.{Limit}
 use Rattle.vx_base.specs.declared.record.Event.{Event}
 use Rattle.vx_base.specs.declared.record.Rec.{Rec}
 use Rattle.vx_image.specs.declared.system.System.{System}
-use Rattle.vx_lines.specs.ReadRecords.{Fails, read_records}
-use Rattle.vx_lines.specs.declared.read.LinesFail.{LinesFail}
+use Rattle.vx_lines.specs.ReadRecords.{read_records}
 use Rattle.vx_lines.specs.declared.read.LinesFail.TheVariants as lines_fail
 use Rattle.vx_lines.specs.declared.read.Records.{Records}
 use Rattle.vx_record.specs.State.{State}

@@ -1,7 +1,6 @@
 //! What is known of the records of a transcript while its lines are read.
 
-ghost use Rattle.std.specs.Prelude.{◌≡◌, ◌≤◌, ◌+◌, ℕ, IfOk, None, Ok, Some, [], length};
-ghost use Rattle.vx_exec.specs.View.{plan};
+ghost use Rattle.std.specs.Prelude.{◌≡◌, ◌+◌, ℕ, IfOk, None, Ok, Some, [], length};
 ghost use Rattle.vx_lines.specs.ReadRecords.{read_so_far};
 ghost use Rattle.vx_lines.specs.declared.read.Reading.{Reading};
 ghost use Rattle.vx_record.specs.State.{State};

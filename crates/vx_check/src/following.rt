@@ -2,7 +2,6 @@
 
 ghost use Rattle.std.specs.Prelude.{◌≡◌, ◌+◌, ◌<◌, ◌≤◌, IfOk, IfSome, Some, [], length};
 ghost use Rattle.vx_base.specs.Services.{service_rows};
-ghost use Rattle.vx_exec.specs.View.{plan};
 ghost use Rattle.vx_lines.specs.ReadEffect.{read_effect};
 ghost use Rattle.vx_lines.specs.ReadHead.{read_head};
 ghost use Rattle.vx_lines.specs.ReadRecords.{head_line, read_line, with_head};

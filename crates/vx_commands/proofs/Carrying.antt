@@ -1,5 +1,5 @@
 -- A run that threads took, and what is written of it.
-use Rattle.std.proofs.Common.{◌≡◌, ℕ, List, ◌++◌, Option, Some, ◌⊎◌, inl, inr, refl, ap, subst, sym, ◌∙◌, codes}
+use Rattle.std.proofs.Common.{◌≡◌, ℕ, List, ◌++◌, Option, Some, ◌⊎◌, inl, inr, refl, subst, codes}
 use Rattle.std.specs.Io.KnownBytes.{Appends}
 use Rattle.vx_base.specs.declared.record.End.{End}
 use Rattle.vx_base.specs.declared.record.Rec.{Rec}
@@ -19,9 +19,9 @@ use Rattle.vx_record.specs.Runs.{first}
 use Rattle.vx_script.specs.Script.{script}
 use Rattle.vx_script.specs.declared.fault.ScriptFault.{ScriptFault}
 use Rattle.vx_commands.proofs.Picking.{spelled_run}
-use Rattle.vx_commands.specs.Carried.{BreaksCarried, BreaksRunOf, GainsCarried, GainsFault, GainsRunOf, IsCarried, IsCarriedText, in_carried, in_no_script, in_run_of, in_shortage, in_want}
+use Rattle.vx_commands.specs.Carried.{BreaksCarried, BreaksRunOf, GainsCarried, GainsFault, GainsRunOf, IsCarriedText, in_carried, in_no_script, in_run_of, in_shortage, in_want}
 use Rattle.vx_commands.specs.Crew.{crew_of}
-use Rattle.vx_commands.specs.Threads.{BreaksInRun, KeepsLawsInRun, ReadsForRun, WritesCarried, of_carried, of_failed_read, of_long_input, of_no_script, of_want}
+use Rattle.vx_commands.specs.Threads.{BreaksInRun, KeepsLawsInRun, ReadsForRun, of_carried, of_failed_read, of_long_input, of_no_script, of_want}
 use Rattle.vx_commands.specs.Top.{fault_line, no_memory, read_fault, status_of_end, too_long}
 use Rattle.vx_commands.specs.Unread.{unread_line}
 use Rattle.vx_commands.specs.declared.crew.Crew.{Crew}

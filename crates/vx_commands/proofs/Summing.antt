@@ -10,7 +10,7 @@ use Rattle.vx_record.specs.Runs.{IsRun, end_after, end_of, first, record_of}
 use Rattle.vx_exec.specs.Picks.{moved_seed, picked_event}
 use Rattle.vx_exec.specs.View.{Executive, plan}
 use Rattle.vx_exec.specs.Taken.{IsChosenRun}
-use Rattle.vx_exec.proofs.Runs.{Taking, begun, chosen_run, ended_run, taken_more}
+use Rattle.vx_exec.proofs.Runs.{Taking, chosen_run, taken_more}
 use Rattle.vx_gen.specs.Counted.{tally_of}
 use Rattle.vx_gen.specs.Generated.{generated}
 use Rattle.vx_gen.specs.declared.tally.Tally.{Tally}

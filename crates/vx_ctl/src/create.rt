@@ -1,6 +1,6 @@
 //! Creation of processes.
 
-ghost use Rattle.std.specs.Prelude.{◌≡◌, ◌<◌, length};
+ghost use Rattle.std.specs.Prelude.{◌<◌, length};
 ghost use Rattle.vx_record.specs.Control.{creprc};
 ghost use Rattle.vx_procs.specs.Kernel.{Does, Fits};
 ghost use Rattle.vx_procs.specs.Ready.{IsReady};

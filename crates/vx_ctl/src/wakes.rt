@@ -1,6 +1,5 @@
 //! Scheduled wakes.
 
-ghost use Rattle.std.specs.Prelude.{◌≡◌};
 ghost use Rattle.vx_record.specs.State.{IsProcess};
 ghost use Rattle.vx_record.specs.Sound.{AreOrdered, timer_id};
 ghost use Rattle.vx_record.specs.Timers.{canwak, scheduled, schdwk};

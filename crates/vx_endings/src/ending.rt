@@ -1,7 +1,5 @@
 //! How a run ends, as far as runs are told apart.
 
-ghost use Rattle.std.specs.Prelude.{◌≡◌};
-
 use vx_base::{Bytes, End};
 use vx_explore::Ending;
 

@@ -2,8 +2,7 @@
 //!
 //! Each function appends its text. If memory runs out, it may have appended the start of it.
 
-ghost use Rattle.std.specs.Prelude.{◌≡◌, ◌++◌, ◌∷◌, [], OnOk, length};
-ghost use Rattle.vx_lines.specs.Records.{ended_lines};
+ghost use Rattle.std.specs.Prelude.{◌≡◌, ◌++◌, ◌∷◌, [], OnOk};
 ghost use Rattle.vx_endings.specs.Text as spec;
 ghost use Rattle.vx_endings.specs.Text.{answer_text, complete_line, cut_line, endings_text, head_line, more_places, picks_line, places_text, row_text, rows_text};
 

@@ -11,7 +11,6 @@ use Rattle.vx_procs.proofs.Inside.{stand_here}
 use Rattle.vx_exec.specs.Engines.{IsHomeFor, leasing, stands_prepared}
 use Rattle.vx_exec.specs.Leases.{AreIn, IsInFor, Leasing, stand_at, stands_after, with_stand as lent}
 use Rattle.vx_exec.specs.Ready.{opened_for}
-use Rattle.vx_exec.specs.View.{Executive}
 use Rattle.vx_exec.specs.declared.engine.Engine.{Engine}
 
 -- a unit was prepared: its contents are home

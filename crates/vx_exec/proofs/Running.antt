@@ -2,7 +2,6 @@
 use Rattle.std.proofs.Common.{◌≡◌, ℕ, ◌-◌, ◌≤◌, List, [], ◌∷◌, cond, ◌&&◌, nat_lt, nat_le, length, length-set, slice_index_or, IsTrue, Option, Some, None, refl, sym, ap, subst, ◌∙◌, ◌⊎◌, inl, inr, arith}
 use Rattle.std.proofs.lemmas.Bool.{and_parts, eqb-true, leb-true}
 use Rattle.std.specs.List.{find, list_all}
-use Rattle.vx_base.specs.Cond.{number_of}
 use Rattle.vx_base.specs.Modes.{rank, reaches}
 use Rattle.vx_base.specs.Pieces.{Enables, Handler, Queued, is_enabled_in}
 use Rattle.vx_base.specs.Queues.{deliverable, first_of_mode, is_free, is_of_mode, may_start, or_else}
@@ -10,18 +9,14 @@ use Rattle.vx_base.specs.declared.call.Args.{Args}
 use Rattle.vx_base.specs.declared.call.Call.{Call}
 use Rattle.vx_base.specs.declared.cond.Cond.{Cond}
 use Rattle.vx_base.specs.declared.frame.Frame.{Frame}
-use Rattle.vx_base.specs.declared.frame.FrameKind.TheVariants as kind
-use Rattle.vx_base.specs.declared.frame.Wait.{Wait}
 use Rattle.vx_base.specs.declared.mode.Mode.{Mode}
 use Rattle.vx_base.specs.declared.mode.Mode.TheVariants.{Kernel as KernelMode, Exec, Super, User}
 use Rattle.vx_base.specs.declared.number.Pid.{Pid}
-use Rattle.vx_base.specs.declared.record.Answer.{Answer}
 use Rattle.vx_base.specs.declared.record.Answer.TheVariants as answer
 use Rattle.vx_base.specs.declared.routine.Entry.{Entry}
 use Rattle.vx_base.specs.declared.routine.Entry.TheVariants as entry
 use Rattle.vx_base.specs.Frames.{active_mode}
 use Rattle.vx_frames.specs.Frames.{top_of}
-use Rattle.vx_image.specs.Local.{Advanced}
 use Rattle.vx_image.specs.Storage.{Storage}
 use Rattle.vx_image.specs.WellFormed.{IsImage, are_distinct, falls_nowhere, is_stmt, label_names, label_places}
 use Rattle.vx_image.specs.declared.image.Image.{Image}
@@ -29,11 +24,10 @@ use Rattle.vx_image.specs.declared.stop.Stop.{Stop}
 use Rattle.vx_image.specs.declared.stop.Stop.TheVariants as stop
 use Rattle.vx_image.specs.declared.system.System.{System}
 use Rattle.vx_record.specs.State.{Process, State, IsProcess, change, current, image_of, process_at, no_decl, no_image, nobody, top_mode}
-use Rattle.vx_record.specs.Parts.{Outcome, Part, answered, nothing}
+use Rattle.vx_record.specs.Parts.{Outcome, answered, nothing}
 use Rattle.vx_record.specs.Asts.{deliverable_ast, deliverable_at}
-use Rattle.vx_record.specs.Events.{called, delivered, moved_to, r0_of, reader, returned, returned_from, run, run_advanced, run_frame, run_on, served_call, started, with_r0}
-use Rattle.vx_record.specs.Rundown.{exited, without_ast}
-use Rattle.vx_record.specs.Requests.{Asked, qio, qiow}
+use Rattle.vx_record.specs.Events.{called, moved_to, reader, run, run_advanced, run_frame, served_call}
+use Rattle.vx_record.specs.Requests.{Asked, qio}
 use Rattle.vx_record.specs.Services.{asked, at_once, number, routine_or_none, service, service_of}
 use Rattle.vx_record.specs.Timers.{setimr}
 use Rattle.vx_record.specs.declared.served.Served.{Served}
@@ -41,15 +35,15 @@ use Rattle.vx_record.specs.declared.served.Served.TheVariants.{Answered, Waits}
 use Rattle.vx_record.proofs.Lists.{either_by, find_passes}
 use Rattle.vx_record.proofs.SoundCalls.{StopFits, advanced_fits}
 use Rattle.vx_record.proofs.Ground.{at_set}
-use Rattle.vx_procs.specs.Kernel.{Acts, Does, DoesQuietly, Fits, Kernel, changed, told, with_state}
-use Rattle.vx_procs.specs.Words.{advanced_at, advanced_from, handlers_have_own_ids, moved_as, without_started}
+use Rattle.vx_procs.specs.Kernel.{Does, DoesQuietly, Fits, Kernel, changed, told, with_state}
+use Rattle.vx_procs.specs.Words.{advanced_at, advanced_from, handlers_have_own_ids, without_started}
 use Rattle.vx_procs.proofs.Rest as rest
 use Rattle.vx_rundown.proofs.Changed.{made_still, process_there}
-use Rattle.vx_base.specs.declared.service.Service.TheVariants.{Qio, QioW}
+use Rattle.vx_base.specs.declared.service.Service.TheVariants.{Qio}
 use Rattle.vx_io.specs.Asking.{asked as given}
 use Rattle.vx_io.specs.declared.asking.Asking.{Asking}
 use Rattle.vx_exec.specs.Asked.{asking_of}
-use Rattle.vx_exec.specs.Ready.{IsCallAt, IsSet, started_as}
+use Rattle.vx_exec.specs.Ready.{IsCallAt, IsSet}
 use Rattle.vx_exec.proofs.Calls.{IsStopAt, advanced_stands}
 use Rattle.vx_procs.proofs.Firsts.{less_few}
 use Rattle.vx_exec.proofs.Called.{call_goes}

@@ -1,6 +1,6 @@
 //! Runs that a seed chooses.
 
-ghost use Rattle.std.specs.Prelude.{◌≤◌, IfOk, IsTrue};
+ghost use Rattle.std.specs.Prelude.{◌≤◌, IfOk};
 ghost use Rattle.vx_image.specs.WellFormed.{IsWellFormed};
 ghost use Rattle.vx_exec.specs.Taken.{EndsRun, IsChosenRun};
 

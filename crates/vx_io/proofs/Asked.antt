@@ -1,26 +1,20 @@
 -- What the tests of a request come to.
-use Rattle.std.proofs.Common.{◌≡◌, ℕ, ◌+◌, ◌-◌, ◌<◌, ◌≤◌, arith, List, [], ◌∷◌, Bool, true, false, cond, not, ◌&&◌, ◌||◌, nat_le, nat_lt, if◌then◌else◌, Option, Some, None, Result, Ok, Err, IfOk, is_none, is_some, option_map, refl, ap, subst, sym, ◌∙◌}
+use Rattle.std.proofs.Common.{◌≡◌, ℕ, ◌-◌, ◌≤◌, arith, List, [], ◌∷◌, Bool, true, false, cond, not, ◌||◌, nat_le, nat_lt, if◌then◌else◌, Option, Some, None, Result, Ok, Err, is_none, is_some, option_map, refl, ap, subst, sym, ◌∙◌}
 use Rattle.std.specs.List.{AllByRecursion, find, list_any}
 use Rattle.vx_base.specs.Channels.{channel_at, is_channel_number}
 use Rattle.vx_base.specs.Modes.{is_inner}
-use Rattle.vx_base.specs.Pieces.{Channel, Request}
-use Rattle.vx_base.specs.Queues.{stored_bytes}
+use Rattle.vx_base.specs.Pieces.{Channel}
 use Rattle.vx_base.specs.declared.cond.Cond.{Cond}
 use Rattle.vx_base.specs.declared.cond.Cond.TheVariants.{BadParam, IllEfc, IvChan, NoPriv}
 use Rattle.vx_base.specs.declared.effects.Cell.{Cell}
 use Rattle.vx_base.specs.declared.mode.Mode.{Mode}
-use Rattle.vx_base.specs.declared.number.BoxNo.{BoxNo}
-use Rattle.vx_base.specs.declared.number.Id.{Id}
 use Rattle.vx_base.specs.declared.number.Pid.{Pid}
-use Rattle.vx_base.specs.declared.request.Device.{Device}
 use Rattle.vx_record.specs.Channels.{channel_test, usable_in}
 use Rattle.vx_record.specs.Flags.{cell}
 use Rattle.vx_record.specs.Requests.{Asked, device_test, is_bad, on_cell, on_channel, request_test}
-use Rattle.vx_record.specs.Mailboxes.{mailbox_at, waits_at}
 use Rattle.vx_record.specs.Sound.{ChannelStands, DeviceStands, Ground, ground}
 use Rattle.vx_record.specs.State.{State, current, process_at}
 use Rattle.std.proofs.lemmas.Bool.{leb-false, leb-true, lt-ltb, ltb-true}
-use Rattle.vx_procs.specs.Channels.{channel_of}
 use Rattle.vx_record.proofs.Lists.{all_get, false_from}
 
 pub mapped_some : {A B : Type 0} (f : A → B) (o : Option A) → is_some (option_map f o) ≡ is_some o

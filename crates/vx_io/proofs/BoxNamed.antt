@@ -1,5 +1,5 @@
 -- A mailbox of a name is found, or made.
-use Rattle.std.proofs.Common.{◌≡◌, ℕ, List, [], Option, Some, None, Result, ap, subst, sym, ◌∙◌}
+use Rattle.std.proofs.Common.{◌≡◌, ℕ, List, Option, Some, None, Result, ap, subst, sym, ◌∙◌}
 use Rattle.vx_base.specs.Pieces.{Mailbox}
 use Rattle.vx_base.specs.declared.cond.Cond.{Cond}
 use Rattle.vx_base.specs.declared.effects.Effect.{Effect}

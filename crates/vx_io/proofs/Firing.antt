@@ -1,18 +1,15 @@
 -- Attention entries that fire or end, the first of them at a time.
-use Rattle.std.proofs.Common.{◌≡◌, ◌<◌, ℕ, List, [], ◌∷◌, Bool, true, false, length, Option, Some, None, is_some, option_map, refl, ap, sym, subst, ◌∙◌, arith}
+use Rattle.std.proofs.Common.{◌≡◌, ◌<◌, List, [], ◌∷◌, Bool, true, length, Option, Some, None, is_some, option_map, refl, ap, sym, subst, ◌∙◌, arith}
 use Rattle.std.specs.List.{filter, find}
 use Rattle.std.proofs.lemmas.Bool.{eqb-true}
 use Rattle.vx_base.specs.Lists.{less}
 use Rattle.vx_base.specs.Pieces.{Attention}
 use Rattle.vx_base.specs.declared.effects.Effect.{Effect}
 use Rattle.vx_base.specs.declared.effects.Effect.TheVariants as effect
-use Rattle.vx_base.specs.declared.number.BoxNo.{BoxNo}
 use Rattle.vx_base.specs.declared.number.Id.{Id}
-use Rattle.vx_base.specs.declared.number.Pid.{Pid}
-use Rattle.vx_base.specs.declared.request.Func.{Func}
 use Rattle.vx_record.specs.State.{State}
-use Rattle.vx_record.specs.Cancel.{drop_attention, drop_attentions, is_attention_on}
-use Rattle.vx_record.specs.Mailboxes.{call_attention, fire_attention, is_attention_at, this_attention}
+use Rattle.vx_record.specs.Cancel.{drop_attention}
+use Rattle.vx_record.specs.Mailboxes.{fire_attention, this_attention}
 use Rattle.vx_record.specs.Parts.{Part, and_then, each, tells}
 use Rattle.vx_record.specs.Sound.{AreOrdered, attention_id}
 use Rattle.vx_record.proofs.Lists.{find_passes, ordered_less}

@@ -1,27 +1,21 @@
 -- A channel is cancelled, and freed behind that.
-use Rattle.std.proofs.Common.{◌≡◌, ℕ, List, [], ◌∷◌, IsSome, IsTrue, Option, Some, None, Result, Ok, Err, option_map, is_some, refl, ap, sym, subst, ◌∙◌}
+use Rattle.std.proofs.Common.{◌≡◌, ℕ, List, [], ◌∷◌, IsSome, IsTrue, Option, Some, None, Ok, refl, ap, sym, subst, ◌∙◌}
 use Rattle.std.specs.List.{AllByRecursion, filter}
 use Rattle.vx_base.specs.Channels.{channel_at, is_channel_number}
 use Rattle.vx_base.specs.Pieces.{Attention, Channel}
 use Rattle.vx_base.specs.declared.cond.Cond.{Cond}
 use Rattle.vx_base.specs.declared.cond.Cond.TheVariants.{Normal}
-use Rattle.vx_base.specs.declared.mode.Mode.{Mode}
-use Rattle.vx_base.specs.declared.number.BoxNo.{BoxNo}
 use Rattle.vx_base.specs.declared.number.Pid.{Pid}
-use Rattle.vx_base.specs.declared.number.UnitNo.{UnitNo}
-use Rattle.vx_base.specs.declared.request.Device.{Device}
 use Rattle.vx_base.specs.declared.request.Device.TheVariants as device
-use Rattle.vx_record.specs.Cancel.{cancel_channel, cancel_request, dassgn, dassgn_at, drop_attention, drop_attentions, is_attention_on, is_request_on}
-use Rattle.vx_record.specs.Channels.{channel_test, free_channel, swept_box, swept_device, with_channel}
-use Rattle.vx_record.specs.Parts.{Outcome, Part, and_then, answered, at_tested, each}
-use Rattle.vx_record.specs.Sound.{AreOrdered, BoxStands, ChannelStands, DeviceStands, RequestStands, attention_id, ground}
-use Rattle.vx_record.specs.State.{State, IsProcess, change, process_at}
+use Rattle.vx_record.specs.Cancel.{cancel_channel, dassgn, dassgn_at, drop_attention, drop_attentions, is_attention_on, is_request_on}
+use Rattle.vx_record.specs.Channels.{channel_test, free_channel}
+use Rattle.vx_record.specs.Parts.{Outcome, and_then, answered, at_tested, each}
+use Rattle.vx_record.specs.Sound.{AreOrdered, ChannelStands, DeviceStands, RequestStands, attention_id, ground}
+use Rattle.vx_record.specs.State.{State, IsProcess, process_at}
 use Rattle.vx_record.proofs.Lists.{all_weaker}
 use Rattle.vx_record.proofs.SoundRequests.{tested_channel}
-use Rattle.vx_procs.specs.Channels.{channel_of}
-use Rattle.vx_procs.specs.Kernel.{Acts, Does, Fits, Kernel, changed, told, with_state}
-use Rattle.vx_procs.proofs.Rest.{acted, acts_both, room_first, room_second, told_none}
-use Rattle.vx_io.specs.Asking.{AreOpen, to_device}
+use Rattle.vx_procs.specs.Kernel.{Acts, Does, Fits, Kernel, told, with_state}
+use Rattle.vx_procs.proofs.Rest.{acts_both, room_first, room_second}
 use Rattle.vx_io.specs.Cancelling.{AreCancellable, cancel_requests}
 use Rattle.vx_io.specs.Finishing.{AreRequests}
 use Rattle.vx_io.proofs.Asked.{channel_stands}

@@ -15,9 +15,9 @@ use Rattle.vx_base.specs.declared.request.Msg.{Msg}
 use Rattle.vx_base.specs.declared.routine.Entry.{Entry}
 use Rattle.vx_record.specs.Asts.{charged_ast, with_queued}
 use Rattle.vx_record.specs.Charges.{is_attention, is_direct}
-use Rattle.vx_record.specs.Finish.{Ending, ending, finish, finish_id, iosb_part, is_read, put_status, this_request, with_stored_status}
+use Rattle.vx_record.specs.Finish.{Ending, ending, finish, iosb_part, is_read, put_status, this_request, with_stored_status}
 use Rattle.vx_record.specs.Flags.{cell, flag_part, flag_where_named, with_local_flag}
-use Rattle.vx_record.specs.Mailboxes.{attend, call_attention, fire_attention, hand_over, is_answered_now, is_attention_at, is_waiting_func, mailbox_at, message_of, mget_part, mput_part, read_box, read_ending, received, store_message, take_message, wait_for_message, waits_at, write_box, write_done, write_ending}
+use Rattle.vx_record.specs.Mailboxes.{attend, call_attention, fire_attention, hand_over, is_answered_now, is_attention_at, is_waiting_func, mailbox_at, message_of, mget_part, mput_part, read_box, read_ending, received, take_message, waits_at, write_box, write_done, write_ending}
 use Rattle.vx_record.specs.Parts.{Part, each, nothing, part_if}
 use Rattle.vx_record.specs.Requests.{Asked, asked_of, attention_on, attention_set, begun_on, cleared_part, done_at_once, new_attention, new_request, opened_request, transfer}
 use Rattle.vx_record.specs.State.{State, IsProcess, process_at}

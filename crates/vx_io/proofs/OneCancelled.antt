@@ -1,5 +1,5 @@
 -- One request that is cancelled: it is marked, or it is withdrawn and finishes.
-use Rattle.std.proofs.Common.{◌≡◌, ℕ, List, [], ◌∷◌, ◌++◌, Bool, true, false, ◌||◌, Option, Some, None, option_map, refl, ap, sym, subst, ◌∙◌}
+use Rattle.std.proofs.Common.{◌≡◌, List, [], ◌∷◌, ◌++◌, Bool, true, false, ◌||◌, Option, Some, None, option_map, refl, ap, sym, subst, ◌∙◌}
 use Rattle.std.specs.List.{find, list_any}
 use Rattle.std.proofs.lemmas.Bool.{eqb-true}
 use Rattle.vx_base.specs.Pieces.{Request}
@@ -7,25 +7,20 @@ use Rattle.vx_base.specs.declared.cond.Cond.TheVariants.{Cancel}
 use Rattle.vx_base.specs.declared.effects.Effect.TheVariants as effect
 use Rattle.vx_base.specs.declared.number.BoxNo.{BoxNo}
 use Rattle.vx_base.specs.declared.number.Id.{Id}
-use Rattle.vx_base.specs.declared.number.UnitNo.{UnitNo}
 use Rattle.vx_base.specs.declared.request.Device.{Device}
 use Rattle.vx_base.specs.declared.request.Device.TheVariants as device
 use Rattle.vx_record.specs.State.{State}
 use Rattle.vx_record.specs.Cancel.{mark_part, withdraw}
 use Rattle.vx_record.specs.Finish.{Ending, ending, finish_found, finish_id, this_request}
-use Rattle.vx_record.specs.Parts.{Part, and_then, nothing, tells}
-use Rattle.vx_record.specs.Sound.{BoxStands, DeviceStands, ground}
+use Rattle.vx_record.specs.Parts.{Part, and_then, tells}
 use Rattle.vx_record.proofs.Cancelled.{withdraw_requests}
 use Rattle.vx_record.proofs.Lists.{either_by, find_passes}
 use Rattle.vx_reqs.specs.Requests.{is_found}
 use Rattle.vx_procs.specs.Kernel.{Acts, Fits, Kernel}
 use Rattle.vx_procs.specs.Requests.{to_abort}
-use Rattle.vx_procs.proofs.Rest.{acted, acts_both, room_first, room_second, told_none}
-use Rattle.vx_io.specs.Cancelling.{IsDeviceThere, IsToCancel, cancel_found, end_by, withdraw_by, withdraw_found}
-use Rattle.vx_io.specs.Steady.{AreSteady}
+use Rattle.vx_procs.proofs.Rest.{acted}
+use Rattle.vx_io.specs.Cancelling.{IsToCancel, cancel_found, end_by, withdraw_by, withdraw_found}
 use Rattle.vx_io.proofs.Cancelled.{served_part, waiting_part}
-use Rattle.vx_io.proofs.Kept.{withdrawn_kept}
-use Rattle.vx_io.proofs.Steady.{steady_in}
 
 found_under : (s : State) (id : Id) (r : Request) → find (this_request id) s.requests ≡ Some r → r.req.id ≡ id
 found_under s id r found = ap (λ n. let y : Id = record { 0 = n } in y) (eqb-true r.req.id.0 id.0 (find_passes (this_request id) s.requests r found))

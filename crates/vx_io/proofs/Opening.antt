@@ -1,10 +1,9 @@
 -- A request may still be opened after its flag and its status block were cleared; and what holds after it was opened.
-use Rattle.std.proofs.Common.{◌≡◌, ℕ, ◌+◌, ◌-◌, ◌<◌, ◌≤◌, List, [], ◌∷◌, ◌++◌, Bool, true, false, cond, length, length-set, not, ◌==◌, Option, Some, None, is_some, slice_index_or, if◌then◌else◌, refl, ap, sym, subst, ◌∙◌, arith}
-use Rattle.std.specs.List.{AllByRecursion, find, list_any}
+use Rattle.std.proofs.Common.{◌≡◌, ℕ, ◌+◌, ◌-◌, ◌≤◌, List, [], ◌∷◌, ◌++◌, Bool, true, false, cond, length, length-set, not, ◌==◌, Option, Some, None, is_some, slice_index_or, if◌then◌else◌, refl, ap, sym, subst, ◌∙◌, arith}
+use Rattle.std.specs.List.{find, list_any}
 use Rattle.std.proofs.lemmas.Bool.{eq-eqb, ne_eqb}
-use Rattle.std.proofs.lemmas.List.{append-nil}
 use Rattle.vx_base.specs.Lists.{tally}
-use Rattle.vx_base.specs.Pieces.{Attention, Mailbox, Queued, Request, Status, cleared}
+use Rattle.vx_base.specs.Pieces.{Mailbox, Queued, Request, Status, cleared}
 use Rattle.vx_base.specs.Quotas.{is_within, together}
 use Rattle.vx_base.specs.declared.effects.Cell.{Cell}
 use Rattle.vx_base.specs.declared.effects.Cell.TheVariants.{Local, Common}
@@ -14,32 +13,30 @@ use Rattle.vx_base.specs.declared.mode.Mode.{Mode}
 use Rattle.vx_base.specs.declared.number.BoxNo.{BoxNo}
 use Rattle.vx_base.specs.declared.number.Id.{Id}
 use Rattle.vx_base.specs.declared.number.Pid.{Pid}
-use Rattle.vx_base.specs.declared.number.UnitNo.{UnitNo}
 use Rattle.vx_base.specs.declared.quota.Need.{Need}
 use Rattle.vx_base.specs.declared.request.Device.{Device}
 use Rattle.vx_base.specs.declared.request.Device.TheVariants as device
 use Rattle.vx_base.specs.declared.request.Func.{Func}
 use Rattle.vx_base.specs.declared.routine.Entry.{Entry}
-use Rattle.vx_record.specs.Charges.{bears_ast, charge, charged_timer, exceeds, is_attention, is_attention_of, is_charged, is_direct, request_need}
-use Rattle.vx_record.specs.Finish.{iosb_part, is_read, put_status, this_request, with_stored_status}
+use Rattle.vx_record.specs.Charges.{bears_ast, charge, charged_timer, exceeds, is_attention_of, is_charged, request_need}
+use Rattle.vx_record.specs.Finish.{is_read, put_status, this_request, with_stored_status}
 use Rattle.vx_record.specs.Flags.{with_cell}
 use Rattle.vx_record.specs.Mailboxes.{mailbox_at, message_of, write_box}
-use Rattle.vx_record.specs.Parts.{Part, and_then, nothing, part_if}
+use Rattle.vx_record.specs.Parts.{Part, part_if}
 use Rattle.vx_record.specs.Requests.{Asked, begun_on, cleared_part, new_request, opened_request, transfer, with_request}
-use Rattle.vx_record.specs.Sound.{AreOrdered, BoxStands, DeviceStands, attention_id, ground, request_id}
-use Rattle.vx_record.specs.State.{State, IsProcess, change, limits_of, next_id, no_decl, nobody, past_id, process_at}
-use Rattle.vx_record.specs.Timers.{mode_of_ast}
+use Rattle.vx_record.specs.Sound.{AreOrdered, DeviceStands, attention_id, ground, request_id}
+use Rattle.vx_record.specs.State.{State, change, limits_of, next_id, no_decl, nobody, past_id, process_at}
 use Rattle.vx_record.proofs.Ground.{at_set}
-use Rattle.vx_record.proofs.Lists.{all_append, either, ordered_below, ordered_more}
+use Rattle.vx_record.proofs.Lists.{all_append, ordered_below, ordered_more}
 use Rattle.vx_procs.specs.Kernel.{Acts, Fits, Kernel, told, with_state}
-use Rattle.vx_procs.specs.Ready.{HasMessageRooms, IsReady}
+use Rattle.vx_procs.specs.Ready.{IsReady}
 use Rattle.vx_procs.proofs.Changed.{IsQuiet}
-use Rattle.vx_procs.proofs.Rest.{acted, acts_both, room_first, room_second}
+use Rattle.vx_procs.proofs.Rest.{acted, acts_both, room_second}
 use Rattle.vx_ctl.proofs.Flagged.{flagged_exceeds, flagged_made, flagged_spares}
 use Rattle.vx_io.specs.Asking.{AreOpen, IsGranted, IsInRange, IsOpening, asked, to_device}
-use Rattle.vx_io.specs.Boxes.{IsServing, read_by}
+use Rattle.vx_io.specs.Boxes.{IsServing}
 use Rattle.vx_io.specs.Moving.{moved}
-use Rattle.vx_io.specs.Steady.{AreSteady, IsFit}
+use Rattle.vx_io.specs.Steady.{IsFit}
 use Rattle.vx_io.specs.declared.asking.Asking.{Asking}
 use Rattle.vx_io.specs.declared.asking.Granted.{Granted}
 use Rattle.vx_io.proofs.Passing.{read_same}

@@ -1,17 +1,15 @@
 -- What a message does, as the machine has it by requests, and as the code does it by ids.
-use Rattle.std.proofs.Common.{◌≡◌, ℕ, ◌≤◌, List, [], ◌∷◌, ◌++◌, Bool, true, false, cond, not, length, Option, Some, None, IsSome, option_map, if◌then◌else◌, refl, ap, sym, subst, ◌∙◌, arith}
+use Rattle.std.proofs.Common.{◌≡◌, ℕ, List, [], ◌∷◌, ◌++◌, not, length, Option, Some, None, option_map, refl, ap, sym, subst, ◌∙◌}
 use Rattle.std.specs.List.{find}
-use Rattle.std.proofs.lemmas.List.{append-nil}
 use Rattle.vx_base.specs.Lists.{less}
 use Rattle.vx_base.specs.Pieces.{Request}
 use Rattle.vx_base.specs.Queues.{body_bytes}
-use Rattle.vx_base.specs.declared.cond.Cond.TheVariants.{EndOfFile, Normal}
+use Rattle.vx_base.specs.declared.cond.Cond.TheVariants.{EndOfFile}
 use Rattle.vx_base.specs.declared.effects.Effect.TheVariants as effect
 use Rattle.vx_base.specs.declared.number.BoxNo.{BoxNo}
 use Rattle.vx_base.specs.declared.number.Id.{Id}
 use Rattle.vx_base.specs.declared.request.Body.{Body}
 use Rattle.vx_base.specs.declared.request.Body.TheVariants as body
-use Rattle.vx_base.specs.declared.request.Func.{Func}
 use Rattle.vx_base.specs.declared.request.Func.TheVariants.{ReadAttn}
 use Rattle.vx_base.specs.declared.request.Msg.{Msg}
 use Rattle.vx_base.specs.declared.request.Reply.{Reply}
@@ -25,7 +23,7 @@ use Rattle.vx_procs.specs.Kernel.{Acts, Fits, Kernel}
 use Rattle.vx_procs.proofs.Ended.{found_id, found_none}
 use Rattle.vx_procs.proofs.Firsts.{find_same}
 use Rattle.vx_procs.proofs.Rest.{acted, acts_both, room_second}
-use Rattle.vx_io.specs.Boxes.{done_by, keep_by, len_found, mget_by, pass_by, read_by, read_reply}
+use Rattle.vx_io.specs.Boxes.{done_by, keep_by, len_found, pass_by, read_by, read_reply}
 
 -- what a read gets of a message
 pub reply_same : (r : Req) (m : Msg) (b : Body) → read_ending r m b ≡ (read_reply r.len b, m.writer.0)

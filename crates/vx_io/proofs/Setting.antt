@@ -1,10 +1,9 @@
 -- An attention entry is set: its part, step after step.
-use Rattle.std.proofs.Common.{◌≡◌, ℕ, ◌-◌, List, [], ◌∷◌, ◌++◌, Bool, true, false, not, ◌==◌, length, length-set, Option, Some, None, is_some, slice_index_or, refl, ap, sym, subst, ◌∙◌, arith}
+use Rattle.std.proofs.Common.{◌≡◌, ℕ, ◌-◌, List, [], ◌∷◌, ◌++◌, true, false, not, ◌==◌, Option, Some, None, refl, ap, ◌∙◌}
 use Rattle.std.specs.List.{find}
-use Rattle.vx_base.specs.Pieces.{Attention, Mailbox, Status}
+use Rattle.vx_base.specs.Pieces.{Attention, Status}
 use Rattle.vx_base.specs.declared.effects.Cell.{Cell}
 use Rattle.vx_base.specs.declared.effects.Cell.TheVariants.{Common, Local}
-use Rattle.vx_base.specs.declared.number.BoxNo.{BoxNo}
 use Rattle.vx_base.specs.declared.number.Id.{Id}
 use Rattle.vx_base.specs.declared.number.Pid.{Pid}
 use Rattle.vx_base.specs.declared.number.UnitNo.{UnitNo}
@@ -13,16 +12,16 @@ use Rattle.vx_base.specs.declared.request.Device.TheVariants as device
 use Rattle.vx_base.specs.declared.request.Func.{Func}
 use Rattle.vx_base.specs.declared.request.Func.TheVariants.{Eof, EofNow, Read, ReadAttn, ReadNow, Write, WriteNow, WrtAttn}
 use Rattle.vx_record.specs.Charges.{ast_need, exceeds, is_attention, request_need}
-use Rattle.vx_record.specs.Finish.{iosb_part, put_status, with_stored_status}
+use Rattle.vx_record.specs.Finish.{iosb_part, put_status}
 use Rattle.vx_record.specs.Flags.{cell, flag_where_named}
 use Rattle.vx_record.specs.Mailboxes.{attend, this_attention}
 use Rattle.vx_record.specs.Parts.{Part, and_then, nothing, part_if}
 use Rattle.vx_record.specs.Requests.{Asked, attention_opened, attention_set, done_at_once, has_function}
-use Rattle.vx_record.specs.Sound.{AreOrdered, BoxStands, attention_id, ground}
-use Rattle.vx_record.specs.State.{State, IsProcess, process_at}
+use Rattle.vx_record.specs.Sound.{AreOrdered, attention_id}
+use Rattle.vx_record.specs.State.{State}
 use Rattle.vx_record.proofs.Lists.{either}
 use Rattle.vx_procs.specs.Kernel.{Acts, Fits, Kernel}
-use Rattle.vx_procs.proofs.Rest.{acted, acts_both, room_first, room_second}
+use Rattle.vx_procs.proofs.Rest.{acted, acts_both, room_second}
 use Rattle.vx_io.specs.Boxes.{attend_by, fire_found, is_answered}
 use Rattle.vx_io.proofs.Opening.{last_found}
 

@@ -1,11 +1,11 @@
 -- What holds from one part of a transfer to the next: that requests are fit, and that ids rise.
-use Rattle.std.proofs.Common.{◌≡◌, ℕ, ◌+◌, ◌≤◌, length, List, [], ◌∷◌, Bool, Option, Some, None, option_map, refl, ap, sym, subst, ◌∙◌, arith}
-use Rattle.std.specs.List.{AllByRecursion, find}
+use Rattle.std.proofs.Common.{◌≡◌, ℕ, ◌≤◌, length, List, Bool, Option, Some, None, option_map, refl, ap, sym, subst, arith}
+use Rattle.std.specs.List.{find}
 use Rattle.vx_base.specs.Lists.{less}
 use Rattle.vx_base.specs.Pieces.{Attention, Request}
 use Rattle.vx_base.specs.declared.number.Id.{Id}
 use Rattle.vx_base.specs.declared.request.Req.{Req}
-use Rattle.vx_record.specs.Finish.{Ending, finish, finish_found, finish_id, this_request}
+use Rattle.vx_record.specs.Finish.{Ending, finish, finish_found, this_request}
 use Rattle.vx_record.specs.Sound.{AreOrdered, RequestStands, attention_id, ground, request_id}
 use Rattle.vx_record.specs.State.{State}
 use Rattle.vx_record.proofs.Cancelled.{finish_requests}

@@ -1,5 +1,5 @@
 -- A request that is cancelled, and what that relies on.
-use Rattle.std.specs.Prelude.{◌≡◌, ℕ, [], false, ⊤, ◌&&◌, Option, Some, None, length}
+use Rattle.std.specs.Prelude.{◌≡◌, ℕ, [], false, ⊤, ◌&&◌, Option, Some, None}
 use Rattle.std.specs.List.{AllByRecursion, filter, find, list_any}
 use Rattle.vx_base.specs.Pieces.{Request}
 use Rattle.vx_base.specs.declared.cond.Cond.TheVariants.{Cancel}

@@ -1,6 +1,6 @@
 //! What a process asked on a channel is cancelled.
 
-ghost use Rattle.std.specs.Prelude.{◌≡◌, ◌∷◌, [], IsTrue, length, option_map};
+ghost use Rattle.std.specs.Prelude.{◌≡◌, ◌∷◌, [], IsTrue, option_map};
 ghost use Rattle.std.specs.List.{find, list_any};
 ghost use Rattle.vx_base.specs.declared.effects.Effect.TheVariants.{Drop, Mark};
 ghost use Rattle.vx_record.specs.Cancel.{cancel, cancel_channel, dassgn, drop_attentions};

@@ -1,13 +1,13 @@
 //! Mailboxes: made, marked for deletion, and gone with their last channel.
 
-ghost use Rattle.std.specs.Prelude.{◌≡◌, ◌<◌, ◌||◌, ◌&&◌, not, ◌==◌, None, is_some};
+ghost use Rattle.std.specs.Prelude.{◌≡◌, ◌<◌, ◌||◌, ◌&&◌, not, None};
 ghost use Rattle.vx_base.specs.declared.request.Device.TheVariants.{Mailbox};
 ghost use Rattle.vx_record.specs.Channels.{box_named, crembx, create_box, delete_box, delmbx, find_or_create, free_channel_of, goes_unused, is_bad_box, make_box, new_box, swept_device};
 ghost use Rattle.vx_record.specs.Mailboxes.{mailbox_at};
 ghost use Rattle.vx_record.specs.Sound.{BoxStands, ground};
 ghost use Rattle.vx_record.specs.State.{IsProcess, box_at};
-ghost use Rattle.vx_procs.specs.Kernel.{Acts, Does, DoesQuietly, Fits};
-ghost use Rattle.vx_procs.specs.Ready.{HasMessageRooms, IsReady};
+ghost use Rattle.vx_procs.specs.Kernel.{Acts, Does, Fits};
+ghost use Rattle.vx_procs.specs.Ready.{HasMessageRooms};
 ghost use Rattle.vx_io.specs.Asking.{AreOpen};
 
 use crate::asking::device_channel;

@@ -1,6 +1,6 @@
 //! Services that ask a unit for something, and that wait for it.
 
-ghost use Rattle.std.specs.Prelude.{◌≡◌, IfErr, is_some, option_map};
+ghost use Rattle.std.specs.Prelude.{◌≡◌, IfErr, option_map};
 ghost use Rattle.vx_record.specs.State.{IsProcess};
 ghost use Rattle.vx_record.specs.Requests.{qio, qiow, synch};
 ghost use Rattle.vx_procs.specs.Kernel.{Does, DoesQuietly, Fits};

@@ -1,5 +1,5 @@
 -- What the reading of a script, and then of what stands behind it, answers of a text.
-use Rattle.std.proofs.Common.{◌≡◌, ℕ, List, Result, Ok, Err, IfOk, refl, sym, ap, subst, ◌∙◌}
+use Rattle.std.proofs.Common.{◌≡◌, ℕ, List, Result, Ok, Err, IfOk, sym, subst}
 use Rattle.vx_image.specs.WellFormed.{IsWellFormed}
 use Rattle.vx_image.specs.declared.system.System.{System}
 use Rattle.vx_grammar.specs.FirstFault.{Tells}
@@ -12,7 +12,6 @@ use Rattle.vx_journal.proofs.JournalText.{whole_text}
 use Rattle.vx_journal.specs.ReadJournal.{FailsScript, IsJournal, ReadsJournal, failure_of, journal_of, script_part}
 use Rattle.vx_journal.specs.declared.journal.Journal.{Journal}
 use Rattle.vx_journal.specs.declared.journal.JournalFail.{JournalFail}
-use Rattle.vx_journal.specs.declared.journal.JournalFail.TheVariants as fail
 
 -- Where the script part, which is this text, says a system.
 

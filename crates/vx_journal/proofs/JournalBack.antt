@@ -12,7 +12,7 @@ use Rattle.vx_script.specs.Results.{◌>>=◌}
 use Rattle.vx_script.specs.Script.{script}
 use Rattle.vx_grammar.specs.Grammar.{Spells}
 use Rattle.vx_roundtrip.proofs.Back.{reads_back}
-use Rattle.vx_journal.specs.ReadJournal.{IsJournal, ReadsJournal, behind_header, behind_records, behind_script, header, journal_of, journal_text, line_behind, script_part}
+use Rattle.vx_journal.specs.ReadJournal.{IsJournal, ReadsJournal, behind_header, behind_records, behind_script, header, journal_of, journal_text, script_part}
 use Rattle.vx_journal.specs.SpelledJournal.{IsSpelledJournal, IsSpelledLine, part_behind, trailer_text}
 use Rattle.vx_journal.specs.declared.journal.Journal.{Journal}
 use Rattle.vx_journal.specs.declared.journal.JournalFail.{JournalFail}

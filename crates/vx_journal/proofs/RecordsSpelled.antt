@@ -1,5 +1,5 @@
 -- Lines that are read as records are the lines that the records are printed as.
-use Rattle.std.proofs.Common.{◌≡◌, ℕ, zero, suc, ◌+◌, ◌==◌, Bool, true, false, cond, List, [], ◌∷◌, ◌++◌, length, drop, map, flat_map, codes, bytes_eq, Option, Some, None, option_map, Result, Ok, Err, IfSome, refl, sym, ap, subst, ◌∙◌, arith, append_assoc, append-nil, drop-drop}
+use Rattle.std.proofs.Common.{◌≡◌, ℕ, ◌+◌, ◌==◌, Bool, true, false, cond, List, [], ◌∷◌, ◌++◌, length, drop, map, flat_map, codes, bytes_eq, Option, Some, None, Result, Ok, IfSome, refl, sym, ap, subst, ◌∙◌, arith, append_assoc, append-nil, drop-drop}
 use Rattle.std.proofs.Math.Seq.{drop-append_seam}
 use Rattle.std.specs.Prelude.{option_to_list}
 use Rattle.std.proofs.lemmas.Grind.{flat_map-append}
@@ -11,15 +11,12 @@ use Rattle.vx_base.specs.declared.record.Answer.{Answer}
 use Rattle.vx_base.specs.declared.record.Event.{Event}
 use Rattle.vx_base.specs.declared.record.Event.TheVariants as event
 use Rattle.vx_base.specs.declared.record.Rec.{Rec}
-use Rattle.vx_base.specs.declared.number.Id.{Id}
-use Rattle.vx_base.specs.declared.number.Pid.{Pid}
-use Rattle.vx_base.specs.declared.number.UnitNo.{UnitNo}
 use Rattle.vx_image.specs.declared.unit.UnitDecl.{UnitDecl}
 use Rattle.vx_lines.specs.Fields.{id_of, pid_of, unit_of}
 use Rattle.vx_lines.specs.Numbers.{value_up_to}
 use Rattle.vx_lines.specs.ReadEffect.{effect_of, if_spelled, read_effect, unfed}
-use Rattle.vx_lines.specs.ReadHead.{ast_in, beg_in, don_in, from_space, head_of, if_head, other_head, ran_in, down_in, rdn_in, read_head, run_in, tick_in, with_event}
-use Rattle.vx_lines.specs.ReadRecords.{begins_with_space, effect_line as read_effect_line, fed_lines, head_line as read_head_line, is_of_record, nothing_read, onto_first, or_bad, read_line, read_lines, read_records, read_so_far, with_effect, with_head}
+use Rattle.vx_lines.specs.ReadHead.{from_space, head_of, if_head, other_head, ran_in, down_in, read_head, with_event}
+use Rattle.vx_lines.specs.ReadRecords.{begins_with_space, effect_line as read_effect_line, fed_lines, head_line as read_head_line, is_of_record, nothing_read, onto_first, or_bad, read_line, read_lines, read_records, read_so_far, with_head}
 use Rattle.vx_lines.specs.Records.{effect_line, ended_lines, head_line, record_lines, records_lines}
 use Rattle.vx_lines.specs.Words.{◌>>=◌, first_word, second_word, third_word}
 use Rattle.vx_lines.specs.declared.read.Reading.{Reading}

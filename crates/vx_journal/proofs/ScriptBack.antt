@@ -1,7 +1,7 @@
 -- What stands before the line of the journal is the canonical script, of which no line begins with a dollar sign.
-use Rattle.std.proofs.Common.{◌≡◌, ℕ, zero, suc, ◌+◌, ◌==◌, ◌&&◌, not, Bool, true, false, cond, List, [], ◌∷◌, ◌++◌, length, take, drop, map, flat_map, nat_eq, nat_le, nat_lt, Ok, Result, refl, sym, ap, ◌∙◌, arith, append_assoc, append-nil, length-append, codes}
-use Rattle.std.specs.List.{AllByRecursion, list_all, list_any, starts_with, prefix_len}
-use Rattle.std.proofs.Math.Seq.{take-append_seam, drop-append_seam}
+use Rattle.std.proofs.Common.{◌≡◌, ℕ, zero, suc, ◌+◌, ◌==◌, ◌&&◌, not, true, false, List, [], ◌∷◌, ◌++◌, length, take, drop, map, flat_map, nat_eq, nat_le, nat_lt, Ok, refl, ap, ◌∙◌, arith, append_assoc, length-append, codes}
+use Rattle.std.specs.List.{AllByRecursion, list_all}
+use Rattle.std.proofs.Math.Seq.{take-append_seam}
 use Rattle.std.proofs.lemmas.Bool.Decides.{nat_tests}
 use Rattle.vx_base.specs.Name.{is_name, is_capital, is_name_byte}
 use Rattle.vx_image.specs.WellFormed.{IsWellFormed}

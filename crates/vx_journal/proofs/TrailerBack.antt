@@ -1,5 +1,5 @@
 -- The lines of a trailer that have a spelling are read as what they spell.
-use Rattle.std.proofs.Common.{◌≡◌, ℕ, ◌+◌, true, false, List, [], ◌∷◌, ◌++◌, codes, map, Option, Some, None, Ok, Result, refl, sym, ap, ◌∙◌, append-nil}
+use Rattle.std.proofs.Common.{◌≡◌, ℕ, ◌+◌, true, false, List, [], ◌∷◌, ◌++◌, Option, Some, None, Ok, refl, sym, ap, ◌∙◌, append-nil}
 use Rattle.std.specs.Prelude.{decimal}
 use Rattle.std.specs.List.{AllByRecursion, list_all}
 use Rattle.std.proofs.lemmas.List.Folds.{list_all-append}
@@ -7,12 +7,11 @@ use Rattle.vx_base.specs.Name.{is_name}
 use Rattle.vx_base.specs.declared.number.Pid.{Pid}
 use Rattle.vx_base.specs.declared.number.UnitNo.{UnitNo}
 use Rattle.vx_base.specs.declared.record.End.{End}
-use Rattle.vx_base.specs.declared.record.End.TheVariants.{Done, Hung, Limit}
+use Rattle.vx_base.specs.declared.record.End.TheVariants.{Done}
 use Rattle.vx_image.specs.declared.unit.UnitDecl.{UnitDecl}
 use Rattle.vx_text.specs.Quote.{AreBytes, quote_text}
 use Rattle.vx_lines.specs.Fields.{text_of, unit_of}
 use Rattle.vx_lines.specs.ReadEffect.{is_no_feed}
-use Rattle.vx_lines.specs.ReadHead.{from_space}
 use Rattle.vx_lines.specs.ReadRecords.{fed_lines, is_of_record}
 use Rattle.vx_lines.specs.Records.{pid_text, spaced, unit_name}
 use Rattle.vx_lines.specs.Spelled.{IsWord}
@@ -25,8 +24,8 @@ use Rattle.vx_lines.proofs.WordsBack.{run_first, first_back, behind_back, second
 use Rattle.vx_exec.specs.declared.standing.Standing.{Standing}
 use Rattle.vx_exec.specs.declared.standing.Standing.TheVariants as standing
 use Rattle.vx_journal.specs.SpelledJournal.{IsSpelledLine, part_behind, trailer_text}
-use Rattle.vx_journal.specs.Transcript.{standing_word, standing_line, output_line, end_word, end_line}
-use Rattle.vx_journal.specs.TrailerLines.{end_in, end_of, ends_at, if_spelled, line_of, or_bad, output_in, part_at, place_after, place_behind, process_in, read_line, read_trailer, standing_of, trailer_line, trailer_lines_from}
+use Rattle.vx_journal.specs.Transcript.{standing_word, end_word}
+use Rattle.vx_journal.specs.TrailerLines.{end_in, end_of, ends_at, if_spelled, line_of, or_bad, output_in, place_after, place_behind, process_in, read_line, read_trailer, standing_of, trailer_line, trailer_lines_from}
 use Rattle.vx_journal.specs.declared.journal.Part.{Part}
 use Rattle.vx_journal.specs.declared.trailer.Place.{Place}
 use Rattle.vx_journal.specs.declared.trailer.Place.TheVariants as place

@@ -106,8 +106,6 @@ ended_run before now places left recs end so_far ended = record {
   ended = sym ended;
 }
 
-}
-
 -- Runs from the first state.
 
 abbrev opened : System → ℕ → Executive

@@ -3,7 +3,7 @@
 ghost use Rattle.std.specs.Prelude.{◌≡◌, ◌<◌, ◌≤◌, ◌+◌, IfErr, IfOk, length};
 ghost use Rattle.vx_image.specs.WellFormed.{IsWellFormed};
 ghost use Rattle.vx_record.specs.Events.{enabled};
-ghost use Rattle.vx_picks.specs.Followed.{EndsPicked, IsPickedRun, StopsBefore, stops_at, tells_missing};
+ghost use Rattle.vx_picks.specs.Followed.{EndsPicked, IsPickedRun, stops_at, tells_missing};
 ghost use Rattle.vx_picks.specs.declared.run.PickFail.TheVariants as fail;
 
 use crate::places::{next_place, places_after};

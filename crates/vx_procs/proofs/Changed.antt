@@ -1,5 +1,5 @@
 -- One process changed in the code is that process changed in the value, and what is held stays held.
-use Rattle.std.proofs.Common.{◌≡◌, ◌≢◌, ℕ, ◌+◌, ◌-◌, ◌<◌, ◌≤◌, length, List, ◌++◌, Bool, map, slice_index_or, slice_set, Option, IfSome, inl, inr, get_or-set_same, get_or-set_other, length-set, arith, refl, sym, ap, subst, ◌∙◌}
+use Rattle.std.proofs.Common.{◌≡◌, ◌≢◌, ℕ, ◌+◌, ◌-◌, ◌<◌, ◌≤◌, length, List, ◌++◌, Bool, map, slice_index_or, slice_set, Option, IfSome, inl, inr, get_or-set_same, get_or-set_other, length-set, arith, sym, ap, subst, ◌∙◌}
 use Rattle.std.specs.List.{AllByRecursion, find}
 use Rattle.std.proofs.lemmas.Bool.{cases_eq}
 use Rattle.std.proofs.lemmas.List.{map-set, get_or-map, length-map, set-get_or}

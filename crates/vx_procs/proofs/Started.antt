@@ -1,5 +1,5 @@
 -- The AST that may start is the first of its mode, and where ids are distinct the first with its id.
-use Rattle.std.proofs.Common.{◌≡◌, List, [], ◌∷◌, true, false, cond, ◌==◌, ◌≤◌, length, arith, IsTrue, Option, Some, None, inl, inr, ◌⊎◌, refl, ap, sym, ◌∙◌}
+use Rattle.std.proofs.Common.{◌≡◌, List, [], ◌∷◌, true, false, cond, ◌==◌, IsTrue, Option, Some, None, inl, inr, ◌⊎◌, refl, ap, sym, ◌∙◌}
 use Rattle.std.specs.List.{find}
 use Rattle.std.proofs.lemmas.Bool.{eqb-true}
 use Rattle.vx_base.specs.Lists.{less}

@@ -1,6 +1,6 @@
 //! The channels of a process.
 
-ghost use Rattle.std.specs.Prelude.{◌≡◌, ◌<◌, IfSome, IsSome, IsTrue, None, bytes_eq, is_some, length, option_map, position};
+ghost use Rattle.std.specs.Prelude.{◌≡◌, ◌<◌, IfSome, IsSome, IsTrue, None, is_some, length, option_map, position};
 ghost use Rattle.vx_base.specs.Channels.{channel_at, is_channel_number, next_of_mode};
 ghost use Rattle.vx_record.specs.State.{IsProcess, process_at};
 ghost use Rattle.vx_record.specs.Channels.{assign_at, channel_test, device_named, free_channel_of, is_unit_of, unit_named, with_channel};

@@ -1,7 +1,7 @@
 //! Whether a process has an event, where the process alone tells it.
 
 ghost use Rattle.std.specs.Prelude.{◌≡◌, ◌≤◌};
-ghost use Rattle.vx_procs.specs.Own.{hold_own, is_synchronized_own, own_event, own_phase, own_run, own_wait, own_wait_if};
+ghost use Rattle.vx_procs.specs.Own.{hold_own, is_synchronized_own, own_event, own_phase, own_run, own_wait};
 ghost use Rattle.vx_procs.specs.View.{process};
 ghost use Rattle.vx_record.specs.Flags.{is_filled, local_flags};
 ghost use Rattle.vx_image.specs.Storage.{status_at};

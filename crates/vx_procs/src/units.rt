@@ -1,7 +1,6 @@
 //! Units: made ready for the end of a service, and serving.
 
-ghost use Rattle.std.specs.Prelude.{◌≡◌, ◌<◌, ◌≤◌, IfSome, IsSome, OnErr, OnOk, OnSome, Some, false, length, option_map, slice_set};
-ghost use Rattle.std.specs.List.{find};
+ghost use Rattle.std.specs.Prelude.{◌≡◌, ◌<◌, IsSome, OnErr, OnOk, Some, false, length, option_map, slice_set};
 ghost use Rattle.vx_base.specs.Lists.{tally};
 ghost use Rattle.vx_base.specs.Queues.{front, in_service, is_served_by};
 ghost use Rattle.vx_base.specs.Serving.{serve, settled};

@@ -1,6 +1,6 @@
 //! Deletion.
 
-ghost use Rattle.std.specs.Prelude.{◌≡◌, IsTrue};
+ghost use Rattle.std.specs.Prelude.{IsTrue};
 ghost use Rattle.vx_record.specs.Rundown.{deleted_by, delprc};
 ghost use Rattle.vx_record.specs.State.{IsProcess, process_at};
 ghost use Rattle.vx_procs.specs.Kernel.{Does, Fits};

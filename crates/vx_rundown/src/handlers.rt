@@ -1,6 +1,6 @@
 //! Exit handlers.
 
-ghost use Rattle.std.specs.Prelude.{◌≡◌, IsTrue};
+ghost use Rattle.std.specs.Prelude.{IsTrue};
 ghost use Rattle.std.specs.List.{find};
 ghost use Rattle.vx_record.specs.Rundown.{cancel_found, cancel_handlers, canexh, dclexh, drop_handlers, is_handler_with};
 ghost use Rattle.vx_record.specs.State.{IsProcess, process_at};

@@ -1,6 +1,5 @@
 //! Exit.
 
-ghost use Rattle.std.specs.Prelude.{◌≡◌};
 ghost use Rattle.vx_record.specs.Rundown.{exit};
 ghost use Rattle.vx_procs.specs.Kernel.{Does, Fits};
 ghost use Rattle.vx_procs.specs.Ready.{IsReady};

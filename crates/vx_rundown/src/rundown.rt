@@ -1,8 +1,7 @@
 //! Rundown of a process that has no frame left.
 
-ghost use Rattle.std.specs.Prelude.{◌≡◌, [], IsTrue};
+ghost use Rattle.std.specs.Prelude.{◌≡◌};
 ghost use Rattle.vx_record.specs.Rundown.{gone, rundown, run_down};
-ghost use Rattle.vx_record.specs.State.{process_at};
 ghost use Rattle.vx_procs.specs.Kernel.{Does, Fits};
 ghost use Rattle.vx_rundown.specs.Leaving.{IsLeaving};
 ghost use Rattle.vx_rundown.specs.Steps.{modes_from, next_inner};

@@ -1,4 +1,4 @@
-use Rattle.std.proofs.Common.{◌≡◌, ◌+◌, ◌<◌, ℕ, drop, slice_index_or, sym, ap, ◌∙◌, arith}
+use Rattle.std.proofs.Common.{◌≡◌, ◌+◌, ℕ, drop, slice_index_or, sym, ap, ◌∙◌, arith}
 use Rattle.vx_journal.proofs.LineBehind.{apart, fed, on, one_line, over, short, unfed}
 use Rattle.vx_journal.specs.ReadJournal.{line_behind, next_line}
 use Rattle.vx_journal.proofs.read.line_behind.Goals.{then-i-text-via-then-i-text, then-i-text-via-else-i-text+then-text-i, then-b-eq10, else-b-eq10}

@@ -1,8 +1,7 @@
-use Rattle.std.proofs.Common.{◌≡◌, ℕ, Err, take, ap}
+use Rattle.std.proofs.Common.{ℕ, Err, take, ap}
 use Rattle.vx_journal.proofs.JournalBack.{read_back}
 use Rattle.vx_journal.proofs.RunBack.{run_back}
 use Rattle.vx_journal.proofs.Answered.{is_formed, is_only, is_read, no_fault, script_faults, script_only}
-use Rattle.vx_journal.specs.ReadJournal.{FailsScript, ReadsJournal, journal_of}
 use Rattle.vx_journal.proofs.read.read_journal.Goals as goal
 
 pub returns-in-Ok-clause-journal : goal.returns-in-Ok-clause-journal

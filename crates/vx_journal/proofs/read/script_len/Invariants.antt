@@ -1,4 +1,4 @@
-use Rattle.std.proofs.Common.{◌≡◌, ◌-◌, ◌≤◌, ℕ, length, drop}
+use Rattle.std.proofs.Common.{◌≡◌, ◌-◌, ◌≤◌, length, drop}
 use Rattle.vx_lines.specs.ReadRecords.{fed_lines}
 use Rattle.vx_journal.specs.ReadJournal.{len_before, script_len}
 use Rattle.vx_journal.proofs.read.script_len.Given as goal

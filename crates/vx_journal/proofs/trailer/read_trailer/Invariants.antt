@@ -1,4 +1,4 @@
-use Rattle.std.proofs.Common.{◌≡◌, ◌+◌, ◌-◌, ◌≤◌, ℕ, length, drop}
+use Rattle.std.proofs.Common.{◌≡◌, ◌+◌, ◌-◌, ◌≤◌, length, drop}
 use Rattle.vx_lines.specs.ReadRecords.{fed_lines}
 use Rattle.vx_journal.specs.TrailerLines.{read_trailer, trailer_lines_from}
 use Rattle.vx_journal.proofs.trailer.read_trailer.Given as goal
