@@ -16,6 +16,3 @@ less_found m (Some q) asts e = ap (λ r. less (λ (a : Queued). nat_eq (rank a.m
 
 pub less_started : (enables : Enables) (current : Mode) (active : Option Mode) (asts : List Queued) (m : Mode) → deliverable enables current active asts ≡ first_in (Some m) asts → less (is_of_mode m) asts ≡ less_deliverable enables current active asts
 less_started enables current active asts m e = sym (ap (λ r. less_first_like r asts) e ∙ less_found m (find (is_of_mode m) asts) asts refl)
-
-pub less_not_started : (enables : Enables) (current : Mode) (active : Option Mode) (asts : List Queued) → deliverable enables current active asts ≡ None → asts ≡ less_deliverable enables current active asts
-less_not_started enables current active asts e = sym (ap (λ r. less_first_like r asts) e)

@@ -9,6 +9,8 @@
 mod by_mode;
 mod delivery;
 mod queue;
+mod snapshot;
 
 pub use delivery::Delivery;
 pub use queue::AstQueue;
+pub use snapshot::AstQueueSnapshot;

@@ -9,19 +9,20 @@ ghost use Rattle.vx_ast.specs.Queue.{is_within, less_deliverable, first_in};
 
 use crate::by_mode::{place_of_mode, place_within};
 use crate::delivery::Delivery;
+use crate::snapshot::AstQueueSnapshot;
 use std::alloc::Global;
 use std::marker::Model;
 use vx_base::{Id, Mode, NoMemory, Reserved, Routine, at_place};
-use vx_same::{duplicate_reserved, same_items};
+use vx_same::ReservedSnapshot;
 
 /// The queued ASTs of one process, and the modes that have AST delivery enabled.
 #[derive(Drop)]
 pub struct AstQueue<R: Routine> {
-    items: Reserved<Delivery<R>>,
-    kernel: bool,
-    exec: bool,
-    supervisor: bool,
-    user: bool,
+    pub(crate) items: Reserved<Delivery<R>>,
+    pub(crate) kernel: bool,
+    pub(crate) exec: bool,
+    pub(crate) supervisor: bool,
+    pub(crate) user: bool,
 }
 
 impl<R: Routine> Model for AstQueue<R> {
@@ -122,36 +123,17 @@ impl<R: Routine> AstQueue<R> {
         self.items.take(place)
     }
 
-    /// The same ASTs again, each with a routine made from its tag, the same enables, and as much room or more.
-    pub fn duplicate(&self, alloc: Global) -> Result<AstQueue<R>, NoMemory>
-        ensures items { IfOk result (λ copy. copy.items ≡ self.now.items) }
-        ensures enables { IfOk result (λ copy. copy.enables ≡ self.now.enables) }
-        ensures room { IfOk result (λ copy. self.now.capacity ≤ copy.capacity) }
+    /// The same ASTs put away, and the same enables. Each routine is made from its tag.
+    pub fn snapshot(&self, alloc: Global) -> Result<AstQueueSnapshot<R>, NoMemory>
+        ensures { IfOk result (λ snapshot. snapshot ≡ self.now) }
     {
-        Ok(AstQueue {
-            items: duplicate_reserved(alloc, &self.items)?,
+        Ok(AstQueueSnapshot {
+            items: ReservedSnapshot::new(alloc, &self.items)?,
             kernel: self.kernel,
             exec: self.exec,
             supervisor: self.supervisor,
             user: self.user,
         })
-    }
-
-    /// Whether it has the same ASTs as another. Takes no memory.
-    pub fn same_items(&self, other: &AstQueue<R>) -> bool
-        ensures { IsTrue result ↔ (self.now.items ≡ other.now.items) }
-    {
-        same_items(self.items.as_slice(), other.items.as_slice())
-    }
-
-    /// Whether it has the same enables as another.
-    pub fn same_enables(&self, other: &AstQueue<R>) -> bool
-        ensures { IsTrue result ↔ (self.now.enables ≡ other.now.enables) }
-    {
-        self.kernel == other.kernel
-            && self.exec == other.exec
-            && self.supervisor == other.supervisor
-            && self.user == other.user
     }
 
     /// How many ASTs are queued.

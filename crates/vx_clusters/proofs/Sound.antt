@@ -41,9 +41,6 @@ association_from p k a ps ks = and_from _ _ (eq-eqb a.p.0 p.0 ps) (eq-eqb a.k k 
 
 -- Parts of a change.
 
-pub none_sound : IsSound (record { clusters = []; associations = [] })
-none_sound = record { standing = refl; clusters = refl; associations = refl }
-
 parted_keeps : (c : Common) (p : Pid) (k : ℕ) → IsSound c → IsSound (parted c p k).after
 parted_keeps c p k s = record {
   standing = all_less (is_association p k) (has_cluster c.clusters) c.associations s.standing;

@@ -8,7 +8,7 @@ use vx_base::{Duplicate, Name, NoMemory, Pid, Same};
 
 /// That a process has the cluster of a group and name as its cluster 2 or 3. Contracts see the plain `Association` of
 /// `vx_base`.
-#[derive(Clone, Copy, Debug)]
+#[derive(Clone, Copy)]
 pub(crate) struct Association {
     p: Pid,
     k: u32,

@@ -9,7 +9,7 @@ use vx_base::{Duplicate, Name, NoMemory, Same};
 use vx_flags::Flags;
 
 /// A common event flag cluster, which contracts see as the plain `Cluster` of `vx_base`.
-#[derive(Debug, Drop)]
+#[derive(Drop)]
 pub(crate) struct FlagCluster {
     group: u32,
     name: Name,

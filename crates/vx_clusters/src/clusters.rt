@@ -11,6 +11,7 @@ ghost use Rattle.vx_clusters.specs.Clusters.{none, is_common, resolved, cluster_
 ghost use Rattle.vx_clusters.specs.Sound.{IsSound};
 
 use crate::fail::AscFail;
+use crate::snapshot::ClustersSnapshot;
 use crate::table::Table;
 use std::alloc::Global;
 use std::marker::Model;
@@ -18,9 +19,9 @@ use vx_base::{Effects, Name, NoMemory, Pid};
 
 /// The common event flag clusters of all groups, and which of them each process has associated as its clusters 2 (flags 64
 /// to 95) and 3 (flags 96 to 127). Contracts see both lists, and how many of both there is room for in all.
-#[derive(Debug, Drop)]
+#[derive(Drop)]
 pub struct Clusters {
-    table: Table,
+    pub(crate) table: Table,
 }
 
 impl Model for Clusters {
@@ -57,20 +58,13 @@ impl Clusters {
         self.table.reserve()
     }
 
-    /// The same clusters and associations again, with the same room.
-    pub fn duplicate(&self, alloc: Global) -> Result<Clusters, NoMemory>
-        ensures { IfOk result (λ copy. copy ≡ self.now) }
+    /// The same clusters and associations put away.
+    pub fn snapshot(&self, alloc: Global) -> Result<ClustersSnapshot, NoMemory>
+        ensures { IfOk result (λ snapshot. snapshot ≡ self.now) }
     {
-        Ok(Clusters {
-            table: self.table.duplicate(alloc)?,
+        Ok(ClustersSnapshot {
+            table: self.table.snapshot(alloc)?,
         })
-    }
-
-    /// Whether there are the same clusters, with the same flags, and the same associations. Takes no memory.
-    pub fn same(&self, other: &Clusters) -> bool
-        ensures { IsTrue result ↔ (self.now.common ≡ other.now.common) }
-    {
-        self.table.same(&other.table)
     }
 
     /// A process has the cluster of its group and this name as the cluster of a flag from 64 to 127, in place of what it

@@ -11,7 +11,9 @@ mod association;
 mod cluster;
 mod clusters;
 mod fail;
+mod snapshot;
 mod table;
 
 pub use clusters::Clusters;
 pub use fail::AscFail;
+pub use snapshot::ClustersSnapshot;

@@ -14,21 +14,22 @@ ghost use Rattle.vx_clusters.specs.Clusters.{Does, none, with_clusters, cluster_
 
 use crate::association::Association;
 use crate::cluster::FlagCluster;
+use crate::snapshot::TableSnapshot;
 use std::alloc::Global;
 use std::marker::Model;
 use vx_base::{Effect, Effects, Name, NoMemory, Pid, Reserved};
-use vx_same::{duplicate_reserved, same_items};
+use vx_same::ReservedSnapshot;
 
 // A place is a number of 32 bits.
 const MOST_CLUSTERS: usize = 4_294_967_295;
 
 /// The clusters and who has them associated. Both get more room, or neither does: so each has its room beside it.
-#[derive(Debug, Drop)]
+#[derive(Drop)]
 pub(crate) struct Table {
-    clusters: Reserved<FlagCluster>,
-    associations: Reserved<Association>,
-    cluster_room: usize,
-    association_room: usize,
+    pub(crate) clusters: Reserved<FlagCluster>,
+    pub(crate) associations: Reserved<Association>,
+    pub(crate) cluster_room: usize,
+    pub(crate) association_room: usize,
 }
 
 impl Model for Table {
@@ -81,24 +82,16 @@ impl Table {
         Ok(())
     }
 
-    /// The same clusters and associations again, in the same room.
-    pub(crate) fn duplicate(&self, alloc: Global) -> Result<Table, NoMemory>
-        ensures { IfOk result (λ copy. copy ≡ self.now) }
+    /// The same clusters and associations put away.
+    pub(crate) fn snapshot(&self, alloc: Global) -> Result<TableSnapshot, NoMemory>
+        ensures { IfOk result (λ snapshot. snapshot ≡ self.now) }
     {
-        Ok(Table {
-            clusters: duplicate_reserved(alloc, &self.clusters)?,
-            associations: duplicate_reserved(alloc, &self.associations)?,
+        Ok(TableSnapshot {
+            clusters: ReservedSnapshot::new(alloc, &self.clusters)?,
+            associations: ReservedSnapshot::new(alloc, &self.associations)?,
             cluster_room: self.cluster_room,
             association_room: self.association_room,
         })
-    }
-
-    /// Whether there are the same clusters and associations. Takes no memory.
-    pub(crate) fn same(&self, other: &Table) -> bool
-        ensures { IsTrue result ↔ (self.now.common ≡ other.now.common) }
-    {
-        same_items(self.clusters.as_slice(), other.clusters.as_slice())
-            && same_items(self.associations.as_slice(), other.associations.as_slice())
     }
 
     /// How many clusters there are.

@@ -8,7 +8,7 @@ use std::marker::Model;
 use vx_base::{Duplicate, Entry, Id, Mode, NoMemory, Routine, Same};
 
 /// A declared exit handler, which contracts see as the plain `Handler` of `vx_base`.
-#[derive(Debug, Drop)]
+#[derive(Drop)]
 pub(crate) struct Declared<R: Routine> {
     id: Id,
     mode: Mode,

@@ -9,10 +9,11 @@ ghost use Rattle.vx_exits.specs.Exits.{declared, is_of_mode, is_tagged, is_any};
 ghost use Rattle.vx_exits.specs.Exits.{known, handed, handed_or, or_no_handler};
 
 use crate::declared::Declared;
+use crate::snapshot::ExitsSnapshot;
 use std::alloc::Global;
 use std::marker::Model;
 use vx_base::{Entry, Id, Mode, NoMemory, Reserved, Routine};
-use vx_same::{duplicate_reserved, same_items};
+use vx_same::ReservedSnapshot;
 
 /// Why a call on exit handlers is refused.
 #[derive(Clone, Copy, Debug, PartialEq, Eq)]
@@ -24,9 +25,9 @@ pub enum ExitFail {
 }
 
 /// The exit handlers of a process. Contracts see them with the newest first, and how many there is room for in all.
-#[derive(Debug, Drop)]
+#[derive(Drop)]
 pub struct Exits<R: Routine> {
-    items: Reserved<Declared<R>>,
+    pub(crate) items: Reserved<Declared<R>>,
 }
 
 impl<R: Routine> Model for Exits<R> {
@@ -104,21 +105,13 @@ impl<R: Routine> Exits<R> {
         Some(handler.parts())
     }
 
-    /// The same handlers again, each with a routine made from its tag, and as much room or more.
-    pub fn duplicate(&self, alloc: Global) -> Result<Exits<R>, NoMemory>
-        ensures items { IfOk result (λ copy. copy.items ≡ self.now.items) }
-        ensures room { IfOk result (λ copy. self.now.capacity ≤ copy.capacity) }
+    /// The same handlers put away. Each routine is made from its tag.
+    pub fn snapshot(&self, alloc: Global) -> Result<ExitsSnapshot<R>, NoMemory>
+        ensures { IfOk result (λ snapshot. snapshot ≡ self.now) }
     {
-        Ok(Exits {
-            items: duplicate_reserved(alloc, &self.items)?,
+        Ok(ExitsSnapshot {
+            items: ReservedSnapshot::new(alloc, &self.items)?,
         })
-    }
-
-    /// Whether it has the same handlers as another. Takes no memory.
-    pub fn same(&self, other: &Exits<R>) -> bool
-        ensures { IsTrue result ↔ (self.now.items ≡ other.now.items) }
-    {
-        same_items(self.items.as_slice(), other.items.as_slice())
     }
 
     /// How many handlers there are.

@@ -5,5 +5,7 @@
 
 mod declared;
 mod exits;
+mod snapshot;
 
 pub use exits::{ExitFail, Exits};
+pub use snapshot::ExitsSnapshot;

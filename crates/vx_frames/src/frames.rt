@@ -1,18 +1,18 @@
 //! Frames as a stack, which contracts see with the top first.
 
-ghost use Rattle.std.specs.Prelude.{◌≡◌, ◌↔◌, ◌<◌, ◌≤◌, ◌∷◌, [], length, IfOk, IsTrue, OnOk, OnErr, IfSome, option_map, reverse};
+ghost use Rattle.std.specs.Prelude.{◌≡◌, ◌<◌, ◌≤◌, ◌∷◌, [], length, IfOk, IsTrue, OnOk, OnErr, IfSome, option_map, reverse};
 ghost use Rattle.std.specs.List.{find};
 ghost use Rattle.vx_base.specs.Frames.{active_mode, is_ast};
 ghost use Rattle.vx_frames.specs.Frames.{top_of, below_top, gone_on, may_stand_on, goes_inward};
 ghost use Rattle.vx_frames.specs.Frames.{is_inmost};
 
+use crate::snapshot::FramesSnapshot;
 use std::alloc::Global;
 use std::marker::Model;
 use vx_base::{Frame, FrameKind, Mode, NoMemory, Reserved, Wait};
-use vx_same::with_room_of;
 
 /// The frames of a process. Contracts see them with the top first, and how many there is room for in all.
-#[derive(Debug, Drop)]
+#[derive(Drop)]
 pub struct Frames {
     items: Reserved<Frame>,
 }
@@ -93,21 +93,19 @@ impl Frames {
         Some(frame.mode)
     }
 
-    /// The same frames again, with as much room or more.
-    pub fn duplicate(&self, alloc: Global) -> Result<Frames, NoMemory>
-        ensures items { IfOk result (λ copy. copy.items ≡ self.now.items) }
-        ensures room { IfOk result (λ copy. self.now.capacity ≤ copy.capacity) }
+    /// The same frames put away.
+    pub fn snapshot(&self, alloc: Global) -> Result<FramesSnapshot, NoMemory>
+        ensures { IfOk result (λ snapshot. snapshot ≡ self.now) }
     {
-        Ok(Frames {
-            items: duplicate_frames(alloc, &self.items)?,
-        })
+        FramesSnapshot::new(alloc, &self.items)
     }
 
-    /// Whether it has the same frames as another. Takes no memory.
-    pub fn same(&self, other: &Frames) -> bool
-        ensures { IsTrue result ↔ (self.now.items ≡ other.now.items) }
+    /// These frames, the top last.
+    pub(crate) fn from_items(items: Reserved<Frame>) -> Frames
+        requires { IsTrue (goes_inward (reverse items.items)) }
+        ensures { result ≡ record { items = reverse items.items; capacity = items.capacity } }
     {
-        same_stacks(self.items.as_slice(), other.items.as_slice())
+        Frames { items }
     }
 
     /// How many frames there are.
@@ -130,45 +128,4 @@ fn is_ast(kind: FrameKind) -> bool
     ensures { result ≡ is_ast kind }
 {
     matches!(kind, FrameKind::Ast(_))
-}
-
-// Whether two lists of frames are the same, seen with the last first.
-fn same_stacks(a: &[Frame], b: &[Frame]) -> bool
-    ensures { IsTrue result ↔ (reverse a.now ≡ reverse b.now) }
-{
-    same_frames(a, b)
-}
-
-// Whether two lists of frames are the same.
-fn same_frames(a: &[Frame], b: &[Frame]) -> bool
-    ensures { IsTrue result ↔ (a.now ≡ b.now) }
-{
-    if a.len() != b.len() {
-        return false;
-    }
-    for (i, frame) in a.iter().enumerate() {
-        if !same_frame(frame, &b[i]) {
-            return false;
-        }
-    }
-    true
-}
-
-// Whether two frames are the same.
-fn same_frame(a: &Frame, b: &Frame) -> bool
-    ensures { IsTrue result ↔ (a.now ≡ b.now) }
-{
-    *a == *b
-}
-
-// The same frames again, with as much room or more.
-fn duplicate_frames(alloc: Global, frames: &Reserved<Frame>) -> Result<Reserved<Frame>, NoMemory>
-    ensures items { IfOk result (λ copy. copy.items ≡ frames.now.items) }
-    ensures room { IfOk result (λ copy. frames.now.capacity ≤ copy.capacity) }
-{
-    let mut copy = with_room_of(alloc, frames)?;
-    for frame in frames.as_slice() {
-        copy.put(*frame);
-    }
-    Ok(copy)
 }

@@ -5,5 +5,7 @@
 #![tactic(auto)]
 
 mod frames;
+mod snapshot;
 
 pub use frames::Frames;
+pub use snapshot::FramesSnapshot;

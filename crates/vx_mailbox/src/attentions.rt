@@ -10,7 +10,7 @@ use crate::attention::AttentionEntry;
 use std::alloc::Global;
 use std::marker::Model;
 use vx_base::{BoxNo, Func, Id, Mode, NoMemory, Pid, Reserved, Routine, at_place};
-use vx_same::{duplicate_reserved, same_items};
+use vx_same::{ReservedSnapshot, same_items};
 
 /// The attention entries of all processes, in the order that they were added in.
 #[derive(Drop)]
@@ -50,6 +50,40 @@ fn place_on<R: Routine>(entries: &[AttentionEntry<R>], p: Pid, chan: u32) -> Opt
     entries.iter().position(|a| a.is_on(p, chan))
 }
 
+/// The attention entries of all processes, in the order that they were added in, in as little room as they take, and how many there was
+/// room for in all.
+#[derive(Drop)]
+pub struct AttentionsSnapshot<R: Routine> {
+    entries: ReservedSnapshot<AttentionEntry<R>>,
+}
+
+impl<R: Routine> Model for AttentionsSnapshot<R> {
+    ghost use Rattle.vx_mailbox.specs.Boxes.{Attentions};
+
+    ghost Value = { Attentions };
+
+    ghost view = { λ s. s.entries };
+}
+
+impl<R: Routine> AttentionsSnapshot<R> {
+    /// The same entries again, each with a routine made from its tag, and as much room or more.
+    pub fn restore(&self, alloc: Global) -> Result<Attentions<R>, NoMemory>
+        ensures items { IfOk result (λ entries. entries.items ≡ self.now.items) }
+        ensures room { IfOk result (λ entries. self.now.capacity ≤ entries.capacity) }
+    {
+        Ok(Attentions {
+            entries: self.entries.restore(alloc)?,
+        })
+    }
+
+    /// Whether there are the same entries, in the same order. Takes no memory.
+    pub fn same(&self, other: &AttentionsSnapshot<R>) -> bool
+        ensures { IsTrue result ↔ (self.now.items ≡ other.now.items) }
+    {
+        same_items(self.entries.as_slice(), other.entries.as_slice())
+    }
+}
+
 impl<R: Routine> Attentions<R> {
     /// No entries, and room for none. Takes no memory.
     pub fn new(alloc: Global) -> Attentions<R>
@@ -70,21 +104,13 @@ impl<R: Routine> Attentions<R> {
         self.entries.reserve(1)
     }
 
-    /// The same entries again, each with a routine made from its tag, and as much room or more.
-    pub fn duplicate(&self, alloc: Global) -> Result<Attentions<R>, NoMemory>
-        ensures items { IfOk result (λ copy. copy.items ≡ self.now.items) }
-        ensures room { IfOk result (λ copy. self.now.capacity ≤ copy.capacity) }
+    /// The same entries put away. Each routine is made from its tag.
+    pub fn snapshot(&self, alloc: Global) -> Result<AttentionsSnapshot<R>, NoMemory>
+        ensures { IfOk result (λ snapshot. snapshot ≡ self.now) }
     {
-        Ok(Attentions {
-            entries: duplicate_reserved(alloc, &self.entries)?,
+        Ok(AttentionsSnapshot {
+            entries: ReservedSnapshot::new(alloc, &self.entries)?,
         })
-    }
-
-    /// Whether there are the same entries, in the same order. Takes no memory.
-    pub fn same(&self, other: &Attentions<R>) -> bool
-        ensures { IsTrue result ↔ (self.now.items ≡ other.now.items) }
-    {
-        same_items(self.entries.as_slice(), other.entries.as_slice())
     }
 
     /// How many entries there are.

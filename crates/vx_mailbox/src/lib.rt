@@ -16,6 +16,6 @@ mod place;
 mod snapshot;
 
 pub use attention::AttentionEntry;
-pub use attentions::Attentions;
+pub use attentions::{Attentions, AttentionsSnapshot};
 pub use boxes::Boxes;
 pub use snapshot::BoxesSnapshot;

@@ -18,7 +18,7 @@ use vx_base::{Id, Msg, Name, NoMemory, Same};
 
 /// A mailbox without its messages: its name, whether it is permanent and marked for deletion, the longest message that it takes, and
 /// how many bytes it stores at most.
-#[derive(Clone, Copy, Debug)]
+#[derive(Clone, Copy)]
 pub(crate) struct Head {
     name: Name,
     permanent: bool,

@@ -7,16 +7,16 @@ ghost use Rattle.vx_procs.specs.View.{process, room_of};
 
 use crate::process::Proc;
 use std::alloc::Global;
-use vx_ast::AstQueue;
+use vx_ast::AstQueueSnapshot;
 use vx_base::{Duplicate, NoMemory, Phase, Privs, Routine};
 use vx_chans::ChansSnapshot;
-use vx_exits::Exits;
+use vx_exits::ExitsSnapshot;
 use vx_flags::Flags;
-use vx_frames::Frames;
+use vx_frames::FramesSnapshot;
 use vx_image::StoreSnapshot;
 use vx_quota::Account;
 
-/// A process put away: what `Proc` has, with what it stores and its channels in as little room as they take.
+/// A process put away: what `Proc` has, in as little room as it takes.
 #[derive(Drop)]
 pub(crate) struct ProcSnapshot<R: Routine> {
     pub(crate) decl: u32,
@@ -24,10 +24,10 @@ pub(crate) struct ProcSnapshot<R: Routine> {
     pub(crate) member: u32,
     pub(crate) privs: Privs,
     pub(crate) store: StoreSnapshot,
-    pub(crate) frames: Frames,
-    pub(crate) asts: AstQueue<R>,
+    pub(crate) frames: FramesSnapshot,
+    pub(crate) asts: AstQueueSnapshot<R>,
     pub(crate) chans: ChansSnapshot,
-    pub(crate) exits: Exits<R>,
+    pub(crate) exits: ExitsSnapshot<R>,
     pub(crate) cluster_0: Flags,
     pub(crate) cluster_1: Flags,
     pub(crate) wake_pending: bool,
@@ -48,10 +48,10 @@ impl<R: Routine> Proc<R> {
         let cluster_0 = self.cluster_0.duplicate()?;
         let cluster_1 = self.cluster_1.duplicate()?;
         let account = self.account.duplicate()?;
-        let frames = self.frames.duplicate(alloc)?;
-        let asts = self.asts.duplicate(alloc)?;
+        let frames = self.frames.snapshot(alloc)?;
+        let asts = self.asts.snapshot(alloc)?;
         let chans = self.chans.snapshot(alloc)?;
-        let exits = self.exits.duplicate(alloc)?;
+        let exits = self.exits.snapshot(alloc)?;
         let store = self.store.snapshot(alloc)?;
         Ok(ProcSnapshot {
             decl: self.decl,
@@ -85,10 +85,10 @@ impl<R: Routine> ProcSnapshot<R> {
         let cluster_0 = self.cluster_0.duplicate()?;
         let cluster_1 = self.cluster_1.duplicate()?;
         let account = self.account.duplicate()?;
-        let frames = self.frames.duplicate(alloc)?;
-        let asts = self.asts.duplicate(alloc)?;
+        let frames = self.frames.restore(alloc)?;
+        let asts = self.asts.restore(alloc)?;
         let chans = self.chans.restore(alloc)?;
-        let exits = self.exits.duplicate(alloc)?;
+        let exits = self.exits.restore(alloc)?;
         let store = self.store.restore(alloc)?;
         Ok(Proc {
             decl: self.decl,

@@ -19,7 +19,7 @@ use vx_base::{Bytes, Device, Func, Id, Mode, Need, Pid, Req, Routine, UnitNo};
 use vx_image::System;
 
 /// A request that was finished: what was accepted, whether it was to be aborted, and whether an AST was queued for it.
-#[derive(Debug, Drop)]
+#[derive(Drop)]
 pub struct Finished {
     pub req: Req,
     pub marked: bool,

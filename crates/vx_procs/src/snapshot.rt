@@ -17,10 +17,10 @@ use crate::table::Procs;
 use std::alloc::Global;
 use std::marker::Model;
 use vx_base::{Effects, NoMemory, Pid, Routine};
-use vx_clusters::Clusters;
-use vx_mailbox::{Attentions, BoxesSnapshot};
-use vx_reqs::Reqs;
-use vx_timers::Timers;
+use vx_clusters::ClustersSnapshot;
+use vx_mailbox::{AttentionsSnapshot, BoxesSnapshot};
+use vx_reqs::{Reqs, ReqsSnapshot};
+use vx_timers::{Timers, TimersSnapshot};
 
 /// The executive's state at one moment, of which no unit is out, in as little room as it takes: no effects, no spare process, no
 /// room for what may come, and nothing remembered of the processes. What the script says is shared. Contracts see the plain state.
@@ -30,10 +30,10 @@ pub struct CoreSnapshot<R: Routine> {
     pub(crate) time: u64,
     pub(crate) next: u32,
     pub(crate) procs: Vec<ProcSnapshot<R>>,
-    pub(crate) clusters: Clusters,
-    pub(crate) timers: Timers<R>,
-    pub(crate) requests: Reqs<R>,
-    pub(crate) attention: Attentions<R>,
+    pub(crate) clusters: ClustersSnapshot,
+    pub(crate) timers: TimersSnapshot<R>,
+    pub(crate) requests: ReqsSnapshot<R>,
+    pub(crate) attention: AttentionsSnapshot<R>,
     pub(crate) boxes: BoxesSnapshot,
     pub(crate) units: Vec<KeptUnit>,
     // the process whose spares may have been used since they were made
@@ -93,17 +93,30 @@ fn duplicate_units(alloc: Global, units: &[KeptUnit]) -> Result<Vec<KeptUnit>, N
     Ok(copy)
 }
 
-// The same timers and requests again.
-fn duplicate_queues<R: Routine>(
+// The timers and the requests put away.
+fn put_away_queues<R: Routine>(
     alloc: Global,
     timers: &Timers<R>,
     requests: &Reqs<R>,
-) -> Result<(Timers<R>, Reqs<R>), NoMemory>
-    ensures timers { IfOk result (λ copy. copy.0 ≡ timers.now) }
-    ensures requests { IfOk result (λ copy. copy.1 ≡ requests.now) }
+) -> Result<(TimersSnapshot<R>, ReqsSnapshot<R>), NoMemory>
+    ensures timers { IfOk result (λ copy. copy.0 ≡ timers.now.items) }
+    ensures requests { IfOk result (λ copy. copy.1 ≡ requests.now.items) }
 {
-    let timers = timers.duplicate(alloc)?;
-    Ok((timers, requests.duplicate(alloc)?))
+    let timers = timers.snapshot(alloc)?;
+    Ok((timers, requests.snapshot(alloc)?))
+}
+
+// The timers and the requests that were put away.
+fn restore_queues<R: Routine>(
+    alloc: Global,
+    timers: &TimersSnapshot<R>,
+    requests: &ReqsSnapshot<R>,
+) -> Result<(Timers<R>, Reqs<R>), NoMemory>
+    ensures timers { IfOk result (λ copy. copy.0.items ≡ timers.now) }
+    ensures requests { IfOk result (λ copy. copy.1.items ≡ requests.now) }
+{
+    let timers = timers.restore(alloc)?;
+    Ok((timers, requests.restore(alloc)?))
 }
 
 impl<R: Routine> Core<R> {
@@ -114,9 +127,9 @@ impl<R: Routine> Core<R> {
     {
         let alloc = self.alloc;
         let system = self.system.share()?;
-        let clusters = self.clusters.duplicate(alloc)?;
-        let queues = duplicate_queues(alloc, &self.timers, &self.requests)?;
-        let attention = self.attention.duplicate(alloc)?;
+        let clusters = self.clusters.snapshot(alloc)?;
+        let queues = put_away_queues(alloc, &self.timers, &self.requests)?;
+        let attention = self.attention.snapshot(alloc)?;
         let boxes = self.boxes.snapshot(alloc)?;
         let units = duplicate_units(alloc, self.units.as_slice())?;
         let procs = put_away(alloc, self.procs.as_slice())?;
@@ -147,9 +160,9 @@ impl<R: Routine> CoreSnapshot<R> {
     {
         let alloc = self.alloc;
         let system = self.system.share()?;
-        let clusters = self.clusters.duplicate(alloc)?;
-        let queues = duplicate_queues(alloc, &self.timers, &self.requests)?;
-        let attention = self.attention.duplicate(alloc)?;
+        let clusters = self.clusters.restore(alloc)?;
+        let queues = restore_queues(alloc, &self.timers, &self.requests)?;
+        let attention = self.attention.restore(alloc)?;
         let boxes = self.boxes.restore(alloc)?;
         let units = duplicate_units(alloc, self.units.as_slice())?;
         let procs = restore_procs(alloc, self.procs.as_slice())?;

@@ -84,3 +84,8 @@ module _ (b : BoxNo) (places : List Place) (from new : List ℕ) (others : (c : 
 
   pub settled_no_read : None ≡ option_map (λ y. y.id) (find (holds (waits_at b)) places) → AreFrom new places
   settled_no_read is = by_box (λ c. AllByRecursion (IsFrom c (get_or new c.0 0)) places) b (λ lt. from_none b (get_or new b.0 0) places (none_of (find (holds (waits_at b)) places) is)) elsewhere_still
+
+-- no number is below 0
+pub from_first : (b : BoxNo) (n : ℕ) → n ≡ 0 → (places : List Place) → AllByRecursion (IsFrom b n) places
+from_first b n zero [] = tt
+from_first b n zero (x ∷ xs) = (λ below. absurd (omega (arith, zero, below)), from_first b n zero xs)

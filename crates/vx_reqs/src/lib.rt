@@ -5,8 +5,6 @@
 //! Contracts see one list in order of acceptance, and how many requests there is room for: `specs/Requests.antt`.
 #![tactic(auto)]
 
-mod copy;
-mod digest;
 mod found;
 mod order;
 mod outstanding;
@@ -14,7 +12,9 @@ mod reads;
 mod reqs;
 mod room;
 mod slot;
+mod snapshot;
 mod units;
 
 pub use outstanding::Outstanding;
 pub use reqs::Reqs;
+pub use snapshot::ReqsSnapshot;

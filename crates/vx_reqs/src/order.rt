@@ -33,15 +33,15 @@ impl Order {
         }
     }
 
-    /// The same of the same places.
-    pub(crate) fn again(&self) -> Order
-        ensures { result ≡ self.now }
+    /// That of places of which nothing is known.
+    pub(crate) fn unknown() -> Order
+        ensures { result.rising ≡ false }
     {
         Order {
-            rising: self.rising,
-            next: self.next,
-            from: self.from,
-            served: self.served,
+            rising: false,
+            next: 0,
+            from: [0; 32],
+            served: [0; 32],
         }
     }
 

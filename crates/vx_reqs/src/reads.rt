@@ -28,11 +28,11 @@ impl Reads {
         }
     }
 
-    /// The same of the same places.
-    pub(crate) fn again(&self) -> Reads
-        ensures { result ≡ self.now }
+    /// That of places of which nothing is known: a read may wait at each mailbox from the first number on.
+    pub(crate) fn unknown() -> Reads
+        ensures { (places : List Place) → AreFrom result.from places }
     {
-        Reads { from: self.from }
+        Reads { from: [0; 64] }
     }
 
     /// Goes on to a request that is put behind the others.

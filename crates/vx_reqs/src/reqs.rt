@@ -1,15 +1,13 @@
 //! The requests: one list, in order of acceptance.
 
-ghost use Rattle.std.specs.Prelude.{◌≡◌, ◌↔◌, ◌<◌, ◌≤◌, ◌+◌, ◌++◌, ◌∷◌, [], IfOk, IsTrue, false, not, length, OnOk, OnErr, option_map, is_some};
+ghost use Rattle.std.specs.Prelude.{◌≡◌, ◌<◌, ◌≤◌, ◌+◌, ◌++◌, ◌∷◌, [], IfOk, IsTrue, false, not, length, OnOk, OnErr, option_map, is_some};
 ghost use Rattle.std.specs.List.{find, list_any};
 ghost use Rattle.vx_base.specs.Lists.{less, amend};
 ghost use Rattle.vx_base.specs.Queues.{front, in_service};
 ghost use Rattle.vx_record.specs.Mailboxes.{waits_at};
-ghost use Rattle.vx_reqs.specs.Digest.{mix_requests};
+ghost use Rattle.vx_reqs.specs.Places.{live};
 ghost use Rattle.vx_reqs.specs.Requests.{promised_of, has_id, is_found, as_marked, begun, is_to_cancel, keeps_open};
 
-use crate::copy::{duplicate_slots, same_requests};
-use crate::digest::mix_requests;
 use crate::found::{
     any_open, id_at, mark_at, place_of_id, place_to_cancel, request_at, serve_at, take_at,
 };
@@ -18,6 +16,7 @@ use crate::outstanding::Outstanding;
 use crate::reads::{Reads, place_read, settle_reads};
 use crate::room::{make_space, reserve_double};
 use crate::slot::Slot;
+use crate::snapshot::ReqsSnapshot;
 use crate::units::{front, place_waiting, serving, settle, settle_unit};
 use std::alloc::Global;
 use std::marker::Model;
@@ -74,31 +73,25 @@ impl<R: Routine> Reqs<R> {
         Ok(())
     }
 
-    /// The same requests again, each with a routine made from its tag, and the same room.
-    pub fn duplicate(&self, alloc: Global) -> Result<Reqs<R>, NoMemory>
-        ensures { IfOk result (λ copy. copy ≡ self.now) }
+    /// The requests that stand in places, so many, and room for no other.
+    pub(crate) fn from_slots(slots: Vec<Slot<R>>, count: usize) -> Reqs<R>
+        requires { count ≡ length (live slots.items) }
+        ensures { result ≡ record { items = live slots.items; capacity = 0 } }
     {
-        Ok(Reqs {
-            slots: duplicate_slots(alloc, self.slots.as_slice(), self.room)?,
-            count: self.count,
-            room: self.room,
-            order: self.order.again(),
-            reads: self.reads.again(),
-        })
+        Reqs {
+            slots,
+            count,
+            room: 0,
+            order: Order::unknown(),
+            reads: Reads::unknown(),
+        }
     }
 
-    /// Whether there are the same requests, in the same order. Takes no memory.
-    pub fn same(&self, other: &Reqs<R>) -> bool
-        ensures { IsTrue result ↔ (self.now.items ≡ other.now.items) }
+    /// The same requests put away.
+    pub fn snapshot(&self, alloc: Global) -> Result<ReqsSnapshot<R>, NoMemory>
+        ensures { IfOk result (λ snapshot. snapshot ≡ self.now.items) }
     {
-        same_requests(self.slots.as_slice(), other.slots.as_slice())
-    }
-
-    /// A digest with the requests. Takes no memory.
-    pub fn mix(&self, digest: u64) -> u64
-        ensures { result ≡ mix_requests digest self.now.items }
-    {
-        mix_requests(digest, self.slots.as_slice())
+        ReqsSnapshot::new(alloc, self.slots.as_slice(), self.count)
     }
 
     /// Accepts a request ($QIO), with the AST that it is to queue when it finishes, if it has one. Takes no memory.

@@ -8,8 +8,7 @@ ghost use Rattle.vx_reqs.specs.Requests.{has_id, as_served, as_marked, is_to_can
 
 use crate::outstanding::Outstanding;
 use std::marker::Model;
-use vx_base::{BoxNo, Duplicate, Id, Mode, NoMemory, Pid, Routine, UnitNo};
-use vx_same::duplicate_option;
+use vx_base::{BoxNo, Id, Mode, Pid, Routine, UnitNo};
 
 /// The request that was accepted there, until it is finished. Its id stays. Contracts see a `Place`.
 #[derive(Drop)]
@@ -142,14 +141,5 @@ impl<R: Routine> Slot<R> {
         if let Some(o) = &mut self.held {
             o.mark();
         }
-    }
-}
-
-impl<R: Routine> Duplicate for Slot<R> {
-    fn duplicate(&self) -> Result<Slot<R>, NoMemory> {
-        Ok(Slot {
-            id: self.id,
-            held: duplicate_option(&self.held)?,
-        })
     }
 }

@@ -1,6 +1,6 @@
 //! The requests of a unit found in their places.
 
-ghost use Rattle.std.specs.Prelude.{◌≡◌, ◌≢◌, ◌<◌, ℕ, Bool, false, IfSome, length, option_map, position, get_or};
+ghost use Rattle.std.specs.Prelude.{◌≡◌, ◌≢◌, ◌<◌, ℕ, false, IfSome, length, option_map, position, get_or};
 ghost use Rattle.std.specs.List.{find};
 ghost use Rattle.vx_base.specs.Queues.{front, in_service, is_served_by, waits_for};
 ghost use Rattle.vx_reqs.specs.Places.{Place, OrderedIf, Rises, holds, live};

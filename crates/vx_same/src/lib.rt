@@ -11,5 +11,5 @@ mod reserved;
 
 pub use digest::mix;
 pub use list::{duplicate_items, same_items};
-pub use option::{duplicate_option, duplicate_options, same_option, same_options};
-pub use reserved::{duplicate_reserved, with_room_of};
+pub use option::{same_option, same_options};
+pub use reserved::{ReservedSnapshot, duplicate_reserved, with_room};

@@ -20,11 +20,11 @@ pub fn same_items<T: Same>(a: &[T], b: &[T]) -> bool
     true
 }
 
-/// The same items again.
+/// The same items again, in as little room as they take.
 pub fn duplicate_items<T: Duplicate>(alloc: Global, items: &[T]) -> Result<Vec<T>, NoMemory>
     ensures { IfOk result (λ copy. copy.items ≡ items.now) }
 {
-    let mut copy = Vec::new(alloc);
+    let mut copy = Vec::with_capacity(alloc, items.len())?;
     for item in items {
         copy.push(item.duplicate()?)?;
     }

@@ -1,37 +1,101 @@
 //! Lists with room.
 
-ghost use Rattle.std.specs.Prelude.{◌≡◌, [], ◌≤◌, IfOk, length};
-ghost use Rattle.vx_base.specs.Roomy.{HasSpace};
+ghost use Rattle.std.specs.Prelude.{◌≡◌, [], ◌≤◌, IfOk, OnOk, length};
 
+use crate::list::duplicate_items;
 use std::alloc::Global;
+use std::marker::Model;
 use vx_base::{Duplicate, NoMemory, Reserved};
 
-/// No items, and room for as many as a list has and has room for.
-pub fn with_room_of<T: Drop>(alloc: Global, items: &Reserved<T>) -> Result<Reserved<T>, NoMemory>
-    ensures empty { IfOk result (λ copy. copy.items ≡ []) }
-    ensures fits { IfOk result (λ copy. length items.now.items ≤ copy.capacity) }
-    ensures room { IfOk result (λ copy. items.now.capacity ≤ copy.capacity) }
+/// Items in order in as little room as they take, and how many there was room for in all.
+#[derive(Drop)]
+pub struct ReservedSnapshot<T> {
+    items: Vec<T>,
+    room: usize,
+}
+
+impl<T> Model for ReservedSnapshot<T> {
+    ghost use Rattle.vx_base.specs.Roomy.{Roomy};
+
+    ghost Value = { Roomy T };
+
+    ghost view = { λ s. record { items = s.items.items; capacity = s.room } };
+}
+
+/// No items, and room for the greater of two numbers.
+pub fn with_room<T: Drop>(alloc: Global, len: usize, room: usize) -> Result<Reserved<T>, NoMemory>
+    ensures empty { IfOk result (λ list. list.items ≡ []) }
+    ensures fits { IfOk result (λ list. len ≤ list.capacity) }
+    ensures room { IfOk result (λ list. room ≤ list.capacity) }
 {
-    let wanted = items.capacity().max(items.len());
-    let Ok(wanted) = u32::try_from(wanted) else {
+    let Ok(wanted) = u32::try_from(len.max(room)) else {
         return Err(NoMemory);
     };
-    let mut copy = Reserved::new(alloc);
-    copy.reserve(wanted)?;
-    Ok(copy)
+    let mut list = Reserved::new(alloc);
+    list.reserve(wanted)?;
+    Ok(list)
+}
+
+impl<T> ReservedSnapshot<T> {
+    /// The items.
+    pub fn as_slice(&self) -> &[T]
+        ensures { result.now ≡ self.now.items }
+    {
+        self.items.as_slice()
+    }
+
+    /// How many items there are.
+    pub fn len(&self) -> usize
+        ensures { result ≡ length self.now.items }
+    {
+        self.items.len()
+    }
+}
+
+// Puts the same items into a list that has none.
+fn put_all<T: Duplicate>(list: &mut Reserved<T>, items: &[T]) -> Result<(), NoMemory>
+    requires none { list.old.items ≡ [] }
+    requires room { length items.now ≤ list.old.capacity }
+    ensures items { OnOk result (list.new.items ≡ items.now) }
+    ensures room { list.new.capacity ≡ list.old.capacity }
+{
+    for item in items {
+        list.put(item.duplicate()?);
+    }
+    Ok(())
 }
 
 /// The same items again, with as much room or more.
 pub fn duplicate_reserved<T: Duplicate>(
     alloc: Global,
-    items: &Reserved<T>,
+    list: &Reserved<T>,
 ) -> Result<Reserved<T>, NoMemory>
-    ensures items { IfOk result (λ copy. copy.items ≡ items.now.items) }
-    ensures room { IfOk result (λ copy. items.now.capacity ≤ copy.capacity) }
+    ensures items { IfOk result (λ copy. copy.items ≡ list.now.items) }
+    ensures room { IfOk result (λ copy. list.now.capacity ≤ copy.capacity) }
 {
-    let mut copy = with_room_of(alloc, items)?;
-    for item in items.as_slice() {
-        copy.put(item.duplicate()?);
-    }
+    let mut copy = with_room(alloc, list.len(), list.capacity())?;
+    put_all(&mut copy, list.as_slice())?;
     Ok(copy)
+}
+
+impl<T: Duplicate> ReservedSnapshot<T> {
+    /// A list put away.
+    pub fn new(alloc: Global, list: &Reserved<T>) -> Result<ReservedSnapshot<T>, NoMemory>
+        ensures { IfOk result (λ snapshot. snapshot ≡ list.now) }
+    {
+        Ok(ReservedSnapshot {
+            items: duplicate_items(alloc, list.as_slice())?,
+            room: list.capacity(),
+        })
+    }
+
+    /// The same items again, with as much room or more.
+    pub fn restore(&self, alloc: Global) -> Result<Reserved<T>, NoMemory>
+        ensures items { IfOk result (λ list. list.items ≡ self.now.items) }
+        ensures room { IfOk result (λ list. self.now.capacity ≤ list.capacity) }
+    {
+        let mut list = with_room(alloc, self.items.len(), self.room)?;
+        put_all(&mut list, self.items.as_slice())?;
+        Ok(list)
+    }
 }

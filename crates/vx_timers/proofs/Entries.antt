@@ -1,5 +1,5 @@
 -- Entries in places: the first that passes found, taken out and changed; an entry put behind the others.
-use Rattle.std.proofs.Common.{◌≡◌, ℕ, zero, suc, ◌+◌, ◌-◌, ◌<◌, ◌≤◌, List, [], ◌∷◌, ◌++◌, Bool, true, false, cond, not, Option, Some, None, length, map, option_map, position, slice_index_or, slice_set, is_some, nat_le, nat_lt, refl, ap, sym, ◌∙◌, arith, inl, inr}
+use Rattle.std.proofs.Common.{◌≡◌, ℕ, zero, suc, ◌+◌, ◌-◌, ◌<◌, List, [], ◌∷◌, ◌++◌, Bool, true, false, cond, not, Option, Some, None, length, map, option_map, position, slice_index_or, slice_set, is_some, nat_le, nat_lt, refl, ap, sym, ◌∙◌, arith, inl, inr}
 use Rattle.std.specs.List.{filter, find, prefix_len}
 use Rattle.std.proofs.lemmas.Bool.{cases_lt}
 use Rattle.std.proofs.lemmas.List.{get_or-set_other, length-map}
@@ -91,11 +91,6 @@ least_time (None ∷ places) = least_time places
 least_time (Some t ∷ places) = ap (lesser_of (Some t.due)) (least_time places) ∙ sooner_time t (least_due (entries places))
 
 -- Places.
-
-pub length_entries : {A : Type 0} (places : List (Option A)) → length (entries places) ≤ length places
-length_entries [] = omega arith
-length_entries (None ∷ places) = let rest = length_entries places in omega (arith, rest)
-length_entries (Some a ∷ places) = let rest = length_entries places in omega (arith, rest)
 
 none_entries : {A : Type 0} (places : List (Option A)) → IsFree 0 places → entries places ≡ []
 none_entries [] free = refl

@@ -8,8 +8,9 @@
 mod due;
 mod places;
 mod round;
-mod same;
+mod snapshot;
 mod timers;
 
 pub use due::{Due, Falls, What, Which};
+pub use snapshot::TimersSnapshot;
 pub use timers::Timers;

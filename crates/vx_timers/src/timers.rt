@@ -1,6 +1,6 @@
 //! The timers and scheduled wakes of all processes.
 
-ghost use Rattle.std.specs.Prelude.{◌≡◌, ◌↔◌, ◌+◌, ◌<◌, ◌≤◌, ◌++◌, ◌∷◌, ◌^◌, [], IfOk, IsTrue, OnErr, OnOk, length, map, option_map, vec_capacity};
+ghost use Rattle.std.specs.Prelude.{◌≡◌, ◌↔◌, ◌+◌, ◌<◌, ◌≤◌, ◌++◌, ◌∷◌, ◌^◌, [], IfOk, IsTrue, OnErr, OnOk, length, map, option_map};
 ghost use Rattle.std.specs.List.{find};
 ghost use Rattle.vx_base.specs.Lists.{amend, less};
 ghost use Rattle.vx_base.specs.Queues.{least_due};
@@ -12,11 +12,10 @@ ghost use Rattle.vx_timers.specs.Seen.{passes};
 use crate::due::{Due, Which};
 use crate::places::{Place, first_place, gather, put_in, take_out, time_all};
 use crate::round::Round;
-use crate::same::same_entries;
+use crate::snapshot::TimersSnapshot;
 use std::alloc::Global;
 use std::marker::Model;
 use vx_base::{NoMemory, Routine};
-use vx_same::duplicate_options;
 
 /// The timers and scheduled wakes of all processes, in the order of opening. Contracts see the entries, and how many there is room
 /// for in all. Only `reserve` takes memory. The least due time and the first entry that is due are found in as many steps as the
@@ -82,27 +81,11 @@ impl<R: Routine> Timers<R> {
         }
     }
 
-    /// The same entries again, each with a routine made from its tag, and the same room.
-    pub fn duplicate(&self, alloc: Global) -> Result<Timers<R>, NoMemory>
-        ensures { IfOk result (λ copy. copy ≡ self.now) }
+    /// The same entries put away. Each routine is made from its tag.
+    pub fn snapshot(&self, alloc: Global) -> Result<TimersSnapshot<R>, NoMemory>
+        ensures { IfOk result (λ snapshot. snapshot ≡ self.now.items) }
     {
-        let places = duplicate_options(alloc, self.places.as_slice())?;
-        let mut times = Round::empty(alloc, places.len())?;
-        time_all(&mut times, places.as_slice());
-        Ok(Timers {
-            places,
-            times,
-            used: self.used,
-            count: self.count,
-            room: self.room,
-        })
-    }
-
-    /// Whether there are the same entries, in the same order. Takes no memory.
-    pub fn same(&self, other: &Timers<R>) -> bool
-        ensures { IsTrue result ↔ (self.now.items ≡ other.now.items) }
-    {
-        same_entries(self.places.as_slice(), other.places.as_slice())
+        TimersSnapshot::new(alloc, self.places.as_slice(), self.count)
     }
 
     /// How many entries there are.
@@ -125,8 +108,8 @@ impl<R: Routine> Timers<R> {
         }
     }
 
-    // Makes room for so many entries in all, and twice as many places, or changes nothing.
-    fn grow(&mut self, wanted: usize) -> Result<(), NoMemory>
+    /// Makes room for so many entries in all, and twice as many places, or changes nothing.
+    pub(crate) fn grow(&mut self, wanted: usize) -> Result<(), NoMemory>
         requires { length self.old.items ≤ wanted }
         ensures items { self.new.items ≡ self.old.items }
         ensures kept { self.old.capacity ≤ self.new.capacity }

@@ -1,7 +1,6 @@
 use Rattle.std.proofs.Common.{ap, refl, ◌∙◌}
-use Rattle.vx_base.specs.Pieces.{Request, Timer}
-use Rattle.vx_base.specs.Roomy.{Roomy}
 use Rattle.vx_clusters.specs.Clusters.{Shared}
+use Rattle.vx_mailbox.specs.Boxes.{Attentions}
 use Rattle.vx_procs.specs.Kernel.{Kernel}
 use Rattle.vx_procs.specs.View.{state}
 use Rattle.vx_procs.proofs.Again.{held_again, same_state}
@@ -14,9 +13,9 @@ invariant_of-result g c = record {
       (same_state _ _ c.in_ok-system.ensures refl refl
       (rw c.as_slice-2.ensures at c.in_ok-procs.ensures.procs)
       (ap (λ (x : Shared). x.common) c.in_ok-clusters.ensures)
-      (ap (λ (x : Roomy Request). x.items) c.in_ok-queues.ensures.requests)
-      (ap (λ (x : Roomy Timer). x.items) c.in_ok-queues.ensures.timers)
-      c.in_ok-attention.ensures.items
+      c.in_ok-queues.ensures.requests
+      c.in_ok-queues.ensures.timers
+      (ap (λ (x : Attentions). x.items) c.in_ok-attention.ensures)
       c.in_ok-boxes.ensures
       (rw c.as_slice.ensures.value at c.in_ok-units.ensures.units))
       (rw c.as_slice-2.ensures at c.in_ok-procs.ensures.books)
@@ -30,9 +29,9 @@ returns g c =
     same_state (state c.self.inside) _ c.in_ok-system.ensures refl refl
     (rw c.as_slice-2.ensures at c.in_ok-procs.ensures.procs)
     (ap (λ (x : Shared). x.common) c.in_ok-clusters.ensures)
-    (ap (λ (x : Roomy Request). x.items) c.in_ok-queues.ensures.requests)
-    (ap (λ (x : Roomy Timer). x.items) c.in_ok-queues.ensures.timers)
-    c.in_ok-attention.ensures.items
+    c.in_ok-queues.ensures.requests
+    c.in_ok-queues.ensures.timers
+    (ap (λ (x : Attentions). x.items) c.in_ok-attention.ensures)
     c.in_ok-boxes.ensures
     (rw c.as_slice.ensures.value at c.in_ok-units.ensures.units)
     ∙ ap (λ (k : Kernel). k.state) c.self.view_is

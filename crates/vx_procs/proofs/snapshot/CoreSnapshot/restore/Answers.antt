@@ -1,6 +1,4 @@
 use Rattle.std.proofs.Common.{ap, refl, ◌∙◌}
-use Rattle.vx_base.specs.Pieces.{Request, Timer}
-use Rattle.vx_base.specs.Roomy.{Roomy}
 use Rattle.vx_clusters.specs.Clusters.{Shared}
 use Rattle.vx_procs.specs.Snapshots.{state_in}
 use Rattle.vx_procs.proofs.Again.{held_again, same_state}
@@ -13,8 +11,8 @@ invariant_of-result g c =
     (same_state _ _ c.in_ok-system.ensures refl refl
     (rw c.as_slice-2.ensures.value at c.in_ok-procs.ensures.procs)
     (ap (λ (x : Shared). x.common) c.in_ok-clusters.ensures)
-    (ap (λ (x : Roomy Request). x.items) c.in_ok-queues.ensures.requests)
-    (ap (λ (x : Roomy Timer). x.items) c.in_ok-queues.ensures.timers)
+    c.in_ok-queues.ensures.requests
+    c.in_ok-queues.ensures.timers
     c.in_ok-attention.ensures.items
     c.in_ok-boxes.ensures
     (rw c.as_slice.ensures.value at c.in_ok-units.ensures.units))
@@ -27,8 +25,8 @@ returns-clause-state g c =
     same_state (state_in c.self.inside) _ c.in_ok-system.ensures refl refl
     (rw c.as_slice-2.ensures.value at c.in_ok-procs.ensures.procs)
     (ap (λ (x : Shared). x.common) c.in_ok-clusters.ensures)
-    (ap (λ (x : Roomy Request). x.items) c.in_ok-queues.ensures.requests)
-    (ap (λ (x : Roomy Timer). x.items) c.in_ok-queues.ensures.timers)
+    c.in_ok-queues.ensures.requests
+    c.in_ok-queues.ensures.timers
     c.in_ok-attention.ensures.items
     c.in_ok-boxes.ensures
     (rw c.as_slice.ensures.value at c.in_ok-units.ensures.units)

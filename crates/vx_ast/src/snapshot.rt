@@ -1,0 +1,69 @@
+//! The queue in as little room as it takes.
+
+ghost use Rattle.std.specs.Prelude.{◌≡◌, ◌↔◌, ◌≤◌, length, IfOk, IsTrue};
+
+use crate::delivery::Delivery;
+use crate::queue::AstQueue;
+use std::alloc::Global;
+use std::marker::Model;
+use vx_base::{NoMemory, Routine};
+use vx_same::{ReservedSnapshot, same_items};
+
+/// The queued ASTs of one process, the modes that have AST delivery enabled, and how many ASTs there was room for in all.
+#[derive(Drop)]
+pub struct AstQueueSnapshot<R: Routine> {
+    pub(crate) items: ReservedSnapshot<Delivery<R>>,
+    pub(crate) kernel: bool,
+    pub(crate) exec: bool,
+    pub(crate) supervisor: bool,
+    pub(crate) user: bool,
+}
+
+impl<R: Routine> Model for AstQueueSnapshot<R> {
+    ghost use Rattle.vx_ast.specs.Queue.{Queue};
+
+    ghost Value = { Queue };
+
+    ghost view = { λ s. record { items = s.items.items; enables = record { kernel = s.kernel; exec = s.exec; supervisor = s.supervisor; user = s.user }; capacity = s.items.capacity } };
+}
+
+impl<R: Routine> AstQueueSnapshot<R> {
+    /// The same ASTs again, each with a routine made from its tag, the same enables, and as much room or more.
+    pub fn restore(&self, alloc: Global) -> Result<AstQueue<R>, NoMemory>
+        ensures items { IfOk result (λ queue. queue.items ≡ self.now.items) }
+        ensures enables { IfOk result (λ queue. queue.enables ≡ self.now.enables) }
+        ensures room { IfOk result (λ queue. self.now.capacity ≤ queue.capacity) }
+    {
+        Ok(AstQueue {
+            items: self.items.restore(alloc)?,
+            kernel: self.kernel,
+            exec: self.exec,
+            supervisor: self.supervisor,
+            user: self.user,
+        })
+    }
+
+    /// Whether it has the same ASTs as another. Takes no memory.
+    pub fn same_items(&self, other: &AstQueueSnapshot<R>) -> bool
+        ensures { IsTrue result ↔ (self.now.items ≡ other.now.items) }
+    {
+        same_items(self.items.as_slice(), other.items.as_slice())
+    }
+
+    /// Whether it has the same enables as another.
+    pub fn same_enables(&self, other: &AstQueueSnapshot<R>) -> bool
+        ensures { IsTrue result ↔ (self.now.enables ≡ other.now.enables) }
+    {
+        self.kernel == other.kernel
+            && self.exec == other.exec
+            && self.supervisor == other.supervisor
+            && self.user == other.user
+    }
+
+    /// How many ASTs are queued.
+    pub fn len(&self) -> usize
+        ensures { result ≡ length self.now.items }
+    {
+        self.items.len()
+    }
+}

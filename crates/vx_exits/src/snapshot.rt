@@ -1,0 +1,43 @@
+//! Handlers in as little room as they take.
+
+ghost use Rattle.std.specs.Prelude.{◌≡◌, ◌↔◌, ◌≤◌, IfOk, IsTrue};
+
+use crate::declared::Declared;
+use crate::exits::Exits;
+use std::alloc::Global;
+use std::marker::Model;
+use vx_base::{NoMemory, Routine};
+use vx_same::{ReservedSnapshot, same_items};
+
+/// The exit handlers of a process. Contracts see them with the newest first, and how many there was room for in all.
+#[derive(Drop)]
+pub struct ExitsSnapshot<R: Routine> {
+    pub(crate) items: ReservedSnapshot<Declared<R>>,
+}
+
+impl<R: Routine> Model for ExitsSnapshot<R> {
+    ghost use Rattle.vx_exits.specs.Exits.{Stack};
+
+    ghost Value = { Stack };
+
+    ghost view = { λ s. s.items };
+}
+
+impl<R: Routine> ExitsSnapshot<R> {
+    /// The same handlers again, each with a routine made from its tag, and as much room or more.
+    pub fn restore(&self, alloc: Global) -> Result<Exits<R>, NoMemory>
+        ensures items { IfOk result (λ exits. exits.items ≡ self.now.items) }
+        ensures room { IfOk result (λ exits. self.now.capacity ≤ exits.capacity) }
+    {
+        Ok(Exits {
+            items: self.items.restore(alloc)?,
+        })
+    }
+
+    /// Whether it has the same handlers as another. Takes no memory.
+    pub fn same(&self, other: &ExitsSnapshot<R>) -> bool
+        ensures { IsTrue result ↔ (self.now.items ≡ other.now.items) }
+    {
+        same_items(self.items.as_slice(), other.items.as_slice())
+    }
+}

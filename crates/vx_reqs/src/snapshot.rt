@@ -1,0 +1,116 @@
+//! The requests in as little room as they take.
+
+ghost use Rattle.std.specs.Prelude.{◌≡◌, ◌↔◌, IfOk, IsTrue, length};
+ghost use Rattle.vx_reqs.specs.Digest.{mix_requests};
+ghost use Rattle.vx_reqs.specs.Places.{live};
+
+use crate::outstanding::Outstanding;
+use crate::reqs::Reqs;
+use crate::slot::Slot;
+use std::alloc::Global;
+use std::marker::Model;
+use vx_base::{Duplicate, NoMemory, Routine};
+use vx_same::{mix, same_items};
+
+/// The outstanding requests in order of acceptance, with no empty place and no room for more, and nothing noted of where those of a
+/// unit or of a mailbox are.
+#[derive(Drop)]
+pub struct ReqsSnapshot<R: Routine> {
+    requests: Vec<Outstanding<R>>,
+}
+
+impl<R: Routine> Model for ReqsSnapshot<R> {
+    ghost use Rattle.std.specs.Prelude.{List};
+    ghost use Rattle.vx_base.specs.Pieces.{Request};
+
+    ghost Value = { List Request };
+
+    ghost view = { λ s. s.requests.items };
+}
+
+// The requests that stand in places. Takes memory for so many.
+fn put_away<R: Routine>(
+    alloc: Global,
+    slots: &[Slot<R>],
+    count: usize,
+) -> Result<Vec<Outstanding<R>>, NoMemory>
+    ensures { IfOk result (λ requests. requests.items ≡ live slots.now) }
+{
+    let mut requests = Vec::with_capacity(alloc, count)?;
+    for slot in slots {
+        if let Some(request) = slot.held() {
+            requests.push(request.duplicate()?)?;
+        }
+    }
+    Ok(requests)
+}
+
+// Each request in a place.
+fn in_places<R: Routine>(
+    alloc: Global,
+    requests: &[Outstanding<R>],
+) -> Result<Vec<Slot<R>>, NoMemory>
+    ensures { IfOk result (λ slots. live slots.items ≡ requests.now) }
+{
+    let mut slots = Vec::with_capacity(alloc, requests.len())?;
+    for request in requests {
+        slots.push(Slot::new(request.duplicate()?))?;
+    }
+    Ok(slots)
+}
+
+// A digest with requests.
+fn mix_requests<R: Routine>(digest: u64, requests: &[Outstanding<R>]) -> u64
+    ensures { result ≡ mix_requests digest requests.now }
+{
+    let mut mixed = digest;
+    for request in requests {
+        let req = request.req();
+        mixed = mix(mix(mixed, req.id.0 as u64), req.p.0 as u64);
+    }
+    mixed
+}
+
+impl<R: Routine> ReqsSnapshot<R> {
+    /// The requests of places, of which so many are held.
+    pub(crate) fn new(
+        alloc: Global,
+        slots: &[Slot<R>],
+        count: usize,
+    ) -> Result<ReqsSnapshot<R>, NoMemory>
+        ensures { IfOk result (λ s. s ≡ live slots.now) }
+    {
+        Ok(ReqsSnapshot {
+            requests: put_away(alloc, slots, count)?,
+        })
+    }
+
+    /// The same requests again, each with a routine made from its tag, and room for no other.
+    pub fn restore(&self, alloc: Global) -> Result<Reqs<R>, NoMemory>
+        ensures { IfOk result (λ reqs. reqs.items ≡ self.now) }
+    {
+        let slots = in_places(alloc, self.requests.as_slice())?;
+        Ok(Reqs::from_slots(slots, self.requests.len()))
+    }
+
+    /// Whether there are the same requests, in the same order. Takes no memory.
+    pub fn same(&self, other: &ReqsSnapshot<R>) -> bool
+        ensures { IsTrue result ↔ (self.now ≡ other.now) }
+    {
+        same_items(self.requests.as_slice(), other.requests.as_slice())
+    }
+
+    /// A digest with the requests. Takes no memory.
+    pub fn mix(&self, digest: u64) -> u64
+        ensures { result ≡ mix_requests digest self.now }
+    {
+        mix_requests(digest, self.requests.as_slice())
+    }
+
+    /// How many requests there are.
+    pub fn len(&self) -> usize
+        ensures { result ≡ length self.now }
+    {
+        self.requests.len()
+    }
+}

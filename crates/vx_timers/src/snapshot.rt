@@ -1,0 +1,95 @@
+//! The timers in as little room as they take.
+
+ghost use Rattle.std.specs.Prelude.{◌≡◌, ◌↔◌, [], IfOk, IsTrue, OnOk, length};
+ghost use Rattle.vx_timers.specs.Places.{entries};
+
+use crate::due::Due;
+use crate::places::Place;
+use crate::timers::Timers;
+use std::alloc::Global;
+use std::marker::Model;
+use vx_base::{Duplicate, NoMemory, Routine};
+use vx_same::same_items;
+
+/// The timers and scheduled wakes of all processes in the order of opening, with no empty place and no room for more, and no tournament of
+/// their times.
+#[derive(Drop)]
+pub struct TimersSnapshot<R: Routine> {
+    entries: Vec<Due<R>>,
+}
+
+impl<R: Routine> Model for TimersSnapshot<R> {
+    ghost use Rattle.std.specs.Prelude.{List};
+    ghost use Rattle.vx_base.specs.Pieces.{Timer};
+
+    ghost Value = { List Timer };
+
+    ghost view = { λ s. s.entries.items };
+}
+
+// The entries that stand in places. Takes memory for so many.
+fn put_away<R: Routine>(
+    alloc: Global,
+    places: &[Place<R>],
+    count: usize,
+) -> Result<Vec<Due<R>>, NoMemory>
+    ensures { IfOk result (λ dues. dues.items ≡ entries places.now) }
+{
+    let mut dues = Vec::with_capacity(alloc, count)?;
+    for place in places {
+        if let Some(due) = place {
+            dues.push(due.duplicate()?)?;
+        }
+    }
+    Ok(dues)
+}
+
+// Puts entries where there are none.
+fn put_all<R: Routine>(timers: &mut Timers<R>, dues: &[Due<R>]) -> Result<(), NoMemory>
+    requires { timers.old.items ≡ [] }
+    ensures { OnOk result (timers.new.items ≡ dues.now) }
+{
+    timers.grow(dues.len())?;
+    for due in dues {
+        timers.put(due.duplicate()?);
+    }
+    Ok(())
+}
+
+impl<R: Routine> TimersSnapshot<R> {
+    /// The entries of places, of which there are so many.
+    pub(crate) fn new(
+        alloc: Global,
+        places: &[Place<R>],
+        count: usize,
+    ) -> Result<TimersSnapshot<R>, NoMemory>
+        ensures { IfOk result (λ snapshot. snapshot ≡ entries places.now) }
+    {
+        Ok(TimersSnapshot {
+            entries: put_away(alloc, places, count)?,
+        })
+    }
+
+    /// The same entries again, each with a routine made from its tag.
+    pub fn restore(&self, alloc: Global) -> Result<Timers<R>, NoMemory>
+        ensures { IfOk result (λ timers. timers.items ≡ self.now) }
+    {
+        let mut timers = Timers::new(alloc);
+        put_all(&mut timers, self.entries.as_slice())?;
+        Ok(timers)
+    }
+
+    /// Whether there are the same entries, in the same order. Takes no memory.
+    pub fn same(&self, other: &TimersSnapshot<R>) -> bool
+        ensures { IsTrue result ↔ (self.now ≡ other.now) }
+    {
+        same_items(self.entries.as_slice(), other.entries.as_slice())
+    }
+
+    /// How many entries there are.
+    pub fn len(&self) -> usize
+        ensures { result ≡ length self.now }
+    {
+        self.entries.len()
+    }
+}
