@@ -10,13 +10,13 @@ use std::marker::Model;
 pub const BUFFER_BYTES: usize = 2048;
 
 /// Room for `BUFFER_BYTES` bytes, made before it is needed. Contracts see nothing in it.
-#[derive(Debug, Drop)]
+#[derive(Drop)]
 pub struct Buffer {
     items: Vec<u8>,
 }
 
 impl Model for Buffer {
-    ghost use Rattle.std.specs.Prelude.{◌≡◌, ◌≤◌, List, [], ⊤, vec_capacity};
+    ghost use Rattle.std.specs.Prelude.{◌≡◌, ◌≤◌, [], ⊤, vec_capacity};
 
     ghost Value = { ⊤ };
 

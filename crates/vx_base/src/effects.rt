@@ -45,7 +45,7 @@ pub enum Cell {
 }
 
 /// One change that an event made.
-#[derive(Debug, Drop)]
+#[derive(Drop)]
 pub enum Effect {
     /// An id was opened, of a kind, by a process (a forced exit: for one), with the mode of its routine, if it has one.
     /// The number is the length of a buffered request, the repeat of a wake in ticks, else 0.
@@ -151,7 +151,7 @@ pub enum Effect {
 pub type EffectList = Sequence<Effect>;
 
 /// The effects of one event, as they are logged. Contracts see the effects, and how many there is room for in all.
-#[derive(Debug, Drop)]
+#[derive(Drop)]
 pub struct Effects {
     items: Reserved<Effect>,
 }

@@ -53,7 +53,7 @@ pub enum Answer {
 }
 
 /// A record: an event, what it came to, and its effects in order.
-#[derive(Debug, Drop)]
+#[derive(Drop)]
 pub struct Rec {
     pub event: Event,
     pub answer: Answer,

@@ -40,7 +40,7 @@ pub enum Device {
 /// An accepted request: its process, its channel with that channel's mode and device, and the arguments of its $QIO: the
 /// function, event flag, I/O status block (1 to 32, 0 for none), buffer (0 to 31), length in bytes and block (of 512 bytes).
 /// `bytes` are those that a write took from its buffer.
-#[derive(Debug, Drop, PartialEq)]
+#[derive(Drop, PartialEq)]
 pub struct Req {
     pub id: Id,
     pub p: Pid,
@@ -80,7 +80,7 @@ impl Req {
 }
 
 /// What a unit replies to a request: the condition and the count for its I/O status block, and the bytes that were read.
-#[derive(Debug, Drop, PartialEq)]
+#[derive(Drop, PartialEq)]
 pub struct Reply {
     pub cond: Cond,
     pub count: u32,
@@ -88,7 +88,7 @@ pub struct Reply {
 }
 
 /// What a message of a mailbox is.
-#[derive(Debug, Drop, PartialEq)]
+#[derive(Drop, PartialEq)]
 pub enum Body {
     /// Bytes.
     Text(Bytes),
@@ -98,7 +98,7 @@ pub enum Body {
 
 /// A message of a mailbox: the id and the process of the write, what was written, and whether the write is held, that is,
 /// still outstanding until the message is read.
-#[derive(Debug, Drop, PartialEq)]
+#[derive(Drop, PartialEq)]
 pub struct Msg {
     pub id: Id,
     pub writer: Pid,

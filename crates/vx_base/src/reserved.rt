@@ -13,7 +13,7 @@ use std::marker::Model;
 
 /// Items in order. Contracts see the items, and how many there is room for in all. Only `reserve` takes memory; what is
 /// taken out leaves its room.
-#[derive(Debug, Drop)]
+#[derive(Drop)]
 pub struct Reserved<T> {
     items: Vec<T>,
     room: usize,

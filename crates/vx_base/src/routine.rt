@@ -32,7 +32,7 @@ pub trait Routine: Drop {
 }
 
 /// A routine that is its entry alone, as the routines of a script are.
-#[derive(Debug, Drop)]
+#[derive(Drop)]
 pub struct Scripted {
     entry: Entry,
 }

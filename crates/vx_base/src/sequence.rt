@@ -1,6 +1,6 @@
 //! A list that contracts see as a list.
 
-ghost use Rattle.std.specs.Prelude.{◌≡◌, ◌↔◌, [], ◌∷◌, ◌++◌, OnOk, OnErr, IfOk, IsTrue};
+ghost use Rattle.std.specs.Prelude.{◌≡◌, [], ◌∷◌, ◌++◌, OnOk, OnErr};
 
 use crate::bytes::NoMemory;
 use crate::same::{Duplicate, Same};
@@ -8,7 +8,7 @@ use std::alloc::Global;
 use std::marker::Model;
 
 /// Items in order, which contracts see as their list.
-#[derive(Debug, Drop)]
+#[derive(Drop)]
 pub struct Sequence<T> {
     items: Vec<T>,
 }

@@ -26,7 +26,7 @@ pub enum ChanFail {
 }
 
 /// The 64 channels of a process. Contracts see at place n - 1 what channel n is assigned to.
-#[derive(Debug, Drop)]
+#[derive(Drop)]
 pub struct Chans {
     rows: Vec<Option<Row>>,
 }

@@ -6,7 +6,7 @@ use std::marker::Model;
 use vx_base::{Device, Mode, Same};
 
 /// An assigned channel, which contracts see as the plain `Channel` of `vx_base`.
-#[derive(Clone, Copy, Debug)]
+#[derive(Clone, Copy)]
 pub(crate) struct Row {
     device: Device,
     mode: Mode,

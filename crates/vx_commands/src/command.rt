@@ -18,7 +18,7 @@ pub struct Options {
 }
 
 /// A command of the program that reads its input. `gen N` reads none: `size_of`.
-#[derive(Debug, Drop)]
+#[derive(Drop)]
 pub enum Command {
     /// `sim`: read a script, run its images as a seed chooses, and write the transcript.
     Sim(Options),

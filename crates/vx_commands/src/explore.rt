@@ -22,7 +22,7 @@ use vx_image::System;
 use vx_script::ScriptFail;
 
 /// What an input comes to.
-#[derive(Debug, Drop)]
+#[derive(Drop)]
 pub enum Survey {
     /// How all its runs end: the worst end, and the text that tells all.
     Told(End, Bytes),

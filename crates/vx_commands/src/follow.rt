@@ -24,7 +24,7 @@ use vx_picks::{PickFail, run_picks};
 use vx_script::{ScriptFail, print_script};
 
 /// What an input comes to.
-#[derive(Debug, Drop)]
+#[derive(Drop)]
 pub enum Course {
     /// The run that the places choose: how it ended, and its transcript.
     Ended(End, Bytes),

@@ -21,7 +21,7 @@ use vx_host::Sink;
 use vx_journal::{Journal, JournalFail, read_journal};
 
 /// What an input is found to be.
-#[derive(Debug, Drop)]
+#[derive(Drop)]
 pub enum Finding {
     /// A transcript, with its verdict and the report of it.
     Judged(Verdict, Bytes),

@@ -9,7 +9,7 @@ use std::alloc::Global;
 use vx_base::{Bytes, NoMemory};
 
 /// The places of a schedule, and how many records its run may have, 1 to 100,000.
-#[derive(Debug, Drop)]
+#[derive(Drop)]
 pub struct Picks {
     pub places: Places,
     pub limit: u32,

@@ -26,7 +26,7 @@ use vx_script::print_script;
 const PIECE: usize = 65_536;
 
 /// Why a transcript was not written whole.
-#[derive(Clone, Copy, Debug)]
+#[derive(Clone, Copy)]
 enum RunFail {
     /// A write failed.
     Fault,

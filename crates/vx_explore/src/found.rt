@@ -8,7 +8,7 @@ use vx_base::{Duplicate, NoMemory, Sequence};
 pub type Picks = Sequence<u32>;
 
 /// What some runs come to, how many do, and which is the first.
-#[derive(Debug, Drop)]
+#[derive(Drop)]
 pub struct Found<T> {
     /// The state or the ending.
     pub what: T,

@@ -1,13 +1,13 @@
 //! Flags as the bits of a word.
 
-ghost use Rattle.std.specs.Prelude.{◌≡◌, ◌≢◌, ◌<◌, ◌^◌, ℕ, true, false};
+ghost use Rattle.std.specs.Prelude.{◌≡◌, ◌≢◌, ◌<◌, ℕ, true, false};
 ghost use Rattle.vx_base.specs.Flags.{is_set, with_flag, any_set, all_set};
 
 use std::marker::Model;
 use vx_base::{Duplicate, NoMemory, Same};
 
 /// Thirty-two event flags, numbered from 0 to 31. Contracts see them as a number, flag n as its bit n.
-#[derive(Debug, Drop)]
+#[derive(Drop)]
 pub struct Flags {
     bits: u32,
 }

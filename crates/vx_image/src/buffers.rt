@@ -14,7 +14,7 @@ const BUFFERS: usize = 32;
 
 /// 32 buffers. There is room for all of them from the start, but only those up to the last one ever written are filled, so the
 /// others cost nothing. Contracts see all.
-#[derive(Debug, Drop)]
+#[derive(Drop)]
 pub(crate) struct Buffers {
     pages: Reserved<Page>,
 }

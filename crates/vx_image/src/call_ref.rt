@@ -12,7 +12,7 @@ use std::marker::Model;
 use vx_base::{Arg, Args, Call, Operand, Pid, Service};
 
 /// A call that was read from a list, in which its arguments stand. Contracts see the `Call`.
-#[derive(Debug, Drop)]
+#[derive(Drop)]
 pub struct CallRef<'a> {
     terms: &'a Terms,
     head: Head,

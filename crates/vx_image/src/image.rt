@@ -15,7 +15,7 @@ pub struct Label {
 pub type Labels = Sequence<Label>;
 
 /// An image: what the processes made of it run.
-#[derive(Debug, Drop)]
+#[derive(Drop)]
 pub struct Image {
     pub name: Name,
     pub labels: Labels,

@@ -9,7 +9,7 @@ use std::marker::Model;
 use vx_base::{BUFFER_BYTES, NoMemory};
 
 /// A buffer: 2,048 bytes, which contracts see as their list. Behind the last byte that was ever written all are zero.
-#[derive(Debug, Drop)]
+#[derive(Drop)]
 pub(crate) struct Page {
     bytes: [u8; BUFFER_BYTES],
     written: usize,

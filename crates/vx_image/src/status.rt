@@ -13,7 +13,7 @@ use vx_same::mix;
 pub(crate) const BLOCKS: usize = 32;
 
 /// An I/O status block.
-#[derive(Clone, Copy, Debug)]
+#[derive(Clone, Copy)]
 pub(crate) struct Block {
     pub(crate) cond: Option<Cond>,
     pub(crate) count: u32,

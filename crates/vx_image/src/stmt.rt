@@ -32,7 +32,7 @@ pub enum Field {
 
 /// A statement of an image. All but the last two are local: they change the store of their process, and where it goes on.
 /// Labels are named by their places in the image's list of labels, from 0; buffers by 0 to 31; status blocks by 1 to 32.
-#[derive(Debug, Drop)]
+#[derive(Drop)]
 pub enum Stmt {
     /// Puts a value into a target.
     Let(Target, Operand),
@@ -57,7 +57,7 @@ pub enum Stmt {
 }
 
 /// A statement that was read from a list: a `Stmt` whose bytes, or whose call's arguments, stand in the list.
-#[derive(Debug, Drop)]
+#[derive(Drop)]
 pub enum StmtRef<'a> {
     Let(Target, Operand),
     Add(Target, Operand, Operand),

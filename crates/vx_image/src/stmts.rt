@@ -17,7 +17,7 @@ use std::marker::Model;
 use vx_base::{Arg, Args, Call, Duplicate, NoMemory, Operand, Same, Service, Target};
 
 /// A statement without its terms.
-#[derive(Clone, Copy, Debug)]
+#[derive(Clone, Copy)]
 pub(crate) enum Kind {
     Let,
     Add,
@@ -32,7 +32,7 @@ pub(crate) enum Kind {
 }
 
 /// A statement in 8 bytes: its kind, where its terms begin, and how many it has.
-#[derive(Clone, Copy, Debug)]
+#[derive(Clone, Copy)]
 pub(crate) struct Head {
     start: u32,
     count: u8,
@@ -41,7 +41,7 @@ pub(crate) struct Head {
 
 /// Statements in order, which contracts see as their list. A statement takes 8 bytes, and 8 more for each of its arguments;
 /// a name or a quoted text takes its bytes and 8 more.
-#[derive(Debug, Drop)]
+#[derive(Drop)]
 pub struct Stmts {
     heads: Vec<Head>,
     terms: Terms,

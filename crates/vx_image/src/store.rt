@@ -13,7 +13,7 @@ use vx_base::{Cond, NoMemory, Target};
 pub(crate) const VARIABLES: usize = 26;
 
 /// What one process stores: variables A to Z, R0, 32 buffers of 2,048 bytes and 32 I/O status blocks.
-#[derive(Debug, Drop)]
+#[derive(Drop)]
 pub struct Store {
     pub(crate) vars: [u32; VARIABLES],
     pub(crate) r0: u32,

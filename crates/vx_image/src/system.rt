@@ -5,7 +5,7 @@ use crate::image::Images;
 use crate::unit::UnitDecls;
 
 /// A system: what a script says.
-#[derive(Debug, Drop)]
+#[derive(Drop)]
 pub struct System {
     pub units: UnitDecls,
     pub images: Images,

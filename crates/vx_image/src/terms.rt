@@ -10,7 +10,7 @@ use std::marker::Model;
 use vx_base::{Arg, Cond, Func, Mode, Name, NoMemory, Operand, Target};
 
 /// A term in 8 bytes: a name or a quoted text is its place among the texts.
-#[derive(Clone, Copy, Debug)]
+#[derive(Clone, Copy)]
 pub(crate) enum Packed {
     Num(u32),
     Cond(Cond),
@@ -29,7 +29,7 @@ pub(crate) enum Packed {
 }
 
 /// Arguments and quoted texts in order, which contracts see as their list.
-#[derive(Debug, Drop)]
+#[derive(Drop)]
 pub(crate) struct Terms {
     packed: Vec<Packed>,
     texts: Texts,

@@ -7,14 +7,14 @@ use std::marker::Model;
 use vx_base::NoMemory;
 
 /// Where a text stands in the bytes, and how long it is.
-#[derive(Clone, Copy, Debug)]
+#[derive(Clone, Copy)]
 pub(crate) struct Span {
     start: u32,
     len: u32,
 }
 
 /// Texts in order, which contracts see as their list. A text takes its bytes and 8 more.
-#[derive(Debug, Drop)]
+#[derive(Drop)]
 pub(crate) struct Texts {
     bytes: Vec<u8>,
     spans: Vec<Span>,

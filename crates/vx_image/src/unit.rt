@@ -10,7 +10,7 @@ pub type Numbers = Sequence<u32>;
 
 /// A unit: its name; its number of blocks of 512 bytes, 0 for a line unit; the lines that a line unit reads; and the numbers,
 /// from 1, of its services that fail.
-#[derive(Debug, Drop)]
+#[derive(Drop)]
 pub struct UnitDecl {
     pub name: Name,
     pub blocks: u32,

@@ -31,7 +31,7 @@ pub struct Asking {
 }
 
 /// Where a request goes that passed its tests: its event flag, and the device and the mode of its channel.
-#[derive(Clone, Copy, Debug)]
+#[derive(Clone, Copy)]
 pub(crate) struct Granted {
     pub cell: Cell,
     pub device: Device,

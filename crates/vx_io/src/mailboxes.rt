@@ -1,6 +1,6 @@
 //! Mailboxes: made, marked for deletion, and gone with their last channel.
 
-ghost use Rattle.std.specs.Prelude.{◌≡◌, ◌<◌, ◌||◌, ◌&&◌, not, None};
+ghost use Rattle.std.specs.Prelude.{◌≡◌, ◌<◌, ◌||◌, ◌&&◌, None};
 ghost use Rattle.vx_base.specs.declared.request.Device.TheVariants.{Mailbox};
 ghost use Rattle.vx_record.specs.Channels.{box_named, crembx, create_box, delete_box, delmbx, find_or_create, free_channel_of, goes_unused, is_bad_box, make_box, new_box, swept_device};
 ghost use Rattle.vx_record.specs.Mailboxes.{mailbox_at};

@@ -9,7 +9,7 @@ use vx_base::{Buffer, Bytes, NoMemory};
 
 /// Room for the bytes that one $QIO moves, made before it is needed: for those that the request keeps, that are told, that the mailbox
 /// stores, and that a read gets. Contracts see which of the four are there.
-#[derive(Debug, Drop)]
+#[derive(Drop)]
 pub struct Rooms {
     kept: Option<Buffer>,
     told: Option<Buffer>,

@@ -18,7 +18,7 @@ pub enum Part {
 }
 
 /// A transcript that was read: the system of its script, its records, and its trailer as it stands in the text.
-#[derive(Debug, Drop)]
+#[derive(Drop)]
 pub struct Journal {
     pub system: System,
     pub recs: Recs,
@@ -37,7 +37,7 @@ pub struct HeaderEnd {
 }
 
 /// What stands before the records of a transcript: the system of its script, and where the header ends.
-#[derive(Debug, Drop)]
+#[derive(Drop)]
 pub struct Front {
     pub system: System,
     pub end: HeaderEnd,

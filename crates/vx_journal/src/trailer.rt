@@ -16,7 +16,7 @@ use vx_lines::{
 };
 
 /// A line of a trailer.
-#[derive(Debug, Drop)]
+#[derive(Drop)]
 pub enum TrailerLine {
     /// `PROCESS`: how a process stands, and its exit code.
     Process(Pid, Name, Standing, u32),

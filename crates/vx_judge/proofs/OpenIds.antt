@@ -1,7 +1,6 @@
 -- The ids of which something may be open: what holds of each of them holds of each id up to the highest.
-use Rattle.std.proofs.Common.{◌≡◌, ℕ, zero, suc, ◌<◌, ◌≤◌, Bool, true, false, cond, not, ◌&&◌, ◌||◌, ◌==◌, nat_lt, List, [], ◌∷◌, ◌++◌, Option, Some, None, refl, sym, ap, ◌∙◌, arith, eq-eqb, option_map}
+use Rattle.std.proofs.Common.{◌≡◌, ℕ, zero, suc, ◌<◌, ◌≤◌, Bool, true, false, cond, not, ◌&&◌, ◌||◌, ◌==◌, nat_lt, List, [], ◌∷◌, Option, Some, None, refl, sym, ap, ◌∙◌, arith, eq-eqb, option_map}
 use Rattle.std.proofs.lemmas.Bool.{ne_eqb, eqb-true, and_parts, lt-ltb, ltb-true, ltb-false}
-use Rattle.std.proofs.lemmas.List.Folds.{list_any-append}
 use Rattle.std.specs.List.{list_all, list_any, filter}
 use Rattle.vx_base.specs.declared.effects.Effect.TheVariants as effect
 use Rattle.vx_base.specs.declared.number.Id.{Id}
@@ -90,14 +89,6 @@ any_last false b h = rw h refl
 
 any_earlier : (a b : Bool) → a ≡ true → (a || b) ≡ true
 any_earlier a b h = rw h refl
-
--- one more id
-pub open_pushed : (ids : List Id) (past : List Item) (x : Item) (i : Id) → subject x ≡ Some i → HasOpen ids past → HasOpen (ids ++ i ∷ []) (x ∷ past)
-open_pushed ids past x i about h = λ id e.
-    let more = list_any-append (is_id id) ids (i ∷ []) in
-    by_cases (is_id i id)
-    (λ t. let n : i.0 ≡ id.0 = eqb-true i.0 id.0 t in more ∙ any_last (list_any (is_id id) ids) (is_id id i) (eq-eqb id.0 i.0 (sym n)))
-    (λ f. let g : lives is_open (life past id) ≡ true = rw (about, f) at e in more ∙ any_earlier (list_any (is_id id) ids) (is_id id i || false) (h id g))
 
 -- those alone that are open
 pub filtered : (id : Id) (test : Id → Bool) (ids : List Id) → test id ≡ true → list_any (is_id id) ids ≡ true → list_any (is_id id) (filter test ids) ≡ true

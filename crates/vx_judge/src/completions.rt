@@ -1,14 +1,13 @@
 //! What the law of flags and status blocks asks of completions.
 
-ghost use Rattle.std.specs.Prelude.{◌≡◌, List, Option as OptionOf, map, ◌∷◌, ◌++◌, [], OnOk, IfOk, option_map};
-ghost use Rattle.vx_base.specs.declared.effects.Effect.{Effect as EffectOf};
+ghost use Rattle.std.specs.Prelude.{◌≡◌, List, Option as OptionOf, map, ◌++◌, IfOk, option_map};
 ghost use Rattle.vx_base.specs.declared.record.Rec.{Rec as RecOf};
-ghost use Rattle.vx_laws.specs.Items.{Item, Head, Did, flat, latest_call};
+ghost use Rattle.vx_laws.specs.Items.{Item, Did, flat};
 ghost use Rattle.vx_laws.specs.Lives.{Life as FullLife, lives};
 ghost use Rattle.vx_laws.specs.StatusLaw.{completes_right, is_asked as is_asked_of, tells_call as tells_call_of, to_next_fin};
 ghost use Rattle.vx_laws.specs.StatusParts.{completes};
 ghost use Rattle.vx_judge.specs.Places.{past_in};
-ghost use Rattle.vx_judge.specs.Owing.{AreOwed, AreJoined, owed, owed_by};
+ghost use Rattle.vx_judge.specs.Owing.{AreOwed, AreJoined, owed_by};
 
 use crate::behind::{clears_iosb, tells_call};
 use crate::clusters::Clusters;

@@ -54,9 +54,6 @@ pub cut_boxed : (s : State) (b : BoxNo) (box : Mailbox) (w : Id) (past : List It
 cut_boxed s b box w past is h =
     less_boxed s b box w past _ is (λ id. origin_on (Did (effect.MCut (mailbox_at s b).name w)) past id tt) (λ p n. refl) (λ name. ap (λ (x : Mailbox). cond (bytes_eq x.name name) (less (this_stored w) (stored past name)) (stored past name)) (mailbox_is s b box is)) (λ name. refl) h
 
-less_empty : {A : Type 0} (p : A → Bool) (xs : List A) → xs ≡ [] → less p xs ≡ []
-less_empty p xs e = ap (less p) e
-
 pub less_fewer : (s : State) (b : BoxNo) (w : Id) → Fewer s (with_box s b (Some (record (mailbox_at s b) { messages = less (this_message w) (mailbox_at s b).messages })))
 less_fewer s b w = record { reads = λ c e. e; empty = λ c e. at c e }
   where

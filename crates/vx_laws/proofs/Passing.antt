@@ -245,14 +245,6 @@ serving_then s past a f h k = record {
   single = k.single;
 }
 
--- and a change that lies aside
-pub serving_on : (past : List Item) (a : Part) (t : State) → Serving past a → Aside a.after [] t → IsPlainCall past → Serving past (record { effects = a.effects; after = t })
-serving_on past a t h k calm = record {
-  boxed = aside_boxed a.after t [] (later past (map Did a.effects)) k (plain_over past a.effects calm) h.boxed;
-  lawful = h.lawful;
-  single = single_on a.after t (fewer_same a.after t k.requests k.boxes) h.single;
-}
-
 -- a change with no effect keeps all of it, whatever was called
 pub still_boxed : (s t : State) (past : List Item) → Aside s [] t → Boxed s past → Boxed t past
 still_boxed s t past k h =

@@ -1,5 +1,5 @@
 -- The agreement as one statement: what the state holds is what the records leave.
-use Rattle.std.specs.Prelude.{◌≡◌, ℕ, ◌+◌, ◌≤◌, List, [], true, false, Some, is_some, IsTrue, map, option_map}
+use Rattle.std.specs.Prelude.{◌≡◌, ℕ, ◌+◌, ◌≤◌, List, [], true, Some, is_some, IsTrue, map, option_map}
 use Rattle.std.specs.List.{AllByRecursion, find, list_any}
 use Rattle.vx_base.specs.Channels.{channel_at}
 use Rattle.vx_base.specs.Clusters.{is_association, stands}

@@ -26,10 +26,10 @@ use Rattle.vx_image.specs.declared.unit.UnitDecl.{UnitDecl}
 use Rattle.vx_lines.specs.Fields.{pid_of}
 use Rattle.vx_lines.specs.Records.{pid_text}
 use Rattle.vx_lines.specs.Spelled.{IsWord}
-use Rattle.vx_lines.specs.ReadHead.{is_plain_call, if_plain, call_among, call_of, served_by, served_in, ran_in, as_head, with_event, run_in, other_head, head_of}
+use Rattle.vx_lines.specs.ReadHead.{is_plain_call, if_plain, call_among, call_of, served_by, served_in, ran_in, with_event, run_in, other_head, head_of}
 use Rattle.vx_lines.specs.Words.{◌>>=◌, is_inner, word_len, first_word, second_word, third_word, behind_word, last_len, last_word, before_last}
 use Rattle.vx_lines.proofs.WordsBack.{Whole, run_len, run_first, run_behind}
-use Rattle.vx_lines.proofs.EffectsBack.{whole, tight_cond, tight_number, cond_back, pid_back}
+use Rattle.vx_lines.proofs.EffectsBack.{whole, tight_number, cond_back, pid_back}
 
 -- A call is read from its text.
 
@@ -119,12 +119,3 @@ run_head units p line a first second h is =
     ∙ ap (λ (z : List ℕ). pid_of z >>= λ q. with_event (event.Run q) (ran_in (third_word line) line)) second
     ∙ ap (λ (o : Option Pid). o >>= λ q. with_event (event.Run q) (ran_in (third_word line) line)) (pid_back p h)
     ∙ ap (with_event (event.Run p)) is
-
--- the record of a call that was served is read from the line behind its number
-pub service_head : (p : Pid) (c : Call) (cond : Cond) (units : List UnitDecl) → IsWord p.0 → is_call c ≡ true → AreHeld (args_list c.args) → is_plain_call c ≡ true → head_of units (two_words (codes "RUN") (pid_text p) (call_text c ++ 32 ∷ name_of cond)) ≡ Some (as_head (event.Run p) (answer.Service c cond))
-service_head p c cond units h is held plain =
-    let rest : List ℕ = call_text c ++ 32 ∷ name_of cond in
-    let line : List ℕ = two_words (codes "RUN") (pid_text p) rest in
-    let number = whole (decimal p.0) (tight_number p.0 h) in
-    let answered : ran_in (third_word line) line ≡ Some (answer.Service c cond) = ran_call p.0 (drop 1 (call_text c)) (name_of cond) h (whole (name_of cond) (tight_cond cond)) ∙ served_back c cond is held plain in
-    run_head units p line (Some (answer.Service c cond)) (first_two (codes "RUN") (pid_text p) rest refl) (second_two (codes "RUN") (pid_text p) rest refl number) h answered

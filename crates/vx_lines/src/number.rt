@@ -1,6 +1,6 @@
 //! Decimal numbers.
 
-ghost use Rattle.std.specs.Prelude.{◌≡◌, ◌<◌, ◌^◌};
+ghost use Rattle.std.specs.Prelude.{◌≡◌, ◌<◌};
 ghost use Rattle.vx_lines.specs.Numbers as spec;
 
 // Nothing, or a zero in front of more.

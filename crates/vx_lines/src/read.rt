@@ -1,6 +1,6 @@
 //! Reads the lines of records.
 
-ghost use Rattle.std.specs.Prelude.{◌≡◌, ◌+◌, ◌<◌, ◌≤◌, IfOk, OnOk, length, drop};
+ghost use Rattle.std.specs.Prelude.{◌≡◌, ◌+◌, ◌<◌, ◌≤◌, IfOk, OnOk, length};
 ghost use Rattle.vx_base.specs.Services.{service_rows};
 ghost use Rattle.vx_lines.specs.Cutting.{fed_len};
 ghost use Rattle.vx_lines.specs.ReadRecords as spec;

@@ -8,7 +8,7 @@ use std::marker::Model;
 use vx_base::{Duplicate, Need, NoMemory};
 
 /// The quotas of a process. Contracts see what is used and the limits.
-#[derive(Debug, Drop)]
+#[derive(Drop)]
 pub struct Account {
     used: Need,
     limits: Need,

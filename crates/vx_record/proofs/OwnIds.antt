@@ -245,13 +245,3 @@ all_below n (q ∷ qs) k = (here, all_below n qs (λ id e. let z = k id e in ome
 pub record HaveOwnAsts (next : ℕ) (pr : Process) : Type 0 where
   pub single : (id : ℕ) → tally (λ q. q.id.0 == id) pr.asts ≤ 1
   pub below : AllByRecursion (λ q. q.id.0 < next) pr.asts
-
-processes_own : (next : ℕ) (prs : List Process) → ((id : ℕ) → total (process_bears id) prs ≤ 1) → ((id : ℕ) → next ≤ id → total (process_bears id) prs ≡ 0) → AllByRecursion (HaveOwnAsts next) prs
-processes_own next [] h k = tt
-processes_own next (pr ∷ prs) h k = (
-  record { single = λ id. let a = h id in omega (arith, a); below = all_below next pr.asts (λ id e. let a = k id e in omega (arith, a)) },
-  processes_own next prs (λ id. let a = h id in omega (arith, a)) (λ id e. let a = k id e in omega (arith, a)),
-)
-
-pub asts_own : (s : State) → HaveOwnIds s → AllByRecursion (HaveOwnAsts s.next) s.procs
-asts_own s h = processes_own s.next s.procs (λ id. let a = h.single id in omega (arith, a)) (λ id e. let a = h.below id e in omega (arith, a))

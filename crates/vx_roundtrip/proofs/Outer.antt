@@ -14,7 +14,7 @@ use Rattle.vx_text.specs.Lex.{lex}
 use Rattle.vx_text.specs.Quote.{quote_text, AreBytes}
 use Rattle.vx_table.specs.Back.{toks_of}
 use Rattle.vx_script.specs.Declarations as read
-use Rattle.vx_script.specs.Fields.{within, with_kind}
+use Rattle.vx_script.specs.Fields.{with_kind}
 use Rattle.vx_script.specs.Places.{unit_place, image_place}
 use Rattle.vx_script.specs.Reading.{take_line, accepted, outside, between_images, goes_on, read_lines}
 use Rattle.vx_script.specs.Script as script
@@ -70,9 +70,6 @@ and_then one two = record { read = one.read ∙ two.read; clean = λ h. one.clea
 
 pub shaped : {line line2 : ℕ} {r s : Reading} {ls ms ns : List (List ℕ)} → ls ≡ ms → Steps line r ms line2 s ns → Steps line r ls line2 s ns
 shaped {line} {line2} {r} {s} {ls} {ms} {ns} e h = subst (λ (xs : List (List ℕ)). Steps line r xs line2 s ns) (sym e) h
-
-pub within_is : (low high n : ℕ) → nat_le low n ≡ true → nat_le n high ≡ true → within low high n ≡ Ok n
-within_is low high n l h = rw (l, h) refl
 
 -- a line of a word and more
 pub has_line : (word : List ℕ) (words : List (List ℕ)) (toks : List Tok) → is_name word ≡ true → AreSpelled words toks → Has (word ++ script.spaced words) (tok.Word word ∷ toks)

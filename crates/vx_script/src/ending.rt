@@ -1,7 +1,6 @@
 //! The end of an image: its labels are looked up.
 
-ghost use Rattle.std.specs.Prelude.{◌≡◌, ◌++◌, OnOk, IfOk, length, map, flat_map};
-ghost use Rattle.std.specs.List.{list_any};
+ghost use Rattle.std.specs.Prelude.{◌≡◌, ◌++◌, OnOk, IfOk, map};
 ghost use Rattle.vx_base.specs.Services.{args_list};
 ghost use Rattle.vx_script.specs.Places.{label_place};
 ghost use Rattle.vx_script.specs.Resolving as spec;

@@ -1,6 +1,6 @@
 //! The canonical lines of an image.
 
-ghost use Rattle.std.specs.Prelude.{OnOk, [], ◌++◌, ◌∷◌, ◌≡◌, ◌≤◌, codes, length, map};
+ghost use Rattle.std.specs.Prelude.{OnOk, [], ◌++◌, ◌∷◌, ◌≡◌, ◌≤◌, length, map};
 ghost use Rattle.vx_script.specs.Script as spec;
 ghost use Rattle.vx_script.specs.Script.{ended_lines};
 

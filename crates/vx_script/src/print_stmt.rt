@@ -6,7 +6,7 @@ ghost use Rattle.vx_script.specs.Script.{spaced};
 ghost use Rattle.vx_script.specs.Statements.{rel_name, field_name};
 ghost use Rattle.vx_image.specs.Stmts.{meant};
 ghost use Rattle.vx_image.specs.declared.stmt.Stmt.TheVariants as stmt;
-ghost use Rattle.vx_table.specs.Spelling.{operand_text, target_text};
+ghost use Rattle.vx_table.specs.Spelling.{operand_text};
 
 use crate::print_word::{print_number, print_place, print_text, print_value, print_word};
 use std::alloc::Global;

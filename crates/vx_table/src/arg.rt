@@ -1,7 +1,6 @@
 //! An argument of a kind, from its token.
 
 ghost use Rattle.std.specs.Prelude.{◌≡◌};
-ghost use Rattle.vx_base.specs.Name.{is_capital};
 ghost use Rattle.vx_table.specs.Reading as spec;
 
 use vx_base::{Arg, Func, Kind, Mode, Name, Operand, Target};

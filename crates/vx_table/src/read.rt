@@ -1,6 +1,6 @@
 //! The arguments of a call, from the tokens behind its service.
 
-ghost use Rattle.std.specs.Prelude.{◌≡◌, ◌+◌, ◌≤◌, ◌<◌, length, not, map};
+ghost use Rattle.std.specs.Prelude.{◌≡◌, ◌+◌, ◌≤◌, ◌<◌, length};
 ghost use Rattle.std.specs.List.{prefix_len};
 ghost use Rattle.vx_base.specs.Services.{args_of};
 ghost use Rattle.vx_table.specs.Reading as spec;

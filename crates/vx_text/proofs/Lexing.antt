@@ -150,11 +150,6 @@ lex_nothing at = refl
 pub name_some : (name : List ℕ) → is_name name ≡ true → 0 < length name
 name_some name h = (named name h).some
 
--- a name and a space
-pub lex_name : (at : ℕ) (name rest : List ℕ) → is_name name ≡ true → lex_from 0 at (name ++ 32 ∷ rest) ≡ with_front (token_at at (tok.Word name) (length name) ∷ []) (lex_from 0 (at + length name + 1) rest)
-lex_name at name rest h =
-    lex_found at (length name) (tok.Word name) name (32 ∷ rest) (first-name name (32 ∷ rest) h refl) refl (named name h).some ∙ ap (with_front (token_at at (tok.Word name) (length name) ∷ [])) (lex_gap (at + length name) rest)
-
 -- the last token of a line
 pub lex_last : (at len : ℕ) (t : Tok) (bytes : List ℕ) → first (bytes ++ []) ≡ Found t len → len ≡ length bytes → 0 < len → lex_from 0 at bytes ≡ Ok (token_at at t len ∷ [])
 lex_last at len t bytes h n pos =

@@ -1,6 +1,6 @@
 //! What stands first in bytes.
 
-ghost use Rattle.std.specs.Prelude.{◌≡◌, ◌≤◌, ◌<◌, length, map, IfOk};
+ghost use Rattle.std.specs.Prelude.{◌≡◌, ◌<◌, length, map, IfOk};
 ghost use Rattle.vx_text.specs.Bytes.{to_upper};
 ghost use Rattle.vx_text.specs.First as spec;
 ghost use Rattle.vx_text.specs.Lex.{IsReading};
@@ -15,7 +15,7 @@ use std::alloc::Global;
 use vx_base::{Cond, Name, NoMemory};
 
 /// What stands first in bytes.
-#[derive(Debug, Drop)]
+#[derive(Drop)]
 pub enum First {
     /// A comment, or nothing.
     End,

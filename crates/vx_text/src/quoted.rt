@@ -32,7 +32,7 @@ pub enum Step {
 }
 
 /// A text, and how many bytes spell it with its closing quote.
-#[derive(Debug, Drop)]
+#[derive(Drop)]
 pub struct Text {
     pub bytes: Bytes,
     pub len: usize,

@@ -5,7 +5,7 @@ use thiserror::Error;
 use vx_base::{Bytes, Cond, Name, NoMemory};
 
 /// A token of a line.
-#[derive(Debug, Drop)]
+#[derive(Drop)]
 pub enum Tok {
     /// A letter with letters, digits and `_` behind it, in capitals.
     Word(Name),
@@ -22,7 +22,7 @@ pub enum Tok {
 }
 
 /// A token and where it stands in its line: from its first byte to the one behind its last, counted from 0.
-#[derive(Debug, Drop)]
+#[derive(Drop)]
 pub struct Token {
     pub tok: Tok,
     pub start: u32,

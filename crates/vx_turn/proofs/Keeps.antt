@@ -12,9 +12,6 @@ use Rattle.vx_turn.specs.declared.view.View.{View}
 use Rattle.vx_turn.specs.Rule.{StartsWith, total, once_below, busy_stage, first_view, times, owned, numbered, Stands, StageFits, Fits, IsHome, Rule, Drew, Entered, Looked, Passed, cut_left, cut_right, glued, used_up, Shared}
 use Rattle.vx_turn.proofs.Lists.{total_set, total_snoc, total_le, at_below, head_is, each_set, starts_further, starts_here, words_drawn, words_passed, words_same, first_served, times_append, times_numbered, stands_further, stands_append, stands_numbered, total_none, total_zero, total_append}
 
-busy_of : {E : Type 0} → View E → ℕ
-busy_of v = busy_stage v.stage
-
 module _ {E : Type 0} where
   stage_longer : (base : ℕ) (queue : List ℕ) (id : ℕ) (log : List E) (i : ℕ) (v : View E) (st : Stage) → StageFits base queue log i v st → StageFits base (queue ++ id ∷ []) log i v st
   stage_longer base queue id log i v Idle h = h

@@ -1,8 +1,8 @@
 //! The lock.
 
-ghost use Rattle.std.specs.Prelude.{◌≡◌, ℕ, ◌-◌, ◌<◌, ◌≤◌, [], ◌∷◌, length, Some, None, MatchBool, IfOk, All, vec_len};
-ghost use Rattle.vx_turn.specs.declared.view.Stage.TheVariants.{Idle, Waiting};
-ghost use Rattle.vx_turn.specs.Rule.{StartsWith, Entered, Shared, first_view, glued, once_below};
+ghost use Rattle.std.specs.Prelude.{◌≡◌, ◌-◌, ◌<◌, ◌≤◌, [], ◌∷◌, Some, None, MatchBool, IfOk, All, vec_len};
+ghost use Rattle.vx_turn.specs.declared.view.Stage.TheVariants.{Waiting};
+ghost use Rattle.vx_turn.specs.Rule.{StartsWith, Entered, Shared, first_view, glued};
 ghost use Rattle.vx_turn.specs.Seats.{IsInside, Keeps, Adds, IsNew, IsFree, IsOne, IsSharedBy};
 
 use crate::rule::{Cuts, Draws, Kept, Law, Looks, Passes};

@@ -1,7 +1,6 @@
 //! Block units.
 
-ghost use Rattle.std.specs.Prelude.{◌≡◌, ◌≢◌, ◌↔◌, ◌<◌, ◌≤◌, ◌+◌, ◌*◌, ◌==◌, IfOk, IsTrue, false, length, take, drop, ◌++◌, option_map};
-ghost use Rattle.std.specs.List.{list_any};
+ghost use Rattle.std.specs.Prelude.{◌≡◌, ◌≢◌, ◌↔◌, ◌<◌, ◌+◌, ◌*◌, ◌==◌, IfOk, IsTrue, false, length, take, option_map};
 ghost use Rattle.vx_image.specs.Units.{first_unit};
 ghost use Rattle.vx_base.specs.Serving.{fails, is_past_end};
 ghost use Rattle.vx_units.specs.Units.{Serving, has_lines, idle, bytes_of, block_at, outputs_of};

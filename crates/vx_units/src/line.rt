@@ -4,7 +4,7 @@ ghost use Rattle.std.specs.Prelude.{◌≡◌, ◌↔◌, ◌<◌, ◌≤◌, []
 ghost use Rattle.std.specs.List.{list_any};
 ghost use Rattle.vx_image.specs.Units.{first_unit};
 ghost use Rattle.vx_base.specs.Serving.{fails, serve, read_line};
-ghost use Rattle.vx_units.specs.Units.{Serving, has_lines, is_for_unit, idle, outputs_of};
+ghost use Rattle.vx_units.specs.Units.{Serving, has_lines, idle, outputs_of};
 
 use crate::unit::DeviceUnit;
 use std::alloc::Global;

@@ -1,6 +1,6 @@
 //! What a device unit does.
 
-ghost use Rattle.std.specs.Prelude.{◌≡◌, ◌<◌, OnOk, OnErr, IsTrue, IsSome, None, true};
+ghost use Rattle.std.specs.Prelude.{◌≡◌, ◌<◌, OnOk, OnErr, IsTrue, IsSome, None};
 ghost use Rattle.vx_base.specs.Serving.{serve};
 ghost use Rattle.vx_units.specs.Units.{Serving, is_for_unit, served, done};
 
