@@ -1,8 +1,8 @@
--- The first item that passes a test: found, taken out, changed, and another put before it.
-use Rattle.std.proofs.Common.{◌≡◌, ℕ, ◌+◌, ◌<◌, ◌≤◌, List, [], ◌∷◌, ◌++◌, Bool, true, false, cond, not, Some, None, length, remove, position, slice_index_or, slice_set, refl, ap, sym, ◌∙◌, arith, suc, nat_lt}
-use Rattle.std.specs.List.{find, position_or_len, insert}
+-- The first item that passes a test: found, taken out and changed.
+use Rattle.std.proofs.Common.{◌≡◌, ℕ, ◌+◌, ◌<◌, ◌≤◌, List, [], ◌∷◌, Bool, true, false, cond, not, Some, None, length, remove, position, slice_index_or, slice_set, refl, ap, sym, ◌∙◌, arith, suc, nat_lt}
+use Rattle.std.specs.List.{find, position_or_len}
 use Rattle.std.proofs.lemmas.Bool.{ltb-true, ltb-false}
-use Rattle.vx_base.specs.Lists.{less, amend, put_before}
+use Rattle.vx_base.specs.Lists.{less, amend}
 
 -- a step past an item that does not pass
 remove_past : {X : Type 0} (x : X) (xs : List X) (n : ℕ) → remove (x ∷ xs) (1 + n) ≡ x ∷ remove xs n
@@ -120,34 +120,3 @@ amend_same p g (y ∷ ys) x e same =
       | true ↦ λ found. let is : g y ≡ y = cc in ap (λ z. z ∷ ys) (sym is)
       | false ↦ λ found. ap (λ zs. y ∷ zs) (amend_same p g ys x found same)
     ] e
-
-insert_past : {X : Type 0} (x : X) (xs : List X) (n : ℕ) (y : X) → insert (x ∷ xs) (1 + n) y ≡ x ∷ insert xs n y
-insert_past x xs n y = let e : 1 + n ≡ suc n = omega arith in rw e refl
-
-insert_first : {X : Type 0} (p : X → Bool) (xs : List X) (y : X) → position_or_len p xs < length xs → insert xs (position_or_len p xs) y ≡ put_before p y xs
-insert_first p [] y h = absurd (omega arith)
-insert_first p (x ∷ xs) y h =
-    let n = position_or_len p xs in
-    let P : Bool → Type 0 = λ b. cond (not b) (1 + n) 0 < length (x ∷ xs) → insert (x ∷ xs) (cond (not b) (1 + n) 0) y ≡ cond b (y ∷ x ∷ xs) (x ∷ put_before p y xs) in
-    elim (p x) as P [
-      | true ↦ λ _. refl
-      | false ↦ λ within. insert_past x xs n y ∙ ap (λ zs. x ∷ zs) (insert_first p xs y (omega arith))
-    ] h
-
--- put before the first that passes, at its place
-pub insert_at : {X : Type 0} (p : X → Bool) (xs : List X) (i : ℕ) (y : X) → Some i ≡ position p xs → insert xs i y ≡ put_before p y xs
-insert_at p xs i y place =
-    let there = some_place (nat_lt (position_or_len p xs) (length xs)) (position_or_len p xs) i place in
-    ap (λ n. insert xs n y) there.1 ∙ insert_first p xs y (ltb-true _ _ there.0)
-
-put_last : {X : Type 0} (p : X → Bool) (y : X) (xs : List X) → None ≡ find p xs → xs ++ y ∷ [] ≡ put_before p y xs
-put_last p y [] e = refl
-put_last p y (x ∷ xs) e =
-    elim (p x) as (λ b. None ≡ cond b (Some x) (find p xs) → x ∷ xs ++ y ∷ [] ≡ cond b (y ∷ x ∷ xs) (x ∷ put_before p y xs)) [
-      | true ↦ λ found. absurd (cc)
-      | false ↦ λ found. ap (λ zs. x ∷ zs) (put_last p y xs found)
-    ] e
-
--- put at the end, where none passes
-pub insert_end : {X : Type 0} (p : X → Bool) (xs : List X) (y : X) → None ≡ position p xs → xs ++ y ∷ [] ≡ put_before p y xs
-insert_end p xs y place = put_last p y xs (none_at p xs place).0

@@ -22,11 +22,6 @@ abbrev pub amend : {A : Type 0} → (A → Bool) → (A → A) → List A → Li
 amend p f [] = []
 amend p f (x ∷ xs) = if p x then f x ∷ xs else x ∷ amend p f xs
 
--- the list with one more, before the first that passes; behind them all where none passes
-abbrev pub put_before : {A : Type 0} → (A → Bool) → A → List A → List A
-put_before p a [] = a ∷ []
-put_before p a (x ∷ xs) = if p x then a ∷ x ∷ xs else x ∷ put_before p a xs
-
 -- bytes written over the start of others
 abbrev pub overlaid : List ℕ → List ℕ → List ℕ
 overlaid piece bytes = piece ++ drop (length piece) bytes

@@ -3,7 +3,7 @@
 ghost use Rattle.std.specs.Prelude.{◌≡◌, ◌↔◌, ◌<◌, ◌≤◌, ◌+◌, ◌++◌, ◌∷◌, [], Bool, IfSome, IsSome, OnSome, OnOk, OnErr, length, insert, position, option_to_list, slice_set, slice_index_or};
 ghost use Rattle.std.specs.Borrow.{sem, Lends};
 ghost use Rattle.std.specs.List.{find};
-ghost use Rattle.vx_base.specs.Lists.{first, less, put_before, rest};
+ghost use Rattle.vx_base.specs.Lists.{first, less, rest};
 ghost use Rattle.vx_base.specs.Roomy.{HasSpace, with_items};
 
 use crate::bytes::NoMemory;
@@ -106,18 +106,6 @@ impl<T: Drop> Reserved<T> {
         match self.items.insert(place, item) {
             Ok(()) => (),
             Err(_) => unreachable!(),
-        }
-    }
-
-    /// Puts an item before the one at a place, at the end if there is none. Takes no memory.
-    pub fn put_before(&mut self, place: Option<usize>, item: T)
-        requires room { HasSpace self.old 1 }
-        requires within { IfSome place (λ i. i < length self.old.items) }
-        ensures { (p : T → Bool) → place ≡ position p self.old.items → self.new ≡ with_items self.old (put_before p item self.old.items) }
-    {
-        match place {
-            Some(place) => self.put_at(place, item),
-            None => self.put(item),
         }
     }
 

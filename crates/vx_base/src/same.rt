@@ -3,7 +3,7 @@
 ghost use Rattle.std.specs.Prelude.{◌≡◌, ◌↔◌, IsTrue, IfOk};
 
 use crate::bytes::{Bytes, NoMemory};
-use crate::call::Call;
+use crate::frame::Frame;
 use crate::name::Name;
 
 /// A type whose values can be told apart.
@@ -32,6 +32,12 @@ impl Same for Name {
     }
 }
 
+impl Same for Frame {
+    fn same(&self, other: &Frame) -> bool {
+        *self == *other
+    }
+}
+
 impl Same for Bytes {
     fn same(&self, other: &Bytes) -> bool {
         *self == *other
@@ -40,6 +46,12 @@ impl Same for Bytes {
 
 impl Duplicate for u32 {
     fn duplicate(&self) -> Result<u32, NoMemory> {
+        Ok(*self)
+    }
+}
+
+impl Duplicate for Frame {
+    fn duplicate(&self) -> Result<Frame, NoMemory> {
         Ok(*self)
     }
 }

@@ -15,9 +15,10 @@ use crate::texts::short;
 use std::alloc::Global;
 use std::marker::Model;
 use vx_base::{Arg, Args, Call, Duplicate, NoMemory, Operand, Same, Service, Target};
+use vx_same::same_items;
 
 /// A statement without its terms.
-#[derive(Clone, Copy)]
+#[derive(Clone, Copy, PartialEq)]
 pub(crate) enum Kind {
     Let,
     Add,
@@ -32,7 +33,7 @@ pub(crate) enum Kind {
 }
 
 /// A statement in 8 bytes: its kind, where its terms begin, and how many it has.
-#[derive(Clone, Copy)]
+#[derive(Clone, Copy, PartialEq)]
 pub(crate) struct Head {
     start: u32,
     count: u8,
@@ -310,18 +311,38 @@ impl Stmts {
     }
 }
 
-impl Same for Stmts {
-    #[tactic(auto, using(crate::proofs::KeptStmts::same_further))]
-    fn same(&self, other: &Stmts) -> bool {
-        if self.len() != other.len() {
+impl Same for Head {
+    fn same(&self, other: &Head) -> bool {
+        *self == *other
+    }
+}
+
+// Whether two lists have the same small form. The same statements may have more than one: a text may stand at another place.
+fn same_form(a: &Stmts, b: &Stmts) -> bool
+    ensures { IsTrue result → a.now ≡ b.now }
+{
+    same_items(a.heads.as_slice(), b.heads.as_slice()) && a.terms.same_form(&b.terms)
+}
+
+// Whether two lists have the same statements, place by place.
+#[tactic(auto, using(crate::proofs::KeptStmts::same_further))]
+fn same_each(a: &Stmts, b: &Stmts) -> bool
+    ensures { IsTrue result ↔ (a.now ≡ b.now) }
+{
+    if a.len() != b.len() {
+        return false;
+    }
+    for i in 0..a.len() {
+        if !same_at(a, b, i) {
             return false;
         }
-        for i in 0..self.len() {
-            if !same_at(self, other, i) {
-                return false;
-            }
-        }
-        true
+    }
+    true
+}
+
+impl Same for Stmts {
+    fn same(&self, other: &Stmts) -> bool {
+        same_form(self, other) || same_each(self, other)
     }
 }
 

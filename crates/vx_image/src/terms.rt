@@ -1,16 +1,17 @@
 //! The terms of statements in a small form.
 
-ghost use Rattle.std.specs.Prelude.{◌≡◌, ◌∷◌, ◌++◌, [], length, map, IfOk, OnOk, OnErr};
+ghost use Rattle.std.specs.Prelude.{◌≡◌, ◌∷◌, ◌++◌, [], length, map, IfOk, IsTrue, OnOk, OnErr};
 ghost use Rattle.vx_image.specs.Packed.{Begins};
 ghost use Rattle.vx_image.specs.Terms.{OfArg, OfText, arg_in, text_in, arg_of, IsPacked, term_of};
 
 use crate::texts::Texts;
 use std::alloc::Global;
 use std::marker::Model;
-use vx_base::{Arg, Cond, Func, Mode, Name, NoMemory, Operand, Target};
+use vx_base::{Arg, Cond, Func, Mode, Name, NoMemory, Operand, Same, Target};
+use vx_same::same_items;
 
 /// A term in 8 bytes: a name or a quoted text is its place among the texts.
-#[derive(Clone, Copy)]
+#[derive(Clone, Copy, PartialEq)]
 pub(crate) enum Packed {
     Num(u32),
     Cond(Cond),
@@ -105,6 +106,12 @@ fn unpack(texts: &Texts, packed: Packed) -> Arg
     }
 }
 
+impl Same for Packed {
+    fn same(&self, other: &Packed) -> bool {
+        *self == *other
+    }
+}
+
 impl Terms {
     /// No terms. Takes no memory.
     pub(crate) fn new(alloc: Global) -> Terms
@@ -174,6 +181,14 @@ impl Terms {
         let packed = pack_text(&mut self.texts, text)?;
         self.packed.push(packed)?;
         Ok(())
+    }
+
+    /// Whether both have the same small form: then they are the same.
+    pub(crate) fn same_form(&self, other: &Terms) -> bool
+        ensures { IsTrue result → self.now ≡ other.now }
+    {
+        same_items(self.packed.as_slice(), other.packed.as_slice())
+            && self.texts.same_form(&other.texts)
     }
 
     /// The same terms again.

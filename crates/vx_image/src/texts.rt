@@ -1,13 +1,14 @@
 //! Texts that share one list of bytes.
 
-ghost use Rattle.std.specs.Prelude.{◌≡◌, ◌∷◌, ◌++◌, [], length, slice_index_or, IfOk, OnOk, OnErr};
+ghost use Rattle.std.specs.Prelude.{◌≡◌, ◌∷◌, ◌++◌, [], length, slice_index_or, IfOk, IsTrue, OnOk, OnErr};
 
 use std::alloc::Global;
 use std::marker::Model;
-use vx_base::NoMemory;
+use vx_base::{NoMemory, Same};
+use vx_same::same_items;
 
 /// Where a text stands in the bytes, and how long it is.
-#[derive(Clone, Copy)]
+#[derive(Clone, Copy, PartialEq)]
 pub(crate) struct Span {
     start: u32,
     len: u32,
@@ -36,6 +37,12 @@ pub(crate) fn short(len: usize) -> Result<u32, NoMemory>
     ensures { IfOk result (λ n. n ≡ len) }
 {
     u32::try_from(len).or(Err(NoMemory))
+}
+
+impl Same for Span {
+    fn same(&self, other: &Span) -> bool {
+        *self == *other
+    }
 }
 
 impl Texts {
@@ -90,6 +97,14 @@ impl Texts {
         let place = short(self.len())?;
         self.push(text)?;
         Ok(place)
+    }
+
+    /// Whether both have the same small form: then they are the same.
+    pub(crate) fn same_form(&self, other: &Texts) -> bool
+        ensures { IsTrue result → self.now ≡ other.now }
+    {
+        self.bytes.as_slice() == other.bytes.as_slice()
+            && same_items(self.spans.as_slice(), other.spans.as_slice())
     }
 
     /// The same texts again.

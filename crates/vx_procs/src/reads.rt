@@ -4,7 +4,6 @@ ghost use Rattle.std.specs.Prelude.{◌≡◌, ◌<◌, ◌≤◌, length, optio
 ghost use Rattle.vx_frames.specs.Frames.{top_of};
 ghost use Rattle.vx_image.specs.Local.{place_of};
 ghost use Rattle.vx_image.specs.Storage.{buffer_at, status_at};
-ghost use Rattle.vx_base.specs.Pieces.{is_enabled_in};
 ghost use Rattle.vx_base.specs.Frames.{active_mode};
 ghost use Rattle.vx_record.specs.State.{IsProcess, process_at, decl_of, image_of, limits_of, current};
 ghost use Rattle.vx_record.specs.Asts.{deliverable_ast, entry_place, entry_prm, new_frame};
@@ -147,14 +146,6 @@ impl<R: Routine> Core<R> {
         ensures { result ≡ r0_of self.now.state p }
     {
         self.process_of(p).store.value(Target::R0)
-    }
-
-    /// Whether AST delivery is enabled in a mode.
-    pub fn has_delivery(&self, p: Pid, mode: Mode) -> bool
-        requires { IsProcess self.now.state p }
-        ensures { result ≡ is_enabled_in (process_at self.now.state p).enables mode }
-    {
-        self.process_of(p).asts.is_enabled(mode)
     }
 
     /// The AST of a process that may start, if there is one; none where it is suspended or has no frame.

@@ -53,13 +53,6 @@ pub fn is_service_byte(b: u8) -> bool
     is_alphanumeric(b) || b == b'_'
 }
 
-/// Whether a byte is a space or a tab.
-pub fn is_gap(b: u8) -> bool
-    ensures { result ≡ classes.is_gap b }
-{
-    b == b' ' || b == b'\t'
-}
-
 /// Whether a byte is a sign that is a token of its own: one of `,=+-:`.
 pub fn is_sign(b: u8) -> bool
     ensures { result ≡ classes.is_sign b }

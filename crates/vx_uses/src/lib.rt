@@ -28,6 +28,8 @@ mod frames;
 #[cfg(test)]
 mod grammar;
 #[cfg(test)]
+mod host;
+#[cfg(test)]
 mod image;
 #[cfg(test)]
 mod judge;

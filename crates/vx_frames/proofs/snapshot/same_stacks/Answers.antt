@@ -3,4 +3,4 @@ use Rattle.vx_frames.proofs.Reversed.{same_reversed}
 use Rattle.vx_frames.proofs.snapshot.same_stacks.Goals as goal
 
 pub returns : goal.returns
-returns c = (λ yes. ap reverse (c.same_frames.ensures.0 yes), λ h. c.same_frames.ensures.1 (same_reversed c.args.a.now c.args.b.now h))
+returns c = (λ yes. ap reverse (c.same_items.ensures.0 yes), λ h. c.same_items.ensures.1 (same_reversed c.args.a.now c.args.b.now h))
