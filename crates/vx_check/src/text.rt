@@ -80,18 +80,35 @@ fn judge_behind(
     }
 }
 
-/// Judges the records and the trailer that stand behind the header of a transcript, whose first line has this number; or tells the
-/// first bad line.
+/// Judges the records and the trailer that stand behind the header of a transcript, whose first line has this number, by an executive
+/// before its first event; or tells the first bad line.
+fn judge_by(
+    alloc: Global,
+    exec: &mut Exec<Scripted>,
+    line: u32,
+    text: &[u8],
+) -> Result<Verdict, LinesFail>
+    requires fresh { exec.old ≡ follow_spec.fresh exec.old.state }
+    requires few { length exec.old.state.system.units ≤ 32 }
+    requires short { line + length text.now < 4294967295 }
+    ensures { (system : SystemOf) → exec.old.state ≡ first system → follow_spec.JudgesBehind system line text.now result }
+{
+    match follow(alloc, exec, line, text) {
+        Ok(followed) => judge_behind(alloc, exec, followed, text),
+        Err(failure) => Err(failure),
+    }
+}
+
+/// Judges the same for a system.
 fn check_behind(alloc: Global, system: System, line: u32, text: &[u8]) -> Result<Verdict, LinesFail>
     requires formed { IsWellFormed system }
     requires short { line + length text.now < 4294967295 }
     ensures { follow_spec.JudgesBehind system line text.now result }
 {
     let mut exec = Exec::new(alloc, system, 100_000)?;
-    match follow(alloc, &mut exec, line, text) {
-        Ok(followed) => judge_behind(alloc, &exec, followed, text),
-        Err(failure) => Err(failure),
-    }
+    let verdict = judge_by(alloc, &mut exec, line, text);
+    drop(exec);
+    verdict
 }
 
 /// Judges a text that begins with this front.
