@@ -1,10 +1,9 @@
 //! The queue in as little room as it takes.
 
-ghost use Rattle.std.specs.Prelude.{◌≡◌, ◌↔◌, ◌≤◌, length, IfOk, IsTrue};
+ghost use Rattle.std.specs.Prelude.{◌≡◌, ◌↔◌, ◌≤◌, length, IsTrue, OnOk};
 
 use crate::delivery::Delivery;
 use crate::queue::AstQueue;
-use std::alloc::Global;
 use std::marker::Model;
 use vx_base::{NoMemory, Routine};
 use vx_same::{ReservedSnapshot, same_items};
@@ -28,19 +27,19 @@ impl<R: Routine> Model for AstQueueSnapshot<R> {
 }
 
 impl<R: Routine> AstQueueSnapshot<R> {
-    /// The same ASTs again, each with a routine made from its tag, the same enables, and as much room or more.
-    pub fn restore(&self, alloc: Global) -> Result<AstQueue<R>, NoMemory>
-        ensures items { IfOk result (λ queue. queue.items ≡ self.now.items) }
-        ensures enables { IfOk result (λ queue. queue.enables ≡ self.now.enables) }
-        ensures room { IfOk result (λ queue. self.now.capacity ≤ queue.capacity) }
+    /// The same ASTs in a queue, in place of its own, each with a routine made from its tag, the same enables, and as much room or more. If
+    /// memory runs out, the queue is of no more use.
+    pub fn restore(&self, queue: &mut AstQueue<R>) -> Result<(), NoMemory>
+        ensures items { OnOk result (queue.new.items ≡ self.now.items) }
+        ensures enables { OnOk result (queue.new.enables ≡ self.now.enables) }
+        ensures room { OnOk result (self.now.capacity ≤ queue.new.capacity) }
     {
-        Ok(AstQueue {
-            items: self.items.restore(alloc)?,
-            kernel: self.kernel,
-            exec: self.exec,
-            supervisor: self.supervisor,
-            user: self.user,
-        })
+        self.items.restore(&mut queue.items)?;
+        queue.kernel = self.kernel;
+        queue.exec = self.exec;
+        queue.supervisor = self.supervisor;
+        queue.user = self.user;
+        Ok(())
     }
 
     /// Whether it has the same ASTs as another. Takes no memory.

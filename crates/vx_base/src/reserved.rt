@@ -86,6 +86,13 @@ impl<T: Drop> Reserved<T> {
         Ok(())
     }
 
+    /// Takes all items out; their room stays.
+    pub fn clear(&mut self)
+        ensures { self.new ≡ with_items self.old [] }
+    {
+        self.items.clear();
+    }
+
     /// Puts an item at the end. Takes no memory.
     pub fn put(&mut self, item: T)
         requires { HasSpace self.old 1 }

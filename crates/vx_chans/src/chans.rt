@@ -1,8 +1,9 @@
 //! Channels by their numbers.
 
-ghost use Rattle.std.specs.Prelude.{◌≡◌, replicate, IsTrue, IsSome, IfOk, IfSome, None, length, option_map};
+ghost use Rattle.std.specs.Prelude.{◌≡◌, ◌≤◌, replicate, IsTrue, IsSome, IfOk, IfSome, None, length, option_map};
 ghost use Rattle.vx_base.specs.Channels.{is_channel_number, channel_at, least_free, is_reached, next_of_mode};
 ghost use Rattle.std.specs.List.{list_any};
+ghost use Rattle.vx_same.specs.Trimmed.{filled_to};
 ghost use Rattle.vx_chans.specs.Chans.{number_or_none, with_channel, without_channel, found, is_box, is_to};
 
 use crate::row::Row;
@@ -42,6 +43,16 @@ impl Model for Chans {
     ghost invariant = { λ c. vec_len c.rows ≡ 64 };
 }
 
+// Puts rows over the first of others, and leaves none assigned behind them.
+fn lay_over(rows: &mut [Option<Row>], first: &[Option<Row>])
+    requires { length first.now ≤ length rows.old }
+    ensures { rows.new ≡ filled_to (length rows.old) None first.now }
+{
+    let (front, behind) = rows.split_at_mut(first.len());
+    front.copy_from_slice(first);
+    behind.fill(None);
+}
+
 impl Chans {
     /// No channel assigned.
     pub fn new(alloc: Global) -> Result<Chans, NoMemory>
@@ -52,12 +63,12 @@ impl Chans {
         })
     }
 
-    /// The channels of 64 rows. Takes no memory.
-    pub(crate) fn from_rows(rows: Vec<Option<Row>>) -> Chans
-        requires { length rows.items ≡ 64 }
-        ensures { result ≡ rows.items }
+    /// Has the first channels assigned as rows say, and no other. Takes no memory.
+    pub(crate) fn fill(&mut self, first: &[Option<Row>])
+        requires { length first.now ≤ 64 }
+        ensures { self.new ≡ filled_to 64 None first.now }
     {
-        Chans { rows }
+        lay_over(&mut self.rows, first);
     }
 
     /// What is assigned, in as little room as it takes.

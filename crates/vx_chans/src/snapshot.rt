@@ -3,7 +3,7 @@
 ghost use Rattle.std.specs.Prelude.{◌≡◌, ◌↔◌, ◌≤◌, IfOk, IsTrue, None, length};
 ghost use Rattle.vx_same.specs.Trimmed.{filled_to, trimmed};
 
-use crate::chans::{CHANNELS, Chans};
+use crate::chans::Chans;
 use crate::row::Row;
 use std::alloc::Global;
 use std::marker::Model;
@@ -40,18 +40,6 @@ fn trimmed(rows: &[Option<Row>]) -> &[Option<Row>]
     kept
 }
 
-// All 64, of which those behind the given ones are free.
-fn filled(alloc: Global, rows: &[Option<Row>]) -> Result<Vec<Option<Row>>, NoMemory>
-    requires { length rows.now ≤ 64 }
-    ensures rows { IfOk result (λ all. all.items ≡ filled_to 64 None rows.now) }
-    ensures count { IfOk result (λ all. length all.items ≡ 64) }
-{
-    let mut all = Vec::with_capacity(alloc, CHANNELS)?;
-    all.extend_from_slice(rows)?;
-    all.resize(CHANNELS, None)?;
-    Ok(all)
-}
-
 impl ChansSnapshot {
     /// The channels of 64 rows. Takes memory for those up to the last one that is assigned.
     #[tactic(auto, using(vx_same::proofs::Trimmed::shorter, vx_same::proofs::Trimmed::filled_again, vx_same::proofs::Trimmed::trimmed_again))]
@@ -64,11 +52,11 @@ impl ChansSnapshot {
         })
     }
 
-    /// The same channels again, with room for all 64.
-    pub fn restore(&self, alloc: Global) -> Result<Chans, NoMemory>
-        ensures { IfOk result (λ c. c ≡ self.now) }
+    /// The same channels in place of others. Takes no memory.
+    pub fn restore(&self, chans: &mut Chans)
+        ensures { chans.new ≡ self.now }
     {
-        Ok(Chans::from_rows(filled(alloc, self.rows.as_slice())?))
+        chans.fill(self.rows.as_slice());
     }
 
     /// Whether the same channels are assigned to the same devices, in the same modes. Takes no memory.

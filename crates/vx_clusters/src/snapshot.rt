@@ -1,6 +1,6 @@
 //! The clusters in as little room as they take.
 
-ghost use Rattle.std.specs.Prelude.{◌≡◌, ◌↔◌, IfOk, IsTrue};
+ghost use Rattle.std.specs.Prelude.{◌≡◌, ◌↔◌, IfOk, IsTrue, OnOk};
 
 use crate::association::Association;
 use crate::cluster::FlagCluster;
@@ -8,6 +8,7 @@ use crate::clusters::Clusters;
 use crate::table::Table;
 use std::alloc::Global;
 use std::marker::Model;
+use std::mem::replace;
 use vx_base::NoMemory;
 use vx_same::{ReservedSnapshot, same_items};
 
@@ -40,13 +41,20 @@ impl Model for TableSnapshot {
 }
 
 impl TableSnapshot {
-    // The same clusters and associations again, with the same room.
-    fn restore(&self, alloc: Global) -> Result<Table, NoMemory>
+    // The same clusters and associations again, in the memory of others, with the same room.
+    fn restore(&self, others: Table) -> Result<Table, NoMemory>
         ensures { IfOk result (λ table. table ≡ self.now) }
     {
+        let Table {
+            mut clusters,
+            mut associations,
+            ..
+        } = others;
+        self.clusters.restore(&mut clusters)?;
+        self.associations.restore(&mut associations)?;
         Ok(Table {
-            clusters: self.clusters.restore(alloc)?,
-            associations: self.associations.restore(alloc)?,
+            clusters,
+            associations,
             cluster_room: self.cluster_room,
             association_room: self.association_room,
         })
@@ -71,13 +79,13 @@ impl Model for ClustersSnapshot {
 }
 
 impl ClustersSnapshot {
-    /// The same clusters and associations again, with the same room.
-    pub fn restore(&self, alloc: Global) -> Result<Clusters, NoMemory>
-        ensures { IfOk result (λ clusters. clusters ≡ self.now) }
+    /// The same clusters and associations in place of others, with the same room. If memory runs out, the others are gone.
+    pub fn restore(&self, alloc: Global, clusters: &mut Clusters) -> Result<(), NoMemory>
+        ensures { OnOk result (clusters.new ≡ self.now) }
     {
-        Ok(Clusters {
-            table: self.table.restore(alloc)?,
-        })
+        let others = replace(&mut clusters.table, Table::new(alloc));
+        clusters.table = self.table.restore(others)?;
+        Ok(())
     }
 
     /// Whether there are the same clusters, with the same flags, and the same associations. Takes no memory.

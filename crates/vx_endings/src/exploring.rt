@@ -29,8 +29,9 @@ pub fn endings(
     ensures whole { IfOk result (IfTold (λ _. ¬ IsTooWide system limit states)) }
     ensures cut { IfOk result (IfCut (IsTooWide system limit states)) }
 {
-    let exec = Exec::new(alloc, system, limit)?;
-    let first = Explored::new(alloc, &exec);
+    let mut exec = Exec::new(alloc, system, limit)?;
+    let first = Explored::new(alloc, &exec)?;
+    let found = explore(alloc, first, limit, states as usize, &mut exec);
     drop(exec);
-    explore(alloc, first?, limit, states as usize)
+    found
 }

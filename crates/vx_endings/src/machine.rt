@@ -86,6 +86,8 @@ impl Machine for Explored {
 
     type Ending = RunEnding;
 
+    type Workspace = Exec<Scripted>;
+
     ghost enabled = { enabled_in };
 
     ghost after = { after_in };
@@ -98,18 +100,14 @@ impl Machine for Explored {
         self.ways
     }
 
-    fn take(&self, pick: u32) -> Result<Explored, NoMemory> {
-        let mut exec = self.snapshot.restore()?;
-        let next = stepped(self.alloc, &mut exec, pick);
-        drop(exec);
-        next
+    fn take(&self, pick: u32, workspace: &mut Exec<Scripted>) -> Result<Explored, NoMemory> {
+        self.snapshot.restore(workspace)?;
+        stepped(self.alloc, workspace, pick)
     }
 
-    fn ending(&self) -> Result<RunEnding, NoMemory> {
-        let exec = self.snapshot.restore()?;
-        let ending = ending_here(self.alloc, &exec);
-        drop(exec);
-        ending
+    fn ending(&self, workspace: &mut Exec<Scripted>) -> Result<RunEnding, NoMemory> {
+        self.snapshot.restore(workspace)?;
+        ending_here(self.alloc, workspace)
     }
 
     fn same(&self, other: &Explored) -> bool {

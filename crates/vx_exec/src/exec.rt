@@ -8,6 +8,7 @@ ghost use Rattle.vx_record.specs.Events.{enabled, step};
 ghost use Rattle.vx_record.specs.Runs.{end_of, first, record_of};
 ghost use Rattle.vx_exec.specs.Engines.{IsWithin, leasing};
 ghost use Rattle.vx_exec.specs.Picks.{moved_seed, picked_event};
+ghost use Rattle.vx_exec.specs.Sound.{IsGoing};
 ghost use Rattle.vx_exec.specs.Standing.{code_of, standing_of};
 ghost use Rattle.vx_exec.specs.View.{is_don, plan};
 
@@ -21,7 +22,7 @@ use std::marker::Model;
 use vx_base::{Bytes, End, Event, Name, NoMemory, Pid, Rec, Routine, UnitNo};
 use vx_image::System;
 use vx_io::Rooms;
-use vx_procs::Core;
+use vx_procs::{Core, CoreSnapshot};
 
 /// The executive of one system: what it keeps, how many records its runs may have, and how many its steps have made. No unit of it is
 /// out.
@@ -68,12 +69,24 @@ impl<R: Routine> Exec<R> {
         ensures { IfOk result (λ snapshot. snapshot ≡ self.now) }
     {
         let core = self.engine.core.snapshot()?;
-        Ok(ExecSnapshot::new(
-            core,
-            self.engine.limit,
-            self.engine.taken,
-            self.engine.alloc,
-        ))
+        Ok(ExecSnapshot::new(core, self.engine.limit, self.engine.taken))
+    }
+
+    // Has a state that was put away, of a run with this limit and so many records, in place of its own. If memory runs out, it has a
+    // state without processes.
+    pub(crate) fn restore(
+        &mut self,
+        core: &CoreSnapshot<R>,
+        limit: u32,
+        taken: u32,
+    ) -> Result<(), NoMemory>
+        requires { IsGoing core.now limit taken }
+        ensures { OnOk result (self.new ≡ record { state = core.now; limit = limit; taken = taken }) }
+    {
+        core.restore(&mut self.engine.core)?;
+        self.engine.limit = limit;
+        self.engine.taken = taken;
+        Ok(())
     }
 
     // What it is made of.

@@ -1,15 +1,12 @@
 //! The executive, put away.
 
-ghost use Rattle.std.specs.Prelude.{◌≡◌, ◌↔◌, IfOk, IsTrue};
+ghost use Rattle.std.specs.Prelude.{◌≡◌, ◌↔◌, IsTrue, OnOk};
 ghost use Rattle.vx_procs.specs.Digest.{digest_of};
 ghost use Rattle.vx_exec.specs.Sound.{IsGoing};
 
-use crate::engine::Engine;
 use crate::exec::Exec;
-use std::alloc::Global;
 use std::marker::Model;
 use vx_base::{NoMemory, Routine};
-use vx_io::Rooms;
 use vx_procs::CoreSnapshot;
 
 /// An executive at one moment, in as little room as it takes: what the script says is shared, what was never written takes nothing, and
@@ -20,7 +17,6 @@ pub struct ExecSnapshot<R: Routine> {
     core: CoreSnapshot<R>,
     limit: u32,
     taken: u32,
-    alloc: Global,
 }
 
 impl<R: Routine> Model for ExecSnapshot<R> {
@@ -36,34 +32,18 @@ impl<R: Routine> Model for ExecSnapshot<R> {
 
 impl<R: Routine> ExecSnapshot<R> {
     /// A state of a run that goes on, the limit of the run, and how many records it has.
-    pub(crate) fn new(
-        core: CoreSnapshot<R>,
-        limit: u32,
-        taken: u32,
-        alloc: Global,
-    ) -> ExecSnapshot<R>
+    pub(crate) fn new(core: CoreSnapshot<R>, limit: u32, taken: u32) -> ExecSnapshot<R>
         requires { IsGoing core limit taken }
         ensures { result ≡ record { state = core; limit = limit; taken = taken } }
     {
-        ExecSnapshot {
-            core,
-            limit,
-            taken,
-            alloc,
-        }
+        ExecSnapshot { core, limit, taken }
     }
 
-    /// The executive that was put away.
-    pub fn restore(&self) -> Result<Exec<R>, NoMemory>
-        ensures { IfOk result (λ exec. exec ≡ self.now) }
+    /// Has the executive that was put away in place of another. If memory runs out, the other has no processes any more.
+    pub fn restore(&self, exec: &mut Exec<R>) -> Result<(), NoMemory>
+        ensures { OnOk result (exec.new ≡ self.now) }
     {
-        Ok(Exec::from_engine(Engine {
-            core: self.core.restore()?,
-            limit: self.limit,
-            taken: self.taken,
-            alloc: self.alloc,
-            rooms: Rooms::new(),
-        }))
+        exec.restore(&self.core, self.limit, self.taken)
     }
 
     /// Whether both are in the same state, after as many records and with the same limit. Takes no memory.

@@ -1,10 +1,9 @@
 //! Handlers in as little room as they take.
 
-ghost use Rattle.std.specs.Prelude.{◌≡◌, ◌↔◌, ◌≤◌, IfOk, IsTrue};
+ghost use Rattle.std.specs.Prelude.{◌≡◌, ◌↔◌, ◌≤◌, IsTrue, OnOk};
 
 use crate::declared::Declared;
 use crate::exits::Exits;
-use std::alloc::Global;
 use std::marker::Model;
 use vx_base::{NoMemory, Routine};
 use vx_same::{ReservedSnapshot, same_items};
@@ -24,14 +23,13 @@ impl<R: Routine> Model for ExitsSnapshot<R> {
 }
 
 impl<R: Routine> ExitsSnapshot<R> {
-    /// The same handlers again, each with a routine made from its tag, and as much room or more.
-    pub fn restore(&self, alloc: Global) -> Result<Exits<R>, NoMemory>
-        ensures items { IfOk result (λ exits. exits.items ≡ self.now.items) }
-        ensures room { IfOk result (λ exits. self.now.capacity ≤ exits.capacity) }
+    /// The same handlers in place of others, each with a routine made from its tag, and as much room or more. If memory runs out, the
+    /// others are of no more use.
+    pub fn restore(&self, exits: &mut Exits<R>) -> Result<(), NoMemory>
+        ensures items { OnOk result (exits.new.items ≡ self.now.items) }
+        ensures room { OnOk result (self.now.capacity ≤ exits.new.capacity) }
     {
-        Ok(Exits {
-            items: self.items.restore(alloc)?,
-        })
+        self.items.restore(&mut exits.items)
     }
 
     /// Whether it has the same handlers as another. Takes no memory.

@@ -19,6 +19,7 @@ pub fn explore<M: Machine>(
     first: M,
     limit: u32,
     most: usize,
+    workspace: &mut M::Workspace,
 ) -> Result<Answer<M::Ending>, NoMemory>
     ensures told { IfOk result (IfTold (λ rows.
         rows ≡ summary M.ending_of M.Ending.is_same (shortest_first limit (runs M.enabled M.after limit first)))) }
@@ -39,14 +40,14 @@ pub fn explore<M: Machine>(
         if level.is_empty() {
             return Ok(Answer::Told(rows));
         }
-        tell_all(&mut rows, level.as_slice(), false)?;
-        match next_level(alloc, level.as_slice(), most)? {
+        tell_all(&mut rows, level.as_slice(), false, workspace)?;
+        match next_level(alloc, level.as_slice(), most, workspace)? {
             Some(next) => {
                 level = next;
             }
             None => return Ok(Answer::Cut),
         }
     }
-    tell_all(&mut rows, level.as_slice(), true)?;
+    tell_all(&mut rows, level.as_slice(), true, workspace)?;
     Ok(Answer::Told(rows))
 }

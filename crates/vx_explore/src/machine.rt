@@ -10,6 +10,9 @@ pub trait Machine: Drop {
     /// How its runs end.
     type Ending: Ending;
 
+    /// Memory to work in, which says nothing.
+    type Workspace: Drop;
+
     /// The number of events that are enabled.
     ghost enabled: { Self → ℕ };
 
@@ -27,12 +30,12 @@ pub trait Machine: Drop {
         ensures { result ≡ enabled self.now };
 
     /// The state after the enabled event at a place, from 0.
-    fn take(&self, pick: u32) -> Result<Self, NoMemory>
+    fn take(&self, pick: u32, workspace: &mut Self::Workspace) -> Result<Self, NoMemory>
         requires { pick < enabled self.now }
         ensures { IfOk result (λ next. next ≡ after self.now pick) };
 
     /// How a run ends that stops here.
-    fn ending(&self) -> Result<Self::Ending, NoMemory>
+    fn ending(&self, workspace: &mut Self::Workspace) -> Result<Self::Ending, NoMemory>
         ensures { IfOk result (λ ending. ending ≡ ending_of self.now) };
 
     /// Whether two states are equal. Takes no memory.

@@ -108,6 +108,13 @@ impl Frames {
         Frames { items }
     }
 
+    /// Its frames, the top last.
+    pub(crate) fn into_items(self) -> Reserved<Frame>
+        ensures { reverse result.items ≡ self.items }
+    {
+        self.items
+    }
+
     /// How many frames there are.
     pub fn len(&self) -> usize
         ensures length { result ≡ length self.now.items }

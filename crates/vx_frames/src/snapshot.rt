@@ -1,11 +1,12 @@
 //! Frames in as little room as they take.
 
-ghost use Rattle.std.specs.Prelude.{◌≡◌, ◌↔◌, ◌≤◌, length, IfOk, IsTrue, option_map, reverse};
+ghost use Rattle.std.specs.Prelude.{◌≡◌, ◌↔◌, ◌≤◌, length, IfOk, IsTrue, OnOk, option_map, reverse};
 ghost use Rattle.vx_frames.specs.Frames.{goes_inward, top_of};
 
 use crate::frames::Frames;
 use std::alloc::Global;
 use std::marker::Model;
+use std::mem::replace;
 use vx_base::{Frame, NoMemory, Reserved};
 use vx_same::{ReservedSnapshot, same_items};
 
@@ -44,12 +45,15 @@ impl FramesSnapshot {
         })
     }
 
-    /// The same frames again, with as much room or more.
-    pub fn restore(&self, alloc: Global) -> Result<Frames, NoMemory>
-        ensures items { IfOk result (λ frames. frames.items ≡ self.now.items) }
-        ensures room { IfOk result (λ frames. self.now.capacity ≤ frames.capacity) }
+    /// The same frames in place of others, with as much room or more. If memory runs out, the others are gone.
+    pub fn restore(&self, alloc: Global, frames: &mut Frames) -> Result<(), NoMemory>
+        ensures items { OnOk result (frames.new.items ≡ self.now.items) }
+        ensures room { OnOk result (self.now.capacity ≤ frames.new.capacity) }
     {
-        Ok(Frames::from_items(self.items.restore(alloc)?))
+        let mut items = replace(frames, Frames::new(alloc)).into_items();
+        self.items.restore(&mut items)?;
+        *frames = Frames::from_items(items);
+        Ok(())
     }
 
     /// Whether it has the same frames as another. Takes no memory.

@@ -4,7 +4,7 @@ use Rattle.std.proofs.Common.{◌≡◌, ℕ, zero, suc, ◌-◌, ◌<◌, ◌�
 use Rattle.std.proofs.Math.Seq.{take-suc}
 use Rattle.std.proofs.Math.Nat.{le-max_left, le-max_right}
 use Rattle.std.proofs.lemmas.Slice.{drop-append-drop}
-use Rattle.std.proofs.lemmas.List.{drop-drop, drop-replicate, drop_more, get_or_append_left, length-append, length-replicate, length-set, set-append_left, take-append-drop}
+use Rattle.std.proofs.lemmas.List.{drop-drop, drop-replicate, drop_more, get_or_append_left, length-append, length-replicate, length-set, replicate-append-replicate, set-append_left, take-append-drop}
 use Rattle.vx_base.specs.Lists.{overlaid}
 use Rattle.vx_base.specs.Roomy.{Roomy, with_items}
 use Rattle.vx_base.specs.Pieces.{Status, cleared}
@@ -77,6 +77,12 @@ next_same xs ys k few_a few_b lt front same =
 
 pub page_laid : (piece blank page : List ℕ) → blank ≡ replicate 2048 0 → page ≡ overlaid piece blank → page ≡ page_of piece
 page_laid piece blank page zeros put = put ∙ (ap (λ (ys : List ℕ). overlaid piece ys) zeros ∙ laid 2048 0 piece)
+
+-- zeros in front of zeros
+pub zeros_all : (bytes cleared : List ℕ) (w : ℕ) → w ≤ 2048 → drop w bytes ≡ replicate (2048 - w) 0 → cleared ≡ replicate w 0 ++ drop w bytes → cleared ≡ replicate 2048 0
+zeros_all bytes cleared w within behind is =
+    let whole : w + (2048 - w) ≡ 2048 = omega (arith, within) in
+    is ∙ (ap (λ (ys : List ℕ). replicate w 0 ++ ys) behind ∙ (replicate-append-replicate w (2048 - w) 0 ∙ ap (λ (n : ℕ). replicate n 0) whole))
 
 pub page_front : (bytes : List ℕ) (k : ℕ) → length bytes ≡ 2048 → k ≤ 2048 → drop k bytes ≡ replicate (2048 - k) 0 → page_of (take k bytes) ≡ bytes
 page_front bytes k size within behind = front 2048 0 bytes k size within behind

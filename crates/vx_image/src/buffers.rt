@@ -98,6 +98,39 @@ impl Model for BuffersSnapshot {
     ghost invariant = { λ s. length s.pages.items ≤ 32 };
 }
 
+// Leaves so many pages at most.
+fn shrink(pages: &mut Reserved<Page>, n: usize)
+    ensures few { length pages.new.items ≤ n }
+    ensures room { pages.new.capacity ≡ pages.old.capacity }
+{
+    while pages.len() > n {
+        let _gone = pages.pop();
+    }
+}
+
+// Has so many pages, of which some are there. Takes no memory.
+fn grow(pages: &mut Reserved<Page>, n: usize)
+    requires there { length pages.old.items ≤ n }
+    requires room { n ≤ pages.old.capacity }
+    ensures len { length pages.new.items ≡ n }
+    ensures room { pages.new.capacity ≡ pages.old.capacity }
+{
+    while pages.len() < n {
+        pages.put(Page::new());
+    }
+}
+
+// Has pages hold what was put away, one by one. Takes no memory.
+fn restore_pages(pages: &mut Reserved<Page>, kept: &[PageSnapshot])
+    requires { length pages.old.items ≡ length kept.now }
+    ensures pages { pages.new.items ≡ kept.now }
+    ensures room { pages.new.capacity ≡ pages.old.capacity }
+{
+    for (i, page) in kept.iter().enumerate() {
+        page.restore(pages.at_mut(i));
+    }
+}
+
 impl BuffersSnapshot {
     /// Buffers put away.
     pub(crate) fn of(alloc: Global, buffers: &Buffers) -> Result<BuffersSnapshot, NoMemory>
@@ -112,16 +145,14 @@ impl BuffersSnapshot {
         Ok(BuffersSnapshot { pages })
     }
 
-    /// The buffers. It takes as much memory as `Buffers::new`.
-    pub(crate) fn restore(&self, alloc: Global) -> Result<Buffers, NoMemory>
-        ensures { IfOk result (λ buffers. buffers ≡ self.now) }
+    /// The buffers, in place of others. Takes no memory.
+    pub(crate) fn restore(&self, buffers: &mut Buffers)
+        ensures { buffers.new ≡ self.now }
     {
-        let mut pages = Reserved::new(alloc);
-        pages.reserve(BUFFERS as u32)?;
-        for page in &self.pages {
-            pages.put(page.page());
-        }
-        Ok(Buffers { pages })
+        let n = self.pages.len();
+        shrink(&mut buffers.pages, n);
+        grow(&mut buffers.pages, n);
+        restore_pages(&mut buffers.pages, self.pages.as_slice());
     }
 
     // The bytes of a buffer up to the last that was ever written.

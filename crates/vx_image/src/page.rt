@@ -1,6 +1,6 @@
 //! A buffer of a process.
 
-ghost use Rattle.std.specs.Prelude.{◌≡◌, ◌↔◌, ◌≤◌, length, replicate, IfOk, IsTrue};
+ghost use Rattle.std.specs.Prelude.{◌≡◌, ◌↔◌, ◌≤◌, ◌++◌, drop, length, replicate, IfOk, IsTrue};
 ghost use Rattle.vx_base.specs.Lists.{overlaid};
 ghost use Rattle.vx_image.specs.Filled.{page_of};
 
@@ -43,6 +43,14 @@ fn lay_over(bytes: &mut [u8], piece: &[u8])
     bytes[..piece.len()].copy_from_slice(piece);
 }
 
+// Clears so many of the first bytes.
+fn clear_front(bytes: &mut [u8], count: usize)
+    requires { count ≤ length bytes.old }
+    ensures { bytes.new ≡ replicate count 0 ++ drop count bytes.old }
+{
+    bytes[..count].fill(0);
+}
+
 impl Page {
     /// All bytes zero.
     pub(crate) fn new() -> Page
@@ -80,6 +88,25 @@ impl Page {
         ensures few { length result.now ≤ 2048 }
     {
         &self.bytes[..self.written]
+    }
+
+    // Clears all bytes.
+    #[tactic(auto, using(crate::proofs::Filled::zeros_all))]
+    fn clear(&mut self)
+        ensures { self.new ≡ replicate 2048 0 }
+    {
+        clear_front(&mut self.bytes, self.written);
+        self.written = 0;
+    }
+
+    /// Has these bytes, and zeros behind them.
+    #[tactic(auto, using(crate::proofs::Filled::page_laid))]
+    pub(crate) fn fill(&mut self, bytes: &[u8])
+        requires { length bytes.now ≤ 2048 }
+        ensures { self.new ≡ page_of bytes.now }
+    {
+        self.clear();
+        self.overlay(bytes);
     }
 
     /// Puts a piece over its start.
@@ -123,7 +150,7 @@ pub(crate) fn same_page(a: &[u8], b: &[u8]) -> bool
     requires there { length b.now ≤ 2048 }
     ensures { IsTrue result ↔ (page_of a.now ≡ page_of b.now) }
 {
-    same_bytes(a, b) || same_bytes(Page::of(a).bytes(), Page::of(b).bytes())
+    same_bytes(a, b) || (a.len() != b.len() && same_bytes(Page::of(a).bytes(), Page::of(b).bytes()))
 }
 
 impl PageSnapshot {
@@ -136,11 +163,11 @@ impl PageSnapshot {
         Ok(PageSnapshot { bytes })
     }
 
-    /// The buffer. Takes no memory.
-    pub(crate) fn page(&self) -> Page
-        ensures { result ≡ self.now }
+    /// The buffer, in place of another. Takes no memory.
+    pub(crate) fn restore(&self, page: &mut Page)
+        ensures { page.new ≡ self.now }
     {
-        Page::of(&self.bytes)
+        page.fill(&self.bytes);
     }
 
     /// Its bytes up to the last that was ever written.

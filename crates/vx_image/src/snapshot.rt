@@ -64,16 +64,14 @@ impl Store {
 }
 
 impl StoreSnapshot {
-    /// What was put away, with room for all buffers. It takes as much memory as `Store::new`.
-    pub fn restore(&self, alloc: Global) -> Result<Store, NoMemory>
-        ensures { IfOk result (λ store. store ≡ self.now) }
+    /// What was put away, in place of what another process stores. Takes no memory.
+    pub fn restore(&self, store: &mut Store)
+        ensures { store.new ≡ self.now }
     {
-        Ok(Store {
-            vars: self.vars,
-            r0: self.r0,
-            buffers: self.buffers.restore(alloc)?,
-            statuses: self.statuses.restore(),
-        })
+        store.vars = self.vars;
+        store.r0 = self.r0;
+        self.buffers.restore(&mut store.buffers);
+        store.statuses = self.statuses.restore();
     }
 
     /// Whether the same is stored. Takes no memory.

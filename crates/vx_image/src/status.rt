@@ -149,7 +149,7 @@ impl StatusesSnapshot {
     pub(crate) fn same(&self, other: &StatusesSnapshot) -> bool
         ensures { IsTrue result ↔ (self.now ≡ other.now) }
     {
-        same_blocks(&self.restore(), &other.restore())
+        same_blocks(&self.blocks, &other.blocks) || same_blocks(&self.restore(), &other.restore())
     }
 
     /// A digest with the numbers of the blocks. Takes no memory.

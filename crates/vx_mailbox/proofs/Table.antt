@@ -1,7 +1,7 @@
 -- The mailboxes of the table, as one place changes.
-use Rattle.std.proofs.Common.{◌≡◌, ◌≢◌, ℕ, ◌+◌, ◌<◌, ◌≤◌, List, [], ◌∷◌, Bool, true, cond, not, Option, Some, None, IfSome, IsTrue, is_some, is_none, option_map, length, map, position, slice_index_or, slice_set, inl, inr, refl, ap, sym, subst, arith, ◌∙◌}
+use Rattle.std.proofs.Common.{◌≡◌, ◌≢◌, ℕ, zero, suc, replicate, ◌-◌, ◌+◌, ◌<◌, ◌≤◌, List, [], ◌∷◌, Bool, true, cond, not, Option, Some, None, IfSome, IsTrue, is_some, is_none, option_map, length, map, position, slice_index_or, slice_set, take, ◌++◌, inl, inr, refl, ap, sym, subst, arith, ◌∙◌}
 use Rattle.std.specs.List.{position_or_len}
-use Rattle.std.proofs.lemmas.List.{get_or-map, get_or_past, get_or-set_same, get_or-set_other, length-map, length-set, map-set}
+use Rattle.std.proofs.lemmas.List.{get_or-map, get_or_past, get_or-set_same, get_or-set_other, length-map, length-set, map-set, take_all, take_more, take_more_set}
 use Rattle.std.proofs.lemmas.Bool.{cases_eq, cases_lt, false≢true}
 use Rattle.std.proofs.lemmas.List.Quantifiers.{position-Some}
 use Rattle.std.proofs.Math.Seq.{map-set_same}
@@ -125,3 +125,39 @@ table_full places short new t room b lt =
       | inr other ↦ subst HasRoomFor (sym (get_or-set_other places short b.0 new no_place other)) (t.rooms b.0 lt other)
     ] in
     room_of after b.0 (omega (arith, lt, t.count, length-set places short new)) full
+
+-- where there is room in each, any place may be the one that is named as short of it
+pub table_any : (places : List Place) (short i : ℕ) (k : Boxes) → table_of places ≡ k → IsTable places short → HaveRoom k.boxes k.rooms → i < 64 → IsTable places i
+table_any places short i k view t rooms within =
+    let old : HaveRoom (map box_at places) (map room_at places) = subst (λ (x : Boxes). HaveRoom x.boxes x.rooms) (sym view) rooms in
+    record {
+      count = t.count;
+      within = within;
+      rooms = λ j lt _. room_in places j (omega (arith, lt, t.count)) (old (record { 0 = j }) lt);
+    }
+
+-- the mailboxes as one place has another
+pub boxes_set : (places : List Place) (i : ℕ) (k : Boxes) (new : Place) → table_of places ≡ k → map box_at (slice_set places i new) ≡ slice_set k.boxes i new.box
+boxes_set places i k new view = map-set box_at places i new ∙ ap (λ (x : Boxes). slice_set x.boxes i new.box) view
+
+-- one mailbox more is as it was put away
+pub same_more : (xs ys : List (Option Mailbox)) (i : ℕ) → i < length xs → i < length ys → take i xs ≡ take i ys → take (i + 1) (slice_set xs i (slice_index_or ys i None)) ≡ take (i + 1) ys
+same_more xs ys i here there front =
+    take_more_set xs i (slice_index_or ys i None) here
+    ∙ (ap (λ (zs : List (Option Mailbox)). zs ++ slice_index_or ys i None ∷ []) front
+    ∙ sym (take_more ys i None there))
+
+-- and so are all
+pub same_all : (xs ys : List (Option Mailbox)) (n : ℕ) → length xs ≤ n → length ys ≤ n → take n xs ≡ take n ys → xs ≡ ys
+same_all xs ys n here there front = sym (take_all n xs here) ∙ (front ∙ take_all n ys there)
+
+none_at : {A : Type 0} (k i : ℕ) → slice_index_or (replicate {A = Option A} k None) i None ≡ None
+none_at zero i = refl
+none_at (suc k) zero = refl
+none_at {A} (suc k) (suc i) = none_at {A = A} k i
+
+-- behind those that are given there is none
+pub filled_at : {A : Type 0} (xs : List (Option A)) (k i : ℕ) → slice_index_or (xs ++ replicate k None) i None ≡ slice_index_or xs i None
+filled_at {A} [] k i = none_at {A = A} k i
+filled_at (x ∷ xs) k zero = refl
+filled_at (x ∷ xs) k (suc i) = filled_at xs k i

@@ -66,14 +66,13 @@ impl<R: Routine> Model for AttentionsSnapshot<R> {
 }
 
 impl<R: Routine> AttentionsSnapshot<R> {
-    /// The same entries again, each with a routine made from its tag, and as much room or more.
-    pub fn restore(&self, alloc: Global) -> Result<Attentions<R>, NoMemory>
-        ensures items { IfOk result (λ entries. entries.items ≡ self.now.items) }
-        ensures room { IfOk result (λ entries. self.now.capacity ≤ entries.capacity) }
+    /// The same entries in place of others, each with a routine made from its tag, and as much room or more. If memory runs out, the
+    /// others are of no more use.
+    pub fn restore(&self, attentions: &mut Attentions<R>) -> Result<(), NoMemory>
+        ensures items { OnOk result (attentions.new.items ≡ self.now.items) }
+        ensures room { OnOk result (self.now.capacity ≤ attentions.new.capacity) }
     {
-        Ok(Attentions {
-            entries: self.entries.restore(alloc)?,
-        })
+        self.entries.restore(&mut attentions.entries)
     }
 
     /// Whether there are the same entries, in the same order. Takes no memory.

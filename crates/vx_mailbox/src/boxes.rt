@@ -1,14 +1,16 @@
 //! The mailboxes by number.
 
-ghost use Rattle.std.specs.Prelude.{◌≡◌, ◌<◌, ◌++◌, ◌+◌, ◌∷◌, ◌==◌, [], false, true, not, IfOk, IfSome, None, OnOk, Some, is_none, length, map, nat_le, option_map, position, replicate, slice_index_or};
+ghost use Rattle.std.specs.Prelude.{◌≡◌, ◌<◌, ◌≤◌, ◌++◌, ◌+◌, ◌∷◌, ◌==◌, [], false, true, not, IfOk, IfSome, None, OnOk, Some, is_none, length, map, nat_le, option_map, position, replicate, slice_index_or, slice_set};
 ghost use Rattle.std.specs.List.{AllByRecursion, find, list_any};
 ghost use Rattle.vx_base.specs.Lists.{first, less};
 ghost use Rattle.vx_base.specs.Queues.{stored_bytes};
 ghost use Rattle.vx_mailbox.specs.Boxes.{HaveRoom, IsShort, StandsIn, box_in, holding, with_box_in};
 ghost use Rattle.vx_mailbox.specs.Places.{HasRoomFor, box_at, table_of};
+ghost use Rattle.vx_same.specs.Trimmed.{filled_to};
 ghost use Rattle.vx_record.specs.Channels.{is_box_of};
 ghost use Rattle.vx_record.specs.Mailboxes.{this_message};
 
+use crate::mailbox::MailboxSnapshot;
 use crate::place::BoxPlace;
 use crate::snapshot::BoxesSnapshot;
 use std::alloc::Global;
@@ -77,6 +79,24 @@ fn number_of(place: Option<usize>) -> Option<BoxNo>
     }
 }
 
+// Has a mailbox at the place of a number as it was put away, or none.
+fn restore_place(
+    place: &mut BoxPlace,
+    number: usize,
+    boxes: &[Option<MailboxSnapshot>],
+) -> Result<(), NoMemory>
+    ensures mailbox { OnOk result (place.new.box ≡ slice_index_or boxes.now number None) }
+    ensures room { OnOk result (HasRoomFor place.new) }
+{
+    match boxes.get(number) {
+        Some(Some(mailbox)) => mailbox.restore(place),
+        _ => {
+            place.remove();
+            Ok(())
+        }
+    }
+}
+
 impl Boxes {
     /// No mailboxes.
     pub fn new(alloc: Global) -> Result<Boxes, NoMemory>
@@ -94,6 +114,34 @@ impl Boxes {
         ensures { result ≡ table_of places.items }
     {
         Boxes { places, short: 0 }
+    }
+
+    // Has a mailbox at a place from 0 to 63 as it was put away, or none.
+    fn restore_at(
+        &mut self,
+        place: usize,
+        boxes: &[Option<MailboxSnapshot>],
+    ) -> Result<(), NoMemory>
+        requires within { place < 64 }
+        requires room { HaveRoom self.old.boxes self.old.rooms }
+        ensures mailbox { OnOk result (self.new.boxes ≡ slice_set self.old.boxes place (slice_index_or boxes.now place None)) }
+        ensures room { OnOk result (HaveRoom self.new.boxes self.new.rooms) }
+        ensures count { OnOk result (length self.new.boxes ≡ 64) }
+    {
+        self.short = place;
+        restore_place(&mut self.places[place], place, boxes)
+    }
+
+    /// Has the first mailboxes as they were put away, with room for a message more in each, and no other.
+    pub(crate) fn restore(&mut self, boxes: &[Option<MailboxSnapshot>]) -> Result<(), NoMemory>
+        requires { length boxes.now ≤ 64 }
+        ensures { OnOk result (self.new.boxes ≡ filled_to 64 None boxes.now) }
+    {
+        self.reserve()?;
+        for place in 0..PLACES {
+            self.restore_at(place, boxes)?;
+        }
+        Ok(())
     }
 
     /// The mailboxes and their messages, in as little room as they take.

@@ -1,6 +1,6 @@
 //! One mailbox in as little room as it takes.
 
-ghost use Rattle.std.specs.Prelude.{◌≡◌, IfOk, Some};
+ghost use Rattle.std.specs.Prelude.{◌≡◌, IfOk, OnOk, Some};
 ghost use Rattle.std.specs.List.{AllByRecursion};
 ghost use Rattle.vx_mailbox.specs.Boxes.{IsShort};
 ghost use Rattle.vx_mailbox.specs.Digest.{mix_messages};
@@ -8,7 +8,6 @@ ghost use Rattle.vx_mailbox.specs.Heads.{mailbox_of};
 ghost use Rattle.vx_mailbox.specs.Places.{HasRoomFor};
 
 use crate::message::{duplicate_messages, mix_messages, same_messages};
-use crate::messages::Messages;
 use crate::place::{BoxPlace, Head};
 use std::alloc::Global;
 use std::marker::Model;
@@ -50,13 +49,12 @@ impl MailboxSnapshot {
         })
     }
 
-    /// The same mailbox again, with room for a message more.
-    pub(crate) fn restore(&self, alloc: Global) -> Result<BoxPlace, NoMemory>
-        ensures same { IfOk result (λ place. place.box ≡ Some self.now) }
-        ensures room { IfOk result HasRoomFor }
+    /// Has the same mailbox at a place, with room for a message more.
+    pub(crate) fn restore(&self, place: &mut BoxPlace) -> Result<(), NoMemory>
+        ensures same { OnOk result (place.new.box ≡ Some self.now) }
+        ensures room { OnOk result (HasRoomFor place.new) }
     {
-        let messages = Messages::restored(alloc, self.messages.as_slice())?;
-        Ok(BoxPlace::with(self.head, messages))
+        place.restore(self.head, self.messages.as_slice())
     }
 
     /// A digest with what it stores. Takes no memory.

@@ -1,6 +1,6 @@
 //! The messages of a mailbox, with a count of their bytes.
 
-ghost use Rattle.std.specs.Prelude.{◌≡◌, ℕ, ◌+◌, ◌<◌, ◌≤◌, ◌++◌, ◌∷◌, [], IfOk, IfSome, OnOk, length, nat_le, option_map, position};
+ghost use Rattle.std.specs.Prelude.{◌≡◌, ℕ, ◌+◌, ◌<◌, ◌≤◌, ◌++◌, ◌∷◌, [], IfSome, OnOk, length, nat_le, option_map, position};
 ghost use Rattle.std.specs.List.{AllByRecursion, find, list_any};
 ghost use Rattle.vx_base.specs.Lists.{first, less};
 ghost use Rattle.vx_base.specs.Queues.{body_bytes, stored_bytes};
@@ -85,15 +85,6 @@ fn place_of(messages: &[Msg], id: Id) -> Option<usize>
     messages.iter().position(|m| m.id.0 == id.0)
 }
 
-// Takes all messages out.
-fn take_all(messages: &mut Reserved<Msg>)
-    ensures { messages.new ≡ with_items messages.old [] }
-{
-    'messages: while let Some(_) = messages.pop() {
-        continue 'messages;
-    }
-}
-
 impl Messages {
     /// No messages. Takes no memory.
     pub(crate) fn new(alloc: Global) -> Messages
@@ -105,19 +96,18 @@ impl Messages {
         }
     }
 
-    /// The messages of a list again, with room for one more.
-    pub(crate) fn restored(alloc: Global, messages: &[Msg]) -> Result<Messages, NoMemory>
+    /// Has the messages of a list in place of its own, with room for one more. If memory runs out, it has some of them.
+    pub(crate) fn restore(&mut self, messages: &[Msg]) -> Result<(), NoMemory>
         requires { AllByRecursion IsShort messages.now }
-        ensures items { IfOk result (λ copy. copy.items ≡ messages.now) }
-        ensures room { IfOk result (λ copy. HasSpace copy 1) }
+        ensures items { OnOk result (self.new.items ≡ messages.now) }
+        ensures room { OnOk result (HasSpace self.new 1) }
     {
-        let mut copy = Messages::new(alloc);
+        self.clear();
         for msg in messages {
-            copy.reserve()?;
-            copy.put(duplicate_message(msg)?);
+            self.reserve()?;
+            self.put(duplicate_message(msg)?);
         }
-        copy.reserve()?;
-        Ok(copy)
+        self.reserve()
     }
 
     /// Makes room for a message more. Refused or not, the messages stay.
@@ -191,7 +181,7 @@ impl Messages {
     pub(crate) fn clear(&mut self)
         ensures { self.new ≡ with_items self.old [] }
     {
-        take_all(&mut self.items);
+        self.items.clear();
         self.bytes = Some(0);
     }
 }

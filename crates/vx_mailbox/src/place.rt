@@ -1,7 +1,7 @@
 //! The place of a mailbox: one number of the table.
 
 ghost use Rattle.std.specs.Prelude.{◌≡◌, ◌+◌, ◌≤◌, ◌++◌, ◌∷◌, ◌==◌, [], false, true, not, IfOk, IfSome, IsTrue, None, OnOk, Some, is_none, is_some, length, nat_le, option_map};
-ghost use Rattle.std.specs.List.{find, list_any};
+ghost use Rattle.std.specs.List.{AllByRecursion, find, list_any};
 ghost use Rattle.vx_base.specs.Lists.{first, less};
 ghost use Rattle.vx_base.specs.Queues.{stored_bytes};
 ghost use Rattle.vx_mailbox.specs.Boxes.{IsShort, holding};
@@ -57,16 +57,6 @@ impl BoxPlace {
         }
     }
 
-    /// The place of a mailbox in the room of its messages. Takes no memory.
-    pub(crate) fn with(head: Head, messages: Messages) -> BoxPlace
-        ensures { result ≡ record { box = Some (mailbox_of head messages.items); room = messages.capacity } }
-    {
-        BoxPlace {
-            head: Some(head),
-            messages,
-        }
-    }
-
     /// Its mailbox, with its messages in room for exactly these; or none, and no memory is taken.
     pub(crate) fn snapshot(&self, alloc: Global) -> Result<Option<MailboxSnapshot>, NoMemory>
         ensures { IfOk result (λ s. s ≡ self.now.box) }
@@ -75,6 +65,17 @@ impl BoxPlace {
             Some(head) => Ok(Some(MailboxSnapshot::new(alloc, head, self.messages.as_slice())?)),
             None => Ok(None),
         }
+    }
+
+    /// Has a mailbox of this head with these messages in place of its own, with room for a message more. If memory runs out, the mailbox has
+    /// some of them.
+    pub(crate) fn restore(&mut self, head: Head, messages: &[Msg]) -> Result<(), NoMemory>
+        requires { AllByRecursion IsShort messages.now }
+        ensures mailbox { OnOk result (self.new.box ≡ Some (mailbox_of head messages.now)) }
+        ensures room { OnOk result (HasRoomFor self.new) }
+    {
+        self.head = Some(head);
+        self.messages.restore(messages)
     }
 
     /// Makes room for a message more. Refused or not, the mailbox stays.

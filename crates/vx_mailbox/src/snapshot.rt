@@ -1,12 +1,11 @@
 //! The mailboxes in as little room as they take.
 
-ghost use Rattle.std.specs.Prelude.{◌≡◌, ◌↔◌, ◌∷◌, [], IfOk, IsTrue, length, map};
-ghost use Rattle.std.specs.List.{AllByRecursion};
+ghost use Rattle.std.specs.Prelude.{◌≡◌, ◌↔◌, ◌∷◌, [], IfOk, IsTrue, OnOk, length, map};
 ghost use Rattle.vx_mailbox.specs.Digest.{mix_boxes};
-ghost use Rattle.vx_mailbox.specs.Places.{HasRoomFor, box_at};
+ghost use Rattle.vx_mailbox.specs.Places.{box_at};
 ghost use Rattle.vx_same.specs.Trimmed.{trimmed};
 
-use crate::boxes::{Boxes, PLACES, add_free};
+use crate::boxes::Boxes;
 use crate::mailbox::MailboxSnapshot;
 use crate::place::BoxPlace;
 use std::alloc::Global;
@@ -59,32 +58,6 @@ fn put_away(alloc: Global, places: &[BoxPlace]) -> Result<Vec<Option<MailboxSnap
     Ok(boxes)
 }
 
-// The place of a mailbox, with room for a message more, or of none.
-fn restored(alloc: Global, mailbox: &Option<MailboxSnapshot>) -> Result<BoxPlace, NoMemory>
-    ensures same { IfOk result (λ place. place.box ≡ mailbox.now) }
-    ensures room { IfOk result HasRoomFor }
-{
-    match mailbox {
-        Some(mailbox) => mailbox.restore(alloc),
-        None => Ok(BoxPlace::new(alloc)),
-    }
-}
-
-// The places of mailboxes, each with room for a message more, and room for all 64.
-fn restored_places(
-    alloc: Global,
-    boxes: &[Option<MailboxSnapshot>],
-) -> Result<Vec<BoxPlace>, NoMemory>
-    ensures boxes { IfOk result (λ places. map box_at places.items ≡ boxes.now) }
-    ensures rooms { IfOk result (λ places. AllByRecursion HasRoomFor places.items) }
-{
-    let mut places = Vec::with_capacity(alloc, PLACES)?;
-    for mailbox in boxes {
-        places.push(restored(alloc, mailbox)?)?;
-    }
-    Ok(places)
-}
-
 // A digest with what a mailbox stores, if there is one.
 fn mix_mailbox(digest: u64, mailbox: &Option<MailboxSnapshot>) -> u64
     ensures { result ≡ mix_boxes digest (mailbox.now ∷ []) }
@@ -118,14 +91,11 @@ impl BoxesSnapshot {
         })
     }
 
-    /// The same mailboxes again, with room for a message more in each.
-    pub fn restore(&self, alloc: Global) -> Result<Boxes, NoMemory>
-        ensures { IfOk result (λ b. b.boxes ≡ self.now) }
+    /// The same mailboxes in place of others, with room for a message more in each. If memory runs out, some of them are there.
+    pub fn restore(&self, boxes: &mut Boxes) -> Result<(), NoMemory>
+        ensures { OnOk result (boxes.new.boxes ≡ self.now) }
     {
-        let mut places = restored_places(alloc, self.boxes.as_slice())?;
-        let free = PLACES - places.len();
-        add_free(alloc, &mut places, free)?;
-        Ok(Boxes::from_places(places))
+        boxes.restore(self.boxes.as_slice())
     }
 
     /// Whether there are the same mailboxes, with the same messages. Takes no memory.

@@ -1,5 +1,9 @@
 -- What is put away and brought back holds what was held.
 use Rattle.std.proofs.Common.{◌≡◌, ℕ, zero, suc, ◌+◌, ◌<◌, List, [], ◌∷◌, ◌++◌, length, map, slice_index_or, take, Option, None, ap, subst, sym, ◌∙◌, refl, arith}
+use Rattle.std.specs.Prelude.{IsOk, OnOk}
+use Rattle.std.specs.declared.result.Result.{Result}
+use Rattle.std.specs.declared.result.Result.TheVariants.{Ok, Err}
+use Rattle.std.proofs.lemmas.Bool.{true≢false}
 use Rattle.std.proofs.lemmas.List.{map-append, map_more}
 use Rattle.vx_base.specs.Clusters.{Common}
 use Rattle.vx_base.specs.Pieces.{Attention, DeviceUnit, Mailbox, Request, Timer}
@@ -91,3 +95,8 @@ same_state s t system time next procs common requests timers attention boxes uni
     ∙ (ap (λ (x : List Attention). let r : State = record s { attention = x; boxes = t.boxes; units = t.units } in r) attention
     ∙ (ap (λ (x : List (Option Mailbox)). let r : State = record s { boxes = x; units = t.units } in r) boxes
     ∙ ap (λ (x : List DeviceUnit). let r : State = record s { units = x } in r) units))))))))
+
+-- what holds on success, where there is success
+pub when_ok : {T E : Type 0} (r : Result T E) (P : Type 0) → IsOk r → OnOk r P → P
+when_ok (Ok x) P ok h = h
+when_ok (Err y) P ok h = absurd (true≢false (sym ok))

@@ -4,6 +4,7 @@ pub mod Cells
 pub mod Channels
 pub mod Counts
 pub mod Digest
+pub mod Emptied
 pub mod Fresh
 pub mod Handlers
 pub mod Held

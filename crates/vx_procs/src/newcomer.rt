@@ -11,7 +11,7 @@ use crate::process::Proc;
 use std::alloc::Global;
 use std::marker::Model;
 use vx_ast::AstQueue;
-use vx_base::{Frame, FrameKind, Mode, NoMemory, Phase, Routine};
+use vx_base::{Frame, FrameKind, Mode, NoMemory, Phase, Privs, Routine};
 use vx_chans::Chans;
 use vx_exits::Exits;
 use vx_flags::Flags;
@@ -129,6 +129,40 @@ impl<R: Routine> Newcomer<R> {
 }
 
 impl<R: Routine> Proc<R> {
+    /// A process with these privileges and this account, of which all else is still to be said.
+    pub(crate) fn unsaid(
+        alloc: Global,
+        privs: Privs,
+        account: Account,
+    ) -> Result<Proc<R>, NoMemory> {
+        let Newcomer {
+            store,
+            frames,
+            asts,
+            chans,
+            exits,
+        } = Newcomer::new(alloc)?;
+        Ok(Proc {
+            decl: 0,
+            group: 0,
+            member: 0,
+            privs,
+            store,
+            frames,
+            asts,
+            chans,
+            exits,
+            cluster_0: Flags::new(),
+            cluster_1: Flags::new(),
+            wake_pending: false,
+            suspended: false,
+            delete_pending: false,
+            exit_code: 0,
+            phase: Phase::Alive,
+            account,
+        })
+    }
+
     /// A process of the declaration at a place, before its first statement.
     pub(crate) fn created(alloc: Global, place: u32, decl: &ProcDecl) -> Result<Proc<R>, NoMemory>
         ensures process { IfOk result (λ proc. process proc ≡ born_of place decl.now) }

@@ -1,6 +1,6 @@
 //! One process, put away.
 
-ghost use Rattle.std.specs.Prelude.{◌≡◌, IfOk};
+ghost use Rattle.std.specs.Prelude.{◌≡◌, IfOk, OnOk};
 ghost use Rattle.vx_procs.specs.Kernel.{IsWithinRoom};
 ghost use Rattle.vx_procs.specs.Snapshots.{process_in, room_in};
 ghost use Rattle.vx_procs.specs.View.{process, room_of};
@@ -76,38 +76,30 @@ impl<R: Routine> Proc<R> {
 }
 
 impl<R: Routine> ProcSnapshot<R> {
-    /// The process that was put away, each of its routines made from its tag, with as much room or more.
-    pub(crate) fn restore(&self, alloc: Global) -> Result<Proc<R>, NoMemory>
-        ensures process { IfOk result (λ proc. process proc ≡ process_in self.now) }
-        ensures room { IfOk result (λ proc. IsWithinRoom (room_in self.now) (room_of proc)) }
-        ensures account { IfOk result (λ proc. proc.account ≡ self.now.account) }
+    /// The process that was put away in place of another, each of its routines made from its tag, with as much room or more. If memory
+    /// runs out, the other is of no more use.
+    pub(crate) fn restore(&self, alloc: Global, proc: &mut Proc<R>) -> Result<(), NoMemory>
+        ensures process { OnOk result (process proc.new ≡ process_in self.now) }
+        ensures room { OnOk result (IsWithinRoom (room_in self.now) (room_of proc.new)) }
+        ensures account { OnOk result (proc.new.account ≡ self.now.account) }
     {
-        let cluster_0 = self.cluster_0.duplicate()?;
-        let cluster_1 = self.cluster_1.duplicate()?;
-        let account = self.account.duplicate()?;
-        let frames = self.frames.restore(alloc)?;
-        let asts = self.asts.restore(alloc)?;
-        let chans = self.chans.restore(alloc)?;
-        let exits = self.exits.restore(alloc)?;
-        let store = self.store.restore(alloc)?;
-        Ok(Proc {
-            decl: self.decl,
-            group: self.group,
-            member: self.member,
-            privs: self.privs,
-            store,
-            frames,
-            asts,
-            chans,
-            exits,
-            cluster_0,
-            cluster_1,
-            wake_pending: self.wake_pending,
-            suspended: self.suspended,
-            delete_pending: self.delete_pending,
-            exit_code: self.exit_code,
-            phase: self.phase,
-            account,
-        })
+        self.frames.restore(alloc, &mut proc.frames)?;
+        self.asts.restore(&mut proc.asts)?;
+        self.exits.restore(&mut proc.exits)?;
+        self.chans.restore(&mut proc.chans);
+        self.store.restore(&mut proc.store);
+        proc.cluster_0 = self.cluster_0.duplicate()?;
+        proc.cluster_1 = self.cluster_1.duplicate()?;
+        proc.account = self.account.duplicate()?;
+        proc.decl = self.decl;
+        proc.group = self.group;
+        proc.member = self.member;
+        proc.privs = self.privs;
+        proc.wake_pending = self.wake_pending;
+        proc.suspended = self.suspended;
+        proc.delete_pending = self.delete_pending;
+        proc.exit_code = self.exit_code;
+        proc.phase = self.phase;
+        Ok(())
     }
 }

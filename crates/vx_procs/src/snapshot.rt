@@ -1,7 +1,8 @@
 //! The executive's state, put away.
 
-ghost use Rattle.std.specs.Prelude.{◌≡◌, [], IfOk, map};
+ghost use Rattle.std.specs.Prelude.{◌≡◌, [], IfOk, IsOk, Ok, OnErr, OnOk, map};
 ghost use Rattle.std.specs.List.{AllByRecursion};
+ghost use Rattle.vx_procs.specs.Emptied.{IsEmptied};
 ghost use Rattle.vx_procs.specs.Again.{AreWider, asked_in, stand_in};
 ghost use Rattle.vx_procs.specs.Kernel.{AreIn};
 ghost use Rattle.vx_procs.specs.Snapshots.{books_in, process_in};
@@ -17,8 +18,8 @@ use crate::table::Procs;
 use std::alloc::Global;
 use std::marker::Model;
 use vx_base::{Effects, NoMemory, Pid, Routine};
-use vx_clusters::ClustersSnapshot;
-use vx_mailbox::{AttentionsSnapshot, BoxesSnapshot};
+use vx_clusters::{Clusters, ClustersSnapshot};
+use vx_mailbox::{Attentions, AttentionsSnapshot, Boxes, BoxesSnapshot};
 use vx_reqs::{Reqs, ReqsSnapshot};
 use vx_timers::{Timers, TimersSnapshot};
 
@@ -66,18 +67,6 @@ fn put_away<R: Routine>(alloc: Global, procs: &[Proc<R>]) -> Result<Vec<ProcSnap
     Ok(copy)
 }
 
-// The processes that were put away.
-fn restore_procs<R: Routine>(alloc: Global, procs: &[ProcSnapshot<R>]) -> Result<Procs<R>, NoMemory>
-    ensures procs { IfOk result (λ copy. map process copy.items ≡ map process_in procs.now) }
-    ensures books { IfOk result (λ copy. AreWider (map books_in procs.now) (map books_of copy.items)) }
-{
-    let mut copy = Vec::new(alloc);
-    for proc in procs {
-        copy.push(proc.restore(alloc)?)?;
-    }
-    Ok(Procs::new(alloc, copy))
-}
-
 // The same units again.
 #[tactic(auto, using(crate::proofs::Inside::in_there))]
 fn duplicate_units(alloc: Global, units: &[KeptUnit]) -> Result<Vec<KeptUnit>, NoMemory>
@@ -93,6 +82,60 @@ fn duplicate_units(alloc: Global, units: &[KeptUnit]) -> Result<Vec<KeptUnit>, N
     Ok(copy)
 }
 
+// The same system and units again.
+#[tactic(auto, using(crate::proofs::Inside::in_there))]
+fn outside(
+    alloc: Global,
+    system: &SharedSystem,
+    units: &[KeptUnit],
+) -> Result<(SharedSystem, Vec<KeptUnit>), NoMemory>
+    requires { AllByRecursion IsIn units.now }
+    ensures system { IfOk result (λ copy. copy.0 ≡ system.now) }
+    ensures units { IfOk result (λ copy. map unit_of copy.1.items ≡ map unit_of units.now) }
+    ensures asked { IfOk result (λ copy. map asked_in copy.1.items ≡ map asked_in units.now) }
+    ensures stands { IfOk result (λ copy. map stand_in copy.1.items ≡ map stand_in units.now) }
+{
+    let system = system.share()?;
+    Ok((system, duplicate_units(alloc, units)?))
+}
+
+// The last of three results, if the other two are no errors.
+fn if_all<T: Drop>(
+    first: Result<(), NoMemory>,
+    second: Result<(), NoMemory>,
+    last: Result<T, NoMemory>,
+) -> Result<T, NoMemory>
+    ensures first { OnOk result (IsOk first) }
+    ensures second { OnOk result (IsOk second) }
+    ensures last { IfOk result (λ t. last ≡ Ok t) }
+{
+    first?;
+    second?;
+    last
+}
+
+// No processes, and nothing that they have open.
+fn empty<R: Routine>(
+    alloc: Global,
+    procs: &mut Procs<R>,
+    clusters: &mut Clusters,
+    timers: &mut Timers<R>,
+    requests: &mut Reqs<R>,
+    attention: &mut Attentions<R>,
+)
+    ensures procs { procs.new.items ≡ [] }
+    ensures associations { clusters.new.common.associations ≡ [] }
+    ensures timers { timers.new.items ≡ [] }
+    ensures requests { requests.new.items ≡ [] }
+    ensures attention { attention.new.items ≡ [] }
+{
+    *procs = Procs::new(alloc, Vec::new(alloc));
+    *clusters = Clusters::new(alloc);
+    *timers = Timers::new(alloc);
+    *requests = Reqs::new(alloc);
+    *attention = Attentions::new(alloc);
+}
+
 // The timers and the requests put away.
 fn put_away_queues<R: Routine>(
     alloc: Global,
@@ -104,19 +147,6 @@ fn put_away_queues<R: Routine>(
 {
     let timers = timers.snapshot(alloc)?;
     Ok((timers, requests.snapshot(alloc)?))
-}
-
-// The timers and the requests that were put away.
-fn restore_queues<R: Routine>(
-    alloc: Global,
-    timers: &TimersSnapshot<R>,
-    requests: &ReqsSnapshot<R>,
-) -> Result<(Timers<R>, Reqs<R>), NoMemory>
-    ensures timers { IfOk result (λ copy. copy.0.items ≡ timers.now) }
-    ensures requests { IfOk result (λ copy. copy.1.items ≡ requests.now) }
-{
-    let timers = timers.restore(alloc)?;
-    Ok((timers, requests.restore(alloc)?))
 }
 
 impl<R: Routine> Core<R> {
@@ -152,36 +182,69 @@ impl<R: Routine> Core<R> {
 }
 
 impl<R: Routine> CoreSnapshot<R> {
-    /// The state that was put away, with room for what is promised. Each routine is made from its tag.
-    pub fn restore(&self) -> Result<Core<R>, NoMemory>
-        ensures state { IfOk result (λ core. core.state ≡ self.now) }
-        ensures home { IfOk result AreIn }
-        ensures log { IfOk result (λ core. core.log.items ≡ []) }
+    // Has the lists of what was put away in place of others.
+    fn restore_lists(
+        &self,
+        clusters: &mut Clusters,
+        timers: &mut Timers<R>,
+        requests: &mut Reqs<R>,
+        attention: &mut Attentions<R>,
+        boxes: &mut Boxes,
+    ) -> Result<(), NoMemory>
+        ensures clusters { OnOk result (clusters.new.common ≡ self.now.common) }
+        ensures timers { OnOk result (timers.new.items ≡ self.now.timers) }
+        ensures requests { OnOk result (requests.new.items ≡ self.now.requests) }
+        ensures attention { OnOk result (attention.new.items ≡ self.now.attention) }
+        ensures boxes { OnOk result (boxes.new.boxes ≡ self.now.boxes) }
+    {
+        self.clusters.restore(self.alloc, clusters)?;
+        self.timers.restore(self.alloc, timers)?;
+        self.requests.restore(self.alloc, requests)?;
+        self.attention.restore(attention)?;
+        self.boxes.restore(boxes)
+    }
+
+    /// Has the state that was put away in place of another, with room for what is promised, and nothing told. Each routine is made from its
+    /// tag. If memory runs out, the other state is without processes and what they had open.
+    pub fn restore(&self, core: &mut Core<R>) -> Result<(), NoMemory>
+        requires { AreIn core.old }
+        ensures state { OnOk result (core.new.state ≡ self.now) }
+        ensures log { OnOk result (core.new.log.items ≡ []) }
+        ensures home { AreIn core.new }
+        ensures err { OnErr result (IsEmptied core.old.state core.new.state) }
     {
         let alloc = self.alloc;
-        let system = self.system.share()?;
-        let clusters = self.clusters.restore(alloc)?;
-        let queues = restore_queues(alloc, &self.timers, &self.requests)?;
-        let attention = self.attention.restore(alloc)?;
-        let boxes = self.boxes.restore(alloc)?;
-        let units = duplicate_units(alloc, self.units.as_slice())?;
-        let procs = restore_procs(alloc, self.procs.as_slice())?;
-        let (timers, requests) = queues;
-        Ok(Core {
-            system,
-            time: self.time,
-            next: self.next,
-            procs,
-            clusters,
-            spare: None,
-            timers,
-            requests,
-            attention,
-            boxes,
-            units,
-            log: Effects::new(alloc),
-            short: self.short,
-            alloc,
-        })
+        let outside = outside(alloc, &self.system, self.units.as_slice());
+        let lists = self.restore_lists(
+            &mut core.clusters,
+            &mut core.timers,
+            &mut core.requests,
+            &mut core.attention,
+            &mut core.boxes,
+        );
+        let procs = core.procs.restore(alloc, self.procs.as_slice());
+        match if_all(lists, procs, outside) {
+            Ok((system, units)) => {
+                core.system = system;
+                core.units = units;
+                core.time = self.time;
+                core.next = self.next;
+                core.short = self.short;
+                core.log = Effects::new(alloc);
+                Ok(())
+            }
+            Err(_) => {
+                empty(
+                    alloc,
+                    &mut core.procs,
+                    &mut core.clusters,
+                    &mut core.timers,
+                    &mut core.requests,
+                    &mut core.attention,
+                );
+                core.short = None;
+                Err(NoMemory)
+            }
+        }
     }
 }

@@ -8,7 +8,10 @@ ghost use Rattle.std.specs.Prelude.{◌≡◌, ◌+◌, ◌-◌, ◌<◌, ◌++�
 ghost use Rattle.std.specs.Borrow.{sem, Lends};
 ghost use Rattle.std.specs.Vec.{with_item};
 ghost use Rattle.vx_procs.specs.Own.{AreOwn, block_of, own_event};
+ghost use Rattle.vx_procs.specs.Again.{AreWider};
 ghost use Rattle.vx_procs.specs.Processes.{process};
+ghost use Rattle.vx_procs.specs.Snapshots.{books_in, process_in};
+ghost use Rattle.vx_procs.specs.View.{books_of};
 ghost use Rattle.vx_record.specs.State.{IsWithin, nobody};
 ghost use Rattle.vx_procs.specs.Summaries.{AreRight, IsSummary};
 ghost use Rattle.vx_procs.specs.Words.{deepest};
@@ -16,7 +19,9 @@ ghost use Rattle.vx_procs.specs.Words.{deepest};
 use crate::block::{BLOCK, block};
 use crate::depth::deeper;
 use crate::places::{cover, forget, remembered};
+use crate::proc_snapshot::ProcSnapshot;
 use crate::process::Proc;
+use crate::restored::restore_all;
 use crate::seen::{Seen, look};
 use crate::summary::{Summary, deepest_in, summarize};
 use std::alloc::Global;
@@ -77,6 +82,21 @@ impl<R: Routine> Procs<R> {
             seen: Vec::new(alloc),
             summaries: Vec::new(alloc),
         }
+    }
+
+    /// Has the processes that were put away in place of its own, each of their routines made from its tag, with as much room or more. If
+    /// memory runs out, some of them are there.
+    pub(crate) fn restore(
+        &mut self,
+        alloc: Global,
+        kept: &[ProcSnapshot<R>],
+    ) -> Result<(), NoMemory>
+        ensures procs { OnOk result (map process self.new.items ≡ map process_in kept.now) }
+        ensures books { OnOk result (AreWider (map books_in kept.now) (map books_of self.new.items)) }
+    {
+        self.seen.clear();
+        self.summaries.clear();
+        restore_all(alloc, &mut self.items, kept)
     }
 
     /// How many there are.

@@ -33,16 +33,11 @@ impl Order {
         }
     }
 
-    /// That of places of which nothing is known.
-    pub(crate) fn unknown() -> Order
-        ensures { result.rising ≡ false }
+    /// Nothing is known any more.
+    pub(crate) fn forget(&mut self)
+        ensures { self.new.rising ≡ false }
     {
-        Order {
-            rising: false,
-            next: 0,
-            from: [0; 32],
-            served: [0; 32],
-        }
+        self.rising = false;
     }
 
     /// Goes on to a request that is put behind the others.

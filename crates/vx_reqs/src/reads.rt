@@ -28,11 +28,11 @@ impl Reads {
         }
     }
 
-    /// That of places of which nothing is known: a read may wait at each mailbox from the first number on.
-    pub(crate) fn unknown() -> Reads
-        ensures { (places : List Place) → AreFrom result.from places }
+    /// Nothing is known any more: a read may wait at each mailbox from the first number on.
+    pub(crate) fn forget(&mut self)
+        ensures { (places : List Place) → AreFrom self.new.from places }
     {
-        Reads { from: [0; 64] }
+        self.from = [0; 64];
     }
 
     /// Goes on to a request that is put behind the others.

@@ -20,6 +20,7 @@ use crate::snapshot::ReqsSnapshot;
 use crate::units::{front, place_waiting, serving, settle, settle_unit};
 use std::alloc::Global;
 use std::marker::Model;
+use std::mem::replace;
 use vx_base::{BoxNo, Id, Mode, NoMemory, Pid, Req, Routine, UnitNo};
 
 /// The outstanding requests of all processes. Each stands in a place from its acceptance on; a place that is left stays
@@ -73,18 +74,28 @@ impl<R: Routine> Reqs<R> {
         Ok(())
     }
 
-    /// The requests that stand in places, so many, and room for no other.
-    pub(crate) fn from_slots(slots: Vec<Slot<R>>, count: usize) -> Reqs<R>
+    /// Has the requests that stand in places, so many, in place of its own, and room for no other.
+    pub(crate) fn put_slots(&mut self, slots: Vec<Slot<R>>, count: usize)
         requires { count ≡ length (live slots.items) }
-        ensures { result ≡ record { items = live slots.items; capacity = 0 } }
+        ensures { self.new ≡ record { items = live slots.items; capacity = 0 } }
     {
-        Reqs {
-            slots,
-            count,
-            room: 0,
-            order: Order::unknown(),
-            reads: Reads::unknown(),
-        }
+        self.slots = slots;
+        self.count = count;
+        self.room = 0;
+        self.order.forget();
+        self.reads.forget();
+    }
+
+    /// Its places. It has none then, and room for none.
+    pub(crate) fn take_slots(&mut self, alloc: Global) -> Vec<Slot<R>>
+        ensures slots { live result.items ≡ self.old.items }
+        ensures after { self.new ≡ record { items = []; capacity = 0 } }
+    {
+        self.count = 0;
+        self.room = 0;
+        self.order.forget();
+        self.reads.forget();
+        replace(&mut self.slots, Vec::new(alloc))
     }
 
     /// The same requests put away.

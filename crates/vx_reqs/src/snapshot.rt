@@ -1,6 +1,6 @@
 //! The requests in as little room as they take.
 
-ghost use Rattle.std.specs.Prelude.{◌≡◌, ◌↔◌, IfOk, IsTrue, length};
+ghost use Rattle.std.specs.Prelude.{◌≡◌, ◌↔◌, IfOk, IsTrue, OnOk, length};
 ghost use Rattle.vx_reqs.specs.Digest.{mix_requests};
 ghost use Rattle.vx_reqs.specs.Places.{live};
 
@@ -45,14 +45,15 @@ fn put_away<R: Routine>(
     Ok(requests)
 }
 
-// Each request in a place.
+// Each request in a place, in the memory of other places.
 fn in_places<R: Routine>(
-    alloc: Global,
+    others: Vec<Slot<R>>,
     requests: &[Outstanding<R>],
 ) -> Result<Vec<Slot<R>>, NoMemory>
     ensures { IfOk result (λ slots. live slots.items ≡ requests.now) }
 {
-    let mut slots = Vec::with_capacity(alloc, requests.len())?;
+    let mut slots = others;
+    slots.clear();
     for request in requests {
         slots.push(Slot::new(request.duplicate()?))?;
     }
@@ -85,12 +86,14 @@ impl<R: Routine> ReqsSnapshot<R> {
         })
     }
 
-    /// The same requests again, each with a routine made from its tag, and room for no other.
-    pub fn restore(&self, alloc: Global) -> Result<Reqs<R>, NoMemory>
-        ensures { IfOk result (λ reqs. reqs.items ≡ self.now) }
+    /// The same requests in place of others, each with a routine made from its tag. If memory runs out, the others are gone.
+    pub fn restore(&self, alloc: Global, reqs: &mut Reqs<R>) -> Result<(), NoMemory>
+        ensures { OnOk result (reqs.new.items ≡ self.now) }
     {
-        let slots = in_places(alloc, self.requests.as_slice())?;
-        Ok(Reqs::from_slots(slots, self.requests.len()))
+        let others = reqs.take_slots(alloc);
+        let slots = in_places(others, self.requests.as_slice())?;
+        reqs.put_slots(slots, self.requests.len());
+        Ok(())
     }
 
     /// Whether there are the same requests, in the same order. Takes no memory.

@@ -22,20 +22,6 @@ impl<T> Model for ReservedSnapshot<T> {
     ghost view = { λ s. record { items = s.items.items; capacity = s.room } };
 }
 
-/// No items, and room for the greater of two numbers.
-pub fn with_room<T: Drop>(alloc: Global, len: usize, room: usize) -> Result<Reserved<T>, NoMemory>
-    ensures empty { IfOk result (λ list. list.items ≡ []) }
-    ensures fits { IfOk result (λ list. len ≤ list.capacity) }
-    ensures room { IfOk result (λ list. room ≤ list.capacity) }
-{
-    let Ok(wanted) = u32::try_from(len.max(room)) else {
-        return Err(NoMemory);
-    };
-    let mut list = Reserved::new(alloc);
-    list.reserve(wanted)?;
-    Ok(list)
-}
-
 impl<T> ReservedSnapshot<T> {
     /// The items.
     pub fn as_slice(&self) -> &[T]
@@ -50,6 +36,19 @@ impl<T> ReservedSnapshot<T> {
     {
         self.items.len()
     }
+}
+
+// Makes room for the greater of two numbers of items in a list that has none.
+fn make_room<T: Drop>(list: &mut Reserved<T>, len: usize, room: usize) -> Result<(), NoMemory>
+    requires { list.old.items ≡ [] }
+    ensures none { list.new.items ≡ [] }
+    ensures fits { OnOk result (len ≤ list.new.capacity) }
+    ensures room { OnOk result (room ≤ list.new.capacity) }
+{
+    let Ok(wanted) = u32::try_from(len.max(room)) else {
+        return Err(NoMemory);
+    };
+    list.reserve(wanted)
 }
 
 // Puts the same items into a list that has none.
@@ -73,7 +72,8 @@ pub fn duplicate_reserved<T: Duplicate>(
     ensures items { IfOk result (λ copy. copy.items ≡ list.now.items) }
     ensures room { IfOk result (λ copy. list.now.capacity ≤ copy.capacity) }
 {
-    let mut copy = with_room(alloc, list.len(), list.capacity())?;
+    let mut copy = Reserved::new(alloc);
+    make_room(&mut copy, list.len(), list.capacity())?;
     put_all(&mut copy, list.as_slice())?;
     Ok(copy)
 }
@@ -89,13 +89,13 @@ impl<T: Duplicate> ReservedSnapshot<T> {
         })
     }
 
-    /// The same items again, with as much room or more.
-    pub fn restore(&self, alloc: Global) -> Result<Reserved<T>, NoMemory>
-        ensures items { IfOk result (λ list. list.items ≡ self.now.items) }
-        ensures room { IfOk result (λ list. self.now.capacity ≤ list.capacity) }
+    /// The same items in a list, in place of its own, with as much room or more. If memory runs out, the list is of no more use.
+    pub fn restore(&self, list: &mut Reserved<T>) -> Result<(), NoMemory>
+        ensures items { OnOk result (list.new.items ≡ self.now.items) }
+        ensures room { OnOk result (self.now.capacity ≤ list.new.capacity) }
     {
-        let mut list = with_room(alloc, self.items.len(), self.room)?;
-        put_all(&mut list, self.items.as_slice())?;
-        Ok(list)
+        list.clear();
+        make_room(list, self.items.len(), self.room)?;
+        put_all(list, self.items.as_slice())
     }
 }

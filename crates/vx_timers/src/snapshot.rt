@@ -56,6 +56,15 @@ fn put_all<R: Routine>(timers: &mut Timers<R>, dues: &[Due<R>]) -> Result<(), No
     Ok(())
 }
 
+// Takes all entries out. The room of timers that have none stays.
+fn clear<R: Routine>(alloc: Global, timers: &mut Timers<R>)
+    ensures { timers.new.items ≡ [] }
+{
+    if timers.len() != 0 {
+        *timers = Timers::new(alloc);
+    }
+}
+
 impl<R: Routine> TimersSnapshot<R> {
     /// The entries of places, of which there are so many.
     pub(crate) fn new(
@@ -70,13 +79,12 @@ impl<R: Routine> TimersSnapshot<R> {
         })
     }
 
-    /// The same entries again, each with a routine made from its tag.
-    pub fn restore(&self, alloc: Global) -> Result<Timers<R>, NoMemory>
-        ensures { IfOk result (λ timers. timers.items ≡ self.now) }
+    /// The same entries in place of others, each with a routine made from its tag. If memory runs out, the others are gone.
+    pub fn restore(&self, alloc: Global, timers: &mut Timers<R>) -> Result<(), NoMemory>
+        ensures { OnOk result (timers.new.items ≡ self.now) }
     {
-        let mut timers = Timers::new(alloc);
-        put_all(&mut timers, self.entries.as_slice())?;
-        Ok(timers)
+        clear(alloc, timers);
+        put_all(timers, self.entries.as_slice())
     }
 
     /// Whether there are the same entries, in the same order. Takes no memory.

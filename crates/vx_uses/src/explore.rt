@@ -36,6 +36,8 @@ impl Ending for Rest {
 impl Machine for Counters {
     type Ending = Rest;
 
+    type Workspace = ();
+
     ghost enabled = { λ c. (if c.left == 0 then 0 else 1) + (if c.right == 0 then 0 else 1) };
 
     ghost after = { λ c i. if (i == 0) && not (c.left == 0)
@@ -52,7 +54,7 @@ impl Machine for Counters {
         left + right
     }
 
-    fn take(&self, pick: u32) -> Result<Counters, NoMemory> {
+    fn take(&self, pick: u32, _workspace: &mut ()) -> Result<Counters, NoMemory> {
         if pick == 0 && self.left != 0 {
             return Ok(Counters {
                 left: self.left - 1,
@@ -65,7 +67,7 @@ impl Machine for Counters {
         })
     }
 
-    fn ending(&self) -> Result<Rest, NoMemory> {
+    fn ending(&self, _workspace: &mut ()) -> Result<Rest, NoMemory> {
         Ok(Rest { left: self.left })
     }
 
@@ -82,7 +84,7 @@ impl Machine for Counters {
 fn ways(alloc: Global, k: u32, limit: u32, most: usize) -> Result<Vec<u64>, NoMemory> {
     let mut ways = Vec::new(alloc);
     let counters = Counters { left: k, right: k };
-    if let Answer::Told(rows) = explore(alloc, counters, limit, most)? {
+    if let Answer::Told(rows) = explore(alloc, counters, limit, most, &mut ())? {
         for row in &rows {
             ways.push(row.ways)?;
         }

@@ -1,10 +1,10 @@
 use Rattle.std.proofs.Common.{◌≡◌, drop, take}
 use Rattle.std.specs.List.{AllByRecursion}
 use Rattle.vx_mailbox.specs.Boxes.{IsShort}
-use Rattle.vx_mailbox.proofs.messages.Messages.restored.Given as goal
+use Rattle.vx_mailbox.proofs.messages.Messages.restore.Given as goal
 
 abbrev pub invariant-loop-msg : goal.invariant-loop-msg
 invariant-loop-msg l = record {
-  copied : l.copy.items ≡ take l.msg-index l.messages;
+  copied : l.self.items ≡ take l.msg-index l.messages;
   short : AllByRecursion IsShort (drop l.msg-index l.messages);
 }
