@@ -1,6 +1,6 @@
 //! The queue: one list, in order of queuing.
 
-ghost use Rattle.std.specs.Prelude.{◌≡◌, ◌↔◌, ◌<◌, ◌≤◌, ◌+◌, ◌++◌, ◌∷◌, [], length, count_by, IfOk, IsTrue, OnOk, OnErr, option_map};
+ghost use Rattle.std.specs.Prelude.{◌≡◌, ◌<◌, ◌≤◌, ◌+◌, ◌++◌, ◌∷◌, [], length, count_by, IfOk, OnOk, OnErr, option_map};
 ghost use Rattle.std.specs.List.{find};
 ghost use Rattle.vx_base.specs.Lists.{less};
 ghost use Rattle.vx_base.specs.Pieces.{all_on, is_enabled_in, with_enable};

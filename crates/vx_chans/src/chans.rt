@@ -3,7 +3,7 @@
 ghost use Rattle.std.specs.Prelude.{◌≡◌, ◌≤◌, replicate, IsTrue, IsSome, IfOk, IfSome, None, length, option_map};
 ghost use Rattle.vx_base.specs.Channels.{is_channel_number, channel_at, least_free, is_reached, next_of_mode};
 ghost use Rattle.std.specs.List.{list_any};
-ghost use Rattle.vx_same.specs.Trimmed.{filled_to};
+ghost use Rattle.vx_same.specs.Trimmed.{filled_to, laid_over};
 ghost use Rattle.vx_chans.specs.Chans.{number_or_none, with_channel, without_channel, found, is_box, is_to};
 
 use crate::row::Row;
@@ -13,7 +13,7 @@ use std::marker::Model;
 use vx_base::{BoxNo, Device, Mode, NoMemory};
 
 /// How many channels a process has.
-pub(crate) const CHANNELS: usize = 64;
+const CHANNELS: usize = 64;
 
 /// Why a channel is refused.
 #[derive(Clone, Copy, Debug, PartialEq, Eq)]
@@ -26,31 +26,34 @@ pub enum ChanFail {
     NoIoChan,
 }
 
-/// The 64 channels of a process. Contracts see at place n - 1 what channel n is assigned to.
+/// The 64 channels of a process. Contracts see at place n - 1 what channel n is assigned to. Behind the last one that was ever assigned
+/// all are free.
 #[derive(Drop)]
 pub struct Chans {
     rows: Vec<Option<Row>>,
+    used: usize,
 }
 
 impl Model for Chans {
-    ghost use Rattle.std.specs.Prelude.{◌≡◌, List, Option, vec_len};
+    ghost use Rattle.std.specs.Prelude.{◌≡◌, ◌-◌, ◌≤◌, List, None, Option, drop, replicate, vec_len};
     ghost use Rattle.vx_base.specs.Pieces.{Channel};
 
     ghost Value = { List (Option Channel) };
 
     ghost view = { λ c. c.rows.items };
 
-    ghost invariant = { λ c. vec_len c.rows ≡ 64 };
+    ghost invariant = { λ c. (vec_len c.rows ≡ 64) × (c.used ≤ 64) × (drop c.used c.rows.items ≡ replicate (64 - c.used) None) };
 }
 
-// Puts rows over the first of others, and leaves none assigned behind them.
-fn lay_over(rows: &mut [Option<Row>], first: &[Option<Row>])
-    requires { length first.now ≤ length rows.old }
-    ensures { rows.new ≡ filled_to (length rows.old) None first.now }
+// Frees so many of the first rows, and puts others over the first.
+fn lay_over(rows: &mut [Option<Row>], used: usize, first: &[Option<Row>])
+    requires used { used ≤ length rows.old }
+    requires first { length first.now ≤ length rows.old }
+    ensures rows { rows.new ≡ laid_over used None first.now rows.old }
+    ensures len { length rows.new ≡ length rows.old }
 {
-    let (front, behind) = rows.split_at_mut(first.len());
-    front.copy_from_slice(first);
-    behind.fill(None);
+    rows[..used].fill(None);
+    rows[..first.len()].copy_from_slice(first);
 }
 
 impl Chans {
@@ -60,26 +63,31 @@ impl Chans {
     {
         Ok(Chans {
             rows: Vec::from_array(alloc, [None; CHANNELS])?,
+            used: 0,
         })
     }
 
     /// Has the first channels assigned as rows say, and no other. Takes no memory.
+    #[tactic(auto, using(vx_same::proofs::Trimmed::laid_filled, vx_same::proofs::Trimmed::alike_behind))]
     pub(crate) fn fill(&mut self, first: &[Option<Row>])
         requires { length first.now ≤ 64 }
         ensures { self.new ≡ filled_to 64 None first.now }
     {
-        lay_over(&mut self.rows, first);
+        lay_over(&mut self.rows, self.used, first);
+        self.used = first.len();
     }
 
     /// What is assigned, in as little room as it takes.
+    #[tactic(auto, using(vx_same::proofs::Trimmed::front))]
     pub fn snapshot(&self, alloc: Global) -> Result<ChansSnapshot, NoMemory>
         ensures { IfOk result (λ s. s ≡ self.now) }
     {
-        ChansSnapshot::new(alloc, self.rows.as_slice())
+        ChansSnapshot::new(alloc, &self.rows[..self.used])
     }
 
     /// Assigns the least free channel to a device, in a mode, and answers its number, 1 to 64 ($ASSIGN). NoIoChan, and
     /// nothing changed, where none is free. Takes no memory.
+    #[tactic(auto, using(crate::proofs::Used::assigned_behind))]
     pub fn assign(&mut self, device: Device, mode: Mode) -> Result<u32, ChanFail>
         ensures answer { result ≡ number_or_none (least_free self.old) }
         ensures number { IfOk result (λ n. IsTrue (is_channel_number n)) }
@@ -90,6 +98,7 @@ impl Chans {
             return Err(ChanFail::NoIoChan);
         };
         self.rows[number as usize - 1] = Some(Row::new(device, mode));
+        self.used = self.used.max(number as usize);
         Ok(number)
     }
 
@@ -132,6 +141,7 @@ impl Chans {
     }
 
     /// Frees a channel that is assigned ($DASSGN). Takes no memory.
+    #[tactic(auto, using(crate::proofs::Used::freed_behind))]
     pub fn free(&mut self, chan: u32)
         requires number { IsTrue (is_channel_number chan) }
         requires assigned { IsSome (channel_at self.old chan) }
@@ -141,18 +151,27 @@ impl Chans {
     }
 
     /// The least channel above a number that is assigned in this mode or one further out.
+    #[tactic(auto, using(crate::proofs::Used::next_used))]
     pub fn next_of_mode(&self, mode: Mode, after: u32) -> Option<u32>
         ensures next { result ≡ next_of_mode mode after self.now }
         ensures places { length self.now ≡ 64 }
     {
-        for (place, row) in self.rows.iter().enumerate() {
-            let number = place as u32 + 1;
-            if after < number && is_reached(mode, row) {
-                return Some(number);
-            }
-        }
-        None
+        next_of_mode(&self.rows[..self.used], mode, after)
     }
+}
+
+/// The least number above another of a channel that is assigned in a mode or one further out.
+fn next_of_mode(rows: &[Option<Row>], mode: Mode, after: u32) -> Option<u32>
+    requires { length rows.now ≤ 64 }
+    ensures { result ≡ next_of_mode mode after rows.now }
+{
+    for (place, row) in rows.iter().enumerate() {
+        let number = place as u32 + 1;
+        if after < number && is_reached(mode, row) {
+            return Some(number);
+        }
+    }
+    None
 }
 
 /// The least number of a free channel.

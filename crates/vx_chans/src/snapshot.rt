@@ -41,11 +41,11 @@ fn trimmed(rows: &[Option<Row>]) -> &[Option<Row>]
 }
 
 impl ChansSnapshot {
-    /// The channels of 64 rows. Takes memory for those up to the last one that is assigned.
-    #[tactic(auto, using(vx_same::proofs::Trimmed::shorter, vx_same::proofs::Trimmed::filled_again, vx_same::proofs::Trimmed::trimmed_again))]
+    /// The first channels as rows say, and no other. Takes memory for those up to the last one that is assigned.
+    #[tactic(auto, using(vx_same::proofs::Trimmed::shorter, vx_same::proofs::Trimmed::filled_same, vx_same::proofs::Trimmed::trimmed_again))]
     pub(crate) fn new(alloc: Global, rows: &[Option<Row>]) -> Result<ChansSnapshot, NoMemory>
-        requires { length rows.now ≡ 64 }
-        ensures { IfOk result (λ s. s ≡ rows.now) }
+        requires { length rows.now ≤ 64 }
+        ensures { IfOk result (λ s. s ≡ filled_to 64 None rows.now) }
     {
         Ok(ChansSnapshot {
             rows: Vec::from_slice(alloc, trimmed(rows))?,

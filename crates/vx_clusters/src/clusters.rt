@@ -1,6 +1,6 @@
 //! The common clusters, as services call on them.
 
-ghost use Rattle.std.specs.Prelude.{◌≡◌, ◌↔◌, ◌<◌, ◌≤◌, length, IfOk, IfSome, IsTrue, OnOk, OnErr, Some, None, true, false, if◌then◌else◌, option_map, position};
+ghost use Rattle.std.specs.Prelude.{◌≡◌, ◌<◌, ◌≤◌, length, IfOk, IfSome, OnOk, OnErr, Some, None, true, false, if◌then◌else◌, option_map, position};
 ghost use Rattle.std.specs.List.{find};
 ghost use Rattle.vx_base.specs.Clusters.{cluster_number, is_association, is_cluster};
 ghost use Rattle.vx_base.specs.Flags.{is_set};

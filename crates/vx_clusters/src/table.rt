@@ -1,6 +1,6 @@
 //! The clusters and the associations, and the steps that a service makes on them.
 
-ghost use Rattle.std.specs.Prelude.{◌≡◌, ◌↔◌, ◌<◌, ◌≤◌, Bool, length, IfOk, IfSome, IsTrue, OnOk, OnErr, true, false};
+ghost use Rattle.std.specs.Prelude.{◌≡◌, ◌<◌, ◌≤◌, Bool, length, IfOk, IfSome, OnOk, OnErr, true, false};
 ghost use Rattle.std.specs.Prelude.{option_map, position};
 ghost use Rattle.std.specs.List.{find};
 ghost use Rattle.vx_base.specs.Lists.{amend};

@@ -4,12 +4,13 @@ use Rattle.std.proofs.Common.{◌≡◌, ℕ, zero, suc, ◌-◌, ◌<◌, ◌�
 use Rattle.std.proofs.Math.Seq.{take-suc}
 use Rattle.std.proofs.Math.Nat.{le-max_left, le-max_right}
 use Rattle.std.proofs.lemmas.Slice.{drop-append-drop}
-use Rattle.std.proofs.lemmas.List.{drop-drop, drop-replicate, drop_more, get_or_append_left, length-append, length-replicate, length-set, replicate-append-replicate, set-append_left, take-append-drop}
+use Rattle.std.proofs.lemmas.List.{drop-drop, drop-replicate, drop_more, get_or_append_left, length-append, length-replicate, length-set, replicate-append-replicate, set-append_left, take-append-drop, take-replicate}
 use Rattle.vx_base.specs.Lists.{overlaid}
 use Rattle.vx_base.specs.Roomy.{Roomy, with_items}
 use Rattle.vx_base.specs.Pieces.{Status, cleared}
 use Rattle.vx_image.specs.Filled.{all_statuses, filled, page_of}
-use Rattle.vx_same.proofs.Trimmed.{front, laid}
+use Rattle.vx_same.proofs.Trimmed.{all_alike, behind_laid, front, laid}
+use Rattle.vx_same.proofs.Trimmed as Trimmed
 
 next_blank : {A : Type 0} (b : A) (xs : List A) (n : ℕ) → length xs < n → (xs ++ b ∷ []) ++ replicate (n - length (xs ++ b ∷ [])) b ≡ xs ++ replicate (n - length xs) b
 next_blank b [] zero lt = absurd (omega (arith, lt))
@@ -79,10 +80,8 @@ pub page_laid : (piece blank page : List ℕ) → blank ≡ replicate 2048 0 →
 page_laid piece blank page zeros put = put ∙ (ap (λ (ys : List ℕ). overlaid piece ys) zeros ∙ laid 2048 0 piece)
 
 -- zeros in front of zeros
-pub zeros_all : (bytes cleared : List ℕ) (w : ℕ) → w ≤ 2048 → drop w bytes ≡ replicate (2048 - w) 0 → cleared ≡ replicate w 0 ++ drop w bytes → cleared ≡ replicate 2048 0
-zeros_all bytes cleared w within behind is =
-    let whole : w + (2048 - w) ≡ 2048 = omega (arith, within) in
-    is ∙ (ap (λ (ys : List ℕ). replicate w 0 ++ ys) behind ∙ (replicate-append-replicate w (2048 - w) 0 ∙ ap (λ (n : ℕ). replicate n 0) whole))
+pub zeros_all : (bytes after : List ℕ) (w : ℕ) → w ≤ 2048 → drop w bytes ≡ replicate (2048 - w) 0 → after ≡ replicate w 0 ++ drop w bytes → after ≡ replicate 2048 0
+zeros_all bytes after w within behind is = is ∙ all_alike 2048 0 bytes w within behind
 
 pub page_front : (bytes : List ℕ) (k : ℕ) → length bytes ≡ 2048 → k ≤ 2048 → drop k bytes ≡ replicate (2048 - k) 0 → page_of (take k bytes) ≡ bytes
 page_front bytes k size within behind = front 2048 0 bytes k size within behind
@@ -90,24 +89,19 @@ page_front bytes k size within behind = front 2048 0 bytes k size within behind
 pub statuses_front : (blocks : List Status) (k : ℕ) → length blocks ≡ 32 → k ≤ length blocks → drop k blocks ≡ replicate (length blocks - k) cleared → all_statuses (take k blocks) ≡ blocks
 statuses_front blocks k size within behind = front 32 cleared blocks k size (omega (arith, size, within)) (subst (λ (n : ℕ). drop k blocks ≡ replicate (n - k) cleared) size behind)
 
-pub statuses_laid : (first blank blocks : List Status) → blank ≡ replicate 32 cleared → blocks ≡ first ++ drop (length first) blank → blocks ≡ all_statuses first
-statuses_laid first blank blocks clear put = put ∙ (ap (λ (ys : List Status). first ++ drop (length first) ys) clear ∙ laid 32 cleared first)
-
--- further behind the same
-zeros_past : (bytes : List ℕ) (k m : ℕ) → k ≤ m → drop k bytes ≡ replicate (2048 - k) 0 → drop m bytes ≡ replicate (2048 - m) 0
-zeros_past bytes k m further behind =
-    let past : k + (m - k) ≡ m = omega (arith, further) in
-    let left : (2048 - k) - (m - k) ≡ 2048 - m = omega (arith, further) in
-    ap (λ (n : ℕ). drop n bytes) (sym past)
-    ∙ (sym (drop-drop (m - k) k bytes)
-    ∙ (ap (drop (m - k)) behind
-    ∙ (drop-replicate (m - k) (2048 - k) 0 ∙ ap (λ (n : ℕ). replicate n 0) left)))
-
 -- behind a piece that is laid over the start, and behind what was written before, nothing was written
 pub zeros_behind : (piece bytes : List ℕ) (k : ℕ) → drop k bytes ≡ replicate (2048 - k) 0 → drop (max k (length piece)) (overlaid piece bytes) ≡ replicate (2048 - max k (length piece)) 0
-zeros_behind piece bytes k behind =
-    drop-append-drop (length piece) bytes piece (max k (length piece)) (le-max_right k (length piece)) refl
-    ∙ zeros_past bytes k (max k (length piece)) (le-max_left k (length piece)) behind
+zeros_behind piece bytes k behind = behind_laid 2048 0 piece bytes k behind
+
+-- behind a block that is filled, and behind those before, all are clear
+pub set_behind : (blocks : List Status) (k i : ℕ) (block : Status) → drop k blocks ≡ replicate (32 - k) cleared → drop (max k (i + 1)) (slice_set blocks i block) ≡ replicate (32 - max k (i + 1)) cleared
+set_behind blocks k i block behind =
+    let past = le-max_right k (i + 1) in
+    Trimmed.behind_set 32 cleared block blocks k i (max k (i + 1)) (le-max_left k (i + 1)) (omega (arith, past)) behind
+
+-- the first of bytes that are all zero
+pub zeros_front : (k : ℕ) (bytes all : List ℕ) → k ≤ 2048 → all ≡ replicate 2048 0 → bytes ≡ take k all → bytes ≡ replicate k 0
+zeros_front k bytes all within zeros front = front ∙ (ap (take k) zeros ∙ take-replicate k 2048 0 within)
 
 -- the block before is clear too
 pub next_clear : (blocks : List Status) (k : ℕ) (b : Status) → 0 < k → k ≤ length blocks → b ≡ slice_index_or blocks (k - 1) b → b ≡ cleared → drop k blocks ≡ replicate (length blocks - k) cleared → drop (k - 1) blocks ≡ replicate (length blocks - (k - 1)) cleared

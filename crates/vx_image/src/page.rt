@@ -62,17 +62,6 @@ impl Page {
         }
     }
 
-    /// These bytes, and zeros behind them.
-    #[tactic(auto, using(crate::proofs::Filled::page_laid))]
-    pub(crate) fn of(bytes: &[u8]) -> Page
-        requires { length bytes.now ≤ 2048 }
-        ensures { result ≡ page_of bytes.now }
-    {
-        let mut page = Page::new();
-        page.overlay(bytes);
-        page
-    }
-
     /// Its bytes.
     pub(crate) fn bytes(&self) -> &[u8]
         ensures bytes { result.now ≡ self.now }
@@ -144,13 +133,37 @@ fn same_bytes(a: &[u8], b: &[u8]) -> bool
     a == b
 }
 
+// Whether all bytes are zero.
+#[tactic(auto, using(crate::proofs::Filled::zeros_front))]
+fn are_zero(bytes: &[u8]) -> bool
+    requires { length bytes.now ≤ 2048 }
+    ensures { IsTrue result ↔ (bytes.now ≡ replicate (length bytes.now) 0) }
+{
+    same_bytes(bytes, &ZEROS[..bytes.len()])
+}
+
+// Whether bytes are the same as more of them, all others being zero.
+#[tactic(auto, using(vx_same::proofs::Trimmed::begun_same, vx_same::proofs::Trimmed::same_begun, vx_same::proofs::Trimmed::same_behind))]
+fn same_filled(few: &[u8], more: &[u8]) -> bool
+    requires few { length few.now ≤ length more.now }
+    requires more { length more.now ≤ 2048 }
+    ensures { IsTrue result ↔ (page_of few.now ≡ page_of more.now) }
+{
+    let (front, behind) = more.split_at(few.len());
+    same_bytes(few, front) && are_zero(behind)
+}
+
 /// Whether two buffers are the same, of which the first bytes are given.
 pub(crate) fn same_page(a: &[u8], b: &[u8]) -> bool
     requires here { length a.now ≤ 2048 }
     requires there { length b.now ≤ 2048 }
     ensures { IsTrue result ↔ (page_of a.now ≡ page_of b.now) }
 {
-    same_bytes(a, b) || (a.len() != b.len() && same_bytes(Page::of(a).bytes(), Page::of(b).bytes()))
+    if a.len() <= b.len() {
+        same_filled(a, b)
+    } else {
+        same_filled(b, a)
+    }
 }
 
 impl PageSnapshot {

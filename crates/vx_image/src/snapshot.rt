@@ -71,7 +71,7 @@ impl StoreSnapshot {
         store.vars = self.vars;
         store.r0 = self.r0;
         self.buffers.restore(&mut store.buffers);
-        store.statuses = self.statuses.restore();
+        self.statuses.restore(&mut store.statuses);
     }
 
     /// Whether the same is stored. Takes no memory.

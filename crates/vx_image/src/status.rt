@@ -1,8 +1,10 @@
 //! The I/O status blocks of a process.
 
-ghost use Rattle.std.specs.Prelude.{◌≡◌, ◌↔◌, ◌-◌, ◌≤◌, ◌++◌, drop, length, replicate, IfOk, IsTrue};
+ghost use Rattle.std.specs.Prelude.{◌≡◌, ◌↔◌, ◌-◌, ◌<◌, ◌≤◌, drop, length, replicate, slice_index_or, slice_set, IfOk, IsTrue};
 ghost use Rattle.vx_base.specs.Pieces.{cleared};
-ghost use Rattle.vx_image.specs.Digest.{mix_statuses};
+ghost use Rattle.vx_image.specs.Digest.{mix_status, mix_statuses};
+ghost use Rattle.vx_image.specs.Filled.{all_statuses};
+ghost use Rattle.vx_same.specs.Trimmed.{laid_over};
 
 use std::alloc::Global;
 use std::marker::Model;
@@ -10,7 +12,7 @@ use vx_base::{Cond, NoMemory};
 use vx_same::mix;
 
 /// How many I/O status blocks a process has.
-pub(crate) const BLOCKS: usize = 32;
+const BLOCKS: usize = 32;
 
 /// An I/O status block.
 #[derive(Clone, Copy)]
@@ -52,13 +54,47 @@ fn same_blocks(a: &[Block], b: &[Block]) -> bool
     true
 }
 
+// Whether all blocks are clear.
+fn are_clear(blocks: &[Block]) -> bool
+    ensures { IsTrue result ↔ (blocks.now ≡ replicate (length blocks.now) cleared) }
+{
+    for block in blocks {
+        if !is_clear(block) {
+            return false;
+        }
+    }
+    true
+}
+
+// Whether blocks are the same as more of them, all others being clear.
+#[tactic(auto, using(vx_same::proofs::Trimmed::begun_same, vx_same::proofs::Trimmed::same_begun, vx_same::proofs::Trimmed::same_behind))]
+fn same_filled(few: &[Block], more: &[Block]) -> bool
+    requires few { length few.now ≤ length more.now }
+    requires more { length more.now ≤ 32 }
+    ensures { IsTrue result ↔ (all_statuses few.now ≡ all_statuses more.now) }
+{
+    let (front, behind) = more.split_at(few.len());
+    same_blocks(few, front) && are_clear(behind)
+}
+
+// A digest with the numbers of an I/O status block, if they are not both zero.
+fn mix_status(digest: u64, block: &Block) -> u64
+    ensures { result ≡ mix_status digest block.now }
+{
+    if block.count == 0 && block.info == 0 {
+        digest
+    } else {
+        mix(mix(digest, block.count as u64), block.info as u64)
+    }
+}
+
 // A digest with the numbers of I/O status blocks.
 fn mix_statuses(digest: u64, blocks: &[Block]) -> u64
     ensures { result ≡ mix_statuses digest blocks.now }
 {
     let mut mixed = digest;
     for block in blocks {
-        mixed = mix(mix(mixed, block.count as u64), block.info as u64);
+        mixed = mix_status(mixed, block);
     }
     mixed
 }
@@ -82,25 +118,96 @@ fn is_clear(block: &Block) -> bool
     same_block(block, &Block::clear())
 }
 
-// How many blocks there are up to the last that is not clear.
+// How many blocks there are up to the last that is not clear, of which those behind the first so many are clear.
 #[tactic(auto, using(crate::proofs::Filled::next_clear))]
-fn count_filled(blocks: &[Block]) -> usize
+fn count_filled(blocks: &[Block], used: usize) -> usize
+    requires used { used ≤ length blocks.now }
+    requires behind { drop used blocks.now ≡ replicate (length blocks.now - used) cleared }
     ensures within { result ≤ length blocks.now }
     ensures clear { drop result blocks.now ≡ replicate (length blocks.now - result) cleared }
 {
-    let mut count = blocks.len();
+    let mut count = used;
     while count > 0 && is_clear(&blocks[count - 1]) {
         count -= 1;
     }
     count
 }
 
-// Puts blocks over the first of others.
-fn lay_over(blocks: &mut [Block], first: &[Block])
-    requires { length first.now ≤ length blocks.old }
-    ensures { blocks.new ≡ first.now ++ drop (length first.now) blocks.old }
+// Clears so many of the first blocks, and puts others over the first.
+fn lay_over(blocks: &mut [Block], used: usize, first: &[Block])
+    requires used { used ≤ length blocks.old }
+    requires first { length first.now ≤ length blocks.old }
+    ensures { blocks.new ≡ laid_over used cleared first.now blocks.old }
 {
+    blocks[..used].fill(Block::clear());
     blocks[..first.len()].copy_from_slice(first);
+}
+
+/// The 32 I/O status blocks of a process, which contracts see as their list. Behind the last one that was ever filled all are clear.
+#[derive(Drop)]
+pub(crate) struct Statuses {
+    blocks: [Block; BLOCKS],
+    used: usize,
+}
+
+impl Model for Statuses {
+    ghost use Rattle.std.specs.Prelude.{◌≡◌, ◌-◌, ◌≤◌, List, drop, replicate};
+    ghost use Rattle.vx_base.specs.Pieces.{Status, cleared};
+
+    ghost Value = { List Status };
+
+    ghost view = { λ s. s.blocks };
+
+    ghost invariant = { λ s. (s.used ≤ 32) × (drop s.used s.blocks ≡ replicate (32 - s.used) cleared) };
+}
+
+impl Statuses {
+    /// All clear.
+    pub(crate) fn new() -> Statuses
+        ensures { result ≡ replicate 32 cleared }
+    {
+        Statuses {
+            blocks: [Block::clear(); BLOCKS],
+            used: 0,
+        }
+    }
+
+    /// The block at a place from 0.
+    pub(crate) fn at(&self, i: usize) -> &Block
+        requires { i < 32 }
+        ensures { result.now ≡ slice_index_or self.now i cleared }
+    {
+        &self.blocks[i]
+    }
+
+    /// Puts a block in a place from 0.
+    #[tactic(auto, using(crate::proofs::Filled::set_behind))]
+    pub(crate) fn set(&mut self, i: usize, block: Block)
+        requires { i < 32 }
+        ensures { self.new ≡ slice_set self.old i block }
+    {
+        self.blocks[i] = block;
+        self.used = self.used.max(i + 1);
+    }
+
+    // Has the first blocks as they are given, and all others clear.
+    #[tactic(auto, using(vx_same::proofs::Trimmed::laid_filled, vx_same::proofs::Trimmed::alike_behind))]
+    fn fill(&mut self, first: &[Block])
+        requires { length first.now ≤ 32 }
+        ensures { self.new ≡ all_statuses first.now }
+    {
+        lay_over(&mut self.blocks, self.used, first);
+        self.used = first.len();
+    }
+
+    // Those up to the last that is not clear.
+    #[tactic(auto, using(crate::proofs::Filled::statuses_front))]
+    fn filled(&self) -> &[Block]
+        ensures blocks { all_statuses result.now ≡ self.now }
+        ensures few { length result.now ≤ 32 }
+    {
+        &self.blocks[..count_filled(&self.blocks, self.used)]
+    }
 }
 
 /// The I/O status blocks put away: those up to the last that is not clear. Contracts see the 32.
@@ -123,39 +230,37 @@ impl Model for StatusesSnapshot {
 
 impl StatusesSnapshot {
     /// Blocks put away.
-    #[tactic(auto, using(crate::proofs::Filled::statuses_front))]
-    pub(crate) fn of(
-        alloc: Global,
-        statuses: &[Block; BLOCKS],
-    ) -> Result<StatusesSnapshot, NoMemory>
+    pub(crate) fn of(alloc: Global, statuses: &Statuses) -> Result<StatusesSnapshot, NoMemory>
         ensures { IfOk result (λ snapshot. snapshot ≡ statuses.now) }
     {
         let mut blocks = Vec::new(alloc);
-        blocks.extend_from_slice(&statuses[..count_filled(statuses)])?;
+        blocks.extend_from_slice(statuses.filled())?;
         Ok(StatusesSnapshot { blocks })
     }
 
-    /// The blocks. Takes no memory.
-    #[tactic(auto, using(crate::proofs::Filled::statuses_laid))]
-    pub(crate) fn restore(&self) -> [Block; BLOCKS]
-        ensures { result ≡ self.now }
+    /// The blocks, in place of others. Takes no memory.
+    pub(crate) fn restore(&self, statuses: &mut Statuses)
+        ensures { statuses.new ≡ self.now }
     {
-        let mut statuses = [Block::clear(); BLOCKS];
-        lay_over(&mut statuses, &self.blocks);
-        statuses
+        statuses.fill(&self.blocks);
     }
 
     /// Whether the blocks are the same. Takes no memory.
     pub(crate) fn same(&self, other: &StatusesSnapshot) -> bool
         ensures { IsTrue result ↔ (self.now ≡ other.now) }
     {
-        same_blocks(&self.blocks, &other.blocks) || same_blocks(&self.restore(), &other.restore())
+        if self.blocks.len() <= other.blocks.len() {
+            same_filled(&self.blocks, &other.blocks)
+        } else {
+            same_filled(&other.blocks, &self.blocks)
+        }
     }
 
     /// A digest with the numbers of the blocks. Takes no memory.
+    #[tactic(auto, using(crate::proofs::Mixed::mix_filled))]
     pub(crate) fn mix(&self, digest: u64) -> u64
         ensures { result ≡ mix_statuses digest self.now }
     {
-        mix_statuses(digest, &self.restore())
+        mix_statuses(digest, &self.blocks)
     }
 }

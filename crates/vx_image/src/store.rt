@@ -4,7 +4,7 @@ ghost use Rattle.std.specs.Prelude.{◌≡◌, ◌≤◌, ◌<◌, length, IfOk}
 ghost use Rattle.vx_image.specs.Storage.{no_storage, stored_in, with_target, status_at, with_status, buffer_at, with_bytes};
 
 use crate::buffers::Buffers;
-use crate::status::{BLOCKS, Block};
+use crate::status::{Block, Statuses};
 use std::alloc::Global;
 use std::marker::Model;
 use vx_base::{Cond, NoMemory, Target};
@@ -18,7 +18,7 @@ pub struct Store {
     pub(crate) vars: [u32; VARIABLES],
     pub(crate) r0: u32,
     pub(crate) buffers: Buffers,
-    pub(crate) statuses: [Block; BLOCKS],
+    pub(crate) statuses: Statuses,
 }
 
 impl Model for Store {
@@ -38,7 +38,7 @@ impl Store {
             vars: [0; VARIABLES],
             r0: 0,
             buffers: Buffers::new(alloc)?,
-            statuses: [Block::clear(); BLOCKS],
+            statuses: Statuses::new(),
         })
     }
 
@@ -78,7 +78,7 @@ impl Store {
         requires high { i ≤ 32 }
         ensures { record { cond = result.0; count = result.1; info = result.2 } ≡ status_at self.now i }
     {
-        let block = &self.statuses[i as usize - 1];
+        let block = self.statuses.at(i as usize - 1);
         (block.cond, block.count, block.info)
     }
 
@@ -88,7 +88,8 @@ impl Store {
         requires high { i ≤ 32 }
         ensures { self.new ≡ with_status self.old i (record { cond = cond; count = count; info = info }) }
     {
-        self.statuses[i as usize - 1] = Block { cond, count, info };
+        let block = Block { cond, count, info };
+        self.statuses.set(i as usize - 1, block);
     }
 
     /// The 2,048 bytes of a buffer, 0 to 31.

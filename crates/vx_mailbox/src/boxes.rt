@@ -91,7 +91,9 @@ fn restore_place(
     match boxes.get(number) {
         Some(Some(mailbox)) => mailbox.restore(place),
         _ => {
-            place.remove();
+            if !place.is_free() {
+                place.remove();
+            }
             Ok(())
         }
     }

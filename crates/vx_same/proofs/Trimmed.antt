@@ -1,7 +1,9 @@
 -- Lists of a fixed length without the end, where that is all alike.
-use Rattle.std.proofs.Common.{◌≡◌, ℕ, zero, suc, ◌+◌, ◌-◌, ◌≤◌, List, [], ◌∷◌, ◌++◌, Option, Some, None, drop, length, replicate, take, ap, refl, sym, ◌∙◌, arith}
-use Rattle.std.proofs.lemmas.List.{drop-replicate, length-take-le, take-append-drop}
-use Rattle.vx_same.specs.Trimmed.{filled_to, none_before, trimmed}
+use Rattle.std.proofs.Common.{◌≡◌, ℕ, zero, suc, ◌+◌, ◌-◌, ◌<◌, ◌≤◌, List, [], ◌∷◌, ◌++◌, Option, Some, None, drop, length, max, replicate, slice_set, take, ap, append_assoc, refl, sym, ◌∙◌, arith}
+use Rattle.std.proofs.Math.Nat.{le-max_left, le-max_right}
+use Rattle.std.proofs.lemmas.Slice.{drop-append-drop}
+use Rattle.std.proofs.lemmas.List.{drop-drop, drop-replicate, drop-set-lt, drop_at, drop-append-le, length-drop, length-replicate, length-take-le, replicate-append-replicate, take-append-drop, take-append-le, take_at}
+use Rattle.vx_same.specs.Trimmed.{filled_to, laid_over, none_before, trimmed}
 
 -- Whatever the items.
 
@@ -14,6 +16,72 @@ front {A} n rest xs k size within behind =
 -- laid over a list that is all alike
 pub laid : {A : Type 0} (n : ℕ) (rest : A) (xs : List A) → xs ++ drop (length xs) (replicate n rest) ≡ filled_to n rest xs
 laid {A} n rest xs = ap (λ (ys : List A). xs ++ ys) (drop-replicate (length xs) n rest)
+
+-- the same in front of what is all alike
+pub all_alike : {A : Type 0} (n : ℕ) (rest : A) (xs : List A) (k : ℕ) → k ≤ n → drop k xs ≡ replicate (n - k) rest → replicate k rest ++ drop k xs ≡ replicate n rest
+all_alike {A} n rest xs k within behind =
+    let whole : k + (n - k) ≡ n = omega (arith, within) in
+    ap (λ (ys : List A). replicate k rest ++ ys) behind ∙ (replicate-append-replicate k (n - k) rest ∙ ap (λ (m : ℕ). replicate m rest) whole)
+
+-- laid over a list of which those behind a place are all alike
+pub laid_filled : {A : Type 0} (n : ℕ) (rest : A) (first xs after : List A) (k : ℕ) → k ≤ n → drop k xs ≡ replicate (n - k) rest → after ≡ laid_over k rest first xs → after ≡ filled_to n rest first
+laid_filled {A} n rest first xs after k within behind put =
+    put ∙ (ap (λ (ys : List A). first ++ drop (length first) ys) (all_alike n rest xs k within behind) ∙ laid n rest first)
+
+-- all alike behind those that were laid over
+pub alike_behind : {A : Type 0} (n : ℕ) (rest : A) (first xs after : List A) (k : ℕ) → k ≤ n → drop k xs ≡ replicate (n - k) rest → after ≡ laid_over k rest first xs → drop (length first) after ≡ replicate (n - length first) rest
+alike_behind n rest first xs after k within behind put =
+    ap (drop (length first)) (laid_filled n rest first xs after k within behind put) ∙ drop_at first (replicate (n - length first) rest) (length first) refl
+
+-- all alike further behind too
+pub further : {A : Type 0} (n : ℕ) (rest : A) (xs : List A) (k m : ℕ) → k ≤ m → drop k xs ≡ replicate (n - k) rest → drop m xs ≡ replicate (n - m) rest
+further {A} n rest xs k m past behind =
+    let whole : k + (m - k) ≡ m = omega (arith, past) in
+    let left : (n - k) - (m - k) ≡ n - m = omega (arith, past) in
+    ap (λ (j : ℕ). drop j xs) (sym whole)
+    ∙ (sym (drop-drop (m - k) k xs)
+    ∙ (ap (drop (m - k)) behind
+    ∙ (drop-replicate (m - k) (n - k) rest ∙ ap (λ (j : ℕ). replicate j rest) left)))
+
+-- all alike behind others that are laid over the start
+pub behind_laid : {A : Type 0} (n : ℕ) (rest : A) (ys xs : List A) (k : ℕ) → drop k xs ≡ replicate (n - k) rest → drop (max k (length ys)) (ys ++ drop (length ys) xs) ≡ replicate (n - max k (length ys)) rest
+behind_laid n rest ys xs k behind =
+    drop-append-drop (length ys) xs ys (max k (length ys)) (le-max_right k (length ys)) refl
+    ∙ further n rest xs k (max k (length ys)) (le-max_left k (length ys)) behind
+
+-- all alike behind one that is set
+pub behind_set : {A : Type 0} (n : ℕ) (rest x : A) (xs : List A) (k i m : ℕ) → k ≤ m → i < m → drop k xs ≡ replicate (n - k) rest → drop m (slice_set xs i x) ≡ replicate (n - m) rest
+behind_set n rest x xs k i m past within behind = drop-set-lt m xs i x within ∙ further n rest xs k m past behind
+
+-- A list and a longer one, both filled up to the same length: they are the same exactly where the one begins the other, and the rest alone
+-- stands behind it.
+
+parted : {A : Type 0} (n : ℕ) (rest : A) (xs : List A) (m : ℕ) → length xs ≤ n → m ≤ length xs → drop m xs ≡ replicate (length xs - m) rest → filled_to n rest xs ≡ take m xs ++ replicate (n - m) rest
+parted {A} n rest xs m few within behind =
+    let whole : (length xs - m) + (n - length xs) ≡ n - m = omega (arith, few, within) in
+    ap (λ (ys : List A). ys ++ replicate (n - length xs) rest) (sym (take-append-drop m xs))
+    ∙ (append_assoc (take m xs) (drop m xs) (replicate (n - length xs) rest)
+    ∙ ap (λ (ys : List A). take m xs ++ ys) (ap (λ (ys : List A). ys ++ replicate (n - length xs) rest) behind ∙ (replicate-append-replicate (length xs - m) (n - length xs) rest ∙ ap (λ (j : ℕ). replicate j rest) whole)))
+
+pub begun_same : {A : Type 0} (n : ℕ) (rest : A) (xs ys : List A) → length ys ≤ n → length xs ≤ length ys → xs ≡ take (length xs) ys → drop (length xs) ys ≡ replicate (length ys - length xs) rest → filled_to n rest xs ≡ filled_to n rest ys
+begun_same {A} n rest xs ys few shorter begun behind =
+    ap (λ (zs : List A). zs ++ replicate (n - length xs) rest) begun ∙ sym (parted n rest ys (length xs) few shorter behind)
+
+pub same_begun : {A : Type 0} (n : ℕ) (rest : A) (xs ys : List A) → length xs ≤ length ys → filled_to n rest xs ≡ filled_to n rest ys → xs ≡ take (length xs) ys
+same_begun n rest xs ys shorter same =
+    sym (take_at xs (replicate (n - length xs) rest) (length xs) refl) ∙ (ap (take (length xs)) same ∙ take-append-le (length xs) ys (replicate (n - length ys) rest) shorter)
+
+pub same_behind : {A : Type 0} (n : ℕ) (rest : A) (xs ys : List A) → length ys ≤ n → length xs ≤ length ys → filled_to n rest xs ≡ filled_to n rest ys → drop (length xs) ys ≡ replicate (length ys - length xs) rest
+same_behind {A} n rest xs ys few shorter same =
+    let left : (length ys - length xs) + (n - length ys) ≡ n - length xs = omega (arith, few, shorter) in
+    let all : drop (length xs) ys ++ replicate (n - length ys) rest ≡ replicate (length ys - length xs) rest ++ replicate (n - length ys) rest =
+    sym (drop-append-le (length xs) ys (replicate (n - length ys) rest) shorter)
+    ∙ (ap (drop (length xs)) (sym same)
+    ∙ (drop_at xs (replicate (n - length xs) rest) (length xs) refl
+    ∙ (ap (λ (j : ℕ). replicate j rest) (sym left) ∙ sym (replicate-append-replicate (length ys - length xs) (n - length ys) rest)))) in
+    sym (take_at (drop (length xs) ys) (replicate (n - length ys) rest) (length ys - length xs) (length-drop (length xs) ys))
+    ∙ (ap (take (length ys - length xs)) all
+    ∙ take_at (replicate (length ys - length xs) rest) (replicate (n - length ys) rest) (length ys - length xs) (length-replicate (length ys - length xs) rest))
 
 -- Items that may be missing.
 
@@ -61,6 +129,16 @@ left_out [] zero long = refl
 left_out [] (suc k) long = absurd (omega (arith, long))
 left_out (None ∷ xs) k long = with_none (trimmed xs) xs k long (left_out xs)
 left_out {A} (Some x ∷ xs) k long = ap (λ (ys : List (Option A)). Some x ∷ ys) (left_out xs k (omega (arith, long)))
+
+-- as many come back, and all of them
+pub filled_same : {A : Type 0} (n : ℕ) (xs : List (Option A)) → length xs ≤ n → filled_to n None (trimmed xs) ≡ filled_to n None xs
+filled_same {A} n xs few =
+    let fewer = shorter xs in
+    let short : ℕ = length xs - length (trimmed xs) in
+    let all : short + (n - length xs) ≡ n - length (trimmed xs) = omega (arith, fewer, few) in
+    sym (ap (λ (ys : List (Option A)). ys ++ replicate (n - length xs) None) (sym (left_out xs short (omega (arith, fewer))))
+    ∙ (append_assoc (trimmed xs) (replicate short None) (replicate (n - length xs) None)
+    ∙ ap (λ (ys : List (Option A)). trimmed xs ++ ys) (replicate-append-replicate short (n - length xs) None ∙ ap (λ (m : ℕ). replicate m None) all)))
 
 -- all come back
 pub filled_again : {A : Type 0} (n : ℕ) (xs : List (Option A)) → length xs ≡ n → filled_to n None (trimmed xs) ≡ xs

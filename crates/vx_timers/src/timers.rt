@@ -1,6 +1,6 @@
 //! The timers and scheduled wakes of all processes.
 
-ghost use Rattle.std.specs.Prelude.{◌≡◌, ◌↔◌, ◌+◌, ◌<◌, ◌≤◌, ◌++◌, ◌∷◌, ◌^◌, [], IfOk, IsTrue, OnErr, OnOk, length, map, option_map};
+ghost use Rattle.std.specs.Prelude.{◌≡◌, ◌+◌, ◌<◌, ◌≤◌, ◌++◌, ◌∷◌, ◌^◌, [], IfOk, OnErr, OnOk, length, map, option_map};
 ghost use Rattle.std.specs.List.{find};
 ghost use Rattle.vx_base.specs.Lists.{amend, less};
 ghost use Rattle.vx_base.specs.Queues.{least_due};
