@@ -1,6 +1,6 @@
 //! The queue in as little room as it takes.
 
-ghost use Rattle.std.specs.Prelude.{◌≡◌, ◌↔◌, ◌≤◌, length, IsTrue, OnOk};
+ghost use Rattle.std.specs.Prelude.{◌≡◌, ◌↔◌, ◌≤◌, IsTrue, OnOk};
 
 use crate::delivery::Delivery;
 use crate::queue::AstQueue;
@@ -42,27 +42,20 @@ impl<R: Routine> AstQueueSnapshot<R> {
         Ok(())
     }
 
-    /// Whether it has the same ASTs as another. Takes no memory.
-    pub fn same_items(&self, other: &AstQueueSnapshot<R>) -> bool
-        ensures { IsTrue result ↔ (self.now.items ≡ other.now.items) }
+    /// Whether it has the ASTs of a queue, in the same order. Takes no memory.
+    pub fn same_items(&self, queue: &AstQueue<R>) -> bool
+        ensures { IsTrue result ↔ (self.now.items ≡ queue.now.items) }
     {
-        same_items(self.items.as_slice(), other.items.as_slice())
+        same_items(self.items.as_slice(), queue.items.as_slice())
     }
 
-    /// Whether it has the same enables as another.
-    pub fn same_enables(&self, other: &AstQueueSnapshot<R>) -> bool
-        ensures { IsTrue result ↔ (self.now.enables ≡ other.now.enables) }
+    /// Whether it has the enables of a queue.
+    pub fn same_enables(&self, queue: &AstQueue<R>) -> bool
+        ensures { IsTrue result ↔ (self.now.enables ≡ queue.now.enables) }
     {
-        self.kernel == other.kernel
-            && self.exec == other.exec
-            && self.supervisor == other.supervisor
-            && self.user == other.user
-    }
-
-    /// How many ASTs are queued.
-    pub fn len(&self) -> usize
-        ensures { result ≡ length self.now.items }
-    {
-        self.items.len()
+        self.kernel == queue.kernel
+            && self.exec == queue.exec
+            && self.supervisor == queue.supervisor
+            && self.user == queue.user
     }
 }

@@ -77,12 +77,20 @@ impl Chans {
         self.used = first.len();
     }
 
-    /// What is assigned, in as little room as it takes.
+    /// Its channels up to the last one that was ever assigned.
     #[tactic(auto, using(vx_same::proofs::Trimmed::front))]
+    pub(crate) fn used(&self) -> &[Option<Row>]
+        ensures rows { filled_to 64 None result.now ≡ self.now }
+        ensures few { length result.now ≤ 64 }
+    {
+        &self.rows[..self.used]
+    }
+
+    /// What is assigned, in as little room as it takes.
     pub fn snapshot(&self, alloc: Global) -> Result<ChansSnapshot, NoMemory>
         ensures { IfOk result (λ s. s ≡ self.now) }
     {
-        ChansSnapshot::new(alloc, &self.rows[..self.used])
+        ChansSnapshot::new(alloc, self.used())
     }
 
     /// Assigns the least free channel to a device, in a mode, and answers its number, 1 to 64 ($ASSIGN). NoIoChan, and

@@ -59,11 +59,19 @@ impl ChansSnapshot {
         chans.fill(self.rows.as_slice());
     }
 
-    /// Whether the same channels are assigned to the same devices, in the same modes. Takes no memory.
-    #[tactic(auto, using(vx_same::proofs::Trimmed::same_filled))]
-    pub fn same(&self, other: &ChansSnapshot) -> bool
-        ensures { IsTrue result ↔ (self.now ≡ other.now) }
+    // Whether the first channels are assigned as rows say, and no other.
+    #[tactic(auto, using(vx_same::proofs::Trimmed::same_trimmed, vx_same::proofs::Trimmed::trimmed_same))]
+    pub(crate) fn same_first(&self, rows: &[Option<Row>]) -> bool
+        requires { length rows.now ≤ 64 }
+        ensures { IsTrue result ↔ (self.now ≡ filled_to 64 None rows.now) }
     {
-        same_options(self.rows.as_slice(), other.rows.as_slice())
+        same_options(self.rows.as_slice(), trimmed(rows))
+    }
+
+    /// Whether the same channels are assigned to the same devices, in the same modes, by a process. Takes no memory.
+    pub fn same(&self, chans: &Chans) -> bool
+        ensures { IsTrue result ↔ (self.now ≡ chans.now) }
+    {
+        self.same_first(chans.used())
     }
 }

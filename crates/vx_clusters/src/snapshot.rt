@@ -88,16 +88,16 @@ impl ClustersSnapshot {
         Ok(())
     }
 
-    /// Whether there are the same clusters, with the same flags, and the same associations. Takes no memory.
-    pub fn same(&self, other: &ClustersSnapshot) -> bool
-        ensures { IsTrue result ↔ (self.now.common ≡ other.now.common) }
+    /// Whether these are the clusters and associations, with the same flags. Takes no memory.
+    pub fn same(&self, clusters: &Clusters) -> bool
+        ensures { IsTrue result ↔ (self.now.common ≡ clusters.now.common) }
     {
         same_items(
             self.table.clusters.as_slice(),
-            other.table.clusters.as_slice(),
+            clusters.table.clusters.as_slice(),
         ) && same_items(
             self.table.associations.as_slice(),
-            other.table.associations.as_slice(),
+            clusters.table.associations.as_slice(),
         )
     }
 }

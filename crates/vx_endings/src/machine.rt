@@ -1,6 +1,6 @@
 //! The executive as a machine whose runs are explored.
 
-ghost use Rattle.std.specs.Prelude.{◌≡◌, ◌<◌, IfOk};
+ghost use Rattle.std.specs.Prelude.{◌≡◌, ◌<◌, IfOk, OnOk};
 ghost use Rattle.vx_endings.specs.Explored.{after_in, enabled_in, ending_in};
 
 use crate::ending::RunEnding;
@@ -11,25 +11,24 @@ use vx_base::{Bytes, End, NoMemory, Scripted};
 use vx_exec::{Exec, ExecSnapshot};
 use vx_explore::Machine;
 
-/// The executive of a system at one moment of a run, put away; how many ways go on from there; and its digest.
+/// The executive of a system at one moment of a run, put away, and how many ways go on from there.
 #[derive(Drop)]
 pub struct Explored {
     snapshot: ExecSnapshot<Scripted>,
     ways: u32,
-    digest: u64,
     alloc: Global,
 }
 
 impl Model for Explored {
     ghost use Rattle.std.specs.Prelude.{◌≡◌};
-    ghost use Rattle.vx_endings.specs.Explored.{digest_in, enabled_in};
+    ghost use Rattle.vx_endings.specs.Explored.{enabled_in};
     ghost use Rattle.vx_exec.specs.View.{Executive};
 
     ghost Value = { Executive };
 
     ghost view = { λ x. x.snapshot };
 
-    ghost invariant = { λ x. (x.ways ≡ enabled_in x.snapshot) × (x.digest ≡ digest_in x.snapshot) };
+    ghost invariant = { λ x. x.ways ≡ enabled_in x.snapshot };
 }
 
 // How many events are enabled, none once the run has ended.
@@ -42,15 +41,15 @@ fn ways_on(exec: &Exec<Scripted>) -> u32
     }
 }
 
-// The state after the enabled event at a place, from 0.
-fn stepped(alloc: Global, exec: &mut Exec<Scripted>, pick: u32) -> Result<Explored, NoMemory>
+// Takes the enabled event at a place, from 0.
+fn step_on(exec: &mut Exec<Scripted>, pick: u32) -> Result<(), NoMemory>
     requires { pick < enabled_in exec.old }
-    ensures { IfOk result (λ next. next ≡ after_in exec.old pick) }
+    ensures { OnOk result (exec.new ≡ after_in exec.old pick) }
 {
     match exec.enabled(pick) {
         Some(event) => {
             exec.step(event)?;
-            Explored::new(alloc, exec)
+            Ok(())
         }
         None => unreachable!(),
     }
@@ -71,11 +70,9 @@ impl Explored {
     pub fn new(alloc: Global, exec: &Exec<Scripted>) -> Result<Explored, NoMemory>
         ensures { IfOk result (λ explored. explored ≡ exec.now) }
     {
-        let snapshot = exec.snapshot()?;
         Ok(Explored {
+            snapshot: exec.snapshot()?,
             ways: ways_on(exec),
-            digest: snapshot.digest(),
-            snapshot,
             alloc,
         })
     }
@@ -86,7 +83,9 @@ impl Machine for Explored {
 
     type Ending = RunEnding;
 
-    type Workspace = Exec<Scripted>;
+    type Running = Exec<Scripted>;
+
+    ghost state_of = { λ exec. exec };
 
     ghost enabled = { enabled_in };
 
@@ -100,21 +99,25 @@ impl Machine for Explored {
         self.ways
     }
 
-    fn take(&self, pick: u32, workspace: &mut Exec<Scripted>) -> Result<Explored, NoMemory> {
-        self.snapshot.restore(workspace)?;
-        stepped(self.alloc, workspace, pick)
+    fn take(&self, pick: u32, exec: &mut Exec<Scripted>) -> Result<(), NoMemory> {
+        self.snapshot.restore(exec)?;
+        step_on(exec, pick)
     }
 
-    fn ending(&self, workspace: &mut Exec<Scripted>) -> Result<RunEnding, NoMemory> {
-        self.snapshot.restore(workspace)?;
-        ending_here(self.alloc, workspace)
+    fn put_away(alloc: Global, exec: &Exec<Scripted>) -> Result<Explored, NoMemory> {
+        Explored::new(alloc, exec)
     }
 
-    fn same(&self, other: &Explored) -> bool {
-        self.snapshot.same(&other.snapshot)
+    fn ending(&self, exec: &mut Exec<Scripted>) -> Result<RunEnding, NoMemory> {
+        self.snapshot.restore(exec)?;
+        ending_here(self.alloc, exec)
     }
 
-    fn digest(&self) -> u64 {
-        self.digest
+    fn same(&self, exec: &Exec<Scripted>) -> bool {
+        self.snapshot.same(exec)
+    }
+
+    fn digest(exec: &Exec<Scripted>) -> u64 {
+        exec.digest()
     }
 }

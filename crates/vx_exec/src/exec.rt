@@ -6,6 +6,7 @@ ghost use Rattle.vx_record.specs.State.{IsProcess, decl_of, process_at, unit_at}
 ghost use Rattle.vx_units.specs.Units.{outputs_of};
 ghost use Rattle.vx_record.specs.Events.{enabled, step};
 ghost use Rattle.vx_record.specs.Runs.{end_of, first, record_of};
+ghost use Rattle.vx_procs.specs.Digest.{digest_of};
 ghost use Rattle.vx_exec.specs.Engines.{IsWithin, leasing};
 ghost use Rattle.vx_exec.specs.Picks.{moved_seed, picked_event};
 ghost use Rattle.vx_exec.specs.Sound.{IsGoing};
@@ -87,6 +88,20 @@ impl<R: Routine> Exec<R> {
         self.engine.limit = limit;
         self.engine.taken = taken;
         Ok(())
+    }
+
+    // Whether it is in a state that was put away, of a run with this limit, after so many records.
+    pub(crate) fn is_at(&self, core: &CoreSnapshot<R>, limit: u32, taken: u32) -> bool
+        ensures { IsTrue result ↔ (self.now ≡ record { state = core.now; limit = limit; taken = taken }) }
+    {
+        self.engine.taken == taken && self.engine.limit == limit && core.same(&self.engine.core)
+    }
+
+    /// The state as a number. Equal states have the same; states that differ have the same seldom. Takes no memory.
+    pub fn digest(&self) -> u64
+        ensures { result ≡ digest_of self.now.state }
+    {
+        self.engine.core.digest()
     }
 
     // What it is made of.

@@ -5,7 +5,7 @@
 //! `vx_record`: `count` and `enabled` are the list of its enabled events, `step` takes any one of them and leaves the state
 //! after it, `ended` is its end, and `run_system` takes the run that a seed chooses. A step whose memory is short changes nothing, and
 //! no other call of `Exec` takes memory but `new` and `snapshot`. An `ExecSnapshot` is an executive put away: it takes no more room than it holds,
-//! tells whether another is the same, and can be brought back in place of another.
+//! tells whether an executive is in the same state, and can be brought back in place of another.
 //!
 //! `LeasingExec` is an executive whose units may be out: a unit that serves is taken out with its request, is served while the executive
 //! takes other events, and is given back with the reply (`specs/Leases.antt`). It steps as `Exec` does. An `Exec` never has a unit out.

@@ -1,7 +1,6 @@
 //! The executive, put away.
 
 ghost use Rattle.std.specs.Prelude.{◌≡◌, ◌↔◌, IsTrue, OnOk};
-ghost use Rattle.vx_procs.specs.Digest.{digest_of};
 ghost use Rattle.vx_exec.specs.Sound.{IsGoing};
 
 use crate::exec::Exec;
@@ -10,7 +9,7 @@ use vx_base::{NoMemory, Routine};
 use vx_procs::CoreSnapshot;
 
 /// An executive at one moment, in as little room as it takes: what the script says is shared, what was never written takes nothing, and
-/// there is no room for what may come. Two can be compared, and one can be brought back as often as is wanted. It is for
+/// there is no room for what may come. It can be compared with an executive, and brought back as often as is wanted. It is for
 /// routines of scripts, which are made from their tags.
 #[derive(Drop)]
 pub struct ExecSnapshot<R: Routine> {
@@ -46,17 +45,10 @@ impl<R: Routine> ExecSnapshot<R> {
         exec.restore(&self.core, self.limit, self.taken)
     }
 
-    /// Whether both are in the same state, after as many records and with the same limit. Takes no memory.
-    pub fn same(&self, other: &ExecSnapshot<R>) -> bool
-        ensures { IsTrue result ↔ (self.now ≡ other.now) }
+    /// Whether an executive is in the state that was put away, after as many records and with the same limit. Takes no memory.
+    pub fn same(&self, exec: &Exec<R>) -> bool
+        ensures { IsTrue result ↔ (self.now ≡ exec.now) }
     {
-        self.taken == other.taken && self.limit == other.limit && self.core.same(&other.core)
-    }
-
-    /// The state as a number. Equal states have the same; states that differ have the same seldom. Takes no memory.
-    pub fn digest(&self) -> u64
-        ensures { result ≡ digest_of self.now.state }
-    {
-        self.core.digest()
+        exec.is_at(&self.core, self.limit, self.taken)
     }
 }

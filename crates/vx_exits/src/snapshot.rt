@@ -32,10 +32,10 @@ impl<R: Routine> ExitsSnapshot<R> {
         self.items.restore(&mut exits.items)
     }
 
-    /// Whether it has the same handlers as another. Takes no memory.
-    pub fn same(&self, other: &ExitsSnapshot<R>) -> bool
-        ensures { IsTrue result ↔ (self.now.items ≡ other.now.items) }
+    /// Whether it has the handlers of a process, in the same order. Takes no memory.
+    pub fn same(&self, exits: &Exits<R>) -> bool
+        ensures { IsTrue result ↔ (self.now.items ≡ exits.now.items) }
     {
-        same_items(self.items.as_slice(), other.items.as_slice())
+        same_items(self.items.as_slice(), exits.items.as_slice())
     }
 }

@@ -19,7 +19,7 @@ pub fn explore<M: Machine>(
     first: M,
     limit: u32,
     most: usize,
-    workspace: &mut M::Workspace,
+    machine: &mut M::Running,
 ) -> Result<Answer<M::Ending>, NoMemory>
     ensures told { IfOk result (IfTold (λ rows.
         rows ≡ summary M.ending_of M.Ending.is_same (shortest_first limit (runs M.enabled M.after limit first)))) }
@@ -40,14 +40,14 @@ pub fn explore<M: Machine>(
         if level.is_empty() {
             return Ok(Answer::Told(rows));
         }
-        tell_all(&mut rows, level.as_slice(), false, workspace)?;
-        match next_level(alloc, level.as_slice(), most, workspace)? {
+        tell_all(&mut rows, level.as_slice(), false, machine)?;
+        match next_level(alloc, level.as_slice(), most, machine)? {
             Some(next) => {
                 level = next;
             }
             None => return Ok(Answer::Cut),
         }
     }
-    tell_all(&mut rows, level.as_slice(), true, workspace)?;
+    tell_all(&mut rows, level.as_slice(), true, machine)?;
     Ok(Answer::Told(rows))
 }

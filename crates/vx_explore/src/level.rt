@@ -19,6 +19,7 @@ pub struct Level<M> {
     reached: Vec<Found<M>>,
     older: Vec<Option<usize>>,
     latest: HashMap<u64, usize>,
+    alloc: Global,
 }
 
 impl<M: Machine> Level<M> {
@@ -31,6 +32,7 @@ impl<M: Machine> Level<M> {
             reached: Vec::new(alloc),
             older: Vec::new(alloc),
             latest: HashMap::new(alloc),
+            alloc,
         }
     }
 
@@ -52,16 +54,17 @@ impl<M: Machine> Level<M> {
         states
     }
 
-    /// The place of a state, or None if it is not in the level.
-    pub fn place_of(&self, what: &M) -> Option<usize>
-        requires { IsLevel M.digest_of self.now.reached.items self.now.older.items (λ d. get nat_eq self.now.latest d) }
+    /// The place of a machine's state, which has this digest, or None if it is not in the level.
+    fn place_of(&self, machine: &M::Running, digest: u64) -> Option<usize>
+        requires level { IsLevel M.digest_of self.now.reached.items self.now.older.items (λ d. get nat_eq self.now.latest d) }
+        requires digest { digest ≡ M.digest_of (M.state_of machine.now) }
         ensures { MatchOption result
-            ((i : _) (d : _) → i < length self.now.reached.items → (slice_index_or self.now.reached.items i d).what ≢ what.now)
-            (λ i. (i < length self.now.reached.items) × ((d : _) → (slice_index_or self.now.reached.items i d).what ≡ what.now)) }
+            ((i : _) (d : _) → i < length self.now.reached.items → (slice_index_or self.now.reached.items i d).what ≢ M.state_of machine.now)
+            (λ i. (i < length self.now.reached.items) × ((d : _) → (slice_index_or self.now.reached.items i d).what ≡ M.state_of machine.now)) }
     {
-        let mut next = self.latest.get(&what.digest()).copied();
+        let mut next = self.latest.get(&digest).copied();
         while let Some(i) = next {
-            if self.reached[i].what.same(what) {
+            if self.reached[i].what.same(machine) {
                 return Some(i);
             }
             next = self.older[i];
@@ -69,41 +72,49 @@ impl<M: Machine> Level<M> {
         None
     }
 
-    /// Adds a new state. If memory runs out, the level is of no more use.
-    fn push(&mut self, found: Found<M>) -> Result<(), NoMemory>
+    /// Adds a new state, which has this digest. If memory runs out, the level is of no more use.
+    fn push(&mut self, found: Found<M>, digest: u64) -> Result<(), NoMemory>
+        requires digest { digest ≡ M.digest_of found.what }
         requires level { IsLevel M.digest_of self.old.reached.items self.old.older.items (λ d. get nat_eq self.old.latest d) }
         requires new { (i : _) (d : _) → i < length self.old.reached.items
             → (slice_index_or self.old.reached.items i d).what ≢ found.what }
         ensures reached { OnOk result (self.new.reached.items ≡ self.old.reached.items ++ found ∷ []) }
         ensures level { OnOk result (IsLevel M.digest_of self.new.reached.items self.new.older.items (λ d. get nat_eq self.new.latest d)) }
     {
-        let digest = found.what.digest();
         let before = self.latest.insert(digest, self.reached.len())?;
         self.older.push(before)?;
         self.reached.push(found)?;
         Ok(())
     }
 
-    /// Counts the runs that come to a state by one more pick, and adds the state if it is new. If memory runs out, the level is of
-    /// no more use.
-    pub fn add(&mut self, what: M, ways: u64, picks: &Picks, pick: u32) -> Result<(), NoMemory>
+    /// Counts the runs that come to a machine's state by one more pick, and puts the state away if it is new. If memory runs out, the
+    /// level is of no more use.
+    pub fn add(
+        &mut self,
+        machine: &M::Running,
+        ways: u64,
+        picks: &Picks,
+        pick: u32,
+    ) -> Result<(), NoMemory>
         requires { IsLevel M.digest_of self.old.reached.items self.old.older.items (λ d. get nat_eq self.old.latest d) }
         ensures like { OnOk result (Like u64.MAX self.new.reached.items
-            (self.old.reached.items ++ record { what = what; ways = ways; picks = picks.now ++ pick ∷ [] } ∷ [])) }
+            (self.old.reached.items ++ record { what = M.state_of machine.now; ways = ways; picks = picks.now ++ pick ∷ [] } ∷ [])) }
         ensures kept { OnOk result ((t : _) → Contains (whats self.old.reached.items) t → Contains (whats self.new.reached.items) t) }
-        ensures there { OnOk result (Contains (whats self.new.reached.items) what) }
+        ensures there { OnOk result (Contains (whats self.new.reached.items) (M.state_of machine.now)) }
         ensures led { OnOk result ((k : _) (s : _) → All (Leads M.enabled M.after k s) (whats self.old.reached.items)
-            → Leads M.enabled M.after k s what → All (Leads M.enabled M.after k s) (whats self.new.reached.items)) }
+            → Leads M.enabled M.after k s (M.state_of machine.now) → All (Leads M.enabled M.after k s) (whats self.new.reached.items)) }
         ensures level { OnOk result (IsLevel M.digest_of self.new.reached.items self.new.older.items (λ d. get nat_eq self.new.latest d)) }
     {
-        match self.place_of(&what) {
+        let digest = M::digest(machine);
+        match self.place_of(machine, digest) {
             Some(i) => {
                 let there = &mut self.reached[i];
                 there.ways = there.ways.saturating_add(ways);
             }
             None => {
+                let what = M::put_away(self.alloc, machine)?;
                 let picks = with_pick(picks, pick)?;
-                self.push(Found { what, ways, picks })?;
+                self.push(Found { what, ways, picks }, digest)?;
             }
         }
         Ok(())

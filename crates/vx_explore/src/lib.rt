@@ -1,7 +1,8 @@
 //! Every run of a machine up to a number of steps, summed up by how the runs end.
 //!
 //! `machine.rt` and `ending.rt` have what a machine offers. `specs/Runs.antt` defines its runs and their summary. `exploring.rt`
-//! computes the summary level by level and merges equal states (`step.rt`, `level.rt`); its contract speaks of none of that.
+//! computes the summary level by level and merges equal states (`step.rt`, `level.rt`): one machine takes all the steps, and its state is put
+//! away if it is new. The contract of `explore` speaks of none of that.
 #![tactic(auto)]
 
 mod answer;

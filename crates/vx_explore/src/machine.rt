@@ -1,17 +1,21 @@
 //! What a machine offers, so that its runs can be explored.
 
-ghost use Rattle.std.specs.Prelude.{◌≡◌, ◌↔◌, ◌<◌, ℕ, IfOk, IsTrue};
+ghost use Rattle.std.specs.Prelude.{◌≡◌, ◌↔◌, ◌<◌, ℕ, IfOk, IsTrue, OnOk};
 
 use crate::ending::Ending;
+use std::alloc::Global;
 use vx_base::NoMemory;
 
-/// A machine in some state. At each step a run takes one of the enabled events.
+/// A state of a machine, put away. At each step a run takes one of the enabled events.
 pub trait Machine: Drop {
     /// How its runs end.
     type Ending: Ending;
 
-    /// Memory to work in, which says nothing.
-    type Workspace: Drop;
+    /// A machine that takes events.
+    type Running: Drop;
+
+    /// The state in which a machine is.
+    ghost state_of: { Self.Running → Self };
 
     /// The number of events that are enabled.
     ghost enabled: { Self → ℕ };
@@ -29,20 +33,24 @@ pub trait Machine: Drop {
     fn count(&self) -> u32
         ensures { result ≡ enabled self.now };
 
-    /// The state after the enabled event at a place, from 0.
-    fn take(&self, pick: u32, workspace: &mut Self::Workspace) -> Result<Self, NoMemory>
+    /// Brings a machine, whatever its state was, to the state after the enabled event at a place, from 0.
+    fn take(&self, pick: u32, machine: &mut Self::Running) -> Result<(), NoMemory>
         requires { pick < enabled self.now }
-        ensures { IfOk result (λ next. next ≡ after self.now pick) };
+        ensures { OnOk result (state_of machine.new ≡ after self.now pick) };
 
-    /// How a run ends that stops here.
-    fn ending(&self, workspace: &mut Self::Workspace) -> Result<Self::Ending, NoMemory>
+    /// The state of a machine, put away.
+    fn put_away(alloc: Global, machine: &Self::Running) -> Result<Self, NoMemory>
+        ensures { IfOk result (λ state. state ≡ state_of machine.now) };
+
+    /// How a run ends that stops here. The machine is brought to this state, whatever its own was.
+    fn ending(&self, machine: &mut Self::Running) -> Result<Self::Ending, NoMemory>
         ensures { IfOk result (λ ending. ending ≡ ending_of self.now) };
 
-    /// Whether two states are equal. Takes no memory.
-    fn same(&self, other: &Self) -> bool
-        ensures { IsTrue result ↔ (self.now ≡ other.now) };
+    /// Whether a machine is in this state. Takes no memory.
+    fn same(&self, machine: &Self::Running) -> bool
+        ensures { IsTrue result ↔ (self.now ≡ state_of machine.now) };
 
     /// By this number states are looked up. Different states that share it cost time alone.
-    fn digest(&self) -> u64
-        ensures { result ≡ digest_of self.now };
+    fn digest(machine: &Self::Running) -> u64
+        ensures { result ≡ digest_of (state_of machine.now) };
 }

@@ -17,7 +17,7 @@ fn add_next<M: Machine>(
     next: &mut Level<M>,
     there: &Found<M>,
     most: usize,
-    workspace: &mut M::Workspace,
+    machine: &mut M::Running,
 ) -> Result<bool, NoMemory>
     requires { IsLevel M.digest_of next.old.reached.items next.old.older.items (λ d. get nat_eq next.old.latest d) }
     ensures like { IfOk result (λ all. IsTrue all → Like u64.MAX next.new.reached.items
@@ -33,8 +33,8 @@ fn add_next<M: Machine>(
     ensures level { OnOk result (IsLevel M.digest_of next.new.reached.items next.new.older.items (λ d. get nat_eq next.new.latest d)) }
 {
     for pick in 0..there.what.count() {
-        let what = there.what.take(pick, workspace)?;
-        next.add(what, there.ways, &there.picks, pick)?;
+        there.what.take(pick, machine)?;
+        next.add(machine, there.ways, &there.picks, pick)?;
         if next.len() > most {
             return Ok(false);
         }
@@ -47,7 +47,7 @@ pub fn next_level<M: Machine>(
     alloc: Global,
     reached: &[Found<M>],
     most: usize,
-    workspace: &mut M::Workspace,
+    machine: &mut M::Running,
 ) -> Result<Option<Vec<Found<M>>>, NoMemory>
     ensures like { IfOk result (λ found. IfSome found (λ next. Like u64.MAX next.items (all_after M.enabled M.after reached.now))) }
     ensures few { IfOk result (λ found. IfSome found (λ next. length next.items ≤ most)) }
@@ -60,7 +60,7 @@ pub fn next_level<M: Machine>(
 {
     let mut next = Level::new(alloc);
     for there in reached {
-        if !add_next(&mut next, there, most, workspace)? {
+        if !add_next(&mut next, there, most, machine)? {
             return Ok(None);
         }
     }

@@ -57,18 +57,13 @@ fn tell_one<M: Machine>(
     rows: &mut Vec<Found<M::Ending>>,
     there: &Found<M>,
     last: bool,
-    workspace: &mut M::Workspace,
+    machine: &mut M::Running,
 ) -> Result<(), NoMemory>
     ensures { OnOk result ((xs : _) → Tells M.Ending.is_same u64.MAX rows.old.items xs
         → Tells M.Ending.is_same u64.MAX rows.new.items (xs ++ ends M.enabled M.ending_of last (there.now ∷ []))) }
 {
     if is_stop(&there.what, last) {
-        return tell(
-            rows,
-            there.what.ending(workspace)?,
-            there.ways,
-            &there.picks,
-        );
+        return tell(rows, there.what.ending(machine)?, there.ways, &there.picks);
     }
     Ok(())
 }
@@ -78,13 +73,13 @@ pub fn tell_all<M: Machine>(
     rows: &mut Vec<Found<M::Ending>>,
     reached: &[Found<M>],
     last: bool,
-    workspace: &mut M::Workspace,
+    machine: &mut M::Running,
 ) -> Result<(), NoMemory>
     ensures { OnOk result ((xs : _) → Tells M.Ending.is_same u64.MAX rows.old.items xs
         → Tells M.Ending.is_same u64.MAX rows.new.items (xs ++ ends M.enabled M.ending_of last reached.now)) }
 {
     for there in reached {
-        tell_one(rows, there, last, workspace)?;
+        tell_one(rows, there, last, machine)?;
     }
     Ok(())
 }

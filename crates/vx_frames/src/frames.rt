@@ -109,6 +109,13 @@ impl Frames {
     }
 
     /// Its frames, the top last.
+    pub(crate) fn as_slice(&self) -> &[Frame]
+        ensures { reverse result.now ≡ self.now.items }
+    {
+        self.items.as_slice()
+    }
+
+    /// Its frames, the top last, with their room.
     pub(crate) fn into_items(self) -> Reserved<Frame>
         ensures { reverse result.items ≡ self.items }
     {

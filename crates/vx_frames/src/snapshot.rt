@@ -1,7 +1,7 @@
 //! Frames in as little room as they take.
 
-ghost use Rattle.std.specs.Prelude.{◌≡◌, ◌↔◌, ◌≤◌, length, IfOk, IsTrue, OnOk, option_map, reverse};
-ghost use Rattle.vx_frames.specs.Frames.{goes_inward, top_of};
+ghost use Rattle.std.specs.Prelude.{◌≡◌, ◌↔◌, ◌≤◌, IfOk, IsTrue, OnOk, reverse};
+ghost use Rattle.vx_frames.specs.Frames.{goes_inward};
 
 use crate::frames::Frames;
 use std::alloc::Global;
@@ -56,24 +56,10 @@ impl FramesSnapshot {
         Ok(())
     }
 
-    /// Whether it has the same frames as another. Takes no memory.
-    pub fn same(&self, other: &FramesSnapshot) -> bool
-        ensures { IsTrue result ↔ (self.now.items ≡ other.now.items) }
+    /// Whether it has the frames of a process. Takes no memory.
+    pub fn same(&self, frames: &Frames) -> bool
+        ensures { IsTrue result ↔ (self.now.items ≡ frames.now.items) }
     {
-        same_stacks(self.items.as_slice(), other.items.as_slice())
-    }
-
-    /// The top frame, if there is one.
-    pub fn top(&self) -> Option<&Frame>
-        ensures { option_map (λ frame. frame.now) result ≡ top_of self.now.items }
-    {
-        self.items.as_slice().last()
-    }
-
-    /// How many frames there are.
-    pub fn len(&self) -> usize
-        ensures { result ≡ length self.now.items }
-    {
-        self.items.len()
+        same_stacks(self.items.as_slice(), frames.as_slice())
     }
 }

@@ -68,6 +68,18 @@ impl Buffers {
         }
     }
 
+    // The bytes of a buffer up to the last that was ever written.
+    fn written(&self, b: u32) -> &[u8]
+        requires { b < 32 }
+        ensures bytes { page_of result.now ≡ slice_index_or self.now b [] }
+        ensures few { length result.now ≤ 2048 }
+    {
+        match self.pages.as_slice().get(b as usize) {
+            Some(page) => page.written(),
+            None => &[],
+        }
+    }
+
     /// Puts a piece over the start of a buffer. Takes no memory.
     #[tactic(auto, using(crate::proofs::Filled::overlaid_at))]
     pub(crate) fn overlay(&mut self, b: u32, piece: &[u8])
@@ -167,14 +179,14 @@ impl BuffersSnapshot {
         }
     }
 
-    /// Whether the bytes are the same. Takes no memory.
+    /// Whether the bytes are those of buffers. Takes no memory.
     #[tactic(auto, using(crate::proofs::Filled::all_same, crate::proofs::Filled::next_same))]
-    pub(crate) fn same(&self, other: &BuffersSnapshot) -> bool
-        ensures { IsTrue result ↔ (self.now ≡ other.now) }
+    pub(crate) fn same(&self, buffers: &Buffers) -> bool
+        ensures { IsTrue result ↔ (self.now ≡ buffers.now) }
     {
-        let kept = self.pages.len().max(other.pages.len()) as u32;
+        let kept = self.pages.len().max(buffers.pages.len()) as u32;
         for b in 0..kept {
-            if !same_page(self.written(b), other.written(b)) {
+            if !same_page(self.written(b), buffers.written(b)) {
                 return false;
             }
         }

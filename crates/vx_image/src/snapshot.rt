@@ -63,6 +63,16 @@ impl Store {
     }
 }
 
+impl Store {
+    /// A digest with R0, the variables, and the numbers of the I/O status blocks. Takes no memory.
+    pub fn mix(&self, digest: u64) -> u64
+        ensures { result ≡ mix_stored digest self.now }
+    {
+        let values = mix_all(mix(digest, self.r0 as u64), &self.vars);
+        self.statuses.mix(values)
+    }
+}
+
 impl StoreSnapshot {
     /// What was put away, in place of what another process stores. Takes no memory.
     pub fn restore(&self, store: &mut Store)
@@ -74,21 +84,13 @@ impl StoreSnapshot {
         self.statuses.restore(&mut store.statuses);
     }
 
-    /// Whether the same is stored. Takes no memory.
-    pub fn same(&self, other: &StoreSnapshot) -> bool
-        ensures { IsTrue result ↔ (self.now ≡ other.now) }
+    /// Whether a process stores the same. Takes no memory.
+    pub fn same(&self, store: &Store) -> bool
+        ensures { IsTrue result ↔ (self.now ≡ store.now) }
     {
-        self.r0 == other.r0
-            && same_variables(&self.vars, &other.vars)
-            && self.statuses.same(&other.statuses)
-            && self.buffers.same(&other.buffers)
-    }
-
-    /// A digest with R0, the variables, and the numbers of the I/O status blocks. Takes no memory.
-    pub fn mix(&self, digest: u64) -> u64
-        ensures { result ≡ mix_stored digest self.now }
-    {
-        let values = mix_all(mix(digest, self.r0 as u64), &self.vars);
-        self.statuses.mix(values)
+        self.r0 == store.r0
+            && same_variables(&self.vars, &store.vars)
+            && self.statuses.same(&store.statuses)
+            && self.buffers.same(&store.buffers)
     }
 }

@@ -200,6 +200,14 @@ impl Statuses {
         self.used = first.len();
     }
 
+    /// A digest with the numbers of the blocks.
+    #[tactic(auto, using(crate::proofs::Mixed::mix_filled))]
+    pub(crate) fn mix(&self, digest: u64) -> u64
+        ensures { result ≡ mix_statuses digest self.now }
+    {
+        mix_statuses(digest, self.filled())
+    }
+
     // Those up to the last that is not clear.
     #[tactic(auto, using(crate::proofs::Filled::statuses_front))]
     fn filled(&self) -> &[Block]
@@ -245,22 +253,15 @@ impl StatusesSnapshot {
         statuses.fill(&self.blocks);
     }
 
-    /// Whether the blocks are the same. Takes no memory.
-    pub(crate) fn same(&self, other: &StatusesSnapshot) -> bool
-        ensures { IsTrue result ↔ (self.now ≡ other.now) }
+    /// Whether these are the blocks. Takes no memory.
+    pub(crate) fn same(&self, statuses: &Statuses) -> bool
+        ensures { IsTrue result ↔ (self.now ≡ statuses.now) }
     {
-        if self.blocks.len() <= other.blocks.len() {
-            same_filled(&self.blocks, &other.blocks)
+        let filled = statuses.filled();
+        if self.blocks.len() <= filled.len() {
+            same_filled(&self.blocks, filled)
         } else {
-            same_filled(&other.blocks, &self.blocks)
+            same_filled(filled, &self.blocks)
         }
-    }
-
-    /// A digest with the numbers of the blocks. Takes no memory.
-    #[tactic(auto, using(crate::proofs::Mixed::mix_filled))]
-    pub(crate) fn mix(&self, digest: u64) -> u64
-        ensures { result ≡ mix_statuses digest self.now }
-    {
-        mix_statuses(digest, &self.blocks)
     }
 }

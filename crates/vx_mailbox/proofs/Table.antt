@@ -1,7 +1,7 @@
 -- The mailboxes of the table, as one place changes.
 use Rattle.std.proofs.Common.{◌≡◌, ◌≢◌, ℕ, zero, suc, replicate, ◌-◌, ◌+◌, ◌<◌, ◌≤◌, List, [], ◌∷◌, Bool, true, cond, not, Option, Some, None, IfSome, IsTrue, is_some, is_none, option_map, length, map, position, slice_index_or, slice_set, take, ◌++◌, inl, inr, refl, ap, sym, subst, arith, ◌∙◌}
 use Rattle.std.specs.List.{position_or_len}
-use Rattle.std.proofs.lemmas.List.{get_or-map, get_or_past, get_or-set_same, get_or-set_other, length-map, length-set, map-set, take_all, take_more, take_more_set}
+use Rattle.std.proofs.lemmas.List.{get_or-map, get_or_past, get_or-set_same, get_or-set_other, length-map, length-set, map-set, take_more, take_more_set}
 use Rattle.std.proofs.lemmas.Bool.{cases_eq, cases_lt, false≢true}
 use Rattle.std.proofs.lemmas.List.Quantifiers.{position-Some}
 use Rattle.std.proofs.Math.Seq.{map-set_same}
@@ -146,10 +146,6 @@ same_more xs ys i here there front =
     take_more_set xs i (slice_index_or ys i None) here
     ∙ (ap (λ (zs : List (Option Mailbox)). zs ++ slice_index_or ys i None ∷ []) front
     ∙ sym (take_more ys i None there))
-
--- and so are all
-pub same_all : (xs ys : List (Option Mailbox)) (n : ℕ) → length xs ≤ n → length ys ≤ n → take n xs ≡ take n ys → xs ≡ ys
-same_all xs ys n here there front = sym (take_all n xs here) ∙ (front ∙ take_all n ys there)
 
 none_at : {A : Type 0} (k i : ℕ) → slice_index_or (replicate {A = Option A} k None) i None ≡ None
 none_at zero i = refl

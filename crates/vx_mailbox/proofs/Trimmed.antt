@@ -1,12 +1,12 @@
 -- Mailboxes without the numbers behind the last one.
-use Rattle.std.proofs.Common.{◌≡◌, ℕ, zero, suc, ◌-◌, ◌≤◌, List, [], ◌∷◌, ◌++◌, Option, Some, None, length, map, replicate, is_none, true, false, ap, refl, ◌∙◌, arith}
+use Rattle.std.proofs.Common.{◌≡◌, ℕ, zero, suc, ◌-◌, ◌≤◌, List, [], ◌∷◌, ◌++◌, Option, Some, None, length, map, replicate, is_none, true, false, ap, refl, sym, ◌∙◌, arith}
 use Rattle.std.proofs.lemmas.List.{length-map, map-append}
 use Rattle.vx_base.specs.Pieces.{Mailbox}
 use Rattle.vx_record.specs.Mailboxes.{or_no_box}
 use Rattle.vx_mailbox.specs.Digest.{mix_boxes, mix_messages}
 use Rattle.vx_mailbox.specs.Places.{Place, box_at}
 use Rattle.vx_same.specs.Trimmed.{filled_to, trimmed}
-use Rattle.vx_same.proofs.Trimmed.{filled_again, none_last, shorter, some_last}
+use Rattle.vx_same.proofs.Trimmed.{filled_again, none_last, same_filled, shorter, some_last, trimmed_again}
 
 free_end : {A : Type 0} (xs : List (Option A)) (o : Option A) → is_none o ≡ true → trimmed (xs ++ o ∷ []) ≡ trimmed xs
 free_end xs None e = none_last xs
@@ -47,3 +47,15 @@ mix_front (box ∷ boxes) k digest = mix_front boxes k (mix_messages digest (or_
 
 pub mix_filled : (boxes : List (Option Mailbox)) (digest : ℕ) → mix_boxes digest (filled_to 64 None boxes) ≡ mix_boxes digest boxes
 mix_filled boxes digest = mix_front boxes (64 - length boxes) digest
+
+pub mix_trimmed : (places : List Place) (kept : List (Option Mailbox)) (digest : ℕ) → length places ≡ 64 → kept ≡ trimmed (map box_at places) → mix_boxes digest kept ≡ mix_boxes digest (map box_at places)
+mix_trimmed places kept digest all is =
+    ap (mix_boxes digest) is ∙ (sym (mix_filled (trimmed (map box_at places)) digest) ∙ ap (mix_boxes digest) (boxes_again places all))
+
+-- what was put away is what the places have exactly where it is that up to the last mailbox
+
+pub boxes_same : (boxes : List (Option Mailbox)) (places : List Place) → length places ≡ 64 → boxes ≡ trimmed (map box_at places) → filled_to 64 None boxes ≡ map box_at places
+boxes_same boxes places all is = ap (filled_to {A = Option Mailbox} 64 None) is ∙ boxes_again places all
+
+pub same_boxes : (boxes : List (Option Mailbox)) (places : List Place) → trimmed boxes ≡ boxes → length places ≡ 64 → filled_to 64 None boxes ≡ map box_at places → boxes ≡ trimmed (map box_at places)
+same_boxes boxes places own all same = same_filled 64 boxes (trimmed (map box_at places)) own (trimmed_again (map box_at places)) (same ∙ sym (boxes_again places all))

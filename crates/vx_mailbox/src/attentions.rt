@@ -75,11 +75,11 @@ impl<R: Routine> AttentionsSnapshot<R> {
         self.entries.restore(&mut attentions.entries)
     }
 
-    /// Whether there are the same entries, in the same order. Takes no memory.
-    pub fn same(&self, other: &AttentionsSnapshot<R>) -> bool
-        ensures { IsTrue result ↔ (self.now.items ≡ other.now.items) }
+    /// Whether these are the entries, in the same order. Takes no memory.
+    pub fn same(&self, attentions: &Attentions<R>) -> bool
+        ensures { IsTrue result ↔ (self.now.items ≡ attentions.now.items) }
     {
-        same_items(self.entries.as_slice(), other.entries.as_slice())
+        same_items(self.entries.as_slice(), attentions.entries.as_slice())
     }
 }
 

@@ -146,6 +146,14 @@ impl Boxes {
         Ok(())
     }
 
+    // Its 64 places.
+    pub(crate) fn as_slice(&self) -> &[BoxPlace]
+        ensures boxes { map box_at result.now ≡ self.now.boxes }
+        ensures count { length result.now ≡ 64 }
+    {
+        self.places.as_slice()
+    }
+
     /// The mailboxes and their messages, in as little room as they take.
     pub fn snapshot(&self, alloc: Global) -> Result<BoxesSnapshot, NoMemory>
         ensures { IfOk result (λ s. s ≡ self.now.boxes) }

@@ -1,17 +1,16 @@
 //! One mailbox in as little room as it takes.
 
-ghost use Rattle.std.specs.Prelude.{◌≡◌, IfOk, OnOk, Some};
+ghost use Rattle.std.specs.Prelude.{◌≡◌, ◌↔◌, IfOk, IsTrue, OnOk, Some};
 ghost use Rattle.std.specs.List.{AllByRecursion};
 ghost use Rattle.vx_mailbox.specs.Boxes.{IsShort};
-ghost use Rattle.vx_mailbox.specs.Digest.{mix_messages};
 ghost use Rattle.vx_mailbox.specs.Heads.{mailbox_of};
 ghost use Rattle.vx_mailbox.specs.Places.{HasRoomFor};
 
-use crate::message::{duplicate_messages, mix_messages, same_messages};
+use crate::message::duplicate_messages;
 use crate::place::{BoxPlace, Head};
 use std::alloc::Global;
 use std::marker::Model;
-use vx_base::{Msg, NoMemory, Same};
+use vx_base::{Msg, NoMemory};
 
 /// A mailbox, with room for exactly its messages. Contracts see the plain `Mailbox` of `vx_base`.
 #[derive(Drop)]
@@ -57,17 +56,10 @@ impl MailboxSnapshot {
         place.restore(self.head, self.messages.as_slice())
     }
 
-    /// A digest with what it stores. Takes no memory.
-    pub(crate) fn mix(&self, digest: u64) -> u64
-        ensures { result ≡ mix_messages digest self.now.messages }
+    /// Whether it is the mailbox of a place. Takes no memory.
+    pub(crate) fn same(&self, place: &BoxPlace) -> bool
+        ensures { IsTrue result ↔ (Some self.now ≡ place.now.box) }
     {
-        mix_messages(digest, self.messages.as_slice())
-    }
-}
-
-impl Same for MailboxSnapshot {
-    fn same(&self, other: &MailboxSnapshot) -> bool {
-        self.head.same(&other.head)
-            && same_messages(self.messages.as_slice(), other.messages.as_slice())
+        place.is_of(&self.head, self.messages.as_slice())
     }
 }

@@ -1,16 +1,18 @@
 //! The place of a mailbox: one number of the table.
 
-ghost use Rattle.std.specs.Prelude.{◌≡◌, ◌+◌, ◌≤◌, ◌++◌, ◌∷◌, ◌==◌, [], false, true, not, IfOk, IfSome, IsTrue, None, OnOk, Some, is_none, is_some, length, nat_le, option_map};
+ghost use Rattle.std.specs.Prelude.{◌≡◌, ◌↔◌, ◌+◌, ◌≤◌, ◌++◌, ◌∷◌, ◌==◌, [], false, true, not, IfOk, IfSome, IsTrue, None, OnOk, Some, is_none, is_some, length, nat_le, option_map};
 ghost use Rattle.std.specs.List.{AllByRecursion, find, list_any};
 ghost use Rattle.vx_base.specs.Lists.{first, less};
 ghost use Rattle.vx_base.specs.Queues.{stored_bytes};
 ghost use Rattle.vx_mailbox.specs.Boxes.{IsShort, holding};
+ghost use Rattle.vx_mailbox.specs.Digest.{mix_messages};
 ghost use Rattle.vx_mailbox.specs.Heads.{mailbox_of};
 ghost use Rattle.vx_mailbox.specs.Places.{HasRoomFor, with_box};
 ghost use Rattle.vx_record.specs.Channels.{is_box_of};
 ghost use Rattle.vx_record.specs.Mailboxes.{or_no_box, this_message};
 
 use crate::mailbox::MailboxSnapshot;
+use crate::message::{mix_messages, same_messages};
 use crate::messages::Messages;
 use std::alloc::Global;
 use std::marker::Model;
@@ -76,6 +78,23 @@ impl BoxPlace {
     {
         self.head = Some(head);
         self.messages.restore(messages)
+    }
+
+    /// Whether it has the mailbox of this head with these messages. Takes no memory.
+    pub(crate) fn is_of(&self, head: &Head, messages: &[Msg]) -> bool
+        ensures { IsTrue result ↔ (Some (mailbox_of head.now messages.now) ≡ self.now.box) }
+    {
+        match &self.head {
+            Some(own) => head.same(own) && same_messages(messages, self.messages.as_slice()),
+            None => false,
+        }
+    }
+
+    /// A digest with what its mailbox stores, if there is one.
+    pub(crate) fn mix(&self, digest: u64) -> u64
+        ensures { result ≡ mix_messages digest (or_no_box self.now.box).messages }
+    {
+        mix_messages(digest, self.messages.as_slice())
     }
 
     /// Makes room for a message more. Refused or not, the mailbox stays.

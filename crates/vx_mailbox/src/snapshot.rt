@@ -1,6 +1,6 @@
 //! The mailboxes in as little room as they take.
 
-ghost use Rattle.std.specs.Prelude.{◌≡◌, ◌↔◌, ◌∷◌, [], IfOk, IsTrue, OnOk, length, map};
+ghost use Rattle.std.specs.Prelude.{◌≡◌, ◌↔◌, IfOk, IsTrue, OnOk, length, map};
 ghost use Rattle.vx_mailbox.specs.Digest.{mix_boxes};
 ghost use Rattle.vx_mailbox.specs.Places.{box_at};
 ghost use Rattle.vx_same.specs.Trimmed.{trimmed};
@@ -11,7 +11,6 @@ use crate::place::BoxPlace;
 use std::alloc::Global;
 use std::marker::Model;
 use vx_base::NoMemory;
-use vx_same::same_options;
 
 /// The mailboxes up to the last one, each with room for exactly its messages. Contracts see all 64 numbers.
 #[derive(Drop)]
@@ -58,25 +57,50 @@ fn put_away(alloc: Global, places: &[BoxPlace]) -> Result<Vec<Option<MailboxSnap
     Ok(boxes)
 }
 
-// A digest with what a mailbox stores, if there is one.
-fn mix_mailbox(digest: u64, mailbox: &Option<MailboxSnapshot>) -> u64
-    ensures { result ≡ mix_boxes digest (mailbox.now ∷ []) }
+// Whether what was put away is the mailbox of a place, or none as there.
+fn same_place(mailbox: &Option<MailboxSnapshot>, place: &BoxPlace) -> bool
+    ensures { IsTrue result ↔ (mailbox.now ≡ place.now.box) }
 {
     match mailbox {
-        Some(mailbox) => mailbox.mix(digest),
-        None => digest,
+        Some(mailbox) => mailbox.same(place),
+        None => place.is_free(),
     }
 }
 
-// A digest with what mailboxes store.
-fn mix_mailboxes(digest: u64, boxes: &[Option<MailboxSnapshot>]) -> u64
-    ensures { result ≡ mix_boxes digest boxes.now }
+// Whether these are the mailboxes of places.
+fn same_places(boxes: &[Option<MailboxSnapshot>], places: &[BoxPlace]) -> bool
+    ensures { IsTrue result ↔ (boxes.now ≡ map box_at places.now) }
+{
+    if boxes.len() != places.len() {
+        return false;
+    }
+    for (i, mailbox) in boxes.iter().enumerate() {
+        if !same_place(mailbox, &places[i]) {
+            return false;
+        }
+    }
+    true
+}
+
+// A digest with what the mailboxes of places store.
+fn mix_places(digest: u64, places: &[BoxPlace]) -> u64
+    ensures { result ≡ mix_boxes digest (map box_at places.now) }
 {
     let mut mixed = digest;
-    for mailbox in boxes {
-        mixed = mix_mailbox(mixed, mailbox);
+    for place in places {
+        mixed = place.mix(mixed);
     }
     mixed
+}
+
+impl Boxes {
+    /// A digest with what the mailboxes store. Takes no memory.
+    #[tactic(auto, using(crate::proofs::Trimmed::mix_trimmed))]
+    pub fn mix(&self, digest: u64) -> u64
+        ensures { result ≡ mix_boxes digest self.now.boxes }
+    {
+        mix_places(digest, trimmed(self.as_slice()))
+    }
 }
 
 impl BoxesSnapshot {
@@ -98,19 +122,11 @@ impl BoxesSnapshot {
         boxes.restore(self.boxes.as_slice())
     }
 
-    /// Whether there are the same mailboxes, with the same messages. Takes no memory.
-    #[tactic(auto, using(vx_same::proofs::Trimmed::same_filled))]
-    pub fn same(&self, other: &BoxesSnapshot) -> bool
-        ensures { IsTrue result ↔ (self.now ≡ other.now) }
+    /// Whether these are the mailboxes, with the same messages. Takes no memory.
+    #[tactic(auto, using(crate::proofs::Trimmed::boxes_same, crate::proofs::Trimmed::same_boxes))]
+    pub fn same(&self, boxes: &Boxes) -> bool
+        ensures { IsTrue result ↔ (self.now ≡ boxes.now.boxes) }
     {
-        same_options(self.boxes.as_slice(), other.boxes.as_slice())
-    }
-
-    /// A digest with what the mailboxes store. Takes no memory.
-    #[tactic(auto, using(crate::proofs::Trimmed::mix_filled))]
-    pub fn mix(&self, digest: u64) -> u64
-        ensures { result ≡ mix_boxes digest self.now }
-    {
-        mix_mailboxes(digest, self.boxes.as_slice())
+        same_places(self.boxes.as_slice(), trimmed(boxes.as_slice()))
     }
 }

@@ -6,12 +6,12 @@ ghost use Rattle.vx_frames.specs.Frames.{top_of};
 ghost use Rattle.vx_procs.specs.Digest.{counts_of, digest_of, mix_processes, mix_standing, mix_units, mix_values, mix_work, phase_number, place_in};
 ghost use Rattle.std.specs.List.{AllByRecursion};
 ghost use Rattle.vx_procs.specs.Units.{IsIn};
-ghost use Rattle.vx_procs.specs.Snapshots.{process_in};
-ghost use Rattle.vx_procs.specs.View.{unit_of};
+ghost use Rattle.vx_procs.specs.Kernel.{AreIn};
+ghost use Rattle.vx_procs.specs.View.{process, unit_of};
 
 use crate::kept::KeptUnit;
-use crate::proc_snapshot::ProcSnapshot;
-use crate::snapshot::CoreSnapshot;
+use crate::process::Proc;
+use crate::procs::Core;
 use vx_base::{Phase, Routine};
 use vx_same::mix;
 
@@ -34,10 +34,10 @@ fn phase_number(phase: Phase) -> u64
     }
 }
 
-impl<R: Routine> ProcSnapshot<R> {
+impl<R: Routine> Proc<R> {
     // A digest with what it stores and its event flags.
     fn mix_values(&self, digest: u64) -> u64
-        ensures { result ≡ mix_values digest (process_in self.now) }
+        ensures { result ≡ mix_values digest (process self.now) }
     {
         let stored = self.store.mix(digest);
         let flags = mix(stored, self.cluster_0.bits() as u64);
@@ -46,7 +46,7 @@ impl<R: Routine> ProcSnapshot<R> {
 
     // The statement of its top frame, 0 where it has none.
     fn top_place(&self) -> u32
-        ensures { result ≡ place_in (top_of (process_in self.now).frames) }
+        ensures { result ≡ place_in (top_of (process self.now).frames) }
     {
         match self.frames.top() {
             Some(frame) => frame.pc,
@@ -56,7 +56,7 @@ impl<R: Routine> ProcSnapshot<R> {
 
     // A digest with its frames and ASTs.
     fn mix_work(&self, digest: u64) -> u64
-        ensures { result ≡ mix_work digest (process_in self.now) }
+        ensures { result ≡ mix_work digest (process self.now) }
     {
         let depth = mix(digest, self.frames.len() as u64);
         let place = mix(depth, self.top_place() as u64);
@@ -65,7 +65,7 @@ impl<R: Routine> ProcSnapshot<R> {
 
     // A digest with how it stands.
     fn mix_standing(&self, digest: u64) -> u64
-        ensures { result ≡ mix_standing digest (process_in self.now) }
+        ensures { result ≡ mix_standing digest (process self.now) }
     {
         let wake = mix(digest, one(self.wake_pending));
         let suspended = mix(wake, one(self.suspended));
@@ -74,8 +74,8 @@ impl<R: Routine> ProcSnapshot<R> {
 }
 
 // A digest with processes.
-fn mix_procs<R: Routine>(digest: u64, procs: &[ProcSnapshot<R>]) -> u64
-    ensures { result ≡ mix_processes digest (map process_in procs.now) }
+fn mix_procs<R: Routine>(digest: u64, procs: &[Proc<R>]) -> u64
+    ensures { result ≡ mix_processes digest (map process procs.now) }
 {
     let mut mixed = digest;
     for proc in procs {
@@ -97,10 +97,10 @@ fn mix_units(digest: u64, units: &[KeptUnit]) -> u64
     mixed
 }
 
-impl<R: Routine> CoreSnapshot<R> {
+impl<R: Routine> Core<R> {
     // The time, the next id, and how many requests and timers there are.
     fn mix_counts(&self) -> u64
-        ensures { result ≡ counts_of self.now }
+        ensures { result ≡ counts_of self.now.state }
     {
         let ids = mix(self.time, self.next as u64);
         let requests = mix(ids, self.requests.len() as u64);
@@ -109,10 +109,11 @@ impl<R: Routine> CoreSnapshot<R> {
 
     /// The state as a number. Equal states have the same; states that differ have the same seldom. Takes no memory.
     pub fn digest(&self) -> u64
-        ensures { result ≡ digest_of self.now }
+        requires { AreIn self.now }
+        ensures { result ≡ digest_of self.now.state }
     {
-        let procs = mix_procs(self.mix_counts(), &self.procs);
-        let units = mix_units(procs, &self.units);
+        let procs = mix_procs(self.mix_counts(), self.procs.as_slice());
+        let units = mix_units(procs, self.units.as_slice());
         self.boxes.mix(self.requests.mix(units))
     }
 }

@@ -13,8 +13,8 @@
 //! value after it as one equation, in the words of the machine. Services call these alone. The processes stand in a table
 //! (`table.rt`) that remembers of each whether it has an event, as far as it alone tells it (`own_event.rt`), and how deep it
 //! is (`seen.rt`), and of each 32 how many have an event (`summary.rt`); `settle.rt` brings that up to date and reads it.
-//! `snapshot.rt` puts the whole away in as little room as it takes and brings it back in place of another state, `same.rt` tells two
-//! snapshots apart, and `digest.rt` makes a number of one.
+//! `snapshot.rt` puts the whole away in as little room as it takes and brings it back in place of another state, `same.rt` compares a
+//! state with what was put away, and `digest.rt` makes a number of one.
 #![tactic(auto)]
 
 mod attention;

@@ -1,79 +1,82 @@
-//! States told apart.
+//! A state compared with what was put away.
 
 ghost use Rattle.std.specs.Prelude.{◌≡◌, ◌↔◌, IsTrue, map};
 ghost use Rattle.std.specs.List.{AllByRecursion};
 ghost use Rattle.vx_procs.specs.Units.{IsIn};
 ghost use Rattle.vx_procs.specs.Snapshots.{process_in};
-ghost use Rattle.vx_procs.specs.View.{unit_of};
+ghost use Rattle.vx_procs.specs.Kernel.{AreIn};
+ghost use Rattle.vx_procs.specs.View.{process, unit_of};
 
 use crate::kept::KeptUnit;
 use crate::proc_snapshot::ProcSnapshot;
+use crate::process::Proc;
+use crate::procs::Core;
 use crate::snapshot::CoreSnapshot;
 use vx_base::{Routine, Same};
 use vx_image::same_privs;
 
 impl<R: Routine> ProcSnapshot<R> {
-    // Whether the declaration, the identification code and the privileges are the same.
-    fn is_same_origin(&self, other: &ProcSnapshot<R>) -> bool
-        ensures { IsTrue result ↔ ((self.now.decl ≡ other.now.decl) × (self.now.group ≡ other.now.group) × (self.now.member ≡ other.now.member) × (self.now.privs ≡ other.now.privs)) }
+    // Whether a process has the same declaration, identification code and privileges.
+    fn is_same_origin(&self, proc: &Proc<R>) -> bool
+        ensures { IsTrue result ↔ ((self.now.decl ≡ proc.now.decl) × (self.now.group ≡ proc.now.group) × (self.now.member ≡ proc.now.member) × (self.now.privs ≡ proc.now.privs)) }
     {
-        self.decl == other.decl
-            && self.group == other.group
-            && self.member == other.member
-            && same_privs(&self.privs, &other.privs)
+        self.decl == proc.decl
+            && self.group == proc.group
+            && self.member == proc.member
+            && same_privs(&self.privs, &proc.privs)
     }
 
-    // Whether what it stores, the frames and the ASTs are the same.
-    fn is_same_inside(&self, other: &ProcSnapshot<R>) -> bool
-        ensures { IsTrue result ↔ ((self.now.store ≡ other.now.store) × (self.now.frames.items ≡ other.now.frames.items) × (self.now.asts.items ≡ other.now.asts.items) × (self.now.asts.enables ≡ other.now.asts.enables)) }
+    // Whether it stores the same, and has the same frames and ASTs.
+    fn is_same_inside(&self, proc: &Proc<R>) -> bool
+        ensures { IsTrue result ↔ ((self.now.store ≡ proc.now.store) × (self.now.frames.items ≡ proc.now.frames.items) × (self.now.asts.items ≡ proc.now.asts.items) × (self.now.asts.enables ≡ proc.now.asts.enables)) }
     {
-        self.store.same(&other.store)
-            && self.frames.same(&other.frames)
-            && self.asts.same_items(&other.asts)
-            && self.asts.same_enables(&other.asts)
+        self.store.same(&proc.store)
+            && self.frames.same(&proc.frames)
+            && self.asts.same_items(&proc.asts)
+            && self.asts.same_enables(&proc.asts)
     }
 
-    // Whether the channels, the exit handlers and the event flags are the same.
-    fn is_same_outside(&self, other: &ProcSnapshot<R>) -> bool
-        ensures { IsTrue result ↔ ((self.now.chans ≡ other.now.chans) × (self.now.exits.items ≡ other.now.exits.items) × (self.now.cluster_0 ≡ other.now.cluster_0) × (self.now.cluster_1 ≡ other.now.cluster_1)) }
+    // Whether it has the same channels, exit handlers and event flags.
+    fn is_same_outside(&self, proc: &Proc<R>) -> bool
+        ensures { IsTrue result ↔ ((self.now.chans ≡ proc.now.chans) × (self.now.exits.items ≡ proc.now.exits.items) × (self.now.cluster_0 ≡ proc.now.cluster_0) × (self.now.cluster_1 ≡ proc.now.cluster_1)) }
     {
-        self.chans.same(&other.chans)
-            && self.exits.same(&other.exits)
-            && self.cluster_0.same(&other.cluster_0)
-            && self.cluster_1.same(&other.cluster_1)
+        self.chans.same(&proc.chans)
+            && self.exits.same(&proc.exits)
+            && self.cluster_0.same(&proc.cluster_0)
+            && self.cluster_1.same(&proc.cluster_1)
     }
 
-    // Whether what pends, the exit code and the phase are the same.
-    fn is_same_phase(&self, other: &ProcSnapshot<R>) -> bool
-        ensures { IsTrue result ↔ ((self.now.wake_pending ≡ other.now.wake_pending) × (self.now.suspended ≡ other.now.suspended) × (self.now.delete_pending ≡ other.now.delete_pending) × (self.now.exit_code ≡ other.now.exit_code) × (self.now.phase ≡ other.now.phase)) }
+    // Whether the same pends, and it has the same exit code and phase.
+    fn is_same_phase(&self, proc: &Proc<R>) -> bool
+        ensures { IsTrue result ↔ ((self.now.wake_pending ≡ proc.now.wake_pending) × (self.now.suspended ≡ proc.now.suspended) × (self.now.delete_pending ≡ proc.now.delete_pending) × (self.now.exit_code ≡ proc.now.exit_code) × (self.now.phase ≡ proc.now.phase)) }
     {
-        self.wake_pending == other.wake_pending
-            && self.suspended == other.suspended
-            && self.delete_pending == other.delete_pending
-            && self.exit_code == other.exit_code
-            && self.phase == other.phase
+        self.wake_pending == proc.wake_pending
+            && self.suspended == proc.suspended
+            && self.delete_pending == proc.delete_pending
+            && self.exit_code == proc.exit_code
+            && self.phase == proc.phase
     }
 
-    // Whether the processes are the same.
-    fn same(&self, other: &ProcSnapshot<R>) -> bool
-        ensures { IsTrue result ↔ (process_in self.now ≡ process_in other.now) }
+    // Whether it is a process as it was put away.
+    fn same(&self, proc: &Proc<R>) -> bool
+        ensures { IsTrue result ↔ (process_in self.now ≡ process proc.now) }
     {
-        self.is_same_origin(other)
-            && self.is_same_inside(other)
-            && self.is_same_outside(other)
-            && self.is_same_phase(other)
+        self.is_same_origin(proc)
+            && self.is_same_inside(proc)
+            && self.is_same_outside(proc)
+            && self.is_same_phase(proc)
     }
 }
 
-// Whether two lists of processes are the same.
-fn same_procs<R: Routine>(a: &[ProcSnapshot<R>], b: &[ProcSnapshot<R>]) -> bool
-    ensures { IsTrue result ↔ (map process_in a.now ≡ map process_in b.now) }
+// Whether processes are as they were put away.
+fn same_procs<R: Routine>(kept: &[ProcSnapshot<R>], procs: &[Proc<R>]) -> bool
+    ensures { IsTrue result ↔ (map process_in kept.now ≡ map process procs.now) }
 {
-    if a.len() != b.len() {
+    if kept.len() != procs.len() {
         return false;
     }
-    for (i, proc) in a.iter().enumerate() {
-        if !proc.same(&b[i]) {
+    for (i, snapshot) in kept.iter().enumerate() {
+        if !snapshot.same(&procs[i]) {
             return false;
         }
     }
@@ -99,32 +102,34 @@ fn same_units(a: &[KeptUnit], b: &[KeptUnit]) -> bool
 }
 
 impl<R: Routine> CoreSnapshot<R> {
-    // Whether the system, the time, the next id, the processes and the common clusters are the same.
-    fn is_same_first(&self, other: &CoreSnapshot<R>) -> bool
-        ensures { IsTrue result ↔ ((self.now.system ≡ other.now.system) × (self.now.time ≡ other.now.time) × (self.now.next ≡ other.now.next) × (self.now.procs ≡ other.now.procs) × (self.now.common ≡ other.now.common)) }
+    // Whether a state has the same system, time, next id, processes and common clusters.
+    fn is_same_first(&self, core: &Core<R>) -> bool
+        ensures { IsTrue result ↔ ((self.now.system ≡ core.now.state.system) × (self.now.time ≡ core.now.state.time) × (self.now.next ≡ core.now.state.next) × (self.now.procs ≡ core.now.state.procs) × (self.now.common ≡ core.now.state.common)) }
     {
-        self.time == other.time
-            && self.next == other.next
-            && same_procs(&self.procs, &other.procs)
-            && self.clusters.same(&other.clusters)
-            && self.system.get().same(other.system.get())
+        self.time == core.time
+            && self.next == core.next
+            && same_procs(&self.procs, core.procs.as_slice())
+            && self.clusters.same(&core.clusters)
+            && self.system.get().same(core.system.get())
     }
 
-    // Whether the requests, the timers, the attention entries, the mailboxes and the units are the same.
-    fn is_same_last(&self, other: &CoreSnapshot<R>) -> bool
-        ensures { IsTrue result ↔ ((self.now.requests ≡ other.now.requests) × (self.now.timers ≡ other.now.timers) × (self.now.attention ≡ other.now.attention) × (self.now.boxes ≡ other.now.boxes) × (self.now.units ≡ other.now.units)) }
+    // Whether it has the same requests, timers, attention entries, mailboxes and units.
+    fn is_same_last(&self, core: &Core<R>) -> bool
+        requires { AreIn core.now }
+        ensures { IsTrue result ↔ ((self.now.requests ≡ core.now.state.requests) × (self.now.timers ≡ core.now.state.timers) × (self.now.attention ≡ core.now.state.attention) × (self.now.boxes ≡ core.now.state.boxes) × (self.now.units ≡ core.now.state.units)) }
     {
-        self.requests.same(&other.requests)
-            && self.timers.same(&other.timers)
-            && self.attention.same(&other.attention)
-            && self.boxes.same(&other.boxes)
-            && same_units(&self.units, &other.units)
+        self.requests.same(&core.requests)
+            && self.timers.same(&core.timers)
+            && self.attention.same(&core.attention)
+            && self.boxes.same(&core.boxes)
+            && same_units(self.units.as_slice(), core.units.as_slice())
     }
 
-    /// Whether the states are the same. Takes no memory.
-    pub fn same(&self, other: &CoreSnapshot<R>) -> bool
-        ensures { IsTrue result ↔ (self.now ≡ other.now) }
+    /// Whether a state, of which no unit is out, is the one that was put away. Takes no memory.
+    pub fn same(&self, core: &Core<R>) -> bool
+        requires { AreIn core.now }
+        ensures { IsTrue result ↔ (self.now ≡ core.now.state) }
     {
-        self.is_same_first(other) && self.is_same_last(other)
+        self.is_same_first(core) && self.is_same_last(core)
     }
 }

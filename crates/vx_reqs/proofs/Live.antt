@@ -1,6 +1,7 @@
 -- The requests that stand in places: found, taken out, changed and added.
-use Rattle.std.proofs.Common.{◌≡◌, ◌+◌, List, [], ◌∷◌, ◌++◌, Bool, true, false, cond, ◌||◌, Option, Some, None, length, refl, ap, arith, option_to_list, option_map, is_some}
+use Rattle.std.proofs.Common.{◌≡◌, ℕ, ◌+◌, ◌<◌, drop, slice_index_or, sym, ◌∙◌, List, [], ◌∷◌, ◌++◌, Bool, true, false, cond, ◌||◌, Option, Some, None, length, refl, ap, arith, option_to_list, option_map, is_some}
 use Rattle.std.specs.List.{find, list_any, filter}
+use Rattle.std.proofs.lemmas.List.{drop_more}
 use Rattle.vx_base.specs.Lists.{less, amend}
 use Rattle.vx_base.specs.Pieces.{Request}
 use Rattle.vx_base.specs.declared.number.Id.{Id}
@@ -131,3 +132,10 @@ none_any p (x ∷ xs) e =
 pub is_some_map : {X Y : Type 0} (f : X → Y) (o : Option X) → is_some o ≡ is_some (option_map f o)
 is_some_map f None = refl
 is_some_map f (Some x) = refl
+
+-- the request of the first place that is left comes first
+pub live_step : (slots : List Place) (i : ℕ) (item : Place) (r : Request) → i < length slots → item ≡ slice_index_or slots i item → Some r ≡ item.request → live (drop i slots) ≡ r ∷ live (drop (i + 1) slots)
+live_step slots i item r within is held =
+    ap live (drop_more slots i item within)
+    ∙ (ap (λ (x : Place). option_to_list x.request ++ live (drop (i + 1) slots)) (sym is)
+    ∙ ap (λ (o : Option Request). option_to_list o ++ live (drop (i + 1) slots)) (sym held))

@@ -185,6 +185,13 @@ impl<R: Routine> Reqs<R> {
         Some(found.req())
     }
 
+    // Its places.
+    pub(crate) fn as_slice(&self) -> &[Slot<R>]
+        ensures { live result.now ≡ self.now.items }
+    {
+        self.slots.as_slice()
+    }
+
     /// How many requests there are.
     pub fn len(&self) -> usize
         ensures { result ≡ length self.now.items }

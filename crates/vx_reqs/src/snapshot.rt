@@ -1,6 +1,6 @@
 //! The requests in as little room as they take.
 
-ghost use Rattle.std.specs.Prelude.{◌≡◌, ◌↔◌, IfOk, IsTrue, OnOk, length};
+ghost use Rattle.std.specs.Prelude.{◌≡◌, ◌↔◌, IfOk, IsTrue, OnOk};
 ghost use Rattle.vx_reqs.specs.Digest.{mix_requests};
 ghost use Rattle.vx_reqs.specs.Places.{live};
 
@@ -9,8 +9,8 @@ use crate::reqs::Reqs;
 use crate::slot::Slot;
 use std::alloc::Global;
 use std::marker::Model;
-use vx_base::{Duplicate, NoMemory, Routine};
-use vx_same::{mix, same_items};
+use vx_base::{Duplicate, NoMemory, Routine, Same};
+use vx_same::mix;
 
 /// The outstanding requests in order of acceptance, with no empty place and no room for more, and nothing noted of where those of a
 /// unit or of a mailbox are.
@@ -60,16 +60,47 @@ fn in_places<R: Routine>(
     Ok(slots)
 }
 
-// A digest with requests.
-fn mix_requests<R: Routine>(digest: u64, requests: &[Outstanding<R>]) -> u64
-    ensures { result ≡ mix_requests digest requests.now }
+// Whether these are the requests that stand in places.
+fn same_requests<R: Routine>(requests: &[Outstanding<R>], slots: &[Slot<R>]) -> bool
+    ensures { IsTrue result ↔ (requests.now ≡ live slots.now) }
+{
+    let mut left = requests;
+    for slot in slots {
+        let Some(request) = slot.held() else {
+            continue;
+        };
+        let Some((first, others)) = left.split_first() else {
+            return false;
+        };
+        if !first.same(request) {
+            return false;
+        }
+        left = others;
+    }
+    left.is_empty()
+}
+
+// A digest with the requests that stand in places.
+fn mix_requests<R: Routine>(digest: u64, slots: &[Slot<R>]) -> u64
+    ensures { result ≡ mix_requests digest (live slots.now) }
 {
     let mut mixed = digest;
-    for request in requests {
-        let req = request.req();
-        mixed = mix(mix(mixed, req.id.0 as u64), req.p.0 as u64);
+    for slot in slots {
+        if let Some(request) = slot.held() {
+            let req = request.req();
+            mixed = mix(mix(mixed, req.id.0 as u64), req.p.0 as u64);
+        }
     }
     mixed
+}
+
+impl<R: Routine> Reqs<R> {
+    /// A digest with the requests. Takes no memory.
+    pub fn mix(&self, digest: u64) -> u64
+        ensures { result ≡ mix_requests digest self.now.items }
+    {
+        mix_requests(digest, self.as_slice())
+    }
 }
 
 impl<R: Routine> ReqsSnapshot<R> {
@@ -96,24 +127,10 @@ impl<R: Routine> ReqsSnapshot<R> {
         Ok(())
     }
 
-    /// Whether there are the same requests, in the same order. Takes no memory.
-    pub fn same(&self, other: &ReqsSnapshot<R>) -> bool
-        ensures { IsTrue result ↔ (self.now ≡ other.now) }
+    /// Whether these are the requests that are out, in the same order. Takes no memory.
+    pub fn same(&self, reqs: &Reqs<R>) -> bool
+        ensures { IsTrue result ↔ (self.now ≡ reqs.now.items) }
     {
-        same_items(self.requests.as_slice(), other.requests.as_slice())
-    }
-
-    /// A digest with the requests. Takes no memory.
-    pub fn mix(&self, digest: u64) -> u64
-        ensures { result ≡ mix_requests digest self.now }
-    {
-        mix_requests(digest, self.requests.as_slice())
-    }
-
-    /// How many requests there are.
-    pub fn len(&self) -> usize
-        ensures { result ≡ length self.now }
-    {
-        self.requests.len()
+        same_requests(self.requests.as_slice(), reqs.as_slice())
     }
 }

@@ -153,3 +153,11 @@ trimmed_again {A} xs =
 pub same_filled : {A : Type 0} (n : ℕ) (xs ys : List (Option A)) → trimmed xs ≡ xs → trimmed ys ≡ ys → filled_to n None xs ≡ filled_to n None ys → xs ≡ ys
 same_filled {A} n xs ys own_x own_y same =
     sym (none_behind xs (n - length xs) ∙ own_x) ∙ (ap (trimmed {A = A}) same ∙ (none_behind ys (n - length ys) ∙ own_y))
+
+-- what is trimmed and what is not are filled up to the same exactly where the one is the other trimmed
+
+pub same_trimmed : {A : Type 0} (n : ℕ) (xs ys : List (Option A)) → trimmed xs ≡ xs → length ys ≤ n → filled_to n None xs ≡ filled_to n None ys → xs ≡ trimmed ys
+same_trimmed n xs ys own few same = same_filled n xs (trimmed ys) own (trimmed_again ys) (same ∙ sym (filled_same n ys few))
+
+pub trimmed_same : {A : Type 0} (n : ℕ) (xs ys : List (Option A)) → length ys ≤ n → xs ≡ trimmed ys → filled_to n None xs ≡ filled_to n None ys
+trimmed_same {A} n xs ys few same = ap (filled_to {A = Option A} n None) same ∙ filled_same n ys few

@@ -1,6 +1,6 @@
 //! The timers in as little room as they take.
 
-ghost use Rattle.std.specs.Prelude.{◌≡◌, ◌↔◌, [], IfOk, IsTrue, OnOk, length};
+ghost use Rattle.std.specs.Prelude.{◌≡◌, ◌↔◌, [], IfOk, IsTrue, OnOk};
 ghost use Rattle.vx_timers.specs.Places.{entries};
 
 use crate::due::Due;
@@ -8,8 +8,7 @@ use crate::places::Place;
 use crate::timers::Timers;
 use std::alloc::Global;
 use std::marker::Model;
-use vx_base::{Duplicate, NoMemory, Routine};
-use vx_same::same_items;
+use vx_base::{Duplicate, NoMemory, Routine, Same};
 
 /// The timers and scheduled wakes of all processes in the order of opening, with no empty place and no room for more, and no tournament of
 /// their times.
@@ -65,6 +64,22 @@ fn clear<R: Routine>(alloc: Global, timers: &mut Timers<R>)
     }
 }
 
+// Whether these are the entries that stand in places.
+fn same_entries<R: Routine>(dues: &[Due<R>], places: &[Place<R>]) -> bool
+    ensures { IsTrue result ↔ (dues.now ≡ entries places.now) }
+{
+    let mut left = dues;
+    for place in places {
+        if let Some(due) = place {
+            match left.split_first() {
+                Some((first, others)) if first.same(due) => left = others,
+                _ => return false,
+            }
+        }
+    }
+    left.is_empty()
+}
+
 impl<R: Routine> TimersSnapshot<R> {
     /// The entries of places, of which there are so many.
     pub(crate) fn new(
@@ -87,17 +102,10 @@ impl<R: Routine> TimersSnapshot<R> {
         put_all(timers, self.entries.as_slice())
     }
 
-    /// Whether there are the same entries, in the same order. Takes no memory.
-    pub fn same(&self, other: &TimersSnapshot<R>) -> bool
-        ensures { IsTrue result ↔ (self.now ≡ other.now) }
+    /// Whether these are the entries of timers, in the same order. Takes no memory.
+    pub fn same(&self, timers: &Timers<R>) -> bool
+        ensures { IsTrue result ↔ (self.now ≡ timers.now.items) }
     {
-        same_items(self.entries.as_slice(), other.entries.as_slice())
-    }
-
-    /// How many entries there are.
-    pub fn len(&self) -> usize
-        ensures { result ≡ length self.now }
-    {
-        self.entries.len()
+        same_entries(self.entries.as_slice(), timers.as_slice())
     }
 }

@@ -88,6 +88,13 @@ impl<R: Routine> Timers<R> {
         TimersSnapshot::new(alloc, self.places.as_slice(), self.count)
     }
 
+    // Its places.
+    pub(crate) fn as_slice(&self) -> &[Place<R>]
+        ensures { entries result.now ≡ self.now.items }
+    {
+        self.places.as_slice()
+    }
+
     /// How many entries there are.
     pub fn len(&self) -> usize
         ensures { result ≡ length self.now.items }

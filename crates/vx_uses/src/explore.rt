@@ -36,7 +36,9 @@ impl Ending for Rest {
 impl Machine for Counters {
     type Ending = Rest;
 
-    type Workspace = ();
+    type Running = Counters;
+
+    ghost state_of = { λ c. c };
 
     ghost enabled = { λ c. (if c.left == 0 then 0 else 1) + (if c.right == 0 then 0 else 1) };
 
@@ -54,37 +56,43 @@ impl Machine for Counters {
         left + right
     }
 
-    fn take(&self, pick: u32, _workspace: &mut ()) -> Result<Counters, NoMemory> {
+    fn take(&self, pick: u32, counters: &mut Counters) -> Result<(), NoMemory> {
+        counters.left = self.left;
+        counters.right = self.right;
         if pick == 0 && self.left != 0 {
-            return Ok(Counters {
-                left: self.left - 1,
-                right: self.right,
-            });
+            counters.left -= 1;
+        } else {
+            counters.right -= 1;
         }
+        Ok(())
+    }
+
+    fn put_away(_alloc: Global, counters: &Counters) -> Result<Counters, NoMemory> {
         Ok(Counters {
-            left: self.left,
-            right: self.right - 1,
+            left: counters.left,
+            right: counters.right,
         })
     }
 
-    fn ending(&self, _workspace: &mut ()) -> Result<Rest, NoMemory> {
+    fn ending(&self, _counters: &mut Counters) -> Result<Rest, NoMemory> {
         Ok(Rest { left: self.left })
     }
 
-    fn same(&self, other: &Counters) -> bool {
-        self.left == other.left && self.right == other.right
+    fn same(&self, counters: &Counters) -> bool {
+        self.left == counters.left && self.right == counters.right
     }
 
-    fn digest(&self) -> u64 {
-        self.left as u64
+    fn digest(counters: &Counters) -> u64 {
+        counters.left as u64
     }
 }
 
 // How many runs have each ending, for two counters of k steps; no number if the exploration was cut.
 fn ways(alloc: Global, k: u32, limit: u32, most: usize) -> Result<Vec<u64>, NoMemory> {
     let mut ways = Vec::new(alloc);
-    let counters = Counters { left: k, right: k };
-    if let Answer::Told(rows) = explore(alloc, counters, limit, most, &mut ())? {
+    let first = Counters { left: k, right: k };
+    let mut counters = Counters { left: 0, right: 0 };
+    if let Answer::Told(rows) = explore(alloc, first, limit, most, &mut counters)? {
         for row in &rows {
             ways.push(row.ways)?;
         }

@@ -6,7 +6,7 @@ use Rattle.vx_explore.proofs.level.Level.add.Goals as goal
 pub returns-in-Some-clause-like : goal.returns-in-Some-clause-like
 returns-in-Some-clause-like g c =
     let there = c.index_mut-there.result.now in
-    Like-counted _ (record { what = c.args.what; ways = c.args.ways; picks = _ }) c.args.self.now.reached.items c.in-Some.i there _
+    Like-counted _ (record { what = g.M.Machine.state_of c.args.machine.now; ways = c.args.ways; picks = _ }) c.args.self.now.reached.items c.in-Some.i there _
     c.in-Some.ensures.0 c.index_mut-there.ensures.value (c.in-Some.ensures.1 there) c.saturating_add-there.ensures
 
 pub returns-in-Some-clause-level : goal.returns-in-Some-clause-level
@@ -30,8 +30,8 @@ returns-in-Some-clause-kept g c = λ t h.
 pub returns-in-Some-clause-there : goal.returns-in-Some-clause-there
 returns-in-Some-clause-there g c =
     rw (map-counted (λ s. s) c.args.self.now.reached.items c.in-Some.i c.index_mut-there.result.now c.saturating_add-there.result c.in-Some.ensures.0 c.index_mut-there.ensures.value)
-    (Contains-whats c.args.self.now.reached.items c.in-Some.i c.args.what c.in-Some.ensures.0 c.in-Some.ensures.1)
+    (Contains-whats c.args.self.now.reached.items c.in-Some.i (g.M.Machine.state_of c.args.machine.now) c.in-Some.ensures.0 c.in-Some.ensures.1)
 
 pub returns-in_ok-push-in-None-clause-kept : goal.returns-in_ok-push-in-None-clause-kept
 returns-in_ok-push-in-None-clause-kept g c = λ t h.
-    rw (c.in_ok-push-in-None.ensures.reached, whats-push c.args.self.now.reached.items) (Contains-more (whats c.args.self.now.reached.items) c.args.what t h)
+    rw (c.in_ok-push-in-None.ensures.reached, whats-push c.args.self.now.reached.items) (Contains-more (whats c.args.self.now.reached.items) c.in_ok-what-in-None.what t h)
