@@ -1,6 +1,7 @@
 //! Effects, and the log of one event.
 
 ghost use Rattle.std.specs.Prelude.{◌≡◌, ◌<◌, ◌≤◌, ◌+◌, ◌++◌, ◌∷◌, [], length, OnOk, OnErr};
+ghost use Rattle.vx_base.specs.Roomy.{with_items};
 
 use crate::bytes::{Bytes, NoMemory};
 use crate::call::Target;
@@ -182,6 +183,13 @@ impl Effects {
         ensures err { OnErr result (self.new ≡ self.old) }
     {
         self.items.reserve(n)
+    }
+
+    /// Takes all effects out; their room stays. Takes no memory.
+    pub fn clear(&mut self)
+        ensures { self.new ≡ with_items self.old [] }
+    {
+        self.items.clear();
     }
 
     /// Logs an effect. Takes no memory.

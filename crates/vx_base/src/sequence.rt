@@ -1,6 +1,6 @@
 //! A list that contracts see as a list.
 
-ghost use Rattle.std.specs.Prelude.{◌≡◌, [], ◌∷◌, ◌++◌, OnOk, OnErr};
+ghost use Rattle.std.specs.Prelude.{◌≡◌, [], ◌∷◌, ◌++◌, IfOk, OnOk, OnErr};
 
 use crate::bytes::NoMemory;
 use crate::same::{Duplicate, Same};
@@ -71,12 +71,31 @@ impl<T: Same> Same for Sequence<T> {
     }
 }
 
-impl<T: Duplicate> Duplicate for Sequence<T> {
-    fn duplicate(&self) -> Result<Sequence<T>, NoMemory> {
-        let mut copy = Sequence::new(*self.items.allocator());
+impl<T: Duplicate> Sequence<T> {
+    // The same items, with room for so many more.
+    fn with_room(&self, more: usize) -> Result<Sequence<T>, NoMemory>
+        ensures { IfOk result (λ copy. copy ≡ self.now) }
+    {
+        let room = self.items.len().saturating_add(more);
+        let mut copy = Sequence::from_vec(Vec::with_capacity(*self.items.allocator(), room)?);
         for item in &self.items {
             copy.push(item.duplicate()?)?;
         }
         Ok(copy)
+    }
+
+    /// The same items and one more.
+    pub fn with(&self, item: T) -> Result<Sequence<T>, NoMemory>
+        ensures { IfOk result (λ more. more ≡ self.now ++ item ∷ []) }
+    {
+        let mut more = self.with_room(1)?;
+        more.push(item)?;
+        Ok(more)
+    }
+}
+
+impl<T: Duplicate> Duplicate for Sequence<T> {
+    fn duplicate(&self) -> Result<Sequence<T>, NoMemory> {
+        self.with_room(0)
     }
 }

@@ -1,13 +1,12 @@
 -- Channels behind the last one that was ever assigned.
 use Rattle.std.proofs.Common.{◌≡◌, ℕ, zero, suc, ◌+◌, ◌-◌, ◌≤◌, List, [], ◌∷◌, ◌++◌, if◌then◌else◌, nat_lt, refl, take, Option, None, IsSome, is_some, inl, inr, drop, max, replicate, slice_index_or, slice_set, ap, sym, ◌∙◌, arith}
 use Rattle.std.proofs.Math.Nat.{le-max_left, le-max_right}
-use Rattle.std.proofs.lemmas.Bool.{cases_lt, false≢true}
 use Rattle.std.proofs.lemmas.List.{take-append-drop, get_or-drop, get_or-replicate, get_or_past, length-replicate}
 use Rattle.std.specs.List.{find}
 use Rattle.vx_base.specs.Channels.{channel_at, is_reached, next_of_mode, reached_from}
 use Rattle.vx_base.specs.declared.mode.Mode.{Mode}
 use Rattle.vx_base.specs.Pieces.{Channel}
-use Rattle.vx_same.proofs.Trimmed.{behind_set}
+use Rattle.vx_same.proofs.Trimmed.{behind_set, there_before}
 
 -- behind one that is assigned, and behind those before
 pub assigned_behind : (rows : List (Option Channel)) (k n : ℕ) (channel : Option Channel) → 1 ≤ n → drop k rows ≡ replicate (64 - k) None → drop (max k n) (slice_set rows (n - 1) channel) ≡ replicate (64 - max k n) None
@@ -15,27 +14,9 @@ assigned_behind rows k n channel some behind =
     let least = le-max_right k n in
     behind_set 64 None channel rows k (n - 1) (max k n) (le-max_left k n) (omega (arith, some, least)) behind
 
-none_there : (m i : ℕ) (free : Option Channel) → slice_index_or (replicate m free) i free ≡ free
-none_there m i free =
-    elim (cases_lt i m) [
-      | inl within ↦ get_or-replicate m i free free within
-      | inr past ↦ let long = length-replicate m free in get_or_past (replicate m free) i free (omega (arith, past, long))
-    ]
-
-none_behind : (rows : List (Option Channel)) (k i : ℕ) → k ≤ i → drop k rows ≡ replicate (64 - k) None → slice_index_or rows i None ≡ None
-none_behind rows k i past behind =
-    let whole : i ≡ k + (i - k) = omega (arith, past) in
-    ap (λ (j : ℕ). slice_index_or rows j None) whole
-    ∙ (sym (get_or-drop k rows (i - k) None)
-    ∙ (ap (λ (ys : List (Option Channel)). slice_index_or ys (i - k) None) behind ∙ none_there (64 - k) (i - k) None))
-
 -- one that is freed was among those before
 pub freed_behind : (rows : List (Option Channel)) (k n : ℕ) → IsSome (channel_at rows n) → drop k rows ≡ replicate (64 - k) None → drop k (slice_set rows (n - 1) None) ≡ replicate (64 - k) None
-freed_behind rows k n assigned behind =
-    elim (cases_lt (n - 1) k) [
-      | inl within ↦ behind_set 64 None None rows k (n - 1) k (omega arith) within behind
-      | inr past ↦ absurd (false≢true (sym (ap is_some (none_behind rows k (n - 1) (omega (arith, past)) behind)) ∙ assigned))
-    ]
+freed_behind rows k n assigned behind = behind_set 64 None None rows k (n - 1) k (omega arith) (there_before 64 rows k (n - 1) assigned behind) behind
 
 -- Those behind are reached in no mode.
 

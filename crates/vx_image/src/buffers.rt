@@ -30,7 +30,7 @@ impl Model for Buffers {
     ghost invariant = { λ b. (length b.pages.items ≤ 32) × (32 ≤ b.pages.capacity) };
 }
 
-// Fills pages up to so many. Takes no memory.
+// Fills pages up to so many, if there are fewer. Takes no memory.
 #[tactic(auto, using(crate::proofs::Filled::next_filled))]
 fn fill(pages: &mut Reserved<Page>, n: usize)
     requires few { n ≤ 32 }
@@ -39,6 +39,7 @@ fn fill(pages: &mut Reserved<Page>, n: usize)
     ensures same { filled pages.new.items ≡ filled pages.old.items }
     ensures filled { n ≤ length pages.new.items }
     ensures few { length pages.new.items ≤ 32 }
+    ensures exact { length pages.old.items ≤ n → length pages.new.items ≡ n }
     ensures room { pages.new.capacity ≡ pages.old.capacity }
 {
     while pages.len() < n {
@@ -120,18 +121,6 @@ fn shrink(pages: &mut Reserved<Page>, n: usize)
     }
 }
 
-// Has so many pages, of which some are there. Takes no memory.
-fn grow(pages: &mut Reserved<Page>, n: usize)
-    requires there { length pages.old.items ≤ n }
-    requires room { n ≤ pages.old.capacity }
-    ensures len { length pages.new.items ≡ n }
-    ensures room { pages.new.capacity ≡ pages.old.capacity }
-{
-    while pages.len() < n {
-        pages.put(Page::new());
-    }
-}
-
 // Has pages hold what was put away, one by one. Takes no memory.
 fn restore_pages(pages: &mut Reserved<Page>, kept: &[PageSnapshot])
     requires { length pages.old.items ≡ length kept.now }
@@ -163,7 +152,7 @@ impl BuffersSnapshot {
     {
         let n = self.pages.len();
         shrink(&mut buffers.pages, n);
-        grow(&mut buffers.pages, n);
+        fill(&mut buffers.pages, n);
         restore_pages(&mut buffers.pages, self.pages.as_slice());
     }
 

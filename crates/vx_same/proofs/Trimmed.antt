@@ -1,8 +1,9 @@
 -- Lists of a fixed length without the end, where that is all alike.
-use Rattle.std.proofs.Common.{◌≡◌, ℕ, zero, suc, ◌+◌, ◌-◌, ◌<◌, ◌≤◌, List, [], ◌∷◌, ◌++◌, Option, Some, None, drop, length, max, replicate, slice_set, take, ap, append_assoc, refl, sym, ◌∙◌, arith}
+use Rattle.std.proofs.Common.{◌≡◌, ℕ, zero, suc, ◌+◌, ◌-◌, ◌<◌, ◌≤◌, List, [], ◌∷◌, ◌++◌, Option, Some, None, IsSome, is_some, drop, length, max, replicate, slice_index_or, slice_set, take, inl, inr, ap, append_assoc, refl, sym, ◌∙◌, arith}
 use Rattle.std.proofs.Math.Nat.{le-max_left, le-max_right}
+use Rattle.std.proofs.lemmas.Bool.{cases_lt, false≢true}
 use Rattle.std.proofs.lemmas.Slice.{drop-append-drop}
-use Rattle.std.proofs.lemmas.List.{drop-drop, drop-replicate, drop-set-lt, drop_at, drop-append-le, length-drop, length-replicate, length-take-le, replicate-append-replicate, take-append-drop, take-append-le, take_at}
+use Rattle.std.proofs.lemmas.List.{get_or-drop, drop-drop, drop-replicate, drop-set-lt, drop_at, drop-append-le, length-drop, length-replicate, length-take-le, replicate-append-replicate, take-append-drop, take-append-le, take_at}
 use Rattle.vx_same.specs.Trimmed.{filled_to, laid_over, none_before, trimmed}
 
 -- Whatever the items.
@@ -53,6 +54,34 @@ behind_laid n rest ys xs k behind =
 pub behind_set : {A : Type 0} (n : ℕ) (rest x : A) (xs : List A) (k i m : ℕ) → k ≤ m → i < m → drop k xs ≡ replicate (n - k) rest → drop m (slice_set xs i x) ≡ replicate (n - m) rest
 behind_set n rest x xs k i m past within behind = drop-set-lt m xs i x within ∙ further n rest xs k m past behind
 
+-- Behind the place, each is like the others.
+
+alike_at : {A : Type 0} (n i : ℕ) (rest : A) → slice_index_or (replicate n rest) i rest ≡ rest
+alike_at zero i rest = refl
+alike_at (suc n) zero rest = refl
+alike_at (suc n) (suc i) rest = alike_at n i rest
+
+-- behind those that are given, the others
+pub filled_at : {A : Type 0} (xs : List A) (n i : ℕ) (rest : A) → slice_index_or (xs ++ replicate n rest) i rest ≡ slice_index_or xs i rest
+filled_at [] n i rest = alike_at n i rest
+filled_at (x ∷ xs) n zero rest = refl
+filled_at (x ∷ xs) n (suc i) rest = filled_at xs n i rest
+
+behind_at : {A : Type 0} (n : ℕ) (rest : A) (xs : List A) (k i : ℕ) → k ≤ i → drop k xs ≡ replicate (n - k) rest → slice_index_or xs i rest ≡ rest
+behind_at {A} n rest xs k i past behind =
+    let whole : i ≡ k + (i - k) = omega (arith, past) in
+    ap (λ (j : ℕ). slice_index_or xs j rest) whole
+    ∙ (sym (get_or-drop k xs (i - k) rest)
+    ∙ (ap (λ (ys : List A). slice_index_or ys (i - k) rest) behind ∙ alike_at (n - k) (i - k) rest))
+
+-- what is there stands before it
+pub there_before : {A : Type 0} (n : ℕ) (xs : List (Option A)) (k i : ℕ) → IsSome (slice_index_or xs i None) → drop k xs ≡ replicate (n - k) None → i < k
+there_before n xs k i there behind =
+    elim (cases_lt i k) [
+      | inl within ↦ within
+      | inr past ↦ absurd (false≢true (sym (ap is_some (behind_at n None xs k i (omega (arith, past)) behind)) ∙ there))
+    ]
+
 -- A list and a longer one, both filled up to the same length: they are the same exactly where the one begins the other, and the rest alone
 -- stands behind it.
 
@@ -89,7 +118,7 @@ none_alone : {A : Type 0} (k : ℕ) → trimmed {A = A} (replicate k None) ≡ [
 none_alone zero = refl
 none_alone {A} (suc k) = ap (none_before {A = A}) (none_alone k)
 
-none_behind : {A : Type 0} (xs : List (Option A)) (k : ℕ) → trimmed (xs ++ replicate k None) ≡ trimmed xs
+pub none_behind : {A : Type 0} (xs : List (Option A)) (k : ℕ) → trimmed (xs ++ replicate k None) ≡ trimmed xs
 none_behind [] k = none_alone k
 none_behind {A} (None ∷ xs) k = ap (none_before {A = A}) (none_behind xs k)
 none_behind {A} (Some x ∷ xs) k = ap (λ (ys : List (Option A)). Some x ∷ ys) (none_behind xs k)

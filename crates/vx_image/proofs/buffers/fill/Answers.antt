@@ -11,5 +11,6 @@ loop-pages-preserved c =
     record {
       same = next_filled c.loop-pages.pages c.put.new.self c.new.result c.new.ensures (omega (arith, lt, len, few)) c.put.ensures ∙ c.loop-pages.invariant.same;
       few = let longer = length-append c.loop-pages.pages.items (c.new.result ∷ []) in rw c.put.ensures (omega (arith, lt, len, few, longer));
+      exact = λ _. let longer = length-append c.loop-pages.pages.items (c.new.result ∷ []) in rw c.put.ensures (omega (arith, lt, len, longer));
       room = rw c.put.ensures c.loop-pages.invariant.room;
     }
