@@ -1,7 +1,8 @@
 -- The mailboxes of the table, as one place changes.
-use Rattle.std.proofs.Common.{◌≡◌, ◌≢◌, ℕ, zero, suc, replicate, ◌-◌, ◌+◌, ◌<◌, ◌≤◌, List, [], ◌∷◌, Bool, true, cond, not, Option, Some, None, IfSome, IsTrue, is_some, is_none, option_map, length, map, position, slice_index_or, slice_set, take, ◌++◌, inl, inr, refl, ap, sym, subst, arith, ◌∙◌}
+use Rattle.std.proofs.Common.{◌≡◌, ◌≢◌, ℕ, zero, suc, replicate, ◌-◌, ◌+◌, ◌<◌, ◌≤◌, List, [], ◌∷◌, Bool, true, cond, not, Option, Some, None, IfSome, IsTrue, is_some, is_none, option_map, length, map, position, slice_index_or, slice_set, take, ◌++◌, inl, inr, refl, ap, sym, subst, arith, ◌∙◌, drop, max}
 use Rattle.std.specs.List.{position_or_len}
-use Rattle.std.proofs.lemmas.List.{get_or-map, get_or_past, get_or-set_same, get_or-set_other, length-map, length-set, map-set, take_more, take_more_set}
+use Rattle.std.proofs.Math.Nat.{le-max_left, le-max_right}
+use Rattle.std.proofs.lemmas.List.{get_or_default, drop_at, take-append-drop, take-map, get_or-map, get_or_past, get_or-set_same, get_or-set_other, length-map, length-set, map-set, take_more, take_more_set}
 use Rattle.std.proofs.lemmas.Bool.{cases_eq, cases_lt, false≢true}
 use Rattle.std.proofs.lemmas.List.Quantifiers.{position-Some}
 use Rattle.std.proofs.Math.Seq.{map-set_same}
@@ -9,6 +10,8 @@ use Rattle.vx_base.specs.Pieces.{Mailbox}
 use Rattle.vx_base.specs.declared.number.BoxNo.{BoxNo}
 use Rattle.vx_record.specs.Channels.{is_box_of}
 use Rattle.vx_record.specs.Mailboxes.{or_no_box}
+use Rattle.vx_same.specs.Trimmed.{filled_to}
+use Rattle.vx_same.proofs.Trimmed.{behind_set, front, further, there_before}
 use Rattle.vx_mailbox.specs.Boxes.{Boxes, HaveRoom, StandsIn, with_box_in}
 use Rattle.vx_mailbox.specs.Places.{Place, HasRoomFor, IsTable, box_at, no_place, room_at, table_of, with_box}
 
@@ -107,18 +110,21 @@ room_of places k within room there =
     omega (arith, has, ap (λ (o : Option Mailbox). length (or_no_box o).messages) (box_seen places k within), room_seen places k within)
 
 -- the table after a mailbox was made, or a message was put, where there was room in each
-pub table_put : (places : List Place) (short i : ℕ) (k : Boxes) (new : Place) → table_of places ≡ k → IsTable places short → HaveRoom k.boxes k.rooms → i < length places → IsTable (slice_set places i new) i
-table_put places short i k new view t rooms within =
+pub table_put : (places : List Place) (short used i after : ℕ) (k : Boxes) (new : Place) → table_of places ≡ k → IsTable places short used → HaveRoom k.boxes k.rooms → i < length places
+    → after ≤ 64 → drop after (map box_at (slice_set places i new)) ≡ replicate (64 - after) None → IsTable (slice_set places i new) i after
+table_put places short used i after k new view t rooms within most behind =
     let old : HaveRoom (map box_at places) (map room_at places) = subst (λ (x : Boxes). HaveRoom x.boxes x.rooms) (sym view) rooms in
     record {
       count = length-set places i new ∙ t.count;
       within = omega (arith, within, t.count);
       rooms = rooms_set places i new i (λ j lt _ _. room_in places j (omega (arith, lt, t.count)) (old (record { 0 = j }) lt)) (λ apart. absurd (apart refl)) t.count;
+      most = most;
+      behind = behind;
     }
 
 -- the table after room was made in the place that may be short of it
-pub table_full : (places : List Place) (short : ℕ) (new : Place) → IsTable places short → HasRoomFor new → HaveRoom (map box_at (slice_set places short new)) (map room_at (slice_set places short new))
-table_full places short new t room b lt =
+pub table_full : (places : List Place) (short used : ℕ) (new : Place) → IsTable places short used → HasRoomFor new → HaveRoom (map box_at (slice_set places short new)) (map room_at (slice_set places short new))
+table_full places short used new t room b lt =
     let after = slice_set places short new in
     let full : HasRoomFor (slice_index_or after b.0 no_place) = elim (cases_eq b.0 short) [
       | inl same ↦ subst HasRoomFor (sym (ap (λ n. slice_index_or after n no_place) same ∙ get_or-set_same places short new no_place (omega (arith, t.within, t.count)))) room
@@ -126,14 +132,26 @@ table_full places short new t room b lt =
     ] in
     room_of after b.0 (omega (arith, lt, t.count, length-set places short new)) full
 
+-- the table after a place was changed that has room still
+pub table_changed : (places : List Place) (short used i : ℕ) (new : Place) → IsTable places short used → (i ≢ short → HasRoomFor new) → drop used (map box_at (slice_set places i new)) ≡ replicate (64 - used) None → IsTable (slice_set places i new) short used
+table_changed places short used i new t room behind = record {
+  count = length-set places i new ∙ t.count;
+  within = t.within;
+  rooms = rooms_set places i new short (λ j lt apart _. t.rooms j lt apart) room t.count;
+  most = t.most;
+  behind = behind;
+}
+
 -- where there is room in each, any place may be the one that is named as short of it
-pub table_any : (places : List Place) (short i : ℕ) (k : Boxes) → table_of places ≡ k → IsTable places short → HaveRoom k.boxes k.rooms → i < 64 → IsTable places i
-table_any places short i k view t rooms within =
+pub table_any : (places : List Place) (short used i : ℕ) (k : Boxes) → table_of places ≡ k → IsTable places short used → HaveRoom k.boxes k.rooms → i < 64 → IsTable places i used
+table_any places short used i k view t rooms within =
     let old : HaveRoom (map box_at places) (map room_at places) = subst (λ (x : Boxes). HaveRoom x.boxes x.rooms) (sym view) rooms in
     record {
       count = t.count;
       within = within;
       rooms = λ j lt _. room_in places j (omega (arith, lt, t.count)) (old (record { 0 = j }) lt);
+      most = t.most;
+      behind = t.behind;
     }
 
 -- the mailboxes as one place has another
@@ -147,13 +165,57 @@ same_more xs ys i here there front =
     ∙ (ap (λ (zs : List (Option Mailbox)). zs ++ slice_index_or ys i None ∷ []) front
     ∙ sym (take_more ys i None there))
 
-none_at : {A : Type 0} (k i : ℕ) → slice_index_or (replicate {A = Option A} k None) i None ≡ None
-none_at zero i = refl
-none_at (suc k) zero = refl
-none_at {A} (suc k) (suc i) = none_at {A = A} k i
+-- Behind the used places.
 
--- behind those that are given there is none
-pub filled_at : {A : Type 0} (xs : List (Option A)) (k i : ℕ) → slice_index_or (xs ++ replicate k None) i None ≡ slice_index_or xs i None
-filled_at {A} [] k i = none_at {A = A} k i
-filled_at (x ∷ xs) k zero = refl
-filled_at (x ∷ xs) k (suc i) = filled_at xs k i
+-- a place is set, and used from then on
+pub used_made : (places : List Place) (used i : ℕ) (new : Place) → drop used (map box_at places) ≡ replicate (64 - used) None → drop (max used (i + 1)) (map box_at (slice_set places i new)) ≡ replicate (64 - max used (i + 1)) None
+used_made places used i new behind =
+    let past = le-max_right used (i + 1) in
+    ap (drop (max used (i + 1))) (map-set box_at places i new) ∙ behind_set 64 None new.box (map box_at places) used i (max used (i + 1)) (le-max_left used (i + 1)) (omega (arith, past)) behind
+
+-- the place of a mailbox is one that is used
+pub used_there : (places : List Place) (k : Boxes) (b : BoxNo) (used : ℕ) (new : Place) → table_of places ≡ k → StandsIn k.boxes b → drop used (map box_at places) ≡ replicate (64 - used) None → drop used (map box_at (slice_set places b.0 new)) ≡ replicate (64 - used) None
+used_there places k b used new view stands behind =
+    let there : StandsIn (map box_at places) b = subst (λ (x : Boxes). StandsIn x.boxes b) (sym view) stands in
+    ap (drop used) (map-set box_at places b.0 new) ∙ behind_set 64 None new.box (map box_at places) used b.0 used (omega arith) (there_before 64 (map box_at places) used b.0 there behind) behind
+
+-- a place has the same mailbox
+pub used_same : (places : List Place) (used i : ℕ) (old new : Place) → new.box ≡ old.box → old ≡ slice_index_or places i old → drop used (map box_at places) ≡ replicate (64 - used) None → drop used (map box_at (slice_set places i new)) ≡ replicate (64 - used) None
+used_same places used i old new same is behind = ap (drop used) (map-set_same box_at places i new old (same ∙ ap box_at is)) ∙ behind
+
+-- nor behind more
+pub reach_behind : (places : List Place) (k : Boxes) (used least n : ℕ) → table_of places ≡ k → n ≡ max used least → drop used (map box_at places) ≡ replicate (64 - used) None → drop n k.boxes ≡ replicate (64 - n) None
+reach_behind places k used least n view is behind =
+    subst (λ (m : ℕ). drop m k.boxes ≡ replicate (64 - m) None) (sym is) (further 64 None k.boxes used (max used least) (le-max_left used least) (subst (λ (x : Boxes). drop used x.boxes ≡ replicate (64 - used) None) view behind))
+
+-- the used places have all mailboxes
+pub used_front : (places : List Place) (k : Boxes) (used : ℕ) → table_of places ≡ k → length places ≡ 64 → used ≤ 64 → drop used (map box_at places) ≡ replicate (64 - used) None → filled_to 64 None (map box_at (take used places)) ≡ k.boxes
+used_front places k used view count most behind =
+    ap (filled_to {A = Option Mailbox} 64 None) (sym (take-map box_at used places))
+    ∙ (front 64 None (map box_at places) used (length-map places box_at ∙ count) most behind ∙ ap (λ (x : Boxes). x.boxes) view)
+
+-- all are as they were put away, if the first are, and there is none behind
+pub all_as : (bs new : List (Option Mailbox)) (reach : ℕ) → length bs ≤ reach → take reach new ≡ take reach (filled_to 64 None bs) → drop reach new ≡ replicate (64 - reach) None → new ≡ filled_to 64 None bs
+all_as bs new reach long same behind =
+    let all : List (Option Mailbox) = filled_to 64 None bs in
+    let rest : drop reach all ≡ replicate (64 - reach) None = further 64 None all (length bs) reach long (drop_at bs (replicate (64 - length bs) None) (length bs) refl) in
+    sym (take-append-drop reach new)
+    ∙ (ap (λ (ys : List (Option Mailbox)). ys ++ drop reach new) same
+    ∙ (ap (λ (ys : List (Option Mailbox)). take reach all ++ ys) (behind ∙ sym rest) ∙ take-append-drop reach all))
+
+-- The table after a mailbox was changed, in the same room.
+
+changed_room : (places : List Place) (short used : ℕ) (k : Boxes) (b : BoxNo) (old new : Place) (box : Option Mailbox) → table_of places ≡ k → StandsIn k.boxes b → IsTable places short used → old ≡ slice_index_or places b.0 old
+    → new ≡ with_box old box → length (or_no_box box).messages ≤ length (or_no_box old.box).messages → b.0 ≢ short → HasRoomFor new
+changed_room places short used k b old new box view stands t is put fewer apart there =
+    let within = stands_in places k b view stands in
+    let had : HasRoomFor old = subst HasRoomFor (get_or_default places b.0 no_place old within ∙ sym is) (t.rooms b.0 (omega (arith, within, t.count)) apart) in
+    let stood : IsTrue (is_some old.box) = subst (λ (o : Option Mailbox). IsTrue (is_some o)) (sym (place_read places b.0 old within is)) (subst (λ (x : Boxes). StandsIn x.boxes b) (sym view) stands) in
+    let has = had stood in
+    omega (arith, has, fewer, ap (λ (x : Place). length (or_no_box x.box).messages) put, ap room_at put)
+
+-- it has no more messages
+pub table_kept : (places : List Place) (short used : ℕ) (k : Boxes) (b : BoxNo) (old new : Place) (box : Option Mailbox) → table_of places ≡ k → StandsIn k.boxes b → IsTable places short used → old ≡ slice_index_or places b.0 old
+    → new ≡ with_box old box → length (or_no_box box).messages ≤ length (or_no_box old.box).messages → IsTable (slice_set places b.0 new) short used
+table_kept places short used k b old new box view stands t is put fewer =
+    table_changed places short used b.0 new t (changed_room places short used k b old new box view stands t is put fewer) (used_there places k b used new view stands t.behind)

@@ -6,7 +6,7 @@ use Rattle.vx_record.specs.Mailboxes.{or_no_box}
 use Rattle.vx_mailbox.specs.Digest.{mix_boxes, mix_messages}
 use Rattle.vx_mailbox.specs.Places.{Place, box_at}
 use Rattle.vx_same.specs.Trimmed.{filled_to, trimmed}
-use Rattle.vx_same.proofs.Trimmed.{filled_again, none_last, same_filled, shorter, some_last, trimmed_again}
+use Rattle.vx_same.proofs.Trimmed.{filled_same, none_last, same_trimmed, shorter, some_last, trimmed_same}
 
 free_end : {A : Type 0} (xs : List (Option A)) (o : Option A) → is_none o ≡ true → trimmed (xs ++ o ∷ []) ≡ trimmed xs
 free_end xs None e = none_last xs
@@ -27,13 +27,13 @@ free_last front places last is free = rw (boxes_and_last front places last is) (
 pub used_last : (front places : List Place) (last : Place) → places ≡ front ++ last ∷ [] → is_none last.box ≡ false → trimmed (map box_at places) ≡ map box_at places
 used_last front places last is used = rw (boxes_and_last front places last is) (used_end (map box_at front) last.box used)
 
--- no more than 64 are left
-pub trimmed_few : (places : List Place) → length places ≡ 64 → length (trimmed (map box_at places)) ≤ 64
-trimmed_few places all = omega (arith, shorter (map box_at places), length-map places box_at, all)
+-- no more are left
+pub trimmed_few : (places : List Place) → length places ≤ 64 → length (trimmed (map box_at places)) ≤ 64
+trimmed_few places few = omega (arith, shorter (map box_at places), length-map places box_at, few)
 
--- all 64 come back
-pub boxes_again : (places : List Place) → length places ≡ 64 → filled_to 64 None (trimmed (map box_at places)) ≡ map box_at places
-boxes_again places all = filled_again 64 (map box_at places) (length-map places box_at ∙ all)
+-- all come back
+pub boxes_again : (places : List Place) → length places ≤ 64 → filled_to 64 None (trimmed (map box_at places)) ≡ filled_to 64 None (map box_at places)
+boxes_again places few = filled_same 64 (map box_at places) (omega (arith, few, length-map places box_at))
 
 -- what is not there adds nothing to a digest
 
@@ -48,14 +48,10 @@ mix_front (box ∷ boxes) k digest = mix_front boxes k (mix_messages digest (or_
 pub mix_filled : (boxes : List (Option Mailbox)) (digest : ℕ) → mix_boxes digest (filled_to 64 None boxes) ≡ mix_boxes digest boxes
 mix_filled boxes digest = mix_front boxes (64 - length boxes) digest
 
-pub mix_trimmed : (places : List Place) (kept : List (Option Mailbox)) (digest : ℕ) → length places ≡ 64 → kept ≡ trimmed (map box_at places) → mix_boxes digest kept ≡ mix_boxes digest (map box_at places)
-mix_trimmed places kept digest all is =
-    ap (mix_boxes digest) is ∙ (sym (mix_filled (trimmed (map box_at places)) digest) ∙ ap (mix_boxes digest) (boxes_again places all))
-
 -- what was put away is what the places have exactly where it is that up to the last mailbox
 
-pub boxes_same : (boxes : List (Option Mailbox)) (places : List Place) → length places ≡ 64 → boxes ≡ trimmed (map box_at places) → filled_to 64 None boxes ≡ map box_at places
-boxes_same boxes places all is = ap (filled_to {A = Option Mailbox} 64 None) is ∙ boxes_again places all
+pub boxes_same : (boxes : List (Option Mailbox)) (places : List Place) → length places ≤ 64 → boxes ≡ trimmed (map box_at places) → filled_to 64 None boxes ≡ filled_to 64 None (map box_at places)
+boxes_same boxes places few is = trimmed_same 64 boxes (map box_at places) (omega (arith, few, length-map places box_at)) is
 
-pub same_boxes : (boxes : List (Option Mailbox)) (places : List Place) → trimmed boxes ≡ boxes → length places ≡ 64 → filled_to 64 None boxes ≡ map box_at places → boxes ≡ trimmed (map box_at places)
-same_boxes boxes places own all same = same_filled 64 boxes (trimmed (map box_at places)) own (trimmed_again (map box_at places)) (same ∙ sym (boxes_again places all))
+pub same_boxes : (boxes : List (Option Mailbox)) (places : List Place) → trimmed boxes ≡ boxes → length places ≤ 64 → filled_to 64 None boxes ≡ filled_to 64 None (map box_at places) → boxes ≡ trimmed (map box_at places)
+same_boxes boxes places own few same = same_trimmed 64 boxes (map box_at places) own (omega (arith, few, length-map places box_at)) same

@@ -1,5 +1,5 @@
 -- The places of mailboxes: one for each number.
-use Rattle.std.specs.Prelude.{◌≡◌, ◌≢◌, ℕ, ◌+◌, ◌<◌, ◌≤◌, List, length, map, Option, None, IfSome, IsTrue, is_some, slice_index_or}
+use Rattle.std.specs.Prelude.{◌≡◌, ◌≢◌, ℕ, ◌+◌, ◌-◌, ◌<◌, ◌≤◌, List, drop, length, map, replicate, Option, None, IfSome, IsTrue, is_some, slice_index_or}
 use Rattle.std.specs.List.{AllByRecursion}
 use Rattle.vx_base.specs.Pieces.{Mailbox}
 use Rattle.vx_base.specs.Queues.{stored_bytes}
@@ -33,11 +33,13 @@ HasRoomFor place = IsTrue (is_some place.box) → length (or_no_box place.box).m
 abbrev pub table_of : List Place → Boxes
 table_of places = record { boxes = map box_at places; rooms = map room_at places }
 
--- there are 64 places, and each mailbox has room for a message more but the one that may be short
-pub record IsTable (places : List Place) (short : ℕ) : Type 0 where
+-- there are 64 places, and each mailbox has room for a message more but the one that may be short; behind the used ones there is none
+pub record IsTable (places : List Place) (short used : ℕ) : Type 0 where
   pub count : length places ≡ 64
   pub within : short < 64
   pub rooms : (k : ℕ) → k < 64 → k ≢ short → HasRoomFor (slice_index_or places k no_place)
+  pub most : used ≤ 64
+  pub behind : drop used (map box_at places) ≡ replicate (64 - used) None
 
 -- each message is short, and their bytes are counted, if there is a count
 pub record AreStored (messages : List Msg) (bytes : Option ℕ) : Type 0 where

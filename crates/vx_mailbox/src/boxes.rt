@@ -1,6 +1,6 @@
 //! The mailboxes by number.
 
-ghost use Rattle.std.specs.Prelude.{◌≡◌, ◌<◌, ◌≤◌, ◌++◌, ◌+◌, ◌∷◌, ◌==◌, [], false, true, not, IfOk, IfSome, None, OnOk, Some, is_none, length, map, nat_le, option_map, position, replicate, slice_index_or, slice_set};
+ghost use Rattle.std.specs.Prelude.{◌≡◌, ◌<◌, ◌≤◌, ◌++◌, ◌+◌, ◌∷◌, ◌==◌, [], false, true, not, ◌-◌, drop, IfOk, IfSome, None, OnOk, Some, is_none, length, map, nat_le, option_map, position, replicate, slice_index_or, slice_set};
 ghost use Rattle.std.specs.List.{AllByRecursion, find, list_any};
 ghost use Rattle.vx_base.specs.Lists.{first, less};
 ghost use Rattle.vx_base.specs.Queues.{stored_bytes};
@@ -21,11 +21,12 @@ use vx_base::{BoxNo, Id, Msg, Name, NoMemory};
 pub(crate) const PLACES: usize = 64;
 
 /// The mailboxes of a system, by number, in 64 places. Each mailbox has room for a message more, but for the one that was made or got a
-/// message last, which may be short of it.
+/// message last, which may be short of it. Behind the used places there is no mailbox.
 #[derive(Drop)]
 pub struct Boxes {
     places: Vec<BoxPlace>,
     short: usize,
+    used: usize,
 }
 
 impl Model for Boxes {
@@ -36,7 +37,7 @@ impl Model for Boxes {
 
     ghost view = { λ b. table_of b.places.items };
 
-    ghost invariant = { λ b. IsTable b.places.items b.short };
+    ghost invariant = { λ b. IsTable b.places.items b.short b.used };
 }
 
 /// Adds so many places without mailboxes.
@@ -106,16 +107,11 @@ impl Boxes {
     {
         let mut places = Vec::with_capacity(alloc, PLACES)?;
         add_free(alloc, &mut places, PLACES)?;
-        Ok(Boxes::from_places(places))
-    }
-
-    /// The mailboxes of 64 places. Takes no memory.
-    pub(crate) fn from_places(places: Vec<BoxPlace>) -> Boxes
-        requires count { length places.items ≡ 64 }
-        requires rooms { AllByRecursion HasRoomFor places.items }
-        ensures { result ≡ table_of places.items }
-    {
-        Boxes { places, short: 0 }
+        Ok(Boxes {
+            places,
+            short: 0,
+            used: 0,
+        })
     }
 
     // Has a mailbox at a place from 0 to 63 as it was put away, or none.
@@ -131,7 +127,28 @@ impl Boxes {
         ensures count { OnOk result (length self.new.boxes ≡ 64) }
     {
         self.short = place;
+        self.used = self.used.max(place + 1);
         restore_place(&mut self.places[place], place, boxes)
+    }
+
+    // A number of places, this one or more, behind which there is no mailbox.
+    #[tactic(auto, using(crate::proofs::Table::reach_behind))]
+    fn reach(&self, least: usize) -> usize
+        requires { least ≤ 64 }
+        ensures least { least ≤ result }
+        ensures most { result ≤ 64 }
+        ensures behind { drop result self.now.boxes ≡ replicate (64 - result) None }
+    {
+        self.used.max(least)
+    }
+
+    // Uses the first places alone.
+    fn cut(&mut self, used: usize)
+        requires most { used ≤ 64 }
+        requires behind { drop used self.old.boxes ≡ replicate (64 - used) None }
+        ensures { self.new ≡ self.old }
+    {
+        self.used = used;
     }
 
     /// Has the first mailboxes as they were put away, with room for a message more in each, and no other.
@@ -140,25 +157,28 @@ impl Boxes {
         ensures { OnOk result (self.new.boxes ≡ filled_to 64 None boxes.now) }
     {
         self.reserve()?;
-        for place in 0..PLACES {
+        let reach = self.reach(boxes.len());
+        for place in 0..reach {
             self.restore_at(place, boxes)?;
         }
+        self.cut(boxes.len());
         Ok(())
     }
 
-    // Its 64 places.
-    pub(crate) fn as_slice(&self) -> &[BoxPlace]
-        ensures boxes { map box_at result.now ≡ self.now.boxes }
-        ensures count { length result.now ≡ 64 }
+    // Its places up to the last that may have a mailbox.
+    #[tactic(auto, using(crate::proofs::Table::used_front))]
+    pub(crate) fn used(&self) -> &[BoxPlace]
+        ensures boxes { filled_to 64 None (map box_at result.now) ≡ self.now.boxes }
+        ensures count { length result.now ≤ 64 }
     {
-        self.places.as_slice()
+        &self.places[..self.used]
     }
 
     /// The mailboxes and their messages, in as little room as they take.
     pub fn snapshot(&self, alloc: Global) -> Result<BoxesSnapshot, NoMemory>
         ensures { IfOk result (λ s. s ≡ self.now.boxes) }
     {
-        BoxesSnapshot::new(alloc, self.places.as_slice())
+        BoxesSnapshot::new(alloc, self.used())
     }
 
     /// Makes room for a message more in each mailbox. Refused or not, the mailboxes stay.
@@ -294,8 +314,10 @@ impl Boxes {
         requires room { HaveRoom self.old.boxes self.old.rooms }
         ensures { self.new ≡ record self.old { boxes = with_box_in self.old.boxes b (Some (record { name = name; permanent = permanent; marked = false; maxmsg = maxmsg; bufquo = bufquo; messages = [] })) } }
     {
-        self.places[b.0 as usize].make(name, permanent, maxmsg, bufquo);
-        self.short = b.0 as usize;
+        let place = b.0 as usize;
+        self.places[place].make(name, permanent, maxmsg, bufquo);
+        self.short = place;
+        self.used = self.used.max(place + 1);
     }
 
     /// The mailbox is gone, with its messages.

@@ -8,7 +8,7 @@ ghost use Rattle.vx_base.specs.Roomy.{HasSpace, with_items};
 ghost use Rattle.vx_mailbox.specs.Boxes.{IsShort};
 ghost use Rattle.vx_record.specs.Mailboxes.{this_message};
 
-use crate::message::duplicate_message;
+use crate::message::{duplicate_message, same_messages};
 use std::alloc::Global;
 use std::marker::Model;
 use vx_base::{Body, Id, Msg, NoMemory, Reserved};
@@ -96,16 +96,28 @@ impl Messages {
         }
     }
 
-    /// Has the messages of a list in place of its own, with room for one more. If memory runs out, it has some of them.
-    pub(crate) fn restore(&mut self, messages: &[Msg]) -> Result<(), NoMemory>
+    // Has copies of the messages of a list in place of its own. If memory runs out, it has some of them.
+    fn copy_all(&mut self, messages: &[Msg]) -> Result<(), NoMemory>
         requires { AllByRecursion IsShort messages.now }
-        ensures items { OnOk result (self.new.items ≡ messages.now) }
-        ensures room { OnOk result (HasSpace self.new 1) }
+        ensures { OnOk result (self.new.items ≡ messages.now) }
     {
         self.clear();
         for msg in messages {
             self.reserve()?;
             self.put(duplicate_message(msg)?);
+        }
+        Ok(())
+    }
+
+    /// Has the messages of a list in place of its own, with room for one more. Its own stay if they are the same. If memory runs out, it
+    /// has some of them.
+    pub(crate) fn restore(&mut self, messages: &[Msg]) -> Result<(), NoMemory>
+        requires { AllByRecursion IsShort messages.now }
+        ensures items { OnOk result (self.new.items ≡ messages.now) }
+        ensures room { OnOk result (HasSpace self.new 1) }
+    {
+        if !same_messages(messages, self.as_slice()) {
+            self.copy_all(messages)?;
         }
         self.reserve()
     }

@@ -1,9 +1,9 @@
 //! The mailboxes in as little room as they take.
 
-ghost use Rattle.std.specs.Prelude.{◌≡◌, ◌↔◌, IfOk, IsTrue, OnOk, length, map};
+ghost use Rattle.std.specs.Prelude.{◌≡◌, ◌↔◌, ◌≤◌, IfOk, IsTrue, None, OnOk, length, map};
 ghost use Rattle.vx_mailbox.specs.Digest.{mix_boxes};
 ghost use Rattle.vx_mailbox.specs.Places.{box_at};
-ghost use Rattle.vx_same.specs.Trimmed.{trimmed};
+ghost use Rattle.vx_same.specs.Trimmed.{filled_to, trimmed};
 
 use crate::boxes::Boxes;
 use crate::mailbox::MailboxSnapshot;
@@ -95,20 +95,20 @@ fn mix_places(digest: u64, places: &[BoxPlace]) -> u64
 
 impl Boxes {
     /// A digest with what the mailboxes store. Takes no memory.
-    #[tactic(auto, using(crate::proofs::Trimmed::mix_trimmed))]
+    #[tactic(auto, using(crate::proofs::Trimmed::mix_filled))]
     pub fn mix(&self, digest: u64) -> u64
         ensures { result ≡ mix_boxes digest self.now.boxes }
     {
-        mix_places(digest, trimmed(self.as_slice()))
+        mix_places(digest, self.used())
     }
 }
 
 impl BoxesSnapshot {
-    /// The mailboxes of 64 places. Takes memory for those up to the last mailbox, and for their messages.
+    /// The mailboxes of the first places, if no other has one. Takes memory for those up to the last mailbox, and for their messages.
     #[tactic(auto, using(crate::proofs::Trimmed::trimmed_few, crate::proofs::Trimmed::boxes_again, vx_same::proofs::Trimmed::trimmed_again))]
     pub(crate) fn new(alloc: Global, places: &[BoxPlace]) -> Result<BoxesSnapshot, NoMemory>
-        requires { length places.now ≡ 64 }
-        ensures { IfOk result (λ s. s ≡ map box_at places.now) }
+        requires { length places.now ≤ 64 }
+        ensures { IfOk result (λ s. s ≡ filled_to 64 None (map box_at places.now)) }
     {
         Ok(BoxesSnapshot {
             boxes: put_away(alloc, places)?,
@@ -127,6 +127,6 @@ impl BoxesSnapshot {
     pub fn same(&self, boxes: &Boxes) -> bool
         ensures { IsTrue result ↔ (self.now ≡ boxes.now.boxes) }
     {
-        same_places(self.boxes.as_slice(), trimmed(boxes.as_slice()))
+        same_places(self.boxes.as_slice(), trimmed(boxes.used()))
     }
 }

@@ -1,7 +1,7 @@
 use Rattle.std.proofs.Common.{◌≡◌, drop, take}
 use Rattle.std.specs.List.{AllByRecursion}
 use Rattle.vx_mailbox.specs.Boxes.{IsShort}
-use Rattle.vx_mailbox.proofs.messages.Messages.restore.Given as goal
+use Rattle.vx_mailbox.proofs.messages.Messages.copy_all.Given as goal
 
 abbrev pub invariant-loop-msg : goal.invariant-loop-msg
 invariant-loop-msg l = record {
