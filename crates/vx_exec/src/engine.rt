@@ -12,7 +12,7 @@ use crate::events::{are_deleted, enabled_at};
 use crate::machine::step;
 use crate::room::{make_room, make_rooms};
 use std::alloc::Global;
-use vx_base::{End, Event, NoMemory, Rec, Routine};
+use vx_base::{Answer, End, Event, NoMemory, Rec, Routine};
 use vx_io::Rooms;
 use vx_procs::Core;
 
@@ -28,6 +28,34 @@ pub(crate) struct Engine<R: Routine> {
 }
 
 impl<R: Routine> Engine<R> {
+    /// Takes an enabled event: gives its answer, and tells its effects. Where memory is short, nothing has changed. A DON needs none, and
+    /// never fails.
+    pub(crate) fn take(&mut self, event: Event) -> Result<Answer, NoMemory>
+        requires on { IsOn self.old }
+        requires enabled { Contains (enabled self.old.core.state) event }
+        requires going { end_of self.old.limit self.old.taken self.old.core.state ≡ None }
+        requires home { IsHomeFor self.old.core event }
+        ensures on { IsOn self.new }
+        ensures answer { IfOk result (λ answer. answer ≡ (step self.old.core.state event).answer) }
+        ensures told { OnOk result (self.new.core.log.items ≡ (step self.old.core.state event).effects) }
+        ensures after { OnOk result ((leasing self.new).exec ≡ record (leasing self.old).exec {
+          state = (step self.old.core.state event).after;
+          taken = self.old.taken + 1;
+        }) }
+        ensures stands { OnOk result ((leasing self.new).stands ≡ stands_after event (leasing self.old).stands) }
+        ensures kept { OnErr result ((leasing self.new).exec ≡ (leasing self.old).exec) }
+        ensures stay { OnErr result ((leasing self.new).stands ≡ (leasing self.old).stands) }
+        ensures don_never_fails { IsTrue (is_don event) → IsOk result }
+        ensures plan { plan (leasing self.new).exec ≡ plan (leasing self.old).exec }
+    {
+        make_rooms(self.alloc, &mut self.rooms, event)?;
+        make_room(&mut self.core, event)?;
+        let answer = step(&mut self.core, event, &mut self.rooms);
+        self.taken += 1;
+        self.core.settle();
+        Ok(answer)
+    }
+
     /// Takes an enabled event, and gives its record. Where memory is short, nothing has changed. A DON needs none, and never fails.
     pub(crate) fn step(&mut self, event: Event) -> Result<Rec, NoMemory>
         requires on { IsOn self.old }
@@ -46,11 +74,7 @@ impl<R: Routine> Engine<R> {
         ensures don_never_fails { IsTrue (is_don event) → IsOk result }
         ensures plan { plan (leasing self.new).exec ≡ plan (leasing self.old).exec }
     {
-        make_rooms(self.alloc, &mut self.rooms, event)?;
-        make_room(&mut self.core, event)?;
-        let answer = step(&mut self.core, event, &mut self.rooms);
-        self.taken += 1;
-        self.core.settle();
+        let answer = self.take(event)?;
         Ok(Rec {
             event,
             answer,

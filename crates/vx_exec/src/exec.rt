@@ -91,10 +91,18 @@ impl<R: Routine> Exec<R> {
     }
 
     // Whether it is in a state that was put away, of a run with this limit, after so many records.
-    pub(crate) fn is_at(&self, core: &CoreSnapshot<R>, limit: u32, taken: u32) -> bool
+    pub(crate) fn is_same(&self, core: &CoreSnapshot<R>, limit: u32, taken: u32) -> bool
         ensures { IsTrue result ↔ (self.now ≡ record { state = core.now; limit = limit; taken = taken }) }
     {
         self.engine.taken == taken && self.engine.limit == limit && core.same(&self.engine.core)
+    }
+
+    // The same, of a run of its own system, with its own limit.
+    pub(crate) fn is_at(&self, core: &CoreSnapshot<R>, taken: u32) -> bool
+        requires { core.now.system ≡ self.now.state.system }
+        ensures { IsTrue result ↔ (self.now ≡ record { state = core.now; limit = self.now.limit; taken = taken }) }
+    {
+        self.engine.taken == taken && core.is_at(&self.engine.core)
     }
 
     /// The state as a number. Equal states have the same; states that differ have the same seldom. Takes no memory.
@@ -171,6 +179,23 @@ impl<R: Routine> Exec<R> {
         ensures plan { plan self.new ≡ plan self.old }
     {
         self.engine.step(event)
+    }
+
+    /// Takes an enabled event as `step` does, and gives no record: the room for its effects serves the next event. Where memory is short,
+    /// nothing has changed.
+    pub fn advance(&mut self, event: Event) -> Result<(), NoMemory>
+        requires enabled { Contains (enabled self.old.state) event }
+        requires going { end_of self.old.limit self.old.taken self.old.state ≡ None }
+        ensures after { OnOk result (self.new ≡ record self.old {
+          state = (step self.old.state event).after;
+          taken = self.old.taken + 1;
+        }) }
+        ensures err { OnErr result (self.new ≡ self.old) }
+        ensures plan { plan self.new ≡ plan self.old }
+    {
+        self.engine.take(event)?;
+        self.engine.core.forget_log();
+        Ok(())
     }
 
     /// How the run has ended, if it has.

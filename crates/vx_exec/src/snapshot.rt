@@ -2,6 +2,7 @@
 
 ghost use Rattle.std.specs.Prelude.{◌≡◌, ◌↔◌, IsTrue, OnOk};
 ghost use Rattle.vx_exec.specs.Sound.{IsGoing};
+ghost use Rattle.vx_exec.specs.View.{plan};
 
 use crate::exec::Exec;
 use std::marker::Model;
@@ -49,6 +50,14 @@ impl<R: Routine> ExecSnapshot<R> {
     pub fn same(&self, exec: &Exec<R>) -> bool
         ensures { IsTrue result ↔ (self.now ≡ exec.now) }
     {
-        exec.is_at(&self.core, self.limit, self.taken)
+        exec.is_same(&self.core, self.limit, self.taken)
+    }
+
+    /// The same, of an executive of the same system and limit. It does not look at what the script says, so it costs what the state holds.
+    pub fn is_at(&self, exec: &Exec<R>) -> bool
+        requires { plan self.now ≡ plan exec.now }
+        ensures { IsTrue result ↔ (self.now ≡ exec.now) }
+    {
+        exec.is_at(&self.core, self.taken)
     }
 }

@@ -1,7 +1,8 @@
 //! What the executive keeps.
 
-ghost use Rattle.std.specs.Prelude.{◌≡◌, ◌+◌, ◌<◌, ◌≤◌, ◌^◌, [], ◌∷◌, IfOk, IfSome, OnOk, length};
+ghost use Rattle.std.specs.Prelude.{◌≡◌, ◌+◌, ◌<◌, ◌≤◌, ◌^◌, [], ◌∷◌, IfSome, OnOk, length};
 ghost use Rattle.vx_base.specs.Log.{HasRoom};
+ghost use Rattle.vx_base.specs.Roomy.{with_items};
 ghost use Rattle.vx_procs.specs.Kernel.{Fits, told};
 ghost use Rattle.vx_record.specs.State.{IsProcess};
 ghost use Rattle.vx_procs.specs.Ready.{HasHandlerRoom, HasMessageRooms, HasNewcomer, HasSpares};
@@ -57,14 +58,13 @@ impl<R: Routine> Model for Core<R> {
     ghost invariant = { IsHeld };
 }
 
-// An empty log with room for so many effects.
-fn fresh_log(alloc: Global, effects: u32) -> Result<Effects, NoMemory>
-    ensures empty { IfOk result (λ log. log.items ≡ []) }
-    ensures room { IfOk result (λ log. HasRoom log effects) }
+// Empties a log, and makes room in it for so many effects.
+fn clear_log(log: &mut Effects, effects: u32) -> Result<(), NoMemory>
+    ensures empty { OnOk result (log.new.items ≡ []) }
+    ensures room { OnOk result (HasRoom log.new effects) }
 {
-    let mut log = Effects::new(alloc);
-    log.reserve(effects)?;
-    Ok(log)
+    log.clear();
+    log.reserve(effects)
 }
 
 impl<R: Routine> Core<R> {
@@ -100,8 +100,7 @@ impl<R: Routine> Core<R> {
         self.make_spare()?;
         self.mend()?;
         self.make_caller_room(caller)?;
-        self.log = fresh_log(self.alloc, effects)?;
-        Ok(())
+        clear_log(&mut self.log, effects)
     }
 
     // Makes a spare process and a place for it, if they are missing.
@@ -191,6 +190,13 @@ impl<R: Routine> Core<R> {
         ensures { self.new ≡ told self.old (effect ∷ []) }
     {
         self.log.add(effect)
+    }
+
+    /// Forgets the effects that were told; their room stays. Takes no memory.
+    pub fn forget_log(&mut self)
+        ensures { self.new ≡ record self.old { log = with_items self.old.log [] } }
+    {
+        self.log.clear();
     }
 
     /// The effects that were told. Takes no memory.

@@ -102,15 +102,14 @@ fn same_units(a: &[KeptUnit], b: &[KeptUnit]) -> bool
 }
 
 impl<R: Routine> CoreSnapshot<R> {
-    // Whether a state has the same system, time, next id, processes and common clusters.
+    // Whether a state has the same time, next id, processes and common clusters.
     fn is_same_first(&self, core: &Core<R>) -> bool
-        ensures { IsTrue result ↔ ((self.now.system ≡ core.now.state.system) × (self.now.time ≡ core.now.state.time) × (self.now.next ≡ core.now.state.next) × (self.now.procs ≡ core.now.state.procs) × (self.now.common ≡ core.now.state.common)) }
+        ensures { IsTrue result ↔ ((self.now.time ≡ core.now.state.time) × (self.now.next ≡ core.now.state.next) × (self.now.procs ≡ core.now.state.procs) × (self.now.common ≡ core.now.state.common)) }
     {
         self.time == core.time
             && self.next == core.next
             && same_procs(&self.procs, core.procs.as_slice())
             && self.clusters.same(&core.clusters)
-            && self.system.get().same(core.system.get())
     }
 
     // Whether it has the same requests, timers, attention entries, mailboxes and units.
@@ -125,11 +124,21 @@ impl<R: Routine> CoreSnapshot<R> {
             && same_units(self.units.as_slice(), core.units.as_slice())
     }
 
+    /// Whether a state of the same system, of which no unit is out, is the one that was put away. What the script says is not looked at.
+    /// Takes no memory.
+    pub fn is_at(&self, core: &Core<R>) -> bool
+        requires units { AreIn core.now }
+        requires system { self.now.system ≡ core.now.state.system }
+        ensures { IsTrue result ↔ (self.now ≡ core.now.state) }
+    {
+        self.is_same_first(core) && self.is_same_last(core)
+    }
+
     /// Whether a state, of which no unit is out, is the one that was put away. Takes no memory.
     pub fn same(&self, core: &Core<R>) -> bool
         requires { AreIn core.now }
         ensures { IsTrue result ↔ (self.now ≡ core.now.state) }
     {
-        self.is_same_first(core) && self.is_same_last(core)
+        self.system.get().same(core.system.get()) && self.is_at(core)
     }
 }

@@ -17,7 +17,7 @@ use crate::shared::SharedSystem;
 use crate::table::Procs;
 use std::alloc::Global;
 use std::marker::Model;
-use vx_base::{Effects, NoMemory, Pid, Routine};
+use vx_base::{NoMemory, Pid, Routine};
 use vx_clusters::{Clusters, ClustersSnapshot};
 use vx_mailbox::{Attentions, AttentionsSnapshot, Boxes, BoxesSnapshot};
 use vx_reqs::{Reqs, ReqsSnapshot};
@@ -230,7 +230,7 @@ impl<R: Routine> CoreSnapshot<R> {
                 core.time = self.time;
                 core.next = self.next;
                 core.short = self.short;
-                core.log = Effects::new(alloc);
+                core.log.clear();
                 Ok(())
             }
             Err(_) => {

@@ -9,7 +9,7 @@ use Rattle.vx_exec.specs.View.{Plan}
 use Rattle.vx_exec.proofs.Enabled.{enabled_owned}
 use Rattle.vx_exec.proofs.Engines.{home_kept, stepped_stands}
 use Rattle.vx_exec.proofs.Ready.{below_limit, going_after, ready_for, step_open}
-use Rattle.vx_exec.proofs.engine.Engine.step.Goals as goal
+use Rattle.vx_exec.proofs.engine.Engine.take.Goals as goal
 
 pub make_room-requires : goal.make_room-requires
 make_room-requires g c = enabled_owned c.args.self.now.core.state c.args.event c.requires.enabled
@@ -38,17 +38,17 @@ returns-clause-on g c =
     let e = c.args.event in
     let going = subst (λ (u : State). IsGoing u limit taken) (sym made.same) c.requires.on in
     let there = subst (λ (u : State). Contains (enabled u) e) (sym made.same) c.requires.enabled in
-    let leaves = ap (λ (k : Kernel). k.state) c.take_log.ensures.after ∙ (ap (λ (k : Kernel). k.state) c.settle.ensures ∙ ap (λ (k : Kernel). k.state) c.step-answer.ensures.does.leaves) in
-    going_after c.make_room.new.core c.take_log.new.self.state e limit taken going made.made there (below_limit limit taken c.args.self.now.core.state c.requires.going) leaves
+    let leaves = ap (λ (k : Kernel). k.state) c.settle.ensures ∙ ap (λ (k : Kernel). k.state) c.step-answer.ensures.does.leaves in
+    going_after c.make_room.new.core c.settle.new.self.state e limit taken going made.made there (below_limit limit taken c.args.self.now.core.state c.requires.going) leaves
 
 pub returns-clause-stands : goal.returns-clause-stands
 returns-clause-stands g c =
-    stepped_stands c.args.self.now.core c.make_room.new.core c.take_log.new.self c.args.event c.in_ok-make_room.ensures.home
-    (ap (λ (k : Kernel). k.ends) c.take_log.ensures.after ∙ (ap (λ (k : Kernel). k.ends) c.settle.ensures ∙ ap (λ (k : Kernel). k.ends) c.step-answer.ensures.does.leaves))
+    stepped_stands c.args.self.now.core c.make_room.new.core c.settle.new.self c.args.event c.in_ok-make_room.ensures.home
+    (ap (λ (k : Kernel). k.ends) c.settle.ensures ∙ ap (λ (k : Kernel). k.ends) c.step-answer.ensures.does.leaves)
 
 pub returns-clause-plan : goal.returns-clause-plan
 returns-clause-plan g c =
     let t = c.make_room.new.core.state in
     let of : System → Plan = λ system. record { system = system; limit = c.args.self.now.limit } in
-    let leaves = ap (λ (k : Kernel). k.state) c.take_log.ensures.after ∙ (ap (λ (k : Kernel). k.state) c.settle.ensures ∙ ap (λ (k : Kernel). k.state) c.step-answer.ensures.does.leaves) in
+    let leaves = ap (λ (k : Kernel). k.state) c.settle.ensures ∙ ap (λ (k : Kernel). k.state) c.step-answer.ensures.does.leaves in
     ap of (ap (λ (u : State). u.system) leaves ∙ (step_keeps_system t c.args.event ∙ ap (λ (u : State). u.system) c.in_ok-make_room.ensures.same))
