@@ -1,7 +1,7 @@
 //! The executive as a machine whose runs are explored.
 
 ghost use Rattle.std.specs.Prelude.{◌≡◌, ◌<◌, IfOk, OnOk};
-ghost use Rattle.vx_endings.specs.Explored.{after_in, enabled_in, ending_in};
+ghost use Rattle.vx_endings.specs.Explored.{after_in, enabled_in, ending_in, start_of};
 
 use crate::ending::RunEnding;
 use crate::trailer::print_trailer;
@@ -44,13 +44,11 @@ fn ways_on(exec: &Exec<Scripted>) -> u32
 // Takes the enabled event at a place, from 0.
 fn step_on(exec: &mut Exec<Scripted>, pick: u32) -> Result<(), NoMemory>
     requires { pick < enabled_in exec.old }
-    ensures { OnOk result (exec.new ≡ after_in exec.old pick) }
+    ensures after { OnOk result (exec.new ≡ after_in exec.old pick) }
+    ensures origin { start_of exec.new ≡ start_of exec.old }
 {
     match exec.enabled(pick) {
-        Some(event) => {
-            exec.step(event)?;
-            Ok(())
-        }
+        Some(event) => exec.advance(event),
         None => unreachable!(),
     }
 }
@@ -79,13 +77,15 @@ impl Explored {
 }
 
 impl Machine for Explored {
-    ghost use Rattle.vx_endings.specs.Explored.{after_in, digest_in, enabled_in, ending_in};
+    ghost use Rattle.vx_endings.specs.Explored.{after_in, digest_in, enabled_in, ending_in, start_of};
 
     type Ending = RunEnding;
 
     type Running = Exec<Scripted>;
 
     ghost state_of = { λ exec. exec };
+
+    ghost origin = { start_of };
 
     ghost enabled = { enabled_in };
 
@@ -114,7 +114,7 @@ impl Machine for Explored {
     }
 
     fn same(&self, exec: &Exec<Scripted>) -> bool {
-        self.snapshot.same(exec)
+        self.snapshot.is_at(exec)
     }
 
     fn digest(exec: &Exec<Scripted>) -> u64 {

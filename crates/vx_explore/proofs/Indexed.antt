@@ -3,8 +3,9 @@ use Rattle.std.proofs.Common.{◌≡◌, ◌≢◌, ℕ, zero, suc, ◌+◌, ◌
 use Rattle.std.specs.Prelude.{All, AllPairs, Contains}
 use Rattle.std.proofs.lemmas.Bool.{cases_eq, eqb-false}
 use Rattle.std.proofs.lemmas.List.{get_or_default, length-map, map-append, get_or_append_left, get_or_push, length_push}
+use Rattle.std.proofs.lemmas.List.Elements.{Contains-append_right}
 use Rattle.vx_explore.specs.declared.found.Found.{Found}
-use Rattle.vx_explore.specs.Index.{last_of, IsIndex, digests, whats}
+use Rattle.vx_explore.specs.Index.{last_of, IsIndex, digests, StartAs, whats}
 
 -- a place not above the one that is found
 abbrev pub IsUpTo : ℕ → Option ℕ → Type 0
@@ -165,6 +166,10 @@ get_or-whats [] i d = refl
 get_or-whats (x ∷ xs) zero d = refl
 get_or-whats (x ∷ xs) (suc i) d = get_or-whats xs i d
 
+-- P holds of the state at a place
+pub All-whats : {S : Type 0} (P : S → Type 0) (xs : List (Found S)) (i : ℕ) (x : Found S) → i < length xs → x ≡ get_or xs i x → All P (whats xs) → P x.what
+All-whats P xs i x within read all = subst P (get_or-whats xs i x ∙ ap (λ y. y.what) (sym read)) (all i x.what (rw (length-whats xs) within))
+
 pub whats-push : {S : Type 0} (xs : List (Found S)) (x : Found S) → whats (xs ++ x ∷ []) ≡ whats xs ++ x.what ∷ []
 whats-push xs x = map-append (λ y. y.what) xs (x ∷ [])
 
@@ -189,16 +194,15 @@ whats-different {S} xs x apart new = rw (whats-push xs x) (different-push (whats
     as_found : S → Found S
     as_found d = record { what = d; ways = 0; picks = [] }
 
-pub All-push : {X : Type 0} (P : X → Type 0) (xs : List X) (x : X) → All P xs → P x → All P (xs ++ x ∷ [])
-All-push P xs x all here i d within =
-    let inside : i < length xs + 1 = rw (length_push xs x) at within in
-    elim (cases_eq i (length xs)) [
-      | inl at_end ↦ subst P (sym (get_or_push xs x d i (sym at_end))) here
-      | inr other ↦ let under : i < length xs = omega arith in subst P (sym (get_or-push-below xs x d i under)) (all i d under)
-    ]
-
 pub Contains-whats : {S : Type 0} (xs : List (Found S)) (i : ℕ) (s : S) → i < length xs → ((d : Found S) → (get_or xs i d).what ≡ s) → Contains (whats xs) s
 Contains-whats xs i s within is_it = (i, rw (length-whats xs) within, get_or-whats xs i (record { what = s; ways = 0; picks = [] }) ∙ is_it (record { what = s; ways = 0; picks = [] }))
 
 pub Contains-more : {X : Type 0} (xs : List X) (y x : X) → Contains xs x → Contains (xs ++ y ∷ []) x
 Contains-more xs y x h = (h.0, rw (length_push xs y) (omega (arith, h.1)), get_or-push-below xs y x h.0 h.1 ∙ h.2)
+
+pub Contains-middle : {S : Type 0} (xs ys zs : List (Found S)) (y : Found S) → xs ≡ ys ++ y ∷ zs → Contains (whats xs) y.what
+Contains-middle xs ys zs y is_xs = rw (is_xs, map-append (λ x. x.what) ys (y ∷ zs)) (Contains-append_right (whats ys) (y.what ∷ whats zs) y.what (0, omega arith, refl))
+
+-- another state with that origin
+pub StartAs-other : {S : Type 0} (origin : S → S) (o p : S) (xs : List S) → origin o ≡ origin p → StartAs origin o xs → StartAs origin p xs
+StartAs-other origin o p xs same all i d within = all i d within ∙ same

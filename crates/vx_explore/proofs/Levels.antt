@@ -10,7 +10,7 @@ use Rattle.vx_explore.specs.Runs.{AreTooMany, IsCrowded, Leads, runs, shortest_f
 use Rattle.vx_explore.proofs.Counted.{length-le_from_among}
 use Rattle.vx_explore.proofs.Indexed.{length-whats}
 use Rattle.vx_explore.proofs.Finding.{Like-refl, Like-trans, Like-append, Like-all_after, Like-ends}
-use Rattle.vx_explore.proofs.Telling.{Tells-Like, Tells-nil, Tells-same, Tells-told}
+use Rattle.vx_explore.proofs.Telling.{Tells-Like, Tells-same, Tells-told}
 use Rattle.vx_explore.proofs.Walks.{is_limit_self, is_limit_below, endings-shortest}
 
 module _ {S E : Type 0} (enabled : S → ℕ) (after : S → ℕ → S) (ending_of : S → E) (same : E → E → Bool) (m n most : ℕ) (first : S) where
@@ -31,20 +31,6 @@ module _ {S E : Type 0} (enabled : S → ℕ) (after : S → ℕ → S) (ending_
       let more = t.more in
       let few = e.few in
       omega arith
-
-  pub Explores-first : (most ≡ 0 → ⊥) → Explores [] (one_at [] first ∷ []) 0
-  Explores-first some = record {
-    like = Like-refl (one_at [] first ∷ []);
-    tells = Tells-nil same;
-    led = at;
-    few = omega arith;
-    all = λ t same. (0, omega arith, same);
-    before = λ j ss h t. omega arith;
-  }
-    where
-      at : All (Leads enabled after 0 first) (first ∷ [])
-      at zero d within = refl
-      at (suc i) d within = absurd (omega arith)
 
   -- the rows with this level
   tells_level : (rows rows' : List (Found E)) (level : List (Found S)) (k : ℕ) (last : Bool) → is_limit n k ≡ last → Explores rows level k

@@ -21,9 +21,6 @@ module _ {E : Type 0} (same : E → E → Bool) where
     apart = t.apart;
   }
 
-  pub Tells-nil : {m : ℕ} → Tells same m [] []
-  Tells-nil = record { firsts = λ q. refl; counted = tt; apart = tt }
-
   first-same : (q p : E → Bool) → ((d : E) → q d ≡ p d) → (xs : List (Found E)) → first q xs ≡ first p xs
   first-same q p e [] = refl
   first-same q p e (x ∷ xs) = ap (λ b. cond b (Some (x.what, x.picks)) (first q xs)) (e x.what) ∙ ap (λ o. cond (p x.what) (Some (x.what, x.picks)) o) (first-same q p e xs)

@@ -1,5 +1,5 @@
 -- An index of digests: for each place the last place below with the same digest, and for each digest its last place.
-use Rattle.std.specs.Prelude.{◌≡◌, ◌≢◌, ℕ, zero, suc, ◌<◌, ◌==◌, List, Option, Some, None, if◌then◌else◌, length, map, AllPairs, slice_index, slice_index_or}
+use Rattle.std.specs.Prelude.{◌≡◌, ◌≢◌, ℕ, zero, suc, ◌<◌, ◌==◌, All, List, Option, Some, None, if◌then◌else◌, length, map, AllPairs, slice_index, slice_index_or}
 use Rattle.vx_explore.specs.declared.found.Found.{Found}
 
 -- the last place below a bound that has this digest
@@ -19,6 +19,10 @@ digests digest_of xs = map (λ x. digest_of x.what) xs
 -- the states alone
 abbrev pub whats : {S : Type 0} → List (Found S) → List S
 whats xs = map (λ x. x.what) xs
+
+-- each of these has the origin of this state
+abbrev pub StartAs : {S : Type 0} → (S → S) → S → List S → Type 0
+StartAs origin o xs = All (λ t. origin t ≡ origin o) xs
 
 -- each state stands once, and the index is right
 pub record IsLevel {S : Type 0} (digest_of : S → ℕ) (xs : List (Found S))

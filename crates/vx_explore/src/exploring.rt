@@ -41,12 +41,10 @@ pub fn explore<M: Machine>(
             return Ok(Answer::Told(rows));
         }
         tell_all(&mut rows, level.as_slice(), false, machine)?;
-        match next_level(alloc, level.as_slice(), most, machine)? {
-            Some(next) => {
-                level = next;
-            }
-            None => return Ok(Answer::Cut),
-        }
+        let Some(next) = next_level(alloc, level, most, machine)? else {
+            return Ok(Answer::Cut);
+        };
+        level = next;
     }
     tell_all(&mut rows, level.as_slice(), true, machine)?;
     Ok(Answer::Told(rows))

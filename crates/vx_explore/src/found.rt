@@ -1,8 +1,6 @@
 //! What runs come to.
 
-ghost use Rattle.std.specs.Prelude.{◌≡◌, [], ◌∷◌, ◌++◌, IfOk};
-
-use vx_base::{Duplicate, NoMemory, Sequence};
+use vx_base::Sequence;
 
 /// Which of the enabled events a run took at each step, by its place from 0.
 pub type Picks = Sequence<u32>;
@@ -16,13 +14,4 @@ pub struct Found<T> {
     pub ways: u64,
     /// The picks of the first run.
     pub picks: Picks,
-}
-
-/// The picks of a run that takes one more step.
-pub fn with_pick(picks: &Picks, pick: u32) -> Result<Picks, NoMemory>
-    ensures { IfOk result (λ more. more ≡ picks.now ++ pick ∷ []) }
-{
-    let mut more = picks.duplicate()?;
-    more.push(pick)?;
-    Ok(more)
 }

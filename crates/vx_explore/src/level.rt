@@ -1,12 +1,12 @@
 //! A level: the states to which one number of steps leads, each once.
 
-ghost use Rattle.std.specs.Prelude.{◌≡◌, ◌≢◌, ◌<◌, ◌∷◌, [], ◌++◌, All, Contains, length, nat_eq, MatchOption, OnOk, slice_index_or};
+ghost use Rattle.std.specs.Prelude.{◌≡◌, ◌≢◌, ◌<◌, ◌∷◌, [], ◌++◌, All, Contains, length, nat_eq, MatchOption, IfOk, OnOk, slice_index_or};
 ghost use Rattle.std.specs.HashMap.{get};
 ghost use Rattle.vx_explore.specs.Alike.{Like};
-ghost use Rattle.vx_explore.specs.Index.{IsLevel, whats};
+ghost use Rattle.vx_explore.specs.Index.{IsLevel, StartAs, whats};
 ghost use Rattle.vx_explore.specs.Runs.{Leads};
 
-use crate::found::{Found, Picks, with_pick};
+use crate::found::{Found, Picks};
 use crate::machine::Machine;
 use std::alloc::Global;
 use std::collections::HashMap;
@@ -23,17 +23,17 @@ pub struct Level<M> {
 }
 
 impl<M: Machine> Level<M> {
-    /// No states. Takes no memory.
-    pub fn new(alloc: Global) -> Level<M>
-        ensures reached { result.reached.items ≡ [] }
-        ensures level { IsLevel M.digest_of result.reached.items result.older.items (λ d. get nat_eq result.latest d) }
+    /// No states, and room for so many.
+    pub fn with_room(alloc: Global, states: usize) -> Result<Level<M>, NoMemory>
+        ensures reached { IfOk result (λ level. level.reached.items ≡ []) }
+        ensures level { IfOk result (λ level. IsLevel M.digest_of level.reached.items level.older.items (λ d. get nat_eq level.latest d)) }
     {
-        Level {
-            reached: Vec::new(alloc),
-            older: Vec::new(alloc),
+        Ok(Level {
+            reached: Vec::with_capacity(alloc, states)?,
+            older: Vec::with_capacity(alloc, states)?,
             latest: HashMap::new(alloc),
             alloc,
-        }
+        })
     }
 
     /// How many states there are.
@@ -58,6 +58,7 @@ impl<M: Machine> Level<M> {
     fn place_of(&self, machine: &M::Running, digest: u64) -> Option<usize>
         requires level { IsLevel M.digest_of self.now.reached.items self.now.older.items (λ d. get nat_eq self.now.latest d) }
         requires digest { digest ≡ M.digest_of (M.state_of machine.now) }
+        requires alike { StartAs M.origin (M.state_of machine.now) (whats self.now.reached.items) }
         ensures { MatchOption result
             ((i : _) (d : _) → i < length self.now.reached.items → (slice_index_or self.now.reached.items i d).what ≢ M.state_of machine.now)
             (λ i. (i < length self.now.reached.items) × ((d : _) → (slice_index_or self.now.reached.items i d).what ≡ M.state_of machine.now)) }
@@ -96,13 +97,15 @@ impl<M: Machine> Level<M> {
         picks: &Picks,
         pick: u32,
     ) -> Result<(), NoMemory>
-        requires { IsLevel M.digest_of self.old.reached.items self.old.older.items (λ d. get nat_eq self.old.latest d) }
+        requires level { IsLevel M.digest_of self.old.reached.items self.old.older.items (λ d. get nat_eq self.old.latest d) }
+        requires alike { StartAs M.origin (M.state_of machine.now) (whats self.old.reached.items) }
         ensures like { OnOk result (Like u64.MAX self.new.reached.items
             (self.old.reached.items ++ record { what = M.state_of machine.now; ways = ways; picks = picks.now ++ pick ∷ [] } ∷ [])) }
         ensures kept { OnOk result ((t : _) → Contains (whats self.old.reached.items) t → Contains (whats self.new.reached.items) t) }
         ensures there { OnOk result (Contains (whats self.new.reached.items) (M.state_of machine.now)) }
         ensures led { OnOk result ((k : _) (s : _) → All (Leads M.enabled M.after k s) (whats self.old.reached.items)
             → Leads M.enabled M.after k s (M.state_of machine.now) → All (Leads M.enabled M.after k s) (whats self.new.reached.items)) }
+        ensures alike { OnOk result (StartAs M.origin (M.state_of machine.now) (whats self.new.reached.items)) }
         ensures level { OnOk result (IsLevel M.digest_of self.new.reached.items self.new.older.items (λ d. get nat_eq self.new.latest d)) }
     {
         let digest = M::digest(machine);
@@ -113,7 +116,7 @@ impl<M: Machine> Level<M> {
             }
             None => {
                 let what = M::put_away(self.alloc, machine)?;
-                let picks = with_pick(picks, pick)?;
+                let picks = picks.with(pick)?;
                 self.push(Found { what, ways, picks }, digest)?;
             }
         }

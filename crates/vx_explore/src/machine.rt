@@ -29,14 +29,19 @@ pub trait Machine: Drop {
     /// Any function of the state.
     ghost digest_of: { Self → ℕ };
 
+    /// The state in which its runs start. No event changes it.
+    ghost origin: { Self → Self };
+
     /// How many events are enabled.
     fn count(&self) -> u32
         ensures { result ≡ enabled self.now };
 
-    /// Brings a machine, whatever its state was, to the state after the enabled event at a place, from 0.
+    /// Brings a machine, whatever its state was, to the state after the enabled event at a place, from 0. The origin stays that of this
+    /// state.
     fn take(&self, pick: u32, machine: &mut Self::Running) -> Result<(), NoMemory>
         requires { pick < enabled self.now }
-        ensures { OnOk result (state_of machine.new ≡ after self.now pick) };
+        ensures after { OnOk result (state_of machine.new ≡ after self.now pick) }
+        ensures origin { OnOk result (origin (state_of machine.new) ≡ origin self.now) };
 
     /// The state of a machine, put away.
     fn put_away(alloc: Global, machine: &Self::Running) -> Result<Self, NoMemory>
@@ -46,8 +51,9 @@ pub trait Machine: Drop {
     fn ending(&self, machine: &mut Self::Running) -> Result<Self::Ending, NoMemory>
         ensures { IfOk result (λ ending. ending ≡ ending_of self.now) };
 
-    /// Whether a machine is in this state. Takes no memory.
+    /// Whether a machine whose runs start where those of this state do is in this state. Takes no memory.
     fn same(&self, machine: &Self::Running) -> bool
+        requires { origin self.now ≡ origin (state_of machine.now) }
         ensures { IsTrue result ↔ (self.now ≡ state_of machine.now) };
 
     /// By this number states are looked up. Different states that share it cost time alone.

@@ -50,6 +50,8 @@ impl Machine for Counters {
 
     ghost digest_of = { λ c. c.left };
 
+    ghost origin = { λ c. record { left = 0; right = 0 } };
+
     fn count(&self) -> u32 {
         let left: u32 = if self.left == 0 { 0 } else { 1 };
         let right: u32 = if self.right == 0 { 0 } else { 1 };

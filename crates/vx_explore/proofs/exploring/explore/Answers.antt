@@ -1,15 +1,10 @@
 use Rattle.std.proofs.Common.{◌≡◌, ◌≤◌, ◌∙◌, sym, suc, [], length, vec_len, eqb-true, arith}
 use Rattle.std.proofs.lemmas.List.{nil_from_length}
-use Rattle.vx_explore.proofs.Levels.{few_early, few_last, Explores-first, Explores-more, told_early, told_last, too_many}
+use Rattle.vx_explore.proofs.Levels.{few_early, few_last, Explores-more, told_early, told_last, too_many}
 use Rattle.vx_explore.proofs.exploring.explore.Goals as goal
 
 pub returns-then-most-eq0-clause-cut : goal.returns-then-most-eq0-clause-cut
 returns-then-most-eq0-clause-cut g c = too_many g.M.Machine.enabled g.M.Machine.after c.args.limit c.args.most c.args.first c.if-most-eq0.true
-
-pub loop-step-init : goal.loop-step-init
-loop-step-init g c = let m = g.M.Machine in
-    rw (c.new-rows.ensures.items, c.in_ok-push.ensures.items, c.new-level.ensures.items, c.new.ensures)
-    (Explores-first m.enabled m.after m.ending_of g.M.Ending.Ending.is_same _ c.args.limit c.args.most c.args.first c.if-most-eq0.false)
 
 pub returns-then-is_empty-clause-told : goal.returns-then-is_empty-clause-told
 returns-then-is_empty-clause-told g c = let m = g.M.Machine in let e = g.met.M.Ending.Ending in
@@ -17,29 +12,30 @@ returns-then-is_empty-clause-told g c = let m = g.M.Machine in let e = g.met.M.E
     let no_length : length c.loop-step.level.items ≡ 0 = sym c.loop-step.level.ok.0 ∙ no_len in
     let empty : c.loop-step.level.items ≡ [] = nil_from_length c.loop-step.level.items no_length in
     told_early m.enabled m.after m.ending_of g.M.Ending.Ending.is_same e.same_as_itself e.same_is_equal c.args.limit c.args.most c.args.first
-    c.loop-step.rows.items c.loop-step._step c.loop-step-test.true (rw empty at c.loop-step.invariant)
+    c.loop-step.rows.items c.loop-step._step c.loop-step-test.true (rw empty at c.loop-step.invariant.0)
 
-pub returns-in-None-clause-cut : goal.returns-in-None-clause-cut
-returns-in-None-clause-cut g c =
-    let before = rw c.in-None.is at (c.in_ok-next.ensures.led c.loop-step._step c.args.first (rw c.as_slice-in-loop-step.ensures.value c.loop-step.invariant.led)) in
+pub returns-in_default-clause-cut : goal.returns-in_default-clause-cut
+returns-in_default-clause-cut g c =
+    let before = rw c.in_default.is at (c.in_ok-next.ensures.led c.loop-step._step c.args.first c.loop-step.invariant.0.led) in
     let within : suc c.loop-step._step ≤ c.args.limit = omega (arith, c.loop-step-test.true) in
     (suc c.loop-step._step, before.0, within, before.1)
 
 pub loop-step-preserved : goal.loop-step-preserved
-loop-step-preserved g c = let m = g.M.Machine in
-    Explores-more m.enabled m.after m.ending_of g.M.Ending.Ending.is_same _ c.args.limit c.args.most c.args.first
-    c.loop-step.rows.items c.tell_all.new.rows.items c.loop-step.level.items c.in-Some.next.items c.loop-step._step
-    c.loop-step-test.true c.loop-step.invariant (rw c.as_slice.ensures.value at c.in_ok-tell_all.ensures)
-    (rw (c.in-Some.is, c.as_slice-in-loop-step.ensures.value) at c.in_ok-next.ensures.like)
-    (λ j s all. rw c.in-Some.is at (c.in_ok-next.ensures.led j s (rw c.as_slice-in-loop-step.ensures.value all)))
-    (rw c.in-Some.is at c.in_ok-next.ensures.few) (rw (c.in-Some.is, c.as_slice-in-loop-step.ensures.value) at c.in_ok-next.ensures.all)
+loop-step-preserved g c = let m = g.M.Machine in (
+  Explores-more m.enabled m.after m.ending_of g.M.Ending.Ending.is_same _ c.args.limit c.args.most c.args.first
+      c.loop-step.rows.items c.tell_all.new.rows.items c.loop-step.level.items c.in-Some.next.items c.loop-step._step
+      c.loop-step-test.true c.loop-step.invariant.0 (rw c.as_slice.ensures.value at c.in_ok-tell_all.ensures)
+      (rw c.in-Some.is at c.in_ok-next.ensures.like) (λ j s all. rw c.in-Some.is at (c.in_ok-next.ensures.led j s all))
+      (rw c.in-Some.is at c.in_ok-next.ensures.few) (rw c.in-Some.is at c.in_ok-next.ensures.all),
+  (rw c.in-Some.is at c.in_ok-next.ensures.alike) c.args.first c.loop-step.invariant.1,
+)
 
 pub returns-clause-told : goal.returns-clause-told
 returns-clause-told g c = let m = g.M.Machine in let e = g.met.M.Ending.Ending in
     let at_end : c.loop-step._step ≡ c.args.limit = omega arith in
     told_last m.enabled m.after m.ending_of g.M.Ending.Ending.is_same e.same_as_itself e.same_is_equal c.args.limit c.args.most c.args.first
     c.loop-step.rows.items c.tell_all-2.new.rows.items c.loop-step.level.items c.loop-step._step at_end
-    c.loop-step.invariant (rw c.as_slice-2.ensures.value at c.in_ok-tell_all-2.ensures)
+    c.loop-step.invariant.0 (rw c.as_slice-2.ensures.value at c.in_ok-tell_all-2.ensures)
 
 pub returns-then-is_empty-clause-whole : goal.returns-then-is_empty-clause-whole
 returns-then-is_empty-clause-whole g c = let m = g.M.Machine in
@@ -47,10 +43,10 @@ returns-then-is_empty-clause-whole g c = let m = g.M.Machine in
     let no_length : length c.loop-step.level.items ≡ 0 = sym c.loop-step.level.ok.0 ∙ no_len in
     let empty : c.loop-step.level.items ≡ [] = nil_from_length c.loop-step.level.items no_length in
     few_early m.enabled m.after m.ending_of g.M.Ending.Ending.is_same _ c.args.limit c.args.most c.args.first
-    c.loop-step.rows.items c.loop-step._step (rw empty at c.loop-step.invariant)
+    c.loop-step.rows.items c.loop-step._step (rw empty at c.loop-step.invariant.0)
 
 pub returns-clause-whole : goal.returns-clause-whole
 returns-clause-whole g c = let m = g.M.Machine in
     let at_end : c.loop-step._step ≡ c.args.limit = omega arith in
     few_last m.enabled m.after m.ending_of g.M.Ending.Ending.is_same _ c.args.limit c.args.most c.args.first
-    c.loop-step.rows.items c.loop-step.level.items c.loop-step._step at_end c.loop-step.invariant
+    c.loop-step.rows.items c.loop-step.level.items c.loop-step._step at_end c.loop-step.invariant.0

@@ -15,13 +15,17 @@ returns-in-Some-clause-level g c =
     let within = c.in-Some.ensures.0 in
     let read = c.index_mut-there.ensures.value in
     record {
-      index = rw (map-counted g.M.Machine.digest_of c.args.self.now.reached.items c.in-Some.i there c.saturating_add-there.result within read) c.requires.index;
-      different = rw (map-counted (λ s. s) c.args.self.now.reached.items c.in-Some.i there c.saturating_add-there.result within read) c.requires.different;
+      index = rw (map-counted g.M.Machine.digest_of c.args.self.now.reached.items c.in-Some.i there c.saturating_add-there.result within read) c.requires.level.index;
+      different = rw (map-counted (λ s. s) c.args.self.now.reached.items c.in-Some.i there c.saturating_add-there.result within read) c.requires.level.different;
     }
 
 pub returns-in-Some-clause-led : goal.returns-in-Some-clause-led
 returns-in-Some-clause-led g c = λ k s all here.
     rw (map-counted (λ t. t) c.args.self.now.reached.items c.in-Some.i c.index_mut-there.result.now c.saturating_add-there.result c.in-Some.ensures.0 c.index_mut-there.ensures.value) all
+
+pub returns-in-Some-clause-alike : goal.returns-in-Some-clause-alike
+returns-in-Some-clause-alike g c =
+    rw (map-counted (λ t. t) c.args.self.now.reached.items c.in-Some.i c.index_mut-there.result.now c.saturating_add-there.result c.in-Some.ensures.0 c.index_mut-there.ensures.value) c.requires.alike
 
 pub returns-in-Some-clause-kept : goal.returns-in-Some-clause-kept
 returns-in-Some-clause-kept g c = λ t h.
