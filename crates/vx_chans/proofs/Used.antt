@@ -1,7 +1,7 @@
 -- Channels behind the last one that was ever assigned.
-use Rattle.std.proofs.Common.{◌≡◌, ℕ, zero, suc, ◌+◌, ◌-◌, ◌≤◌, List, [], ◌∷◌, ◌++◌, if◌then◌else◌, nat_lt, refl, take, Option, None, IsSome, is_some, inl, inr, drop, max, replicate, slice_index_or, slice_set, ap, sym, ◌∙◌, arith}
+use Rattle.std.proofs.Common.{◌≡◌, ℕ, zero, suc, ◌+◌, ◌-◌, ◌≤◌, List, [], ◌∷◌, ◌++◌, if◌then◌else◌, nat_lt, refl, take, Option, None, IsSome, drop, max, replicate, slice_set, ap, sym, ◌∙◌, arith}
 use Rattle.std.proofs.Math.Nat.{le-max_left, le-max_right}
-use Rattle.std.proofs.lemmas.List.{take-append-drop, get_or-drop, get_or-replicate, get_or_past, length-replicate}
+use Rattle.std.proofs.lemmas.List.{take-append-drop}
 use Rattle.std.specs.List.{find}
 use Rattle.vx_base.specs.Channels.{channel_at, is_reached, next_of_mode, reached_from}
 use Rattle.vx_base.specs.declared.mode.Mode.{Mode}

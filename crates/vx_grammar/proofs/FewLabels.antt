@@ -1,5 +1,5 @@
 -- Each label takes a line of its own, so a text that is shorter than 4294967295 bytes has fewer than 4294967296 labels.
-use Rattle.std.proofs.Common.{◌≡◌, ◌≢◌, ℕ, ◌+◌, ◌<◌, ◌≤◌, Bool, true, nat_le, nat_lt, List, [], ◌∷◌, ◌++◌, length, map, flat_map, codes, Result, Ok, Err, IfOk, refl, sym, subst, ap, ◌∙◌, arith, length-append}
+use Rattle.std.proofs.Common.{◌≡◌, ◌≢◌, ℕ, ◌+◌, ◌<◌, ◌≤◌, Bool, true, nat_le, nat_lt, List, [], ◌∷◌, ◌++◌, length, flat_map, codes, Result, Ok, refl, sym, subst, ap, ◌∙◌, arith, length-append}
 use Rattle.std.specs.List.{list_all}
 use Rattle.std.proofs.lemmas.Bool.{and_parts, and_from, leb-true, le-leb, lt-ltb}
 use Rattle.vx_image.specs.declared.image.Image.{Image}
@@ -11,7 +11,7 @@ use Rattle.vx_text.specs.declared.token.Tok.TheVariants as tok
 use Rattle.vx_script.proofs.Appended.{as_many}
 use Rattle.vx_script.proofs.EndedImages.{is_formed}
 use Rattle.vx_script.proofs.ResolvedSystem.{IsFormed}
-use Rattle.vx_grammar.specs.Grammar.{Said, Names, Does, BodyLine, empty_line, statement_line, label_line, labelled_line, Body, no_lines, and_line, labels_in, ImageOf, Item, OfUnit, OfInput, OfFault, OfImage, OfProcess, Line, a_line_unit, a_block_unit, an_input, a_fault, a_process, Lines, none_left, an_empty_line, a_line, an_image, image_in, IsLines, no_text, last_line, fed_line, returned_line, tokens_of, Spells}
+use Rattle.vx_grammar.specs.Grammar.{Said, BodyLine, empty_line, statement_line, label_line, labelled_line, Body, no_lines, and_line, labels_in, ImageOf, Item, Line, a_line_unit, a_block_unit, an_input, a_fault, a_process, Lines, none_left, an_empty_line, a_line, an_image, image_in, IsLines, no_text, last_line, fed_line, returned_line, tokens_of, Spells}
 
 -- a line says one label at most
 one_label : (decls : List (List ℕ)) (image : Image) (place : ℕ) (ts : List Tok) (said more : List Said) (n : ℕ) → BodyLine decls image ts said → ((place : ℕ) → length (labels_in place more) ≤ n)

@@ -16,14 +16,13 @@ use Rattle.vx_script.specs.declared.fault.ScriptFault.{ScriptFault}
 use Rattle.vx_script.specs.declared.parts.Parts.{Parts}
 use Rattle.vx_script.specs.declared.parts.Reading.{Reading}
 use Rattle.vx_script.proofs.KeptParts.{IsRead, line_kept, nothing_kept}
-use Rattle.vx_grammar.specs.Grammar.{IsLines, tokens_of}
+use Rattle.vx_grammar.specs.Grammar.{tokens_of}
 use Rattle.vx_grammar.specs.Declared.{Declared}
-use Rattle.vx_grammar.specs.FirstFault.{Fit, none_fit, one_fits, AllFit, FirstFaulty, AllKnown, none_known, one_known, FirstUnknown, TellsFault, of_a_line, of_the_end, of_a_name, Tells}
-use Rattle.vx_grammar.specs.LineFault.{line_fault}
+use Rattle.vx_grammar.specs.FirstFault.{Fit, none_fit, one_fits, AllFit, AllKnown, none_known, one_known, FirstUnknown, TellsFault, of_a_line, of_the_end, of_a_name, Tells}
 use Rattle.vx_grammar.specs.UnknownName.{names_unknown}
 use Rattle.vx_grammar.proofs.Fields.{bind_ok}
 use Rattle.vx_grammar.proofs.Feeding.{kinds, taken}
-use Rattle.vx_grammar.proofs.TextLines.{lines_cut, cut_lines}
+use Rattle.vx_grammar.proofs.TextLines.{cut_lines}
 use Rattle.vx_grammar.proofs.Least.{least, Nothing, Sees, least_is, least_none, none_moves, seen_moves, stay_moves}
 use Rattle.vx_grammar.proofs.LineFaults.{refused}
 use Rattle.vx_grammar.proofs.LinesFit.{open_of, declared_by, declared, fits_read, read_fits}

@@ -8,8 +8,7 @@ use Rattle.vx_image.specs.WellFormed.{is_among}
 use Rattle.vx_text.specs.Lex.{lex}
 use Rattle.vx_text.specs.declared.token.Tok.{Tok}
 use Rattle.vx_text.specs.declared.token.Tok.TheVariants as tok
-use Rattle.vx_text.proofs.Runs.{by_test}
-use Rattle.vx_script.specs.Declarations.{decl_place, unused_name, is_fault_of, fresh_fault, unit_line, input_line, fault_line, image_line, process_line}
+use Rattle.vx_script.specs.Declarations.{decl_place, unused_name, is_fault_of, unit_line, input_line, fault_line, image_line, process_line}
 use Rattle.vx_script.specs.Fields.{begins_with_sign, end_at, when, name_at, number_at, text_at, device_at, blocks_of, room_for, with_kind}
 use Rattle.vx_script.specs.Keys.{no_keys, keys_from}
 use Rattle.vx_script.specs.Places.{unit_place, image_place, label_place}
@@ -25,7 +24,6 @@ use Rattle.vx_script.specs.declared.parts.Parts.{Parts}
 use Rattle.vx_script.specs.declared.parts.Reading.{Reading}
 use Rattle.vx_script.proofs.Appended.{as_many}
 use Rattle.vx_script.proofs.Places.{any_map, has_place}
-use Rattle.vx_grammar.specs.Declared.{DeclaredImage, Declared}
 use Rattle.vx_grammar.specs.LineFault.{Verdict, new_among, unit_fault, input_fault, number_fault, image_fault, process_fault, outer_fault, outside_fault, statement_fault, word_fault, inside_fault, fault_at, line_fault}
 use Rattle.vx_grammar.proofs.LinesFit.{open_of, declared_by, declared}
 use Rattle.vx_grammar.proofs.SaidSoFar.{fault_key}

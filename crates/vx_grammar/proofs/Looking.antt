@@ -8,7 +8,7 @@ use Rattle.vx_image.specs.declared.unit.UnitDecl.{UnitDecl}
 use Rattle.vx_image.specs.WellFormed.{is_among, are_distinct, decl_names}
 use Rattle.vx_script.specs.Declarations.{decl_place, is_fault_of}
 use Rattle.vx_script.specs.Places.{unit_place, image_place, is_line_unit, rising}
-use Rattle.vx_script.specs.Resolving.{names_no_decl, unknown_creation, names_no_image, unknown_image, names_no_line_unit, unknown_input, names_no_unit, unknown_fault, first_unknown, least_line, unit_of, decl_of, inputs_of, numbers_of}
+use Rattle.vx_script.specs.Resolving.{names_no_decl, unknown_creation, names_no_image, unknown_image, names_no_line_unit, unknown_input, names_no_unit, unknown_fault, first_unknown, least_line, unit_of, decl_of, numbers_of}
 use Rattle.vx_script.specs.Resolving as resolving
 use Rattle.vx_script.specs.Reading.{nothing_read}
 use Rattle.vx_script.specs.declared.lines.Creation.{Creation}

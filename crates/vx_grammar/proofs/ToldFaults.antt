@@ -1,14 +1,11 @@
 -- A fault that is told of a text is the one that the reader answers.
-use Rattle.std.proofs.Common.{◌≡◌, ℕ, ◌+◌, ◌≤◌, Bool, true, false, List, [], ◌∷◌, ◌++◌, length, Option, Some, None, Result, Ok, Err, refl, sym, subst, ap, ◌∙◌, arith, append-nil, append_assoc, length-append}
+use Rattle.std.proofs.Common.{◌≡◌, ℕ, ◌+◌, true, false, List, [], ◌∷◌, ◌++◌, length, Option, Some, None, Result, Ok, Err, refl, sym, subst, ap, ◌∙◌, arith, append-nil, append_assoc, length-append}
 use Rattle.std.proofs.lemmas.Result.{IfOk-at_ok}
-use Rattle.vx_image.specs.declared.image.Image.{Image}
-use Rattle.vx_text.specs.Lex.{lex}
 use Rattle.vx_text.specs.declared.token.LexFail.{LexFail}
 use Rattle.vx_text.specs.declared.token.Tok.{Tok}
 use Rattle.vx_script.specs.Lines.{lines_of}
 use Rattle.vx_script.specs.Results.{◌>>=◌, at_line}
-use Rattle.vx_script.specs.Reading.{accepted, by_place, take_line, closed, nothing_read, read_lines, read_script}
-use Rattle.vx_script.specs.Fields.{with_kind}
+use Rattle.vx_script.specs.Reading.{by_place, take_line, closed, nothing_read, read_lines, read_script}
 use Rattle.vx_script.specs.Resolving.{first_unknown, resolved}
 use Rattle.vx_script.specs.declared.draft.DraftImage.{DraftImage}
 use Rattle.vx_script.specs.declared.fault.FaultKind.{FaultKind}
@@ -17,19 +14,18 @@ use Rattle.vx_script.specs.declared.fault.ScriptFault.{ScriptFault}
 use Rattle.vx_script.specs.declared.parts.Parts.{Parts}
 use Rattle.vx_script.specs.declared.parts.Reading.{Reading}
 use Rattle.vx_script.proofs.KeptParts.{IsRead, line_kept, nothing_kept}
-use Rattle.vx_grammar.specs.Grammar.{IsLines, tokens_of}
+use Rattle.vx_grammar.specs.Grammar.{tokens_of}
 use Rattle.vx_grammar.specs.Declared.{DeclaredImage, Declared}
-use Rattle.vx_grammar.specs.FirstFault.{Fit, none_fit, one_fits, AllFit, FirstFaulty, AllKnown, none_known, one_known, FirstUnknown, TellsFault, of_a_line, of_the_end, of_a_name, Tells}
+use Rattle.vx_grammar.specs.FirstFault.{Fit, FirstFaulty, AllKnown, none_known, one_known, FirstUnknown, TellsFault, of_a_line, of_the_end, of_a_name, Tells}
 use Rattle.vx_grammar.specs.LineFault.{line_fault}
 use Rattle.vx_grammar.specs.UnknownName.{names_unknown}
 use Rattle.vx_grammar.proofs.Fields.{bind_ok}
-use Rattle.vx_grammar.proofs.Feeding.{kinds, taken}
-use Rattle.vx_grammar.proofs.TextLines.{lines_cut, cut_lines}
-use Rattle.vx_grammar.proofs.Least.{least, Nothing, Sees, least_is, least_none, none_moves, seen_moves, stay_moves}
+use Rattle.vx_grammar.proofs.TextLines.{lines_cut}
+use Rattle.vx_grammar.proofs.Least.{least, Nothing, least_is, none_moves, seen_moves}
 use Rattle.vx_grammar.proofs.LineFaults.{refused}
-use Rattle.vx_grammar.proofs.LinesFit.{open_of, declared_by, declared, fits_read, read_fits}
-use Rattle.vx_grammar.proofs.UnknownNames.{firsts, firsts_of, Stepped, stepped}
-use Rattle.vx_grammar.proofs.FirstFaults.{reads, FitRead, fit_read, line_fits, Taken, line_taken, more_images, stays, starts, nothing_yet}
+use Rattle.vx_grammar.proofs.LinesFit.{declared_by, declared, fits_read}
+use Rattle.vx_grammar.proofs.UnknownNames.{firsts, firsts_of}
+use Rattle.vx_grammar.proofs.FirstFaults.{reads, FitRead, fit_read, line_fits, line_taken, more_images, stays, starts, nothing_yet}
 
 ends : (line : ℕ) (r : Reading) (ls : List (List ℕ)) → read_lines line r ([] ++ ls) ≡ read_lines (line + 0) r ls
 ends line r ls = let e : line ≡ line + 0 = omega arith in ap (λ (k : ℕ). read_lines k r ls) e

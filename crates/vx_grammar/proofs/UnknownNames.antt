@@ -2,7 +2,6 @@
 use Rattle.std.proofs.Common.{◌≡◌, ℕ, ◌==◌, ◌&&◌, ◌||◌, not, Bool, true, false, cond, if◌then◌else◌, List, [], ◌∷◌, ◌++◌, length, drop, map, flat_map, find, codes, Option, Some, None, is_some, is_none, option_map, Result, Ok, Err, bytes_eq, refl, sym, subst, ap, ◌∙◌, append-nil, append_assoc}
 use Rattle.std.specs.List.{list_any}
 use Rattle.std.proofs.lemmas.Bool.{or_parts}
-use Rattle.std.proofs.lemmas.List.Folds.{list_any-append}
 use Rattle.vx_base.specs.Services.{args_list}
 use Rattle.vx_base.specs.declared.call.Arg.{Arg}
 use Rattle.vx_base.specs.declared.call.Arg.TheVariants as arg
@@ -11,7 +10,6 @@ use Rattle.vx_base.specs.declared.service.Service.TheVariants.{CrePrc}
 use Rattle.vx_image.specs.WellFormed.{is_among, has_its_decl}
 use Rattle.vx_image.specs.declared.image.Image.{Image}
 use Rattle.vx_image.specs.declared.image.Label.{Label}
-use Rattle.vx_image.specs.declared.stmt.Stmt.{Stmt}
 use Rattle.vx_image.specs.declared.stmt.Stmt.TheVariants as stmt
 use Rattle.vx_image.specs.declared.unit.UnitDecl.{UnitDecl}
 use Rattle.vx_text.specs.declared.token.Tok.{Tok}
@@ -22,8 +20,7 @@ use Rattle.vx_script.specs.Fields.{begins_with_sign, end_at, name_at, number_at,
 use Rattle.vx_script.specs.Keys.{no_keys, keys_from}
 use Rattle.vx_script.specs.Places.{unit_place, image_place, label_place, is_line_unit}
 use Rattle.vx_script.specs.Reading.{with_stmt, with_label, labelled, goes_on, going_on, word_line, inside, between_images, outer_line, outside, by_place}
-use Rattle.vx_script.specs.Resolving.{is_label, arg_names_none, call_names_none, draft_names_none, names_no_label, image_of, created_by, created_in, creation_of, creations_of, least_line, with_image, names_no_decl, names_no_image, names_no_line_unit, names_no_unit, first_unlabelled, first_unknown}
-use Rattle.vx_script.specs.Results.{◌>>=◌}
+use Rattle.vx_script.specs.Resolving.{is_label, arg_names_none, call_names_none, draft_names_none, names_no_label, image_of, created_by, created_in, creation_of, creations_of, least_line, with_image, names_no_decl, names_no_image, names_no_line_unit, names_no_unit}
 use Rattle.vx_script.specs.Statements.{stmt_of, local_stmt}
 use Rattle.vx_script.specs.declared.draft.Draft.{Draft}
 use Rattle.vx_script.specs.declared.draft.Draft.TheVariants as draft
@@ -36,11 +33,11 @@ use Rattle.vx_script.specs.declared.lines.FaultLine.{FaultLine}
 use Rattle.vx_script.specs.declared.lines.InputLine.{InputLine}
 use Rattle.vx_script.specs.declared.parts.Parts.{Parts}
 use Rattle.vx_script.specs.declared.parts.Reading.{Reading}
-use Rattle.vx_script.proofs.KeptParts.{IsRead, IsOpenOr}
+use Rattle.vx_script.proofs.KeptParts.{IsOpenOr}
 use Rattle.vx_script.proofs.OpenImages.{IsOpen}
 use Rattle.vx_script.proofs.Places.{any_map, has_place}
-use Rattle.vx_grammar.specs.Declared.{DeclaredImage, Declared}
-use Rattle.vx_grammar.specs.UnknownName.{image_unknown, outside_unknown, label_unknown, draft_unknown, labels_of, statement_unknown, inside_unknown, names_unknown}
+use Rattle.vx_grammar.specs.Declared.{Declared}
+use Rattle.vx_grammar.specs.UnknownName.{outside_unknown, label_unknown, draft_unknown, labels_of, statement_unknown, inside_unknown, names_unknown}
 use Rattle.vx_grammar.proofs.Fields.{bind_ok, name_is, same_name, name_found, end_is}
 use Rattle.vx_grammar.proofs.Least.{mark, marked, any_of, Moves, marks, ends}
 use Rattle.vx_grammar.proofs.LinesBack.{with_draft}

@@ -8,7 +8,7 @@ use Rattle.vx_image.specs.declared.unit.UnitDecl.{UnitDecl}
 use Rattle.vx_image.specs.WellFormed.{are_distinct}
 use Rattle.vx_script.specs.Lines.{lines_of}
 use Rattle.vx_script.specs.Reading.{nothing_read, read_lines, read_script}
-use Rattle.vx_script.specs.Resolving.{first_unknown, resolved, resolve}
+use Rattle.vx_script.specs.Resolving.{first_unknown, resolved}
 use Rattle.vx_script.specs.Resolving as resolving
 use Rattle.vx_script.specs.declared.fault.ScriptFault.{ScriptFault}
 use Rattle.vx_script.specs.declared.parts.Parts.{Parts}

@@ -1,5 +1,5 @@
 -- A line that names what is not there, where all lines of a script declare `all`.
-use Rattle.std.specs.Prelude.{ℕ, not, Bool, false, ◌||◌, List, [], ◌∷◌, drop, codes, Option, Some, None, Result, Ok, Err, bytes_eq, if◌then◌else◌}
+use Rattle.std.specs.Prelude.{ℕ, not, Bool, false, ◌||◌, List, [], ◌∷◌, drop, codes, Option, Some, None, Result, Ok, bytes_eq, if◌then◌else◌}
 use Rattle.std.specs.List.{list_any}
 use Rattle.vx_base.specs.Services.{args_list}
 use Rattle.vx_base.specs.declared.call.Arg.{Arg}

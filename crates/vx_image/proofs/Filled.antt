@@ -3,8 +3,7 @@ use native.Mathlib.Numerals.{unary_clauses}
 use Rattle.std.proofs.Common.{◌≡◌, ℕ, zero, suc, ◌-◌, ◌<◌, ◌≤◌, List, [], ◌∷◌, ◌++◌, drop, length, max, replicate, slice_index_or, slice_set, take, ap, refl, sym, ◌∙◌, subst, ◌+◌, arith}
 use Rattle.std.proofs.Math.Seq.{take-suc}
 use Rattle.std.proofs.Math.Nat.{le-max_left, le-max_right}
-use Rattle.std.proofs.lemmas.Slice.{drop-append-drop}
-use Rattle.std.proofs.lemmas.List.{drop-drop, drop-replicate, drop_more, get_or_append_left, length-append, length-replicate, length-set, replicate-append-replicate, set-append_left, take-append-drop, take-replicate}
+use Rattle.std.proofs.lemmas.List.{drop-replicate, drop_more, get_or_append_left, length-append, length-replicate, length-set, set-append_left, take-append-drop, take-replicate}
 use Rattle.vx_base.specs.Lists.{overlaid}
 use Rattle.vx_base.specs.Roomy.{Roomy, with_items}
 use Rattle.vx_base.specs.Pieces.{Status, cleared}

@@ -1,5 +1,5 @@
 -- An attention entry is set: its part, step after step.
-use Rattle.std.proofs.Common.{◌≡◌, ℕ, ◌-◌, List, [], ◌∷◌, ◌++◌, true, false, not, ◌==◌, Option, Some, None, refl, ap, ◌∙◌}
+use Rattle.std.proofs.Common.{◌≡◌, ℕ, List, [], ◌∷◌, ◌++◌, true, false, not, ◌==◌, Option, Some, None, refl, ap, ◌∙◌}
 use Rattle.std.specs.List.{find}
 use Rattle.vx_base.specs.Pieces.{Attention, Status}
 use Rattle.vx_base.specs.declared.effects.Cell.{Cell}

@@ -39,7 +39,7 @@ use Rattle.vx_record.specs.Channels.{channel_test, device_named, with_channel, f
 use Rattle.vx_record.specs.Cancel.{mark_part, withdraw, cancelled_request, cancel_request, is_request_on, is_attention_on, drop_attention, cancel_channel, cancel_at, dassgn_at}
 use Rattle.vx_record.specs.Requests.{begun_on}
 use Rattle.vx_record.specs.Control.{process_test, changed_process, with_wake, with_suspension, forced, creprc}
-use Rattle.vx_record.specs.Timers.{drop_timer, drop_timers, setimr_at, setimr, is_cancelled_timer, scheduled, is_wake_for, unscheduled, que_timer, fired, fire, is_due, at_time, next_time, tick}
+use Rattle.vx_record.specs.Timers.{drop_timer, drop_timers, setimr_at, scheduled, is_wake_for, unscheduled, que_timer, fired, fire, is_due, at_time, next_time, tick}
 use Rattle.vx_record.specs.Rundown.{leave_kind, leave_frame, leave_all, exited, is_handler_of, is_handler_with, drop_handler, drop_handlers, any_handler, cancel_found, cancel_handlers, named_for_deletion, deleted_by, cancel_one, free_one, is_timer_in, is_wake_by, cancel_modes, drop_ast, drop_asts, is_ast_reached, part_with, release}
 use Rattle.vx_record.specs.Services.{number, place, access_mode, text, routine_or_none, decl_place, valued_at, numbered_at, service_of}
 use Rattle.vx_record.proofs.Lists.{all_append, all_weaker}

@@ -16,7 +16,7 @@ use Rattle.vx_record.specs.Channels.{with_channel, is_assigned, goes_unused, box
 use Rattle.vx_record.specs.Charges.{is_same}
 use Rattle.vx_record.specs.Mailboxes.{mailbox_at}
 use Rattle.vx_record.specs.Parts.{Part, and_then, each, nothing}
-use Rattle.vx_record.specs.Rundown.{any_handler, free_one, drop_ast, drop_asts, drop_handler, drop_handlers, drop_all_handlers, without_ast, is_ast_reached, is_busy, keeps_busy, part_with, release, cancel_modes, cancelled_in, in_phase, entering, handler_frame, handling}
+use Rattle.vx_record.specs.Rundown.{any_handler, free_one, drop_ast, drop_asts, drop_handler, drop_all_handlers, without_ast, is_ast_reached, is_busy, keeps_busy, part_with, release, cancel_modes, cancelled_in, in_phase, entering, handler_frame}
 use Rattle.vx_record.specs.State.{Process, State, process_at, change, nobody}
 use Rattle.vx_record.specs.Timers.{drop_timers, is_wake_for}
 use Rattle.vx_record.proofs.Base.{moves_keep}

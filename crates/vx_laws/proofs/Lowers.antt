@@ -19,7 +19,7 @@ use Rattle.vx_record.proofs.Cancelled.{drop_timers_moves}
 use Rattle.vx_record.proofs.Moves.{Moves, both, none, quiet, end_handlers, enter}
 use Rattle.vx_record.proofs.Lists.{either_by}
 use Rattle.vx_record.specs.Parts.{Outcome, and_then, each}
-use Rattle.vx_record.specs.Rundown.{any_handler, cancelled_in, cancel_modes, drain, drop_all_handlers, drop_handlers, entering, gone_part, handler_frame, handling, in_phase, inner_modes, is_busy, is_handler_of, release, run_down, run_handlers, rundown_from}
+use Rattle.vx_record.specs.Rundown.{any_handler, cancelled_in, cancel_modes, drain, drop_all_handlers, entering, gone_part, handler_frame, handling, in_phase, inner_modes, is_busy, is_handler_of, release, run_down, run_handlers, rundown_from}
 use Rattle.vx_record.specs.State.{Process, State, IsProcess, change, process_at}
 use Rattle.vx_record.specs.Timers.{drop_timers, is_wake_for}
 use Rattle.vx_laws.proofs.Calm.{Tags, Still, cancelled_in_calm, phase_calm, release_calm, drop_handlers_calm, drop_timers_calm}

@@ -49,7 +49,6 @@ use Rattle.vx_record.specs.State.{nobody}
 use Rattle.vx_record.specs.Rundown.{drop_asts}
 use Rattle.vx_base.specs.Lists.{less, amend}
 use Rattle.vx_record.specs.Channels.{box_number, box_made}
-use Rattle.vx_record.specs.Timers.{mode_of_ast}
 use Rattle.vx_record.specs.State.{Process}
 use Rattle.vx_record.specs.Flags.{with_local_flag}
 use Rattle.vx_record.specs.State.{next_id, past_id}
@@ -58,7 +57,7 @@ use Rattle.vx_record.specs.Control.{exit_ast}
 use Rattle.vx_record.specs.Mailboxes.{this_attention}
 use Rattle.vx_record.specs.Rundown.{part_with}
 use Rattle.vx_record.specs.Services.{var_part, routine}
-use Rattle.vx_record.specs.Timers.{this_timer, due_again, after_wake, new_timer, new_wake, timer_set, gettim}
+use Rattle.vx_record.specs.Timers.{this_timer, due_again, after_wake, new_timer, new_wake, gettim}
 use Rattle.vx_record.specs.Rundown.{drop_handler, drop_ast, is_ast_reached, without_ast, without_handler, with_handler, new_handler}
 use Rattle.vx_record.specs.Control.{created, new_part}
 use Rattle.vx_record.specs.Asts.{que_part, with_queued, with_delivery}

@@ -1,5 +1,5 @@
 -- The mailboxes of the table, as one place changes.
-use Rattle.std.proofs.Common.{◌≡◌, ◌≢◌, ℕ, zero, suc, replicate, ◌-◌, ◌+◌, ◌<◌, ◌≤◌, List, [], ◌∷◌, Bool, true, cond, not, Option, Some, None, IfSome, IsTrue, is_some, is_none, option_map, length, map, position, slice_index_or, slice_set, take, ◌++◌, inl, inr, refl, ap, sym, subst, arith, ◌∙◌, drop, max}
+use Rattle.std.proofs.Common.{◌≡◌, ◌≢◌, ℕ, replicate, ◌-◌, ◌+◌, ◌<◌, ◌≤◌, List, [], ◌∷◌, Bool, true, cond, not, Option, Some, None, IfSome, IsTrue, is_some, is_none, option_map, length, map, position, slice_index_or, slice_set, take, ◌++◌, inl, inr, refl, ap, sym, subst, arith, ◌∙◌, drop, max}
 use Rattle.std.specs.List.{position_or_len}
 use Rattle.std.proofs.Math.Nat.{le-max_left, le-max_right}
 use Rattle.std.proofs.lemmas.List.{get_or_default, drop_at, take-append-drop, take-map, get_or-map, get_or_past, get_or-set_same, get_or-set_other, length-map, length-set, map-set, take_more, take_more_set}

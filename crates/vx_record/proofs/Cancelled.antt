@@ -22,7 +22,7 @@ use Rattle.vx_record.specs.Mailboxes.{mailbox_at, this_message, mcut_part}
 use Rattle.vx_record.specs.Channels.{box_named, with_channel, free_channel_of, assign_at, assign_to, is_bad_box, new_box, make_box, make_box_in, find_or_create, crembx, marked_box, delmbx_on, is_assigned, goes_unused, box_gone, swept_device, swept_box, free_channel}
 use Rattle.vx_record.specs.Cancel.{mark_part, withdraw, cancelled_request, cancel_request, is_request_on, is_attention_on, drop_attention, cancel_channel}
 use Rattle.vx_record.specs.Control.{with_wake}
-use Rattle.vx_record.specs.Timers.{drop_timer, drop_timers, setimr_at, setimr, is_cancelled_timer, scheduled, is_wake_for, unscheduled, que_timer, fire_timer, fired, fire, is_due, at_time, next_time, tick}
+use Rattle.vx_record.specs.Timers.{drop_timer, drop_timers, setimr_at, setimr, scheduled, que_timer, fire_timer, fired, fire, is_due, at_time, next_time, tick}
 use Rattle.vx_base.specs.Channels.{channel_at}
 use Rattle.vx_record.proofs.Lists.{either}
 use Rattle.std.proofs.Common.{◌+◌, ◌-◌, ◌≤◌, IfSome, sym, ap, arith, subst}
@@ -40,7 +40,7 @@ use Rattle.vx_record.specs.Flags.{with_local_flag}
 use Rattle.vx_record.specs.Asts.{charged_ast}
 use Rattle.vx_record.specs.Cancel.{with_abort}
 use Rattle.vx_record.specs.Mailboxes.{this_attention}
-use Rattle.vx_record.specs.Timers.{this_timer, due_again, after_wake, new_timer, new_wake, timer_set, gettim}
+use Rattle.vx_record.specs.Timers.{this_timer, due_again, after_wake, new_timer, new_wake, timer_set}
 use Rattle.vx_record.specs.Sound.{AreOrdered, request_id, timer_id, attention_id}
 use Rattle.vx_record.proofs.Lists.{either_by, all_weaker, all_both, all_filter, all_find, not_holds}
 use Rattle.std.proofs.Common.{◌<◌}

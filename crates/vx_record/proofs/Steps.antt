@@ -85,8 +85,8 @@ use Rattle.std.proofs.lemmas.List.Quantifiers.{position-Some}
 use Rattle.vx_image.specs.declared.decl.ProcDecl.{ProcDecl}
 use Rattle.vx_record.specs.State.{no_decl}
 use Rattle.vx_record.specs.Finish.{with_stored_status}
-use Rattle.vx_record.proofs.Moves.{HasAstRoom, IsDeclared}
-use Rattle.vx_record.proofs.Moves.{Loose, passed, IsAt, IsIdle, IsSetWhere, promised_by, loosed, loosed_timer, fired_by, IsCellMade, IsAlarmMade, IsOfTimer, IsSilent, is_clusters, associates, dissociates, marks, IsNew, IsNewAttention, IsNewTimer, HasRequest, HasTimer, HasAttention, none, skip, both, quiet, moved, bytes, var, status, enb, channel, newly, gone, leave, flag, clusters, open_ast, open_force, que, end_asts, open_handler, end_handler, end_handlers, enter, open_request, fin, mark, unit, mput, mget, mcut, box_opens, box_ends, box_marked, open_attention, attention_fires, end_attention, open_timer, open_wake, timer_fires, wake_fires, end_timer, time, MovesBy, PartBy, OutcomeBy}
+use Rattle.vx_record.proofs.Moves.{IsDeclared}
+use Rattle.vx_record.proofs.Moves.{IsSilent, associates, dissociates, marks, HasRequest, none, both, quiet, moved, bytes, var, enb, newly, gone, leave, flag, clusters, open_ast, open_force, que, end_asts, open_handler, end_handler, end_handlers, enter, unit, MovesBy, PartBy, OutcomeBy}
 use Rattle.vx_record.proofs.Locals.{advanced_statuses}
 use Rattle.std.specs.Prelude.{⊤}
 use Rattle.vx_base.specs.declared.call.Target.TheVariants as target
@@ -102,7 +102,7 @@ use Rattle.vx_record.proofs.Changes.{with_suspension_quiet, with_variable_quiet,
 use Rattle.vx_record.proofs.Called.{IsCalled, declared_routine, handler_routine, third_routine, fifth_routine, IsStopped, stopped_call, moved_stopped, advanced_stopped}
 use Rattle.vx_record.proofs.Fits.{field_same, tested_fits}
 use Rattle.vx_record.proofs.Freeing.{IsFreeing, IsReleased, freeing_first, freeing_row, freed_on, released_frames, phase_at}
-use Rattle.vx_record.proofs.Moves.{PartMoves, Answers, IsCalm, IsTame, calm, drains, AreUnattended, IsRow}
+use Rattle.vx_record.proofs.Moves.{PartMoves, Answers, IsTame, calm, drains, AreUnattended}
 use Rattle.vx_record.proofs.SoundCalls.{placed}
 use Rattle.vx_record.proofs.SoundChannels.{named_stands}
 use Rattle.vx_record.proofs.SoundFlags.{associated_stands, dissociated_stands, marked_stands}

@@ -1,8 +1,7 @@
 -- The call at which local statements stop: its values are numbers, and its arguments are of the kinds that its service takes. So
 -- what a service tells has a spelling.
-use Rattle.std.proofs.Common.{◌≡◌, ℕ, zero, suc, ◌%◌, ◌^◌, ◌&&◌, Bool, true, false, List, [], ◌∷◌, length, slice_get, Option, Some, None, Result, Ok, Err, refl}
+use Rattle.std.proofs.Common.{◌≡◌, ℕ, zero, suc, ◌%◌, ◌^◌, true, false, slice_get, Option, Some, None, Result, Ok, Err, refl}
 use Rattle.std.specs.Prelude.{⊤}
-use Rattle.std.specs.List.{AllByRecursion, list_all}
 use Rattle.std.proofs.lemmas.Bool.{and_parts}
 use Rattle.vx_base.specs.Services.{are_args, args_list, is_of_kind, is_target, params_of}
 use Rattle.vx_base.specs.declared.call.Arg.{Arg}
@@ -31,7 +30,6 @@ use Rattle.vx_record.specs.Parts.{Outcome, Part, and_then, nothing, part_of}
 use Rattle.vx_record.specs.Timers.{gettim}
 use Rattle.vx_record.specs.Services.{access_mode, asked, decl_place, number, numbered_at, place, routine, routine_or_none, service_of, text, valued_at, var_part}
 use Rattle.vx_record.specs.State.{State}
-use Rattle.vx_record.specs.declared.served.Served.{Served}
 use Rattle.vx_spelled.proofs.Fine.{AreFine, OutFine, PartFine, then_fine, put_flag_fine, readef_fine, waits_fine, ascefc_fine, dacefc_fine, dlcefc_fine, dclast_fine, cmexec_fine, cmkrnl_fine, setimr_fine, cantim_fine, schdwk_fine, canwak_fine, hiber_fine, wake_fine, suspnd_fine, resume_fine, forcex_fine, creprc_fine, delprc_fine, exited_fine, dclexh_fine, canexh_fine, assign_fine, dassgn_fine, crembx_fine, delmbx_fine, qio_fine, qiow_fine, synch_fine, cancel_fine}
 
 -- Values that are numbers.

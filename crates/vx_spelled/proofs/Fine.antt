@@ -1,16 +1,15 @@
 -- What the machine tells has a spelling, as far as that is no matter of types: a flag of a common cluster is one of 32, an
 -- associated cluster is 2 or 3, and a variable is a letter or R0.
-use Rattle.std.proofs.Common.{◌≡◌, ℕ, zero, suc, ◌+◌, ◌/◌, ◌%◌, ◌≤◌, ◌==◌, ◌&&◌, ◌||◌, not, nat_lt, nat_le, Bool, true, false, cond, List, [], ◌∷◌, ◌++◌, Option, Some, None, Result, Ok, Err, IfSome, is_none, is_some, length, position, refl, ap, ◌∙◌, arith}
-use Rattle.std.specs.Prelude.{⊤, IsTrue}
+use Rattle.std.proofs.Common.{◌≡◌, ℕ, ◌%◌, ◌≤◌, ◌==◌, ◌&&◌, ◌||◌, not, nat_lt, nat_le, Bool, true, false, cond, List, [], ◌∷◌, Option, Some, None, Result, Ok, Err, IfSome, is_none, is_some, length, position, refl, arith}
+use Rattle.std.specs.Prelude.{⊤}
 use Rattle.std.specs.List.{AllByRecursion, find, filter, list_any}
 use Rattle.std.proofs.lemmas.Bool.{and_parts, leb-true}
-use Rattle.vx_base.specs.Clusters.{Common as Clusters, Change, associated, cluster_number, dissociated, dissociated_at, followed, gone as cluster_gone, is_association, joined, made_where_new, marked, marked_at, parted, swept, swept_at, has_already, is_cluster, is_used, stands, unchanged}
+use Rattle.vx_base.specs.Clusters.{Common as Clusters, Change, associated, cluster_number, dissociated, dissociated_at, followed, is_association, joined, made_where_new, marked, marked_at, parted, swept, swept_at, has_already, is_cluster, is_used, stands}
 use Rattle.vx_base.specs.Channels.{channel_at, channels_of}
 use Rattle.vx_base.specs.Modes.{inner, is_kernel, outer}
-use Rattle.vx_base.specs.Pieces.{Alarm, Association, Attention, Channel, Cluster, cleared, Handler, Mailbox, OfTimer, OfWake, Promised, Queued, Request, Status, Timer}
+use Rattle.vx_base.specs.Pieces.{Alarm, Association, Attention, Channel, Cluster, cleared, Handler, Mailbox, OfTimer, OfWake, Promised, Request, Status, Timer}
 use Rattle.vx_base.specs.Services.{is_target}
 use Rattle.vx_base.specs.Serving.{serve, settled}
-use Rattle.vx_base.specs.declared.call.Target.{Target}
 use Rattle.vx_base.specs.declared.cond.Cond.{Cond}
 use Rattle.vx_base.specs.declared.cond.Cond.TheVariants.{BadParam, Cancel, EndOfFile, ExQuota, IllEfc, IllIoFunc, IvSsRq, MbFull, MbTooSml, NoPriv, NoSlot, Normal, UnasEfc}
 use Rattle.vx_base.specs.declared.effects.Cell.{Cell}
@@ -42,19 +41,18 @@ use Rattle.vx_base.specs.declared.routine.Entry.{Entry}
 use Rattle.vx_base.specs.declared.routine.Entry.TheVariants as entry
 use Rattle.vx_record.proofs.Lists.{all_append, either}
 use Rattle.vx_record.specs.Asts.{changed_mode, cmexec, cmkrnl, dclast, declared_ast, is_inside, open_part}
-use Rattle.vx_record.specs.Cancel.{drop_attentions, is_attention_on, is_request_on, mark_part, cancel_channel, cancel_request, cancelled_request, drop_attention, withdraw, withdraw_from, cancel, cancel_at, dassgn, dassgn_at}
+use Rattle.vx_record.specs.Cancel.{drop_attentions, is_attention_on, is_request_on, mark_part, cancel_channel, cancel_request, cancelled_request, drop_attention, withdraw, cancel, cancel_at, dassgn, dassgn_at}
 use Rattle.vx_record.specs.Charges.{ast_need, exceeds, is_attention, is_direct, moved_bytes, request_need, timer_need}
-use Rattle.vx_record.specs.Channels.{box_gone, box_named, device_named, free_channel_of, goes_unused, is_assigned, is_bad_box, marked_box, with_channel, assign, assign_at, assign_to, create_box, crembx, delete_box, delmbx, delmbx_at, delmbx_on, find_or_create, free_channel, make_box, make_box_in, swept_box, swept_device, new_box, box_number, channel_test, at_channel}
+use Rattle.vx_record.specs.Channels.{box_gone, box_named, device_named, free_channel_of, goes_unused, is_assigned, is_bad_box, marked_box, with_channel, assign, assign_at, assign_to, create_box, crembx, delete_box, delmbx, delmbx_at, delmbx_on, find_or_create, free_channel, make_box, make_box_in, swept_box, swept_device, new_box, box_number, channel_test}
 use Rattle.vx_record.specs.Control.{new_part, next_pid, at_process, changed_process, creprc, forced, forcex, hiber, process_test, resume, suspnd, wake, with_suspension, with_wake}
-use Rattle.vx_record.specs.Finish.{ending, is_read, put_status, this_request, with_stored_bytes, Ending, buf_part, done_ast_part, done_flag_part, fin_part, finish, finish_found, finish_id, iosb_part, status_of}
-use Rattle.vx_record.specs.Flags.{ascefc, at_flag, at_named, awaited, awaited_at, cell, clref, common_cell, dacefc, dlcefc, flag_part, flag_where_named, is_common, put_flag_at, readef, readef_at, refused_value, refused_wait, setef, waits_on, wait_condition, wants_prmceb, waitfr, wflor, wfland}
+use Rattle.vx_record.specs.Finish.{ending, is_read, put_status, this_request, with_stored_bytes, Ending, buf_part, done_ast_part, done_flag_part, fin_part, finish, finish_found, iosb_part, status_of}
+use Rattle.vx_record.specs.Flags.{ascefc, at_flag, at_named, awaited, awaited_at, cell, common_cell, dacefc, dlcefc, flag_part, flag_where_named, is_common, put_flag_at, readef, readef_at, refused_value, refused_wait, waits_on, wait_condition, wants_prmceb}
 use Rattle.vx_record.specs.Mailboxes.{is_answered_now, is_waiting_func, mcut_part, mget_part, mput_part, read_ending, this_message, write_ending, attend, call_attention, fire_attention, hand_over, mailbox_at, read_box, received, store_message, take_message, wait_for_message, waits_at, write_box, write_done, is_attention_at, message_of}
-use Rattle.vx_record.specs.Parts.{Outcome, Part, and_then, answered, at_tested, commonly, each, followed_by, nothing, part_if, part_of, refused, tells}
+use Rattle.vx_record.specs.Parts.{Outcome, Part, and_then, answered, at_tested, each, followed_by, nothing, part_if, refused, tells}
 use Rattle.vx_record.specs.Requests.{attention_opened, done_at_once, has_function, is_full, is_too_long, new_attention, new_request, unit_ending, with_request, with_unit, Asked, accepted, asked_of, attention_on, attention_set, begun_on, cleared_part, done, opened_request, qio, qio_tested, qiow, qiow_tested, request_test, synch, transfer, device_test, on_cell, on_channel, is_bad}
-use Rattle.vx_record.specs.Rundown.{draining, gone_part, handler_declared, is_ast_reached, is_busy, is_handler_with, is_timer_in, is_wake_by, named_for_deletion, without_frames, any_handler, cancel_found, cancel_handlers, cancel_modes, cancel_one, cancelled_in, canexh, dclexh, deleted_by, delprc, drain, drop_all_handlers, drop_ast, drop_asts, drop_handler, drop_handlers, entered, exit, exited, free_one, gone, handling, leave_all, leave_frame, leave_kind, part_with, release, run_down, run_handlers, rundown, rundown_from, inner_modes, is_handler_of}
+use Rattle.vx_record.specs.Rundown.{draining, gone_part, handler_declared, is_ast_reached, is_busy, is_handler_with, is_timer_in, is_wake_by, named_for_deletion, without_frames, any_handler, cancel_found, cancel_handlers, cancel_modes, cancel_one, cancelled_in, canexh, dclexh, deleted_by, delprc, drain, drop_all_handlers, drop_ast, drop_asts, drop_handler, drop_handlers, exited, free_one, gone, handling, leave_all, leave_frame, leave_kind, part_with, release, run_down, run_handlers, rundown, rundown_from, inner_modes, is_handler_of}
 use Rattle.vx_record.specs.State.{Process, State, change, current, past_id, process_at, unit_at}
-use Rattle.vx_record.specs.Timers.{at_time, fire_timer, is_cancelled_timer, is_due, is_wake_for, mode_of_ast, new_wake, next_time, open_timer, with_timer, cantim, canwak, drop_timer, drop_timers, fire, fired, que_timer, scheduled, schdwk, setimr, setimr_at, tick, ticked_to, timer_set, unscheduled}
-use Rattle.vx_record.specs.declared.served.Served.{Served}
+use Rattle.vx_record.specs.Timers.{at_time, fire_timer, is_cancelled_timer, is_due, is_wake_for, mode_of_ast, new_wake, next_time, open_timer, with_timer, cantim, canwak, drop_timer, drop_timers, fire, fired, que_timer, scheduled, schdwk, setimr, setimr_at, tick, timer_set, unscheduled}
 
 abbrev pub IsFineCell : Cell → Type 0
 IsFineCell (Local p n) = ⊤

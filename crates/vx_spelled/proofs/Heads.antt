@@ -1,15 +1,11 @@
 -- What an event comes to has a spelling, where the event is enabled.
-use Rattle.std.proofs.Common.{◌≡◌, ℕ, zero, suc, ◌+◌, ◌<◌, ◌≤◌, not, nat_lt, Bool, true, false, cond, List, [], ◌∷◌, ◌++◌, length, map, get_or, Option, Some, None, position, bytes_eq, option_map, refl, sym, ap, subst, ◌∙◌, arith}
+use Rattle.std.proofs.Common.{◌≡◌, ℕ, ◌+◌, ◌<◌, true, cond, List, [], ◌∷◌, ◌++◌, length, Option, Some, None, refl, subst, arith}
 use Rattle.std.specs.Prelude.{⊤, Contains}
-use Rattle.std.specs.List.{AllByRecursion, position_or_len}
-use Rattle.std.proofs.lemmas.Bool.{and_parts}
-use Rattle.std.proofs.lemmas.Slice.Eq.{bytes_eq-Decides}
-use Rattle.vx_base.specs.Name.{is_name}
+use Rattle.std.specs.List.{AllByRecursion}
 use Rattle.vx_base.specs.Pieces.{DeviceUnit, Queued, Request, Timer, Handler}
 use Rattle.vx_base.specs.Queues.{front, in_service}
-use Rattle.vx_base.specs.Services.{args_list, is_call}
+use Rattle.vx_base.specs.Services.{is_call}
 use Rattle.vx_base.specs.declared.call.Call.{Call}
-use Rattle.vx_base.specs.declared.cond.Cond.{Cond}
 use Rattle.vx_base.specs.declared.effects.Effect.TheVariants as effect
 use Rattle.vx_base.specs.declared.frame.Frame.{Frame}
 use Rattle.vx_base.specs.declared.frame.FrameKind.{FrameKind}
@@ -26,7 +22,7 @@ use Rattle.vx_base.specs.declared.record.Event.{Event}
 use Rattle.vx_base.specs.declared.record.Event.TheVariants as event
 use Rattle.vx_base.specs.declared.routine.Entry.{Entry}
 use Rattle.vx_base.specs.declared.routine.Entry.TheVariants as entry
-use Rattle.vx_image.specs.Local.{Advanced, advanced}
+use Rattle.vx_image.specs.Local.{advanced}
 use Rattle.vx_image.specs.WellFormed.{IsWellFormed, decl_names, is_image}
 use Rattle.vx_image.specs.declared.image.Image.{Image}
 use Rattle.vx_image.specs.declared.stop.Stop.{Stop}
@@ -35,13 +31,10 @@ use Rattle.vx_lines.specs.ReadHead.{is_plain_call}
 use Rattle.vx_record.proofs.Lists.{all_append, all_at, all_get, either}
 use Rattle.vx_record.proofs.SoundCalls.{StopFits, advanced_fits, all_from_list}
 use Rattle.vx_record.specs.Asts.{deliverable_ast}
-use Rattle.vx_record.specs.Control.{process_test}
-use Rattle.vx_record.specs.Events.{ast_or_run, beg, beg_event, don, can_run, can_run_down, delivered, don_or_beg, enabled, moved_behind, moved_to, process_events, processes_from, r0_of, reader, resumed, returned, returned_from, run, run_advanced, run_events, run_frame, run_on, served_call, started, step, tick_events, unit_events, units_from, without_top, or_normal}
-use Rattle.vx_record.specs.Flags.{wait_condition}
-use Rattle.vx_record.specs.Parts.{Outcome, followed_by, tells}
-use Rattle.vx_record.specs.Rundown.{cancelled_in, drain, exited, handling, inner_modes, is_busy, is_handler_of, release, run_down, run_handlers, rundown, rundown_from, without_ast}
+use Rattle.vx_record.specs.Events.{ast_or_run, beg, beg_event, don, can_run, can_run_down, delivered, don_or_beg, enabled, moved_behind, moved_to, process_events, processes_from, r0_of, reader, returned, returned_from, run, run_events, run_frame, run_on, served_call, started, step, tick_events, unit_events, units_from}
+use Rattle.vx_record.specs.Parts.{Outcome, tells}
+use Rattle.vx_record.specs.Rundown.{cancelled_in, drain, exited, handling, inner_modes, is_busy, release, run_down, run_handlers, rundown_from, without_ast}
 use Rattle.vx_record.specs.Services.{service}
-use Rattle.vx_record.specs.Sound.{FitsImage}
 use Rattle.vx_record.specs.State.{Process, State, change, decl_of, image_of, no_image, pid, process_at}
 use Rattle.vx_record.specs.declared.served.Served.{Served}
 use Rattle.vx_record.specs.declared.served.Served.TheVariants.{Answered, Waits}

@@ -1,16 +1,13 @@
 -- Each record of a run has a spelling.
-use Rattle.std.proofs.Common.{◌≡◌, ℕ, zero, suc, ◌+◌, ◌<◌, ◌||◌, not, nat_lt, Bool, true, false, List, [], ◌∷◌, length, map, get_or, Option, Some, None, position, bytes_eq, option_map, refl, sym, ap, subst, ◌∙◌, arith}
-use Rattle.std.specs.List.{AllByRecursion, position_or_len, list_any}
+use Rattle.std.proofs.Common.{◌≡◌, ℕ, zero, suc, ◌<◌, ◌||◌, not, nat_lt, Bool, true, false, List, [], ◌∷◌, length, map, get_or, bytes_eq, refl, sym, subst, ◌∙◌, arith}
+use Rattle.std.specs.List.{AllByRecursion, position_or_len}
 use Rattle.std.proofs.lemmas.Bool.{and_parts, lt-ltb}
 use Rattle.std.proofs.lemmas.Slice.Eq.{bytes_eq-Decides}
 use Rattle.vx_base.specs.Name.{is_name}
-use Rattle.vx_base.specs.declared.call.Call.{Call}
-use Rattle.vx_base.specs.declared.cond.Cond.{Cond}
 use Rattle.vx_base.specs.declared.effects.Cell.{Cell}
 use Rattle.vx_base.specs.declared.effects.Cell.TheVariants.{Local, Common}
 use Rattle.vx_base.specs.declared.effects.Effect.{Effect}
 use Rattle.vx_base.specs.declared.effects.Effect.TheVariants as effect
-use Rattle.vx_base.specs.declared.number.Pid.{Pid}
 use Rattle.vx_base.specs.declared.number.UnitNo.{UnitNo}
 use Rattle.vx_base.specs.declared.record.Answer.{Answer}
 use Rattle.vx_base.specs.declared.record.Answer.TheVariants as answer
@@ -20,8 +17,7 @@ use Rattle.vx_base.specs.declared.record.Rec.{Rec}
 use Rattle.vx_image.specs.WellFormed.{IsWellFormed, are_distinct, is_among}
 use Rattle.vx_image.specs.declared.system.System.{System}
 use Rattle.vx_image.specs.declared.unit.UnitDecl.{UnitDecl}
-use Rattle.vx_lines.specs.Fields.{as_unit, unit_of}
-use Rattle.vx_lines.specs.Records.{no_unit, unit_name}
+use Rattle.vx_lines.specs.Records.{no_unit}
 use Rattle.vx_lines.specs.Spelled.{IsSpelled, IsSpelledCell}
 use Rattle.vx_lines.specs.SpelledHead.{IsSpelledHead, IsSpelledUnit}
 use Rattle.vx_lines.specs.SpelledRecords.{AreSpelled, IsSpelledRec}
@@ -29,7 +25,7 @@ use Rattle.vx_record.proofs.Lists.{all_at, not_holds}
 use Rattle.vx_record.proofs.SoundSteps.{first_sound, step_sound}
 use Rattle.vx_record.proofs.Fixed.{step_keeps_system}
 use Rattle.vx_record.specs.Events.{step}
-use Rattle.vx_record.specs.Runs.{AreSteps, IsRun, IsStep, first}
+use Rattle.vx_record.specs.Runs.{AreSteps, IsStep, first}
 use Rattle.vx_record.specs.Sound.{IsSound}
 use Rattle.vx_record.specs.State.{State}
 use Rattle.vx_spelled.specs.Held.{AreHeldRecs, AreNamed, IsHeldAnswer, IsHeldCell, IsHeldEffect, IsHeldEvent, IsHeldRec}

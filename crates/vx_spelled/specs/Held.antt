@@ -1,5 +1,5 @@
 -- What the program's types hold of a record, so that every value of them has it: numbers of 32 bits, a time of 64, names and bytes.
-use Rattle.std.specs.Prelude.{ℕ, ◌<◌, ◌^◌, IsTrue, List, Option, Some, None}
+use Rattle.std.specs.Prelude.{◌<◌, ◌^◌, IsTrue, List}
 use Rattle.std.specs.List.{AllByRecursion}
 use Rattle.vx_base.specs.Name.{is_name}
 use Rattle.vx_base.specs.Services.{args_list}

@@ -1,4 +1,4 @@
-use Rattle.std.proofs.Common.{◌≡◌, ℕ, ◌-◌, ◌<◌, List, Option, None, drop, length, replicate, slice_index_or, slice_set, take, ap, refl, subst, sym, ◌∙◌, arith, ◌+◌, ◌++◌}
+use Rattle.std.proofs.Common.{◌≡◌, ℕ, ◌-◌, List, Option, None, drop, length, replicate, slice_index_or, slice_set, take, ap, refl, subst, sym, ◌∙◌, arith, ◌+◌}
 use Rattle.std.proofs.lemmas.List.{drop_at, length-append, length-replicate, length-set}
 use Rattle.vx_base.specs.Pieces.{Mailbox}
 use Rattle.vx_same.specs.Trimmed.{filled_to}
