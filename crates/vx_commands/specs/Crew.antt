@@ -1,5 +1,5 @@
 -- What the words of `run` ask for.
-use Rattle.std.specs.Prelude.{ℕ, ◌≤◌, List, [], ◌∷◌, codes, bytes_eq, Option, None, Some, if◌then◌else◌}
+use Rattle.std.specs.Prelude.{ℕ, ◌≤◌, ◌&&◌, List, [], ◌∷◌, codes, bytes_eq, Option, None, Some, if◌then◌else◌}
 use Rattle.vx_lines.specs.Numbers.{number_up_to}
 use Rattle.vx_commands.specs.Words.{above_zero, limit_in}
 use Rattle.vx_commands.specs.declared.crew.Crew.{Crew}

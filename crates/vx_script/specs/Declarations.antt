@@ -4,6 +4,7 @@ use Rattle.std.specs.List.{list_any}
 use Rattle.vx_image.specs.declared.image.Image.{Image}
 use Rattle.vx_image.specs.declared.unit.UnitDecl.{UnitDecl}
 use Rattle.vx_text.specs.declared.token.Tok.{Tok}
+use Rattle.vx_script.specs.Results.{◌>>=◌}
 use Rattle.vx_script.specs.Fields.{end_at, name_at, number_at, text_at, device_at, blocks_of, room_for}
 use Rattle.vx_script.specs.Places.{unit_place, image_place}
 use Rattle.vx_script.specs.Keys.{no_keys, keys_from}
