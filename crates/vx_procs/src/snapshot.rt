@@ -199,7 +199,7 @@ impl<R: Routine> CoreSnapshot<R> {
     {
         self.clusters.restore(self.alloc, clusters)?;
         self.timers.restore(self.alloc, timers)?;
-        self.requests.restore(self.alloc, requests)?;
+        self.requests.restore(requests)?;
         self.attention.restore(attention)?;
         self.boxes.restore(boxes)
     }

@@ -1,5 +1,5 @@
 -- A search among places whose ids rise.
-use Rattle.std.proofs.Common.{◌≡◌, ◌≢◌, ℕ, ◌+◌, ◌<◌, ◌≤◌, List, [], ◌∷◌, Bool, true, false, Some, None, length, get_or, refl, ap, sym, ◌∙◌, arith, suc, zero, position, nat_lt, ltb-true, ltb-false, subst}
+use Rattle.std.proofs.Common.{◌≡◌, ◌≢◌, ℕ, ◌+◌, ◌<◌, ◌≤◌, List, [], ◌∷◌, Bool, true, false, Some, None, length, get_or, refl, ap, arith, suc, zero, position, nat_lt, ltb-true, ltb-false, subst}
 use Rattle.vx_base.specs.declared.number.Id.{Id}
 use Rattle.vx_reqs.specs.Places.{Place, holds, Rises}
 use Rattle.vx_reqs.specs.Requests.{has_id}
@@ -11,17 +11,13 @@ same_at [] k d e lt = absurd (omega arith)
 same_at (x ∷ xs) zero d e lt = refl
 same_at (x ∷ xs) (suc k) d e lt = same_at xs k d e (omega arith)
 
--- the id at a place that was read
-id_at : (xs : List Place) (m : ℕ) (x d : Place) → m < length xs → x ≡ get_or xs m x → (get_or xs m d).id.0 ≡ x.id.0
-id_at xs m x d within is = ap (λ (p : Place). p.id.0) (same_at xs m d x within ∙ sym is)
+pub below_middle : (xs : List Place) (next n m : ℕ) (i : Id) → Rises 0 xs next → m < length xs → ((d : Place) → i ≡ (get_or xs m d).id) → i.0 < n → (k : ℕ) (d : Place) → k < m + 1 → (get_or xs k d).id.0 < n
+below_middle xs next n m i rises within is less k d lt =
+    grind (arith, ap (λ (j : Id). j.0) (is d), less, lt, rises_between 0 xs next rises k m d, λ (same : k ≡ m). ap (λ (j : ℕ). (get_or xs j d).id.0) same)
 
-pub below_middle : (xs : List Place) (next n m : ℕ) (x : Place) → Rises 0 xs next → m < length xs → x ≡ get_or xs m x → x.id.0 < n → (k : ℕ) (d : Place) → k < m + 1 → (get_or xs k d).id.0 < n
-below_middle xs next n m x rises within is less k d lt =
-    grind (arith, id_at xs m x d within is, less, lt, rises_between 0 xs next rises k m d, λ (same : k ≡ m). ap (λ (j : ℕ). (get_or xs j d).id.0) same)
-
-pub above_middle : (xs : List Place) (next n m : ℕ) (x : Place) → Rises 0 xs next → m < length xs → x ≡ get_or xs m x → n ≤ x.id.0 → (k : ℕ) (d : Place) → m ≤ k → k < length xs → n ≤ (get_or xs k d).id.0
-above_middle xs next n m x rises within is le k d from lt =
-    grind (arith, id_at xs m x d within is, le, from, lt, rises_between 0 xs next rises m k d, λ (same : k ≡ m). ap (λ (j : ℕ). (get_or xs j d).id.0) same)
+pub above_middle : (xs : List Place) (next n m : ℕ) (i : Id) → Rises 0 xs next → m < length xs → ((d : Place) → i ≡ (get_or xs m d).id) → n ≤ i.0 → (k : ℕ) (d : Place) → m ≤ k → k < length xs → n ≤ (get_or xs k d).id.0
+above_middle xs next n m i rises within is le k d from lt =
+    grind (arith, ap (λ (j : Id). j.0) (is d), le, from, lt, rises_between 0 xs next rises m k d, λ (same : k ≡ m). ap (λ (j : ℕ). (get_or xs j d).id.0) same)
 
 -- the request with an id stands at no place with another one
 pub others_fail : (id : Id) (xs : List Place) (next : ℕ) → Rises 0 xs next → (k : ℕ) (d : Place) → k < length xs → (get_or xs k d).id.0 ≢ id.0 → holds (has_id id) (get_or xs k d) ≡ false
@@ -29,8 +25,8 @@ others_fail id xs next rises k d lt differs = is_other id (get_or xs k d) (rises
 
 module _ (p : Place → Bool) (xs : List Place) (n i : ℕ) (fails : (k : ℕ) (d : Place) → k < length xs → (get_or xs k d).id.0 ≢ n → p (get_or xs k d) ≡ false) (below : (k : ℕ) (d : Place) → k < i → (get_or xs k d).id.0 < n) where
   -- the place that alone may pass does
-  pub among_some : (x : Place) → i < length xs → x ≡ get_or xs i x → p x ≡ true → Some i ≡ position p xs
-  among_some x within is passes = place_first p xs i x within (λ k lt. fails k x (omega (arith, lt, within)) (λ same. omega (arith, same, below k x lt))) (ap p (sym is) ∙ passes)
+  pub among_some : (d : Place) → i < length xs → p (get_or xs i d) ≡ true → Some i ≡ position p xs
+  among_some d within passes = place_first p xs i d within (λ k lt. fails k d (omega (arith, lt, within)) (λ same. omega (arith, same, below k d lt))) passes
 
   -- it does not
   pub among_none : (next : ℕ) → Rises 0 xs next → ((k : ℕ) (d : Place) → i ≤ k → k < length xs → n ≤ (get_or xs k d).id.0) → (i < length xs → (d : Place) → p (get_or xs i d) ≡ false) → None ≡ position p xs

@@ -1,8 +1,9 @@
 pub mod Among
+pub mod Firsts
 pub mod Live
 pub mod Numbers
 pub mod Ordered
 pub mod Rising
+pub mod Slots
 pub mod Turns
 pub mod Waiting
-pub mod Counts

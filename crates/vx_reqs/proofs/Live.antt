@@ -1,9 +1,10 @@
 -- The requests that stand in places: found, taken out, changed and added.
-use Rattle.std.proofs.Common.{◌≡◌, ℕ, ◌+◌, ◌<◌, drop, slice_index_or, sym, ◌∙◌, List, [], ◌∷◌, ◌++◌, Bool, true, false, cond, ◌||◌, Option, Some, None, length, refl, ap, arith, option_to_list, option_map, is_some}
+use Rattle.std.proofs.Common.{◌≡◌, ℕ, ◌+◌, ◌<◌, drop, get_or, sym, ◌∙◌, List, [], ◌∷◌, ◌++◌, Bool, true, false, cond, ◌||◌, Option, Some, None, length, refl, ap, arith, option_to_list, option_map, is_some, Result, Ok, Err, OnOk, OnErr}
 use Rattle.std.specs.List.{find, list_any, filter}
 use Rattle.std.proofs.lemmas.List.{drop_more}
 use Rattle.vx_base.specs.Lists.{less, amend}
 use Rattle.vx_base.specs.Pieces.{Request}
+use Rattle.vx_base.specs.Roomy.{Roomy}
 use Rattle.vx_base.specs.declared.number.Id.{Id}
 use Rattle.vx_reqs.specs.Places.{Place, holds, is_held, emptied, changed, live}
 
@@ -133,9 +134,28 @@ pub is_some_map : {X Y : Type 0} (f : X → Y) (o : Option X) → is_some o ≡ 
 is_some_map f None = refl
 is_some_map f (Some x) = refl
 
--- the request of the first place that is left comes first
-pub live_step : (slots : List Place) (i : ℕ) (item : Place) (r : Request) → i < length slots → item ≡ slice_index_or slots i item → Some r ≡ item.request → live (drop i slots) ≡ r ∷ live (drop (i + 1) slots)
-live_step slots i item r within is held =
-    ap live (drop_more slots i item within)
-    ∙ (ap (λ (x : Place). option_to_list x.request ++ live (drop (i + 1) slots)) (sym is)
-    ∙ ap (λ (o : Option Request). option_to_list o ++ live (drop (i + 1) slots)) (sym held))
+-- what stands at the first place that is left comes first
+pub live_next : (xs : List Place) (i : ℕ) (o : Option Request) → i < length xs → ((d : Place) → o ≡ (get_or xs i d).request) → live (drop i xs) ≡ option_to_list o ++ live (drop (i + 1) xs)
+live_next xs i o within is =
+    let d : Place = let j : Id = record { 0 = 0 } in record { id = j; request = None } in
+    ap live (drop_more xs i d within) ∙ ap (λ (p : Option Request). option_to_list p ++ live (drop (i + 1) xs)) (sym (is d))
+
+-- a request comes first
+pub live_held : (xs : List Place) (i : ℕ) (r : Request) → i < length xs → ((d : Place) → Some r ≡ (get_or xs i d).request) → live (drop i xs) ≡ r ∷ live (drop (i + 1) xs)
+live_held xs i r within is = live_next xs i (Some r) within is
+
+-- the first place is left
+pub live_left : (xs : List Place) (i : ℕ) → i < length xs → ((d : Place) → None ≡ (get_or xs i d).request) → live (drop i xs) ≡ live (drop (i + 1) xs)
+live_left xs i within is = live_next xs i None within is
+
+-- the same requests, and as much room
+pub same_room : {rs ss : List Request} {m n : ℕ} → rs ≡ ss → m ≡ n → (let v : Roomy Request = record { items = rs; capacity = m } in v) ≡ record { items = ss; capacity = n }
+same_room {rs} {ss} {m} {n} is wide = ap (λ (xs : List Request). let v : Roomy Request = record { items = xs; capacity = m } in v) is ∙ ap (λ (k : ℕ). let v : Roomy Request = record { items = ss; capacity = k } in v) wide
+
+pub on_ok : {T E : Type 0} (r : Result T E) (P Q : Type 0) → (P → Q) → OnOk r P → OnOk r Q
+on_ok (Ok x) P Q f h = f h
+on_ok (Err e) P Q f h = tt
+
+pub on_err : {T E : Type 0} (r : Result T E) (P Q : Type 0) → (P → Q) → OnErr r P → OnErr r Q
+on_err (Ok x) P Q f h = tt
+on_err (Err e) P Q f h = f h

@@ -1,3 +1,5 @@
 pub mod Digest
 pub mod Places
 pub mod Requests
+pub mod Slots
+pub mod Sought

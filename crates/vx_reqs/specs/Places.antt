@@ -1,5 +1,5 @@
 -- Requests in the places where they were accepted.
-use Rattle.std.specs.Prelude.{ℕ, ◌+◌, ◌<◌, ◌≤◌, ◌≡◌, ◌≢◌, get_or, List, [], ◌∷◌, ◌++◌, Bool, false, IsTrue, Option, None, is_some, option_map, option_to_list, length, IfSome}
+use Rattle.std.specs.Prelude.{ℕ, ◌+◌, ◌<◌, ◌≤◌, ◌≡◌, ◌≢◌, get_or, List, [], ◌∷◌, ◌++◌, Bool, false, IsTrue, Option, None, is_some, option_map, option_to_list, IfSome}
 use Rattle.std.specs.List.{AllByRecursion}
 use Rattle.vx_base.specs.Pieces.{Request}
 use Rattle.vx_base.specs.Queues.{is_served_by, waits_for}
@@ -70,9 +70,7 @@ IsFrom b from x = x.id.0 < from → holds (waits_at b) x ≡ false
 abbrev pub AreFrom : List ℕ → List Place → Type 0
 AreFrom from places = (b : BoxNo) → b.0 < 64 → AllByRecursion (IsFrom b (get_or from b.0 0)) places
 
--- what the places of requests keep
-pub record IsKept (places : List Place) (count room space : ℕ) (rising : Bool) (next : ℕ) (from served reads : List ℕ) : Type 0 where
-  pub count_is : count ≡ length (live places)
-  pub within : room ≤ space
+-- what is known of the places of requests
+pub record IsKept (places : List Place) (rising : Bool) (next : ℕ) (from served reads : List ℕ) : Type 0 where
   pub order : OrderedIf rising next from served places
   pub waiting : AreFrom reads places

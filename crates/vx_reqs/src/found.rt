@@ -1,29 +1,31 @@
 //! Requests found in their places.
 
-ghost use Rattle.std.specs.Prelude.{◌≡◌, ◌<◌, ◌≤◌, ℕ, Bool, IfSome, length, option_map, position, vec_len, vec_capacity, get_or};
-ghost use Rattle.std.specs.List.{find, list_any};
+ghost use Rattle.std.specs.Prelude.{◌≡◌, ◌≢◌, ◌<◌, ◌≤◌, ℕ, Bool, false, IfSome, length, option_map, position, get_or};
+ghost use Rattle.std.specs.List.{find};
 ghost use Rattle.vx_base.specs.Lists.{amend};
 ghost use Rattle.vx_base.specs.Pieces.{Request};
-ghost use Rattle.vx_reqs.specs.Requests.{has_id, as_served, as_marked, is_to_cancel, keeps_open};
+ghost use Rattle.vx_reqs.specs.Requests.{has_id, as_served, as_marked};
 ghost use Rattle.vx_reqs.specs.Places.{Place, emptied, changed, holds, live, OrderedIf, Rises};
+ghost use Rattle.vx_reqs.specs.Sought.{is_sought};
 
 use crate::order::Order;
 use crate::outstanding::Outstanding;
-use crate::slot::Slot;
-use vx_base::{Id, Mode, Pid, Routine};
+use crate::places::Places;
+use crate::sought::Sought;
+use vx_base::{Id, Routine};
 
 /// The first place whose id is not below a number, among ids that rise.
-pub(crate) fn first_from<R: Routine>(slots: &[Slot<R>], _next: u64, number: u64) -> usize
-    requires { Rises 0 slots.now _next }
-    ensures within { result ≤ length slots.now }
-    ensures below { (k : ℕ) (d : Place) → k < result → (get_or slots.now k d).id.0 < number }
-    ensures above { (k : ℕ) (d : Place) → result ≤ k → k < length slots.now → number ≤ (get_or slots.now k d).id.0 }
+pub(crate) fn first_from<R: Routine>(places: &Places<R>, _next: u64, number: u64) -> usize
+    requires { Rises 0 places.now.items _next }
+    ensures within { result ≤ length places.now.items }
+    ensures below { (k : ℕ) (d : Place) → k < result → (get_or places.now.items k d).id.0 < number }
+    ensures above { (k : ℕ) (d : Place) → result ≤ k → k < length places.now.items → number ≤ (get_or places.now.items k d).id.0 }
 {
     let mut low = 0;
-    let mut high = slots.len();
+    let mut high = places.len();
     while low < high {
         let middle = low + (high - low) / 2;
-        if (slots[middle].id().0 as u64) < number {
+        if (places.id(middle).0 as u64) < number {
             low = middle + 1;
         } else {
             high = middle;
@@ -32,14 +34,51 @@ pub(crate) fn first_from<R: Routine>(slots: &[Slot<R>], _next: u64, number: u64)
     low
 }
 
-// Where the request with an id stands, among ids that rise: in the logarithm of the places.
-fn place_among<R: Routine>(slots: &[Slot<R>], next: u64, id: Id) -> Option<usize>
-    requires { Rises 0 slots.now next }
-    ensures place { result ≡ position (holds (has_id id)) slots.now }
-    ensures within { IfSome result (λ i. i < length slots.now) }
+/// Whether a request of that kind stands at a place.
+pub(crate) fn stands<R: Routine>(places: &Places<R>, at: usize, sought: Sought) -> bool
+    requires { at < length places.now.items }
+    ensures { (d : Place) → result ≡ holds (is_sought sought) (get_or places.now.items at d) }
 {
-    let at = first_from(slots, next, id.0 as u64);
-    if at < slots.len() && slots[at].has_id(id) {
+    match places.held(at) {
+        Some(request) => sought.is(request),
+        None => false,
+    }
+}
+
+/// Where the first request of that kind stands, of those from a place on, where none stands before.
+pub(crate) fn place_from<R: Routine>(
+    places: &Places<R>,
+    first: usize,
+    sought: Sought,
+) -> Option<usize>
+    requires { (k : ℕ) (d : Place) → k < first → k < length places.now.items → holds (is_sought sought) (get_or places.now.items k d) ≡ false }
+    ensures place { result ≡ position (holds (is_sought sought)) places.now.items }
+    ensures within { IfSome result (λ i. i < length places.now.items) }
+{
+    let mut at = first;
+    while at < places.len() {
+        if stands(places, at, sought) {
+            return Some(at);
+        }
+        at += 1;
+    }
+    None
+}
+
+/// Where the only request of that kind stands, among ids that rise, where only the one with that id may be of it.
+pub(crate) fn place_among<R: Routine>(
+    places: &Places<R>,
+    next: u64,
+    number: u64,
+    sought: Sought,
+) -> Option<usize>
+    requires rises { Rises 0 places.now.items next }
+    requires others { (k : ℕ) (d : Place) → k < length places.now.items → (get_or places.now.items k d).id.0 ≢ number → holds (is_sought sought) (get_or places.now.items k d) ≡ false }
+    ensures place { result ≡ position (holds (is_sought sought)) places.now.items }
+    ensures within { IfSome result (λ i. i < length places.now.items) }
+{
+    let at = first_from(places, next, number);
+    if at < places.len() && stands(places, at, sought) {
         Some(at)
     } else {
         None
@@ -47,94 +86,79 @@ fn place_among<R: Routine>(slots: &[Slot<R>], next: u64, id: Id) -> Option<usize
 }
 
 /// Where the request with an id stands. Where the ids rise, as from a counter, in the logarithm of the places.
-pub(crate) fn place_of_id<R: Routine>(slots: &[Slot<R>], order: &Order, id: Id) -> Option<usize>
-    requires { OrderedIf order.now.rising order.now.next order.now.from order.now.served slots.now }
-    ensures place { result ≡ position (holds (has_id id)) slots.now }
-    ensures within { IfSome result (λ i. i < length slots.now) }
+pub(crate) fn place_of_id<R: Routine>(places: &Places<R>, order: &Order, id: Id) -> Option<usize>
+    requires { OrderedIf order.now.rising order.now.next order.now.from order.now.served places.now.items }
+    ensures place { result ≡ position (holds (has_id id)) places.now.items }
+    ensures within { IfSome result (λ i. i < length places.now.items) }
 {
     if order.rising {
-        place_among(slots, order.next, id)
+        place_among(places, order.next, id.0 as u64, Sought::WithId(id))
     } else {
-        slots.iter().position(|s| s.has_id(id))
+        place_from(places, 0, Sought::WithId(id))
     }
-}
-
-/// Where the first request of a process on a channel stands that is still to be cancelled.
-pub(crate) fn place_to_cancel<R: Routine>(slots: &[Slot<R>], p: Pid, chan: u32) -> Option<usize>
-    ensures place { result ≡ position (holds (is_to_cancel p chan)) slots.now }
-    ensures within { IfSome result (λ i. i < length slots.now) }
-{
-    slots.iter().position(|s| s.is_to_cancel(p, chan))
-}
-
-/// Whether a request of a process is outstanding on a channel of a mode or an outer one.
-pub(crate) fn any_open<R: Routine>(slots: &[Slot<R>], p: Pid, mode: Mode) -> bool
-    ensures { result ≡ list_any (holds (keeps_open p mode)) slots.now }
-{
-    slots.iter().any(|s| s.keeps_open(p, mode))
 }
 
 /// The request at a place, if there is one.
 pub(crate) fn request_at<R: Routine>(
-    slots: &[Slot<R>],
+    places: &Places<R>,
     place: Option<usize>,
 ) -> Option<&Outstanding<R>>
-    requires { IfSome place (λ i. i < length slots.now) }
-    ensures { (p : Request → Bool) → place ≡ position (holds p) slots.now → option_map (λ o. o.now) result ≡ find p (live slots.now) }
+    requires { IfSome place (λ i. i < length places.now.items) }
+    ensures { (p : Request → Bool) → place ≡ position (holds p) places.now.items → option_map (λ o. o.now) result ≡ find p (live places.now.items) }
 {
     match place {
-        Some(place) => slots[place].held(),
+        Some(place) => places.held(place),
         None => None,
     }
 }
 
 /// The id at a place, if there is one.
-pub(crate) fn id_at<R: Routine>(slots: &[Slot<R>], place: Option<usize>) -> Option<Id>
-    requires { IfSome place (λ i. i < length slots.now) }
-    ensures { (p : Place → Bool) → place ≡ position p slots.now → result ≡ option_map (λ y. y.id) (find p slots.now) }
+pub(crate) fn id_at<R: Routine>(places: &Places<R>, place: Option<usize>) -> Option<Id>
+    requires { IfSome place (λ i. i < length places.now.items) }
+    ensures { (p : Place → Bool) → place ≡ position p places.now.items → result ≡ option_map (λ y. y.id) (find p places.now.items) }
 {
     match place {
-        Some(place) => Some(slots[place].id()),
+        Some(place) => Some(places.id(place)),
         None => None,
     }
 }
 
 /// Takes out the request at a place, if there is one.
 pub(crate) fn take_at<R: Routine>(
-    slots: &mut Vec<Slot<R>>,
+    places: &mut Places<R>,
     place: Option<usize>,
 ) -> Option<Outstanding<R>>
-    requires { IfSome place (λ i. i < vec_len slots.old) }
-    ensures found { (p : Request → Bool) → place ≡ position (holds p) slots.old.items → result ≡ find p (live slots.old.items) }
-    ensures after { (p : Request → Bool) → place ≡ position (holds p) slots.old.items → slots.new.items ≡ amend (holds p) emptied slots.old.items }
-    ensures capacity { vec_capacity slots.new ≡ vec_capacity slots.old }
+    requires { IfSome place (λ i. i < length places.old.items) }
+    ensures found { (p : Request → Bool) → place ≡ position (holds p) places.old.items → result ≡ find p (live places.old.items) }
+    ensures after { (p : Request → Bool) → place ≡ position (holds p) places.old.items → places.new.items ≡ amend (holds p) emptied places.old.items }
+    ensures capacity { places.new.capacity ≡ places.old.capacity }
 {
     match place {
-        Some(place) => slots[place].empty(),
+        Some(place) => places.take(place),
         None => None,
     }
 }
 
 /// Has a unit serve the request at a place, if there is one.
-pub(crate) fn serve_at<R: Routine>(slots: &mut Vec<Slot<R>>, place: Option<usize>)
-    requires { IfSome place (λ i. i < vec_len slots.old) }
-    ensures after { (p : Request → Bool) → place ≡ position (holds p) slots.old.items → slots.new.items ≡ amend (holds p) (changed as_served) slots.old.items }
-    ensures capacity { vec_capacity slots.new ≡ vec_capacity slots.old }
+pub(crate) fn serve_at<R: Routine>(places: &mut Places<R>, place: Option<usize>)
+    requires { IfSome place (λ i. i < length places.old.items) }
+    ensures after { (p : Request → Bool) → place ≡ position (holds p) places.old.items → places.new.items ≡ amend (holds p) (changed as_served) places.old.items }
+    ensures capacity { places.new.capacity ≡ places.old.capacity }
 {
     match place {
-        Some(place) => slots[place].serve(),
+        Some(place) => places.serve(place),
         None => (),
     }
 }
 
 /// Has the request at a place aborted, if there is one.
-pub(crate) fn mark_at<R: Routine>(slots: &mut Vec<Slot<R>>, place: Option<usize>)
-    requires { IfSome place (λ i. i < vec_len slots.old) }
-    ensures after { (p : Request → Bool) → place ≡ position (holds p) slots.old.items → slots.new.items ≡ amend (holds p) (changed as_marked) slots.old.items }
-    ensures capacity { vec_capacity slots.new ≡ vec_capacity slots.old }
+pub(crate) fn mark_at<R: Routine>(places: &mut Places<R>, place: Option<usize>)
+    requires { IfSome place (λ i. i < length places.old.items) }
+    ensures after { (p : Request → Bool) → place ≡ position (holds p) places.old.items → places.new.items ≡ amend (holds p) (changed as_marked) places.old.items }
+    ensures capacity { places.new.capacity ≡ places.old.capacity }
 {
     match place {
-        Some(place) => slots[place].mark(),
+        Some(place) => places.mark(place),
         None => (),
     }
 }

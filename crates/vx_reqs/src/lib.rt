@@ -8,11 +8,12 @@
 mod found;
 mod order;
 mod outstanding;
+mod places;
 mod reads;
 mod reqs;
-mod room;
 mod slot;
 mod snapshot;
+mod sought;
 mod units;
 
 pub use outstanding::Outstanding;

@@ -1,15 +1,16 @@
 //! The reads that wait at mailboxes, found in their places.
 
-ghost use Rattle.std.specs.Prelude.{◌≡◌, ◌≢◌, ◌<◌, ◌≤◌, ◌&&◌, [], ℕ, List, IfSome, false, get_or, length, option_map, position, true};
+ghost use Rattle.std.specs.Prelude.{◌≡◌, ◌≢◌, ◌<◌, ◌≤◌, ◌&&◌, [], ℕ, List, IfSome, get_or, length, option_map, position, true};
 ghost use Rattle.std.specs.List.{find};
 ghost use Rattle.vx_base.specs.declared.number.BoxNo.{BoxNo as BoxNoOf};
 ghost use Rattle.vx_record.specs.Mailboxes.{is_box, is_waiting_func, waits_at};
 ghost use Rattle.vx_reqs.specs.Places.{AreFrom, OrderedIf, Place, Rises, holds};
 
-use crate::found::{first_from, id_at};
+use crate::found::{first_from, id_at, place_from};
 use crate::order::Order;
 use crate::outstanding::is_waiting_func;
-use crate::slot::Slot;
+use crate::places::Places;
+use crate::sought::Sought;
 use vx_base::{BoxNo, Device, Func, Id, Routine};
 
 /// For each of the mailboxes that there may be: the first number that a read may have that waits there.
@@ -30,7 +31,7 @@ impl Reads {
 
     /// Nothing is known any more: a read may wait at each mailbox from the first number on.
     pub(crate) fn forget(&mut self)
-        ensures { (places : List Place) → AreFrom self.new.from places }
+        ensures { (all : List Place) → AreFrom self.new.from all }
     {
         self.from = [0; 64];
     }
@@ -47,7 +48,7 @@ impl Reads {
 
     /// Notes the first read that waits at a mailbox, among ids that rise.
     pub(crate) fn settle(&mut self, b: BoxNo, first: Option<Id>)
-        ensures { (places : List Place) (next : ℕ) → Rises 0 places next → first ≡ option_map (λ y. y.id) (find (holds (waits_at b)) places) → AreFrom self.old.from places → AreFrom self.new.from places }
+        ensures { (all : List Place) (next : ℕ) → Rises 0 all next → first ≡ option_map (λ y. y.id) (find (holds (waits_at b)) all) → AreFrom self.old.from all → AreFrom self.new.from all }
     {
         match first {
             Some(id) => put(&mut self.from, b, id.0 as u64),
@@ -79,67 +80,51 @@ fn lower(numbers: &mut [u64; 64], device: Device, number: u64)
     }
 }
 
-// Where the first read stands that waits at a mailbox, of those from a place on, where none waits before.
-fn read_on<R: Routine>(slots: &[Slot<R>], first: usize, b: BoxNo) -> Option<usize>
-    requires { (k : ℕ) (d : Place) → k < first → k < length slots.now → holds (waits_at b) (get_or slots.now k d) ≡ false }
-    ensures place { result ≡ position (holds (waits_at b)) slots.now }
-    ensures within { IfSome result (λ i. i < length slots.now) }
-{
-    let mut at = first;
-    while at < slots.len() {
-        if slots[at].waits_at(b) {
-            return Some(at);
-        }
-        at += 1;
-    }
-    None
-}
-
 /// Where the first read stands that waits at a mailbox. Where the ids rise, it is looked for from where it is known to be.
 pub(crate) fn place_read<R: Routine>(
-    slots: &[Slot<R>],
+    places: &Places<R>,
     order: &Order,
     reads: &Reads,
     b: BoxNo,
 ) -> Option<usize>
-    requires order { OrderedIf order.now.rising order.now.next order.now.from order.now.served slots.now }
-    requires reads { AreFrom reads.now.from slots.now }
-    ensures place { result ≡ position (holds (waits_at b)) slots.now }
-    ensures within { IfSome result (λ i. i < length slots.now) }
+    requires order { OrderedIf order.now.rising order.now.next order.now.from order.now.served places.now.items }
+    requires reads { AreFrom reads.now.from places.now.items }
+    ensures place { result ≡ position (holds (waits_at b)) places.now.items }
+    ensures within { IfSome result (λ i. i < length places.now.items) }
 {
     if order.rising && b.0 < 64 {
-        let first = first_from(slots, order.next, reads.from[b.0 as usize]);
-        read_on(slots, first, b)
+        let first = first_from(places, order.next, reads.from[b.0 as usize]);
+        place_from(places, first, Sought::WaitingAt(b))
     } else {
-        slots.iter().position(|s| s.waits_at(b))
+        place_from(places, 0, Sought::WaitingAt(b))
     }
 }
 
 // Notes where the first read is that waits at a mailbox, where the ids rise.
-fn settle_box<R: Routine>(reads: &mut Reads, slots: &[Slot<R>], order: &Order, b: BoxNo)
-    requires order { OrderedIf order.now.rising order.now.next order.now.from order.now.served slots.now }
-    requires reads { AreFrom reads.old.from slots.now }
-    ensures { AreFrom reads.new.from slots.now }
+fn settle_box<R: Routine>(reads: &mut Reads, places: &Places<R>, order: &Order, b: BoxNo)
+    requires order { OrderedIf order.now.rising order.now.next order.now.from order.now.served places.now.items }
+    requires reads { AreFrom reads.old.from places.now.items }
+    ensures { AreFrom reads.new.from places.now.items }
 {
     if order.rising {
-        let place = place_read(slots, order, reads, b);
-        reads.settle(b, id_at(slots, place));
+        let place = place_read(places, order, reads, b);
+        reads.settle(b, id_at(places, place));
     }
 }
 
 /// Notes where the first read is that waits at a device, where it is a mailbox.
 pub(crate) fn settle_reads<R: Routine>(
     reads: &mut Reads,
-    slots: &[Slot<R>],
+    places: &Places<R>,
     order: &Order,
     device: Device,
 )
-    requires order { OrderedIf order.now.rising order.now.next order.now.from order.now.served slots.now }
-    requires reads { AreFrom reads.old.from slots.now }
-    ensures { AreFrom reads.new.from slots.now }
+    requires order { OrderedIf order.now.rising order.now.next order.now.from order.now.served places.now.items }
+    requires reads { AreFrom reads.old.from places.now.items }
+    ensures { AreFrom reads.new.from places.now.items }
 {
     match device {
-        Device::Mailbox(b) => settle_box(reads, slots, order, b),
+        Device::Mailbox(b) => settle_box(reads, places, order, b),
         Device::Unit(_) => (),
     }
 }

@@ -8,42 +8,35 @@ ghost use Rattle.vx_record.specs.Mailboxes.{waits_at};
 ghost use Rattle.vx_reqs.specs.Places.{live};
 ghost use Rattle.vx_reqs.specs.Requests.{promised_of, has_id, is_found, as_marked, begun, is_to_cancel, keeps_open};
 
-use crate::found::{
-    any_open, id_at, mark_at, place_of_id, place_to_cancel, request_at, serve_at, take_at,
-};
+use crate::found::{id_at, mark_at, place_from, place_of_id, request_at, serve_at, take_at};
 use crate::order::Order;
 use crate::outstanding::Outstanding;
+use crate::places::Places;
 use crate::reads::{Reads, place_read, settle_reads};
-use crate::room::{make_space, reserve_double};
-use crate::slot::Slot;
 use crate::snapshot::ReqsSnapshot;
+use crate::sought::Sought;
 use crate::units::{front, place_waiting, serving, settle, settle_unit};
 use std::alloc::Global;
 use std::marker::Model;
-use std::mem::replace;
 use vx_base::{BoxNo, Id, Mode, NoMemory, Pid, Req, Routine, UnitNo};
 
-/// The outstanding requests of all processes. Each stands in a place from its acceptance on; a place that is left stays
-/// empty, until there is none at the end for a new request and the empty ones are taken out.
+/// The outstanding requests of all processes: their places, and what is known of where those of a unit or of a mailbox are.
 #[derive(Drop)]
 pub struct Reqs<R: Routine> {
-    slots: Vec<Slot<R>>,
-    count: usize,
-    room: usize,
+    places: Places<R>,
     order: Order,
     reads: Reads,
 }
 
 impl<R: Routine> Model for Reqs<R> {
-    ghost use Rattle.std.specs.Prelude.{vec_capacity};
     ghost use Rattle.vx_reqs.specs.Places.{IsKept, live};
     ghost use Rattle.vx_reqs.specs.Requests.{Requests};
 
     ghost Value = { Requests };
 
-    ghost view = { λ a. record { items = live a.slots.items; capacity = a.room } };
+    ghost view = { λ a. record { items = live a.places.items; capacity = a.places.capacity } };
 
-    ghost invariant = { λ a. IsKept a.slots.items a.count a.room (vec_capacity a.slots) a.order.rising a.order.next a.order.from a.order.served a.reads.from };
+    ghost invariant = { λ a. IsKept a.places.items a.order.rising a.order.next a.order.from a.order.served a.reads.from };
 }
 
 impl<R: Routine> Reqs<R> {
@@ -52,9 +45,7 @@ impl<R: Routine> Reqs<R> {
         ensures { result ≡ record { items = []; capacity = 0 } }
     {
         Reqs {
-            slots: Vec::new(alloc),
-            count: 0,
-            room: 0,
+            places: Places::new(alloc),
             order: Order::new(),
             reads: Reads::new(),
         }
@@ -67,42 +58,35 @@ impl<R: Routine> Reqs<R> {
         ensures ok { OnOk result (length self.new.items < self.new.capacity) }
         ensures err { OnErr result (self.new ≡ self.old) }
     {
-        if self.count < self.room {
+        if self.places.count() < self.places.room() {
             return Ok(());
         }
-        self.room = reserve_double(&mut self.slots)?;
-        Ok(())
+        self.places.reserve()
     }
 
-    /// Has the requests that stand in places, so many, in place of its own, and room for no other.
-    pub(crate) fn put_slots(&mut self, slots: Vec<Slot<R>>, count: usize)
-        requires { count ≡ length (live slots.items) }
-        ensures { self.new ≡ record { items = live slots.items; capacity = 0 } }
+    /// Has no requests any more, and room for none that is known of.
+    pub(crate) fn clear(&mut self)
+        ensures { self.new ≡ record { items = []; capacity = 0 } }
     {
-        self.slots = slots;
-        self.count = count;
-        self.room = 0;
+        self.places.clear();
         self.order.forget();
         self.reads.forget();
     }
 
-    /// Its places. It has none then, and room for none.
-    pub(crate) fn take_slots(&mut self, alloc: Global) -> Vec<Slot<R>>
-        ensures slots { live result.items ≡ self.old.items }
-        ensures after { self.new ≡ record { items = []; capacity = 0 } }
+    /// Puts a request behind the others, where nothing is known of where they are, and takes memory for it.
+    pub(crate) fn push(&mut self, request: Outstanding<R>) -> Result<(), NoMemory>
+        ensures { OnOk result (self.new.items ≡ self.old.items ++ request ∷ []) }
     {
-        self.count = 0;
-        self.room = 0;
         self.order.forget();
         self.reads.forget();
-        replace(&mut self.slots, Vec::new(alloc))
+        self.places.push(request)
     }
 
     /// The same requests put away.
     pub fn snapshot(&self, alloc: Global) -> Result<ReqsSnapshot<R>, NoMemory>
         ensures { IfOk result (λ snapshot. snapshot ≡ self.now.items) }
     {
-        ReqsSnapshot::new(alloc, self.slots.as_slice(), self.count)
+        ReqsSnapshot::new(alloc, &self.places)
     }
 
     /// Accepts a request ($QIO), with the AST that it is to queue when it finishes, if it has one. Takes no memory.
@@ -111,19 +95,16 @@ impl<R: Routine> Reqs<R> {
         requires fresh { list_any (has_id req.id) self.old.items ≡ false }
         ensures { self.new ≡ record self.old { items = self.old.items ++ record { req = req; ast = option_map (promised_of R.tagged) ast; served = false; marked = false } ∷ [] } }
     {
-        make_space(&mut self.slots);
         self.order.accept(req.id, req.device);
         self.reads.accept(req.id, req.device, req.func);
-        self.slots
-            .push_reserved(Slot::new(Outstanding::new(req, ast)));
-        self.count += 1;
+        self.places.accept(Outstanding::new(req, ast));
     }
 
     /// What a unit would be asked next, as `front` has it.
     pub fn next(&self, u: UnitNo) -> Option<&Req>
         ensures { option_map (λ r. r.now) result ≡ option_map (λ r. r.req) (front u self.now.items) }
     {
-        let front = front(self.slots.as_slice(), &self.order, u)?;
+        let front = front(&self.places, &self.order, u)?;
         Some(front.req())
     }
 
@@ -132,7 +113,7 @@ impl<R: Routine> Reqs<R> {
     pub fn front(&self, u: UnitNo) -> Option<Id>
         ensures { result ≡ option_map (λ r. r.req.id) (front u self.now.items) }
     {
-        let front = front(self.slots.as_slice(), &self.order, u)?;
+        let front = front(&self.places, &self.order, u)?;
         Some(front.id())
     }
 
@@ -141,12 +122,12 @@ impl<R: Routine> Reqs<R> {
         ensures found { result ≡ option_map (λ r. r.req.id) (front u self.old.items) }
         ensures after { self.new ≡ record self.old { items = begun u self.old.items } }
     {
-        let front = front(self.slots.as_slice(), &self.order, u)?.id();
-        let place = place_waiting(self.slots.as_slice(), &self.order, u);
-        let first = id_at(self.slots.as_slice(), place);
-        serve_at(&mut self.slots, place);
+        let front = front(&self.places, &self.order, u)?.id();
+        let place = place_waiting(&self.places, &self.order, u);
+        let first = id_at(&self.places, place);
+        serve_at(&mut self.places, place);
         self.order.begin(u, first);
-        settle_unit(&mut self.order, self.slots.as_slice(), u);
+        settle_unit(&mut self.order, &self.places, u);
         Some(front)
     }
 
@@ -154,7 +135,7 @@ impl<R: Routine> Reqs<R> {
     pub fn in_service(&self, u: UnitNo) -> Option<Id>
         ensures { result ≡ option_map (λ r. r.req.id) (in_service u self.now.items) }
     {
-        let served = serving(self.slots.as_slice(), &self.order, u)?;
+        let served = serving(&self.places, &self.order, u)?;
         Some(served.id())
     }
 
@@ -162,9 +143,8 @@ impl<R: Routine> Reqs<R> {
     pub fn first_read(&self, b: BoxNo) -> Option<Id>
         ensures { result ≡ option_map (λ r. r.req.id) (find (waits_at b) self.now.items) }
     {
-        let slots = self.slots.as_slice();
-        let place = place_read(slots, &self.order, &self.reads, b);
-        let found = request_at(slots, place)?;
+        let place = place_read(&self.places, &self.order, &self.reads, b);
+        let found = request_at(&self.places, place)?;
         Some(found.id())
     }
 
@@ -172,9 +152,8 @@ impl<R: Routine> Reqs<R> {
     fn with_id(&self, id: Id) -> Option<&Outstanding<R>>
         ensures { option_map (λ o. o.now) result ≡ find (has_id id) self.now.items }
     {
-        let slots = self.slots.as_slice();
-        let place = place_of_id(slots, &self.order, id);
-        request_at(slots, place)
+        let place = place_of_id(&self.places, &self.order, id);
+        request_at(&self.places, place)
     }
 
     /// The request with an id. None exactly where there is none.
@@ -186,17 +165,17 @@ impl<R: Routine> Reqs<R> {
     }
 
     // Its places.
-    pub(crate) fn as_slice(&self) -> &[Slot<R>]
-        ensures { live result.now ≡ self.now.items }
+    pub(crate) fn places(&self) -> &Places<R>
+        ensures { live result.now.items ≡ self.now.items }
     {
-        self.slots.as_slice()
+        &self.places
     }
 
     /// How many requests there are.
     pub fn len(&self) -> usize
         ensures { result ≡ length self.now.items }
     {
-        self.count
+        self.places.count()
     }
 
     /// Whether there is a request with an id.
@@ -211,12 +190,11 @@ impl<R: Routine> Reqs<R> {
         ensures found { result ≡ find (has_id id) self.old.items }
         ensures after { self.new ≡ record self.old { items = less (has_id id) self.old.items } }
     {
-        let place = place_of_id(self.slots.as_slice(), &self.order, id);
-        let done = take_at(&mut self.slots, place)?;
-        self.count -= 1;
+        let place = place_of_id(&self.places, &self.order, id);
+        let done = take_at(&mut self.places, place)?;
         let device = done.req().device;
-        settle(&mut self.order, self.slots.as_slice(), device);
-        settle_reads(&mut self.reads, self.slots.as_slice(), &self.order, device);
+        settle(&mut self.order, &self.places, device);
+        settle_reads(&mut self.reads, &self.places, &self.order, device);
         Some(done)
     }
 
@@ -225,9 +203,8 @@ impl<R: Routine> Reqs<R> {
     pub fn to_cancel(&self, p: Pid, chan: u32) -> Option<Id>
         ensures { result ≡ option_map (λ r. r.req.id) (find (is_to_cancel p chan) self.now.items) }
     {
-        let slots = self.slots.as_slice();
-        let place = place_to_cancel(slots, p, chan);
-        let found = request_at(slots, place)?;
+        let place = place_from(&self.places, 0, Sought::ToCancel(p, chan));
+        let found = request_at(&self.places, place)?;
         Some(found.id())
     }
 
@@ -244,8 +221,8 @@ impl<R: Routine> Reqs<R> {
         {
             return false;
         }
-        let place = place_of_id(self.slots.as_slice(), &self.order, id);
-        mark_at(&mut self.slots, place);
+        let place = place_of_id(&self.places, &self.order, id);
+        mark_at(&mut self.places, place);
         true
     }
 
@@ -254,7 +231,7 @@ impl<R: Routine> Reqs<R> {
     pub fn outstanding(&self, p: Pid, mode: Mode) -> bool
         ensures { result ≡ list_any (keeps_open p mode) self.now.items }
     {
-        any_open(self.slots.as_slice(), p, mode)
+        place_from(&self.places, 0, Sought::Open(p, mode)).is_some()
     }
 
     /// Whether there is a request with an id, and its unit serves it.

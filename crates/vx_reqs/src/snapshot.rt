@@ -5,8 +5,8 @@ ghost use Rattle.vx_reqs.specs.Digest.{mix_requests};
 ghost use Rattle.vx_reqs.specs.Places.{live};
 
 use crate::outstanding::Outstanding;
+use crate::places::Places;
 use crate::reqs::Reqs;
-use crate::slot::Slot;
 use std::alloc::Global;
 use std::marker::Model;
 use vx_base::{Duplicate, NoMemory, Routine, Same};
@@ -29,67 +29,53 @@ impl<R: Routine> Model for ReqsSnapshot<R> {
 }
 
 // The requests that stand in places. Takes memory for so many.
-fn put_away<R: Routine>(
-    alloc: Global,
-    slots: &[Slot<R>],
-    count: usize,
-) -> Result<Vec<Outstanding<R>>, NoMemory>
-    ensures { IfOk result (λ requests. requests.items ≡ live slots.now) }
+fn put_away<R: Routine>(alloc: Global, places: &Places<R>) -> Result<Vec<Outstanding<R>>, NoMemory>
+    ensures { IfOk result (λ requests. requests.items ≡ live places.now.items) }
 {
-    let mut requests = Vec::with_capacity(alloc, count)?;
-    for slot in slots {
-        if let Some(request) = slot.held() {
+    let mut requests = Vec::with_capacity(alloc, places.count())?;
+    let mut at = 0;
+    while at < places.len() {
+        if let Some(request) = places.held(at) {
             requests.push(request.duplicate()?)?;
         }
+        at += 1;
     }
     Ok(requests)
 }
 
-// Each request in a place, in the memory of other places.
-fn in_places<R: Routine>(
-    others: Vec<Slot<R>>,
-    requests: &[Outstanding<R>],
-) -> Result<Vec<Slot<R>>, NoMemory>
-    ensures { IfOk result (λ slots. live slots.items ≡ requests.now) }
-{
-    let mut slots = others;
-    slots.clear();
-    for request in requests {
-        slots.push(Slot::new(request.duplicate()?))?;
-    }
-    Ok(slots)
-}
-
 // Whether these are the requests that stand in places.
-fn same_requests<R: Routine>(requests: &[Outstanding<R>], slots: &[Slot<R>]) -> bool
-    ensures { IsTrue result ↔ (requests.now ≡ live slots.now) }
+fn same_requests<R: Routine>(requests: &[Outstanding<R>], places: &Places<R>) -> bool
+    ensures { IsTrue result ↔ (requests.now ≡ live places.now.items) }
 {
     let mut left = requests;
-    for slot in slots {
-        let Some(request) = slot.held() else {
-            continue;
-        };
-        let Some((first, others)) = left.split_first() else {
-            return false;
-        };
-        if !first.same(request) {
-            return false;
+    let mut at = 0;
+    while at < places.len() {
+        if let Some(request) = places.held(at) {
+            let Some((first, others)) = left.split_first() else {
+                return false;
+            };
+            if !first.same(request) {
+                return false;
+            }
+            left = others;
         }
-        left = others;
+        at += 1;
     }
     left.is_empty()
 }
 
 // A digest with the requests that stand in places.
-fn mix_requests<R: Routine>(digest: u64, slots: &[Slot<R>]) -> u64
-    ensures { result ≡ mix_requests digest (live slots.now) }
+fn mix_requests<R: Routine>(digest: u64, places: &Places<R>) -> u64
+    ensures { result ≡ mix_requests digest (live places.now.items) }
 {
     let mut mixed = digest;
-    for slot in slots {
-        if let Some(request) = slot.held() {
+    let mut at = 0;
+    while at < places.len() {
+        if let Some(request) = places.held(at) {
             let req = request.req();
             mixed = mix(mix(mixed, req.id.0 as u64), req.p.0 as u64);
         }
+        at += 1;
     }
     mixed
 }
@@ -99,31 +85,28 @@ impl<R: Routine> Reqs<R> {
     pub fn mix(&self, digest: u64) -> u64
         ensures { result ≡ mix_requests digest self.now.items }
     {
-        mix_requests(digest, self.as_slice())
+        mix_requests(digest, self.places())
     }
 }
 
 impl<R: Routine> ReqsSnapshot<R> {
-    /// The requests of places, of which so many are held.
-    pub(crate) fn new(
-        alloc: Global,
-        slots: &[Slot<R>],
-        count: usize,
-    ) -> Result<ReqsSnapshot<R>, NoMemory>
-        ensures { IfOk result (λ s. s ≡ live slots.now) }
+    /// The requests that stand in places.
+    pub(crate) fn new(alloc: Global, places: &Places<R>) -> Result<ReqsSnapshot<R>, NoMemory>
+        ensures { IfOk result (λ s. s ≡ live places.now.items) }
     {
         Ok(ReqsSnapshot {
-            requests: put_away(alloc, slots, count)?,
+            requests: put_away(alloc, places)?,
         })
     }
 
     /// The same requests in place of others, each with a routine made from its tag. If memory runs out, the others are gone.
-    pub fn restore(&self, alloc: Global, reqs: &mut Reqs<R>) -> Result<(), NoMemory>
+    pub fn restore(&self, reqs: &mut Reqs<R>) -> Result<(), NoMemory>
         ensures { OnOk result (reqs.new.items ≡ self.now) }
     {
-        let others = reqs.take_slots(alloc);
-        let slots = in_places(others, self.requests.as_slice())?;
-        reqs.put_slots(slots, self.requests.len());
+        reqs.clear();
+        for request in self.requests.as_slice() {
+            reqs.push(request.duplicate()?)?;
+        }
         Ok(())
     }
 
@@ -131,6 +114,6 @@ impl<R: Routine> ReqsSnapshot<R> {
     pub fn same(&self, reqs: &Reqs<R>) -> bool
         ensures { IsTrue result ↔ (self.now ≡ reqs.now.items) }
     {
-        same_requests(self.requests.as_slice(), reqs.as_slice())
+        same_requests(self.requests.as_slice(), reqs.places())
     }
 }

@@ -6,9 +6,9 @@ use Rattle.vx_reqs.proofs.found.first_from.Given as goal
 abbrev pub invariant-loop-low : goal.invariant-loop-low
 invariant-loop-low g l = record {
   order : l.low ≤ l.high;
-  within : l.high ≤ length l.slots;
-  below : (k : ℕ) (d : Place) → k < l.low → (get_or l.slots k d).id.0 < l.number;
-  above : (k : ℕ) (d : Place) → l.high ≤ k → k < length l.slots → l.number ≤ (get_or l.slots k d).id.0;
+  within : l.high ≤ length l.places.items;
+  below : (k : ℕ) (d : Place) → k < l.low → (get_or l.places.items k d).id.0 < l.number;
+  above : (k : ℕ) (d : Place) → l.high ≤ k → k < length l.places.items → l.number ≤ (get_or l.places.items k d).id.0;
 }
 
 abbrev pub decreases-loop-low : goal.decreases-loop-low

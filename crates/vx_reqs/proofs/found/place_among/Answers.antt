@@ -1,20 +1,19 @@
-use Rattle.std.proofs.Common.{ap, arith, sym, ◌∙◌}
-use Rattle.vx_reqs.specs.Requests.{has_id}
+use Rattle.std.proofs.Common.{arith, sym, ◌∙◌}
 use Rattle.vx_reqs.specs.Places.{holds}
-use Rattle.vx_reqs.proofs.Among.{among_some, among_none, others_fail, same_at}
-use Rattle.vx_reqs.proofs.found.place_among.Goals.{else-at-slots-via-then-at-slots+else-has_id, else-at-slots-via-else-at-slots}
+use Rattle.vx_reqs.specs.Sought.{is_sought}
+use Rattle.vx_reqs.proofs.Among.{among_some, among_none}
+use Rattle.vx_reqs.proofs.Firsts.{some_place}
+use Rattle.vx_reqs.proofs.found.place_among.Goals.{else-at-len-via-then-at-len+else-stands, else-at-len-via-else-at-len}
 use Rattle.vx_reqs.proofs.found.place_among.Goals as goal
 
-pub returns-then-has_id-clause-place : goal.returns-then-has_id-clause-place
-returns-then-has_id-clause-place g c =
-    among_some (holds (has_id c.args.id)) c.args.slots.now c.args.id.0 c.first_from-at.result (others_fail c.args.id c.args.slots.now c.args.next c.requires) c.first_from-at.ensures.below c.index-slots-at.result c.if-at-slots.true c.index-slots-at.is (sym c.has_id.ensures ∙ c.if-has_id.true)
+pub returns-then-stands-clause-place : goal.returns-then-stands-clause-place
+returns-then-stands-clause-place g c =
+    among_some (holds (is_sought c.args.sought)) c.args.places.now.items c.args.number c.first_from-at.result c.requires.others c.first_from-at.ensures.below some_place (omega (arith, c.if-at-len.true, c.len.ensures)) (sym (c.stands.ensures some_place) ∙ c.if-stands.true)
 
-pub returns-else-at-slots-clause-place : goal.returns-else-at-slots-clause-place
-returns-else-at-slots-clause-place g c =
-    let test = holds (has_id c.args.id) in
-    let at = c.first_from-at.result in
-    among_none test c.args.slots.now c.args.id.0 at (others_fail c.args.id c.args.slots.now c.args.next c.requires) c.first_from-at.ensures.below c.args.next c.requires c.first_from-at.ensures.above (λ within d.
-    elim c.else-at-slots.branch [
-      | else-at-slots-via-then-at-slots+else-has_id w ↦ ap test (same_at c.args.slots.now at d w.index-slots-at.result within ∙ sym w.index-slots-at.is) ∙ sym w.has_id.ensures ∙ w.if-has_id.false
-      | else-at-slots-via-else-at-slots w ↦ absurd (omega (arith, within, w.if-at-slots.false))
+pub returns-else-at-len-clause-place : goal.returns-else-at-len-clause-place
+returns-else-at-len-clause-place g c =
+    among_none (holds (is_sought c.args.sought)) c.args.places.now.items c.args.number c.first_from-at.result c.requires.others c.first_from-at.ensures.below c.args.next c.requires.rises c.first_from-at.ensures.above (λ within d.
+    elim c.else-at-len.branch [
+      | else-at-len-via-then-at-len+else-stands w ↦ sym (w.stands.ensures d) ∙ w.if-stands.false
+      | else-at-len-via-else-at-len w ↦ absurd (omega (arith, within, w.if-at-len.false, c.len.ensures))
     ])

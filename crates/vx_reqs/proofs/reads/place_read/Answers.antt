@@ -3,5 +3,5 @@ use Rattle.vx_record.proofs.Lists.{all_at}
 use Rattle.vx_reqs.specs.Places.{IsFrom}
 use Rattle.vx_reqs.proofs.reads.place_read.Goals as goal
 
-pub read_on-requires : goal.read_on-requires
-read_on-requires g c = λ k d lt within. all_at (IsFrom c.args.b (get_or c.args.reads.now.from c.args.b.0 0)) c.args.slots.now k d (c.requires.reads c.args.b c.if-b-lt64.true) within (c.first_from-first.ensures.below k d lt)
+pub place_from-requires : goal.place_from-requires
+place_from-requires g c = λ k d lt within. all_at (IsFrom c.args.b (get_or c.args.reads.now.from c.args.b.0 0)) c.args.places.now.items k d (c.requires.reads c.args.b c.if-b-lt64.true) within (c.first_from-first.ensures.below k d lt)

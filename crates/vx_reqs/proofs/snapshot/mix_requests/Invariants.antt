@@ -1,7 +1,10 @@
-use Rattle.std.proofs.Common.{◌≡◌, drop}
+use Rattle.std.proofs.Common.{◌≡◌, ◌-◌, drop, length}
 use Rattle.vx_reqs.specs.Digest.{mix_requests}
 use Rattle.vx_reqs.specs.Places.{live}
 use Rattle.vx_reqs.proofs.snapshot.mix_requests.Given as goal
 
-abbrev pub invariant-loop-slot : goal.invariant-loop-slot
-invariant-loop-slot g l = mix_requests l.mixed (live (drop l.slot-index l.slots)) ≡ mix_requests l.digest (live l.slots)
+abbrev pub invariant-loop-at : goal.invariant-loop-at
+invariant-loop-at g l = mix_requests l.mixed (live (drop l.at l.places.items)) ≡ mix_requests l.digest (live l.places.items)
+
+abbrev pub decreases-loop-at : goal.decreases-loop-at
+decreases-loop-at g l = length l.places.items - l.at

@@ -1,13 +1,12 @@
-use Rattle.std.proofs.Common.{◌≡◌, ◌∙◌, List, None, Some, Bor, option_map, position, length, refl, ap, sym, subst, arith}
+use Rattle.std.proofs.Common.{◌≡◌, ◌∙◌, List, None, Some, Bor, option_map, position, refl, ap, sym, subst}
 use Rattle.std.specs.List.{find}
 use Rattle.vx_base.specs.Lists.{amend}
 use Rattle.vx_base.specs.Pieces.{Request}
 use Rattle.vx_base.specs.Queues.{front, is_served_by, waits_for}
 use Rattle.vx_base.specs.Roomy.{with_items}
-use Rattle.vx_reqs.specs.Places.{Place, AreFrom, IsOrdered, OrderedIf, changed, holds, live}
+use Rattle.vx_reqs.specs.Places.{Place, AreFrom, IsOrdered, changed, holds, live}
 use Rattle.vx_reqs.specs.Requests.{Requests, as_served}
-use Rattle.vx_reqs.proofs.Counts.{count_changed}
-use Rattle.vx_reqs.proofs.Live.{amend_live, any_live, none_any}
+use Rattle.vx_reqs.proofs.Live.{amend_live, any_live, none_any, same_room}
 use Rattle.vx_reqs.proofs.Turns.{begun_none, begun_some}
 use Rattle.vx_reqs.proofs.Waiting.{reads_changed}
 use Rattle.vx_reqs.proofs.reqs.Reqs.begin.Goals as goal
@@ -15,44 +14,42 @@ use Rattle.vx_reqs.proofs.reqs.Reqs.begin.Goals as goal
 pub returns-in_err-front-clause-after : goal.returns-in_err-front-clause-after
 returns-in_err-front-clause-after g c =
     let u = c.args.u in
-    let items : live c.as_slice.result.now ≡ c.args.self.now.items = ap live c.as_slice.ensures.value ∙ ap (λ (q : Requests). q.items) c.self.view_is in
+    let items : live c.self.inside.places.items ≡ c.args.self.now.items = ap (λ (q : Requests). q.items) c.self.view_is in
     let none : None ≡ front u c.args.self.now.items = ap (option_map (λ (o : Bor Request). o.now)) (sym c.in_err-front.was) ∙ c.front.ensures ∙ ap (front u) items in
     ap (with_items c.args.self.now) (begun_none u c.args.self.now.items none)
 
 pub settle_unit-requires : goal.settle_unit-requires
 settle_unit-requires g c = λ rising.
     let u = c.args.u in
-    let places = c.self.inside.slots.items in
-    let place : c.place_waiting-place.result ≡ position (holds (waits_for u)) places = c.place_waiting-place.ensures.place ∙ ap (position (holds (waits_for u))) c.as_slice-2.ensures.value in
-    let after : c.serve_at.new.slots.items ≡ amend (holds (waits_for u)) (changed as_served) places = c.serve_at.ensures.after (waits_for u) place in
-    let some : Some c.in_ok-front.field-0.now ≡ front u (live places) = ap (option_map (λ (o : Bor Request). o.now)) (sym c.in_ok-front.was) ∙ c.front.ensures ∙ ap (λ (xs : List Place). front u (live xs)) c.as_slice.ensures.value in
+    let places = c.self.inside.places.items in
+    let place : c.place_waiting-place.result ≡ position (holds (waits_for u)) places = c.place_waiting-place.ensures.place in
+    let after : c.serve_at.new.places.items ≡ amend (holds (waits_for u)) (changed as_served) places = c.serve_at.ensures.after (waits_for u) place in
+    let some : Some c.in_ok-front.field-0.now ≡ front u (live places) = ap (option_map (λ (o : Bor Request). o.now)) (sym c.in_ok-front.was) ∙ c.front.ensures in
     let taken = begun_some u (live places) c.in_ok-front.field-0.now some in
     let first : c.id_at-first.result ≡ option_map (λ (y : Place). y.id) (find (holds (waits_for u)) places) =
-    c.id_at-first.ensures (holds (waits_for u)) (place ∙ sym (ap (position (holds (waits_for u))) c.as_slice-3.ensures.value)) ∙ ap (λ (xs : List Place). option_map (λ (y : Place). y.id) (find (holds (waits_for u)) xs)) c.as_slice-3.ensures.value in
+    c.id_at-first.ensures (holds (waits_for u)) place in
     let none : None ≡ find (holds (is_served_by u)) places = none_any (holds (is_served_by u)) places (any_live (is_served_by u) places ∙ taken.0) in
     let order = c.begin.new.self in
-    subst (λ (xs : List Place). IsOrdered order.next order.from order.served xs) (sym (c.as_slice-4.ensures.value ∙ after)) (c.begin.ensures places none first c.self.invariant.order rising)
+    subst (λ (xs : List Place). IsOrdered order.next order.from order.served xs) (sym after) (c.begin.ensures places none first c.self.invariant.order rising)
 
 pub invariant_of-self : goal.invariant_of-self
 invariant_of-self g c =
     let u = c.args.u in
-    let places = c.self.inside.slots.items in
-    let place : c.place_waiting-place.result ≡ position (holds (waits_for u)) places = c.place_waiting-place.ensures.place ∙ ap (position (holds (waits_for u))) c.as_slice-2.ensures.value in
-    let after : c.serve_at.new.slots.items ≡ amend (holds (waits_for u)) (changed as_served) places = c.serve_at.ensures.after (waits_for u) place in
+    let places = c.self.inside.places.items in
+    let place : c.place_waiting-place.result ≡ position (holds (waits_for u)) places = c.place_waiting-place.ensures.place in
+    let after : c.serve_at.new.places.items ≡ amend (holds (waits_for u)) (changed as_served) places = c.serve_at.ensures.after (waits_for u) place in
     let order = c.settle_unit.new.order in
     record {
-      count_is = count_changed (waits_for u) as_served places c.self.inside.count c.self.invariant.count_is ∙ ap (λ (xs : List Place). length (live xs)) (sym after);
-      within = omega (arith, c.serve_at.ensures.capacity, c.self.invariant.within);
-      order = subst (λ (xs : List Place). OrderedIf order.rising order.next order.from order.served xs) c.as_slice-4.ensures.value c.settle_unit.ensures;
+      order = c.settle_unit.ensures;
       waiting = subst (λ (xs : List Place). AreFrom c.self.inside.reads.from xs) (sym after) (reads_changed as_served (λ r. refl) (holds (waits_for u)) places c.self.inside.reads.from c.self.invariant.waiting);
     }
 
 pub returns-clause-after : goal.returns-clause-after
 returns-clause-after g c =
     let u = c.args.u in
-    let places = c.self.inside.slots.items in
-    let place : c.place_waiting-place.result ≡ position (holds (waits_for u)) places = c.place_waiting-place.ensures.place ∙ ap (position (holds (waits_for u))) c.as_slice-2.ensures.value in
-    let after : c.serve_at.new.slots.items ≡ amend (holds (waits_for u)) (changed as_served) places = c.serve_at.ensures.after (waits_for u) place in
-    let some : Some c.in_ok-front.field-0.now ≡ front u (live places) = ap (option_map (λ (o : Bor Request). o.now)) (sym c.in_ok-front.was) ∙ c.front.ensures ∙ ap (λ (xs : List Place). front u (live xs)) c.as_slice.ensures.value in
+    let places = c.self.inside.places.items in
+    let place : c.place_waiting-place.result ≡ position (holds (waits_for u)) places = c.place_waiting-place.ensures.place in
+    let after : c.serve_at.new.places.items ≡ amend (holds (waits_for u)) (changed as_served) places = c.serve_at.ensures.after (waits_for u) place in
+    let some : Some c.in_ok-front.field-0.now ≡ front u (live places) = ap (option_map (λ (o : Bor Request). o.now)) (sym c.in_ok-front.was) ∙ c.front.ensures in
     let taken = begun_some u (live places) c.in_ok-front.field-0.now some in
-    rw (← c.self.view_is) (ap (λ (rs : List Request). let v : Requests = record { items = rs; capacity = c.self.inside.room } in v) (ap live after ∙ amend_live (waits_for u) as_served places ∙ taken.1))
+    rw (← c.self.view_is) (same_room (ap live after ∙ amend_live (waits_for u) as_served places ∙ taken.1) c.serve_at.ensures.capacity)

@@ -1,4 +1,4 @@
-use Rattle.std.proofs.Common.{◌≡◌, ◌∙◌, Bool, List, Some, Bor, option_map, position, length, refl, ap, sym, subst, arith}
+use Rattle.std.proofs.Common.{◌≡◌, ◌∙◌, Bool, List, Some, Bor, option_map, position, refl, ap, sym, subst}
 use Rattle.std.specs.List.{find}
 use Rattle.vx_base.specs.Lists.{amend}
 use Rattle.vx_base.specs.Pieces.{Request}
@@ -6,8 +6,7 @@ use Rattle.vx_base.specs.Roomy.{with_items}
 use Rattle.vx_base.proofs.First.{amend_same}
 use Rattle.vx_reqs.specs.Places.{Place, AreFrom, IsOrdered, changed, holds, live}
 use Rattle.vx_reqs.specs.Requests.{Requests, has_id, as_marked}
-use Rattle.vx_reqs.proofs.Counts.{count_changed}
-use Rattle.vx_reqs.proofs.Live.{amend_live}
+use Rattle.vx_reqs.proofs.Live.{amend_live, same_room}
 use Rattle.vx_reqs.proofs.Ordered.{ordered_marked}
 use Rattle.vx_reqs.proofs.Waiting.{reads_changed}
 use Rattle.vx_reqs.proofs.reqs.Reqs.mark.Goals as goal
@@ -24,13 +23,11 @@ returns-clause-after g c =
 pub invariant_of-self : goal.invariant_of-self
 invariant_of-self g c =
     let test = has_id c.args.id in
-    let places = c.self.inside.slots.items in
-    let place : c.place_of_id-place.result ≡ position (holds test) places = c.place_of_id-place.ensures.place ∙ ap (position (holds test)) c.as_slice.ensures.value in
-    let after : c.mark_at.new.slots.items ≡ amend (holds test) (changed as_marked) places = c.mark_at.ensures.after test place in
+    let places = c.self.inside.places.items in
+    let place : c.place_of_id-place.result ≡ position (holds test) places = c.place_of_id-place.ensures.place in
+    let after : c.mark_at.new.places.items ≡ amend (holds test) (changed as_marked) places = c.mark_at.ensures.after test place in
     let order = c.self.inside.order in
     record {
-      count_is = count_changed test as_marked places c.self.inside.count c.self.invariant.count_is ∙ ap (λ (xs : List Place). length (live xs)) (sym after);
-      within = omega (arith, c.mark_at.ensures.capacity, c.self.invariant.within);
       order = λ rising. subst (λ (xs : List Place). IsOrdered order.next order.from order.served xs) (sym after) (ordered_marked (holds test) places order.next order.from order.served (c.self.invariant.order rising));
       waiting = subst (λ (xs : List Place). AreFrom c.self.inside.reads.from xs) (sym after) (reads_changed as_marked (λ r. refl) (holds test) places c.self.inside.reads.from c.self.invariant.waiting);
     }
@@ -38,7 +35,7 @@ invariant_of-self g c =
 pub returns-2-clause-after : goal.returns-2-clause-after
 returns-2-clause-after g c =
     let test = has_id c.args.id in
-    let places = c.self.inside.slots.items in
-    let place : c.place_of_id-place.result ≡ position (holds test) places = c.place_of_id-place.ensures.place ∙ ap (position (holds test)) c.as_slice.ensures.value in
-    let after : c.mark_at.new.slots.items ≡ amend (holds test) (changed as_marked) places = c.mark_at.ensures.after test place in
-    rw (← c.self.view_is) (ap (λ (rs : List Request). let v : Requests = record { items = rs; capacity = c.self.inside.room } in v) (ap live after ∙ amend_live test as_marked places))
+    let places = c.self.inside.places.items in
+    let place : c.place_of_id-place.result ≡ position (holds test) places = c.place_of_id-place.ensures.place in
+    let after : c.mark_at.new.places.items ≡ amend (holds test) (changed as_marked) places = c.mark_at.ensures.after test place in
+    rw (← c.self.view_is) (same_room (ap live after ∙ amend_live test as_marked places) c.mark_at.ensures.capacity)
