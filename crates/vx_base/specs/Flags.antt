@@ -1,6 +1,5 @@
 -- Thirty-two event flags are a number: flag n is its bit n.
-use Rattle.std.specs.Prelude.{ℕ, ◌-◌, ◌^◌, List, Bool, true, false, ◌==◌, not, if◌then◌else◌, bit_and, bit_or}
-use Rattle.std.specs.List.{filter, range_with_len}
+use Rattle.std.specs.Prelude.{ℕ, ◌-◌, ◌^◌, Bool, true, false, ◌==◌, not, if◌then◌else◌, bit_and, bit_or}
 
 -- whether flag n is set
 abbrev pub is_set : ℕ → ℕ → Bool
@@ -17,10 +16,6 @@ any_set flags mask = not (bit_and flags mask == 0)
 -- whether all flags of a mask are set
 abbrev pub all_set : ℕ → ℕ → Bool
 all_set flags mask = bit_and flags mask == mask
-
--- the numbers of the set flags, rising
-abbrev pub set_flags : ℕ → List ℕ
-set_flags flags = filter (is_set flags) (range_with_len 0 32)
 
 -- a flag as a bit
 abbrev pub one : Bool → ℕ

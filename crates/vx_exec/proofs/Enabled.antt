@@ -1,5 +1,5 @@
 -- What is enabled: each process has one event or none, and so has each unit, and time.
-use Rattle.std.proofs.Common.{◌≡◌, ℕ, zero, suc, ◌+◌, ◌-◌, ◌<◌, ◌≤◌, List, [], ◌∷◌, ◌++◌, length, length-append, drop, IsTrue, Option, Some, None, IfSome, IsSome, Contains, option_to_list, slice_get, slice_index_or, nat_lt, ◌⊎◌, inl, inr, Bool, true, false, if◌then◌else◌, refl, sym, ap, subst, ◌∙◌, arith}
+use Rattle.std.proofs.Common.{◌≡◌, ℕ, zero, suc, ◌+◌, ◌-◌, ◌<◌, ◌≤◌, List, [], ◌∷◌, ◌++◌, length, length-append, drop, IsTrue, Option, Some, None, IsSome, Contains, option_to_list, slice_get, slice_index_or, nat_lt, ◌⊎◌, inl, inr, Bool, true, false, if◌then◌else◌, refl, sym, ap, subst, ◌∙◌, arith}
 use Rattle.std.proofs.Math.ListN.{drop_of_length-le}
 use Rattle.std.proofs.lemmas.Bool.{cases_eq, leb-true}
 use Rattle.std.proofs.lemmas.Bool.Decides.{nat_tests}
@@ -23,7 +23,7 @@ use Rattle.vx_record.proofs.Changes.{stands_at}
 use Rattle.vx_record.proofs.Lists.{either, all_append, all_at}
 use Rattle.vx_exec.specs.Leases.{is_open}
 use Rattle.vx_exec.specs.Picks.{picked_event}
-use Rattle.vx_exec.specs.Ready.{HasOwner, process_of}
+use Rattle.vx_exec.specs.Ready.{HasOwner}
 use Rattle.vx_exec.specs.Sound.{IsWhole}
 
 -- Each event that is enabled is the one of its process or its unit, or time's.
@@ -131,15 +131,6 @@ owner_of s (event.Don u) h = ends_at s u (in_service u s.requests) h.1
 
 pub enabled_owned : (s : State) (e : Event) → Contains (enabled s) e → HasOwner s e
 enabled_owned s e there = owner_of s e (abled_of s e there)
-
--- so its process is there
-pub owner_made : (s : State) (e : Event) → HasOwner s e → IfSome (process_of e) (IsProcess s)
-owner_made s (event.Run p) h = h
-owner_made s (event.Ast p) h = h
-owner_made s (event.Rdn p) h = h.made
-owner_made s event.Tick h = tt
-owner_made s (event.Beg u) h = tt
-owner_made s (event.Don u) h = tt
 
 -- And the one of a process or a unit that is there is enabled.
 

@@ -24,7 +24,7 @@ use Rattle.vx_image.specs.declared.stop.Stop.{Stop}
 use Rattle.vx_image.specs.declared.stop.Stop.TheVariants as stop
 use Rattle.vx_image.specs.declared.system.System.{System}
 use Rattle.vx_record.specs.State.{Process, State, IsProcess, change, current, image_of, process_at, no_decl, no_image, nobody, top_mode}
-use Rattle.vx_record.specs.Parts.{Outcome, answered, nothing}
+use Rattle.vx_record.specs.Parts.{Outcome}
 use Rattle.vx_record.specs.Asts.{deliverable_ast, deliverable_at}
 use Rattle.vx_record.specs.Events.{called, moved_to, reader, run, run_advanced, run_frame, served_call}
 use Rattle.vx_record.specs.Requests.{Asked, qio}
@@ -185,13 +185,6 @@ pub goes_at : (s : State) (p : Pid) (f : Frame) → Some f ≡ top_of (process_a
 goes_at s p f top none = goes_from s p (process_at s p).frames f top none
 
 -- Or it has no frame.
-
-none_from : (s : State) (p : Pid) (fs : List Frame) → None ≡ top_of fs → run s p fs ≡ answered answer.Local (nothing s)
-none_from s p [] none = refl
-none_from s p (f ∷ fs) none = absurd (cc)
-
-pub none_at : (s : State) (p : Pid) → None ≡ top_of (process_at s p).frames → run s p (process_at s p).frames ≡ answered answer.Local (nothing s)
-none_at s p none = none_from s p (process_at s p).frames none
 
 -- An AST that starts.
 

@@ -1,7 +1,7 @@
 -- Runs of local statements, and what an image of a well formed system says of its statements.
-use Rattle.std.proofs.Common.{◌≡◌, ℕ, zero, suc, ◌+◌, ◌-◌, ◌<◌, List, [], ◌∷◌, Option, Some, None, IsTrue, option_map, refl, sym, ◌∙◌, ap, arith, rules, slice_get}
+use Rattle.std.proofs.Common.{◌≡◌, ℕ, zero, suc, ◌+◌, ◌-◌, ◌<◌, List, [], ◌∷◌, Option, Some, IsTrue, option_map, refl, sym, ◌∙◌, ap, arith, rules, slice_get}
 use Rattle.std.specs.List.{list_all}
-use Rattle.vx_image.specs.Local.{Reader, Moved, Advanced, local, run_local, stopped, stop_at, is_storable}
+use Rattle.vx_image.specs.Local.{Reader, Moved, Advanced, local, run_local, is_storable}
 use Rattle.vx_image.specs.Storage.{Storage}
 use Rattle.vx_image.specs.Stmts.{meant}
 use Rattle.vx_image.specs.WellFormed.{is_stmt, IsImage}
@@ -9,19 +9,12 @@ use Rattle.vx_image.specs.declared.image.Image.{Image}
 use Rattle.vx_image.specs.declared.stmt.Stmt.{Stmt}
 use Rattle.vx_image.specs.declared.stmt.Stmt.TheVariants as stmt
 use Rattle.vx_image.specs.declared.stmt.StmtRef.{StmtRef}
-use Rattle.vx_image.specs.declared.stop.Stop.{Stop}
 
 -- after a local statement a run goes on with one statement less
 pub run_on : (m : ℕ) (image : Image) (who : Reader) (store : Storage) (place : ℕ) (s : Stmt) (moved : Moved) →
     slice_get image.stmts place ≡ Some s → local image who store place s ≡ Some moved →
     run_local (suc m) image who store place ≡ run_local m image who moved.store moved.place
 run_on m image who store place s moved at moves = rw (at, moves) refl
-
--- at any other a run stops
-pub run_off : (m : ℕ) (image : Image) (who : Reader) (store : Storage) (place : ℕ) (s : Stmt) →
-    slice_get image.stmts place ≡ Some s → local image who store place s ≡ None →
-    run_local (suc m) image who store place ≡ stopped store place (stop_at who store (Some s))
-run_off m image who store place s at stays = rw (at, stays) refl
 
 pub one_more : (n i : ℕ) → i < n → n - i ≡ suc (n - (i + 1))
 one_more n i lt = omega arith
@@ -33,17 +26,6 @@ pub goes_on : (n i : ℕ) (image : Image) (who : Reader) (store : Storage) (plac
 goes_on n i image who store place s moved all lt at moves same =
     sym (run_on (n - (i + 1)) image who store place s moved at moves)
     ∙ (ap (λ (m : ℕ). run_local m image who store place) (sym (one_more n i lt)) ∙ same)
-
-pub stops : (n i : ℕ) (image : Image) (who : Reader) (store before : Storage) (place : ℕ) (s : Stmt) (stop : Stop) (all : Advanced) →
-    i < n → slice_get image.stmts place ≡ Some s → local image who before place s ≡ None → store ≡ before →
-    stop ≡ stop_at who store (Some s) →
-    run_local (n - i) image who before place ≡ all →
-    stopped store place stop ≡ all
-stops n i image who store before place s stop all lt at stays kept why same =
-    ap (λ (it : Stop). stopped store place it) why
-    ∙ (ap (λ (it : Storage). stopped it place (stop_at who it (Some s))) kept
-    ∙ (sym (run_off (n - (i + 1)) image who before place s at stays)
-    ∙ (ap (λ (m : ℕ). run_local m image who before place) (sym (one_more n i lt)) ∙ same)))
 
 pub storable : (decls : List (List ℕ)) (image : Image) (s : Stmt) → IsTrue (is_stmt decls image s) → IsTrue (is_storable s)
 storable decls image (stmt.Put b bytes) h = h

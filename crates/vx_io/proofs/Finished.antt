@@ -11,7 +11,7 @@ use Rattle.vx_procs.specs.Kernel.{Acts, Fits, Kernel, with_state}
 use Rattle.vx_procs.specs.Requests.{ended, ended_if, finished, request_ast}
 use Rattle.vx_procs.specs.Words.{with_queued_if}
 use Rattle.vx_procs.specs.declared.requests.Finished.{Finished}
-use Rattle.vx_procs.proofs.Rest.{acted, told_none}
+use Rattle.vx_procs.proofs.Rest.{acted}
 use Rattle.vx_io.specs.Finishing.{IsEnding, finishing}
 use Rattle.vx_io.specs.Steady.{AreSteady, IsFit}
 use Rattle.vx_io.proofs.QueuedFirst.{finish_same}
@@ -67,14 +67,6 @@ room_out k l id d e x room =
 pub done_out : (k l n : Kernel) (id : Id) (d : Finished) (e : Ending) → IsOut k l id d → Acts (finishing d e l.state) l n → Acts (finish_id k.state id e) k n
 done_out k l n id d e x did =
     did ∙ (ap (λ (y : Kernel). acted y (finishing d e l.state)) x.after ∙ ap (acted k) (part_out k l id d e x))
-
--- there is none
-pub none_out : (k l : Kernel) (id : Id) (e : Ending) → None ≡ option_map finished (find (this_request id) k.state.requests) → l ≡ with_state k (ended_if k.state (find (this_request id) k.state.requests)) → Acts (finish_id k.state id e) k l
-none_out k l id e given after = from (find (this_request id) k.state.requests) given after
-  where
-    from : (o : Option Request) → None ≡ option_map finished o → l ≡ with_state k (ended_if k.state o) → l ≡ acted k (finish_found k.state o e)
-    from None f there = there ∙ told_none k
-    from (Some r) f there = absurd (cc)
 
 -- what holds after it
 pub after_steady : (k n : Kernel) (id : Id) (e : Ending) → AreSteady k.state → Acts (finish_id k.state id e) k n → AreSteady n.state

@@ -1,27 +1,21 @@
 -- An attention entry is set: its part, step after step.
-use Rattle.std.proofs.Common.{◌≡◌, ℕ, List, [], ◌∷◌, ◌++◌, true, false, not, ◌==◌, Option, Some, None, refl, ap, ◌∙◌}
+use Rattle.std.proofs.Common.{◌≡◌, ℕ, List, [], ◌∷◌, ◌++◌, true, not, ◌==◌, Option, Some, None, refl, ap, ◌∙◌}
 use Rattle.std.specs.List.{find}
 use Rattle.vx_base.specs.Pieces.{Attention, Status}
 use Rattle.vx_base.specs.declared.effects.Cell.{Cell}
 use Rattle.vx_base.specs.declared.effects.Cell.TheVariants.{Common, Local}
 use Rattle.vx_base.specs.declared.number.Id.{Id}
 use Rattle.vx_base.specs.declared.number.Pid.{Pid}
-use Rattle.vx_base.specs.declared.number.UnitNo.{UnitNo}
-use Rattle.vx_base.specs.declared.request.Device.{Device}
-use Rattle.vx_base.specs.declared.request.Device.TheVariants as device
-use Rattle.vx_base.specs.declared.request.Func.{Func}
-use Rattle.vx_base.specs.declared.request.Func.TheVariants.{Eof, EofNow, Read, ReadAttn, ReadNow, Write, WriteNow, WrtAttn}
-use Rattle.vx_record.specs.Charges.{ast_need, exceeds, is_attention, request_need}
 use Rattle.vx_record.specs.Finish.{iosb_part, put_status}
 use Rattle.vx_record.specs.Flags.{cell, flag_where_named}
 use Rattle.vx_record.specs.Mailboxes.{attend, this_attention}
 use Rattle.vx_record.specs.Parts.{Part, and_then, nothing, part_if}
-use Rattle.vx_record.specs.Requests.{Asked, attention_opened, attention_set, done_at_once, has_function}
+use Rattle.vx_record.specs.Requests.{Asked, attention_opened, attention_set, done_at_once}
 use Rattle.vx_record.specs.Sound.{AreOrdered, attention_id}
 use Rattle.vx_record.specs.State.{State}
 use Rattle.vx_record.proofs.Lists.{either}
-use Rattle.vx_procs.specs.Kernel.{Acts, Fits, Kernel}
-use Rattle.vx_procs.proofs.Rest.{acted, acts_both, room_second}
+use Rattle.vx_procs.specs.Kernel.{Acts, Kernel}
+use Rattle.vx_procs.proofs.Rest.{acted, acts_both}
 use Rattle.vx_io.specs.Boxes.{attend_by, fire_found, is_answered}
 use Rattle.vx_io.proofs.Opening.{last_found}
 
@@ -34,11 +28,6 @@ flag_entries : (s : State) (o : Option Cell) → (flag_where_named s o true).aft
 flag_entries s None = refl
 flag_entries s (Some (Local q n)) = refl
 flag_entries s (Some (Common group name n)) = refl
-
-flag_boxes : (s : State) (o : Option Cell) → (flag_where_named s o true).after.boxes ≡ s.boxes
-flag_boxes s None = refl
-flag_boxes s (Some (Local q n)) = refl
-flag_boxes s (Some (Common group name n)) = refl
 
 -- The steps so far.
 
@@ -56,9 +45,6 @@ first_half s p q a = and_then (attention_opened s p q a) (filling p q)
 
 half_done : (k l m : Kernel) (p : Pid) (q : Asked) (a : Attention) → Acts (attention_opened k.state p q a) k l → Acts (filling p q l.state) l m → m ≡ acted k (first_half k.state p q a)
 half_done k l m p q a did then = acts_both k l m (attention_opened k.state p q a) (filling p q) did then
-
-rest_room : (k l m : Kernel) (p : Pid) (q : Asked) (a : Attention) → Acts (attention_opened k.state p q a) k l → Acts (filling p q l.state) l m → Fits k (attention_set k.state p q a).effects → Fits m (attending p q a m.state).effects
-rest_room k l m p q a did then room = room_second k m (first_half k.state p q a) (attending p q a) (half_done k l m p q a did then) room
 
 entries_there : (k l m n : Kernel) (p : Pid) (q : Asked) (a : Attention) → Acts (attention_opened k.state p q a) k l → Acts (filling p q l.state) l m → Acts (flagging p q m.state) m n → n.state.attention ≡ k.state.attention ++ a ∷ []
 entries_there k l m n p q a did then last =
@@ -83,16 +69,3 @@ set_as k l m n o p q a id is next order did then last ends =
     (acts_both m n o (flagging p q m.state) (λ d. attend d a) last (ends ∙ ap (acted n) same))
 
 -- Who may ask for attention.
-
-pub none_asked : (u : UnitNo) (func : Func) → has_function (device.Unit u) func ≡ true → is_attention func ≡ true → ⊥
-none_asked u Read h e = absurd (cc)
-none_asked u ReadNow h e = absurd (cc)
-none_asked u Write h e = absurd (cc)
-none_asked u WriteNow h e = absurd (cc)
-none_asked u Eof h e = absurd (cc)
-none_asked u EofNow h e = absurd (cc)
-none_asked u ReadAttn h e = absurd (cc)
-none_asked u WrtAttn h e = absurd (cc)
-
-pub attention_within : (s : State) (p : Pid) (dev : Device) (func : Func) (len : ℕ) → is_attention func ≡ true → exceeds s p (request_need s dev func true len) ≡ false → exceeds s p (ast_need true) ≡ false
-attention_within s p dev func len is room = rw is at room

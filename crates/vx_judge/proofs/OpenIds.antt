@@ -33,10 +33,6 @@ lived_none past x e = refl
 known_on : (x : Item) (past : List Item) (id : Id) → is_opening x ≡ false → life past id ≡ None → life (x ∷ past) id ≡ None
 known_on x past id o e = rw (e, lived_none past x o) (either (is_about (subject x) id) None)
 
-same_highest : (x : Item) (past : List Item) → is_opening x ≡ false → highest (x ∷ past) ≡ highest past
-same_highest (Did (effect.Open id kind p mode n)) past e = absurd (let never : true ≡ false = e in cc)
-same_highest x past e = refl
-
 above_both : (b : Bool) (m i k : ℕ) → nat_lt m i ≡ b → cond b i m < k → (i < k) × (m < k)
 above_both true m i k e h = (h, let l : nat_lt m i ≡ true = e in omega (arith, h, ltb-true m i l))
 above_both false m i k e h = (by_cases (nat_lt i k) (λ t. ltb-true i k t) (λ f. absurd (let never : true ≡ false = sym (lt-ltb m i (let n = ltb-false i k f in omega (arith, h, n))) ∙ e in cc)), h)
@@ -82,13 +78,6 @@ was_open false past x l o h = h
 
 pub open_on : (ids : List Id) (past : List Item) (x : Item) → is_opening x ≡ false → HasOpen ids past → HasOpen ids (x ∷ past)
 open_on ids past x o h = λ id e. h id (was_open (is_about (subject x) id) past x (life past id) o e)
-
-any_last : (a b : Bool) → b ≡ true → (a || (b || false)) ≡ true
-any_last true b h = refl
-any_last false b h = rw h refl
-
-any_earlier : (a b : Bool) → a ≡ true → (a || b) ≡ true
-any_earlier a b h = rw h refl
 
 -- those alone that are open
 pub filtered : (id : Id) (test : Id → Bool) (ids : List Id) → test id ≡ true → list_any (is_id id) ids ≡ true → list_any (is_id id) (filter test ids) ≡ true

@@ -170,10 +170,6 @@ leads_either : (past : List Item) (b : Bool) (x y : Part) → Leads past x.effec
 leads_either past true x y h k = h
 leads_either past false x y h k = k
 
-ends_either : (past : List Item) (b : Bool) (x y : Part) → Ends past x.effects → Ends past y.effects → Ends past (cond b x y).effects
-ends_either past true x y h k = h
-ends_either past false x y h k = k
-
 -- One effect that opens no id and changes no association.
 
 abbrev is_steady : Effect → Bool

@@ -109,10 +109,6 @@ abbrev calling_of : Pid → Call → Served → Calling
 calling_of p c (Answered y) = record { p = p; call = c; cond = Some y }
 calling_of p c Waits = record { p = p; call = c; cond = None }
 
-latest_headed : (p : Pid) (c : Call) (o : Outcome Served) (x : Served) (past : List Item) → latest_call (headed p c o x past) ≡ Some (calling_of p c x)
-latest_headed p c o (Answered y) past = refl
-latest_headed p c o Waits past = refl
-
 plain_headed : (p : Pid) (c : Call) (o : Outcome Served) (x : Served) (past : List Item) → names_device c.service ≡ false → IsPlainCall (headed p c o x past)
 plain_headed p c o (Answered y) past e = rw e refl
 plain_headed p c o Waits past e = rw e refl

@@ -68,9 +68,6 @@ left_falls now later s going becomes =
     let below = going_below now.limit now.taken now.state going in
     omega (arith, below, ap (λ (e : Executive). e.limit) becomes, ap (λ (e : Executive). e.taken) becomes)
 
-pub begun : (e : Executive) (places : List ℕ) → Following e e places places []
-begun e places = record { takes = record { steps = tt; now = refl; counted = omega arith; planned = refl }; rest = refl }
-
 takes_more : (before now later : Executive) (recs : List Rec) (r : Rec) (e : Event) → TakesRun before now recs → Contains (enabled now.state) e → r ≡ record_of now.state e → later ≡ record now { state = (step now.state e).after; taken = now.taken + 1 } → plan later ≡ plan now → TakesRun before later (recs ++ r ∷ [])
 takes_more before now later recs r e takes there is becomes planned =
     let step_of : IsStep now.state r = is_step now.state e r there is in

@@ -3,8 +3,8 @@
 //! `Core` is what the executive keeps: what the script says, the time, the next id, the processes in number order, the common
 //! event flag clusters, timers, requests, attention entries, mailboxes, units, and the log of the event under way. Contracts see one
 //! value of it (`specs/Kernel.antt`): the plain state of the machine's definitions, the log, and how much there is room for. Only
-//! `new`, `begin`, `prepare` and `snapshot` take memory: `begin` makes sure of spare room, of which an event uses one of each kind
-//! at most, `prepare` makes what the end of a unit's next service needs, and every other call leaves the room as it was
+//! `new`, `begin`, `prepare`, `snapshot` and its `restore` take memory: `begin` makes sure of spare room, of which an event uses one
+//! of each kind at most, `prepare` makes what the end of a unit's next service needs, and every other call leaves the room as it was
 //! (`specs/Held.antt`).
 //!
 //! All reads of a process are in `reads.rt`, all writes of its fields in `setters.rt`, event flags and their clusters in

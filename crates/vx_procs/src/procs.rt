@@ -26,7 +26,6 @@ const LAST_TIME: u64 = 9_223_372_036_854_775_808;
 /// What the script says, the time in ticks, the next id, the processes in the order of their numbers from 1, the common event
 /// flag clusters, timers, requests, attention entries, mailboxes, units, and the log of the event under way. Contracts see the plain
 /// state, the log, and how much there is room for: `specs/Kernel.antt`.
-#[derive(Drop)]
 pub struct Core<R: Routine> {
     pub(crate) system: SharedSystem,
     pub(crate) time: u64,
@@ -44,6 +43,28 @@ pub struct Core<R: Routine> {
     // the process whose spares may have been used since they were made
     pub(crate) short: Option<Pid>,
     pub(crate) alloc: Global,
+}
+
+impl<R: Routine> Drop for Core<R> {
+    // Written out, so that it is proved here once, and not in each crate that lets an executive go.
+    fn drop(self) {
+        let Self {
+            system: _,
+            time: _,
+            next: _,
+            procs: _,
+            clusters: _,
+            spare: _,
+            timers: _,
+            requests: _,
+            attention: _,
+            boxes: _,
+            units: _,
+            log: _,
+            short: _,
+            alloc: _,
+        } = self;
+    }
 }
 
 impl<R: Routine> Model for Core<R> {

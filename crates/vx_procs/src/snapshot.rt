@@ -25,7 +25,6 @@ use vx_timers::{Timers, TimersSnapshot};
 
 /// The executive's state at one moment, of which no unit is out, in as little room as it takes: no effects, no spare process, no
 /// room for what may come, and nothing remembered of the processes. What the script says is shared. Contracts see the plain state.
-#[derive(Drop)]
 pub struct CoreSnapshot<R: Routine> {
     pub(crate) system: SharedSystem,
     pub(crate) time: u64,
@@ -40,6 +39,26 @@ pub struct CoreSnapshot<R: Routine> {
     // the process whose spares may have been used since they were made
     short: Option<Pid>,
     alloc: Global,
+}
+
+impl<R: Routine> Drop for CoreSnapshot<R> {
+    // Written out, so that it is proved here once, and not in each crate that lets one go.
+    fn drop(self) {
+        let Self {
+            system: _,
+            time: _,
+            next: _,
+            procs: _,
+            clusters: _,
+            timers: _,
+            requests: _,
+            attention: _,
+            boxes: _,
+            units: _,
+            short: _,
+            alloc: _,
+        } = self;
+    }
 }
 
 impl<R: Routine> Model for CoreSnapshot<R> {

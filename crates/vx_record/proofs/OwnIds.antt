@@ -1,8 +1,6 @@
 -- No two open things have one id, after each move.
 use Rattle.std.proofs.Common.{◌≡◌, ℕ, zero, suc, ◌+◌, ◌-◌, ◌≤◌, List, [], ◌∷◌, ◌++◌, Bool, cond, ◌==◌, nat_lt, Option, Some, None, refl, ap, arith, get_or, set, inl, inr}
-use Rattle.std.specs.List.{AllByRecursion}
-use Rattle.std.proofs.Common.{◌<◌}
-use Rattle.std.proofs.lemmas.Bool.{cases_lt, cases_eq, eq-eqb, ne_eqb}
+use Rattle.std.proofs.lemmas.Bool.{cases_eq, eq-eqb, ne_eqb}
 use Rattle.std.specs.List.{filter, find}
 use Rattle.vx_base.specs.Lists.{less, amend, tally}
 use Rattle.vx_base.specs.Pieces.{Queued, Handler, Request, Promised, Timer, Alarm, OfTimer, OfWake, Attention}
@@ -229,19 +227,3 @@ born_bear id place (d ∷ ds) = let rest = born_bear id (place + 1) ds in either
 
 pub first_own : (system : System) → HaveOwnIds (first system)
 first_own system = record { single = λ id. let e = born_bear id 0 system.decls in omega (arith, e); below = λ id k. let e = born_bear id 0 system.decls in omega (arith, e) }
-
--- What it says of queued ASTs: of those of a process no two have one id, and their ids are below the next.
-
-all_below : (n : ℕ) (qs : List Queued) → ((id : ℕ) → n ≤ id → tally (λ q. q.id.0 == id) qs ≡ 0) → AllByRecursion (λ q. q.id.0 < n) qs
-all_below n [] k = tt
-all_below n (q ∷ qs) k = (here, all_below n qs (λ id e. let z = k id e in omega (arith, z)))
-  where
-    here : q.id.0 < n
-    here = elim (cases_lt q.id.0 n) [
-      | inl less ↦ less
-      | inr past ↦ absurd (let z = k q.id.0 past in let y : one (q.id.0 == q.id.0) ≡ 1 = rw (eq-eqb q.id.0 q.id.0 refl) refl in omega (arith, z, y))
-    ]
-
-pub record HaveOwnAsts (next : ℕ) (pr : Process) : Type 0 where
-  pub single : (id : ℕ) → tally (λ q. q.id.0 == id) pr.asts ≤ 1
-  pub below : AllByRecursion (λ q. q.id.0 < next) pr.asts

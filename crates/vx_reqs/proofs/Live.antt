@@ -1,5 +1,5 @@
 -- The requests that stand in places: found, taken out, changed and added.
-use Rattle.std.proofs.Common.{◌≡◌, ℕ, ◌+◌, ◌<◌, drop, get_or, sym, ◌∙◌, List, [], ◌∷◌, ◌++◌, Bool, true, false, cond, ◌||◌, Option, Some, None, length, refl, ap, arith, option_to_list, option_map, is_some, Result, Ok, Err, OnOk, OnErr}
+use Rattle.std.proofs.Common.{◌≡◌, ℕ, ◌+◌, ◌<◌, drop, get_or, sym, ◌∙◌, List, [], ◌∷◌, ◌++◌, Bool, true, false, cond, ◌||◌, Option, Some, None, length, refl, ap, option_to_list, option_map, is_some, Result, Ok, Err, OnOk, OnErr}
 use Rattle.std.specs.List.{find, list_any, filter}
 use Rattle.std.proofs.lemmas.List.{drop_more}
 use Rattle.vx_base.specs.Lists.{less, amend}
@@ -77,33 +77,6 @@ kept_in i (Some r) xs rest = ap (λ rs. r ∷ rs) rest
 pub live_kept : (xs : List Place) → live (filter is_held xs) ≡ live xs
 live_kept [] = refl
 live_kept (x ∷ xs) = kept_in x.id x.request xs (live_kept xs)
-
-kept_length : (i : Id) (o : Option Request) (xs : List Place) → length (filter is_held xs) ≡ length (live xs) → length (filter is_held (record { id = i; request = o } ∷ xs)) ≡ length (live (record { id = i; request = o } ∷ xs))
-kept_length i None xs rest = rest
-kept_length i (Some r) xs rest = omega (arith, rest)
-
--- and are as many
-pub length_kept : (xs : List Place) → length (filter is_held xs) ≡ length (live xs)
-length_kept [] = refl
-length_kept (x ∷ xs) = kept_length x.id x.request xs (length_kept xs)
-
--- taking out what is found leaves one fewer
-pub less_one : {X : Type 0} (p : X → Bool) (xs : List X) (x : X) → Some x ≡ find p xs → length (less p xs) + 1 ≡ length xs
-less_one p [] x e = absurd (cc)
-less_one p (y ∷ ys) x e =
-    elim (p y) as (λ b. Some x ≡ cond b (Some y) (find p ys) → length (cond b ys (y ∷ less p ys)) + 1 ≡ length (y ∷ ys)) [
-      | true ↦ λ found. omega arith
-      | false ↦ λ found. let rest = less_one p ys x found in omega (arith, rest)
-    ] e
-
-pub amend_length : {X : Type 0} (p : X → Bool) (g : X → X) (xs : List X) → length (amend p g xs) ≡ length xs
-amend_length p g [] = refl
-amend_length p g (x ∷ xs) =
-    let rest = amend_length p g xs in
-    elim (p x) as (λ b. length (cond b (g x ∷ xs) (x ∷ amend p g xs)) ≡ length (x ∷ xs)) [
-      | true ↦ omega arith
-      | false ↦ omega (arith, rest)
-    ]
 
 pub amend_nothing : {X : Type 0} (p : X → Bool) (g : X → X) (xs : List X) → None ≡ find p xs → xs ≡ amend p g xs
 amend_nothing p g [] e = refl

@@ -50,9 +50,6 @@ drop_one sh p s x = tells (effect.Drop (sh.id x)) (change s p (without sh (λ y.
 abbrev pub drop_all : {A : Type 0} → Shelf A → Pid → (A → Bool) → State → Part
 drop_all sh p test s = each (drop_one sh p) (filter test (sh.get (process_at s p))) s
 
-abbrev owned : {A : Type 0} → Shelf A → Pid → Kernel → Type 0
-owned sh p k = IsTrue (have_own sh.id (sh.get (process_at k.state p)))
-
 -- the loop
 pub record IsDropping {A : Type 0} (sh : Shelf A) (p : Pid) (test : A → Bool) (first k : Kernel) : Type 0 where
   pub made : IsProcess k.state p

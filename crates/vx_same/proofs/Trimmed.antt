@@ -169,10 +169,6 @@ filled_same {A} n xs few =
     ∙ (append_assoc (trimmed xs) (replicate short None) (replicate (n - length xs) None)
     ∙ ap (λ (ys : List (Option A)). trimmed xs ++ ys) (replicate-append-replicate short (n - length xs) None ∙ ap (λ (m : ℕ). replicate m None) all)))
 
--- all come back
-pub filled_again : {A : Type 0} (n : ℕ) (xs : List (Option A)) → length xs ≡ n → filled_to n None (trimmed xs) ≡ xs
-filled_again n xs all = left_out xs (n - length (trimmed xs)) (omega (arith, shorter xs, all))
-
 -- what is trimmed stays so
 pub trimmed_again : {A : Type 0} (xs : List (Option A)) → trimmed (trimmed xs) ≡ trimmed xs
 trimmed_again {A} xs =

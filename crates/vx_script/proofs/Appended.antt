@@ -34,10 +34,6 @@ all_weaker p q k (x ∷ xs) h =
     let parts = and_parts (p x) (list_all p xs) h in
     and_from (q x) (list_all q xs) (k x parts.0) (all_weaker p q k xs parts.1)
 
-pub all_of : {A : Type 0} (p : A → Bool) → ((x : A) → p x ≡ true) → (xs : List A) → list_all p xs ≡ true
-all_of p k [] = refl
-all_of p k (x ∷ xs) = and_from (p x) (list_all p xs) (k x) (all_of p k xs)
-
 pub map_push : {A B : Type 0} (f : A → B) (xs : List A) (x : A) → map f (xs ++ x ∷ []) ≡ map f xs ++ f x ∷ []
 map_push f [] x = refl
 map_push f (y ∷ ys) x = ap (λ zs. f y ∷ zs) (map_push f ys x)

@@ -50,9 +50,6 @@ length_winners (a ∷ b ∷ times) = let rest = length_winners times in (omega (
 abbrev at : List (Option ℕ) → ℕ → Option ℕ
 at times k = slice_index_or times k None
 
-twice : (k : ℕ) → 2 * suc k ≡ suc (suc (2 * k))
-twice k = omega arith
-
 pub at_winners : (times : List (Option ℕ)) (k : ℕ) → at (winners times) k ≡ lesser_of (at times (2 * k)) (at times (2 * k + 1))
 at_winners [] k = refl
 at_winners (a ∷ []) zero = sym (lesser_none a)
