@@ -14,6 +14,10 @@ pub struct System {
 impl Drop for System {
     // Written out, so that it is proved here once, and not in each crate that lets a system go.
     fn drop(self) {
-        let Self { units: _, images: _, decls: _ } = self;
+        let Self {
+            units: _,
+            images: _,
+            decls: _,
+        } = self;
     }
 }
