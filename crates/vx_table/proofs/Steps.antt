@@ -9,7 +9,8 @@ use Rattle.vx_base.specs.declared.service.Param.{Param}
 use Rattle.vx_base.specs.Services.{args_of}
 use Rattle.vx_text.specs.declared.token.Tok.{Tok}
 use Rattle.vx_table.specs.declared.fail.CallFail.{CallFail}
-use Rattle.vx_table.specs.Rows.{params_in}
+use Rattle.vx_table.specs.declared.slot.Slot.{Slot}
+use Rattle.vx_table.specs.Rows.{param_of, params_in}
 use Rattle.vx_table.specs.Reading.{behind_args, and_args, read_arg, read_args, as_args, first_piece, more_pieces}
 use Rattle.vx_table.specs.Cutting.{finish}
 use Rattle.vx_table.proofs.Back.{firsts}
@@ -31,13 +32,13 @@ pub finished : (args front : List Arg) (k : ℕ) (left : List (List Tok)) (whole
 finished args front k [] whole same e = ap Ok (same ∙ ap args_of (sym (append-nil front))) ∙ ap as_args e
 finished args front k (piece ∷ more) whole same e = ap as_args e
 
-pub no_param : (params : List (Option Param)) (k : ℕ) (slot : Option Param) → k < length params → slot ≡ get_or params k slot → slot ≡ None → params_in (drop k params) ≡ []
-no_param params k slot h is none = rw (drop-cons params k slot h, ← is, none) refl
+pub no_param : (params : List (Option Slot)) (k : ℕ) → k < length params → get_or params k None ≡ None → params_in (drop k params) ≡ []
+no_param params k h none = rw (drop-cons params k None h, none) refl
 
-pub a_param : (params : List (Option Param)) (k : ℕ) (slot : Option Param) (p : Param) → k < length params → slot ≡ get_or params k slot → slot ≡ Some p → params_in (drop k params) ≡ p ∷ params_in (drop (k + 1) params)
-a_param params k slot p h is some = rw (drop-cons params k slot h, ← is, some, add-one) refl
+pub a_param : (params : List (Option Slot)) (k : ℕ) (slot : Slot) (p : Param) → k < length params → get_or params k None ≡ Some slot → p ≡ param_of slot → params_in (drop k params) ≡ p ∷ params_in (drop (k + 1) params)
+a_param params k slot p h some is = rw (drop-cons params k None h, some, add-one, is) refl
 
-pub params_end : (params : List (Option Param)) (k : ℕ) → length params ≤ k → params_in (drop k params) ≡ []
+pub params_end : (params : List (Option Slot)) (k : ℕ) → length params ≤ k → params_in (drop k params) ≡ []
 params_end params k h = ap params_in (drop_all k params h)
 
 behind_behind : (front : List Arg) (a : Arg) (rest : Result (List Arg) CallFail) → behind_args (front ++ a ∷ []) rest ≡ behind_args front (behind_args (a ∷ []) rest)

@@ -2,14 +2,24 @@
 use Rattle.std.specs.Prelude.{◌≢◌, ◌≤◌, Bool, true, not, ◌&&◌, IsTrue, List, [], ◌∷◌, All, AllPairs, length, nat_le, Option, None, Some, bytes_eq}
 use Rattle.std.specs.List.{list_all}
 use Rattle.vx_base.specs.declared.service.Param.{Param}
-use Rattle.vx_base.specs.Services.{ServiceRow, service_name, has_right_default}
+use Rattle.vx_base.specs.declared.service.Param.TheVariants as param
+use Rattle.vx_base.specs.Services.{ServiceRow, service_name, has_right_default, label_or_none, mode_or_kernel, value_or}
+use Rattle.vx_table.specs.declared.slot.Slot.{Slot}
+use Rattle.vx_table.specs.declared.slot.Slot.TheVariants as slot
 use Rattle.vx_table.specs.declared.table.Row.{Row}
 
+-- the argument that a service takes there
+abbrev pub param_of : Slot → Param
+param_of (slot.Required kind) = param.Required kind
+param_of (slot.Number n) = value_or n
+param_of slot.Mode = mode_or_kernel
+param_of slot.Label = label_or_none
+
 -- the arguments up to the first place that has none
-abbrev pub params_in : List (Option Param) → List Param
+abbrev pub params_in : List (Option Slot) → List Param
 params_in [] = []
 params_in (None ∷ more) = []
-params_in (Some p ∷ more) = p ∷ params_in more
+params_in (Some s ∷ more) = param_of s ∷ params_in more
 
 abbrev pub row_of : Row → ServiceRow
 row_of r = record { service = r.service; params = params_in r.params }

@@ -11,6 +11,7 @@ mod arg;
 mod fail;
 mod print;
 mod read;
+mod slot;
 mod table;
 
 pub use arg::{mode_word, operand_of, target_word};

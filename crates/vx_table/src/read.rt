@@ -9,6 +9,7 @@ ghost use Rattle.vx_table.specs.Rows.{params_in};
 
 use crate::arg::token_arg;
 use crate::fail::CallFail;
+use crate::slot::Slot;
 use vx_base::{Arg, Args, Kind, Param};
 use vx_text::{Tok, Token};
 
@@ -124,16 +125,16 @@ fn finish(args: &[Arg; 9], tokens: &[Token], at: usize) -> Result<Args, CallFail
 }
 
 /// The arguments that these places take, from the tokens behind a service.
-pub fn read_args(params: &[Option<Param>; 9], tokens: &[Token]) -> Result<Args, CallFail>
+pub fn read_args(params: &[Option<Slot>; 9], tokens: &[Token]) -> Result<Args, CallFail>
     ensures { result ≡ spec.as_args (spec.read_args 1 (params_in params.now) (spec.pieces (spec.toks tokens.now))) }
 {
     let mut args = [Arg::Unused; 9];
     let mut at = first_place(tokens);
     for (k, slot) in params.iter().enumerate() {
-        let Some(param) = slot else {
+        let Some(slot) = slot else {
             return finish(&args, tokens, at);
         };
-        args[k] = read_arg(k as u8 + 1, param, piece(tokens, at))?;
+        args[k] = read_arg(k as u8 + 1, &slot.param(), piece(tokens, at))?;
         at = after(tokens, at);
     }
     finish(&args, tokens, at)

@@ -10,16 +10,17 @@ ghost use Rattle.vx_table.specs.Spelling.{call_text};
 use crate::fail::CallFail;
 use crate::print;
 use crate::read::read_args;
+use crate::slot::Slot;
 use std::alloc::Global;
 use std::marker::Model;
-use vx_base::{Arg, Bytes, Call, Kind, Mode, NoMemory, Operand, Param, Service};
+use vx_base::{Bytes, Call, Kind, NoMemory, Service};
 use vx_text::{Tok, Token};
 
 /// A row: a service and its arguments in order, and no argument after them.
 #[derive(Clone, Copy, Debug)]
 pub struct Row {
     pub service: Service,
-    pub params: [Option<Param>; 9],
+    pub params: [Option<Slot>; 9],
 }
 
 /// A table of N services, which contracts see as its rows in order: a service with the arguments that it takes.
@@ -92,16 +93,16 @@ macro_rules! services {
 // An argument of a kind. A number behind its kind is its default; kernel mode and no label are defaults too.
 macro_rules! param {
     (Value $default:literal) => {
-        Some(Param::Optional(Kind::Value, Arg::Value(Operand::Num($default))))
+        Some(Slot::Number($default))
     };
     (LabelOrNone) => {
-        Some(Param::Optional(Kind::LabelOrNone, Arg::Label(None)))
+        Some(Slot::Label)
     };
     (Mode) => {
-        Some(Param::Optional(Kind::Mode, Arg::Mode(Mode::Kernel)))
+        Some(Slot::Mode)
     };
     ($kind:ident) => {
-        Some(Param::Required(Kind::$kind))
+        Some(Slot::Required(Kind::$kind))
     };
 }
 
@@ -154,12 +155,15 @@ pub fn service_name(service: Service) -> &'static str
     services!(name_of service)
 }
 
+// The rows of all services.
+static ROWS: [Row; 36] = services!(table_of);
+
 /// The table of all services.
 pub fn service_table() -> ServiceTable<36>
     ensures rows { result ≡ service_rows }
     ensures laws { HasLaws result }
 {
-    ServiceTable::of_rows(services!(table_of))
+    ServiceTable::of_rows(ROWS)
 }
 
 // A call of a row's service, whose arguments these tokens are.

@@ -7,7 +7,7 @@ pub returns-in_default : goal.returns-in_default
 returns-in_default c =
     let k = c.loop-k.k in
     let args = c.loop-k.args in
-    let none = no_param c.args.params.now k c.index-params-k.result (omega (arith, c.type_inv.params)) c.index-params-k.is (c.index-params-k.is ∙ c.in_default.is) in
+    let none = no_param c.args.params.now k (omega (arith, c.told-params, c.loop-k-test.true)) c.in_default.is in
     c.finish.ensures ∙ finished args (take k args) (k + 1) (left c.loop-k.at c.args.tokens.now) _ (args_of-front k (9 - k) args c.loop-k.invariant.unused) (rw none at c.loop-k.invariant.same)
 
 pub loop-k-preserved : goal.loop-k-preserved
@@ -15,16 +15,17 @@ loop-k-preserved c =
     let k = c.loop-k.k in
     let args = c.loop-k.args in
     let a = c.in_ok-args.field-0 in
-    let some = a_param c.args.params.now k c.index-params-k.result c.in-Some.param (omega (arith, c.type_inv.params)) c.index-params-k.is (c.index-params-k.is ∙ c.in-Some.is) in
+    let p = c.param.result in
+    let some = a_param c.args.params.now k c.in-Some.slot p (omega (arith, c.told-params, c.loop-k-test.true)) c.in-Some.is c.param.ensures in
     record {
       within = c.after-at.ensures.within;
       unused = still_unused args k a c.loop-k.invariant.unused;
-      same = rw (taken args k a (omega arith)) (stepped (take k args) a k c.in-Some.param _ _ (left c.loop-k.at c.args.tokens.now) _ _ _ c.in_ok-args.ensures c.piece.ensures c.after-at.ensures.left some c.loop-k.invariant.same);
+      same = rw (taken args k a (omega arith)) (stepped (take k args) a k p _ _ (left c.loop-k.at c.args.tokens.now) _ _ _ c.in_ok-args.ensures c.piece.ensures c.after-at.ensures.left some c.loop-k.invariant.same);
     }
 
 pub returns : goal.returns
 returns c =
     let k = c.loop-k.k in
     let args = c.loop-k.args in
-    let none = params_end c.args.params.now k (omega (arith, c.type_inv.params)) in
+    let none = params_end c.args.params.now k (omega (arith, c.told-params, c.loop-k-test.false)) in
     c.finish-2.ensures ∙ finished args (take k args) (k + 1) (left c.loop-k.at c.args.tokens.now) _ (args_of-front k (9 - k) args c.loop-k.invariant.unused) (rw none at c.loop-k.invariant.same)

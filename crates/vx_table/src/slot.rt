@@ -1,0 +1,34 @@
+//! What a row of the table says of one argument.
+
+ghost use Rattle.std.specs.Prelude.{◌≡◌};
+ghost use Rattle.vx_table.specs.Rows.{param_of};
+
+use vx_base::{Arg, Kind, Mode, Operand, Param};
+
+/// An argument of a row: its kind, and what stands for it where it is left out, if it may be. It holds no argument, so that the rows
+/// of the table are data of the program and no code.
+#[derive(Clone, Copy, Debug)]
+pub enum Slot {
+    /// It must be there.
+    Required(Kind),
+    /// A value; where it is left out, this number.
+    Number(u32),
+    /// A mode; where it is left out, kernel mode.
+    Mode,
+    /// A label; where it is left out, none.
+    Label,
+}
+
+impl Slot {
+    /// The argument that a service takes.
+    pub fn param(self) -> Param
+        ensures { result ≡ param_of self }
+    {
+        match self {
+            Slot::Required(kind) => Param::Required(kind),
+            Slot::Number(n) => Param::Optional(Kind::Value, Arg::Value(Operand::Num(n))),
+            Slot::Mode => Param::Optional(Kind::Mode, Arg::Mode(Mode::Kernel)),
+            Slot::Label => Param::Optional(Kind::LabelOrNone, Arg::Label(None)),
+        }
+    }
+}
