@@ -5,8 +5,8 @@ ghost use Rattle.vx_table.specs.Rows.{param_of};
 
 use vx_base::{Arg, Kind, Mode, Operand, Param};
 
-/// An argument of a row: its kind, and what stands for it where it is left out, if it may be. It holds no argument, so that the rows
-/// of the table are data of the program and no code.
+/// An argument of a row: its kind, and what stands for it where it is left out, if it may be. It has no `Arg` in it, which would have
+/// room for a name: so a row is small.
 #[derive(Clone, Copy, Debug)]
 pub enum Slot {
     /// It must be there.
