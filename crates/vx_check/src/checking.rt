@@ -13,8 +13,9 @@ use crate::verdict::Verdict;
 use std::alloc::Global;
 use vx_base::{Bytes, End, NoMemory, Rec, Scripted};
 use vx_exec::Exec;
-use vx_journal::{Journal, Part, print_trailer};
+use vx_journal::{Journal, Part};
 use vx_record::same_rec;
+use vx_trailer::print_trailer;
 
 /// The most records of a run.
 const MOST: usize = 100_000;

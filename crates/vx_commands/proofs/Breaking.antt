@@ -8,12 +8,12 @@ use Rattle.vx_host.specs.Streams.{AppendsFront, Takes, TakesAtMost}
 use Rattle.vx_host.specs.declared.source.ReadFail.{ReadFail}
 use Rattle.vx_host.specs.declared.source.ReadFail.TheVariants as fail
 use Rattle.vx_check.specs.declared.verdict.Verdict.{Verdict}
-use Rattle.vx_commands.specs.declared.command.Command.{Command}
-use Rattle.vx_commands.specs.declared.command.Command.TheVariants.{Sim, Follow, Explore, Show, Check}
-use Rattle.vx_commands.specs.declared.command.Options.{Options}
-use Rattle.vx_commands.specs.declared.command.Report.{Report}
-use Rattle.vx_commands.specs.declared.picks.Picks.{Picks}
-use Rattle.vx_commands.specs.declared.scope.Scope.{Scope}
+use Rattle.vx_words.specs.declared.command.Command.{Command}
+use Rattle.vx_words.specs.declared.command.Command.TheVariants.{Sim, Follow, Explore, Show, Check}
+use Rattle.vx_words.specs.declared.command.Options.{Options}
+use Rattle.vx_words.specs.declared.command.Report.{Report}
+use Rattle.vx_words.specs.declared.picks.Picks.{Picks}
+use Rattle.vx_words.specs.declared.scope.Scope.{Scope}
 use Rattle.vx_commands.specs.Exploring.{BreaksExplored, in_endings, in_cut_line}
 use Rattle.vx_commands.specs.Exploring.{in_fault_line as in_explored_fault, in_want_line as in_explored_want}
 use Rattle.vx_commands.specs.Following.{BreaksPicked, in_picked, in_lack, in_fault_line, in_want_line}
@@ -25,7 +25,7 @@ use Rattle.vx_commands.specs.Summed.{BreaksSummed, WritesSummed, in_summary}
 use Rattle.vx_commands.specs.Summed.{in_shortage as in_run_shortage}
 use Rattle.vx_commands.specs.Unread.{unread_line}
 use Rattle.vx_commands.specs.Top.{no_memory, read_fault, too_long, of_overflow, of_read_fault, IsReported, IsRefused, ReadsInput, RunsOut, Breaks, TellsNoMemory, alone, behind_lines, WritesSummary, of_cut_run, of_form, of_run, of_places, of_missing, of_endings, of_cut, of_show, of_summary, of_report, of_no_memory, at_input, at_run}
-use Rattle.vx_commands.specs.Words.{command_of, size_of}
+use Rattle.vx_words.specs.Words.{command_of, size_of}
 
 -- a front of what an input comes to is a front of the text of the call that read it
 pub breaks_input : (words : List (List ℕ)) (options : Options) (left left_after : Option (List ℕ)) (faults faults_after : ℕ) (held held_after : Option (List ℕ)) (input : List ℕ) → ReadsInput words (Sim options) left left_after input → BreaksInput input options held held_after → Breaks words left left_after faults faults_after held held_after

@@ -11,10 +11,10 @@ use Rattle.vx_image.specs.declared.system.System.{System}
 use Rattle.vx_commands.specs.Explored.{AreEndings, IsCutShort, IsExplored}
 use Rattle.vx_commands.specs.Exploring.{IsSurvey}
 use Rattle.vx_commands.specs.Top.{IsRefused}
-use Rattle.vx_commands.specs.declared.command.Command.TheVariants.{Explore}
+use Rattle.vx_words.specs.declared.command.Command.TheVariants.{Explore}
 use Rattle.vx_commands.specs.declared.explore.Survey.{Survey}
 use Rattle.vx_commands.specs.declared.explore.Survey.TheVariants.{Told, Cut, Refused}
-use Rattle.vx_commands.specs.declared.scope.Scope.{Scope}
+use Rattle.vx_words.specs.declared.scope.Scope.{Scope}
 
 -- the summary of all runs tells of each run that has ended, and of no other
 pub are_endings : (system : System) (limit : ℕ) (rows : List (Found RunEnding)) → limit ≤ 100000 → rows ≡ endings system limit → AreEndings system limit rows

@@ -5,7 +5,6 @@ pub mod Simulating
 pub mod Lawful
 pub mod Reported
 pub mod Summing
-pub mod Listed
 pub mod Picking
 pub mod Exploring
 pub mod Carrying

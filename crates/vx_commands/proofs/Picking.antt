@@ -15,10 +15,10 @@ use Rattle.vx_script.specs.Script.{ended_lines, script}
 use Rattle.vx_commands.specs.Followed.{IsFollowed, IsPickedText, LacksPlace}
 use Rattle.vx_commands.specs.Following.{IsCourse}
 use Rattle.vx_commands.specs.Top.{IsRefused}
-use Rattle.vx_commands.specs.declared.command.Command.TheVariants.{Follow}
+use Rattle.vx_words.specs.declared.command.Command.TheVariants.{Follow}
 use Rattle.vx_commands.specs.declared.follow.Course.{Course}
 use Rattle.vx_commands.specs.declared.follow.Course.TheVariants.{Ended, Missing, Refused}
-use Rattle.vx_commands.specs.declared.picks.Picks.{Picks}
+use Rattle.vx_words.specs.declared.picks.Picks.{Picks}
 
 -- lines that were printed one part after another
 printed : (text : List ℕ) (xs ys : List (List ℕ)) → ((text ++ codes "$JOURNAL 1\n") ++ ended_lines xs) ++ ended_lines ys ≡ text ++ ended_lines (codes "$JOURNAL 1" ∷ (xs ++ ys))

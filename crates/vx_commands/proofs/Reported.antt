@@ -6,8 +6,8 @@ use Rattle.vx_grammar.specs.Grammar.{Spells}
 use Rattle.vx_image.specs.declared.system.System.{System}
 use Rattle.vx_journal.specs.ReadJournal.{script_part, journal_of, IsJournal}
 use Rattle.vx_journal.specs.declared.journal.Journal.{Journal}
-use Rattle.vx_commands.specs.declared.command.Report.{Report}
-use Rattle.vx_commands.specs.declared.command.Report.TheVariants.{Line}
+use Rattle.vx_words.specs.declared.command.Report.{Report}
+use Rattle.vx_words.specs.declared.command.Report.TheVariants.{Line}
 use Rattle.vx_commands.specs.Top.{IsReported, report_text, verdict_line}
 
 same_journal : (text : List ℕ) (i j : Journal) → IsJournal text i → ((s : System) → Spells (script_part text) s → journal_of s text ≡ Ok j) → i ≡ j

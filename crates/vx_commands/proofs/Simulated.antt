@@ -23,7 +23,7 @@ use Rattle.vx_script.specs.Script.{ended_lines, script, script_lines}
 use Rattle.vx_commands.proofs.ChosenRuns.{chosen_ends, chosen_is_run}
 use Rattle.vx_commands.specs.Simulated.{BreaksRun, GainsCut, GainsFront, GainsLines, GainsRun, Sends, in_cut, kept, lines_so_far, sent}
 use Rattle.vx_commands.specs.Top.{IsCut, IsSimulated, no_memory}
-use Rattle.vx_commands.specs.declared.command.Options.{Options}
+use Rattle.vx_words.specs.declared.command.Options.{Options}
 
 -- What a sink gained.
 

@@ -11,9 +11,9 @@ use Rattle.vx_script.specs.declared.fault.ScriptFail.TheVariants as fail
 use Rattle.vx_script.specs.declared.fault.ScriptFault.{ScriptFault}
 use Rattle.vx_commands.specs.Simulated.{BreaksInput, BreaksShown, GainsRun, WritesRun, WritesRefusal, in_fault, in_no_memory, in_refusal, in_want}
 use Rattle.vx_commands.specs.Top.{fault_line, no_memory, no_script, script_in}
-use Rattle.vx_commands.specs.declared.command.Command.{Command}
-use Rattle.vx_commands.specs.declared.command.Command.TheVariants.{Show, Sim}
-use Rattle.vx_commands.specs.declared.command.Options.{Options}
+use Rattle.vx_words.specs.declared.command.Command.{Command}
+use Rattle.vx_words.specs.declared.command.Command.TheVariants.{Show, Sim}
+use Rattle.vx_words.specs.declared.command.Options.{Options}
 
 -- a transcript that was written of a system is that of the input that says it
 pub writes_run : (input : List ℕ) (options : Options) (held held_after : Option (List ℕ)) (system : System) (end : End) → Spells input system → GainsRun system options held held_after end → WritesRun input options held held_after end

@@ -14,7 +14,7 @@ use Rattle.vx_exec.proofs.Runs.{Taking, chosen_run, taken_more}
 use Rattle.vx_gen.specs.Counted.{tally_of}
 use Rattle.vx_gen.specs.Generated.{generated}
 use Rattle.vx_gen.specs.declared.tally.Tally.{Tally}
-use Rattle.vx_commands.specs.declared.command.Options.{Options}
+use Rattle.vx_words.specs.declared.command.Options.{Options}
 use Rattle.vx_commands.specs.Summed.{Tallies, WritesSummed}
 use Rattle.vx_commands.specs.Top.{IsSummed, full_run, summary}
 

@@ -12,7 +12,7 @@ use Rattle.vx_endings.specs.declared.ending.RunEnding.{RunEnding}
 use Rattle.vx_explore.specs.declared.found.Found.{Found}
 use Rattle.vx_grammar.specs.Grammar.{Spells}
 use Rattle.vx_image.specs.declared.system.System.{System}
-use Rattle.vx_commands.specs.declared.scope.Scope.{Scope}
+use Rattle.vx_words.specs.declared.scope.Scope.{Scope}
 
 -- These rows tell how all runs end of at most so many records. They are the summary of the list of all runs; each run that has ended
 -- ends as one of them; and each is the end of the run that its places choose.

@@ -6,10 +6,10 @@ use Rattle.vx_host.specs.Streams.{AppendsFront}
 use Rattle.vx_image.specs.declared.system.System.{System}
 use Rattle.vx_commands.specs.Explored.{IsCutShort, IsExplored, TellsCut, TellsEndings}
 use Rattle.vx_commands.specs.Top.{no_memory, IsRefused}
-use Rattle.vx_commands.specs.declared.command.Command.TheVariants.{Explore}
+use Rattle.vx_words.specs.declared.command.Command.TheVariants.{Explore}
 use Rattle.vx_commands.specs.declared.explore.Survey.{Survey}
 use Rattle.vx_commands.specs.declared.explore.Survey.TheVariants.{Told, Cut, Refused}
-use Rattle.vx_commands.specs.declared.scope.Scope.{Scope}
+use Rattle.vx_words.specs.declared.scope.Scope.{Scope}
 
 -- a text with the worst end of all runs, or with none where it is cut
 abbrev pub IsToldOf : System → Scope → Option End → List ℕ → Type 0

@@ -6,7 +6,7 @@ use Rattle.vx_image.specs.declared.system.System.{System}
 use Rattle.vx_journal.specs.Transcript.{transcript}
 use Rattle.vx_picks.specs.Picked.{IsMissing, picked}
 use Rattle.vx_record.specs.Runs.{IsRun, end_after}
-use Rattle.vx_commands.specs.declared.picks.Picks.{Picks}
+use Rattle.vx_words.specs.declared.picks.Picks.{Picks}
 
 -- the line of a place that is not there: record n has none of m enabled events
 abbrev pub pick_line : ℕ → ℕ → List ℕ

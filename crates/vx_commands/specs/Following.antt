@@ -5,10 +5,10 @@ use Rattle.vx_base.specs.declared.record.End.{End}
 use Rattle.vx_host.specs.Streams.{AppendsFront}
 use Rattle.vx_commands.specs.Followed.{IsFollowed, LacksPlace}
 use Rattle.vx_commands.specs.Top.{no_memory, IsRefused}
-use Rattle.vx_commands.specs.declared.command.Command.TheVariants.{Follow}
+use Rattle.vx_words.specs.declared.command.Command.TheVariants.{Follow}
 use Rattle.vx_commands.specs.declared.follow.Course.{Course}
 use Rattle.vx_commands.specs.declared.follow.Course.TheVariants.{Ended, Missing, Refused}
-use Rattle.vx_commands.specs.declared.picks.Picks.{Picks}
+use Rattle.vx_words.specs.declared.picks.Picks.{Picks}
 
 -- what an input comes to is a run with its transcript, or the line that tells why there is none
 abbrev pub IsCourse : List ℕ → Picks → Course → Type 0

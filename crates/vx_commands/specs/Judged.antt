@@ -4,8 +4,8 @@ use Rattle.std.specs.Io.KnownBytes.{Appends}
 use Rattle.vx_check.specs.declared.verdict.Verdict.{Verdict}
 use Rattle.vx_host.specs.Streams.{AppendsFront}
 use Rattle.vx_commands.specs.Top.{no_memory, IsReported, IsRefused, status_of}
-use Rattle.vx_commands.specs.declared.command.Command.TheVariants.{Check}
-use Rattle.vx_commands.specs.declared.command.Report.{Report}
+use Rattle.vx_words.specs.declared.command.Command.TheVariants.{Check}
+use Rattle.vx_words.specs.declared.command.Report.{Report}
 use Rattle.vx_commands.specs.declared.judge.Finding.{Finding}
 use Rattle.vx_commands.specs.declared.judge.Finding.TheVariants.{Judged, Refused}
 use Rattle.vx_commands.specs.declared.status.Status.{Status}

@@ -1,17 +1,12 @@
 pub mod Code
-pub mod Example
 pub mod Simulated
 pub mod Top
-pub mod Words
 pub mod Judged
 pub mod Summed
-pub mod Places
-pub mod Listing
 pub mod Followed
 pub mod Following
 pub mod Explored
 pub mod Exploring
-pub mod Crew
 pub mod Carried
 pub mod Threads
 pub mod Unread

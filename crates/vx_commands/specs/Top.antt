@@ -30,14 +30,14 @@ use Rattle.vx_lines.specs.Records.{ended_lines}
 use Rattle.vx_picks.specs.Picked.{picked}
 use Rattle.vx_commands.specs.Explored.{IsCutShort, IsExplored}
 use Rattle.vx_commands.specs.Followed.{IsFollowed, LacksPlace}
-use Rattle.vx_commands.specs.Words.{command_of, size_of}
-use Rattle.vx_commands.specs.declared.command.Command.{Command}
-use Rattle.vx_commands.specs.declared.command.Command.TheVariants.{Sim, Follow, Explore, Show, Check}
-use Rattle.vx_commands.specs.declared.command.Options.{Options}
-use Rattle.vx_commands.specs.declared.command.Report.{Report}
-use Rattle.vx_commands.specs.declared.command.Report.TheVariants.{Line, Picture, Columns}
-use Rattle.vx_commands.specs.declared.picks.Picks.{Picks}
-use Rattle.vx_commands.specs.declared.scope.Scope.{Scope}
+use Rattle.vx_words.specs.Words.{command_of, size_of}
+use Rattle.vx_words.specs.declared.command.Command.{Command}
+use Rattle.vx_words.specs.declared.command.Command.TheVariants.{Sim, Follow, Explore, Show, Check}
+use Rattle.vx_words.specs.declared.command.Options.{Options}
+use Rattle.vx_words.specs.declared.command.Report.{Report}
+use Rattle.vx_words.specs.declared.command.Report.TheVariants.{Line, Picture, Columns}
+use Rattle.vx_words.specs.declared.picks.Picks.{Picks}
+use Rattle.vx_words.specs.declared.scope.Scope.{Scope}
 use Rattle.vx_commands.specs.declared.status.Status.{Status}
 use Rattle.vx_commands.specs.declared.status.Status.TheVariants as status
 

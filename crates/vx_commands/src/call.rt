@@ -5,9 +5,8 @@ ghost use Rattle.std.specs.Io.KnownBytes.{Appends};
 ghost use Rattle.vx_host.specs.Causes.{Rose};
 ghost use Rattle.vx_commands.specs.Simulated.{WritesRun, WritesRefusal, WritesShown, BreaksInput, BreaksShown, StopsInput};
 ghost use Rattle.vx_commands.specs.Top.{usage, too_long, read_fault, no_memory, RefusesWords, Overflows, FailsToRead, RunsOut, Completes, Ends, IsLawful, Rejects, WritesCut, WritesFault, Breaks, TellsNoMemory};
-ghost use Rattle.vx_commands.specs.Words.{size_of};
+ghost use Rattle.vx_words.specs.Words.{size_of};
 
-use crate::command::{Command, Options, command_of, size_of};
 use crate::explore::explore;
 use crate::follow::follow;
 use crate::judge::judge;
@@ -20,6 +19,7 @@ use vx_base::{Bytes, End, NoMemory};
 use vx_grammar::read_script;
 use vx_host::{Sink, Source, read_all};
 use vx_script::{ScriptFail, print_script};
+use vx_words::{Command, Options, command_of, size_of};
 
 /// The most bytes of an input.
 pub const MOST: u32 = 67_108_864;

@@ -8,8 +8,6 @@ ghost use Rattle.vx_commands.specs.Exploring.{BreaksExplored, IsSurvey, IsToldOf
 ghost use Rattle.vx_commands.specs.Simulated.{WritesRefusal};
 ghost use Rattle.vx_commands.specs.Top.{no_memory};
 
-use crate::command::Command;
-use crate::scope::Scope;
 use crate::status::Status;
 use crate::tell::{fault_line, tell, tell_no_memory, tell_transcript};
 use std::alloc::Global;
@@ -20,6 +18,7 @@ use vx_grammar::read_script;
 use vx_host::Sink;
 use vx_image::System;
 use vx_script::ScriptFail;
+use vx_words::{Command, Scope};
 
 /// What an input comes to.
 #[derive(Drop)]

@@ -10,9 +10,7 @@ ghost use Rattle.vx_commands.specs.Following.{BreaksPicked, IsCourse, WritesLack
 ghost use Rattle.vx_commands.specs.Simulated.{WritesRefusal};
 ghost use Rattle.vx_commands.specs.Top.{no_memory};
 
-use crate::command::Command;
 use crate::journal::print_run;
-use crate::picks::Picks;
 use crate::status::Status;
 use crate::tell::{fault_line, pick_line, tell, tell_no_memory, tell_transcript};
 use std::alloc::Global;
@@ -22,6 +20,7 @@ use vx_host::Sink;
 use vx_image::System;
 use vx_picks::{PickFail, run_picks};
 use vx_script::{ScriptFail, print_script};
+use vx_words::{Command, Picks};
 
 /// What an input comes to.
 #[derive(Drop)]

@@ -7,8 +7,8 @@ ghost use Rattle.vx_lines.specs.Records.{ended_lines, records_lines};
 use std::alloc::Global;
 use vx_base::{Bytes, End, NoMemory, Rec, Scripted};
 use vx_exec::Exec;
-use vx_journal::print_trailer;
 use vx_lines::print_records;
+use vx_trailer::print_trailer;
 
 /// Appends what stands behind the script in the transcript of a run that has ended so.
 pub fn print_run(

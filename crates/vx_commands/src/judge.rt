@@ -10,7 +10,6 @@ ghost use Rattle.vx_commands.specs.Judged.{BreaksJudged, IsFinding, WritesFindin
 ghost use Rattle.vx_commands.specs.Simulated.{WritesRefusal};
 ghost use Rattle.vx_commands.specs.Top.{no_memory, IsReported, status_of, report_text, wrong_in};
 
-use crate::command::{Command, Report};
 use crate::status::Status;
 use crate::tell::{fault_line, form_line, tell, tell_no_memory, verdict_line};
 use std::alloc::Global;
@@ -19,6 +18,7 @@ use vx_check::{Verdict, check_text};
 use vx_draw::{print_columns, print_picture};
 use vx_host::Sink;
 use vx_journal::{Journal, JournalFail, read_journal};
+use vx_words::{Command, Report};
 
 /// What an input is found to be.
 #[derive(Drop)]

@@ -5,16 +5,10 @@
 #![tactic(auto)]
 
 mod call;
-mod command;
-mod crew;
-mod example;
 mod explore;
 mod follow;
 mod journal;
 mod judge;
-mod picks;
-mod places;
-mod scope;
 mod simulate;
 mod status;
 mod summary;

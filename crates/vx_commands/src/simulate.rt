@@ -10,7 +10,6 @@ ghost use Rattle.vx_record.specs.Events.{enabled, step};
 ghost use Rattle.vx_record.specs.Runs.{end_of, first, record_of};
 ghost use Rattle.vx_commands.specs.Simulated.{BreaksRun, GainsCut, GainsFront, GainsLines, GainsRun, Sends, lines_so_far};
 
-use crate::command::Options;
 use crate::status::Status;
 use crate::tell::tell_no_memory;
 use std::alloc::Global;
@@ -18,9 +17,10 @@ use vx_base::{Bytes, End, Event, NoMemory, Scripted};
 use vx_exec::{Exec, Seed};
 use vx_host::{Failed, Sink, write_all};
 use vx_image::System;
-use vx_journal::print_trailer;
 use vx_lines::print_record;
 use vx_script::print_script;
+use vx_trailer::print_trailer;
+use vx_words::Options;
 
 /// How many bytes wait at least before they are written.
 const PIECE: usize = 65_536;

@@ -9,7 +9,6 @@ ghost use Rattle.vx_record.specs.Runs.{first};
 ghost use Rattle.vx_commands.specs.Summed.{BreaksSummed, Tallies, WritesSummed};
 ghost use Rattle.vx_commands.specs.Top.{IsSummed, count_line, full_run, no_memory, summary};
 
-use crate::command::Options;
 use crate::status::Status;
 use crate::tell::{tell_no_memory, tell_transcript};
 use std::alloc::Global;
@@ -20,6 +19,7 @@ use vx_host::Sink;
 use vx_image::System;
 use vx_journal::print_end;
 use vx_text::print_num;
+use vx_words::Options;
 
 const FULL_RUN: Options = Options {
     seed: 0,

@@ -5,12 +5,11 @@ ghost use Rattle.std.specs.Io.KnownBytes.{Appends};
 ghost use Rattle.vx_host.specs.Causes.{Rose};
 ghost use Rattle.vx_image.specs.WellFormed.{IsWellFormed};
 ghost use Rattle.vx_commands.specs.Carried.{BreaksCarried, BreaksRunOf, GainsCarried, GainsFault, GainsRunOf, IsCarriedText};
-ghost use Rattle.vx_commands.specs.Crew.{IsCrew};
+ghost use Rattle.vx_words.specs.Crew.{IsCrew};
 ghost use Rattle.vx_commands.specs.Threads.{AllBreak, AllCompletes, AllEnds, AllFailToRead, AllFaults, AllLawful, AllOverflow, AllRunOut, RefusesAll};
 ghost use Rattle.vx_commands.specs.Top.{Rejects, WritesCut, no_memory, read_fault, too_long, usage};
 
 use crate::call::{MOST, quiet_call};
-use crate::crew::{Crew, crew_of};
 use crate::journal::print_run;
 use crate::status::Status;
 use crate::tell::{tell_fault, tell_no_memory, tell_transcript, tell_unread};
@@ -24,6 +23,7 @@ use vx_grammar::read_script;
 use vx_host::{Sink, Source, read_all};
 use vx_image::System;
 use vx_script::{ScriptFail, print_script};
+use vx_words::{Crew, crew_of};
 
 /// The transcript of the run that the threads take, and how the run ended.
 fn transcript<Q: Threads + Wait + Sync, G: Gate + Sync>(

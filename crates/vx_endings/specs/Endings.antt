@@ -1,5 +1,5 @@
 -- How all runs of a system end.
-use Rattle.std.specs.Prelude.{ℕ, List, [], ◌∷◌, ◌++◌, Bool, true, false, ◌&&◌, bytes_eq, flat_map, if◌then◌else◌}
+use Rattle.std.specs.Prelude.{ℕ, List, [], ◌∷◌, Bool, true, false, ◌&&◌, bytes_eq, if◌then◌else◌}
 use Rattle.vx_base.specs.declared.record.End.{End}
 use Rattle.vx_base.specs.declared.record.End.TheVariants.{Done, Hung, Limit}
 use Rattle.vx_base.specs.declared.record.Event.{Event}
@@ -10,7 +10,7 @@ use Rattle.vx_record.specs.State.{State}
 use Rattle.vx_explore.specs.declared.found.Found.{Found}
 use Rattle.vx_explore.specs.Runs.{shortest_first, summary}
 use Rattle.vx_endings.specs.declared.ending.RunEnding.{RunEnding}
-use Rattle.vx_journal.specs.Transcript.{process_lines, unit_lines}
+use Rattle.vx_trailer.specs.Outcome.{outcome_text}
 use Rattle.vx_endings.specs.Interleavings.{all_runs}
 
 -- A run stops where no event is enabled, and every process is deleted or not; or something is enabled, and the limit stops it.
@@ -22,13 +22,9 @@ end_by deleted (e ∷ es) = Limit
 abbrev pub end_at : State → End
 end_at s = end_by (are_deleted s) (enabled s)
 
--- lines, each behind a space and with a line feed at its end
-abbrev pub indented : List (List ℕ) → List ℕ
-indented lines = flat_map (λ line. 32 ∷ (line ++ 10 ∷ [])) lines
-
--- what the trailer of a transcript says of the processes, and of what the units have put out
+-- what the trailer of a transcript says of the processes, and of what the units have put out, each line behind a space
 abbrev pub trailer_text : State → List ℕ
-trailer_text s = indented (process_lines s.system 1 s.procs) ++ indented (unit_lines s.system.units 0 s.units)
+trailer_text s = outcome_text (32 ∷ []) s
 
 -- how a run ends that stops in a state
 abbrev pub ending_at : State → RunEnding

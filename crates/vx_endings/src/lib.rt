@@ -12,7 +12,6 @@ mod exploring;
 mod law;
 mod machine;
 mod print;
-mod trailer;
 mod worst;
 
 pub use ending::RunEnding;

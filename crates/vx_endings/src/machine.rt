@@ -4,12 +4,12 @@ ghost use Rattle.std.specs.Prelude.{◌≡◌, ◌<◌, IfOk, OnOk};
 ghost use Rattle.vx_endings.specs.Explored.{after_in, enabled_in, ending_in, start_of};
 
 use crate::ending::RunEnding;
-use crate::trailer::print_trailer;
 use std::alloc::Global;
 use std::marker::Model;
 use vx_base::{Bytes, End, NoMemory, Scripted};
 use vx_exec::{Exec, ExecSnapshot};
 use vx_explore::Machine;
+use vx_trailer::print_outcome;
 
 /// The executive of a system at one moment of a run, put away, and how many ways go on from there.
 #[derive(Drop)]
@@ -58,7 +58,7 @@ fn ending_here(alloc: Global, exec: &Exec<Scripted>) -> Result<RunEnding, NoMemo
     ensures { IfOk result (λ ending. ending ≡ ending_in exec.now) }
 {
     let mut trailer = Bytes::new(alloc);
-    print_trailer(alloc, exec, &mut trailer)?;
+    print_outcome(alloc, exec, b" ", &mut trailer)?;
     let end = exec.ended().unwrap_or(End::Limit);
     Ok(RunEnding { end, trailer })
 }

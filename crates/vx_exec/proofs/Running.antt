@@ -184,8 +184,6 @@ goes_from s p (g ∷ fs) f top none =
 pub goes_at : (s : State) (p : Pid) (f : Frame) → Some f ≡ top_of (process_at s p).frames → None ≡ f.wait → run s p (process_at s p).frames ≡ run_advanced s p (advanced_at s p)
 goes_at s p f top none = goes_from s p (process_at s p).frames f top none
 
--- Or it has no frame.
-
 -- An AST that starts.
 
 same_frames : (o : Option Queued) (pr : Process) → (without_started o pr).frames ≡ pr.frames

@@ -5,6 +5,5 @@ pub mod Leases
 pub mod Picks
 pub mod Ready
 pub mod Sound
-pub mod Standing
 pub mod Taken
 pub mod View

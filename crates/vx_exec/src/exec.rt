@@ -10,20 +10,21 @@ ghost use Rattle.vx_procs.specs.Digest.{digest_of};
 ghost use Rattle.vx_exec.specs.Engines.{IsWithin, leasing};
 ghost use Rattle.vx_exec.specs.Picks.{moved_seed, picked_event};
 ghost use Rattle.vx_exec.specs.Sound.{IsGoing};
-ghost use Rattle.vx_exec.specs.Standing.{code_of, standing_of};
+ghost use Rattle.vx_record.specs.Standing.{code_of, standing_of};
 ghost use Rattle.vx_exec.specs.View.{is_don, plan};
 
 use crate::engine::Engine;
 use crate::events::{count, enabled_at, is_enabled};
 use crate::seed::Seed;
 use crate::snapshot::ExecSnapshot;
-use crate::standing::{Standing, standing_of};
+use crate::standing::standing_of;
 use std::alloc::Global;
 use std::marker::Model;
 use vx_base::{Bytes, End, Event, Name, NoMemory, Pid, Rec, Routine, UnitNo};
 use vx_image::System;
 use vx_io::Rooms;
 use vx_procs::{Core, CoreSnapshot};
+use vx_record::Standing;
 
 /// The executive of one system: what it keeps, how many records its runs may have, and how many its steps have made. No unit of it is
 /// out.

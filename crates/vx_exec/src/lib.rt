@@ -29,5 +29,4 @@ pub use leasing::LeasingExec;
 pub use run::{run_system, take_run};
 pub use seed::Seed;
 pub use snapshot::ExecSnapshot;
-pub use standing::Standing;
 pub use vx_base::End;

@@ -1,28 +1,12 @@
 //! How a process stands.
 
 ghost use Rattle.std.specs.Prelude.{◌≡◌};
+ghost use Rattle.vx_record.specs.Standing.{code_of, framed, standing_of, waiting};
 ghost use Rattle.vx_record.specs.State.{IsProcess, process_at};
-ghost use Rattle.vx_exec.specs.Standing.{code_of, framed, standing_of, waiting};
 
 use vx_base::{Pid, Routine, Wait};
 use vx_procs::Core;
-
-/// How a process stands when a run is over: the first that fits.
-#[derive(Clone, Copy, Debug, PartialEq, Eq)]
-pub enum Standing {
-    /// It is deleted.
-    Gone,
-    /// It is suspended.
-    Susp,
-    /// It has no frame.
-    Rundown,
-    /// Its top frame waits for a wake.
-    Hiber,
-    /// Its top frame waits for event flags.
-    Flag,
-    /// It can run.
-    Active,
-}
+use vx_record::Standing;
 
 // How a process with a frame stands, by what the frame waits for.
 fn waiting(wait: Option<Wait>) -> Standing

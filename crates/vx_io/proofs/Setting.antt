@@ -67,5 +67,3 @@ set_as k l m n o p q a id is next order did then last ends =
     let same = attend_same k n a id is next order (entries_there k l m n p q a did then last) in
     acts_both k m o (first_half k.state p q a) (attending p q a) (half_done k l m p q a did then)
     (acts_both m n o (flagging p q m.state) (λ d. attend d a) last (ends ∙ ap (acted n) same))
-
--- Who may ask for attention.

@@ -22,7 +22,7 @@ use Rattle.vx_record.proofs.SoundSteps.{every_run_sound, run_keeps_system}
 use Rattle.vx_record.specs.Runs.{after, first}
 use Rattle.vx_record.specs.Sound.{ProcessStands, ground}
 use Rattle.vx_record.specs.State.{Process, State, no_decl, pid}
-use Rattle.vx_exec.specs.Standing.{code_of, standing_of}
+use Rattle.vx_record.specs.Standing.{code_of, standing_of}
 use Rattle.vx_roundtrip.specs.Held.{IsHeldUnit}
 use Rattle.vx_spelled.proofs.Runs.{runs_spelled, unit_spelled}
 use Rattle.vx_spelled.specs.Held.{AreNamed}

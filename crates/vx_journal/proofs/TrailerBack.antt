@@ -21,8 +21,8 @@ use Rattle.vx_lines.proofs.EffectsBack.{Tight, whole, feedless, tight_number, ti
 use Rattle.vx_lines.proofs.PartsBack.{text_back, text_feed}
 use Rattle.vx_lines.proofs.RecordsLaw.{fed_line}
 use Rattle.vx_lines.proofs.WordsBack.{run_first, first_back, behind_back, second_back, third_back, fourth_back}
-use Rattle.vx_exec.specs.declared.standing.Standing.{Standing}
-use Rattle.vx_exec.specs.declared.standing.Standing.TheVariants as standing
+use Rattle.vx_record.specs.declared.standing.Standing.{Standing}
+use Rattle.vx_record.specs.declared.standing.Standing.TheVariants as standing
 use Rattle.vx_journal.specs.SpelledJournal.{IsSpelledLine, part_behind, trailer_text}
 use Rattle.vx_journal.specs.Transcript.{standing_word, end_word}
 use Rattle.vx_journal.specs.TrailerLines.{end_in, end_of, ends_at, if_spelled, line_of, or_bad, output_in, place_after, place_behind, process_in, read_line, read_trailer, standing_of, trailer_line, trailer_lines_from}

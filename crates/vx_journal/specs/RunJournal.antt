@@ -9,7 +9,7 @@ use Rattle.vx_lines.specs.Records.{ended_lines}
 use Rattle.vx_record.specs.Runs.{IsRun, after}
 use Rattle.vx_units.specs.Units.{outputs_of}
 use Rattle.vx_text.specs.Quote.{AreBytes}
-use Rattle.vx_exec.specs.Standing.{code_of}
+use Rattle.vx_record.specs.Standing.{code_of}
 use Rattle.vx_roundtrip.specs.Held.{IsHeldSystem}
 use Rattle.vx_spelled.specs.Held.{AreHeldRecs}
 use Rattle.vx_journal.specs.Transcript.{trailer_lines}

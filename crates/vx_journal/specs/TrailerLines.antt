@@ -10,8 +10,8 @@ use Rattle.vx_lines.specs.ReadHead.{from_space}
 use Rattle.vx_lines.specs.ReadRecords.{fed_lines}
 use Rattle.vx_lines.specs.Records.{unit_name}
 use Rattle.vx_lines.specs.Words.{◌>>=◌, first_word, behind_word, second_word, third_word, fourth_word}
-use Rattle.vx_exec.specs.declared.standing.Standing.{Standing}
-use Rattle.vx_exec.specs.declared.standing.Standing.TheVariants as standing
+use Rattle.vx_record.specs.declared.standing.Standing.{Standing}
+use Rattle.vx_record.specs.declared.standing.Standing.TheVariants as standing
 use Rattle.vx_journal.specs.Transcript.{standing_line, output_line, end_line}
 use Rattle.vx_journal.specs.declared.journal.Part.{Part}
 use Rattle.vx_journal.specs.declared.journal.Part.TheVariants.{Cut, Ended}

@@ -12,9 +12,9 @@ use Rattle.vx_lines.specs.Records.{ended_lines, records_lines, unit_name}
 use Rattle.vx_script.specs.Script.{script}
 use Rattle.vx_record.specs.State.{Process, State, no_decl}
 use Rattle.vx_record.specs.Runs.{after}
-use Rattle.vx_exec.specs.Standing.{standing_of, code_of}
-use Rattle.vx_exec.specs.declared.standing.Standing.{Standing}
-use Rattle.vx_exec.specs.declared.standing.Standing.TheVariants as standing
+use Rattle.vx_record.specs.Standing.{standing_of, code_of}
+use Rattle.vx_record.specs.declared.standing.Standing.{Standing}
+use Rattle.vx_record.specs.declared.standing.Standing.TheVariants as standing
 
 -- The trailer.
 

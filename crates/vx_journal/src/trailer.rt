@@ -8,12 +8,12 @@ use crate::journal::Part;
 use crate::print::{print_end, print_output, print_standing};
 use std::alloc::Global;
 use vx_base::{Bytes, End, Name, NoMemory, Pid, UnitNo};
-use vx_exec::Standing;
 use vx_image::UnitDecl;
 use vx_lines::{
     LinesFail, behind_word, fed_len, first_word, fourth_word, from_space, name_of, number_of,
     pid_of, second_word, text_of, third_word, unfed, unit_name, unit_of,
 };
+use vx_record::Standing;
 
 /// A line of a trailer.
 #[derive(Drop)]

@@ -13,5 +13,6 @@ pub mod Rundown
 pub mod Runs
 pub mod Services
 pub mod Sound
+pub mod Standing
 pub mod State
 pub mod Timers

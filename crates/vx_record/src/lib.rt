@@ -9,6 +9,7 @@
 mod law;
 mod same;
 mod served;
+mod standing;
 
 pub use law::{
     events_keep_the_system, references_stand_after_each_service, references_stand_after_each_step,
@@ -16,3 +17,4 @@ pub use law::{
 };
 pub use same::same_rec;
 pub use served::Served;
+pub use standing::Standing;

@@ -1,4 +1,4 @@
-use Rattle.vx_commands.specs.declared.command.Command.TheVariants.{Show}
+use Rattle.vx_words.specs.declared.command.Command.TheVariants.{Show}
 use Rattle.vx_commands.specs.Simulated.{in_script}
 use Rattle.vx_commands.proofs.Simulating.{breaks_show_fault, told, writes_fault}
 use Rattle.vx_commands.proofs.call.show.Goals as goal

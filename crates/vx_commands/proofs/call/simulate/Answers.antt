@@ -1,5 +1,5 @@
 use Rattle.vx_base.specs.declared.record.End.TheVariants.{Done, Hung, Limit}
-use Rattle.vx_commands.specs.declared.command.Command.TheVariants.{Sim}
+use Rattle.vx_words.specs.declared.command.Command.TheVariants.{Sim}
 use Rattle.vx_commands.specs.Simulated.{in_run, on_the_way}
 use Rattle.vx_commands.proofs.Simulating.{breaks_sim_fault, told, writes_run, writes_fault}
 use Rattle.vx_commands.proofs.call.simulate.Goals as goal

@@ -1,6 +1,6 @@
 use Rattle.std.proofs.Common.{List, ℕ, refl, subst, sym}
 use Rattle.vx_commands.specs.Top.{IsRefused, no_script}
-use Rattle.vx_commands.specs.declared.command.Command.TheVariants.{Follow}
+use Rattle.vx_words.specs.declared.command.Command.TheVariants.{Follow}
 use Rattle.vx_commands.proofs.Simulating.{told}
 use Rattle.vx_commands.proofs.follow.course_of.Goals as goal
 

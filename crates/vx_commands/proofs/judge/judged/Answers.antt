@@ -1,7 +1,7 @@
 use Rattle.std.proofs.Common.{subst, Err}
 use Rattle.vx_check.specs.declared.verdict.Verdict.{Verdict}
 use Rattle.vx_journal.specs.ReadJournal.{TellsIfFailed}
-use Rattle.vx_commands.specs.declared.command.Command.TheVariants.{Check}
+use Rattle.vx_words.specs.declared.command.Command.TheVariants.{Check}
 use Rattle.vx_commands.specs.Top.{no_journal, no_script}
 use Rattle.vx_commands.proofs.judge.judged.Goals as goal
 

@@ -1,7 +1,0 @@
-use Rattle.std.proofs.Common.{◌≡◌, ◌+◌, ◌++◌, drop}
-use Rattle.vx_endings.specs.Endings.{indented}
-use Rattle.vx_journal.specs.Transcript.{process_lines}
-use Rattle.vx_endings.proofs.trailer.print_processes.Given as goal
-
-abbrev pub invariant-loop-n : goal.invariant-loop-n
-invariant-loop-n l = l.out ++ indented (process_lines l.exec.state.system (1 + l.n) (drop l.n l.exec.state.procs)) ≡ l.fn.out ++ indented (process_lines l.exec.state.system 1 l.exec.state.procs)

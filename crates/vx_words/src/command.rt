@@ -1,0 +1,229 @@
+//! What the words ask for.
+
+ghost use Rattle.std.specs.Prelude.{◌≡◌, ◌≤◌, IfErr, IfOk, IfSome, IsSome};
+ghost use Rattle.vx_lines.specs.Numbers as numbers;
+ghost use Rattle.vx_words.specs.Words as spec;
+
+use crate::picks::{Picks, picks_in};
+use crate::scope::{Scope, scope_in};
+use std::alloc::Global;
+use vx_base::{Bytes, NoMemory};
+use vx_lines::number_up_to;
+
+/// The options of `sim`: the seed of the schedule, and how many records a run may have, 1 to 100,000.
+#[derive(Clone, Copy, Debug, PartialEq, Eq)]
+pub struct Options {
+    pub seed: u64,
+    pub limit: u32,
+}
+
+/// A command of the program that reads its input. `gen N` reads none: `size_of`.
+#[derive(Drop)]
+pub enum Command {
+    /// `sim`: read a script, run its images as a seed chooses, and write the transcript.
+    Sim(Options),
+    /// `sim --picks`: the same, as a list of places chooses.
+    Follow(Picks),
+    /// `explore`: read a script, and tell how all its runs end.
+    Explore(Scope),
+    /// `show`: read a script, and write it canonically.
+    Show,
+    /// `check` and `draw`: read a transcript, judge it, and write a report of it.
+    Check(Report),
+}
+
+/// What is written of a transcript that was judged.
+#[derive(Clone, Copy, Debug, PartialEq, Eq)]
+pub enum Report {
+    /// `check`: the line of its verdict.
+    Line,
+    /// `draw`: a picture of it, in SVG.
+    Picture,
+    /// `draw --text`: columns of text.
+    Columns,
+}
+
+/// The options that the words name; None for one that they leave out.
+#[derive(Clone, Copy, Debug, PartialEq, Eq)]
+pub struct Given {
+    pub seed: Option<u64>,
+    pub limit: Option<u32>,
+}
+
+const NOTHING_GIVEN: Given = Given {
+    seed: None,
+    limit: None,
+};
+
+/// The most records that a run may have.
+const MOST_RECORDS: u64 = 100_000;
+
+/// The most producers that a generated system may have.
+const MOST_PRODUCERS: u64 = 200;
+
+fn with_seed(given: Given, word: &[u8]) -> Option<Given>
+    requires { spec.IsLimit given.limit }
+    ensures given { result ≡ spec.with_seed given word.now }
+    ensures limited { IfSome result (λ g. spec.IsLimit g.limit) }
+{
+    if given.seed.is_some() {
+        return None;
+    }
+    let seed = number_up_to(18_446_744_073_709_551_615, word)?;
+    Some(Given {
+        seed: Some(seed),
+        limit: given.limit,
+    })
+}
+
+/// How many records a run may have, if the word says it.
+pub fn limit_in(word: &[u8]) -> Option<u32>
+    ensures value { result ≡ spec.limit_in word.now }
+    ensures above { IfSome result (λ n. 1 ≤ n) }
+    ensures within { IfSome result (λ n. n ≤ 100000) }
+{
+    let n = number_up_to(MOST_RECORDS, word)?;
+    if n == 0 { None } else { Some(n as u32) }
+}
+
+fn with_limit(given: Given, word: &[u8]) -> Option<Given>
+    ensures given { result ≡ spec.with_limit given word.now }
+    ensures limited { IfSome result (λ g. spec.IsLimit g.limit) }
+{
+    if given.limit.is_some() {
+        return None;
+    }
+    let limit = limit_in(word)?;
+    Some(Given {
+        seed: given.seed,
+        limit: Some(limit),
+    })
+}
+
+fn with_option(given: Given, name: &[u8], word: &[u8]) -> Option<Given>
+    requires { spec.IsLimit given.limit }
+    ensures given { result ≡ spec.with_option given name.now word.now }
+    ensures limited { IfSome result (λ g. spec.IsLimit g.limit) }
+{
+    if name == b"--seed".as_slice() {
+        with_seed(given, word)
+    } else if name == b"--limit".as_slice() {
+        with_limit(given, word)
+    } else {
+        None
+    }
+}
+
+fn options_in(words: &[Bytes]) -> Option<Given>
+    ensures given { result ≡ spec.options_in words.now }
+    ensures limited { IfSome result (λ g. spec.IsLimit g.limit) }
+{
+    match words {
+        [] => Some(NOTHING_GIVEN),
+        [name, word] => with_option(NOTHING_GIVEN, name.as_slice(), word.as_slice()),
+        [first, word, second, other] => {
+            let given = with_option(NOTHING_GIVEN, first.as_slice(), word.as_slice())?;
+            with_option(given, second.as_slice(), other.as_slice())
+        }
+        _ => None,
+    }
+}
+
+fn options_of(given: Given) -> Options
+    requires { spec.IsLimit given.limit }
+    ensures options { result ≡ spec.options_of given }
+    ensures above { 1 ≤ result.limit }
+    ensures within { result.limit ≤ 100000 }
+{
+    Options {
+        seed: given.seed.unwrap_or(0),
+        limit: given.limit.unwrap_or(10_000),
+    }
+}
+
+fn report_in(words: &[Bytes]) -> Option<Report>
+    ensures { result ≡ spec.report_in words.now }
+{
+    match words {
+        [] => Some(Report::Picture),
+        [word] if word.as_slice() == b"--text".as_slice() => Some(Report::Columns),
+        _ => None,
+    }
+}
+
+// The command of a word and those behind it, if it is not `sim`.
+fn other_command(word: &[u8], rest: &[Bytes]) -> Option<Command>
+    ensures command { result ≡ spec.other_command word.now rest.now }
+    ensures limited { IfSome result spec.HasLimit }
+{
+    if word == b"show".as_slice() && rest.is_empty() {
+        return Some(Command::Show);
+    }
+    if word == b"check".as_slice() && rest.is_empty() {
+        return Some(Command::Check(Report::Line));
+    }
+    if word == b"draw".as_slice() {
+        return match report_in(rest) {
+            Some(report) => Some(Command::Check(report)),
+            None => None,
+        };
+    }
+    if word == b"explore".as_slice() {
+        return match scope_in(rest) {
+            Some(scope) => Some(Command::Explore(scope)),
+            None => None,
+        };
+    }
+    None
+}
+
+fn size_in(word: &[u8]) -> Option<u32>
+    ensures value { result ≡ spec.above_zero (numbers.number_up_to 200 word.now) }
+    ensures above { IfSome result (λ n. 1 ≤ n) }
+    ensures within { IfSome result (λ n. n ≤ 200) }
+{
+    let n = number_up_to(MOST_PRODUCERS, word)?;
+    if n == 0 { None } else { Some(n as u32) }
+}
+
+// `sim` with the words behind it.
+fn sim_in(alloc: Global, words: &[Bytes]) -> Result<Option<Command>, NoMemory>
+    ensures command { IfOk result (λ command. command ≡ spec.sim_in words.now) }
+    ensures limited { IfOk result (λ command. IfSome command spec.HasLimit) }
+    ensures no_memory { IfErr result (λ e. IsSome (spec.sim_in words.now)) }
+{
+    if let Some(given) = options_in(words) {
+        return Ok(Some(Command::Sim(options_of(given))));
+    }
+    match picks_in(alloc, words)? {
+        Some(picks) => Ok(Some(Command::Follow(picks))),
+        None => Ok(None),
+    }
+}
+
+/// The command that the words ask for, if they are one that reads. Words that are none take no memory.
+pub fn command_of(alloc: Global, words: &[Bytes]) -> Result<Option<Command>, NoMemory>
+    ensures command { IfOk result (λ command. command ≡ spec.command_of words.now) }
+    ensures limited { IfOk result (λ command. IfSome command spec.HasLimit) }
+    ensures no_memory { IfErr result (λ e. IsSome (spec.command_of words.now)) }
+{
+    let [word, rest @ ..] = words else {
+        return Ok(None);
+    };
+    if word.as_slice() == b"sim".as_slice() {
+        return sim_in(alloc, rest);
+    }
+    Ok(other_command(word.as_slice(), rest))
+}
+
+/// The N of `gen N`, 1 to 200, if the words are this command.
+pub fn size_of(words: &[Bytes]) -> Option<u32>
+    ensures size { result ≡ spec.size_of words.now }
+    ensures above { IfSome result (λ n. 1 ≤ n) }
+    ensures within { IfSome result (λ n. n ≤ 200) }
+{
+    match words {
+        [word, number] if word.as_slice() == b"gen".as_slice() => size_in(number.as_slice()),
+        _ => None,
+    }
+}
