@@ -1,6 +1,6 @@
 //! The program `vms`, a hosted executive with asynchronous services in the manner of OpenVMS.
 //!
-//! `main` hands standard input, standard output, the words, and a gate that does nothing to `vms_call` of `vx_commands`, whose contract
+//! `main` hands standard input, standard output, the words, and a gate that does nothing to `vms_call` of `vx_call`, whose contract
 //! says all that the program may answer and write.
 #![tactic(auto)]
 
@@ -11,8 +11,9 @@ use std::env;
 use std::io::ErrorKind;
 use std::process::ExitCode;
 use vx_base::{Bytes, NoMemory};
+use vx_call::vms_call;
 use vx_carrier::NoGate;
-use vx_commands::{tell_no_memory, vms_call};
+use vx_commands::tell_no_memory;
 use vx_host::{StdSink, StdSource};
 
 fn bytes_of(alloc: Global, texts: &[String]) -> Result<Vec<Bytes>, NoMemory>

@@ -7,4 +7,3 @@ pub mod Reported
 pub mod Summing
 pub mod Picking
 pub mod Exploring
-pub mod Carrying

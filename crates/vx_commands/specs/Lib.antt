@@ -7,6 +7,4 @@ pub mod Followed
 pub mod Following
 pub mod Explored
 pub mod Exploring
-pub mod Carried
-pub mod Threads
 pub mod Unread

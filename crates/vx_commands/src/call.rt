@@ -1,4 +1,4 @@
-//! The top call.
+//! The call of all commands but `run`.
 
 ghost use Rattle.std.specs.Prelude.{◌≡◌, ◌⊎◌, ◌<◌, ◌≤◌, None, length};
 ghost use Rattle.std.specs.Io.KnownBytes.{Appends};

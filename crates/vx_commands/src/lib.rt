@@ -1,7 +1,7 @@
-//! The commands of the program `vms`: what its words ask for, from a source of bytes to a sink of bytes.
+//! The commands of the program `vms`, all but `run`: what its words ask for, from a source of bytes to a sink of bytes.
 //!
-//! `vms_call` is the top call. Its contract says all that the program may answer and write. It takes the runs of `run` itself, by
-//! threads, and hands all other words to `quiet_call`, which waits for nobody.
+//! `quiet_call` takes the words. Its contract says all that it may answer and write. Nothing here waits or starts a thread.
+//! `vx_call` has `run`, and the call that the program makes.
 #![tactic(auto)]
 
 mod call;
@@ -13,9 +13,8 @@ mod simulate;
 mod status;
 mod summary;
 mod tell;
-mod threads;
 
-pub use call::quiet_call;
+pub use call::{MOST, quiet_call};
+pub use journal::print_run;
 pub use status::Status;
-pub use tell::tell_no_memory;
-pub use threads::vms_call;
+pub use tell::{tell_fault, tell_no_memory, tell_transcript, tell_unread};

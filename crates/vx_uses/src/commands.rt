@@ -6,7 +6,8 @@ use std::sync::Wait;
 use std::test::*;
 use std::thread::Threads;
 use vx_base::{Bytes, NoMemory};
-use vx_commands::{Status, vms_call};
+use vx_call::vms_call;
+use vx_commands::Status;
 use vx_host::{MemSink, MemSource};
 
 /// Two processes, each of which reads a line of its own unit.

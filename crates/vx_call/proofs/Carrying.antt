@@ -19,9 +19,9 @@ use Rattle.vx_record.specs.Runs.{first}
 use Rattle.vx_script.specs.Script.{script}
 use Rattle.vx_script.specs.declared.fault.ScriptFault.{ScriptFault}
 use Rattle.vx_commands.proofs.Picking.{spelled_run}
-use Rattle.vx_commands.specs.Carried.{BreaksCarried, BreaksRunOf, GainsCarried, GainsFault, GainsRunOf, IsCarriedText, in_carried, in_no_script, in_run_of, in_shortage, in_want}
+use Rattle.vx_call.specs.Carried.{BreaksCarried, BreaksRunOf, GainsCarried, GainsFault, GainsRunOf, IsCarriedText, in_carried, in_no_script, in_run_of, in_shortage, in_want}
 use Rattle.vx_words.specs.Crew.{crew_of}
-use Rattle.vx_commands.specs.Threads.{BreaksInRun, KeepsLawsInRun, ReadsForRun, of_carried, of_failed_read, of_long_input, of_no_script, of_want}
+use Rattle.vx_call.specs.Threads.{BreaksInRun, KeepsLawsInRun, ReadsForRun, of_carried, of_failed_read, of_long_input, of_no_script, of_want}
 use Rattle.vx_commands.specs.Top.{fault_line, no_memory, read_fault, status_of_end, too_long}
 use Rattle.vx_commands.specs.Unread.{unread_line}
 use Rattle.vx_words.specs.declared.crew.Crew.{Crew}

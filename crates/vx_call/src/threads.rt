@@ -4,20 +4,19 @@ ghost use Rattle.std.specs.Prelude.{◌≡◌, ◌≢◌, ◌⊎◌, ◌<◌, �
 ghost use Rattle.std.specs.Io.KnownBytes.{Appends};
 ghost use Rattle.vx_host.specs.Causes.{Rose};
 ghost use Rattle.vx_image.specs.WellFormed.{IsWellFormed};
-ghost use Rattle.vx_commands.specs.Carried.{BreaksCarried, BreaksRunOf, GainsCarried, GainsFault, GainsRunOf, IsCarriedText};
+ghost use Rattle.vx_call.specs.Carried.{BreaksCarried, BreaksRunOf, GainsCarried, GainsFault, GainsRunOf, IsCarriedText};
 ghost use Rattle.vx_words.specs.Crew.{IsCrew};
-ghost use Rattle.vx_commands.specs.Threads.{AllBreak, AllCompletes, AllEnds, AllFailToRead, AllFaults, AllLawful, AllOverflow, AllRunOut, RefusesAll};
+ghost use Rattle.vx_call.specs.Threads.{AllBreak, AllCompletes, AllEnds, AllFailToRead, AllFaults, AllLawful, AllOverflow, AllRunOut, RefusesAll};
 ghost use Rattle.vx_commands.specs.Top.{Rejects, WritesCut, no_memory, read_fault, too_long, usage};
 
-use crate::call::{MOST, quiet_call};
-use crate::journal::print_run;
-use crate::status::Status;
-use crate::tell::{tell_fault, tell_no_memory, tell_transcript, tell_unread};
 use std::alloc::Global;
 use std::sync::Wait;
 use std::thread::Threads;
 use vx_base::{Bytes, End, NoMemory, Scripted};
 use vx_carrier::{Gate, run_pool};
+use vx_commands::{
+    MOST, Status, print_run, quiet_call, tell_fault, tell_no_memory, tell_transcript, tell_unread,
+};
 use vx_exec::Exec;
 use vx_grammar::read_script;
 use vx_host::{Sink, Source, read_all};
