@@ -152,9 +152,15 @@ pub enum Effect {
 pub type EffectList = Sequence<Effect>;
 
 /// The effects of one event, as they are logged. Contracts see the effects, and how many there is room for in all.
-#[derive(Drop)]
 pub struct Effects {
     items: Reserved<Effect>,
+}
+
+impl Drop for Effects {
+    // Written out, so that it is proved here once, and not in each crate that lets one go.
+    fn drop(self) {
+        let Self { items: _ } = self;
+    }
 }
 
 impl Model for Effects {

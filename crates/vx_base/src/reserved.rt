@@ -13,10 +13,16 @@ use std::marker::Model;
 
 /// Items in order. Contracts see the items, and how many there is room for in all. Only `reserve` takes memory; what is
 /// taken out leaves its room.
-#[derive(Drop)]
 pub struct Reserved<T> {
     items: Vec<T>,
     room: usize,
+}
+
+impl<T: Drop> Drop for Reserved<T> {
+    // Written out, so that it is proved here once, and not in each crate that lets one go.
+    fn drop(self) {
+        let Self { items: _, room: _ } = self;
+    }
 }
 
 impl<T> Model for Reserved<T> {

@@ -32,9 +32,15 @@ pub trait Routine: Drop {
 }
 
 /// A routine that is its entry alone, as the routines of a script are.
-#[derive(Drop)]
 pub struct Scripted {
     entry: Entry,
+}
+
+impl Drop for Scripted {
+    // Written out, so that it is proved here once, and not in each crate that lets one go.
+    fn drop(self) {
+        let Self { entry: _ } = self;
+    }
 }
 
 impl Routine for Scripted {

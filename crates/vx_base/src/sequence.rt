@@ -8,9 +8,15 @@ use std::alloc::Global;
 use std::marker::Model;
 
 /// Items in order, which contracts see as their list.
-#[derive(Drop)]
 pub struct Sequence<T> {
     items: Vec<T>,
+}
+
+impl<T: Drop> Drop for Sequence<T> {
+    // Written out, so that it is proved here once, and not in each crate that lets one go.
+    fn drop(self) {
+        let Self { items: _ } = self;
+    }
 }
 
 impl<T> Model for Sequence<T> {

@@ -28,9 +28,15 @@ use vx_record::Standing;
 
 /// The executive of one system: what it keeps, how many records its runs may have, and how many its steps have made. No unit of it is
 /// out.
-#[derive(Drop)]
 pub struct Exec<R: Routine> {
     engine: Engine<R>,
+}
+
+impl<R: Routine> Drop for Exec<R> {
+    // Written out, so that it is proved here once, and not in each crate that lets one go.
+    fn drop(self) {
+        let Self { engine: _ } = self;
+    }
 }
 
 impl<R: Routine> Model for Exec<R> {

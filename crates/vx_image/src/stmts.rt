@@ -42,10 +42,16 @@ pub(crate) struct Head {
 
 /// Statements in order, which contracts see as their list. A statement takes 8 bytes, and 8 more for each of its arguments;
 /// a name or a quoted text takes its bytes and 8 more.
-#[derive(Drop)]
 pub struct Stmts {
     heads: Vec<Head>,
     terms: Terms,
+}
+
+impl Drop for Stmts {
+    // Written out, so that it is proved here once, and not in each crate that lets one go.
+    fn drop(self) {
+        let Self { heads: _, terms: _ } = self;
+    }
 }
 
 impl Model for Stmts {

@@ -9,12 +9,23 @@ use vx_base::{Buffer, Bytes, NoMemory};
 
 /// Room for the bytes that one $QIO moves, made before it is needed: for those that the request keeps, that are told, that the mailbox
 /// stores, and that a read gets. Contracts see which of the four are there.
-#[derive(Drop)]
 pub struct Rooms {
     kept: Option<Buffer>,
     told: Option<Buffer>,
     stored: Option<Buffer>,
     read: Option<Buffer>,
+}
+
+impl Drop for Rooms {
+    // Written out, so that it is proved here once, and not in each crate that lets one go.
+    fn drop(self) {
+        let Self {
+            kept: _,
+            told: _,
+            stored: _,
+            read: _,
+        } = self;
+    }
 }
 
 impl Model for Rooms {
