@@ -124,7 +124,8 @@ impl<R: Routine> Exec<R> {
         ensures on { IsWithin result }
         ensures exec { (leasing result).exec ≡ self }
     {
-        self.engine
+        let Self { engine } = self;
+        engine
     }
 
     // The executive that is made of this, of which no unit is out.
