@@ -18,7 +18,7 @@ use vx_table::{ServiceTable, service_table};
 
 /// The records that a text begins with: the number of the first that is not the machine's, that of the line behind them, and how many
 /// bytes they take.
-#[derive(Clone, Copy, Debug, PartialEq, Eq)]
+#[derive(Clone, Copy)]
 pub struct Followed {
     pub wrong: Option<u32>,
     pub line: u32,

@@ -1,7 +1,7 @@
 //! The verdict.
 
 /// What a transcript is found to be.
-#[derive(Clone, Copy, Debug, PartialEq, Eq)]
+#[derive(Clone, Copy)]
 pub enum Verdict {
     /// So many records are the machine's, and the run has ended with every process deleted.
     Complete(u32),

@@ -8,7 +8,7 @@ use vx_base::{Answer, Effect, Event, Opened, Rec};
 
 /// The summary of records: how many there are, how many requests they open and finish, how many ASTs they start, and the time of
 /// the last TICK.
-#[derive(Clone, Copy, Debug, PartialEq, Eq)]
+#[derive(Clone, Copy)]
 pub struct Tally {
     pub records: u32,
     pub requests: u32,

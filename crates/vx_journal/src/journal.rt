@@ -9,7 +9,7 @@ use vx_image::System;
 use vx_script::{ScriptFail, ScriptFault};
 
 /// How far a transcript goes.
-#[derive(Clone, Copy, Debug, PartialEq, Eq)]
+#[derive(Clone, Copy)]
 pub enum Part {
     /// It stops behind a record, or behind the line `$JOURNAL 1`.
     Cut,
@@ -28,7 +28,7 @@ pub struct Journal {
 }
 
 /// Where the header of a transcript ends.
-#[derive(Clone, Copy, Debug, PartialEq, Eq)]
+#[derive(Clone, Copy)]
 pub struct HeaderEnd {
     /// The number of the line behind it.
     pub line: u32,

@@ -27,7 +27,7 @@ pub enum TrailerLine {
 }
 
 /// What was read last.
-#[derive(Clone, Copy, Debug, PartialEq, Eq)]
+#[derive(Clone, Copy)]
 pub enum Place {
     Records,
     Processes,

@@ -11,7 +11,7 @@ use vx_base::{Bytes, NoMemory};
 use vx_lines::number_up_to;
 
 /// The options of `sim`: the seed of the schedule, and how many records a run may have, 1 to 100,000.
-#[derive(Clone, Copy, Debug, PartialEq, Eq)]
+#[derive(Clone, Copy)]
 pub struct Options {
     pub seed: u64,
     pub limit: u32,
@@ -33,7 +33,7 @@ pub enum Command {
 }
 
 /// What is written of a transcript that was judged.
-#[derive(Clone, Copy, Debug, PartialEq, Eq)]
+#[derive(Clone, Copy)]
 pub enum Report {
     /// `check`: the line of its verdict.
     Line,
@@ -44,7 +44,7 @@ pub enum Report {
 }
 
 /// The options that the words name; None for one that they leave out.
-#[derive(Clone, Copy, Debug, PartialEq, Eq)]
+#[derive(Clone, Copy)]
 pub struct Given {
     pub seed: Option<u64>,
     pub limit: Option<u32>,

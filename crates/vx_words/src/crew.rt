@@ -9,7 +9,7 @@ use vx_base::Bytes;
 use vx_lines::number_up_to;
 
 /// How many threads run a script, 1 to 16, and how many records the run may have, 1 to 100,000.
-#[derive(Clone, Copy, Debug, PartialEq, Eq)]
+#[derive(Clone, Copy)]
 pub struct Crew {
     pub cpus: u32,
     pub limit: u32,

@@ -8,7 +8,7 @@ use vx_base::Bytes;
 use vx_lines::number_up_to;
 
 /// How many records a run may have, 1 to 100,000, and how many states may be kept after one number of records, 1 to 10,000,000.
-#[derive(Clone, Copy, Debug, PartialEq, Eq)]
+#[derive(Clone, Copy)]
 pub struct Scope {
     pub limit: u32,
     pub states: u32,
