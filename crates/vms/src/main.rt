@@ -13,8 +13,8 @@ use std::process::ExitCode;
 use vx_base::{Bytes, NoMemory};
 use vx_call::vms_call;
 use vx_carrier::NoGate;
-use vx_commands::tell_no_memory;
 use vx_host::{StdSink, StdSource};
+use vx_tell::tell_no_memory;
 
 fn bytes_of(alloc: Global, texts: &[String]) -> Result<Vec<Bytes>, NoMemory>
     ensures { IfOk result (λ words. words.items ≡ map string_bytes texts.now) }

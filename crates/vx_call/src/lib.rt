@@ -1,9 +1,9 @@
 //! The call that the program makes: `vms_call`, from its words and a source of bytes to a sink of bytes.
 //!
-//! Its contract says all that the program may answer and write. It takes the runs of `run` itself, by threads, and hands all other words
-//! to `quiet_call` of `vx_commands`, which waits for nobody.
+//! Its contract says all that the program may answer and write. It hands the words of `run` to `run_input` of `vx_run`, and all other
+//! words to `quiet_call` of `vx_commands`, which waits for nobody.
 #![tactic(auto)]
 
-mod threads;
+mod call;
 
-pub use threads::vms_call;
+pub use call::vms_call;

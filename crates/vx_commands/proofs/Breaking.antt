@@ -23,8 +23,9 @@ use Rattle.vx_commands.specs.declared.judge.Finding.TheVariants.{Judged, Refused
 use Rattle.vx_commands.specs.Simulated.{BreaksInput, in_run, in_refusal, in_no_memory, in_transcript, in_cut, StopsInput, at_once, on_the_way, BreaksShown, in_script, in_fault, in_want}
 use Rattle.vx_commands.specs.Summed.{BreaksSummed, WritesSummed, in_summary}
 use Rattle.vx_commands.specs.Summed.{in_shortage as in_run_shortage}
-use Rattle.vx_commands.specs.Unread.{unread_line}
-use Rattle.vx_commands.specs.Top.{no_memory, read_fault, too_long, of_overflow, of_read_fault, IsReported, IsRefused, ReadsInput, RunsOut, Breaks, TellsNoMemory, alone, behind_lines, WritesSummary, of_cut_run, of_form, of_run, of_places, of_missing, of_endings, of_cut, of_show, of_summary, of_report, of_no_memory, at_input, at_run}
+use Rattle.vx_tell.specs.Unread.{unread_line}
+use Rattle.vx_tell.specs.Lines.{no_memory, read_fault, too_long}
+use Rattle.vx_commands.specs.Top.{of_overflow, of_read_fault, IsReported, IsRefused, ReadsInput, RunsOut, Breaks, TellsNoMemory, alone, behind_lines, WritesSummary, of_cut_run, of_form, of_run, of_places, of_missing, of_endings, of_cut, of_show, of_summary, of_report, of_no_memory, at_input, at_run}
 use Rattle.vx_words.specs.Words.{command_of, size_of}
 
 -- a front of what an input comes to is a front of the text of the call that read it

@@ -10,8 +10,8 @@ use Rattle.vx_journal.specs.declared.journal.Journal.{Journal}
 use Rattle.vx_laws.proofs.Whole.{every_run_lawful}
 use Rattle.vx_picks.specs.Picked.{picked}
 use Rattle.vx_record.specs.Runs.{IsRun, chosen}
-use Rattle.vx_commands.specs.declared.status.Status.{Status}
-use Rattle.vx_commands.specs.declared.status.Status.TheVariants as status
+use Rattle.vx_tell.specs.declared.status.Status.{Status}
+use Rattle.vx_tell.specs.declared.status.Status.TheVariants as status
 use Rattle.vx_commands.specs.Top.{Completes, ended, showed, Ends, ran, placed, explored, summed, judged, full_run, Explores, Follows, IsLawful, explored_are_lawful, followed_is_lawful, summed_is_lawful, run_is_lawful, place_is_missing, Rejects, reported, missed, read_is_lawful, read_is_bad, no_run, Judges, Simulates, status_of, status_of_end, WritesReport}
 
 simulated_lawful : (words : List (List ℕ)) (left left_after held held_after : Option (List ℕ)) (status : Status) (end : End) (text : List ℕ) → Simulates words left left_after end text → IsLawful words left left_after held held_after status

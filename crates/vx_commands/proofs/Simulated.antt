@@ -22,7 +22,8 @@ use Rattle.vx_record.specs.State.{State}
 use Rattle.vx_script.specs.Script.{ended_lines, script, script_lines}
 use Rattle.vx_commands.proofs.ChosenRuns.{chosen_ends, chosen_is_run}
 use Rattle.vx_commands.specs.Simulated.{BreaksRun, GainsCut, GainsFront, GainsLines, GainsRun, Sends, in_cut, kept, lines_so_far, sent}
-use Rattle.vx_commands.specs.Top.{IsCut, IsSimulated, no_memory}
+use Rattle.vx_tell.specs.Lines.{no_memory}
+use Rattle.vx_commands.specs.Top.{IsCut, IsSimulated}
 use Rattle.vx_words.specs.declared.command.Options.{Options}
 
 -- What a sink gained.

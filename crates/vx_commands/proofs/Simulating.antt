@@ -10,7 +10,8 @@ use Rattle.vx_script.specs.declared.fault.ScriptFail.{ScriptFail}
 use Rattle.vx_script.specs.declared.fault.ScriptFail.TheVariants as fail
 use Rattle.vx_script.specs.declared.fault.ScriptFault.{ScriptFault}
 use Rattle.vx_commands.specs.Simulated.{BreaksInput, BreaksShown, GainsRun, WritesRun, WritesRefusal, in_fault, in_no_memory, in_refusal, in_want}
-use Rattle.vx_commands.specs.Top.{fault_line, no_memory, no_script, script_in}
+use Rattle.vx_tell.specs.Lines.{fault_line, no_memory}
+use Rattle.vx_commands.specs.Top.{no_script, script_in}
 use Rattle.vx_words.specs.declared.command.Command.{Command}
 use Rattle.vx_words.specs.declared.command.Command.TheVariants.{Show, Sim}
 use Rattle.vx_words.specs.declared.command.Options.{Options}
@@ -18,10 +19,6 @@ use Rattle.vx_words.specs.declared.command.Options.{Options}
 -- a transcript that was written of a system is that of the input that says it
 pub writes_run : (input : List ℕ) (options : Options) (held held_after : Option (List ℕ)) (system : System) (end : End) → Spells input system → GainsRun system options held held_after end → WritesRun input options held held_after end
 writes_run input options held held_after system end says gained = record { system = system; says = says; text = gained.text; simulated = gained.simulated; written = gained.written }
-
--- what a failed reading tells, of the input and its fault
-pub told : (text input : List ℕ) (failure : ScriptFail) (fault : ScriptFault) → text ≡ input → failure ≡ fail.Fault fault → TellsIfFault text (Err failure) → Tells input fault
-told text input failure fault same is h = subst (λ z. Tells z fault) same (subst (λ z. TellsIfFault text (Err z)) is h)
 
 -- the line of a fault that was written refuses the input
 pub writes_fault : (input : List ℕ) (command : Command) (held held_after : Option (List ℕ)) (fault : ScriptFault) → Tells (script_in command input) fault → Appends held held_after (fault_line fault) → WritesRefusal command input held held_after

@@ -5,7 +5,8 @@ use Rattle.vx_base.specs.declared.record.End.{End}
 use Rattle.vx_host.specs.Streams.{AppendsFront}
 use Rattle.vx_image.specs.declared.system.System.{System}
 use Rattle.vx_commands.specs.Explored.{IsCutShort, IsExplored, TellsCut, TellsEndings}
-use Rattle.vx_commands.specs.Top.{no_memory, IsRefused}
+use Rattle.vx_tell.specs.Lines.{no_memory}
+use Rattle.vx_commands.specs.Top.{IsRefused}
 use Rattle.vx_words.specs.declared.command.Command.TheVariants.{Explore}
 use Rattle.vx_commands.specs.declared.explore.Survey.{Survey}
 use Rattle.vx_commands.specs.declared.explore.Survey.TheVariants.{Told, Cut, Refused}

@@ -4,7 +4,8 @@ use Rattle.std.specs.Io.KnownBytes.{Appends}
 use Rattle.vx_base.specs.declared.record.End.{End}
 use Rattle.vx_host.specs.Streams.{AppendsFront}
 use Rattle.vx_commands.specs.Followed.{IsFollowed, LacksPlace}
-use Rattle.vx_commands.specs.Top.{no_memory, IsRefused}
+use Rattle.vx_tell.specs.Lines.{no_memory}
+use Rattle.vx_commands.specs.Top.{IsRefused}
 use Rattle.vx_words.specs.declared.command.Command.TheVariants.{Follow}
 use Rattle.vx_commands.specs.declared.follow.Course.{Course}
 use Rattle.vx_commands.specs.declared.follow.Course.TheVariants.{Ended, Missing, Refused}

@@ -3,12 +3,13 @@ use Rattle.std.specs.Prelude.{◌≡◌, ℕ, List, Option}
 use Rattle.std.specs.Io.KnownBytes.{Appends}
 use Rattle.vx_check.specs.declared.verdict.Verdict.{Verdict}
 use Rattle.vx_host.specs.Streams.{AppendsFront}
-use Rattle.vx_commands.specs.Top.{no_memory, IsReported, IsRefused, status_of}
+use Rattle.vx_tell.specs.Lines.{no_memory}
+use Rattle.vx_commands.specs.Top.{IsReported, IsRefused, status_of}
 use Rattle.vx_words.specs.declared.command.Command.TheVariants.{Check}
 use Rattle.vx_words.specs.declared.command.Report.{Report}
 use Rattle.vx_commands.specs.declared.judge.Finding.{Finding}
 use Rattle.vx_commands.specs.declared.judge.Finding.TheVariants.{Judged, Refused}
-use Rattle.vx_commands.specs.declared.status.Status.{Status}
+use Rattle.vx_tell.specs.declared.status.Status.{Status}
 
 -- what is found of an input is its verdict, with the report of it, or the line that tells why it is refused
 abbrev pub IsFinding : List ℕ → Report → Finding → Type 0

@@ -1,4 +1,3 @@
-pub mod Code
 pub mod Simulated
 pub mod Top
 pub mod Judged
@@ -7,4 +6,3 @@ pub mod Followed
 pub mod Following
 pub mod Explored
 pub mod Exploring
-pub mod Unread

@@ -8,7 +8,8 @@ use Rattle.vx_host.specs.Streams.{AppendsFront}
 use Rattle.vx_grammar.specs.Grammar.{Spells}
 use Rattle.vx_lines.specs.Records.{ended_lines, records_lines}
 use Rattle.vx_script.specs.Script.{script, script_lines}
-use Rattle.vx_commands.specs.Top.{no_memory, IsCut, IsRefused, IsSimulated}
+use Rattle.vx_tell.specs.Lines.{no_memory}
+use Rattle.vx_commands.specs.Top.{IsCut, IsRefused, IsSimulated}
 use Rattle.vx_words.specs.declared.command.Command.{Command}
 use Rattle.vx_words.specs.declared.command.Command.TheVariants.{Sim, Show}
 use Rattle.vx_words.specs.declared.command.Options.{Options}

@@ -9,7 +9,8 @@ use Rattle.vx_gen.specs.Counted.{tally_of}
 use Rattle.vx_gen.specs.Generated.{generated}
 use Rattle.vx_gen.specs.declared.tally.Tally.{Tally}
 use Rattle.vx_host.specs.Streams.{AppendsFront}
-use Rattle.vx_commands.specs.Top.{IsSummed, full_run, no_memory}
+use Rattle.vx_tell.specs.Lines.{no_memory}
+use Rattle.vx_commands.specs.Top.{IsSummed, full_run}
 
 -- the run that an executive took, of which the tally alone was kept
 pub record Tallies (before after : Executive) (seed : ℕ) (tally : Tally) (end : End) : Type 0 where

@@ -38,47 +38,8 @@ use Rattle.vx_words.specs.declared.command.Report.{Report}
 use Rattle.vx_words.specs.declared.command.Report.TheVariants.{Line, Picture, Columns}
 use Rattle.vx_words.specs.declared.picks.Picks.{Picks}
 use Rattle.vx_words.specs.declared.scope.Scope.{Scope}
-use Rattle.vx_commands.specs.declared.status.Status.{Status}
-use Rattle.vx_commands.specs.declared.status.Status.TheVariants as status
-
--- The lines that are no transcript's.
-
-abbrev pub usage : List ℕ
-usage = codes "vms: usage\n"
-
-abbrev pub too_long : List ℕ
-too_long = codes "vms: input too long\n"
-
-abbrev pub read_fault : List ℕ
-read_fault = codes "vms: read fault\n"
-
--- the word of a fault, in capitals
-abbrev pub kind_word : FaultKind → List ℕ
-kind_word kind.Byte = codes "BYTE"
-kind_word kind.Quote = codes "QUOTE"
-kind_word kind.Number = codes "NUMBER"
-kind_word kind.Name = codes "NAME"
-kind_word kind.Word = codes "WORD"
-kind_word kind.Service = codes "SERVICE"
-kind_word kind.Argument = codes "ARGUMENT"
-kind_word kind.Range = codes "RANGE"
-kind_word kind.Twice = codes "TWICE"
-kind_word kind.Unknown = codes "UNKNOWN"
-kind_word kind.Extra = codes "EXTRA"
-kind_word kind.Missing = codes "MISSING"
-kind_word kind.End = codes "END"
-kind_word kind.Size = codes "SIZE"
-
--- the line of a fault
-abbrev pub fault_line : ScriptFault → List ℕ
-fault_line f = codes "vms: line " ++ (decimal f.line ++ 32 ∷ (kind_word f.kind ++ 10 ∷ []))
-
--- the line of a transcript's first bad line
-abbrev pub form_line : ℕ → List ℕ
-form_line line = codes "vms: line " ++ (decimal line ++ codes " FORM\n")
-
-abbrev pub no_memory : List ℕ
-no_memory = codes "vms: no memory\n"
+use Rattle.vx_tell.specs.declared.status.Status.{Status}
+use Rattle.vx_tell.specs.declared.status.Status.TheVariants as status
 
 -- The summary of a run, and how it ended.
 

@@ -4,21 +4,21 @@ ghost use Rattle.std.specs.Prelude.{◌≡◌, ◌⊎◌, ◌<◌, ◌≤◌, No
 ghost use Rattle.std.specs.Io.KnownBytes.{Appends};
 ghost use Rattle.vx_host.specs.Causes.{Rose};
 ghost use Rattle.vx_commands.specs.Simulated.{WritesRun, WritesRefusal, WritesShown, BreaksInput, BreaksShown, StopsInput};
-ghost use Rattle.vx_commands.specs.Top.{usage, too_long, read_fault, no_memory, RefusesWords, Overflows, FailsToRead, RunsOut, Completes, Ends, IsLawful, Rejects, WritesCut, WritesFault, Breaks, TellsNoMemory};
+ghost use Rattle.vx_tell.specs.Lines.{usage, too_long, read_fault, no_memory};
+ghost use Rattle.vx_commands.specs.Top.{RefusesWords, Overflows, FailsToRead, RunsOut, Completes, Ends, IsLawful, Rejects, WritesCut, WritesFault, Breaks, TellsNoMemory};
 ghost use Rattle.vx_words.specs.Words.{size_of};
 
 use crate::explore::explore;
 use crate::follow::follow;
 use crate::judge::judge;
 use crate::simulate::run;
-use crate::status::Status;
 use crate::summary::summarize;
-use crate::tell::{tell, tell_fault, tell_no_memory, tell_unread};
 use std::alloc::Global;
 use vx_base::{Bytes, End, NoMemory};
 use vx_grammar::read_script;
 use vx_host::{Sink, Source, read_all};
 use vx_script::{ScriptFail, print_script};
+use vx_tell::{Status, tell, tell_fault, tell_no_memory, tell_unread};
 use vx_words::{Command, Options, command_of, size_of};
 
 /// The most bytes of an input.

@@ -6,10 +6,8 @@ ghost use Rattle.vx_host.specs.Causes.{Rose};
 ghost use Rattle.vx_image.specs.WellFormed.{IsWellFormed};
 ghost use Rattle.vx_commands.specs.Exploring.{BreaksExplored, IsSurvey, IsToldOf, WritesCutShort, WritesExplored};
 ghost use Rattle.vx_commands.specs.Simulated.{WritesRefusal};
-ghost use Rattle.vx_commands.specs.Top.{no_memory};
+ghost use Rattle.vx_tell.specs.Lines.{no_memory};
 
-use crate::status::Status;
-use crate::tell::{fault_line, tell, tell_no_memory, tell_transcript};
 use std::alloc::Global;
 use vx_base::{Bytes, End, NoMemory};
 use vx_endings::{endings, print_answer, worst_end};
@@ -18,6 +16,7 @@ use vx_grammar::read_script;
 use vx_host::Sink;
 use vx_image::System;
 use vx_script::ScriptFail;
+use vx_tell::{Status, fault_line, tell, tell_no_memory, tell_transcript};
 use vx_words::{Command, Scope};
 
 /// What an input comes to.

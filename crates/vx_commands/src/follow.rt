@@ -5,14 +5,11 @@ ghost use Rattle.std.specs.Io.KnownBytes.{Appends};
 ghost use Rattle.vx_host.specs.Causes.{Rose};
 ghost use Rattle.vx_image.specs.WellFormed.{IsWellFormed};
 ghost use Rattle.vx_picks.specs.Followed.{tells_missing};
-ghost use Rattle.vx_commands.specs.Followed.{IsPickedText};
+ghost use Rattle.vx_commands.specs.Followed.{IsPickedText, pick_line};
 ghost use Rattle.vx_commands.specs.Following.{BreaksPicked, IsCourse, WritesLack, WritesPicked};
 ghost use Rattle.vx_commands.specs.Simulated.{WritesRefusal};
-ghost use Rattle.vx_commands.specs.Top.{no_memory};
+ghost use Rattle.vx_tell.specs.Lines.{no_memory};
 
-use crate::journal::print_run;
-use crate::status::Status;
-use crate::tell::{fault_line, pick_line, tell, tell_no_memory, tell_transcript};
 use std::alloc::Global;
 use vx_base::{Bytes, End, NoMemory, Scripted};
 use vx_grammar::read_script;
@@ -20,6 +17,9 @@ use vx_host::Sink;
 use vx_image::System;
 use vx_picks::{PickFail, run_picks};
 use vx_script::{ScriptFail, print_script};
+use vx_tell::{Status, fault_line, tell, tell_no_memory, tell_transcript};
+use vx_text::print_num;
+use vx_trailer::print_run;
 use vx_words::{Command, Picks};
 
 /// What an input comes to.
@@ -31,6 +31,19 @@ pub enum Course {
     Missing(Bytes),
     /// The input is no script, and this is the line of its first fault.
     Refused(Bytes),
+}
+
+// The line of a record that has no event at its place, by its number and how many events are enabled there.
+fn pick_line(alloc: Global, number: u32, count: u32) -> Result<Bytes, NoMemory>
+    ensures { IfOk result (λ text. text ≡ pick_line number count) }
+{
+    let mut text = Bytes::new(alloc);
+    text.push_all(b"vms: pick ")?;
+    print_num(alloc, &mut text, u64::from(number))?;
+    text.push_all(b" of ")?;
+    print_num(alloc, &mut text, u64::from(count))?;
+    text.push_all(b"\n")?;
+    Ok(text)
 }
 
 /// The transcript of the run that the places choose, and how the run ended.

@@ -8,16 +8,17 @@ ghost use Rattle.vx_draw.specs.Picture.{picture};
 ghost use Rattle.vx_host.specs.Causes.{Rose};
 ghost use Rattle.vx_commands.specs.Judged.{BreaksJudged, IsFinding, WritesFinding};
 ghost use Rattle.vx_commands.specs.Simulated.{WritesRefusal};
-ghost use Rattle.vx_commands.specs.Top.{no_memory, IsReported, status_of, report_text, wrong_in};
+ghost use Rattle.vx_tell.specs.Lines.{no_memory};
+ghost use Rattle.vx_commands.specs.Top.{IsReported, status_of, report_text, wrong_in};
 
-use crate::status::Status;
-use crate::tell::{fault_line, form_line, tell, tell_no_memory, verdict_line};
+use crate::verdict::verdict_line;
 use std::alloc::Global;
 use vx_base::{Bytes, NoMemory};
 use vx_check::{Verdict, check_text};
 use vx_draw::{print_columns, print_picture};
 use vx_host::Sink;
 use vx_journal::{Journal, JournalFail, read_journal};
+use vx_tell::{Status, fault_line, form_line, tell, tell_no_memory};
 use vx_words::{Command, Report};
 
 /// What an input is found to be.

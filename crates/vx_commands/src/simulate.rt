@@ -10,8 +10,6 @@ ghost use Rattle.vx_record.specs.Events.{enabled, step};
 ghost use Rattle.vx_record.specs.Runs.{end_of, first, record_of};
 ghost use Rattle.vx_commands.specs.Simulated.{BreaksRun, GainsCut, GainsFront, GainsLines, GainsRun, Sends, lines_so_far};
 
-use crate::status::Status;
-use crate::tell::tell_no_memory;
 use std::alloc::Global;
 use vx_base::{Bytes, End, Event, NoMemory, Scripted};
 use vx_exec::{Exec, Seed};
@@ -19,6 +17,7 @@ use vx_host::{Failed, Sink, write_all};
 use vx_image::System;
 use vx_lines::print_record;
 use vx_script::print_script;
+use vx_tell::{Status, tell_no_memory};
 use vx_trailer::print_trailer;
 use vx_words::Options;
 

@@ -7,10 +7,9 @@ ghost use Rattle.vx_host.specs.Causes.{Rose};
 ghost use Rattle.vx_image.specs.WellFormed.{IsWellFormed};
 ghost use Rattle.vx_record.specs.Runs.{first};
 ghost use Rattle.vx_commands.specs.Summed.{BreaksSummed, Tallies, WritesSummed};
-ghost use Rattle.vx_commands.specs.Top.{IsSummed, count_line, full_run, no_memory, summary};
+ghost use Rattle.vx_tell.specs.Lines.{no_memory};
+ghost use Rattle.vx_commands.specs.Top.{IsSummed, count_line, full_run, summary};
 
-use crate::status::Status;
-use crate::tell::{tell_no_memory, tell_transcript};
 use std::alloc::Global;
 use vx_base::{Bytes, End, NoMemory, Scripted};
 use vx_exec::{Exec, Seed};
@@ -18,6 +17,7 @@ use vx_gen::{Tally, generate};
 use vx_host::Sink;
 use vx_image::System;
 use vx_journal::print_end;
+use vx_tell::{Status, tell_no_memory, tell_transcript};
 use vx_text::print_num;
 use vx_words::Options;
 

@@ -7,8 +7,8 @@ use std::test::*;
 use std::thread::Threads;
 use vx_base::{Bytes, NoMemory};
 use vx_call::vms_call;
-use vx_commands::Status;
 use vx_host::{MemSink, MemSource};
+use vx_tell::Status;
 
 /// Two processes, each of which reads a line of its own unit.
 const SCRIPT: &[u8] = b"UNIT TA LINE

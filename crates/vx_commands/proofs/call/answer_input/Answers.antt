@@ -1,6 +1,7 @@
 use Rattle.std.proofs.Common.{Some, ap, sym, refl, ◌∙◌}
 use Rattle.std.proofs.KnownBytes.{Keeps-refl}
-use Rattle.vx_commands.specs.Top.{usage, no_memory, alone, at_input, of_words, of_no_memory}
+use Rattle.vx_tell.specs.Lines.{usage, no_memory}
+use Rattle.vx_commands.specs.Top.{alone, at_input, of_words, of_no_memory}
 use Rattle.vx_words.specs.Words.{command_of}
 use Rattle.vx_commands.proofs.Breaking.{asks, breaks_explored, breaks_input, breaks_judged, breaks_picked, breaks_shown, breaks_unread, runs_out, tells_no_memory}
 use Rattle.vx_commands.proofs.call.answer_input.Goals as goal

@@ -1,6 +1,7 @@
 use Rattle.vx_words.specs.declared.command.Command.TheVariants.{Show}
 use Rattle.vx_commands.specs.Simulated.{in_script}
-use Rattle.vx_commands.proofs.Simulating.{breaks_show_fault, told, writes_fault}
+use Rattle.vx_tell.proofs.Told.{told}
+use Rattle.vx_commands.proofs.Simulating.{breaks_show_fault, writes_fault}
 use Rattle.vx_commands.proofs.call.show.Goals as goal
 
 pub returns-in-Ok-print_script-clause-front : goal.returns-in-Ok-print_script-clause-front

@@ -1,7 +1,8 @@
 use Rattle.vx_base.specs.declared.record.End.TheVariants.{Done, Hung, Limit}
 use Rattle.vx_words.specs.declared.command.Command.TheVariants.{Sim}
 use Rattle.vx_commands.specs.Simulated.{in_run, on_the_way}
-use Rattle.vx_commands.proofs.Simulating.{breaks_sim_fault, told, writes_run, writes_fault}
+use Rattle.vx_tell.proofs.Told.{told}
+use Rattle.vx_commands.proofs.Simulating.{breaks_sim_fault, writes_run, writes_fault}
 use Rattle.vx_commands.proofs.call.simulate.Goals as goal
 
 pub returns-in-Ok-clause-done : goal.returns-in-Ok-clause-done

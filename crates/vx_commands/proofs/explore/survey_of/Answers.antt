@@ -1,6 +1,6 @@
 use Rattle.vx_words.specs.declared.command.Command.TheVariants.{Explore}
 use Rattle.vx_commands.specs.Top.{no_script}
-use Rattle.vx_commands.proofs.Simulating.{told}
+use Rattle.vx_tell.proofs.Told.{told}
 use Rattle.vx_commands.proofs.explore.survey_of.Goals as goal
 use Rattle.std.proofs.Common.{refl}
 

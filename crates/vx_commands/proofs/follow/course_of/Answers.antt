@@ -1,7 +1,7 @@
 use Rattle.std.proofs.Common.{List, ℕ, refl, subst, sym}
 use Rattle.vx_commands.specs.Top.{IsRefused, no_script}
 use Rattle.vx_words.specs.declared.command.Command.TheVariants.{Follow}
-use Rattle.vx_commands.proofs.Simulating.{told}
+use Rattle.vx_tell.proofs.Told.{told}
 use Rattle.vx_commands.proofs.follow.course_of.Goals as goal
 
 pub returns-in_ok-fault_line-in-Err-Fault : goal.returns-in_ok-fault_line-in-Err-Fault

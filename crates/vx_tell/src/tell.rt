@@ -4,14 +4,12 @@ ghost use Rattle.std.specs.Prelude.{◌≡◌, ◌≢◌, ◌⊎◌, ◌≤◌, 
 ghost use Rattle.std.specs.Io.KnownBytes.{Appends};
 ghost use Rattle.vx_host.specs.Causes.{Rose};
 ghost use Rattle.vx_host.specs.Streams.{AppendsFront};
-ghost use Rattle.vx_commands.specs.Followed.{pick_line};
-ghost use Rattle.vx_commands.specs.Top.{fault_line, form_line, kind_word, no_memory, read_fault, too_long, verdict_line, verdict_number, verdict_word};
-ghost use Rattle.vx_commands.specs.Unread.{unread_line};
+ghost use Rattle.vx_tell.specs.Lines.{fault_line, form_line, kind_word, no_memory, read_fault, too_long};
+ghost use Rattle.vx_tell.specs.Unread.{unread_line};
 
 use crate::status::Status;
 use std::alloc::Global;
 use vx_base::{Bytes, End, NoMemory};
-use vx_check::Verdict;
 use vx_host::{ReadFail, Sink, write_all};
 use vx_script::{FaultKind, ScriptFault};
 use vx_text::print_num;
@@ -151,46 +149,5 @@ pub fn form_line(alloc: Global, line: u32) -> Result<Bytes, NoMemory>
     text.push_all(b"vms: line ")?;
     print_num(alloc, &mut text, u64::from(line))?;
     text.push_all(b" FORM\n")?;
-    Ok(text)
-}
-
-/// The line of a record that has no event at its place, by its number and how many events are enabled there.
-pub fn pick_line(alloc: Global, number: u32, count: u32) -> Result<Bytes, NoMemory>
-    ensures { IfOk result (λ text. text ≡ pick_line number count) }
-{
-    let mut text = Bytes::new(alloc);
-    text.push_all(b"vms: pick ")?;
-    print_num(alloc, &mut text, u64::from(number))?;
-    text.push_all(b" of ")?;
-    print_num(alloc, &mut text, u64::from(count))?;
-    text.push_all(b"\n")?;
-    Ok(text)
-}
-
-/// The word of a verdict, and the number behind it.
-fn verdict_parts(verdict: Verdict) -> (&'static [u8], u32)
-    ensures word { result.0.now ≡ verdict_word verdict }
-    ensures number { result.1 ≡ verdict_number verdict }
-{
-    match verdict {
-        Verdict::Complete(n) => (b"complete", n),
-        Verdict::Hung(n) => (b"hung", n),
-        Verdict::Limit(n) => (b"limit", n),
-        Verdict::Prefix(n) => (b"prefix", n),
-        Verdict::Bad(n) => (b"bad", n),
-    }
-}
-
-/// The line of a verdict.
-pub fn verdict_line(alloc: Global, verdict: Verdict) -> Result<Bytes, NoMemory>
-    ensures { IfOk result (λ text. text ≡ verdict_line verdict) }
-{
-    let (word, n) = verdict_parts(verdict);
-    let mut text = Bytes::new(alloc);
-    text.push_all(b"check ")?;
-    text.push_all(word)?;
-    text.push_all(b" ")?;
-    print_num(alloc, &mut text, u64::from(n))?;
-    text.push_all(b"\n")?;
     Ok(text)
 }

@@ -1,7 +1,7 @@
 -- The program's statuses.
 use Rattle.std.specs.Prelude.{ℕ}
-use Rattle.vx_commands.specs.declared.status.Status.{Status}
-use Rattle.vx_commands.specs.declared.status.Status.TheVariants.{Done, Hung, Words, Form, Limit, Illegal, ReadFault, WriteFault, NoMemory, TooLong, Cut}
+use Rattle.vx_tell.specs.declared.status.Status.{Status}
+use Rattle.vx_tell.specs.declared.status.Status.TheVariants.{Done, Hung, Words, Form, Limit, Illegal, ReadFault, WriteFault, NoMemory, TooLong, Cut}
 
 abbrev pub code_of : Status → ℕ
 code_of Done = 0

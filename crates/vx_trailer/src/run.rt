@@ -4,11 +4,11 @@ ghost use Rattle.std.specs.Prelude.{◌≡◌, ◌++◌, codes, OnOk};
 ghost use Rattle.vx_journal.specs.Transcript.{trailer_lines};
 ghost use Rattle.vx_lines.specs.Records.{ended_lines, records_lines};
 
+use crate::trailer::print_trailer;
 use std::alloc::Global;
 use vx_base::{Bytes, End, NoMemory, Rec, Scripted};
 use vx_exec::Exec;
 use vx_lines::print_records;
-use vx_trailer::print_trailer;
 
 /// Appends what stands behind the script in the transcript of a run that has ended so.
 pub fn print_run(

@@ -1,6 +1,6 @@
 use Rattle.std.proofs.Common.{refl}
-use Rattle.vx_call.proofs.Carrying.{is_carried_text}
-use Rattle.vx_call.proofs.threads.transcript.Goals as goal
+use Rattle.vx_run.proofs.Carrying.{is_carried_text}
+use Rattle.vx_run.proofs.threads.transcript.Goals as goal
 
 pub returns-in-Ok : goal.returns-in-Ok
 returns-in-Ok g c =

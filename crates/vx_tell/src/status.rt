@@ -32,7 +32,7 @@ pub enum Status {
 }
 
 impl Status {
-    ghost use Rattle.vx_commands.specs.Code.{code_of};
+    ghost use Rattle.vx_tell.specs.Code.{code_of};
 
     /// The exit status of the program.
     pub fn code(self) -> u8

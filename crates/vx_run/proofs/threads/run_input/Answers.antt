@@ -1,7 +1,7 @@
 use Rattle.vx_base.specs.declared.record.End.TheVariants.{Done, Hung, Limit}
-use Rattle.vx_call.proofs.Carrying.{breaks_carried, breaks_fault, gains_carried, gains_fault}
-use Rattle.vx_commands.proofs.Simulating.{told}
-use Rattle.vx_call.proofs.threads.run_input.Goals as goal
+use Rattle.vx_run.proofs.Carrying.{breaks_carried, breaks_fault, gains_carried, gains_fault}
+use Rattle.vx_tell.proofs.Told.{told}
+use Rattle.vx_run.proofs.threads.run_input.Goals as goal
 
 pub returns-in-Ok-clause-done : goal.returns-in-Ok-clause-done
 returns-in-Ok-clause-done g c = λ e. gains_carried c.args.input.now c.args.crew.limit _ _ c.in-Ok.system Done (rw c.as_slice.ensures at c.in-Ok.ensures.spelled) (c.carry.ensures.done e)

@@ -10,7 +10,7 @@ use Rattle.vx_host.specs.Streams.{AppendsFront}
 use Rattle.vx_journal.specs.Transcript.{transcript}
 use Rattle.vx_record.specs.Runs.{IsRun, end_after}
 use Rattle.vx_script.specs.declared.fault.ScriptFault.{ScriptFault}
-use Rattle.vx_commands.specs.Top.{fault_line, no_memory}
+use Rattle.vx_tell.specs.Lines.{fault_line, no_memory}
 
 -- Some records are a run of the machine from the system's first state; it has ended so, with at most as many records as the
 -- limit; and the text is its transcript.

@@ -2,7 +2,7 @@ use Rattle.std.proofs.Common.{inl, inr, refl, sym, ◌∙◌}
 use Rattle.vx_base.specs.declared.record.End.TheVariants.{Done, Hung, Limit}
 use Rattle.vx_call.proofs.Carrying.{front_in_run, front_unread, keeps_laws}
 use Rattle.vx_call.specs.Threads.{breaks_in_run, carried_is_lawful, runs_out}
-use Rattle.vx_call.proofs.threads.vms_call.Goals as goal
+use Rattle.vx_call.proofs.call.vms_call.Goals as goal
 
 pub returns-in-Ok-clause-lawful : goal.returns-in-Ok-clause-lawful
 returns-in-Ok-clause-lawful g c = λ e. elim e [

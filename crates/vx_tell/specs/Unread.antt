@@ -2,7 +2,7 @@
 use Rattle.std.specs.Prelude.{ℕ, List}
 use Rattle.vx_host.specs.declared.source.ReadFail.{ReadFail}
 use Rattle.vx_host.specs.declared.source.ReadFail.TheVariants as fail
-use Rattle.vx_commands.specs.Top.{no_memory, read_fault, too_long}
+use Rattle.vx_tell.specs.Lines.{no_memory, read_fault, too_long}
 
 -- the line that tells why
 abbrev pub unread_line : ReadFail → List ℕ
