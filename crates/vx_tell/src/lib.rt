@@ -2,9 +2,9 @@
 #![tactic(auto)]
 
 mod status;
-mod tell;
+mod write;
 
 pub use status::Status;
-pub use tell::{
+pub use write::{
     fault_line, form_line, tell, tell_fault, tell_no_memory, tell_transcript, tell_unread,
 };
