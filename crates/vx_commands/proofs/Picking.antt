@@ -1,6 +1,5 @@
 -- A run that places choose, and what is written of it.
-use Rattle.std.proofs.Common.{◌≡◌, ℕ, List, ◌∷◌, ◌++◌, Some, length, ap, subst, ◌∙◌, append_assoc, codes}
-use Rattle.std.proofs.lemmas.Grind.{flat_map-append}
+use Rattle.std.proofs.Common.{◌≡◌, ℕ, List, ◌++◌, Some, ap, subst, ◌∙◌, codes}
 use Rattle.vx_base.specs.declared.record.End.{End}
 use Rattle.vx_base.specs.declared.record.Rec.{Rec}
 use Rattle.vx_exec.specs.View.{Executive}
@@ -8,13 +7,12 @@ use Rattle.vx_image.specs.declared.system.System.{System}
 use Rattle.vx_journal.specs.Transcript.{trailer_lines, transcript}
 use Rattle.vx_lines.specs.Records.{records_lines}
 use Rattle.vx_picks.specs.Followed.{IsPickedRun}
-use Rattle.vx_record.proofs.SoundSteps.{run_keeps_system}
-use Rattle.vx_record.specs.Runs.{IsRun, after, end_after, first}
-use Rattle.vx_record.specs.State.{State}
+use Rattle.vx_record.specs.Runs.{IsRun, end_after}
 use Rattle.vx_script.specs.Script.{ended_lines, script}
 use Rattle.vx_commands.specs.Followed.{IsFollowed, IsPickedText, LacksPlace}
 use Rattle.vx_commands.specs.Following.{IsCourse}
 use Rattle.vx_commands.specs.Top.{IsRefused}
+use Rattle.vx_trailer.proofs.Spelled.{spelled_run}
 use Rattle.vx_words.specs.declared.command.Command.TheVariants.{Follow}
 use Rattle.vx_commands.specs.declared.follow.Course.{Course}
 use Rattle.vx_commands.specs.declared.follow.Course.TheVariants.{Ended, Missing, Refused}

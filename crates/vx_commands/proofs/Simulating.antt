@@ -1,13 +1,11 @@
 -- What an input comes to.
-use Rattle.std.proofs.Common.{◌≡◌, ◌⊎◌, inl, inr, ℕ, List, Option, Err, subst}
+use Rattle.std.proofs.Common.{◌⊎◌, inl, inr, ℕ, List, Option}
 use Rattle.std.specs.Io.KnownBytes.{Appends}
 use Rattle.vx_base.specs.declared.record.End.{End}
 use Rattle.vx_image.specs.declared.system.System.{System}
 use Rattle.vx_host.specs.Streams.{AppendsFront}
-use Rattle.vx_grammar.specs.FirstFault.{Tells, TellsIfFault}
+use Rattle.vx_grammar.specs.FirstFault.{Tells}
 use Rattle.vx_grammar.specs.Grammar.{Spells}
-use Rattle.vx_script.specs.declared.fault.ScriptFail.{ScriptFail}
-use Rattle.vx_script.specs.declared.fault.ScriptFail.TheVariants as fail
 use Rattle.vx_script.specs.declared.fault.ScriptFault.{ScriptFault}
 use Rattle.vx_commands.specs.Simulated.{BreaksInput, BreaksShown, GainsRun, WritesRun, WritesRefusal, in_fault, in_no_memory, in_refusal, in_want}
 use Rattle.vx_tell.specs.Lines.{fault_line, no_memory}

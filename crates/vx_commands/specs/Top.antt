@@ -10,8 +10,6 @@ use Rattle.vx_host.specs.Streams.{TakesAll, Takes, TakesAtMost, AppendsFront}
 use Rattle.vx_grammar.specs.FirstFault.{Tells}
 use Rattle.vx_grammar.specs.Grammar.{Spells}
 use Rattle.vx_script.specs.Script.{script}
-use Rattle.vx_script.specs.declared.fault.FaultKind.{FaultKind}
-use Rattle.vx_script.specs.declared.fault.FaultKind.TheVariants as kind
 use Rattle.vx_script.specs.declared.fault.ScriptFault.{ScriptFault}
 use Rattle.vx_record.specs.Runs.{IsRun, chosen, end_after}
 use Rattle.vx_laws.specs.Laws.{KeepLaws}
@@ -30,6 +28,7 @@ use Rattle.vx_lines.specs.Records.{ended_lines}
 use Rattle.vx_picks.specs.Picked.{picked}
 use Rattle.vx_commands.specs.Explored.{IsCutShort, IsExplored}
 use Rattle.vx_commands.specs.Followed.{IsFollowed, LacksPlace}
+use Rattle.vx_tell.specs.Lines.{fault_line, form_line, no_memory, read_fault, too_long, usage}
 use Rattle.vx_words.specs.Words.{command_of, size_of}
 use Rattle.vx_words.specs.declared.command.Command.{Command}
 use Rattle.vx_words.specs.declared.command.Command.TheVariants.{Sim, Follow, Explore, Show, Check}

@@ -1,5 +1,5 @@
 -- A run that threads took, and what is written of it.
-use Rattle.std.proofs.Common.{◌≡◌, ℕ, List, ◌++◌, Option, Some, ◌⊎◌, inl, inr, refl, subst, codes}
+use Rattle.std.proofs.Common.{◌≡◌, ℕ, List, ◌++◌, Option, ◌⊎◌, inl, inr, refl, subst, codes}
 use Rattle.std.specs.Io.KnownBytes.{Appends}
 use Rattle.vx_base.specs.declared.record.End.{End}
 use Rattle.vx_base.specs.declared.record.Rec.{Rec}
