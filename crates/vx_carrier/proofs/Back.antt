@@ -20,10 +20,12 @@ use Rattle.vx_exec.specs.View.{Plan}
 use Rattle.vx_carrier.specs.Desk.{Desk, HasRun, IsGoing, IsKept, advanced}
 use Rattle.vx_carrier.specs.Turns.{Gives, SawBeg, Serves, end, now}
 use Rattle.vx_carrier.specs.declared.turn.Turn.TheVariants.{Took, Stale, Ended}
-use Rattle.vx_carrier.proofs.Running.{don_enabled, enabled_there, end_is, first_base, out_within, run_advanced, run_base, stand_set, tally_back, tally_less}
+use Rattle.vx_carrier.proofs.Running.{don_enabled, end_is, out_within, run_advanced, stand_set, tally_back, tally_less}
 use Rattle.vx_carrier.proofs.Opened.{none_else}
 use Rattle.vx_carrier.proofs.Still.{HasBegun, begun_at, begun_step, none_serves, serves_before, still}
 use Rattle.vx_record.proofs.Fixed.{step_keeps_count}
+use Rattle.vx_record.proofs.Allowed.{enabled_there}
+use Rattle.vx_record.proofs.Along.{first_base, run_base}
 
 -- From the BEG on.
 

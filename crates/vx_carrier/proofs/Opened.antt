@@ -20,9 +20,10 @@ use Rattle.vx_carrier.specs.Desk.{AreOut, Desk, HasRun, IsGoing, IsKept, advance
 use Rattle.vx_carrier.specs.Turns.{HandsOut, Opens, Takes}
 use Rattle.vx_carrier.specs.declared.turn.Turn.{Turn}
 use Rattle.vx_carrier.specs.declared.turn.Turn.TheVariants.{Took, Nothing, Stale, Ended, NoMemory}
-use Rattle.vx_carrier.proofs.Running.{desk_base, enabled_there, end_is, home_set, open_enabled, open_no_don, run_advanced, tally_most}
+use Rattle.vx_carrier.proofs.Running.{desk_base, end_is, home_set, open_enabled, open_no_don, run_advanced, tally_most}
 use Rattle.vx_carrier.proofs.Still.{BeginsNone, begun_serves, serves_before}
 use Rattle.vx_record.proofs.Fixed.{step_keeps_count, step_keeps_unit}
+use Rattle.vx_record.proofs.Allowed.{enabled_there}
 
 -- The lease after a BEG.
 

@@ -7,23 +7,19 @@ use Rattle.vx_base.specs.Queues.{in_service}
 use Rattle.vx_base.specs.declared.number.UnitNo.{UnitNo}
 use Rattle.vx_base.specs.declared.record.Event.{Event}
 use Rattle.vx_base.specs.declared.record.Event.TheVariants as event
-use Rattle.vx_base.specs.declared.record.Rec.{Rec}
-use Rattle.vx_image.specs.declared.system.System.{System}
 use Rattle.vx_base.specs.Pieces.{Request}
 use Rattle.vx_record.specs.Events.{don_or_beg, enabled, step, unit_events}
-use Rattle.vx_record.specs.Runs.{AreSteps, IsStep, after, after_from, end_of, first, record_of}
+use Rattle.vx_record.specs.Runs.{IsStep, after, end_of, first, record_of}
 use Rattle.vx_record.specs.State.{State}
 use Rattle.vx_record.proofs.Base.{Base}
-use Rattle.vx_record.proofs.Steps.{IsThere}
+use Rattle.vx_record.proofs.Along.{first_base, run_base}
 use Rattle.vx_units.specs.Leases.{Stand, Home, Out, is_out}
 use Rattle.vx_exec.specs.Leases.{IsInFor, Leasing, first_open}
-use Rattle.vx_exec.specs.Ready.{HasOwner}
 use Rattle.vx_exec.specs.View.{Plan, is_don}
-use Rattle.vx_exec.proofs.Enabled.{enabled_owned, unit_iff}
+use Rattle.vx_exec.proofs.Enabled.{unit_iff}
 use Rattle.vx_exec.proofs.Runs.{after_more, going_below, steps_more}
 use Rattle.vx_carrier.specs.Desk.{Desk, HasRun, IsGoing, advanced}
 use Rattle.vx_carrier.specs.Turns.{end}
-use Rattle.vx_carrier.proofs.Still.{step_base}
 
 -- Events that are enabled.
 
@@ -60,25 +56,7 @@ in_for l event.Tick h = tt
 pub open_in : (l : Leasing) (e : Event) → first_open l.exec.state ≡ Some e → IsInFor l e
 open_in l e f = in_for l e (open_no_don l.exec.state e f)
 
-owned_there : (s : State) (e : Event) → HasOwner s e → IsThere s e
-owned_there s (event.Run p) h = h
-owned_there s (event.Ast p) h = h
-owned_there s (event.Rdn p) h = h.made
-owned_there s (event.Beg u) h = tt
-owned_there s (event.Don u) h = tt
-owned_there s event.Tick h = tt
-
-pub enabled_there : (s : State) (e : Event) → Contains (enabled s) e → IsThere s e
-enabled_there s e c = owned_there s e (enabled_owned s e c)
-
 -- Runs.
-
-pub first_base : (system : System) → Base (first system)
-first_base system = record { requests = omega arith; timers = omega arith; attention = omega arith; request_owners = tt; timer_owners = tt; attention_owners = tt }
-
-pub run_base : (s : State) (rs : List Rec) → AreSteps s rs → Base s → Base (after_from s rs)
-run_base s [] k h = h
-run_base s (r ∷ rs) k h = run_base (step s r.event).after rs k.1 (step_base s r.event (enabled_there s r.event k.0.enabled) h)
 
 pub desk_base : (plan : Plan) (d : Desk) → HasRun plan d → Base d.leasing.exec.state
 desk_base plan d h = subst Base (sym h.now) (run_base (first plan.system) d.recs h.run.steps (first_base plan.system))

@@ -22,40 +22,19 @@ use Rattle.vx_record.specs.Rundown.{without_ast}
 use Rattle.vx_record.specs.Sound.{request_id, AreOrdered}
 use Rattle.vx_record.specs.State.{State, change, unit_at}
 use Rattle.vx_record.proofs.Apart.{requests_found}
-use Rattle.vx_record.proofs.Base.{Base, amended_base, change_of, moves_keep}
+use Rattle.vx_record.proofs.Base.{Base}
 use Rattle.vx_record.proofs.Cancelled.{finish_requests}
 use Rattle.vx_record.proofs.Lists.{all_both, all_find, all_weaker, find_passes, none_passes, removed}
+use Rattle.vx_record.proofs.Along.{beg_base, step_base}
 use Rattle.vx_record.proofs.Moves.{HasRequest}
-use Rattle.vx_record.proofs.Steps.{IsThere, is_headed, started_moves, step_moves}
+use Rattle.vx_record.proofs.Steps.{IsThere, is_headed}
+use Rattle.vx_record.proofs.Told.{started_moves, step_moves}
 use Rattle.vx_carrier.proofs.Lasting.{HoldOfAll, Lasts, moves_hold}
 use Rattle.vx_carrier.proofs.Listed.{amended_first, amended_found, amended_holds, found_any, none_found, not_found}
 use Rattle.vx_record.proofs.Fixed.{Spares, step_keeps_unit}
 
 one : {A : Type 0} (x y : A) → Some x ≡ Some y → x ≡ y
 one x y e = cc
-
--- Base along a step.
-
-beg_base : (s : State) (o : Option Request) → Base s → Base (beg s o).after
-beg_base s None h = h
-beg_base s (Some r) h = amended_base s (this_request r.req.id) taken_up (λ x. refl) h
-
-ast_base : (s : State) (p : Pid) (o : Option Queued) → Base s → Base (delivered s p o).after
-ast_base s p None h = h
-ast_base s p (Some q) h =
-    let t = change s p (without_ast q.id) in
-    (moves_keep {refs = false} t None (started t p q q.tag).effects (started t p q q.tag).after None (started_moves t p q q.tag (λ e. absurd (let never : false ≡ true = e in cc))) (change_of s p (without_ast q.id) h).base).base
-
-moved_base : (s : State) (e : Event) → is_headed e ≡ false → IsThere s e → Base s → Base (step s e).after
-moved_base s e other m h = (moves_keep {refs = false} s None (step s e).effects (step s e).after None (step_moves s e other m h (λ y. absurd (let never : false ≡ true = y in cc))) h).base
-
-pub step_base : (s : State) (e : Event) → IsThere s e → Base s → Base (step s e).after
-step_base s (event.Run p) m h = moved_base s (event.Run p) refl m h
-step_base s (event.Ast p) m h = ast_base s p (deliverable_ast s p) h
-step_base s (event.Rdn p) m h = moved_base s (event.Rdn p) refl m h
-step_base s (event.Beg u) m h = beg_base s (front u s.requests) h
-step_base s (event.Don u) m h = moved_base s (event.Don u) refl m h
-step_base s event.Tick m h = moved_base s event.Tick refl m h
 
 -- What lasts, along an event that is no BEG.
 
@@ -67,10 +46,10 @@ ast_holds : (n : ℕ) (P : Request → Type 0) → Lasts n P → (s : State) (p 
 ast_holds n P w s p None h = h
 ast_holds n P w s p (Some q) h =
     let t = change s p (without_ast q.id) in
-    moves_hold {refs = false} n P w t None (started t p q q.tag).effects (started t p q q.tag).after None (started_moves t p q q.tag (λ e. absurd (let never : false ≡ true = e in cc))) (record { above = h.above; all = h.all })
+    moves_hold {refs = false} n P w t None (started t p q q.tag).effects (started t p q q.tag).after None (started_moves t p q q.tag) (record { above = h.above; all = h.all })
 
 moved_holds : (n : ℕ) (P : Request → Type 0) → Lasts n P → (s : State) (e : Event) → is_headed e ≡ false → IsThere s e → Base s → HoldOfAll n P s → HoldOfAll n P (step s e).after
-moved_holds n P w s e other m b h = moves_hold {refs = false} n P w s None (step s e).effects (step s e).after None (step_moves s e other m b (λ y. absurd (let never : false ≡ true = y in cc))) h
+moved_holds n P w s e other m b h = moves_hold {refs = false} n P w s None (step s e).effects (step s e).after None (step_moves s e other m b) h
 
 step_holds : (n : ℕ) (P : Request → Type 0) → Lasts n P → (s : State) (e : Event) → is_beg e ≡ false → IsThere s e → Base s → HoldOfAll n P s → HoldOfAll n P (step s e).after
 step_holds n P w s (event.Run p) f m b h = moved_holds n P w s (event.Run p) refl m b h

@@ -50,7 +50,7 @@ use Rattle.vx_record.proofs.Locals.{advanced_statuses}
 use Rattle.vx_record.proofs.Moves.{Moves, moved}
 use Rattle.vx_laws.proofs.Owes.{Tells, attend_aloof, begun_ends, channel_ends, free_aloof, ready_of, tells_drain}
 use Rattle.vx_laws.proofs.Resumes.{every_run_resumes}
-use Rattle.vx_laws.proofs.Runs.{enabled_there, first_base, first_stands, step_right}
+use Rattle.vx_laws.proofs.Runs.{first_stands, step_right}
 use Rattle.vx_laws.proofs.Stands.{Stands}
 use Rattle.vx_laws.proofs.Steps.{delivered_rank, delivered_some, first_tags, step_tags}
 use Rattle.vx_laws.proofs.Tells.{cell_held, every_run_flags_told, every_run_waits_due}
@@ -76,6 +76,8 @@ use Rattle.vx_record.specs.Services.{asked, at_once, number, service_of}
 use Rattle.vx_record.specs.State.{State, change, image_of, process_at, unit_at}
 use Rattle.vx_record.specs.declared.served.Served.TheVariants.{Answered, Waits}
 use Rattle.vx_record.specs.declared.served.Served.{Served}
+use Rattle.vx_record.proofs.Allowed.{enabled_there}
+use Rattle.vx_record.proofs.Along.{first_base}
 
 abbrev RecordTold : List Item → Event → Outcome Answer → Type 0
 RecordTold past e o = (rs : List Rec) → at_each is_completion_told (later (Head e o.answer ∷ past) (map Did o.effects)) (flat rs) ≡ true → at_each is_completion_told (Head e o.answer ∷ past) (map Did o.effects ++ flat rs) ≡ true

@@ -24,11 +24,11 @@ use Rattle.vx_laws.proofs.Courses.{of_others, spares_moves}
 use Rattle.vx_laws.proofs.Emptied.{seat_rows}
 use Rattle.vx_laws.proofs.Rests.{closed_all}
 use Rattle.vx_record.proofs.Moves.{Moves}
+use Rattle.vx_record.proofs.Allowed.{enabled_there}
 use Rattle.std.proofs.Common.{⊎_elim}
 use Rattle.std.proofs.lemmas.Bool.{cases_eq}
 use Rattle.vx_laws.proofs.Phases.{Passes, phase_in}
 use Rattle.vx_laws.proofs.Rests.{enabled_awake, is_rundown, phase_made, step_ages}
-use Rattle.vx_laws.proofs.Runs.{enabled_there}
 
 -- what drains a mode has no frame, and what cancelling leaves
 pub record Drains (q : Pid) (m : Mode) (s : State) : Type 0 where

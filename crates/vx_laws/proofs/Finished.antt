@@ -28,6 +28,8 @@ use Rattle.vx_record.proofs.Base.{Base}
 use Rattle.vx_record.proofs.Fits.{field_same}
 use Rattle.vx_record.proofs.Freeing.{phase_at}
 use Rattle.vx_record.proofs.Lists.{either, all_weaker, all_both}
+use Rattle.vx_record.proofs.Allowed.{enabled_there}
+use Rattle.vx_record.proofs.Along.{first_base}
 use Rattle.vx_laws.specs.Items.{Item, Head, Did, flat, later, past_of}
 use Rattle.vx_laws.specs.Leftovers.{fins, is_open_of}
 use Rattle.vx_laws.specs.Lives.{Life, life, lives, is_open, is_request}
@@ -41,7 +43,7 @@ use Rattle.vx_laws.proofs.Opens.{any_told}
 use Rattle.vx_laws.proofs.Phases.{Passes, phase_in, release_shifts}
 use Rattle.vx_laws.proofs.Rests.{enabled_awake, is_rundown, phase_made, step_ages, both_later, AllGone, step_rests}
 use Rattle.vx_laws.proofs.Right.{lives_more}
-use Rattle.vx_laws.proofs.Runs.{enabled_there, step_right, first_base, first_stands, every_run_ends_right}
+use Rattle.vx_laws.proofs.Runs.{step_right, first_stands, every_run_ends_right}
 use Rattle.vx_laws.proofs.Seats.{seat, request_life, timer_life, attention_life, RequestLives, TimerLives, AttentionLives}
 use Rattle.vx_laws.proofs.Settled.{IsOwnedLife, owned_after}
 use Rattle.vx_laws.proofs.Shares.{records_whole, told_fins, gone_leave_nothing}

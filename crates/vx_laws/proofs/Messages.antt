@@ -76,11 +76,13 @@ use Rattle.vx_laws.proofs.Listed.{moves_listed}
 use Rattle.vx_record.proofs.Locals.{advanced_statuses}
 use Rattle.vx_laws.proofs.Lowered.{rundown_walk}
 use Rattle.vx_record.proofs.Moves.{Moves, moved}
+use Rattle.vx_record.proofs.Allowed.{enabled_there}
+use Rattle.vx_record.proofs.Along.{first_base}
 use Rattle.vx_laws.proofs.Newest.{Further, step_further, first_further}
 use Rattle.vx_laws.proofs.Passing.{Lawful, walk_then, walk_aside, IsPlainCall, fewer_same, IsSingle, single_on, mailbox_is, Serving, serving, finish_walk, still_boxed, serving_still, MayFin}
 use Rattle.vx_laws.proofs.Plain.{one}
 use Rattle.vx_laws.proofs.Rows.{made_boxed, assigned_boxed}
-use Rattle.vx_laws.proofs.Runs.{enabled_there, step_right, first_base, first_stands, front_found}
+use Rattle.vx_laws.proofs.Runs.{step_right, first_stands, front_found}
 use Rattle.vx_laws.proofs.Served.{find_no}
 use Rattle.vx_laws.proofs.Turns.{later_items}
 use Rattle.vx_laws.proofs.Withdrawn.{cancel_channel_walk, cancel_channel_clear, free_walk, unit_nowhere}

@@ -44,6 +44,8 @@ use Rattle.vx_record.specs.declared.served.Served.TheVariants.{Answered, Waits}
 use Rattle.vx_record.proofs.Base.{Base}
 use Rattle.vx_record.proofs.Freeing.{phase_at}
 use Rattle.vx_record.proofs.Lists.{either, either_by, all_append, all_at, not_fails}
+use Rattle.vx_record.proofs.Allowed.{enabled_there}
+use Rattle.vx_record.proofs.Along.{first_base}
 use Rattle.vx_laws.specs.Items.{Item, Head, Did, flat, later, at_each, latest_call, calling}
 use Rattle.vx_laws.specs.Lives.{is_wake}
 use Rattle.vx_laws.specs.RundownLaw.{is_gone, woken}
@@ -53,7 +55,7 @@ use Rattle.vx_laws.proofs.Calm.{Tags, IsBare, Still, still_made, held_at}
 use Rattle.vx_laws.proofs.Lowers.{IsLowering, Low, Lowers, Others, closed, stops, goes, rundown_lowers}
 use Rattle.vx_laws.proofs.Named.{step_still}
 use Rattle.vx_laws.proofs.Phases.{keep_phases, Ages, Passes, phase_in, keep_same, run_ages, delivered_ages, beg_ages, don_ages, tick_ages}
-use Rattle.vx_laws.proofs.Runs.{enabled_there, step_right, first_base, first_stands}
+use Rattle.vx_laws.proofs.Runs.{step_right, first_stands}
 use Rattle.vx_laws.proofs.Stands.{Stands}
 use Rattle.vx_laws.proofs.Steps.{delivered_some, step_tags, first_tags}
 

@@ -39,7 +39,7 @@ use Rattle.vx_laws.proofs.Framed.{delivers_so, start_is, step_kinds}
 use Rattle.vx_laws.proofs.Holds.{Holds, first_holds, step_holds}
 use Rattle.vx_laws.proofs.Kept.{handler_found, later_both, moves_stand}
 use Rattle.vx_laws.proofs.Pauses.{AnswerFits, EventWaits, IsFit, delivered_waits, either_same, heard, made_waits, nobody_turned, run_waits, shifted, turn_change}
-use Rattle.vx_laws.proofs.Runs.{enabled_there, first_base, first_stands, step_right}
+use Rattle.vx_laws.proofs.Runs.{first_stands, step_right}
 use Rattle.vx_laws.proofs.Seats.{HandlerLives, life_of, seat}
 use Rattle.vx_laws.proofs.Stands.{Stands}
 use Rattle.vx_laws.proofs.Steps.{delivered_rank, delivered_some, first_tags, step_tags}
@@ -67,6 +67,8 @@ use Rattle.vx_record.specs.Services.{service_of}
 use Rattle.vx_record.specs.State.{IsProcess, Process, State, change, image_of, pid, process_at, unit_at}
 use Rattle.vx_record.specs.declared.served.Served.TheVariants.{Answered, Waits}
 use Rattle.vx_record.specs.declared.served.Served.{Served}
+use Rattle.vx_record.proofs.Allowed.{enabled_there}
+use Rattle.vx_record.proofs.Along.{first_base}
 
 -- at the ends of records
 pub record Awaits (s : State) (past : List Item) : Type 0 where

@@ -29,6 +29,8 @@ use Rattle.vx_record.proofs.Fits.{field_same}
 use Rattle.vx_record.proofs.Freeing.{phase_at}
 use Rattle.vx_record.proofs.Lists.{either, all_weaker, all_get}
 use Rattle.vx_record.proofs.Moves.{Moves}
+use Rattle.vx_record.proofs.Allowed.{enabled_there}
+use Rattle.vx_record.proofs.Along.{first_base}
 use Rattle.vx_laws.specs.Items.{Item, Head, Did, flat, later, at_each}
 use Rattle.vx_laws.specs.Leftovers.{is_open_of}
 use Rattle.vx_laws.specs.Lives.{Life, life, lives, highest, is_open, is_wake, id_of, all_ids}
@@ -50,7 +52,7 @@ use Rattle.vx_laws.proofs.Newest.{Further, step_further, first_further}
 use Rattle.vx_laws.proofs.Opens.{any_told}
 use Rattle.vx_laws.proofs.Rests.{enabled_awake, is_rundown, phase_made, every_run_rests}
 use Rattle.vx_laws.proofs.Right.{lives_more, moves_right}
-use Rattle.vx_laws.proofs.Runs.{enabled_there, step_right, first_base, first_stands}
+use Rattle.vx_laws.proofs.Runs.{step_right, first_stands}
 use Rattle.vx_laws.proofs.Seats.{TimerLives, timer_life, alarm_life, seat, body_seat}
 use Rattle.vx_laws.proofs.Stands.{Stands}
 use Rattle.vx_laws.proofs.Steps.{step_tags, first_tags}

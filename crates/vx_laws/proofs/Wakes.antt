@@ -47,6 +47,7 @@ use Rattle.vx_record.proofs.Lists.{either, all_append, all_less, all_amend, all_
 use Rattle.vx_record.proofs.Moves.{Loose, Moves, IsOfTimer, both, flag, end_asts, end_handlers, open_timer, open_wake, timer_fires, wake_fires, end_timer}
 use Rattle.vx_record.proofs.Steps.{IsThere}
 use Rattle.vx_record.proofs.Told.{started_moves, step_moves}
+use Rattle.vx_record.proofs.Allowed.{enabled_there}
 use Rattle.vx_laws.specs.Items.{Item, Head, Did, later, latest_call, calling}
 use Rattle.vx_laws.specs.Lives.{Life, life, lives, opens, is_wake, finished, fired, dropped, entered_once, queued_now, marked_now, begun_by, started as ast_started}
 use Rattle.vx_laws.specs.RundownLaw.{woken}
@@ -56,7 +57,7 @@ use Rattle.vx_laws.proofs.CalmServices.{test_is}
 use Rattle.vx_laws.proofs.Emptied.{is_open_allowed, allowed_open}
 use Rattle.vx_laws.proofs.Rests.{is_rundown, returned_allowed, started_allowed}
 use Rattle.vx_laws.proofs.Right.{AllRight, IsRight}
-use Rattle.vx_laws.proofs.Runs.{enabled_there, step_right}
+use Rattle.vx_laws.proofs.Runs.{step_right}
 use Rattle.vx_laws.proofs.Seats.{TimerLives, timer_life, Known, seat}
 use Rattle.vx_laws.proofs.Stands.{Stands}
 

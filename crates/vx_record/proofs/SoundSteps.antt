@@ -1,9 +1,9 @@
 -- References stand at first, and after each step.
-use Rattle.std.proofs.Common.{◌≡◌, ℕ, ◌+◌, ◌≤◌, List, [], ◌∷◌, ◌++◌, true, length, Option, Some, None, Contains, refl, sym, ◌∙◌, arith, subst}
+use Rattle.std.proofs.Common.{◌≡◌, ℕ, ◌+◌, List, [], ◌∷◌, true, length, Option, Some, None, Contains, refl, sym, ◌∙◌, arith, subst}
 use Rattle.std.proofs.lemmas.List.{length-map}
 use Rattle.std.specs.List.{AllByRecursion, find, list_any}
-use Rattle.vx_base.specs.Pieces.{Queued, Request, DeviceUnit, Timer}
-use Rattle.vx_base.specs.Queues.{is_served_by, waits_for, front, in_service}
+use Rattle.vx_base.specs.Pieces.{Queued, Request, Timer}
+use Rattle.vx_base.specs.Queues.{is_served_by, waits_for, front}
 use Rattle.vx_base.specs.declared.call.Call.{Call}
 use Rattle.vx_base.specs.declared.frame.Frame.{Frame}
 use Rattle.vx_base.specs.declared.number.Pid.{Pid}
@@ -30,82 +30,21 @@ use Rattle.vx_record.proofs.Firm.{firm, sound_of}
 use Rattle.vx_record.proofs.OwnIds.{moves_own, own_of, owned, started_own, begun_own, first_own}
 use Rattle.vx_record.proofs.References.{moves_stand}
 use Rattle.vx_record.proofs.Lists.{all_weaker}
-use Rattle.vx_record.specs.State.{Process, State, IsProcess, HasFrame, process_at, change, image_of, pid}
+use Rattle.vx_record.specs.State.{Process, State, IsProcess, HasFrame, process_at, change, image_of}
 use Rattle.vx_record.specs.Parts.{Outcome}
 use Rattle.vx_base.specs.declared.record.Answer.{Answer}
 use Rattle.vx_record.specs.Asts.{deliverable_at, deliverable_ast}
 use Rattle.vx_record.specs.Rundown.{without_ast}
 use Rattle.vx_record.specs.Services.{service}
-use Rattle.vx_record.specs.Events.{can_run, can_run_down, run_events, ast_or_run, process_events, processes_from, beg_event, don_or_beg, unit_events, units_from, tick_events, enabled, run, delivered, beg, step}
+use Rattle.vx_record.specs.Events.{enabled, run, delivered, beg, step}
 use Rattle.vx_record.specs.Runs.{born_of, born_from, first, AreSteps, IsRun, after_from, after}
 use Rattle.vx_record.specs.Sound.{ground, RequestStands, ProcessStands, IsSound, FitsImage}
-use Rattle.vx_record.proofs.Lists.{either, either_by, all_append, all_at}
+use Rattle.vx_record.proofs.Lists.{either}
 use Rattle.vx_record.proofs.Changes.{without_ast_still}
 use Rattle.vx_record.proofs.SoundLists.{all_free}
 use Rattle.vx_record.proofs.SoundRequests.{begun_sound}
+use Rattle.vx_record.proofs.Allowed.{Allowed, enabled_allowed}
 use Rattle.vx_record.proofs.Fixed.{step_keeps_system}
-
--- What is enabled: events of processes that are there, and rundowns of processes that have no frame.
-
-Allowed : State → Event → Type 0
-Allowed s (event.Run p) = IsProcess s p
-Allowed s (event.Ast p) = IsProcess s p
-Allowed s (event.Rdn p) = IsProcess s p × ((process_at s p).frames ≡ [])
-Allowed s (event.Beg u) = Unit {0}
-Allowed s (event.Don u) = Unit {0}
-Allowed s event.Tick = Unit {0}
-
-no_frames : (s : State) (p : Pid) (frames : List Frame) → can_run_down s p frames ≡ true → frames ≡ []
-no_frames s p [] e = refl
-no_frames s p (f ∷ fs) e = cc
-
-run_allowed : (s : State) (p : Pid) → IsProcess s p → AllByRecursion (Allowed s) (run_events s p)
-unfolding Allowed
-run_allowed s p m =
-    let P = AllByRecursion (Allowed s) in
-    either P (can_run s p (process_at s p).frames) _ _ (m, tt)
-    (either_by P (can_run_down s p (process_at s p).frames) _ _ (λ e. ((m, no_frames s p (process_at s p).frames e), tt)) (λ e. tt))
-
-ast_allowed : (s : State) (p : Pid) (o : Option Queued) → IsProcess s p → AllByRecursion (Allowed s) (ast_or_run s p o)
-unfolding Allowed
-ast_allowed s p None m = run_allowed s p m
-ast_allowed s p (Some q) m = (m, tt)
-
-process_allowed : (s : State) (p : Pid) → IsProcess s p → AllByRecursion (Allowed s) (process_events s p)
-process_allowed s p m = either (AllByRecursion (Allowed s)) (process_at s p).suspended _ _ tt (ast_allowed s p (deliverable_ast s p) m)
-
-processes_allowed : (s : State) (n : ℕ) (prs : List Process) → 1 ≤ n → n + length prs ≡ 1 + length s.procs → AllByRecursion (Allowed s) (processes_from s n prs)
-processes_allowed s n [] above e = tt
-processes_allowed s n (pr ∷ prs) above e =
-    all_append (Allowed s) (process_events s (pid n)) (processes_from s (n + 1) prs) (process_allowed s (pid n) (record { above = above; within = omega arith })) (processes_allowed s (n + 1) prs (omega arith) (omega arith))
-
-beg_allowed : (s : State) (u : UnitNo) (o : Option Request) → AllByRecursion (Allowed s) (beg_event u o)
-unfolding Allowed
-beg_allowed s u None = tt
-beg_allowed s u (Some r) = (tt, tt)
-
-don_allowed : (s : State) (u : UnitNo) (o : Option Request) → AllByRecursion (Allowed s) (don_or_beg s u o)
-unfolding Allowed
-don_allowed s u None = beg_allowed s u (front u s.requests)
-don_allowed s u (Some r) = (tt, tt)
-
-units_allowed : (s : State) (n : ℕ) (us : List DeviceUnit) → AllByRecursion (Allowed s) (units_from s n us)
-units_allowed s n [] = tt
-units_allowed s n (u ∷ us) =
-    let v : UnitNo = record { 0 = n } in
-    all_append (Allowed s) (unit_events s v) (units_from s (n + 1) us) (don_allowed s v (in_service v s.requests)) (units_allowed s (n + 1) us)
-
-ticks_allowed : (s : State) (ts : List Timer) → AllByRecursion (Allowed s) (tick_events ts)
-unfolding Allowed
-ticks_allowed s [] = tt
-ticks_allowed s (t ∷ ts) = (tt, tt)
-
-enabled_allowed : (s : State) (e : Event) → Contains (enabled s) e → Allowed s e
-enabled_allowed s e c =
-    let all =
-    all_append (Allowed s) (processes_from s 1 s.procs) (units_from s 0 s.units ++ tick_events s.timers) (processes_allowed s 1 s.procs (omega arith) refl)
-    (all_append (Allowed s) (units_from s 0 s.units) (tick_events s.timers) (units_allowed s 0 s.units) (ticks_allowed s s.timers)) in
-    subst (Allowed s) c.2 (all_at (Allowed s) (enabled s) c.0 e all c.1)
 
 -- By moves.
 
@@ -156,7 +95,6 @@ beg_sound s u None e h = h
 beg_sound s u (Some r) e h = sound_of (begun s r) (begun_sound s u r (front_found u s.requests r e) (firm s h)) (begun_own s r h.own_ids)
 
 allowed_sound : (s : State) (e : Event) → Allowed s e → IsWellFormed s.system → IsSound s → IsSound (step s e).after
-unfolding Allowed
 allowed_sound s (event.Run p) m w h = moved_sound s (step s (event.Run p)) (step_moves s (event.Run p) refl m (sound_base s h) (λ y. w)) h
 allowed_sound s (event.Ast p) m w h = delivered_sound s p (deliverable_ast s p) refl h
 allowed_sound s (event.Rdn p) m w h = moved_sound s (step s (event.Rdn p)) (step_moves s (event.Rdn p) refl m.0 (sound_base s h) (λ y. m.1)) h
