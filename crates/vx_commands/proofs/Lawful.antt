@@ -1,5 +1,5 @@
 -- The runs that were written, and those that were read, keep the six laws.
-use Rattle.std.proofs.Common.{◌≡◌, ℕ, List, Option}
+use Rattle.std.proofs.Common.{◌≡◌, ◌⊎◌, inl, inr, ℕ, List, Option, Some}
 use Rattle.std.specs.Io.KnownBytes.{Appends}
 use Rattle.vx_base.specs.declared.record.End.{End}
 use Rattle.vx_base.specs.declared.record.End.TheVariants.{Done, Hung, Limit}
@@ -12,7 +12,9 @@ use Rattle.vx_picks.specs.Picked.{picked}
 use Rattle.vx_record.specs.Runs.{IsRun, chosen}
 use Rattle.vx_tell.specs.declared.status.Status.{Status}
 use Rattle.vx_tell.specs.declared.status.Status.TheVariants as status
+use Rattle.vx_commands.specs.Summed.{WritesSummed}
 use Rattle.vx_commands.specs.Top.{Completes, ended, showed, Ends, ran, placed, explored, summed, judged, full_run, Explores, Follows, IsLawful, explored_are_lawful, followed_is_lawful, summed_is_lawful, run_is_lawful, place_is_missing, Rejects, reported, missed, read_is_lawful, read_is_bad, no_run, Judges, Simulates, status_of, status_of_end, WritesReport}
+use Rattle.vx_words.specs.Words.{size_of}
 
 simulated_lawful : (words : List (List ℕ)) (left left_after held held_after : Option (List ℕ)) (status : Status) (end : End) (text : List ℕ) → Simulates words left left_after end text → IsLawful words left left_after held held_after status
 simulated_lawful words left left_after held held_after status end text s =
@@ -38,6 +40,19 @@ verdict_lawful : (words : List (List ℕ)) (left left_after held held_after : Op
 verdict_lawful words left left_after held held_after status end w =
     let j = w.judges.reported.journal in
     read_is_lawful status w.judges.report w.judges.input j w.judges.read w.judges.reported.says (every_run_lawful j.system j.recs (judged_run j w.verdict end w.judges.reported.judged w.so))
+
+-- what a summary ends with is no refusal
+pub never_illegal : (s : Status) → (s ≡ status.Done) ⊎ (s ≡ status.Hung) ⊎ (s ≡ status.Limit) ⊎ (s ≡ status.NoMemory) ⊎ (s ≡ status.WriteFault) → s ≡ status.Illegal → ⊥
+never_illegal s (inl h) e = cc
+never_illegal s (inr (inl h)) e = cc
+never_illegal s (inr (inr (inl h))) e = cc
+never_illegal s (inr (inr (inr (inl h)))) e = cc
+never_illegal s (inr (inr (inr (inr h)))) e = cc
+
+-- a summary is of a run
+pub summary_lawful : (words : List (List ℕ)) (size : ℕ) (left left_after held held_after : Option (List ℕ)) (status : Status) (end : End) → size_of words ≡ Some size → WritesSummed size held held_after end → IsLawful words left left_after held held_after status
+summary_lawful words size left left_after held held_after status end asked w =
+    summed_is_lawful status size asked (every_run_lawful (generated size) (chosen (generated size) full_run.seed full_run.limit) w.summed.run)
 
 pub ended_lawful : (words : List (List ℕ)) (left left_after held held_after : Option (List ℕ)) (status : Status) (end : End) → Ends words left left_after held held_after end → IsLawful words left left_after held held_after status
 ended_lawful words left left_after held held_after status end (ran w) = simulated_lawful words left left_after held held_after status end w.text w.simulates

@@ -152,67 +152,6 @@ fn answer_input<S: Source, K: Sink>(
     }
 }
 
-/// What the words ask for, from the source to the sink.
-fn answer_call<S: Source, K: Sink>(
-    alloc: Global,
-    words: &[Bytes],
-    source: &mut S,
-    sink: &mut K,
-) -> Status
-    // The transcript of the run that the seed or the places choose was written, the summary of the generated system's, or a report
-    // of the one that was read, one clause for each end; or the canonical script; or a report of a transcript that is cut, or not the
-    // machine's; or the line of a place that is not there.
-    ensures done { result ≡ Status.Done →
-        Completes words.now (S.left source.old) (S.left source.new)
-        (K.held sink.old) (K.held sink.new) }
-    ensures hung { result ≡ Status.Hung →
-        Ends words.now (S.left source.old) (S.left source.new)
-        (K.held sink.old) (K.held sink.new) End.Hung }
-    ensures limit { result ≡ Status.Limit →
-        Ends words.now (S.left source.old) (S.left source.new)
-        (K.held sink.old) (K.held sink.new) End.Limit }
-    ensures illegal { result ≡ Status.Illegal →
-        Rejects words.now (S.left source.old) (S.left source.new)
-        (K.held sink.old) (K.held sink.new) }
-    ensures cut { result ≡ Status.Cut →
-        WritesCut words.now (S.left source.old) (S.left source.new)
-        (K.held sink.old) (K.held sink.new) }
-
-    // A line was written, each with its cause.
-    ensures words { result ≡ Status.Words →
-        RefusesWords words.now (S.left source.old) (S.left source.new)
-        × Appends (K.held sink.old) (K.held sink.new) usage }
-    ensures form { result ≡ Status.Form →
-        WritesFault words.now (S.left source.old) (S.left source.new)
-        (K.held sink.old) (K.held sink.new) }
-    ensures read_fault { result ≡ Status.ReadFault →
-        FailsToRead words.now (S.left source.old) (S.left source.new)
-        (S.faults source.old) (S.faults source.new)
-        × Appends (K.held sink.old) (K.held sink.new) read_fault }
-    ensures too_long { result ≡ Status.TooLong →
-        Overflows words.now (S.left source.old) (S.left source.new)
-        × Appends (K.held sink.old) (K.held sink.new) too_long }
-    ensures no_memory { result ≡ Status.NoMemory →
-        RunsOut words.now × TellsNoMemory words.now (S.left source.old) (S.left source.new)
-        (K.held sink.old) (K.held sink.new) }
-
-    // The sink failed in the middle of one of these texts.
-    ensures sink_rose { result ≡ Status.WriteFault → Rose (K.faults sink.old) (K.faults sink.new) }
-    ensures write_fault { result ≡ Status.WriteFault →
-        Breaks words.now (S.left source.old) (S.left source.new)
-        (S.faults source.old) (S.faults source.new)
-        (K.held sink.old) (K.held sink.new) }
-
-    // No count falls.
-    ensures source_later { S.faults source.old ≤ S.faults source.new }
-    ensures sink_later { K.faults sink.old ≤ K.faults sink.new }
-{
-    match size_of(words) {
-        Some(n) => summarize(alloc, n, sink),
-        None => answer_input(alloc, words, source, sink),
-    }
-}
-
 /// What the words ask for, from the source to the sink, of all words but those of `run`. It waits for nobody, and
 /// returns if the source and the sink do. The words are those after the program's name.
 pub fn quiet_call<S: Source, K: Sink>(
@@ -276,5 +215,8 @@ pub fn quiet_call<S: Source, K: Sink>(
     ensures source_later { S.faults source.old ≤ S.faults source.new }
     ensures sink_later { K.faults sink.old ≤ K.faults sink.new }
 {
-    answer_call(alloc, words, source, sink)
+    match size_of(words) {
+        Some(n) => summarize(alloc, n, sink),
+        None => answer_input(alloc, words, source, sink),
+    }
 }
