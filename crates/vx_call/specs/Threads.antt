@@ -10,9 +10,10 @@ use Rattle.vx_host.specs.Causes.{Rose}
 use Rattle.vx_host.specs.Streams.{TakesAll, Takes, TakesAtMost, AppendsFront}
 use Rattle.vx_journal.specs.Transcript.{transcript}
 use Rattle.vx_laws.specs.Laws.{KeepLaws}
-use Rattle.vx_run.specs.Carried.{IsCarried, IsNoScript}
+use Rattle.vx_run.specs.Carried.{IsCarried}
 use Rattle.vx_words.specs.Crew.{crew_of}
 use Rattle.vx_tell.specs.Lines.{no_memory, read_fault, too_long}
+use Rattle.vx_tell.specs.Refused.{IsNoScript}
 use Rattle.vx_commands.specs.Top.{status_of_end}
 use Rattle.vx_commands.specs.Top.{RefusesWords, Overflows, FailsToRead, RunsOut, Completes, Ends, IsLawful, WritesFault, Breaks, TellsNoMemory}
 use Rattle.vx_words.specs.declared.crew.Crew.{Crew}

@@ -1,5 +1,5 @@
 -- A front of the text of a call.
-use Rattle.std.proofs.Common.{◌≡◌, ℕ, List, Option, None, Some, refl, subst, sym, ◌∙◌}
+use Rattle.std.proofs.Common.{◌≡◌, ℕ, List, Option, None, Some, refl, sym, ◌∙◌}
 use Rattle.std.specs.Io.KnownBytes.{Keeps}
 use Rattle.std.specs.Option.{IsSome}
 use Rattle.vx_base.specs.declared.record.End.{End}
@@ -7,25 +7,23 @@ use Rattle.vx_host.specs.Causes.{Rose}
 use Rattle.vx_host.specs.Streams.{AppendsFront, Takes, TakesAtMost}
 use Rattle.vx_host.specs.declared.source.ReadFail.{ReadFail}
 use Rattle.vx_host.specs.declared.source.ReadFail.TheVariants as fail
-use Rattle.vx_check.specs.declared.verdict.Verdict.{Verdict}
 use Rattle.vx_words.specs.declared.command.Command.{Command}
 use Rattle.vx_words.specs.declared.command.Command.TheVariants.{Sim, Follow, Explore, Show, Check}
 use Rattle.vx_words.specs.declared.command.Options.{Options}
 use Rattle.vx_words.specs.declared.command.Report.{Report}
 use Rattle.vx_words.specs.declared.picks.Picks.{Picks}
 use Rattle.vx_words.specs.declared.scope.Scope.{Scope}
-use Rattle.vx_commands.specs.Exploring.{BreaksExplored, in_endings, in_cut_line}
-use Rattle.vx_commands.specs.Exploring.{in_fault_line as in_explored_fault, in_want_line as in_explored_want}
-use Rattle.vx_commands.specs.Following.{BreaksPicked, in_picked, in_lack, in_fault_line, in_want_line}
-use Rattle.vx_commands.specs.Judged.{BreaksJudged, IsFinding, in_report, in_line, in_shortage}
-use Rattle.vx_commands.specs.declared.judge.Finding.{Finding}
-use Rattle.vx_commands.specs.declared.judge.Finding.TheVariants.{Judged, Refused}
-use Rattle.vx_commands.specs.Simulated.{BreaksInput, in_run, in_refusal, in_no_memory, in_transcript, in_cut, StopsInput, at_once, on_the_way, BreaksShown, in_script, in_fault, in_want}
-use Rattle.vx_commands.specs.Summed.{BreaksSummed, WritesSummed, in_summary}
-use Rattle.vx_commands.specs.Summed.{in_shortage as in_run_shortage}
+use Rattle.vx_commands.specs.Shown.{BreaksShown, in_script, in_fault, in_want}
+use Rattle.vx_report.specs.Judged.{BreaksJudged, in_report, in_line, in_shortage}
+use Rattle.vx_simulate.specs.Following.{BreaksPicked, in_picked, in_lack, in_fault_line, in_want_line}
+use Rattle.vx_simulate.specs.Simulating.{BreaksInput, in_run, in_refusal, in_no_memory, in_transcript, in_cut, StopsInput, at_once, on_the_way}
+use Rattle.vx_simulate.specs.Summing.{BreaksSummed, WritesSummed, in_summary}
+use Rattle.vx_simulate.specs.Summing.{in_shortage as in_run_shortage}
+use Rattle.vx_survey.specs.Exploring.{BreaksExplored, in_endings, in_cut_line}
+use Rattle.vx_survey.specs.Exploring.{in_fault_line as in_explored_fault, in_want_line as in_explored_want}
 use Rattle.vx_tell.specs.Unread.{unread_line}
 use Rattle.vx_tell.specs.Lines.{no_memory, read_fault, too_long}
-use Rattle.vx_commands.specs.Top.{of_overflow, of_read_fault, IsReported, IsRefused, ReadsInput, RunsOut, Breaks, TellsNoMemory, alone, behind_lines, WritesSummary, of_cut_run, of_form, of_run, of_places, of_missing, of_endings, of_cut, of_show, of_summary, of_report, of_no_memory, at_input, at_run}
+use Rattle.vx_commands.specs.Top.{of_overflow, of_read_fault, ReadsInput, RunsOut, Breaks, TellsNoMemory, alone, behind_lines, WritesSummary, of_cut_run, of_form, of_run, of_places, of_missing, of_endings, of_cut, of_show, of_summary, of_report, of_no_memory, at_input, at_run}
 use Rattle.vx_words.specs.Words.{command_of, size_of}
 
 -- a front of what an input comes to is a front of the text of the call that read it
@@ -142,14 +140,6 @@ breaks_judged words report left left_after faults faults_after held held_after i
 -- the words ask for this command
 pub asks : (words : List (List ℕ)) (answer : Option Command) (command : Command) → answer ≡ command_of words → answer ≡ Some command → command_of words ≡ Some command
 asks words answer command h k = sym h ∙ k
-
--- what was found is a verdict with a report, or a refusal
-
-pub reported_by : (input seen : List ℕ) (report : Report) (f : Finding) (v : Verdict) (text : List ℕ) → seen ≡ input → f ≡ Judged v text → IsFinding seen report f → IsReported input report v text
-reported_by input seen report f v text same is h = subst (λ (xs : List ℕ). IsReported xs report v text) same (subst (IsFinding seen report) is h)
-
-pub refused_by : (input seen : List ℕ) (report : Report) (f : Finding) (text : List ℕ) → seen ≡ input → f ≡ Refused text → IsFinding seen report f → IsRefused input (Check report) text
-refused_by input seen report f text same is h = subst (λ (xs : List ℕ). IsRefused xs (Check report) text) same (subst (IsFinding seen report) is h)
 
 -- a front of a summary, or of the line on memory, where nothing was read
 pub breaks_summed : (words : List (List ℕ)) (size : ℕ) (left left_after : Option (List ℕ)) (faults faults_after : ℕ) (held held_after : Option (List ℕ)) → size_of words ≡ Some size → Keeps left left_after → BreaksSummed size held held_after → Breaks words left left_after faults faults_after held held_after

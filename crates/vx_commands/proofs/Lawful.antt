@@ -12,8 +12,10 @@ use Rattle.vx_picks.specs.Picked.{picked}
 use Rattle.vx_record.specs.Runs.{IsRun, chosen}
 use Rattle.vx_tell.specs.declared.status.Status.{Status}
 use Rattle.vx_tell.specs.declared.status.Status.TheVariants as status
-use Rattle.vx_commands.specs.Summed.{WritesSummed}
-use Rattle.vx_commands.specs.Top.{Completes, ended, showed, Ends, ran, placed, explored, summed, judged, full_run, Explores, Follows, IsLawful, explored_are_lawful, followed_is_lawful, summed_is_lawful, run_is_lawful, place_is_missing, Rejects, reported, missed, read_is_lawful, read_is_bad, no_run, Judges, Simulates, status_of, status_of_end, WritesReport}
+use Rattle.vx_report.specs.Reported.{status_of}
+use Rattle.vx_simulate.specs.Summed.{full_run}
+use Rattle.vx_simulate.specs.Summing.{WritesSummed}
+use Rattle.vx_commands.specs.Top.{Completes, ended, showed, Ends, ran, placed, explored, summed, judged, Explores, Follows, IsLawful, explored_are_lawful, followed_is_lawful, summed_is_lawful, run_is_lawful, place_is_missing, Rejects, reported, missed, read_is_lawful, read_is_bad, no_run, Judges, Simulates, status_of_end, WritesReport}
 use Rattle.vx_words.specs.Words.{size_of}
 
 simulated_lawful : (words : List (List ℕ)) (left left_after held held_after : Option (List ℕ)) (status : Status) (end : End) (text : List ℕ) → Simulates words left left_after end text → IsLawful words left left_after held held_after status

@@ -1,9 +1,3 @@
 pub mod Breaking
-pub mod ChosenRuns
-pub mod Simulated
-pub mod Simulating
 pub mod Lawful
-pub mod Reported
-pub mod Summing
-pub mod Picking
-pub mod Exploring
+pub mod Showing

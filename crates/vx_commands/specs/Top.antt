@@ -1,5 +1,5 @@
 -- What the top call answers and writes, and what it read for it.
-use Rattle.std.specs.Prelude.{◌≡◌, ℕ, List, [], ◌∷◌, ◌++◌, codes, decimal, Option, None, Some}
+use Rattle.std.specs.Prelude.{◌≡◌, ℕ, List, Option, None, Some}
 use Rattle.std.specs.Io.KnownBytes.{Appends, Keeps}
 use Rattle.vx_base.specs.declared.record.End.{End}
 use Rattle.vx_base.specs.declared.record.Rec.{Rec}
@@ -7,90 +7,32 @@ use Rattle.vx_base.specs.declared.record.End.TheVariants.{Done, Hung, Limit}
 use Rattle.vx_image.specs.declared.system.System.{System}
 use Rattle.vx_host.specs.Causes.{Rose}
 use Rattle.vx_host.specs.Streams.{TakesAll, Takes, TakesAtMost, AppendsFront}
-use Rattle.vx_grammar.specs.FirstFault.{Tells}
 use Rattle.vx_grammar.specs.Grammar.{Spells}
 use Rattle.vx_script.specs.Script.{script}
-use Rattle.vx_script.specs.declared.fault.ScriptFault.{ScriptFault}
-use Rattle.vx_record.specs.Runs.{IsRun, chosen, end_after}
+use Rattle.vx_record.specs.Runs.{IsRun, chosen}
 use Rattle.vx_laws.specs.Laws.{KeepLaws}
-use Rattle.vx_journal.specs.ReadJournal.{script_part, IsJournal, IsBadLine}
+use Rattle.vx_journal.specs.ReadJournal.{IsJournal}
 use Rattle.vx_journal.specs.declared.journal.Journal.{Journal}
-use Rattle.vx_check.specs.Verdict.{IsVerdict}
 use Rattle.vx_check.specs.declared.verdict.Verdict.{Verdict}
 use Rattle.vx_check.specs.declared.verdict.Verdict.TheVariants as verdict
-use Rattle.vx_draw.specs.Columns.{columns}
-use Rattle.vx_draw.specs.Picture.{picture}
-use Rattle.vx_gen.specs.Counted.{tally_of}
 use Rattle.vx_gen.specs.Generated.{generated}
-use Rattle.vx_gen.specs.declared.tally.Tally.{Tally}
-use Rattle.vx_journal.specs.Transcript.{end_line, transcript}
-use Rattle.vx_lines.specs.Records.{ended_lines}
 use Rattle.vx_picks.specs.Picked.{picked}
-use Rattle.vx_commands.specs.Explored.{IsCutShort, IsExplored}
-use Rattle.vx_commands.specs.Followed.{IsFollowed, LacksPlace}
-use Rattle.vx_tell.specs.Lines.{fault_line, form_line, no_memory, read_fault, too_long, usage}
+use Rattle.vx_survey.specs.Explored.{IsCutShort, IsExplored}
+use Rattle.vx_simulate.specs.Followed.{IsFollowed, LacksPlace}
+use Rattle.vx_tell.specs.Lines.{no_memory, read_fault, too_long, usage}
 use Rattle.vx_words.specs.Words.{command_of, size_of}
 use Rattle.vx_words.specs.declared.command.Command.{Command}
 use Rattle.vx_words.specs.declared.command.Command.TheVariants.{Sim, Follow, Explore, Show, Check}
 use Rattle.vx_words.specs.declared.command.Options.{Options}
 use Rattle.vx_words.specs.declared.command.Report.{Report}
-use Rattle.vx_words.specs.declared.command.Report.TheVariants.{Line, Picture, Columns}
 use Rattle.vx_words.specs.declared.picks.Picks.{Picks}
 use Rattle.vx_words.specs.declared.scope.Scope.{Scope}
 use Rattle.vx_tell.specs.declared.status.Status.{Status}
 use Rattle.vx_tell.specs.declared.status.Status.TheVariants as status
-
--- The summary of a run, and how it ended.
-
-abbrev pub count_line : List ℕ → ℕ → List ℕ
-count_line word n = word ++ 32 ∷ decimal n
-
-abbrev pub summary_lines : Tally → End → List (List ℕ)
-summary_lines t end = count_line (codes "records") t.records ∷ count_line (codes "requests") t.requests ∷ count_line (codes "finished") t.finished ∷
-    count_line (codes "asts") t.asts ∷ count_line (codes "time") t.time ∷ end_line end t.records ∷ []
-
-abbrev pub summary : Tally → End → List ℕ
-summary t end = ended_lines (summary_lines t end)
-
--- The line of a verdict, and its status.
-
-abbrev pub verdict_word : Verdict → List ℕ
-verdict_word (verdict.Complete n) = codes "complete"
-verdict_word (verdict.Hung n) = codes "hung"
-verdict_word (verdict.Limit n) = codes "limit"
-verdict_word (verdict.Prefix n) = codes "prefix"
-verdict_word (verdict.Bad n) = codes "bad"
-
-abbrev pub verdict_number : Verdict → ℕ
-verdict_number (verdict.Complete n) = n
-verdict_number (verdict.Hung n) = n
-verdict_number (verdict.Limit n) = n
-verdict_number (verdict.Prefix n) = n
-verdict_number (verdict.Bad n) = n
-
-abbrev pub verdict_line : Verdict → List ℕ
-verdict_line v = codes "check " ++ (verdict_word v ++ 32 ∷ (decimal (verdict_number v) ++ 10 ∷ []))
-
-abbrev pub status_of : Verdict → Status
-status_of (verdict.Complete n) = status.Done
-status_of (verdict.Hung n) = status.Hung
-status_of (verdict.Limit n) = status.Limit
-status_of (verdict.Prefix n) = status.Illegal
-status_of (verdict.Bad n) = status.Illegal
-
--- the number of the first record that is not the machine's, if the verdict is bad
-abbrev pub wrong_in : Verdict → Option ℕ
-wrong_in (verdict.Complete n) = None
-wrong_in (verdict.Hung n) = None
-wrong_in (verdict.Limit n) = None
-wrong_in (verdict.Prefix n) = None
-wrong_in (verdict.Bad n) = Some n
-
--- what is written of a transcript: the line of its verdict, a picture, or columns of text, each up to the first record that is wrong
-abbrev pub report_text : Report → Journal → Verdict → List ℕ
-report_text Line j v = verdict_line v
-report_text Picture j v = picture j.system j.recs j.trailer (wrong_in v)
-report_text Columns j v = columns j.system j.recs j.trailer (wrong_in v)
+use Rattle.vx_report.specs.Reported.{IsNoTranscript, IsReported, status_of}
+use Rattle.vx_simulate.specs.Simulated.{IsCut, IsSimulated}
+use Rattle.vx_simulate.specs.Summed.{IsSummed, full_run}
+use Rattle.vx_tell.specs.Refused.{IsNoScript}
 
 -- Why each answer comes: by the words, and by what the source gave, which had the bytes `left` before the call and
 -- `left_after` after it, and as many faults as `faults` and `faults_after`.
@@ -119,19 +61,13 @@ pub record ReadsInput (words : List (List ℕ)) (command : Command) (left left_a
   pub asked : command_of words ≡ Some command
   pub taken : TakesAll 67108864 left left_after input
 
--- the part of an input that is read as a script: all of it, and of a transcript the lines before the first that begins with $JOURNAL
-abbrev pub script_in : Command → List ℕ → List ℕ
-script_in (Sim options) input = input
-script_in (Follow picks) input = input
-script_in (Explore scope) input = input
-script_in Show input = input
-script_in (Check report) input = script_part input
-
--- why an input is refused, and the line that tells it: the part that is to be a script is none, and this is its first fault; or
--- what is to be a transcript is none, and this is its first bad line
-pub data IsRefused (input : List ℕ) : Command → List ℕ → Type 0 where
-  no_script : (command : Command) (fault : ScriptFault) → Tells (script_in command input) fault → IsRefused input command (fault_line fault)
-  no_journal : (report : Report) (line : ℕ) → IsBadLine input line → IsRefused input (Check report) (form_line line)
+-- why an input is refused, and the line that tells it: it is to be a script and is none, or, for `check` and `draw`, a transcript and is none
+abbrev pub IsRefused : List ℕ → Command → List ℕ → Type 0
+IsRefused input (Sim options) text = IsNoScript input text
+IsRefused input (Follow picks) text = IsNoScript input text
+IsRefused input (Explore scope) text = IsNoScript input text
+IsRefused input Show text = IsNoScript input text
+IsRefused input (Check report) text = IsNoTranscript input text
 
 -- The input is refused, and the text is the line that tells why.
 pub record RefusesText (words : List (List ℕ)) (left left_after : Option (List ℕ)) (text : List ℕ) : Type 0 where
@@ -139,21 +75,6 @@ pub record RefusesText (words : List (List ℕ)) (left left_after : Option (List
   pub input : List ℕ
   pub read : ReadsInput words command left left_after input
   pub refused : IsRefused input command text
-
--- What the seed chooses is a run of the machine from the system's first state, with at most as many records as the limit; it
--- has ended so; and the text is its transcript.
-pub record IsSimulated (system : System) (options : Options) (end : End) (text : List ℕ) : Type 0 where
-  pub run : IsRun system (chosen system options.seed options.limit)
-  pub ended : end_after system (chosen system options.seed options.limit) options.limit ≡ Some end
-  pub spells : text ≡ transcript system (chosen system options.seed options.limit) end
-
--- Memory ran out in that run: the text is whole lines from the front of its transcript, and then the line on memory.
-pub record IsCut (system : System) (options : Options) (text : List ℕ) : Type 0 where
-  pub end : End
-  pub lines : List (List ℕ)
-  pub rest : List ℕ
-  pub simulated : IsSimulated system options end (ended_lines lines ++ rest)
-  pub spells : text ≡ ended_lines lines ++ no_memory
 
 -- The command is `sim`, the input is the script of a system, and the text is the transcript of the run that the seed chooses.
 pub record Simulates (words : List (List ℕ)) (left left_after : Option (List ℕ)) (end : End) (text : List ℕ) : Type 0 where
@@ -201,16 +122,6 @@ pub record CutsRun (words : List (List ℕ)) (left left_after : Option (List ℕ
   pub says : Spells input system
   pub cut : IsCut system options text
 
--- the options of a generated run
-unfoldable pub full_run : Options
-full_run = record { seed = 0; limit = 100000 }
-
--- What the seed chooses is a run of the machine, which has ended so; and the text is the summary of its records.
-pub record IsSummed (system : System) (options : Options) (end : End) (text : List ℕ) : Type 0 where
-  pub run : IsRun system (chosen system options.seed options.limit)
-  pub ended : end_after system (chosen system options.seed options.limit) options.limit ≡ Some end
-  pub spells : text ≡ summary (tally_of (chosen system options.seed options.limit)) end
-
 -- The words are `gen N`, nothing was read, and the text is the summary of the generated system's run at seed 0 and limit 100,000.
 pub record Generates (words : List (List ℕ)) (left left_after : Option (List ℕ)) (end : End) (text : List ℕ) : Type 0 where
   pub size : ℕ
@@ -225,13 +136,6 @@ pub record Shows (words : List (List ℕ)) (left left_after : Option (List ℕ))
   pub system : System
   pub says : Spells input system
   pub spells : text ≡ script system
-
--- The input is a transcript, this is the verdict on it, and the text is the report of it.
-pub record IsReported (input : List ℕ) (report : Report) (verdict : Verdict) (text : List ℕ) : Type 0 where
-  pub journal : Journal
-  pub says : IsJournal input journal
-  pub judged : IsVerdict journal verdict
-  pub spells : text ≡ report_text report journal verdict
 
 -- The command is `check` or `draw`, this is the verdict on its input, and the text is the report of it.
 pub record Judges (words : List (List ℕ)) (left left_after : Option (List ℕ)) (verdict : Verdict) (text : List ℕ) : Type 0 where

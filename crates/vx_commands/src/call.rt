@@ -1,82 +1,24 @@
 //! The call of all commands but `run`.
 
-ghost use Rattle.std.specs.Prelude.{◌≡◌, ◌⊎◌, ◌<◌, ◌≤◌, None, length};
+ghost use Rattle.std.specs.Prelude.{◌≡◌, ◌⊎◌, ◌≤◌, None};
 ghost use Rattle.std.specs.Io.KnownBytes.{Appends};
 ghost use Rattle.vx_host.specs.Causes.{Rose};
-ghost use Rattle.vx_commands.specs.Simulated.{WritesRun, WritesRefusal, WritesShown, BreaksInput, BreaksShown, StopsInput};
-ghost use Rattle.vx_tell.specs.Lines.{usage, too_long, read_fault, no_memory};
+ghost use Rattle.vx_tell.specs.Lines.{usage, too_long, read_fault};
 ghost use Rattle.vx_commands.specs.Top.{RefusesWords, Overflows, FailsToRead, RunsOut, Completes, Ends, IsLawful, Rejects, WritesCut, WritesFault, Breaks, TellsNoMemory};
 ghost use Rattle.vx_words.specs.Words.{size_of};
 
-use crate::explore::explore;
-use crate::follow::follow;
-use crate::judge::judge;
-use crate::simulate::run;
-use crate::summary::summarize;
+use crate::show::show;
 use std::alloc::Global;
 use vx_base::{Bytes, End, NoMemory};
-use vx_grammar::read_script;
 use vx_host::{Sink, Source, read_all};
-use vx_script::{ScriptFail, print_script};
-use vx_tell::{Status, tell, tell_fault, tell_no_memory, tell_unread};
-use vx_words::{Command, Options, command_of, size_of};
+use vx_report::judge;
+use vx_simulate::{follow, simulate, summarize};
+use vx_survey::explore;
+use vx_tell::{Status, tell, tell_no_memory, tell_unread};
+use vx_words::{Command, command_of, size_of};
 
 /// The most bytes of an input.
 pub const MOST: u32 = 67_108_864;
-
-/// Simulates an input that was read whole, and writes its transcript as the run goes, or why there is none.
-fn simulate<K: Sink>(alloc: Global, options: Options, input: &Bytes, sink: &mut K) -> Status
-    requires size { length input.now < 4294967295 }
-    requires above { 1 ≤ options.limit }
-    requires within { options.limit ≤ 100000 }
-    ensures status { (result ≡ Status.Done) ⊎ (result ≡ Status.Hung) ⊎ (result ≡ Status.Limit)
-        ⊎ (result ≡ Status.Form) ⊎ (result ≡ Status.NoMemory) ⊎ (result ≡ Status.WriteFault) }
-    ensures done { result ≡ Status.Done →
-        WritesRun input.now options (K.held sink.old) (K.held sink.new) End.Done }
-    ensures hung { result ≡ Status.Hung →
-        WritesRun input.now options (K.held sink.old) (K.held sink.new) End.Hung }
-    ensures limit { result ≡ Status.Limit →
-        WritesRun input.now options (K.held sink.old) (K.held sink.new) End.Limit }
-    ensures form { result ≡ Status.Form →
-        WritesRefusal (Command.Sim options) input.now (K.held sink.old) (K.held sink.new) }
-    ensures no_memory { result ≡ Status.NoMemory →
-        StopsInput input.now options (K.held sink.old) (K.held sink.new) }
-    ensures front { result ≡ Status.WriteFault →
-        BreaksInput input.now options (K.held sink.old) (K.held sink.new) }
-    ensures cause { result ≡ Status.WriteFault → Rose (K.faults sink.old) (K.faults sink.new) }
-    ensures later { K.faults sink.old ≤ K.faults sink.new }
-{
-    match read_script(alloc, input.as_slice()) {
-        Ok(system) => run(alloc, system, options, sink),
-        Err(ScriptFail::Fault(fault)) => tell_fault(alloc, fault, sink),
-        Err(ScriptFail::NoMemory) => tell_no_memory(sink),
-    }
-}
-
-/// Writes the canonical script of an input that was read whole, or why there is none.
-fn show<K: Sink>(alloc: Global, input: &Bytes, sink: &mut K) -> Status
-    requires { length input.now < 4294967295 }
-    ensures status { (result ≡ Status.Done) ⊎ (result ≡ Status.Form)
-        ⊎ (result ≡ Status.NoMemory) ⊎ (result ≡ Status.WriteFault) }
-    ensures done { result ≡ Status.Done → WritesShown input.now (K.held sink.old) (K.held sink.new) }
-    ensures form { result ≡ Status.Form →
-        WritesRefusal Command.Show input.now (K.held sink.old) (K.held sink.new) }
-    ensures no_memory { result ≡ Status.NoMemory →
-        Appends (K.held sink.old) (K.held sink.new) no_memory }
-    ensures front { result ≡ Status.WriteFault →
-        BreaksShown input.now (K.held sink.old) (K.held sink.new) }
-    ensures cause { result ≡ Status.WriteFault → Rose (K.faults sink.old) (K.faults sink.new) }
-    ensures later { K.faults sink.old ≤ K.faults sink.new }
-{
-    match read_script(alloc, input.as_slice()) {
-        Ok(system) => match print_script(alloc, &system) {
-            Ok(text) => tell(sink, text.as_slice(), Status::Done),
-            Err(NoMemory) => tell_no_memory(sink),
-        },
-        Err(ScriptFail::Fault(fault)) => tell_fault(alloc, fault, sink),
-        Err(ScriptFail::NoMemory) => tell_no_memory(sink),
-    }
-}
 
 /// What words ask for that are not `gen N`, from the source to the sink.
 fn answer_input<S: Source, K: Sink>(

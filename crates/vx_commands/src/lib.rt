@@ -5,11 +5,6 @@
 #![tactic(auto)]
 
 mod call;
-mod explore;
-mod follow;
-mod judge;
-mod simulate;
-mod summary;
-mod verdict;
+mod show;
 
 pub use call::{MOST, quiet_call};

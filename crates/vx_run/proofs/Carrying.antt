@@ -1,6 +1,5 @@
 -- A run that threads took, and what is written of it.
-use Rattle.std.proofs.Common.{◌≡◌, ℕ, List, ◌++◌, Option, ◌⊎◌, inl, inr, refl, subst, codes}
-use Rattle.std.specs.Io.KnownBytes.{Appends}
+use Rattle.std.proofs.Common.{◌≡◌, ℕ, List, ◌++◌, Option, ◌⊎◌, inl, inr, subst, codes}
 use Rattle.vx_base.specs.declared.record.End.{End}
 use Rattle.vx_base.specs.declared.record.Rec.{Rec}
 use Rattle.vx_carrier.specs.Pool.{IsPoolRun}
@@ -15,8 +14,9 @@ use Rattle.vx_record.specs.Runs.{first}
 use Rattle.vx_script.specs.Script.{script}
 use Rattle.vx_script.specs.declared.fault.ScriptFault.{ScriptFault}
 use Rattle.vx_trailer.proofs.Spelled.{spelled_run}
-use Rattle.vx_run.specs.Carried.{BreaksCarried, BreaksRunOf, GainsCarried, GainsFault, GainsRunOf, IsCarriedText, in_carried, in_no_script, in_run_of, in_shortage, in_want}
+use Rattle.vx_run.specs.Carried.{BreaksCarried, BreaksRunOf, GainsCarried, GainsRunOf, IsCarriedText, in_carried, in_no_script, in_run_of, in_shortage, in_want}
 use Rattle.vx_tell.specs.Lines.{fault_line, no_memory}
+use Rattle.vx_tell.proofs.Told.{no_script}
 
 -- what was printed of a pool's run is the run's transcript
 pub is_carried_text : (system : System) (limit : ℕ) (before closed : Executive) (recs : List Rec) (e : End) (text : List ℕ) → before ≡ record { state = first system; limit = limit; taken = 0 } → IsPoolRun before closed recs e → text ≡ ((script system ++ codes "$JOURNAL 1\n") ++ ended_lines (records_lines closed.state.system.units 1 recs)) ++ ended_lines (trailer_lines closed.state e closed.taken) → IsCarriedText system limit e text
@@ -33,9 +33,6 @@ pub breaks_carried : (input : List ℕ) (limit : ℕ) (held held_after : Option 
 breaks_carried input limit held held_after system says (in_run_of end text carried front) = in_carried end text (record { system = system; says = says; carried = carried }) front
 breaks_carried input limit held held_after system says (in_shortage front) = in_want front
 
-pub gains_fault : (input : List ℕ) (held held_after : Option (List ℕ)) (fault : ScriptFault) → Tells input fault → Appends held held_after (fault_line fault) → GainsFault input held held_after
-gains_fault input held held_after fault tells written = record { text = fault_line fault; refused = record { fault = fault; tells = tells; spells = refl }; written = written }
-
 pub breaks_fault : (input : List ℕ) (limit : ℕ) (held held_after : Option (List ℕ)) (fault : ScriptFault) → Tells input fault → AppendsFront held held_after (fault_line fault) ⊎ AppendsFront held held_after no_memory → BreaksCarried input limit held held_after
-breaks_fault input limit held held_after fault tells (inl front) = in_no_script (fault_line fault) (record { fault = fault; tells = tells; spells = refl }) front
+breaks_fault input limit held held_after fault tells (inl front) = in_no_script (fault_line fault) (no_script input fault tells) front
 breaks_fault input limit held held_after fault tells (inr front) = in_want front

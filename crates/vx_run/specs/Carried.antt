@@ -3,14 +3,13 @@ use Rattle.std.specs.Prelude.{◌≡◌, ℕ, List, Option, Some}
 use Rattle.std.specs.Io.KnownBytes.{Appends}
 use Rattle.vx_base.specs.declared.record.End.{End}
 use Rattle.vx_base.specs.declared.record.Rec.{Rec}
-use Rattle.vx_grammar.specs.FirstFault.{Tells}
 use Rattle.vx_grammar.specs.Grammar.{Spells}
 use Rattle.vx_image.specs.declared.system.System.{System}
 use Rattle.vx_host.specs.Streams.{AppendsFront}
 use Rattle.vx_journal.specs.Transcript.{transcript}
 use Rattle.vx_record.specs.Runs.{IsRun, end_after}
-use Rattle.vx_script.specs.declared.fault.ScriptFault.{ScriptFault}
-use Rattle.vx_tell.specs.Lines.{fault_line, no_memory}
+use Rattle.vx_tell.specs.Lines.{no_memory}
+use Rattle.vx_tell.specs.Refused.{IsNoScript}
 
 -- Some records are a run of the machine from the system's first state; it has ended so, with at most as many records as the
 -- limit; and the text is its transcript.
@@ -25,12 +24,6 @@ pub record IsCarried (input : List ℕ) (limit : ℕ) (end : End) (text : List �
   pub system : System
   pub says : Spells input system
   pub carried : IsCarriedText system limit end text
-
--- The input is no script, and the text is the line of its first fault.
-pub record IsNoScript (input text : List ℕ) : Type 0 where
-  pub fault : ScriptFault
-  pub tells : Tells input fault
-  pub spells : text ≡ fault_line fault
 
 -- The sink holds the transcript of a run of the system more, which has ended so.
 pub record GainsRunOf (system : System) (limit : ℕ) (held held_after : Option (List ℕ)) (end : End) : Type 0 where
@@ -47,12 +40,6 @@ pub data BreaksRunOf (system : System) (limit : ℕ) (held held_after : Option (
 pub record GainsCarried (input : List ℕ) (limit : ℕ) (held held_after : Option (List ℕ)) (end : End) : Type 0 where
   pub text : List ℕ
   pub carried : IsCarried input limit end text
-  pub written : Appends held held_after text
-
--- The sink holds the line of the input's first fault more.
-pub record GainsFault (input : List ℕ) (held held_after : Option (List ℕ)) : Type 0 where
-  pub text : List ℕ
-  pub refused : IsNoScript input text
   pub written : Appends held held_after text
 
 -- The sink holds a front of the transcript, of the line of a fault or of the line on memory more.

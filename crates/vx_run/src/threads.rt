@@ -4,8 +4,9 @@ ghost use Rattle.std.specs.Prelude.{◌≡◌, ◌≢◌, ◌⊎◌, ◌<◌, �
 ghost use Rattle.std.specs.Io.KnownBytes.{Appends};
 ghost use Rattle.vx_host.specs.Causes.{Rose};
 ghost use Rattle.vx_image.specs.WellFormed.{IsWellFormed};
-ghost use Rattle.vx_run.specs.Carried.{BreaksCarried, BreaksRunOf, GainsCarried, GainsFault, GainsRunOf, IsCarriedText};
+ghost use Rattle.vx_run.specs.Carried.{BreaksCarried, BreaksRunOf, GainsCarried, GainsRunOf, IsCarriedText};
 ghost use Rattle.vx_tell.specs.Lines.{no_memory};
+ghost use Rattle.vx_tell.specs.Refused.{GainsFault};
 ghost use Rattle.vx_words.specs.Crew.{IsCrew};
 
 use std::alloc::Global;

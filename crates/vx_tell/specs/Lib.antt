@@ -1,3 +1,4 @@
 pub mod Code
 pub mod Lines
 pub mod Unread
+pub mod Refused

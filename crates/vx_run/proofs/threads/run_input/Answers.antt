@@ -1,6 +1,6 @@
 use Rattle.vx_base.specs.declared.record.End.TheVariants.{Done, Hung, Limit}
-use Rattle.vx_run.proofs.Carrying.{breaks_carried, breaks_fault, gains_carried, gains_fault}
-use Rattle.vx_tell.proofs.Told.{told}
+use Rattle.vx_run.proofs.Carrying.{breaks_carried, breaks_fault, gains_carried}
+use Rattle.vx_tell.proofs.Told.{gains_fault, told}
 use Rattle.vx_run.proofs.threads.run_input.Goals as goal
 
 pub returns-in-Ok-clause-done : goal.returns-in-Ok-clause-done

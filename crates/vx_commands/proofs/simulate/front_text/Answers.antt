@@ -1,5 +1,0 @@
-use Rattle.vx_commands.proofs.Simulated.{front_spelled}
-use Rattle.vx_commands.proofs.simulate.front_text.Goals as goal
-
-pub returns : goal.returns
-returns c = front_spelled c.args.system.now c.push_all.new.self (rw c.in_ok-text.ensures at c.in_ok-push_all.ensures.ok)

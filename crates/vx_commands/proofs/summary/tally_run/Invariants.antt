@@ -1,9 +1,0 @@
-use Rattle.std.proofs.Common.{◌-◌}
-use Rattle.vx_commands.proofs.Summing.{Tallying}
-use Rattle.vx_commands.proofs.summary.tally_run.Given as goal
-
-abbrev pub invariant-steps : goal.invariant-steps
-invariant-steps l = Tallying l.fn.exec l.exec l.fn.seed l.next.x l.tally
-
-abbrev pub decreases-steps : goal.decreases-steps
-decreases-steps l = l.exec.limit - l.exec.taken

@@ -1,0 +1,5 @@
+pub mod ChosenRuns
+pub mod Simulated
+pub mod Simulating
+pub mod Picking
+pub mod Summing

@@ -1,0 +1,13 @@
+//! `sim` and `gen`: takes one run of a system, and writes its transcript or its summary.
+//!
+//! `simulate` takes the run that a seed chooses of a script that was read, and writes the transcript as the run goes; `follow` takes the
+//! one that a list of places chooses; and `summarize` that of a generated system, of which it writes the summary alone.
+#![tactic(auto)]
+
+mod by_places;
+mod by_seed;
+mod summary;
+
+pub use by_places::follow;
+pub use by_seed::simulate;
+pub use summary::summarize;
