@@ -12,10 +12,10 @@ use std::sync::Wait;
 use std::thread::Threads;
 use vx_base::{Bytes, End};
 use vx_carrier::Gate;
-use vx_commands::{MOST, quiet_call};
+use vx_commands::quiet_call;
 use vx_host::{Sink, Source, read_all};
 use vx_run::run_input;
-use vx_tell::{Status, tell_unread};
+use vx_tell::{MOST_INPUT, Status, tell_unread};
 use vx_words::crew_of;
 
 /// The call that the program makes: what the words ask for, from the source to the sink. For `run` it starts threads, which may
@@ -85,7 +85,7 @@ pub fn vms_call<Q: Threads + Wait + Sync, S: Source, K: Sink, G: Gate + Sync>(
     let Some(crew) = crew_of(words) else {
         return quiet_call(alloc, words, source, sink);
     };
-    match read_all(alloc, source, MOST) {
+    match read_all(alloc, source, MOST_INPUT) {
         Ok(input) => run_input(rt, alloc, crew, &input, sink, gate),
         Err(fail) => tell_unread(sink, fail),
     }

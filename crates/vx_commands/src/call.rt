@@ -14,11 +14,8 @@ use vx_host::{Sink, Source, read_all};
 use vx_report::judge;
 use vx_simulate::{follow, simulate, summarize};
 use vx_survey::explore;
-use vx_tell::{Status, tell, tell_no_memory, tell_unread};
+use vx_tell::{MOST_INPUT, Status, tell, tell_no_memory, tell_unread};
 use vx_words::{Command, command_of, size_of};
-
-/// The most bytes of an input.
-pub const MOST: u32 = 67_108_864;
 
 /// What words ask for that are not `gen N`, from the source to the sink.
 fn answer_input<S: Source, K: Sink>(
@@ -82,7 +79,7 @@ fn answer_input<S: Source, K: Sink>(
     let Some(command) = asked else {
         return tell(sink, b"vms: usage\n", Status::Words);
     };
-    match read_all(alloc, source, MOST) {
+    match read_all(alloc, source, MOST_INPUT) {
         Ok(input) => match command {
             Command::Sim(options) => simulate(alloc, options, &input, sink),
             Command::Follow(picks) => follow(alloc, &picks, &input, sink),

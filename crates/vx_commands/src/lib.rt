@@ -7,4 +7,4 @@
 mod call;
 mod show;
 
-pub use call::{MOST, quiet_call};
+pub use call::quiet_call;

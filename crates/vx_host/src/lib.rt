@@ -12,8 +12,10 @@ mod memory;
 mod sink;
 mod source;
 mod standard;
+mod words;
 
 pub use memory::{MemSink, MemSource};
 pub use sink::{Sink, write_all};
 pub use source::{Failed, ReadFail, Source, read_all};
 pub use standard::{StdSink, StdSource};
+pub use words::words_of;

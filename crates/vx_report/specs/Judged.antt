@@ -15,7 +15,7 @@ abbrev pub IsFinding : List ℕ → Report → Finding → Type 0
 IsFinding input report (Judged verdict text) = IsReported input report verdict text
 IsFinding input report (Refused text) = IsNoTranscript input text
 
--- The sink holds the report of the input more, and the verdict has this status.
+-- The sink gained the report of the input, and the verdict has this status.
 pub record WritesFinding (input : List ℕ) (report : Report) (held held_after : Option (List ℕ)) (status : Status) : Type 0 where
   pub verdict : Verdict
   pub text : List ℕ
@@ -29,7 +29,7 @@ pub record GainsRefusal (input : List ℕ) (held held_after : Option (List ℕ))
   pub refused : IsNoTranscript input text
   pub written : Appends held held_after text
 
--- The sink holds a front of the report, of the line of a refusal or of the line on memory more.
+-- The sink gained a front of the report, of the line of a refusal or of the line on memory.
 pub data BreaksJudged (input : List ℕ) (report : Report) (held held_after : Option (List ℕ)) : Type 0 where
   in_report : (verdict : Verdict) (text : List ℕ) → IsReported input report verdict text → AppendsFront held held_after text → BreaksJudged input report held held_after
   in_line : (text : List ℕ) → IsNoTranscript input text → AppendsFront held held_after text → BreaksJudged input report held held_after

@@ -25,24 +25,24 @@ pub record IsCarried (input : List ℕ) (limit : ℕ) (end : End) (text : List �
   pub says : Spells input system
   pub carried : IsCarriedText system limit end text
 
--- The sink holds the transcript of a run of the system more, which has ended so.
+-- The sink gained the transcript of a run of the system, which has ended so.
 pub record GainsRunOf (system : System) (limit : ℕ) (held held_after : Option (List ℕ)) (end : End) : Type 0 where
   pub text : List ℕ
   pub carried : IsCarriedText system limit end text
   pub written : Appends held held_after text
 
--- The sink holds a front of that transcript or of the line on memory more.
+-- The sink gained a front of that transcript or of the line on memory.
 pub data BreaksRunOf (system : System) (limit : ℕ) (held held_after : Option (List ℕ)) : Type 0 where
   in_run_of : (end : End) (text : List ℕ) → IsCarriedText system limit end text → AppendsFront held held_after text → BreaksRunOf system limit held held_after
   in_shortage : AppendsFront held held_after no_memory → BreaksRunOf system limit held held_after
 
--- The sink holds the transcript of a run of the input more, which has ended so.
+-- The sink gained the transcript of a run of the input, which has ended so.
 pub record GainsCarried (input : List ℕ) (limit : ℕ) (held held_after : Option (List ℕ)) (end : End) : Type 0 where
   pub text : List ℕ
   pub carried : IsCarried input limit end text
   pub written : Appends held held_after text
 
--- The sink holds a front of the transcript, of the line of a fault or of the line on memory more.
+-- The sink gained a front of the transcript, of the line of a fault or of the line on memory.
 pub data BreaksCarried (input : List ℕ) (limit : ℕ) (held held_after : Option (List ℕ)) : Type 0 where
   in_carried : (end : End) (text : List ℕ) → IsCarried input limit end text → AppendsFront held held_after text → BreaksCarried input limit held held_after
   in_no_script : (text : List ℕ) → IsNoScript input text → AppendsFront held held_after text → BreaksCarried input limit held held_after

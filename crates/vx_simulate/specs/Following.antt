@@ -16,19 +16,19 @@ IsCourse input picks (Ended end text) = IsFollowed input picks end text
 IsCourse input picks (Missing text) = LacksPlace input picks text
 IsCourse input picks (Refused text) = IsNoScript input text
 
--- The sink holds the transcript of the run more, which has ended so.
+-- The sink gained the transcript of the run, which has ended so.
 pub record WritesPicked (input : List ℕ) (picks : Picks) (held held_after : Option (List ℕ)) (end : End) : Type 0 where
   pub text : List ℕ
   pub followed : IsFollowed input picks end text
   pub written : Appends held held_after text
 
--- The sink holds the line of a place that is not there more.
+-- The sink gained the line of a place that is not there.
 pub record WritesLack (input : List ℕ) (picks : Picks) (held held_after : Option (List ℕ)) : Type 0 where
   pub text : List ℕ
   pub lacks : LacksPlace input picks text
   pub written : Appends held held_after text
 
--- The sink holds a front of the transcript, of the line of a place, of the line of a refusal or of the line on memory more.
+-- The sink gained a front of the transcript, of the line of a place, of the line of a refusal or of the line on memory.
 pub data BreaksPicked (input : List ℕ) (picks : Picks) (held held_after : Option (List ℕ)) : Type 0 where
   in_picked : (end : End) (text : List ℕ) → IsFollowed input picks end text → AppendsFront held held_after text → BreaksPicked input picks held held_after
   in_lack : (text : List ℕ) → LacksPlace input picks text → AppendsFront held held_after text → BreaksPicked input picks held held_after

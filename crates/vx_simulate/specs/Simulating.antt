@@ -58,7 +58,7 @@ pub data BreaksRun (system : System) (options : Options) (held held_after : Opti
 
 -- What an input comes to.
 
--- The input is the script of a system, and the sink holds the transcript of its run more, which has ended so.
+-- The input is the script of a system, and the sink gained the transcript of its run, which has ended so.
 pub record WritesRun (input : List ℕ) (options : Options) (held held_after : Option (List ℕ)) (end : End) : Type 0 where
   pub system : System
   pub says : Spells input system
@@ -66,12 +66,12 @@ pub record WritesRun (input : List ℕ) (options : Options) (held held_after : O
   pub simulated : IsSimulated system options end text
   pub written : Appends held held_after text
 
--- The sink holds the line on memory more, or before it, if the input is the script of a system, lines of the transcript of its run.
+-- The sink gained the line on memory, or before it, if the input is the script of a system, lines of the transcript of its run.
 pub data StopsInput (input : List ℕ) (options : Options) (held held_after : Option (List ℕ)) : Type 0 where
   at_once : Appends held held_after no_memory → StopsInput input options held held_after
   on_the_way : (system : System) → Spells input system → GainsCut system options held held_after → StopsInput input options held held_after
 
--- The sink holds a front of what is written of a run, of the line of a refusal or of the line on memory more.
+-- The sink gained a front of what is written of a run, of the line of a refusal or of the line on memory.
 pub data BreaksInput (input : List ℕ) (options : Options) (held held_after : Option (List ℕ)) : Type 0 where
   in_run : (system : System) → Spells input system → BreaksRun system options held held_after → BreaksInput input options held held_after
   in_refusal : (text : List ℕ) → IsNoScript input text → AppendsFront held held_after text → BreaksInput input options held held_after

@@ -18,13 +18,13 @@ pub record Tallies (before after : Executive) (seed : ℕ) (tally : Tally) (end 
   pub ran : EndsRun before after seed recs end
   pub counts : tally ≡ tally_of recs
 
--- The sink holds the summary of the run more, which has ended so.
+-- The sink gained the summary of the run, which has ended so.
 pub record WritesSummed (size : ℕ) (held held_after : Option (List ℕ)) (end : End) : Type 0 where
   pub text : List ℕ
   pub summed : IsSummed (generated size) full_run end text
   pub written : Appends held held_after text
 
--- The sink holds a front of the summary or of the line on memory more.
+-- The sink gained a front of the summary or of the line on memory.
 pub data BreaksSummed (size : ℕ) (held held_after : Option (List ℕ)) : Type 0 where
   in_summary : (end : End) (text : List ℕ) → IsSummed (generated size) full_run end text → AppendsFront held held_after text → BreaksSummed size held held_after
   in_shortage : AppendsFront held held_after no_memory → BreaksSummed size held held_after

@@ -22,19 +22,19 @@ IsSurvey input scope (Told end text) = IsExplored input scope end text
 IsSurvey input scope (Cut text) = IsCutShort input scope text
 IsSurvey input scope (Refused text) = IsNoScript input text
 
--- The sink holds the text of all endings more, of which this is the worst end.
+-- The sink gained the text that tells how all runs end, the worst of them this way.
 pub record WritesExplored (input : List ℕ) (scope : Scope) (held held_after : Option (List ℕ)) (end : End) : Type 0 where
   pub text : List ℕ
   pub explored : IsExplored input scope end text
   pub written : Appends held held_after text
 
--- The sink holds the line on too many states more.
+-- The sink gained the line on too many states.
 pub record WritesCutShort (input : List ℕ) (scope : Scope) (held held_after : Option (List ℕ)) : Type 0 where
   pub text : List ℕ
   pub cut : IsCutShort input scope text
   pub written : Appends held held_after text
 
--- The sink holds a front of the text of all endings, of the line on states, of the line of a refusal or of the line on memory more.
+-- The sink gained a front of the text of all endings, of the line on states, of the line of a refusal or of the line on memory.
 pub data BreaksExplored (input : List ℕ) (scope : Scope) (held held_after : Option (List ℕ)) : Type 0 where
   in_endings : (end : End) (text : List ℕ) → IsExplored input scope end text → AppendsFront held held_after text → BreaksExplored input scope held held_after
   in_cut_line : (text : List ℕ) → IsCutShort input scope text → AppendsFront held held_after text → BreaksExplored input scope held held_after

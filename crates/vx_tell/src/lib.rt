@@ -6,5 +6,6 @@ mod write;
 
 pub use status::Status;
 pub use write::{
-    fault_line, form_line, tell, tell_fault, tell_no_memory, tell_transcript, tell_unread,
+    MOST_INPUT, fault_line, form_line, tell, tell_fault, tell_no_memory, tell_transcript,
+    tell_unread,
 };

@@ -66,6 +66,9 @@ pub fn tell_transcript<K: Sink>(sink: &mut K, text: &[u8], end: End) -> Status
     }
 }
 
+/// The most bytes of an input, 64 MiB.
+pub const MOST_INPUT: u32 = 67_108_864;
+
 /// Writes why an input was not read whole.
 pub fn tell_unread<K: Sink>(sink: &mut K, fail: ReadFail) -> Status
     ensures status { (result ≡ Status.ReadFault) ⊎ (result ≡ Status.TooLong) ⊎ (result ≡ Status.NoMemory)

@@ -1,0 +1,47 @@
+//! The program `vms_sim`: `sim` and `gen` of `vms`, and no other command.
+//!
+//! Where nothing is built `./vms` runs the sources without their proofs, which takes as long as the program reaches far. So it runs
+//! this program for these two commands. They are answered by the same calls as in `vms`, and `tools/checks` compares the two.
+#![tactic(auto)]
+
+use std::alloc::Global;
+use std::process::ExitCode;
+use vx_base::{Bytes, NoMemory};
+use vx_host::{Sink, Source, StdSink, StdSource, read_all, words_of};
+use vx_simulate::{follow, simulate, summarize};
+use vx_tell::{MOST_INPUT, Status, tell, tell_no_memory, tell_unread};
+use vx_words::{Command, command_of, size_of};
+
+/// Answers `sim`.
+fn answer_sim<S: Source, K: Sink>(
+    alloc: Global,
+    words: &[Bytes],
+    source: &mut S,
+    sink: &mut K,
+) -> Status {
+    match command_of(alloc, words) {
+        Ok(Some(Command::Sim(options))) => match read_all(alloc, source, MOST_INPUT) {
+            Ok(input) => simulate(alloc, options, &input, sink),
+            Err(fail) => tell_unread(sink, fail),
+        },
+        Ok(Some(Command::Follow(picks))) => match read_all(alloc, source, MOST_INPUT) {
+            Ok(input) => follow(alloc, &picks, &input, sink),
+            Err(fail) => tell_unread(sink, fail),
+        },
+        Ok(_) => tell(sink, b"vms: usage\n", Status::Words),
+        Err(NoMemory) => tell_no_memory(sink),
+    }
+}
+
+fn main(rt: HostRuntime) -> ExitCode {
+    let mut source = StdSource::new(rt.stdin());
+    let mut sink = StdSink::new(rt.stdout());
+    let status = match words_of(&rt) {
+        Ok(words) => match size_of(words.as_slice()) {
+            Some(n) => summarize(rt.alloc(), n, &mut sink),
+            None => answer_sim(rt.alloc(), words.as_slice(), &mut source, &mut sink),
+        },
+        Err(NoMemory) => tell_no_memory(&mut sink),
+    };
+    ExitCode::from(status.code())
+}
