@@ -4,6 +4,7 @@
 //! says all that the program may answer and write.
 #![tactic(auto)]
 
+use std::env;
 use std::process::ExitCode;
 use vx_base::NoMemory;
 use vx_call::vms_call;
@@ -14,7 +15,7 @@ use vx_tell::tell_no_memory;
 fn main(rt: HostRuntime) -> ExitCode {
     let mut source = StdSource::new(rt.stdin());
     let mut sink = StdSink::new(rt.stdout());
-    let status = match words_of(&rt) {
+    let status = match words_of(rt.alloc(), env::args(&rt)) {
         Ok(words) => vms_call(
             &rt,
             rt.alloc(),

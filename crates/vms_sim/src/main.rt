@@ -5,6 +5,7 @@
 #![tactic(auto)]
 
 use std::alloc::Global;
+use std::env;
 use std::process::ExitCode;
 use vx_base::{Bytes, NoMemory};
 use vx_host::{Sink, Source, StdSink, StdSource, read_all, words_of};
@@ -36,7 +37,7 @@ fn answer_sim<S: Source, K: Sink>(
 fn main(rt: HostRuntime) -> ExitCode {
     let mut source = StdSource::new(rt.stdin());
     let mut sink = StdSink::new(rt.stdout());
-    let status = match words_of(&rt) {
+    let status = match words_of(rt.alloc(), env::args(&rt)) {
         Ok(words) => match size_of(words.as_slice()) {
             Some(n) => summarize(rt.alloc(), n, &mut sink),
             None => answer_sim(rt.alloc(), words.as_slice(), &mut source, &mut sink),

@@ -5,7 +5,7 @@
 //! value. For the layer above, `read_all` gives all bytes of a source up to a limit, or says why not, and `write_all`
 //! writes all of a piece, or the start of it and a fault. `MemSource` and `MemSink` stand in memory and fail at stated
 //! calls, and their contracts say exactly what each call does. `StdSource` and `StdSink` stand over the readers and
-//! writers of std.
+//! writers of std, and `words_of` gives a program's words.
 #![tactic(auto)]
 
 mod memory;

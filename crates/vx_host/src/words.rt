@@ -1,16 +1,20 @@
 //! The words that a program is called with.
 
-ghost use Rattle.std.specs.Prelude.{◌≡◌, IfOk, map, string_bytes};
+ghost use Rattle.std.specs.Prelude.{◌≡◌, [], drop, IfErr, IfOk, map, string_bytes};
+ghost use Rattle.std.specs.Vec.Iter.{into_iter_items};
 
 use std::alloc::Global;
-use std::env;
+use std::env::Args;
+use std::io;
 use std::io::ErrorKind;
 use vx_base::{Bytes, NoMemory};
 
-fn bytes_of(alloc: Global, texts: &[String]) -> Result<Vec<Bytes>, NoMemory>
-    ensures { IfOk result (λ words. words.items ≡ map string_bytes texts.now) }
+/// The bytes of each text but the first.
+fn bytes_of(alloc: Global, mut texts: Args) -> Result<Vec<Bytes>, NoMemory>
+    ensures { IfOk result (λ words. words.items ≡ map string_bytes (drop 1 (into_iter_items texts))) }
 {
     let mut words = Vec::new(alloc);
+    let _name = texts.next();
     for text in texts {
         let mut word = Bytes::new(alloc);
         word.push_all(text.as_bytes())?;
@@ -19,15 +23,16 @@ fn bytes_of(alloc: Global, texts: &[String]) -> Result<Vec<Bytes>, NoMemory>
     Ok(words)
 }
 
-/// The words after the program's name; none of them if one is no text. What they are no contract tells, since std tells
-/// nothing of them.
-pub fn words_of(rt: &HostRuntime) -> Result<Vec<Bytes>, NoMemory> {
-    match env::args(rt) {
-        Ok(args) => {
-            let texts: Vec<String> = args.skip(1).collect(rt.alloc())?;
-            bytes_of(rt.alloc(), texts.as_slice())
-        }
+/// A program's words, from its arguments as `std::env::args` gives them: all but the first, which is its name; none of them if one is
+/// no text. Refuses if memory runs out, here or in std.
+pub fn words_of(alloc: Global, args: io::Result<Args>) -> Result<Vec<Bytes>, NoMemory>
+    ensures words { IfOk result (λ words. IfOk args (λ texts.
+        words.items ≡ map string_bytes (drop 1 (into_iter_items texts)))) }
+    ensures none { IfOk result (λ words. IfErr args (λ error. words.items ≡ [])) }
+{
+    match args {
+        Ok(texts) => bytes_of(alloc, texts),
         Err(error) if error.kind() == ErrorKind::OutOfMemory => Err(NoMemory),
-        Err(_) => Ok(Vec::new(rt.alloc())),
+        Err(_) => Ok(Vec::new(alloc)),
     }
 }
