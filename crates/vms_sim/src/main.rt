@@ -1,7 +1,7 @@
 //! The program `vms_sim`: `sim` and `gen` of `vms`, and no other command.
 //!
-//! Where nothing is built `./vms` runs the sources without their proofs, which takes as long as the program reaches far. So it runs
-//! this program for these two commands. They are answered by the same calls as in `vms`, and `tools/checks` compares the two.
+//! If nothing is built, `./vms` runs the sources without their proofs, which takes longer the more code a program reaches. So it
+//! runs this program for these two commands. The same calls answer them as in `vms`, and `tools/checks` compares the two programs.
 #![tactic(auto)]
 
 use std::alloc::Global;
@@ -13,7 +13,7 @@ use vx_simulate::{follow, simulate, summarize};
 use vx_tell::{MOST_INPUT, Status, tell, tell_no_memory, tell_unread};
 use vx_words::{Command, command_of, size_of};
 
-/// Answers `sim`.
+/// Answers `sim`. The words of any other command are wrong.
 fn answer_sim<S: Source, K: Sink>(
     alloc: Global,
     words: &[Bytes],
