@@ -6,10 +6,9 @@ use Rattle.vx_base.specs.declared.number.UnitNo.{UnitNo}
 use Rattle.vx_base.specs.declared.record.Event.{Event}
 use Rattle.vx_base.specs.declared.record.Event.TheVariants as event
 use Rattle.vx_base.specs.declared.record.Rec.{Rec}
-use Rattle.vx_record.specs.Events.{step}
 use Rattle.vx_record.specs.Runs.{IsRun, after, end_of, record_of}
 use Rattle.vx_units.specs.Leases.{Out, is_out}
-use Rattle.vx_exec.specs.Leases.{Leasing, stand_at, stands_after, with_stand}
+use Rattle.vx_exec.specs.Leases.{Leasing, leasing_after, stand_at, with_stand}
 use Rattle.vx_exec.specs.View.{Plan}
 
 -- the executive whose units may be out, and its records so far
@@ -43,10 +42,7 @@ pub record IsKept (plan : Plan) (d : Desk) (capacity : ℕ) : Type 0 where
 -- the desk after an event
 abbrev pub advanced : Desk → Event → Desk
 advanced d e = record {
-  leasing = record {
-    exec = record { state = (step d.leasing.exec.state e).after; limit = d.leasing.exec.limit; taken = d.leasing.exec.taken + 1 };
-    stands = stands_after e d.leasing.stands;
-  };
+  leasing = leasing_after d.leasing e;
   recs = d.recs ++ record_of d.leasing.exec.state e ∷ [];
 }
 

@@ -16,7 +16,7 @@ use Rattle.vx_record.specs.State.{State}
 use Rattle.vx_record.specs.Events.{enabled, step}
 use Rattle.vx_record.specs.Runs.{IsStep, after_from, record_of}
 use Rattle.vx_exec.specs.Taken.{TakesRun}
-use Rattle.vx_exec.specs.View.{Executive, Plan, plan}
+use Rattle.vx_exec.specs.View.{Executive, Plan, after_step, plan}
 use Rattle.vx_check.proofs.Judging.{front_steps, last_step, no_such_step, one_too_many, run_more, step_if}
 use Rattle.vx_check.specs.Following.{Ends, Follows, FollowsLine, IsFollowing, IsLost, IsOpen, IsRight, IsWrong, Opens, at_last, before_last, course_with, fresh, with_effect, with_more}
 use Rattle.vx_check.specs.Judging.{AreRun, IsWrongFrom}
@@ -168,7 +168,7 @@ head_taken s before after course (Open made kept) r number head h right bare pla
     let own : made.event ≡ head.event = ap (λ (z : Rec). z.event) opens.made_is in
     let there : Contains (enabled before.state) made.event = subst (λ (e : Event). Contains (enabled before.state) e) (sym own) opens.there in
     let made_is : made ≡ record_of before.state made.event = opens.made_is ∙ ap (record_of before.state) (sym own) in
-    let goes : after ≡ record before { state = (step before.state made.event).after; taken = before.taken + 1 } = subst (λ (e : Event). after ≡ record before { state = (step before.state e).after; taken = before.taken + 1 }) (sym own) opens.goes in
+    let goes : after ≡ after_step before made.event = subst (λ (e : Event). after ≡ after_step before e) (sym own) opens.goes in
     let none : head.effects ≡ take (suc (length made.effects)) head.effects = bare ∙ ap (take (suc (length made.effects))) (sym bare) in
     record {
       last = head;

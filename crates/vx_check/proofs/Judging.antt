@@ -10,7 +10,7 @@ use Rattle.vx_record.specs.Events.{enabled, step}
 use Rattle.vx_record.specs.Runs.{AreSteps, IsRun, IsStep, after, after_from, end_of, first, record_of}
 use Rattle.vx_exec.proofs.Runs.{after_more, steps_more}
 use Rattle.vx_exec.specs.Taken.{TakesRun}
-use Rattle.vx_exec.specs.View.{Executive, Plan, plan}
+use Rattle.vx_exec.specs.View.{Executive, Plan, after_step, plan}
 use Rattle.vx_journal.specs.declared.journal.Journal.{Journal}
 use Rattle.vx_journal.specs.declared.journal.Part.{Part}
 use Rattle.vx_check.specs.Judging.{AreRun, JudgesRecords, IsWrongFrom, at_record, by_run, most_for}
@@ -32,7 +32,7 @@ pub last_step : (s : State) (rs : List Rec) (r : Rec) → AreSteps s (rs ++ r �
 last_step s [] r h = h.0
 last_step s (x ∷ rs) r h = last_step (step s x.event).after rs r h.1
 
-pub run_more : (before now next : Executive) (rs : List Rec) (r : Rec) → TakesRun before now rs → IsStep now.state r → next ≡ record now { state = (step now.state r.event).after; taken = now.taken + 1 } → plan next ≡ plan now → TakesRun before next (rs ++ r ∷ [])
+pub run_more : (before now next : Executive) (rs : List Rec) (r : Rec) → TakesRun before now rs → IsStep now.state r → next ≡ after_step now r.event → plan next ≡ plan now → TakesRun before next (rs ++ r ∷ [])
 run_more before now next rs r so_far is goes planned =
     let here : IsStep (after_from before.state rs) r = subst (λ (s : State). IsStep s r) so_far.now is in
     record {
@@ -145,7 +145,7 @@ below_most : (taken limit i most : ℕ) → taken ≡ i → limit ≡ most → i
 below_most taken limit i most count is within going = apart_below i most within (λ same. going (count ∙ same ∙ sym is))
 
 -- one more is taken
-pub one_taken : (before now next : Executive) (recs : List Rec) (i : ℕ) (r : Rec) (most : ℕ) → Taking before now (take i recs) most → i < length recs → r ≡ slice_index_or recs i r → before.taken ≡ 0 → before.limit ≡ most → (now.taken ≡ now.limit → ⊥) → IsStep now.state r → next ≡ record now { state = (step now.state r.event).after; taken = now.taken + 1 } → plan next ≡ plan now → Taking before next (take (i + 1) recs) most
+pub one_taken : (before now next : Executive) (recs : List Rec) (i : ℕ) (r : Rec) (most : ℕ) → Taking before now (take i recs) most → i < length recs → r ≡ slice_index_or recs i r → before.taken ≡ 0 → before.limit ≡ most → (now.taken ≡ now.limit → ⊥) → IsStep now.state r → next ≡ after_step now r.event → plan next ≡ plan now → Taking before next (take (i + 1) recs) most
 one_taken before now next recs i r most so_far h is begun limited going step_is goes planned =
     let front : length (take i recs) ≡ i = length-take-le i recs (omega (arith, h)) in
     let limit : now.limit ≡ most = limit_kept before now (take i recs) most so_far limited in

@@ -7,10 +7,10 @@ use Rattle.vx_lines.specs.ReadRecords.{Fails, nothing_read, read_records, read_s
 use Rattle.vx_lines.specs.declared.read.LinesFail.{LinesFail}
 use Rattle.vx_lines.specs.declared.read.Reading.{Reading}
 use Rattle.vx_record.specs.State.{State}
-use Rattle.vx_record.specs.Events.{enabled, step}
+use Rattle.vx_record.specs.Events.{enabled}
 use Rattle.vx_record.specs.Runs.{end_of, record_of}
 use Rattle.vx_exec.specs.Taken.{TakesRun}
-use Rattle.vx_exec.specs.View.{Executive, plan}
+use Rattle.vx_exec.specs.View.{Executive, after_step, plan}
 use Rattle.vx_journal.specs.ReadJournal.{behind_header}
 use Rattle.vx_journal.specs.declared.journal.Journal.{Journal}
 use Rattle.vx_journal.specs.declared.journal.Part.{Part}
@@ -74,7 +74,7 @@ pub record IsOpened (before after : Executive) (head made kept : Rec) : Type 0 w
   pub there : Contains (enabled before.state) head.event
   pub made_is : made ≡ record_of before.state head.event
   pub kept_is : kept ≡ head
-  pub goes : after ≡ record before { state = (step before.state head.event).after; taken = before.taken + 1 }
+  pub goes : after ≡ after_step before head.event
   pub planned : plan after ≡ plan before
 
 -- Its event was not enabled, or there were as many records as the limit. It has this number.

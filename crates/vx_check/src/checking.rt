@@ -1,10 +1,9 @@
 //! Judges a transcript.
 
-ghost use Rattle.std.specs.Prelude.{◌≡◌, ◌↔◌, ◌<◌, ◌≤◌, ◌+◌, ℕ, IfOk, IsTrue, Ok, None, Some, true, length};
+ghost use Rattle.std.specs.Prelude.{◌≡◌, ◌↔◌, ◌<◌, ◌≤◌, ℕ, IfOk, IsTrue, Ok, None, Some, true, length};
 ghost use Rattle.vx_exec.specs.Taken.{TakesRun};
-ghost use Rattle.vx_exec.specs.View.{plan};
+ghost use Rattle.vx_exec.specs.View.{after_step, plan};
 ghost use Rattle.vx_image.specs.WellFormed.{IsWellFormed};
-ghost use Rattle.vx_record.specs.Events.{step};
 ghost use Rattle.vx_record.specs.Runs.{IsStep};
 ghost use Rattle.vx_check.specs.Judging.{JudgesRecords, IsWrongFrom, most_for};
 ghost use Rattle.vx_check.specs.Verdict as spec;
@@ -39,10 +38,7 @@ fn most_for(count: usize) -> u32
 fn takes(exec: &mut Exec<Scripted>, rec: &Rec) -> Result<bool, NoMemory>
     requires { exec.old.taken < exec.old.limit }
     ensures same { IfOk result (λ same. IsTrue same ↔ IsStep exec.old.state rec.now) }
-    ensures after { result ≡ Ok true → exec.new ≡ record exec.old {
-      state = (step exec.old.state rec.now.event).after;
-      taken = exec.old.taken + 1;
-    } }
+    ensures after { result ≡ Ok true → exec.new ≡ after_step exec.old rec.now.event }
     ensures plan { plan exec.new ≡ plan exec.old }
 {
     if !exec.is_enabled(rec.event) {

@@ -9,7 +9,7 @@ use Rattle.vx_procs.specs.Kernel.{Kernel, ending_for, stand_for, stands, with_st
 use Rattle.vx_procs.specs.Units.{Ending, stand_of, stood}
 use Rattle.vx_procs.proofs.Inside.{stand_here}
 use Rattle.vx_exec.specs.Engines.{IsHomeFor, leasing, stands_prepared}
-use Rattle.vx_exec.specs.Leases.{AreIn, IsInFor, Leasing, stand_at, stands_after, with_stand as lent}
+use Rattle.vx_exec.specs.Leases.{AreIn, IsInFor, Leasing, leasing_after, stand_at, stands_after, with_stand as lent}
 use Rattle.vx_exec.specs.Ready.{opened_for}
 use Rattle.vx_exec.specs.declared.engine.Engine.{Engine}
 
@@ -49,7 +49,7 @@ set_in (s ∷ ss) zero h (suc j) = h (suc j)
 set_in (s ∷ ss) (suc i) h zero = h zero
 set_in (s ∷ ss) (suc i) h (suc j) = set_in ss i (λ n. h (suc n)) j
 
-still_in : (e : Event) (l : Leasing) → AreIn l → AreIn (record l { stands = stands_after e l.stands })
+still_in : (e : Event) (l : Leasing) → AreIn l → AreIn (leasing_after l e)
 still_in (event.Run p) l h = h
 still_in (event.Ast p) l h = h
 still_in (event.Rdn p) l h = h
@@ -65,9 +65,9 @@ in_for e event.Tick h = tt
 in_for e (event.Beg u) h = tt
 in_for e (event.Don u) h = h u
 
-pub in_after : {R A E : Type 0} (e f : Engine R) (ev : Event) (r : Result A E) → OnOk r ((leasing f).stands ≡ stands_after ev (leasing e).stands) → OnErr r ((leasing f).stands ≡ (leasing e).stands) → AreIn (leasing e) → AreIn (leasing f)
-in_after e f ev (Ok x) ok err h = subst (λ (ss : List Stand). AreIn (record (leasing f) { stands = ss })) (sym ok) (still_in ev (leasing e) h)
-in_after e f ev (Err x) ok err h = subst (λ (ss : List Stand). AreIn (record (leasing f) { stands = ss })) (sym err) h
+pub in_after : {R A E : Type 0} (e f : Engine R) (ev : Event) (r : Result A E) → OnOk r (leasing f ≡ leasing_after (leasing e) ev) → OnErr r (leasing f ≡ leasing e) → AreIn (leasing e) → AreIn (leasing f)
+in_after e f ev (Ok x) ok err h = subst AreIn (sym ok) (still_in ev (leasing e) h)
+in_after e f ev (Err x) ok err h = subst AreIn (sym err) h
 
 -- An executive that lends.
 

@@ -3,7 +3,6 @@ use Rattle.std.proofs.Common.{◌≡◌, ℕ, ◌+◌, ◌<◌, ◌≤◌, List,
 use Rattle.std.specs.List.{AllByRecursion}
 use Rattle.std.proofs.lemmas.Bool.{and_parts, leb-true, ltb-true}
 use Rattle.std.proofs.lemmas.Bool.Decides.{nat_tests}
-use Rattle.vx_base.specs.Log.{HasRoom}
 use Rattle.vx_base.specs.Pieces.{DeviceUnit, Request}
 use Rattle.vx_base.specs.Queues.{front, in_service}
 use Rattle.vx_base.specs.declared.number.Pid.{Pid}
@@ -25,12 +24,12 @@ use Rattle.vx_record.proofs.SoundCalls.{all_from_list}
 use Rattle.vx_record.proofs.SoundSteps.{first_sound, step_sound}
 use Rattle.vx_record.proofs.Fixed.{step_keeps_system}
 use Rattle.vx_procs.specs.Kernel.{Fits, Kernel}
-use Rattle.vx_procs.specs.Ready.{HasHandlerRoom}
+use Rattle.vx_procs.specs.Ready.{HasBegun}
 use Rattle.vx_io.specs.Finishing.{AreRequests}
 use Rattle.vx_rundown.specs.Leaving.{IsLeaving}
 use Rattle.vx_rundown.proofs.Standing.{own_handlers_at, own_ids_at}
 use Rattle.vx_exec.specs.Engines.{IsHomeFor}
-use Rattle.vx_exec.specs.Ready.{HasBegun, HasOwner, IsIdle, IsNext, IsOpen, IsReadyFor, IsRoomMade, most}
+use Rattle.vx_exec.specs.Ready.{HasOwner, HasRoomFor, IsIdle, IsNext, IsOpen, IsReadyFor, IsRoomMade, most}
 use Rattle.vx_exec.specs.Sound.{IsGoing, IsWhole}
 use Rattle.vx_exec.proofs.Down.{rundown_goes}
 use Rattle.vx_exec.proofs.Enabled.{enabled_owned}
@@ -55,8 +54,8 @@ image_formed s p formed =
 requests_of : (s : State) → IsWhole s → AreRequests s
 requests_of s whole = record { stand = whole.sound.requests; order = whole.sound.request_ids }
 
-next_of : (k : Kernel) (e : Event) (p : Pid) (limit taken : ℕ) → IsGoing k.state limit taken → IsProcess k.state p → HasBegun k e → HasHandlerRoom k p → IsNext k p
-next_of k e p limit taken going made begun handler =
+next_of : (k : Kernel) (p : Pid) (limit taken effects : ℕ) → IsGoing k.state limit taken → IsProcess k.state p → HasBegun k (Some p) effects → IsNext k p
+next_of k p limit taken effects going made begun =
     let whole = going.whole in
     let stands = stands_at k.state p whole.sound made in
     record {
@@ -72,7 +71,7 @@ next_of k e p limit taken going made begun handler =
           cluster = begun.cluster;
           association = begun.association;
           request = begun.request;
-          handler = handler;
+          handler = begun.handler;
           ids = omega (arith, going.ids, going.within, going.limited);
           time = begun.time;
           entry = begun.entry;
@@ -89,8 +88,8 @@ next_of k e p limit taken going made begun handler =
       ids = own_ids_at k.state p whole.sound made;
     }
 
-leaving_of : (k : Kernel) (e : Event) (p : Pid) (limit taken : ℕ) → IsGoing k.state limit taken → IsIdle k.state p → HasBegun k e → IsLeaving k p
-leaving_of k e p limit taken going owner begun =
+leaving_of : (k : Kernel) (p : Pid) (limit taken effects : ℕ) → IsGoing k.state limit taken → IsIdle k.state p → HasBegun k (Some p) effects → IsLeaving k p
+leaving_of k p limit taken effects going owner begun =
     let whole = going.whole in
     let stands = stands_at k.state p whole.sound owner.made in
     record {
@@ -103,10 +102,10 @@ leaving_of k e p limit taken going owner begun =
     }
 
 pub ready_for : (k : Kernel) (e : Event) (limit taken : ℕ) → IsGoing k.state limit taken → HasOwner k.state e → IsHomeFor k e → IsRoomMade k e → IsReadyFor k e
-ready_for k (event.Run p) limit taken going made home begun = next_of k (event.Run p) p limit taken going made begun begun.handler
-ready_for k (event.Ast p) limit taken going made home begun = next_of k (event.Ast p) p limit taken going made begun begun.handler
-ready_for k (event.Rdn p) limit taken going owner home begun = leaving_of k (event.Rdn p) p limit taken going owner begun
-ready_for k event.Tick limit taken going made home begun = record { order = going.whole.sound.timer_ids; counted = begun.time }
+ready_for k (event.Run p) limit taken going made home room = next_of k p limit taken room.effects going made room.begun
+ready_for k (event.Ast p) limit taken going made home room = next_of k p limit taken room.effects going made room.begun
+ready_for k (event.Rdn p) limit taken going owner home room = leaving_of k p limit taken room.effects going owner room.begun
+ready_for k event.Tick limit taken going made home room = record { order = going.whole.sound.timer_ids; counted = room.begun.time }
 ready_for k (event.Beg u) limit taken going waits home begun = record { prepared = begun.0; requests = requests_of k.state going.whole }
 ready_for k (event.Don u) limit taken going serves home begun =
     let few = going.services u in
@@ -123,18 +122,18 @@ step_goes k (event.Beg u) whole waits begun = beg_goes k.state (front u k.state.
 step_goes k (event.Don u) whole serves begun = don_goes k.state u (in_service u k.state.requests)
 
 -- what is told has room
-told_room : (k : Kernel) (e : Event) → IsWhole k.state → HasOwner k.state e → IsRoomMade k e → HasRoom k.log (most k.state e) → Fits k (step k.state e).effects
-told_room k e whole owner begun room = let goes = step_goes k e whole owner begun in omega (arith, goes.few, room)
+told_room : (k : Kernel) (e : Event) → IsWhole k.state → HasOwner k.state e → IsRoomMade k e → HasRoomFor k e → Fits k (step k.state e).effects
+told_room k e whole owner made room = let goes = step_goes k e whole owner made in omega (arith, goes.few, room.enough, room.begun.room)
 
 begs_nothing : (s : State) (o : Option Request) → (beg s o).effects ≡ []
 begs_nothing s None = refl
 begs_nothing s (Some r) = refl
 
 pub step_open : (k : Kernel) (e : Event) → IsWhole k.state → HasOwner k.state e → IsRoomMade k e → IsOpen k e
-step_open k (event.Run p) whole owner begun = (begun.empty, told_room k (event.Run p) whole owner begun begun.room)
-step_open k (event.Ast p) whole owner begun = (begun.empty, told_room k (event.Ast p) whole owner begun begun.room)
-step_open k (event.Rdn p) whole owner begun = (begun.empty, told_room k (event.Rdn p) whole owner begun begun.room)
-step_open k event.Tick whole owner begun = (begun.empty, told_room k event.Tick whole owner begun begun.room)
+step_open k (event.Run p) whole owner room = (room.begun.empty, told_room k (event.Run p) whole owner room room)
+step_open k (event.Ast p) whole owner room = (room.begun.empty, told_room k (event.Ast p) whole owner room room)
+step_open k (event.Rdn p) whole owner room = (room.begun.empty, told_room k (event.Rdn p) whole owner room room)
+step_open k event.Tick whole owner room = (room.begun.empty, told_room k event.Tick whole owner room room)
 step_open k (event.Beg u) whole owner begun =
     let none = begs_nothing k.state (front u k.state.requests) in
     (begun.1, omega (arith, ap length begun.1, ap length none))

@@ -11,7 +11,7 @@ use Rattle.vx_record.specs.Events.{enabled, step}
 use Rattle.vx_record.specs.Runs.{AreSteps, IsStep, after, after_from, are_deleted, choose, chosen, chosen_from, end_of, end_with, first, next_seed, pick, picked, record_of}
 use Rattle.vx_exec.specs.Picks.{moved_seed, picked_event}
 use Rattle.vx_exec.specs.Taken.{EndsRun, IsChosenRun, TakesRun}
-use Rattle.vx_exec.specs.View.{Executive, Plan, plan}
+use Rattle.vx_exec.specs.View.{Executive, Plan, after_step, plan}
 
 pub steps_more : (s : State) (rs : List Rec) (r : Rec) → AreSteps s rs → IsStep (after_from s rs) r → AreSteps s (rs ++ r ∷ [])
 steps_more s [] r h k = (k, tt)
@@ -90,7 +90,7 @@ pub record Taking (before now : Executive) (seed next : ℕ) (recs : List Rec) :
 pub begun : (e : Executive) (seed : ℕ) → Taking e e seed seed []
 begun e seed = record { takes = record { steps = tt; now = refl; counted = omega arith; planned = refl }; chosen = refl }
 
-pub taken_more : (before now later : Executive) (seed x y : ℕ) (recs : List Rec) (r : Rec) (e : Event) → Taking before now seed x recs → None ≡ end_of now.limit now.taken now.state → Some e ≡ picked_event x (enabled now.state) → y ≡ moved_seed x (enabled now.state) → r ≡ record_of now.state e → later ≡ record now { state = (step now.state e).after; taken = now.taken + 1 } → plan later ≡ plan now → Taking before later seed y (recs ++ r ∷ [])
+pub taken_more : (before now later : Executive) (seed x y : ℕ) (recs : List Rec) (r : Rec) (e : Event) → Taking before now seed x recs → None ≡ end_of now.limit now.taken now.state → Some e ≡ picked_event x (enabled now.state) → y ≡ moved_seed x (enabled now.state) → r ≡ record_of now.state e → later ≡ after_step now e → plan later ≡ plan now → Taking before later seed y (recs ++ r ∷ [])
 taken_more before now later seed x y recs r e so_far going picks moves is becomes planned =
     let takes = so_far.takes in
     let s = now.state in
@@ -98,7 +98,7 @@ taken_more before now later seed x y recs r e so_far going picks moves is become
     let step_of : IsStep s r = is_step s e r (picked_there x (enabled s) e picks) is in
     let rest = chosen_step now.limit now.taken s x e below picks in
     let on : Executive → ℕ → Rec → List Rec = λ e y r. (recs ++ r ∷ []) ++ chosen_from (e.limit - e.taken) e.state y in
-    let next : Executive = record now { state = (step s e).after; taken = now.taken + 1 } in
+    let next : Executive = after_step now e in
     record {
       takes = record {
         steps = steps_more before.state recs r takes.steps (subst (λ (t : State). IsStep t r) takes.now step_of);

@@ -10,7 +10,7 @@ use Rattle.vx_base.specs.declared.record.Event.TheVariants as event
 use Rattle.vx_record.specs.Events.{enabled}
 use Rattle.vx_record.specs.State.{State, unit_at}
 use Rattle.vx_units.specs.Leases.{Lease, LeaseServed, Stand, Home, Out, is_out}
-use Rattle.vx_exec.specs.View.{Executive, is_don}
+use Rattle.vx_exec.specs.View.{Executive, after_step, is_don}
 
 -- an executive whose units may be out: the executive it stands for, and where each unit's contents are
 pub record Leasing : Type 0 where
@@ -60,6 +60,10 @@ abbrev pub stands_after : Event → List Stand → List Stand
 stands_after (event.Beg u) ks = slice_set ks u.0 Home
 stands_after (event.Don u) ks = slice_set ks u.0 Home
 stands_after other ks = ks
+
+-- after a step
+abbrev pub leasing_after : Leasing → Event → Leasing
+leasing_after l e = record { exec = after_step l.exec e; stands = stands_after e l.stands }
 
 -- an event ends no service
 abbrev pub is_open : Event → Bool

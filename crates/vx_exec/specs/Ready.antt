@@ -1,9 +1,8 @@
 -- What an event relies on, once room was made for it.
-use Rattle.std.specs.Prelude.{◌≡◌, ℕ, [], Option, Some, None, true, false, IfSome, ◌+◌, ◌*◌, ◌≤◌, IsSome, IsTrue, length, ⊤, ◌^◌, ◌<◌}
+use Rattle.std.specs.Prelude.{◌≡◌, ℕ, [], Option, Some, None, true, false, ◌+◌, ◌*◌, ◌≤◌, IsSome, IsTrue, length, ⊤, ◌^◌, ◌<◌}
 use Rattle.vx_base.specs.Queues.{front, in_service}
 use Rattle.vx_base.specs.declared.mode.Mode.{Mode}
 use Rattle.vx_base.specs.declared.number.Id.{Id}
-use Rattle.vx_base.specs.Log.{HasRoom}
 use Rattle.vx_base.specs.declared.number.Pid.{Pid}
 use Rattle.vx_base.specs.declared.number.UnitNo.{UnitNo}
 use Rattle.vx_base.specs.declared.record.Event.{Event}
@@ -21,7 +20,7 @@ use Rattle.vx_io.specs.Finishing.{AreRequests}
 use Rattle.vx_io.specs.Rooms.{AreFull, Room}
 use Rattle.vx_units.specs.Leases.{is_out}
 use Rattle.vx_procs.specs.Kernel.{Fits, IsPrepared, Kernel, opened, stand_for}
-use Rattle.vx_procs.specs.Ready.{HasHandlerRoom, HasMessageRooms, HasNewcomer, HasSpares, IsReady}
+use Rattle.vx_procs.specs.Ready.{HasBegun, IsReady}
 use Rattle.vx_procs.specs.Words.{deepest, handlers_have_own_ids, have_own_ids}
 use Rattle.vx_rundown.specs.Leaving.{IsLeaving}
 
@@ -111,26 +110,17 @@ most s event.Tick = 3 * length s.timers
 most s (event.Beg u) = 0
 most s (event.Don u) = 5
 
--- Once room was made for an event: there are spares, and room for what it tells; nothing is told yet.
-pub record HasBegun (k : Kernel) (e : Event) : Type 0 where
-  pub spares : HasSpares k
-  pub timer : length k.state.timers + 1 ≤ k.timers
-  pub newcomer : HasNewcomer k
-  pub cluster : length k.state.common.clusters + 1 ≤ k.clusters
-  pub association : length k.state.common.associations + 1 ≤ k.associations
-  pub request : length k.state.requests + 1 ≤ k.requests
-  pub entry : length k.state.attention + 1 ≤ k.attention
-  pub messages : HasMessageRooms k
-  pub handler : IfSome (process_of e) (HasHandlerRoom k)
-  pub empty : k.log.items ≡ []
-  pub room : HasRoom k.log (most k.state e)
-  pub time : k.state.time < 2 ^ 63
+-- Room was made for an event, and for as many effects as it has at most.
+pub record HasRoomFor (k : Kernel) (e : Event) : Type 0 where
+  pub effects : ℕ
+  pub enough : most k.state e ≤ effects
+  pub begun : HasBegun k (process_of e) effects
 
 -- a BEG has what the end of its service needs; and so a DON needs nothing
 abbrev pub IsRoomMade : Kernel → Event → Type 0
 IsRoomMade k (event.Beg u) = IsPrepared k u × (k.log.items ≡ [])
 IsRoomMade k (event.Don u) = ⊤
-IsRoomMade k other = HasBegun k other
+IsRoomMade k other = HasRoomFor k other
 
 -- there is spare room for the bytes of a request, where a process runs
 abbrev pub HasRooms : Event → Room → Type 0

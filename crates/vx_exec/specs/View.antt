@@ -1,8 +1,9 @@
 -- What an executive stands for.
-use Rattle.std.specs.Prelude.{ℕ, Bool, true, false}
+use Rattle.std.specs.Prelude.{ℕ, ◌+◌, Bool, true, false}
 use Rattle.vx_base.specs.declared.record.Event.{Event}
 use Rattle.vx_base.specs.declared.record.Event.TheVariants as event
 use Rattle.vx_image.specs.declared.system.System.{System}
+use Rattle.vx_record.specs.Events.{step}
 use Rattle.vx_record.specs.State.{State}
 
 -- its state, how many records its runs may have, and how many its steps have made
@@ -10,6 +11,10 @@ pub record Executive : Type 0 where
   pub state : State
   pub limit : ℕ
   pub taken : ℕ
+
+-- after a step: the machine's state after the event, and a record more
+abbrev pub after_step : Executive → Event → Executive
+after_step x e = record x { state = (step x.state e).after; taken = x.taken + 1 }
 
 -- what no call changes: the system and the limit
 pub record Plan : Type 0 where

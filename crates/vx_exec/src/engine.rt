@@ -1,10 +1,10 @@
 //! What both kinds of executive are made of: the one whose units may be out, and the one that never has a unit out.
 
-ghost use Rattle.std.specs.Prelude.{◌≡◌, ◌+◌, Contains, IfOk, IsOk, IsTrue, None, OnErr, OnOk};
+ghost use Rattle.std.specs.Prelude.{◌≡◌, Contains, IfOk, IsOk, IsTrue, None, OnErr, OnOk};
 ghost use Rattle.vx_record.specs.Events.{enabled, step};
 ghost use Rattle.vx_record.specs.Runs.{end_of, record_of};
 ghost use Rattle.vx_exec.specs.Engines.{IsHomeFor, IsOn, leasing};
-ghost use Rattle.vx_exec.specs.Leases.{stands_after};
+ghost use Rattle.vx_exec.specs.Leases.{leasing_after};
 ghost use Rattle.vx_exec.specs.Sound.{IsWhole};
 ghost use Rattle.vx_exec.specs.View.{is_don, plan};
 
@@ -38,13 +38,8 @@ impl<R: Routine> Engine<R> {
         ensures on { IsOn self.new }
         ensures answer { IfOk result (λ answer. answer ≡ (step self.old.core.state event).answer) }
         ensures told { OnOk result (self.new.core.log.items ≡ (step self.old.core.state event).effects) }
-        ensures after { OnOk result ((leasing self.new).exec ≡ record (leasing self.old).exec {
-          state = (step self.old.core.state event).after;
-          taken = self.old.taken + 1;
-        }) }
-        ensures stands { OnOk result ((leasing self.new).stands ≡ stands_after event (leasing self.old).stands) }
-        ensures kept { OnErr result ((leasing self.new).exec ≡ (leasing self.old).exec) }
-        ensures stay { OnErr result ((leasing self.new).stands ≡ (leasing self.old).stands) }
+        ensures after { OnOk result (leasing self.new ≡ leasing_after (leasing self.old) event) }
+        ensures err { OnErr result (leasing self.new ≡ leasing self.old) }
         ensures don_never_fails { IsTrue (is_don event) → IsOk result }
         ensures plan { plan (leasing self.new).exec ≡ plan (leasing self.old).exec }
     {
@@ -64,13 +59,8 @@ impl<R: Routine> Engine<R> {
         requires home { IsHomeFor self.old.core event }
         ensures on { IsOn self.new }
         ensures rec { IfOk result (λ rec. rec ≡ record_of self.old.core.state event) }
-        ensures after { OnOk result ((leasing self.new).exec ≡ record (leasing self.old).exec {
-          state = (step self.old.core.state event).after;
-          taken = self.old.taken + 1;
-        }) }
-        ensures stands { OnOk result ((leasing self.new).stands ≡ stands_after event (leasing self.old).stands) }
-        ensures kept { OnErr result ((leasing self.new).exec ≡ (leasing self.old).exec) }
-        ensures stay { OnErr result ((leasing self.new).stands ≡ (leasing self.old).stands) }
+        ensures after { OnOk result (leasing self.new ≡ leasing_after (leasing self.old) event) }
+        ensures err { OnErr result (leasing self.new ≡ leasing self.old) }
         ensures don_never_fails { IsTrue (is_don event) → IsOk result }
         ensures plan { plan (leasing self.new).exec ≡ plan (leasing self.old).exec }
     {

@@ -1,17 +1,17 @@
 //! The executive.
 
-ghost use Rattle.std.specs.Prelude.{◌≡◌, ◌<◌, ◌≤◌, ◌+◌, ◌↔◌, Contains, IfOk, IsOk, IsTrue, None, OnErr, OnOk, length, slice_get};
+ghost use Rattle.std.specs.Prelude.{◌≡◌, ◌<◌, ◌≤◌, ◌↔◌, Contains, IfOk, IsOk, IsTrue, None, OnErr, OnOk, length, slice_get};
 ghost use Rattle.vx_image.specs.WellFormed.{IsWellFormed};
 ghost use Rattle.vx_record.specs.State.{IsProcess, decl_of, process_at, unit_at};
 ghost use Rattle.vx_units.specs.Units.{outputs_of};
-ghost use Rattle.vx_record.specs.Events.{enabled, step};
+ghost use Rattle.vx_record.specs.Events.{enabled};
 ghost use Rattle.vx_record.specs.Runs.{end_of, first, record_of};
 ghost use Rattle.vx_procs.specs.Digest.{digest_of};
 ghost use Rattle.vx_exec.specs.Engines.{IsWithin, leasing};
 ghost use Rattle.vx_exec.specs.Picks.{moved_seed, picked_event};
 ghost use Rattle.vx_exec.specs.Sound.{IsGoing};
 ghost use Rattle.vx_record.specs.Standing.{code_of, standing_of};
-ghost use Rattle.vx_exec.specs.View.{is_don, plan};
+ghost use Rattle.vx_exec.specs.View.{after_step, is_don, plan};
 
 use crate::engine::Engine;
 use crate::events::{count, enabled_at, is_enabled};
@@ -178,10 +178,7 @@ impl<R: Routine> Exec<R> {
         requires enabled { Contains (enabled self.old.state) event }
         requires going { end_of self.old.limit self.old.taken self.old.state ≡ None }
         ensures rec { IfOk result (λ rec. rec ≡ record_of self.old.state event) }
-        ensures after { OnOk result (self.new ≡ record self.old {
-          state = (step self.old.state event).after;
-          taken = self.old.taken + 1;
-        }) }
+        ensures after { OnOk result (self.new ≡ after_step self.old event) }
         ensures err { OnErr result (self.new ≡ self.old) }
         ensures don_never_fails { IsTrue (is_don event) → IsOk result }
         ensures plan { plan self.new ≡ plan self.old }
@@ -194,10 +191,7 @@ impl<R: Routine> Exec<R> {
     pub fn advance(&mut self, event: Event) -> Result<(), NoMemory>
         requires enabled { Contains (enabled self.old.state) event }
         requires going { end_of self.old.limit self.old.taken self.old.state ≡ None }
-        ensures after { OnOk result (self.new ≡ record self.old {
-          state = (step self.old.state event).after;
-          taken = self.old.taken + 1;
-        }) }
+        ensures after { OnOk result (self.new ≡ after_step self.old event) }
         ensures err { OnErr result (self.new ≡ self.old) }
         ensures plan { plan self.new ≡ plan self.old }
     {

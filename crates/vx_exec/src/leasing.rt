@@ -1,10 +1,10 @@
 //! An executive whose units may be out to be served.
 
-ghost use Rattle.std.specs.Prelude.{◌≡◌, ◌+◌, ◌≤◌, ◌↔◌, Contains, IfNone, IfOk, IfSome, IsOk, IsTrue, None, OnErr, OnOk, OnSome, length};
-ghost use Rattle.vx_record.specs.Events.{enabled, step};
+ghost use Rattle.std.specs.Prelude.{◌≡◌, ◌≤◌, ◌↔◌, Contains, IfNone, IfOk, IfSome, IsOk, IsTrue, None, OnErr, OnOk, OnSome, length};
+ghost use Rattle.vx_record.specs.Events.{enabled};
 ghost use Rattle.vx_record.specs.Runs.{end_of, record_of};
 ghost use Rattle.vx_units.specs.Leases.{Back, Out};
-ghost use Rattle.vx_exec.specs.Leases.{AreIn, Fits, IsInFor, IsLeaseOf, IsOutFor, IsToLease, first_open, stands_after, with_stand};
+ghost use Rattle.vx_exec.specs.Leases.{AreIn, Fits, IsInFor, IsLeaseOf, IsOutFor, IsToLease, first_open, leasing_after, with_stand};
 ghost use Rattle.vx_exec.specs.View.{is_don, plan};
 
 use crate::engine::Engine;
@@ -89,10 +89,7 @@ impl<R: Routine> LeasingExec<R> {
         requires going { end_of self.old.exec.limit self.old.exec.taken self.old.exec.state ≡ None }
         requires home { IsInFor self.old event }
         ensures rec { IfOk result (λ rec. rec ≡ record_of self.old.exec.state event) }
-        ensures after { OnOk result (self.new ≡ record {
-          exec = record self.old.exec { state = (step self.old.exec.state event).after; taken = self.old.exec.taken + 1 };
-          stands = stands_after event self.old.stands;
-        }) }
+        ensures after { OnOk result (self.new ≡ leasing_after self.old event) }
         ensures err { OnErr result (self.new ≡ self.old) }
         ensures don_never_fails { IsTrue (is_don event) → IsOk result }
         ensures plan { plan self.new.exec ≡ plan self.old.exec }

@@ -5,7 +5,7 @@ ghost use Rattle.vx_base.specs.Queues.{front};
 ghost use Rattle.vx_units.specs.Leases.{Home};
 ghost use Rattle.vx_procs.specs.Kernel.{stands};
 ghost use Rattle.vx_exec.specs.Engines.{stands_prepared};
-ghost use Rattle.vx_exec.specs.Ready.{HasBegun, HasOwner, HasRooms, IsRoomMade, most};
+ghost use Rattle.vx_exec.specs.Ready.{HasOwner, HasRoomFor, HasRooms, IsRoomMade, most};
 ghost use Rattle.vx_exec.specs.View.{is_don};
 ghost use Rattle.vx_base.specs.declared.record.Event.TheVariants.{Beg};
 
@@ -46,7 +46,7 @@ fn make_spares<R: Routine>(core: &mut Core<R>, event: Event) -> Result<(), NoMem
     requires { HasOwner core.old.state event }
     ensures same { core.new.state ≡ core.old.state }
     ensures ends { core.new.ends ≡ core.old.ends }
-    ensures made { OnOk result (HasBegun core.new event) }
+    ensures made { OnOk result (HasRoomFor core.new event) }
 {
     match most(core, event) {
         Some(effects) => core.begin(effects, process_of(event)),

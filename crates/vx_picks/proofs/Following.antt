@@ -11,7 +11,7 @@ use Rattle.vx_record.specs.State.{State}
 use Rattle.vx_record.specs.Events.{enabled, step}
 use Rattle.vx_record.specs.Runs.{IsStep, after, after_from, are_deleted, end_of, end_with, first, record_of}
 use Rattle.vx_exec.specs.Taken.{TakesRun}
-use Rattle.vx_exec.specs.View.{Executive, Plan, plan}
+use Rattle.vx_exec.specs.View.{Executive, Plan, after_step, plan}
 use Rattle.vx_exec.proofs.Runs.{after_more, going_below, steps_more}
 use Rattle.vx_picks.specs.Followed.{EndsPicked, Follows, IsPickedRun, StopsBefore, stops_at, tells_missing}
 use Rattle.vx_picks.specs.Picked.{IsMissing, follow, next_place, picked, picked_from, places_after}
@@ -68,7 +68,7 @@ left_falls now later s going becomes =
     let below = going_below now.limit now.taken now.state going in
     omega (arith, below, ap (λ (e : Executive). e.limit) becomes, ap (λ (e : Executive). e.taken) becomes)
 
-takes_more : (before now later : Executive) (recs : List Rec) (r : Rec) (e : Event) → TakesRun before now recs → Contains (enabled now.state) e → r ≡ record_of now.state e → later ≡ record now { state = (step now.state e).after; taken = now.taken + 1 } → plan later ≡ plan now → TakesRun before later (recs ++ r ∷ [])
+takes_more : (before now later : Executive) (recs : List Rec) (r : Rec) (e : Event) → TakesRun before now recs → Contains (enabled now.state) e → r ≡ record_of now.state e → later ≡ after_step now e → plan later ≡ plan now → TakesRun before later (recs ++ r ∷ [])
 takes_more before now later recs r e takes there is becomes planned =
     let step_of : IsStep now.state r = is_step now.state e r there is in
     record {
@@ -78,13 +78,13 @@ takes_more before now later recs r e takes there is becomes planned =
       planned = planned ∙ takes.planned;
     }
 
-pub followed_more : (before now later : Executive) (places left next : List ℕ) (recs : List Rec) (r : Rec) (e : Event) (place : ℕ) → Following before now places left recs → None ≡ end_of now.limit now.taken now.state → Some e ≡ slice_get (enabled now.state) place → place ≡ next_place left → next ≡ places_after left → r ≡ record_of now.state e → later ≡ record now { state = (step now.state e).after; taken = now.taken + 1 } → plan later ≡ plan now → Following before later places next (recs ++ r ∷ [])
+pub followed_more : (before now later : Executive) (places left next : List ℕ) (recs : List Rec) (r : Rec) (e : Event) (place : ℕ) → Following before now places left recs → None ≡ end_of now.limit now.taken now.state → Some e ≡ slice_get (enabled now.state) place → place ≡ next_place left → next ≡ places_after left → r ≡ record_of now.state e → later ≡ after_step now e → plan later ≡ plan now → Following before later places next (recs ++ r ∷ [])
 followed_more before now later places left next recs r e place so_far going at placed moves is becomes planned =
     let s = now.state in
     let below : now.taken < now.limit = going_below now.limit now.taken s going in
     let rest = picked_step now.limit now.taken s left e below (at ∙ ap (slice_get (enabled s)) placed) in
     let on : Executive → List ℕ → Rec → List Rec = λ e ps r. (recs ++ r ∷ []) ++ picked_from (e.limit - e.taken) e.state ps in
-    let then : Executive = record now { state = (step s e).after; taken = now.taken + 1 } in
+    let then : Executive = after_step now e in
     record {
       takes = takes_more before now later recs r e so_far.takes (placed_there (enabled s) place e at) is becomes planned;
       rest = ap (λ (e : Executive). on e next r) becomes ∙ (ap (λ (ps : List ℕ). on then ps r) moves ∙ (ap (λ (q : Rec). on then (places_after left) q) is ∙ (append_assoc recs (record_of s e ∷ []) (picked_from (now.limit - (now.taken + 1)) (step s e).after (places_after left)) ∙ (ap (λ rs. recs ++ rs) (sym rest) ∙ so_far.rest))));

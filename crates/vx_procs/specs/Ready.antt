@@ -1,6 +1,7 @@
 -- Room that was made before, and what a call of a service relies on.
-use Rattle.std.specs.Prelude.{ℕ, ◌+◌, ◌^◌, ◌<◌, ◌≤◌, length}
+use Rattle.std.specs.Prelude.{◌≡◌, ℕ, ◌+◌, ◌^◌, ◌<◌, ◌≤◌, [], IfSome, Option, length}
 use Rattle.std.specs.List.{AllByRecursion}
+use Rattle.vx_base.specs.Log.{HasRoom}
 use Rattle.vx_base.specs.declared.number.Pid.{Pid}
 use Rattle.vx_base.specs.Lists.{tally}
 use Rattle.vx_mailbox.specs.Boxes.{HaveRoom}
@@ -64,3 +65,30 @@ pub record IsReady (k : Kernel) (p : Pid) : Type 0 where
   pub time : k.state.time < 2 ^ 63
   pub entry : length k.state.attention + 1 ≤ k.attention
   pub messages : HasMessageRooms k
+
+-- Room was made for an event, of this process if it is one of a process: there is a spare of each kind, a process among them, room for an exit
+-- handler of that process, for an attention entry and for a message in each mailbox; nothing is told yet, and so many effects fit; and the
+-- time is one that can be counted on.
+pub record HasBegun (k : Kernel) (caller : Option Pid) (effects : ℕ) : Type 0 where
+  pub spares : HasSpares k
+  pub timer : length k.state.timers + 1 ≤ k.timers
+  pub cluster : length k.state.common.clusters + 1 ≤ k.clusters
+  pub association : length k.state.common.associations + 1 ≤ k.associations
+  pub request : length k.state.requests + 1 ≤ k.requests
+  pub newcomer : HasNewcomer k
+  pub handler : IfSome caller (HasHandlerRoom k)
+  pub empty : k.log.items ≡ []
+  pub room : HasRoom k.log effects
+  pub time : k.state.time < 2 ^ 63
+  pub entry : length k.state.attention + 1 ≤ k.attention
+  pub messages : HasMessageRooms k
+
+-- What is made for units is as it was, and so is the room of all lists but those of processes.
+pub record KeepsLists (before after : Kernel) : Type 0 where
+  pub ends : after.ends ≡ before.ends
+  pub timers : after.timers ≡ before.timers
+  pub clusters : after.clusters ≡ before.clusters
+  pub associations : after.associations ≡ before.associations
+  pub requests : after.requests ≡ before.requests
+  pub attention : after.attention ≡ before.attention
+  pub messages : after.messages ≡ before.messages

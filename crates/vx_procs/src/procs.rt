@@ -1,11 +1,11 @@
 //! What the executive keeps.
 
-ghost use Rattle.std.specs.Prelude.{◌≡◌, ◌+◌, ◌<◌, ◌≤◌, ◌^◌, [], ◌∷◌, IfSome, OnOk, length};
+ghost use Rattle.std.specs.Prelude.{◌≡◌, [], ◌∷◌, IfSome, OnOk, length};
 ghost use Rattle.vx_base.specs.Log.{HasRoom};
 ghost use Rattle.vx_base.specs.Roomy.{with_items};
 ghost use Rattle.vx_procs.specs.Kernel.{Fits, told};
 ghost use Rattle.vx_record.specs.State.{IsProcess};
-ghost use Rattle.vx_procs.specs.Ready.{HasHandlerRoom, HasMessageRooms, HasNewcomer, HasSpares};
+ghost use Rattle.vx_procs.specs.Ready.{HasBegun, HasHandlerRoom, HasNewcomer, HasSpares, KeepsLists};
 
 use crate::kept::KeptUnit;
 use crate::newcomer::Newcomer;
@@ -97,18 +97,7 @@ impl<R: Routine> Core<R> {
         requires { IfSome caller (IsProcess self.old.state) }
         ensures same { self.new.state ≡ self.old.state }
         ensures ends { self.new.ends ≡ self.old.ends }
-        ensures spares { OnOk result (HasSpares self.new) }
-        ensures timer { OnOk result (length self.new.state.timers + 1 ≤ self.new.timers) }
-        ensures cluster { OnOk result (length self.new.state.common.clusters + 1 ≤ self.new.clusters) }
-        ensures association { OnOk result (length self.new.state.common.associations + 1 ≤ self.new.associations) }
-        ensures request { OnOk result (length self.new.state.requests + 1 ≤ self.new.requests) }
-        ensures newcomer { OnOk result (HasNewcomer self.new) }
-        ensures handler { OnOk result (IfSome caller (HasHandlerRoom self.new)) }
-        ensures empty { OnOk result (self.new.log.items ≡ []) }
-        ensures room { OnOk result (HasRoom self.new.log effects) }
-        ensures time { OnOk result (self.new.state.time < 2 ^ 63) }
-        ensures attention { OnOk result (length self.new.state.attention + 1 ≤ self.new.attention) }
-        ensures messages { OnOk result (HasMessageRooms self.new) }
+        ensures begun { OnOk result (HasBegun self.new caller effects) }
     {
         if self.time >= LAST_TIME {
             return Err(NoMemory);
@@ -127,13 +116,7 @@ impl<R: Routine> Core<R> {
     // Makes a spare process and a place for it, if they are missing.
     fn make_spare(&mut self) -> Result<(), NoMemory>
         ensures same { self.new.state ≡ self.old.state }
-        ensures ends { self.new.ends ≡ self.old.ends }
-        ensures timers { self.new.timers ≡ self.old.timers }
-        ensures clusters { self.new.clusters ≡ self.old.clusters }
-        ensures associations { self.new.associations ≡ self.old.associations }
-        ensures requests { self.new.requests ≡ self.old.requests }
-        ensures attention { self.new.attention ≡ self.old.attention }
-        ensures messages { self.new.messages ≡ self.old.messages }
+        ensures lists { KeepsLists self.old self.new }
         ensures newcomer { OnOk result (HasNewcomer self.new) }
     {
         self.procs.reserve()?;
@@ -147,13 +130,7 @@ impl<R: Routine> Core<R> {
     // Makes good what spare room the last event used.
     fn mend(&mut self) -> Result<(), NoMemory>
         ensures same { self.new.state ≡ self.old.state }
-        ensures ends { self.new.ends ≡ self.old.ends }
-        ensures timers { self.new.timers ≡ self.old.timers }
-        ensures clusters { self.new.clusters ≡ self.old.clusters }
-        ensures associations { self.new.associations ≡ self.old.associations }
-        ensures requests { self.new.requests ≡ self.old.requests }
-        ensures attention { self.new.attention ≡ self.old.attention }
-        ensures messages { self.new.messages ≡ self.old.messages }
+        ensures lists { KeepsLists self.old self.new }
         ensures rooms { length self.new.rooms ≡ length self.old.rooms }
         ensures spares { OnOk result (HasSpares self.new) }
     {
@@ -169,13 +146,7 @@ impl<R: Routine> Core<R> {
     fn make_handler_room(&mut self, p: Pid) -> Result<(), NoMemory>
         requires { IsProcess self.old.state p }
         ensures same { self.new.state ≡ self.old.state }
-        ensures ends { self.new.ends ≡ self.old.ends }
-        ensures timers { self.new.timers ≡ self.old.timers }
-        ensures clusters { self.new.clusters ≡ self.old.clusters }
-        ensures associations { self.new.associations ≡ self.old.associations }
-        ensures requests { self.new.requests ≡ self.old.requests }
-        ensures attention { self.new.attention ≡ self.old.attention }
-        ensures messages { self.new.messages ≡ self.old.messages }
+        ensures lists { KeepsLists self.old self.new }
         ensures rooms { length self.new.rooms ≡ length self.old.rooms }
         ensures spares { HasSpares self.old → HasSpares self.new }
         ensures room { OnOk result (HasHandlerRoom self.new p) }
@@ -188,13 +159,7 @@ impl<R: Routine> Core<R> {
     fn make_caller_room(&mut self, caller: Option<Pid>) -> Result<(), NoMemory>
         requires { IfSome caller (IsProcess self.old.state) }
         ensures same { self.new.state ≡ self.old.state }
-        ensures ends { self.new.ends ≡ self.old.ends }
-        ensures timers { self.new.timers ≡ self.old.timers }
-        ensures clusters { self.new.clusters ≡ self.old.clusters }
-        ensures associations { self.new.associations ≡ self.old.associations }
-        ensures requests { self.new.requests ≡ self.old.requests }
-        ensures attention { self.new.attention ≡ self.old.attention }
-        ensures messages { self.new.messages ≡ self.old.messages }
+        ensures lists { KeepsLists self.old self.new }
         ensures rooms { length self.new.rooms ≡ length self.old.rooms }
         ensures spares { HasSpares self.old → HasSpares self.new }
         ensures room { OnOk result (IfSome caller (HasHandlerRoom self.new)) }

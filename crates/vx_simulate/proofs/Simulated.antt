@@ -10,7 +10,7 @@ use Rattle.vx_base.specs.declared.record.Rec.{Rec}
 use Rattle.vx_exec.proofs.Runs.{Taking, begun, chosen_run, ended_run, going_below, taken_more}
 use Rattle.vx_exec.specs.Picks.{moved_seed, picked_event}
 use Rattle.vx_exec.specs.Taken.{IsChosenRun}
-use Rattle.vx_exec.specs.View.{Executive, Plan, plan}
+use Rattle.vx_exec.specs.View.{Executive, Plan, after_step, plan}
 use Rattle.vx_host.specs.Streams.{AppendsFront}
 use Rattle.vx_image.specs.declared.system.System.{System}
 use Rattle.vx_image.specs.declared.unit.UnitDecl.{UnitDecl}
@@ -103,7 +103,7 @@ begun_writing system options now held held_now front opens is written = record {
 same_system : (system : System) (limit : ℕ) (now : Executive) → plan now ≡ plan (opened system limit) → now.state.system ≡ system
 same_system system limit now planned = ap (λ (p : Plan). p.system) planned
 
-pub more_written : (system : System) (options : Options) (now later : Executive) (x y : ℕ) (e : Event) (held held_now : Option (List ℕ)) (pending more : List ℕ) → Writing system options now x held held_now pending → None ≡ end_of now.limit now.taken now.state → Some e ≡ picked_event x (enabled now.state) → y ≡ moved_seed x (enabled now.state) → later ≡ record now { state = (step now.state e).after; taken = now.taken + 1 } → plan later ≡ plan now → more ≡ pending ++ ended_lines (record_lines later.state.system.units later.taken (record_of now.state e)) → Writing system options later y held held_now more
+pub more_written : (system : System) (options : Options) (now later : Executive) (x y : ℕ) (e : Event) (held held_now : Option (List ℕ)) (pending more : List ℕ) → Writing system options now x held held_now pending → None ≡ end_of now.limit now.taken now.state → Some e ≡ picked_event x (enabled now.state) → y ≡ moved_seed x (enabled now.state) → later ≡ after_step now e → plan later ≡ plan now → more ≡ pending ++ ended_lines (record_lines later.state.system.units later.taken (record_of now.state e)) → Writing system options later y held held_now more
 more_written system options now later x y e held held_now pending more so_far going picks moves becomes planned printed =
     let r : Rec = record_of now.state e in
     let recs = so_far.recs in

@@ -1,14 +1,14 @@
 -- A run of which the tally alone is kept.
-use Rattle.std.proofs.Common.{◌≡◌, ℕ, ◌+◌, ◌≤◌, List, [], ◌∷◌, ◌++◌, Option, Some, None, ap, subst, ◌∙◌}
+use Rattle.std.proofs.Common.{◌≡◌, ℕ, ◌≤◌, List, [], ◌∷◌, ◌++◌, Option, Some, None, ap, subst, ◌∙◌}
 use Rattle.std.specs.Io.KnownBytes.{Appends}
 use Rattle.vx_base.specs.declared.record.End.{End}
 use Rattle.vx_base.specs.declared.record.Event.{Event}
 use Rattle.vx_base.specs.declared.record.Rec.{Rec}
 use Rattle.vx_image.specs.declared.system.System.{System}
-use Rattle.vx_record.specs.Events.{enabled, step}
+use Rattle.vx_record.specs.Events.{enabled}
 use Rattle.vx_record.specs.Runs.{IsRun, end_after, end_of, first, record_of}
 use Rattle.vx_exec.specs.Picks.{moved_seed, picked_event}
-use Rattle.vx_exec.specs.View.{Executive, plan}
+use Rattle.vx_exec.specs.View.{Executive, after_step, plan}
 use Rattle.vx_exec.specs.Taken.{IsChosenRun}
 use Rattle.vx_exec.proofs.Runs.{Taking, chosen_run, taken_more}
 use Rattle.vx_gen.specs.Counted.{tally_of}
@@ -24,7 +24,7 @@ pub record Tallying (before now : Executive) (seed next : ℕ) (tally : Tally) :
   pub taking : Taking before now seed next recs
   pub counts : tally ≡ tally_of recs
 
-pub more_tallied : (before now later : Executive) (seed x y : ℕ) (r : Rec) (e : Event) (tally more : Tally) → Tallying before now seed x tally → None ≡ end_of now.limit now.taken now.state → Some e ≡ picked_event x (enabled now.state) → y ≡ moved_seed x (enabled now.state) → r ≡ record_of now.state e → later ≡ record now { state = (step now.state e).after; taken = now.taken + 1 } → plan later ≡ plan now → ((recs : List Rec) → tally ≡ tally_of recs → more ≡ tally_of (recs ++ r ∷ [])) → Tallying before later seed y more
+pub more_tallied : (before now later : Executive) (seed x y : ℕ) (r : Rec) (e : Event) (tally more : Tally) → Tallying before now seed x tally → None ≡ end_of now.limit now.taken now.state → Some e ≡ picked_event x (enabled now.state) → y ≡ moved_seed x (enabled now.state) → r ≡ record_of now.state e → later ≡ after_step now e → plan later ≡ plan now → ((recs : List Rec) → tally ≡ tally_of recs → more ≡ tally_of (recs ++ r ∷ [])) → Tallying before later seed y more
 more_tallied before now later seed x y r e tally more so_far going picks moves is becomes planned adds = record {
   recs = so_far.recs ++ r ∷ [];
   taking = taken_more before now later seed x y so_far.recs r e so_far.taking going picks moves is becomes planned;

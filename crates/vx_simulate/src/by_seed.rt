@@ -1,12 +1,12 @@
 //! Runs a system, and writes its transcript as the run goes. It keeps no record.
 
-ghost use Rattle.std.specs.Prelude.{◌≡◌, ◌⊎◌, ◌<◌, ◌≤◌, ◌+◌, ◌++◌, [], None, Contains, IfOk, IsErrOf, OnErr, OnOk, length};
-ghost use Rattle.vx_exec.specs.View.{plan};
+ghost use Rattle.std.specs.Prelude.{◌≡◌, ◌⊎◌, ◌<◌, ◌≤◌, ◌++◌, [], None, Contains, IfOk, IsErrOf, OnErr, OnOk, length};
+ghost use Rattle.vx_exec.specs.View.{after_step, plan};
 ghost use Rattle.vx_host.specs.Causes.{HasCause, Rose};
 ghost use Rattle.vx_host.specs.Streams.{AppendsFront};
 ghost use Rattle.vx_image.specs.WellFormed.{IsWellFormed};
 ghost use Rattle.vx_lines.specs.Records.{ended_lines, record_lines};
-ghost use Rattle.vx_record.specs.Events.{enabled, step};
+ghost use Rattle.vx_record.specs.Events.{enabled};
 ghost use Rattle.vx_record.specs.Runs.{end_of, first, record_of};
 ghost use Rattle.vx_simulate.specs.Simulating.{BreaksInput, BreaksRun, GainsCut, GainsFront, GainsLines, GainsRun, Sends, StopsInput, WritesRun, lines_so_far};
 ghost use Rattle.vx_tell.specs.Refused.{GainsFault};
@@ -75,10 +75,7 @@ fn take_step(
 ) -> Result<(), NoMemory>
     requires enabled { Contains (enabled exec.old.state) event }
     requires going { end_of exec.old.limit exec.old.taken exec.old.state ≡ None }
-    ensures after { OnOk result (exec.new ≡ record exec.old {
-      state = (step exec.old.state event).after;
-      taken = exec.old.taken + 1;
-    }) }
+    ensures after { OnOk result (exec.new ≡ after_step exec.old event) }
     ensures printed { OnOk result (pending.new ≡ pending.old
         ++ ended_lines (record_lines exec.new.state.system.units exec.new.taken (record_of exec.old.state event))) }
     ensures plan { plan exec.new ≡ plan exec.old }

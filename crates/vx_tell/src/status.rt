@@ -5,17 +5,16 @@ ghost use Rattle.std.specs.Prelude.{◌≡◌};
 /// What a call answers.
 #[derive(Clone, Copy, Debug, PartialEq, Eq)]
 pub enum Status {
-    /// The run ended with every process deleted, and its transcript was written or found to be the machine's; or the canonical
-    /// script was written.
+    /// The run ended with every process deleted, and its text was written or is the machine's; of `explore`, every run ends so. Or the
+    /// canonical script was written.
     Done,
-    /// The run ended with nothing enabled and a process that is not deleted, and its transcript was written or found to be the
-    /// machine's.
+    /// The run ended with nothing enabled and a process that is not deleted; of `explore`, some run ends so, and the limit stopped none.
     Hung,
-    /// The words are no command.
+    /// The words are no command's.
     Words,
-    /// The input is no script, or for `check` no transcript, or the executive does not run its system yet.
+    /// The input is no script, or for `check` and `draw` no transcript.
     Form,
-    /// The run reached its limit with an event enabled, and its transcript was written or found to be the machine's.
+    /// The run reached its limit with an event enabled; of `explore`, some run did.
     Limit,
     /// The transcript is cut, or is not the machine's; or a record has no event at the place that the words name for it.
     Illegal,

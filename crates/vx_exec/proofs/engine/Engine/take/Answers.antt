@@ -1,9 +1,11 @@
-use Rattle.std.proofs.Common.{Contains, ap, sym, subst, ◌∙◌}
+use Rattle.std.proofs.Common.{◌+◌, List, Contains, ap, sym, subst, ◌∙◌}
 use Rattle.vx_image.specs.declared.system.System.{System}
 use Rattle.vx_record.specs.State.{State}
-use Rattle.vx_record.specs.Events.{enabled}
+use Rattle.vx_record.specs.Events.{enabled, step}
 use Rattle.vx_record.proofs.Fixed.{step_keeps_system}
-use Rattle.vx_procs.specs.Kernel.{Kernel}
+use Rattle.vx_units.specs.Leases.{Stand}
+use Rattle.vx_procs.specs.Kernel.{Kernel, stands}
+use Rattle.vx_exec.specs.Leases.{Leasing}
 use Rattle.vx_exec.specs.Sound.{IsGoing}
 use Rattle.vx_exec.specs.View.{Plan}
 use Rattle.vx_exec.proofs.Enabled.{enabled_owned}
@@ -41,10 +43,16 @@ returns-clause-on g c =
     let leaves = ap (λ (k : Kernel). k.state) c.settle.ensures ∙ ap (λ (k : Kernel). k.state) c.step-answer.ensures.does.leaves in
     going_after c.make_room.new.core c.settle.new.self.state e limit taken going made.made there (below_limit limit taken c.args.self.now.core.state c.requires.going) leaves
 
-pub returns-clause-stands : goal.returns-clause-stands
-returns-clause-stands g c =
-    stepped_stands c.args.self.now.core c.make_room.new.core c.settle.new.self c.args.event c.in_ok-make_room.ensures.home
-    (ap (λ (k : Kernel). k.ends) c.settle.ensures ∙ ap (λ (k : Kernel). k.ends) c.step-answer.ensures.does.leaves)
+pub returns-clause-after : goal.returns-clause-after
+returns-clause-after g c =
+    let made = c.in_ok-make_room.ensures in
+    let now = c.args.self.now in
+    let e = c.args.event in
+    let of : State → List Stand → Leasing = λ s ss. record { exec = record { state = s; limit = now.limit; taken = now.taken + 1 }; stands = ss } in
+    let ends = ap (λ (k : Kernel). k.ends) c.settle.ensures ∙ ap (λ (k : Kernel). k.ends) c.step-answer.ensures.does.leaves in
+    let leaves = ap (λ (k : Kernel). k.state) c.settle.ensures ∙ ap (λ (k : Kernel). k.state) c.step-answer.ensures.does.leaves in
+    ap (λ (s : State). of s (stands c.settle.new.self)) (leaves ∙ ap (λ (u : State). (step u e).after) made.same)
+    ∙ ap (λ (ss : List Stand). of (step now.core.state e).after ss) (stepped_stands now.core c.make_room.new.core c.settle.new.self e made.home ends)
 
 pub returns-clause-plan : goal.returns-clause-plan
 returns-clause-plan g c =

@@ -7,5 +7,5 @@ take-requires-clause-home g c = in_for c.self.inside.engine c.args.event c.self.
 pub invariant_of-self-2 : goal.invariant_of-self-2
 invariant_of-self-2 g c = record {
   on = rw c.forget_log.ensures c.take.ensures.on;
-  home = rw c.forget_log.ensures (in_after c.self.inside.engine c.take.new.self c.args.event c.take.result c.take.ensures.stands c.take.ensures.stay c.self.invariant.home);
+  home = rw c.forget_log.ensures (in_after c.self.inside.engine c.take.new.self c.args.event c.take.result c.take.ensures.after c.take.ensures.err c.self.invariant.home);
 }

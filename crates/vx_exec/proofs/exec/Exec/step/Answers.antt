@@ -7,5 +7,5 @@ step-requires-clause-home g c = in_for c.self.inside.engine c.args.event c.self.
 pub invariant_of-self : goal.invariant_of-self
 invariant_of-self g c = record {
   on = c.step.ensures.on;
-  home = in_after c.self.inside.engine c.step.new.self c.args.event c.step.result c.step.ensures.stands c.step.ensures.stay c.self.invariant.home;
+  home = in_after c.self.inside.engine c.step.new.self c.args.event c.step.result c.step.ensures.after c.step.ensures.err c.self.invariant.home;
 }
