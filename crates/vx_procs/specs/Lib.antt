@@ -10,6 +10,7 @@ pub mod Handlers
 pub mod Held
 pub mod Kernel
 pub mod Leases
+pub mod Making
 pub mod Own
 pub mod Places
 pub mod Processes

@@ -5,7 +5,8 @@ ghost use Rattle.vx_base.specs.Log.{HasRoom};
 ghost use Rattle.vx_base.specs.Roomy.{with_items};
 ghost use Rattle.vx_procs.specs.Kernel.{Fits, told};
 ghost use Rattle.vx_record.specs.State.{IsProcess};
-ghost use Rattle.vx_procs.specs.Ready.{HasBegun, HasHandlerRoom, HasNewcomer, HasSpares, KeepsLists};
+ghost use Rattle.vx_procs.specs.Making.{KeepsLists};
+ghost use Rattle.vx_procs.specs.Ready.{HasBegun, HasHandlerRoom, HasNewcomer, HasSpares};
 
 use crate::kept::KeptUnit;
 use crate::newcomer::Newcomer;
