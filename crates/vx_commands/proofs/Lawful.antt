@@ -1,80 +1,84 @@
--- The runs that were written, and those that were read, keep the six laws.
-use Rattle.std.proofs.Common.{◌≡◌, ◌⊎◌, inl, inr, ℕ, List, Option, Some}
+-- The records that are told of keep the six laws.
+use Rattle.std.proofs.Common.{◌≡◌, ◌⊎◌, inl, inr, ℕ, List, Option, subst, sym}
 use Rattle.std.specs.Io.KnownBytes.{Appends}
-use Rattle.vx_base.specs.declared.record.End.{End}
-use Rattle.vx_base.specs.declared.record.End.TheVariants.{Done, Hung, Limit}
 use Rattle.vx_check.specs.Verdict.{IsVerdict, of_record, of_run}
 use Rattle.vx_check.specs.declared.verdict.Verdict.{Verdict}
+use Rattle.vx_commands.specs.Shown.{shown}
+use Rattle.vx_commands.specs.Top.{IsAnswer, IsLawful, ReadsInput, explored_are_lawful, followed_is_lawful, no_run, of_input, of_size, of_unread, of_words, place_is_missing, read_is_bad, read_is_lawful, run_is_lawful, summed_is_lawful}
 use Rattle.vx_gen.specs.Generated.{generated}
-use Rattle.vx_journal.specs.declared.journal.Journal.{Journal}
 use Rattle.vx_laws.proofs.Whole.{every_run_lawful}
 use Rattle.vx_picks.specs.Picked.{picked}
-use Rattle.vx_record.specs.Runs.{IsRun, chosen}
+use Rattle.vx_record.specs.Runs.{chosen}
+use Rattle.vx_report.specs.Reported.{IsReported, judged, refused, short as short_of_report, status_of}
+use Rattle.vx_simulate.specs.Followed.{followed, lacks}
+use Rattle.vx_simulate.specs.Simulated.{cut, ran}
+use Rattle.vx_simulate.specs.Summed.{full_run, short, summed}
+use Rattle.vx_survey.specs.Explored.{cut as cut_short, told}
+use Rattle.vx_tell.specs.Code.{status_of_end}
+use Rattle.vx_tell.specs.Scripts.{out_of_memory, no_script, of_system}
+use Rattle.vx_tell.specs.Told.{Told, broken, whole}
+use Rattle.vx_tell.specs.Unread.{failed, overflowed, short as short_of_input}
 use Rattle.vx_tell.specs.declared.status.Status.{Status}
 use Rattle.vx_tell.specs.declared.status.Status.TheVariants as status
-use Rattle.vx_report.specs.Reported.{status_of}
-use Rattle.vx_simulate.specs.Summed.{full_run}
-use Rattle.vx_simulate.specs.Summing.{WritesSummed}
-use Rattle.vx_commands.specs.Top.{Completes, ended, showed, Ends, ran, placed, explored, summed, judged, Explores, Follows, IsLawful, explored_are_lawful, followed_is_lawful, summed_is_lawful, run_is_lawful, place_is_missing, Rejects, reported, missed, read_is_lawful, read_is_bad, no_run, Judges, Simulates, status_of_end, WritesReport}
-use Rattle.vx_words.specs.Words.{size_of}
+use Rattle.vx_words.specs.declared.command.Command.TheVariants.{Sim, Follow, Explore, Show, Check}
+use Rattle.vx_words.specs.declared.command.Report.{Report}
 
-simulated_lawful : (words : List (List ℕ)) (left left_after held held_after : Option (List ℕ)) (status : Status) (end : End) (text : List ℕ) → Simulates words left left_after end text → IsLawful words left left_after held held_after status
-simulated_lawful words left left_after held held_after status end text s =
-    run_is_lawful status s.options s.input s.system s.read s.says (every_run_lawful s.system (chosen s.system s.options.seed s.options.limit) s.simulated.run)
+-- the status of a run that has ended, or of a report or a line that tells what is wrong
+abbrev pub IsOfRun : Status → Type 0
+IsOfRun s = (s ≡ status.Done) ⊎ (s ≡ status.Hung) ⊎ (s ≡ status.Limit) ⊎ (s ≡ status.Illegal)
 
-placed_lawful : (words : List (List ℕ)) (left left_after held held_after : Option (List ℕ)) (status : Status) (end : End) (text : List ℕ) → Follows words left left_after end text → IsLawful words left left_after held held_after status
-placed_lawful words left left_after held held_after status end text f =
-    let s = f.followed.system in
-    followed_is_lawful status f.picks f.input s f.read f.followed.says (every_run_lawful s (picked s f.picks.places f.picks.limit) f.followed.followed.run)
+-- these four statuses, and no other
+abbrev pub Ends : Status → Type 0
+Ends status.Done = Unit {0}
+Ends status.Hung = Unit {0}
+Ends status.Limit = Unit {0}
+Ends status.Illegal = Unit {0}
+Ends other = ⊥
 
-explored_lawful : (words : List (List ℕ)) (left left_after held held_after : Option (List ℕ)) (status : Status) (end : End) (text : List ℕ) → Explores words left left_after end text → IsLawful words left left_after held held_after status
-explored_lawful words left left_after held held_after status end text e =
-    explored_are_lawful status e.scope e.input e.explored.system e.read e.explored.says (every_run_lawful e.explored.system)
-
--- a verdict with the status of an ending is no verdict on a record
-judged_run : (journal : Journal) (verdict : Verdict) (end : End) → IsVerdict journal verdict → status_of verdict ≡ status_of_end end → IsRun journal.system journal.recs
-judged_run journal verdict end (of_run run is) so = run
-judged_run journal verdict Done (of_record n wrong is) so = absurd (cc)
-judged_run journal verdict Hung (of_record n wrong is) so = absurd (cc)
-judged_run journal verdict Limit (of_record n wrong is) so = absurd (cc)
-
-verdict_lawful : (words : List (List ℕ)) (left left_after held held_after : Option (List ℕ)) (status : Status) (end : End) → WritesReport words left left_after held held_after (status_of_end end) → IsLawful words left left_after held held_after status
-verdict_lawful words left left_after held held_after status end w =
-    let j = w.judges.reported.journal in
-    read_is_lawful status w.judges.report w.judges.input j w.judges.read w.judges.reported.says (every_run_lawful j.system j.recs (judged_run j w.verdict end w.judges.reported.judged w.so))
-
--- what a summary ends with is no refusal
-pub never_illegal : (s : Status) → (s ≡ status.Done) ⊎ (s ≡ status.Hung) ⊎ (s ≡ status.Limit) ⊎ (s ≡ status.NoMemory) ⊎ (s ≡ status.WriteFault) → s ≡ status.Illegal → ⊥
-never_illegal s (inl h) e = cc
-never_illegal s (inr (inl h)) e = cc
-never_illegal s (inr (inr (inl h))) e = cc
-never_illegal s (inr (inr (inr (inl h)))) e = cc
-never_illegal s (inr (inr (inr (inr h)))) e = cc
-
--- a summary is of a run
-pub summary_lawful : (words : List (List ℕ)) (size : ℕ) (left left_after held held_after : Option (List ℕ)) (status : Status) (end : End) → size_of words ≡ Some size → WritesSummed size held held_after end → IsLawful words left left_after held held_after status
-summary_lawful words size left left_after held held_after status end asked w =
-    summed_is_lawful status size asked (every_run_lawful (generated size) (chosen (generated size) full_run.seed full_run.limit) w.summed.run)
-
-pub ended_lawful : (words : List (List ℕ)) (left left_after held held_after : Option (List ℕ)) (status : Status) (end : End) → Ends words left left_after held held_after end → IsLawful words left left_after held held_after status
-ended_lawful words left left_after held held_after status end (ran w) = simulated_lawful words left left_after held held_after status end w.text w.simulates
-ended_lawful words left left_after held held_after status end (placed w) = placed_lawful words left left_after held held_after status end w.text w.follows
-ended_lawful words left left_after held held_after status end (explored w) = explored_lawful words left left_after held held_after status end w.text w.explores
-ended_lawful words left left_after held held_after status end (summed w) =
-    summed_is_lawful status w.generates.size w.generates.asked (every_run_lawful (generated w.generates.size) (chosen (generated w.generates.size) full_run.seed full_run.limit) w.generates.summed.run)
-ended_lawful words left left_after held held_after status end (judged w) = verdict_lawful words left left_after held held_after status end w
-
-pub completed_lawful : (words : List (List ℕ)) (left left_after held held_after : Option (List ℕ)) (status : Status) → Completes words left left_after held held_after → IsLawful words left left_after held held_after status
-completed_lawful words left left_after held held_after status (ended e) = ended_lawful words left left_after held held_after status Done e
-completed_lawful words left left_after held held_after status (showed w) = no_run status w.shows.input w.shows.read
+pub ends : (s : Status) → IsOfRun s → Ends s
+ends s (inl h) = subst Ends (sym h) tt
+ends s (inr (inl h)) = subst Ends (sym h) tt
+ends s (inr (inr (inl h))) = subst Ends (sym h) tt
+ends s (inr (inr (inr h))) = subst Ends (sym h) tt
 
 -- records that are a run keep the laws, whatever the verdict; others have the verdict bad
-judged_lawful : (words : List (List ℕ)) (left left_after held held_after : Option (List ℕ)) (verdict : Verdict) (text : List ℕ) (judges : Judges words left left_after verdict text) → IsVerdict judges.reported.journal verdict → Appends held held_after text → IsLawful words left left_after held held_after status.Illegal
-judged_lawful words left left_after held held_after verdict text judges (of_run run is) written =
-    let j = judges.reported.journal in
-    read_is_lawful status.Illegal judges.report judges.input j judges.read judges.reported.says (every_run_lawful j.system j.recs run)
-judged_lawful words left left_after held held_after verdict text judges (of_record n wrong is) written = read_is_bad n text (rw is at judges) written
+judged_lawful : (words : List (List ℕ)) (left left_after held held_after : Option (List ℕ)) (report : Report) (input : List ℕ) (verdict : Verdict) (text : List ℕ) → ReadsInput words (Check report) left left_after input → (reported : IsReported input report verdict text) → IsVerdict reported.journal verdict → Appends held held_after text → IsLawful words left left_after held held_after (status_of verdict)
+judged_lawful words left left_after held held_after report input verdict text read reported (of_run run is) written =
+    let j = reported.journal in
+    read_is_lawful (status_of verdict) report input j read reported.says (every_run_lawful j.system j.recs run)
+judged_lawful words left left_after held held_after report input verdict text read reported (of_record n wrong is) written =
+    subst (λ (v : Verdict). IsLawful words left left_after held held_after (status_of v)) (sym is) (read_is_bad report input n text read (subst (λ (v : Verdict). IsReported input report v text) is reported) written)
 
-pub rejected_lawful : (words : List (List ℕ)) (left left_after held held_after : Option (List ℕ)) → Rejects words left left_after held held_after → IsLawful words left left_after held held_after status.Illegal
-rejected_lawful words left left_after held held_after (missed w) = place_is_missing w.text w.misses w.written
-rejected_lawful words left left_after held held_after (reported w) = judged_lawful words left left_after held held_after w.verdict w.text w.judges w.judges.reported.judged w.written
+answer_lawful : (words : List (List ℕ)) (left left_after : Option (List ℕ)) (faults faults_after : ℕ) (held held_after : Option (List ℕ)) (s : Status) (text : List ℕ) → IsAnswer words left left_after faults faults_after s text → IsOfRun s → Appends held held_after text → IsLawful words left left_after held held_after s
+answer_lawful words left left_after faults faults_after held held_after s text (of_input (Sim options) input _ _ read (of_system system _ _ says (ran end _ is))) e written =
+    run_is_lawful (status_of_end end) options input system read says (every_run_lawful system (chosen system options.seed options.limit) is.run)
+answer_lawful words left left_after faults faults_after held held_after s text (of_input (Sim options) input _ _ read (of_system system _ _ says (cut _ is))) e written = absurd (ends status.NoMemory e)
+answer_lawful words left left_after faults faults_after held held_after s text (of_input (Sim options) input _ _ read (no_script _ is)) e written = absurd (ends status.Form e)
+answer_lawful words left left_after faults faults_after held held_after s text (of_input (Sim options) input _ _ read out_of_memory) e written = absurd (ends status.NoMemory e)
+answer_lawful words left left_after faults faults_after held held_after s text (of_input (Follow picks) input _ _ read (of_system system _ _ says (followed end _ is))) e written =
+    followed_is_lawful (status_of_end end) picks input system read says (every_run_lawful system (picked system picks.places picks.limit) is.run)
+answer_lawful words left left_after faults faults_after held held_after s text (of_input (Follow picks) input _ _ read (of_system system _ _ says (lacks _ is))) e written = place_is_missing picks input system text read says is written
+answer_lawful words left left_after faults faults_after held held_after s text (of_input (Follow picks) input _ _ read (no_script _ is)) e written = absurd (ends status.Form e)
+answer_lawful words left left_after faults faults_after held held_after s text (of_input (Follow picks) input _ _ read out_of_memory) e written = absurd (ends status.NoMemory e)
+answer_lawful words left left_after faults faults_after held held_after s text (of_input (Explore scope) input _ _ read (of_system system _ _ says (told end _ is))) e written =
+    explored_are_lawful (status_of_end end) scope input system read says (every_run_lawful system)
+answer_lawful words left left_after faults faults_after held held_after s text (of_input (Explore scope) input _ _ read (of_system system _ _ says (cut_short _ is))) e written = absurd (ends status.Cut e)
+answer_lawful words left left_after faults faults_after held held_after s text (of_input (Explore scope) input _ _ read (no_script _ is)) e written = absurd (ends status.Form e)
+answer_lawful words left left_after faults faults_after held held_after s text (of_input (Explore scope) input _ _ read out_of_memory) e written = absurd (ends status.NoMemory e)
+answer_lawful words left left_after faults faults_after held held_after s text (of_input Show input _ _ read (of_system system _ _ says shown)) e written = no_run status.Done input read
+answer_lawful words left left_after faults faults_after held held_after s text (of_input Show input _ _ read (no_script _ is)) e written = absurd (ends status.Form e)
+answer_lawful words left left_after faults faults_after held held_after s text (of_input Show input _ _ read out_of_memory) e written = absurd (ends status.NoMemory e)
+answer_lawful words left left_after faults faults_after held held_after s text (of_input (Check report) input _ _ read (judged verdict _ is)) e written = judged_lawful words left left_after held held_after report input verdict text read is is.judged written
+answer_lawful words left left_after faults faults_after held held_after s text (of_input (Check report) input _ _ read (refused _ is)) e written = absurd (ends status.Form e)
+answer_lawful words left left_after faults faults_after held held_after s text (of_input (Check report) input _ _ read short_of_report) e written = absurd (ends status.NoMemory e)
+answer_lawful words left left_after faults faults_after held held_after s text (of_size size _ _ asked kept (summed end _ is)) e written =
+    summed_is_lawful (status_of_end end) size asked (every_run_lawful (generated size) (chosen (generated size) full_run.seed full_run.limit) is.run)
+answer_lawful words left left_after faults faults_after held held_after s text (of_size size _ _ asked kept short) e written = absurd (ends status.NoMemory e)
+answer_lawful words left left_after faults faults_after held held_after s text (of_words is) e written = absurd (ends status.Words e)
+answer_lawful words left left_after faults faults_after held held_after s text (of_unread command _ _ asked (failed took rose)) e written = absurd (ends status.ReadFault e)
+answer_lawful words left left_after faults faults_after held held_after s text (of_unread command _ _ asked (overflowed took)) e written = absurd (ends status.TooLong e)
+answer_lawful words left left_after faults faults_after held held_after s text (of_unread command _ _ asked short_of_input) e written = absurd (ends status.NoMemory e)
+
+pub told_lawful : (words : List (List ℕ)) (left left_after : Option (List ℕ)) (faults faults_after counted counted_after : ℕ) (held held_after : Option (List ℕ)) (answer : Status) → Told (IsAnswer words left left_after faults faults_after) counted counted_after held held_after answer → IsOfRun answer → IsLawful words left left_after held held_after answer
+told_lawful words left left_after faults faults_after counted counted_after held held_after answer (whole s text is written) e = answer_lawful words left left_after faults faults_after held held_after s text is e written
+told_lawful words left left_after faults faults_after counted counted_after held held_after answer (broken s text is front rose) e = absurd (ends status.WriteFault e)

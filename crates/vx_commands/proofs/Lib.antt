@@ -1,3 +1,2 @@
-pub mod Breaking
+pub mod Answering
 pub mod Lawful
-pub mod Showing

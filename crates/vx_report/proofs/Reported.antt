@@ -1,5 +1,5 @@
 -- A transcript that was judged and is read again is the same one.
-use Rattle.std.proofs.Common.{◌≡◌, ℕ, List, Ok, ap, subst, sym, ◌∙◌}
+use Rattle.std.proofs.Common.{◌≡◌, ℕ, List, Ok, ap, sym, ◌∙◌}
 use Rattle.vx_check.specs.Verdict.{IsJudged}
 use Rattle.vx_check.specs.declared.verdict.Verdict.{Verdict}
 use Rattle.vx_grammar.specs.Grammar.{Spells}
@@ -8,10 +8,7 @@ use Rattle.vx_journal.specs.ReadJournal.{script_part, journal_of, IsJournal}
 use Rattle.vx_journal.specs.declared.journal.Journal.{Journal}
 use Rattle.vx_words.specs.declared.command.Report.{Report}
 use Rattle.vx_words.specs.declared.command.Report.TheVariants.{Line}
-use Rattle.vx_report.specs.Judged.{IsFinding}
-use Rattle.vx_report.specs.Reported.{IsNoTranscript, IsReported, report_text, verdict_line}
-use Rattle.vx_report.specs.declared.finding.Finding.{Finding}
-use Rattle.vx_report.specs.declared.finding.Finding.TheVariants.{Judged, Refused}
+use Rattle.vx_report.specs.Reported.{IsReported, report_text, verdict_line}
 
 same_journal : (text : List ℕ) (i j : Journal) → IsJournal text i → ((s : System) → Spells (script_part text) s → journal_of s text ≡ Ok j) → i ≡ j
 same_journal text i j is only = let both : Ok i ≡ Ok j = sym is.reads ∙ only i.system is.says in cc
@@ -24,11 +21,3 @@ drawn_as input report verdict j text has only spells =
 pub told_as : (input : List ℕ) (report : Report) (verdict : Verdict) (text : List ℕ) → report ≡ Line → IsJudged input verdict → text ≡ verdict_line verdict → IsReported input report verdict text
 told_as input report verdict text is has spells =
     record { journal = has.journal; says = has.says; judged = has.judged; spells = spells ∙ ap (λ (r : Report). report_text r has.journal verdict) (sym is) }
-
--- what was found is a verdict with a report, or a refusal
-
-pub reported_by : (input seen : List ℕ) (report : Report) (f : Finding) (v : Verdict) (text : List ℕ) → seen ≡ input → f ≡ Judged v text → IsFinding seen report f → IsReported input report v text
-reported_by input seen report f v text same is h = subst (λ (xs : List ℕ). IsReported xs report v text) same (subst (IsFinding seen report) is h)
-
-pub refused_by : (input seen : List ℕ) (report : Report) (f : Finding) (text : List ℕ) → seen ≡ input → f ≡ Refused text → IsFinding seen report f → IsNoTranscript input text
-refused_by input seen report f text same is h = subst (λ (xs : List ℕ). IsNoTranscript xs text) same (subst (IsFinding seen report) is h)

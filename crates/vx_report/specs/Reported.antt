@@ -7,7 +7,7 @@ use Rattle.vx_draw.specs.Columns.{columns}
 use Rattle.vx_draw.specs.Picture.{picture}
 use Rattle.vx_journal.specs.ReadJournal.{script_part, IsJournal, IsBadLine}
 use Rattle.vx_journal.specs.declared.journal.Journal.{Journal}
-use Rattle.vx_tell.specs.Lines.{form_line}
+use Rattle.vx_tell.specs.Lines.{form_line, no_memory}
 use Rattle.vx_tell.specs.Refused.{IsNoScript}
 use Rattle.vx_tell.specs.declared.status.Status.{Status}
 use Rattle.vx_tell.specs.declared.status.Status.TheVariants as status
@@ -66,3 +66,9 @@ pub record IsReported (input : List ℕ) (report : Report) (verdict : Verdict) (
 pub data IsNoTranscript (input : List ℕ) : List ℕ → Type 0 where
   no_script : (text : List ℕ) → IsNoScript (script_part input) text → IsNoTranscript input text
   no_journal : (line : ℕ) → IsBadLine input line → IsNoTranscript input (form_line line)
+
+-- what `check` and `draw` come to on an input that was read
+pub data IsReportText (report : Report) (input : List ℕ) : Status → List ℕ → Type 0 where
+  judged : (verdict : Verdict) (text : List ℕ) → IsReported input report verdict text → IsReportText report input (status_of verdict) text
+  refused : (text : List ℕ) → IsNoTranscript input text → IsReportText report input status.Form text
+  short : IsReportText report input status.NoMemory no_memory

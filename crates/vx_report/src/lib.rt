@@ -1,7 +1,7 @@
 //! `check` and `draw`: judges a transcript, and writes its verdict or a picture of it.
 #![tactic(auto)]
 
-mod finding;
+mod judging;
 mod verdict;
 
-pub use finding::judge;
+pub use judging::judge;

@@ -9,12 +9,8 @@ use Rattle.vx_lines.specs.Records.{records_lines}
 use Rattle.vx_picks.specs.Followed.{IsPickedRun}
 use Rattle.vx_record.specs.Runs.{IsRun, end_after}
 use Rattle.vx_script.specs.Script.{ended_lines, script}
-use Rattle.vx_simulate.specs.Followed.{IsFollowed, IsPickedText, LacksPlace}
-use Rattle.vx_simulate.specs.Following.{IsCourse}
+use Rattle.vx_simulate.specs.Followed.{IsPickedText}
 use Rattle.vx_trailer.proofs.Spelled.{spelled_run}
-use Rattle.vx_tell.specs.Refused.{IsNoScript}
-use Rattle.vx_simulate.specs.declared.by_places.Course.{Course}
-use Rattle.vx_simulate.specs.declared.by_places.Course.TheVariants.{Ended, Missing, Refused}
 use Rattle.vx_words.specs.declared.picks.Picks.{Picks}
 
 -- what was printed of a run that places chose is its transcript
@@ -24,14 +20,3 @@ is_picked_text system picks closed recs e text is spells = record {
   ended = subst (λ rs. end_after system rs picks.limit ≡ Some e) is.picked is.ended;
   spells = spelled_run system closed recs e text is.now is.counted spells ∙ ap (λ rs. transcript system rs e) is.picked;
 }
-
--- what was found is a run, a lack or a refusal
-
-pub ended_by : (input seen : List ℕ) (picks : Picks) (c : Course) (end : End) (text : List ℕ) → seen ≡ input → c ≡ Ended end text → IsCourse seen picks c → IsFollowed input picks end text
-ended_by input seen picks c end text same is h = subst (λ (xs : List ℕ). IsFollowed xs picks end text) same (subst (IsCourse seen picks) is h)
-
-pub missed_by : (input seen : List ℕ) (picks : Picks) (c : Course) (text : List ℕ) → seen ≡ input → c ≡ Missing text → IsCourse seen picks c → LacksPlace input picks text
-missed_by input seen picks c text same is h = subst (λ (xs : List ℕ). LacksPlace xs picks text) same (subst (IsCourse seen picks) is h)
-
-pub refused_by : (input seen : List ℕ) (picks : Picks) (c : Course) (text : List ℕ) → seen ≡ input → c ≡ Refused text → IsCourse seen picks c → IsNoScript input text
-refused_by input seen picks c text same is h = subst (λ (xs : List ℕ). IsNoScript xs text) same (subst (IsCourse seen picks) is h)

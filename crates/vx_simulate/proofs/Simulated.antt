@@ -11,19 +11,24 @@ use Rattle.vx_exec.proofs.Runs.{Taking, begun, chosen_run, ended_run, going_belo
 use Rattle.vx_exec.specs.Picks.{moved_seed, picked_event}
 use Rattle.vx_exec.specs.Taken.{IsChosenRun}
 use Rattle.vx_exec.specs.View.{Executive, Plan, after_step, plan}
+use Rattle.vx_host.specs.Causes.{Rose}
 use Rattle.vx_host.specs.Streams.{AppendsFront}
 use Rattle.vx_image.specs.declared.system.System.{System}
 use Rattle.vx_image.specs.declared.unit.UnitDecl.{UnitDecl}
 use Rattle.vx_journal.specs.Transcript.{trailer_lines, transcript}
 use Rattle.vx_lines.specs.Records.{record_lines, records_lines}
-use Rattle.vx_record.specs.Events.{enabled, step}
+use Rattle.vx_record.specs.Events.{enabled}
 use Rattle.vx_record.specs.Runs.{IsRun, after, chosen, chosen_from, end_after, end_of, first, record_of}
 use Rattle.vx_record.specs.State.{State}
 use Rattle.vx_script.specs.Script.{ended_lines, script, script_lines}
 use Rattle.vx_simulate.proofs.ChosenRuns.{chosen_ends, chosen_is_run}
-use Rattle.vx_simulate.specs.Simulated.{IsCut, IsSimulated}
-use Rattle.vx_simulate.specs.Simulating.{BreaksRun, GainsCut, GainsFront, GainsLines, GainsRun, Sends, in_cut, kept, lines_so_far, sent}
+use Rattle.vx_simulate.specs.Simulated.{IsCut, IsSimText, IsSimulated, cut, ran}
+use Rattle.vx_simulate.specs.Simulating.{GainsFront, GainsLines, GainsRun, Sends, kept, lines_so_far, sent}
+use Rattle.vx_tell.specs.Code.{status_of_end}
 use Rattle.vx_tell.specs.Lines.{no_memory}
+use Rattle.vx_tell.specs.Told.{Only, Told, broken, only, whole}
+use Rattle.vx_tell.specs.declared.status.Status.{Status}
+use Rattle.vx_tell.specs.declared.status.Status.TheVariants.{NoMemory, WriteFault}
 use Rattle.vx_words.specs.declared.command.Options.{Options}
 
 -- What a sink gained.
@@ -244,14 +249,19 @@ run_broken system options now next held held_now held_after pending last end wit
 cut_text : (system : System) (options : Options) (held held_now : Option (List ℕ)) (gained : GainsLines system options held held_now) → IsCut system options (ended_lines gained.lines ++ no_memory)
 cut_text system options held held_now gained = record { end = gained.end; lines = gained.lines; rest = gained.rest; simulated = gained.simulated; spells = refl }
 
-pub gains_cut : (system : System) (options : Options) (held held_now held_after : Option (List ℕ)) → GainsLines system options held held_now → Appends held_now held_after no_memory → GainsCut system options held held_after
-gains_cut system options held held_now held_after gained told = record {
-  text = ended_lines gained.lines ++ no_memory;
-  cut = cut_text system options held held_now gained;
-  written = Appends-trans held held_now held_after (ended_lines gained.lines) no_memory gained.written told;
-}
+-- How a run was told.
 
-pub breaks_in_cut : (system : System) (options : Options) (held held_now held_after : Option (List ℕ)) → GainsLines system options held held_now → AppendsFront held_now held_after no_memory → BreaksRun system options held held_after
-breaks_in_cut system options held held_now held_after gained failed =
+pub told_run : (system : System) (options : Options) (faults faults_after : ℕ) (held held_after : Option (List ℕ)) (end : End) → GainsRun system options held held_after end → Told (IsSimText options system) faults faults_after held held_after (status_of_end end)
+told_run system options faults faults_after held held_after end gained = whole (status_of_end end) gained.text (ran end gained.text gained.simulated) gained.written
+
+pub told_front : (system : System) (options : Options) (faults faults_after : ℕ) (held held_after : Option (List ℕ)) → GainsFront system options held held_after → Rose faults faults_after → Told (IsSimText options system) faults faults_after held held_after WriteFault
+told_front system options faults faults_after held held_after gained rose = broken (status_of_end gained.end) gained.text (ran gained.end gained.text gained.simulated) gained.front rose
+
+pub told_cut : (system : System) (options : Options) (faults faults_now faults_after : ℕ) (held held_now held_after : Option (List ℕ)) (answer : Status) → faults ≤ faults_now → GainsLines system options held held_now → Told (Only NoMemory no_memory) faults_now faults_after held_now held_after answer → Told (IsSimText options system) faults faults_after held held_after answer
+told_cut system options faults faults_now faults_after held held_now held_after answer later gained (whole s line only written) =
+    whole NoMemory (ended_lines gained.lines ++ no_memory) (cut (ended_lines gained.lines ++ no_memory) (cut_text system options held held_now gained)) (Appends-trans held held_now held_after (ended_lines gained.lines) no_memory gained.written written)
+told_cut system options faults faults_now faults_after held held_now held_after answer later gained (broken s line only front rose) =
     let text = ended_lines gained.lines ++ no_memory in
-    in_cut text (cut_text system options held held_now gained) (front_behind held held_now held_after (ended_lines gained.lines) no_memory [] text (ap (λ (l : List ℕ). ended_lines gained.lines ++ l) (sym (append-nil no_memory))) gained.written failed)
+    broken NoMemory text (cut text (cut_text system options held held_now gained))
+    (front_behind held held_now held_after (ended_lines gained.lines) no_memory [] text (ap (λ (l : List ℕ). ended_lines gained.lines ++ l) (sym (append-nil no_memory))) gained.written front)
+    (λ n. omega (arith, later, rose n))

@@ -1,6 +1,5 @@
 -- A run of which the tally alone is kept.
-use Rattle.std.proofs.Common.{◌≡◌, ℕ, ◌≤◌, List, [], ◌∷◌, ◌++◌, Option, Some, None, ap, subst, ◌∙◌}
-use Rattle.std.specs.Io.KnownBytes.{Appends}
+use Rattle.std.proofs.Common.{◌≡◌, ℕ, ◌≤◌, List, [], ◌∷◌, ◌++◌, Some, None, ap, subst, ◌∙◌}
 use Rattle.vx_base.specs.declared.record.End.{End}
 use Rattle.vx_base.specs.declared.record.Event.{Event}
 use Rattle.vx_base.specs.declared.record.Rec.{Rec}
@@ -12,11 +11,10 @@ use Rattle.vx_exec.specs.View.{Executive, after_step, plan}
 use Rattle.vx_exec.specs.Taken.{IsChosenRun}
 use Rattle.vx_exec.proofs.Runs.{Taking, chosen_run, taken_more}
 use Rattle.vx_gen.specs.Counted.{tally_of}
-use Rattle.vx_gen.specs.Generated.{generated}
 use Rattle.vx_gen.specs.declared.tally.Tally.{Tally}
 use Rattle.vx_words.specs.declared.command.Options.{Options}
-use Rattle.vx_simulate.specs.Summed.{IsSummed, full_run, summary}
-use Rattle.vx_simulate.specs.Summing.{Tallies, WritesSummed}
+use Rattle.vx_simulate.specs.Summed.{IsSummed, summary}
+use Rattle.vx_simulate.specs.Summing.{Tallies}
 
 -- the run so far, its tally, and the rest that the seed chooses
 pub record Tallying (before now : Executive) (seed next : ℕ) (tally : Tally) : Type 0 where
@@ -40,11 +38,3 @@ is_summed system options before closed tally e text within opens is spells =
       ended = subst (λ rs. end_after system rs options.limit ≡ Some e) ran.chosen ran.ended;
       spells = spells ∙ (ap (λ (t : Tally). summary t e) is.counts ∙ ap (λ rs. summary (tally_of rs) e) ran.chosen);
     }
-
--- a summary that was written is that of a run with this ending
-pub writes_summed : (size : ℕ) (held held_after : Option (List ℕ)) (text : List ℕ) (end want : End) → IsSummed (generated size) full_run end text → (end ≡ want) × Appends held held_after text → WritesSummed size held held_after want
-writes_summed size held held_after text end want summed told = record {
-  text = text;
-  summed = subst (λ z. IsSummed (generated size) full_run z text) told.0 summed;
-  written = told.1;
-}

@@ -1,11 +1,13 @@
--- What a list of places comes to on an input: the run that it chooses, or the place that is not there.
+-- What a list of places comes to of a system: the run that it chooses, or the place that is not there.
 use Rattle.std.specs.Prelude.{◌≡◌, ℕ, List, [], ◌∷◌, ◌++◌, codes, decimal, Some}
 use Rattle.vx_base.specs.declared.record.End.{End}
-use Rattle.vx_grammar.specs.Grammar.{Spells}
 use Rattle.vx_image.specs.declared.system.System.{System}
 use Rattle.vx_journal.specs.Transcript.{transcript}
 use Rattle.vx_picks.specs.Picked.{IsMissing, picked}
 use Rattle.vx_record.specs.Runs.{IsRun, end_after}
+use Rattle.vx_tell.specs.Code.{status_of_end}
+use Rattle.vx_tell.specs.declared.status.Status.{Status}
+use Rattle.vx_tell.specs.declared.status.Status.TheVariants as status
 use Rattle.vx_words.specs.declared.picks.Picks.{Picks}
 
 -- the line of a place that is not there: record n has none of m enabled events
@@ -19,17 +21,14 @@ pub record IsPickedText (system : System) (picks : Picks) (end : End) (text : Li
   pub ended : end_after system (picked system picks.places picks.limit) picks.limit ≡ Some end
   pub spells : text ≡ transcript system (picked system picks.places picks.limit) end
 
--- The input is the script of a system, and the text is the transcript of the run that the places choose, which has ended so.
-pub record IsFollowed (input : List ℕ) (picks : Picks) (end : End) (text : List ℕ) : Type 0 where
-  pub system : System
-  pub says : Spells input system
-  pub followed : IsPickedText system picks end text
-
--- The input is the script of a system, record n of the run has no event at its place, and the text is the line that tells it.
-pub record LacksPlace (input : List ℕ) (picks : Picks) (text : List ℕ) : Type 0 where
-  pub system : System
-  pub says : Spells input system
+-- Record n of the run has no event at its place, and the text is the line that tells it.
+pub record LacksPlace (system : System) (picks : Picks) (text : List ℕ) : Type 0 where
   pub n : ℕ
   pub m : ℕ
   pub missing : IsMissing system picks.places picks.limit n m
   pub spells : text ≡ pick_line n m
+
+-- what `sim --picks` comes to of a system
+pub data IsFollowText (picks : Picks) (system : System) : Status → List ℕ → Type 0 where
+  followed : (end : End) (text : List ℕ) → IsPickedText system picks end text → IsFollowText picks system (status_of_end end) text
+  lacks : (text : List ℕ) → LacksPlace system picks text → IsFollowText picks system status.Illegal text

@@ -2,11 +2,16 @@
 use Rattle.std.specs.Prelude.{◌≡◌, ℕ, List, [], ◌∷◌, ◌++◌, codes, decimal, Some}
 use Rattle.vx_base.specs.declared.record.End.{End}
 use Rattle.vx_gen.specs.Counted.{tally_of}
+use Rattle.vx_gen.specs.Generated.{generated}
 use Rattle.vx_gen.specs.declared.tally.Tally.{Tally}
 use Rattle.vx_image.specs.declared.system.System.{System}
 use Rattle.vx_journal.specs.Transcript.{end_line}
 use Rattle.vx_lines.specs.Records.{ended_lines}
 use Rattle.vx_record.specs.Runs.{IsRun, chosen, end_after}
+use Rattle.vx_tell.specs.Code.{status_of_end}
+use Rattle.vx_tell.specs.Lines.{no_memory}
+use Rattle.vx_tell.specs.declared.status.Status.{Status}
+use Rattle.vx_tell.specs.declared.status.Status.TheVariants as status
 use Rattle.vx_words.specs.declared.command.Options.{Options}
 
 -- The summary of a run, and how it ended.
@@ -30,3 +35,8 @@ pub record IsSummed (system : System) (options : Options) (end : End) (text : Li
   pub run : IsRun system (chosen system options.seed options.limit)
   pub ended : end_after system (chosen system options.seed options.limit) options.limit ≡ Some end
   pub spells : text ≡ summary (tally_of (chosen system options.seed options.limit)) end
+
+-- What `gen` comes to: the summary of the generated system's run at seed 0 and limit 100,000. Or memory ran out.
+pub data IsGenText (size : ℕ) : Status → List ℕ → Type 0 where
+  summed : (end : End) (text : List ℕ) → IsSummed (generated size) full_run end text → IsGenText size (status_of_end end) text
+  short : IsGenText size status.NoMemory no_memory

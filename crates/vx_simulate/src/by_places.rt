@@ -1,14 +1,11 @@
 //! Follows a list of places: from what a script says to the transcript of the run that they choose.
 
-ghost use Rattle.std.specs.Prelude.{◌≡◌, ◌⊎◌, ◌<◌, ◌≤◌, IfErr, IfOk, length};
-ghost use Rattle.std.specs.Io.KnownBytes.{Appends};
-ghost use Rattle.vx_host.specs.Causes.{Rose};
+ghost use Rattle.std.specs.Prelude.{◌≡◌, ◌<◌, ◌≤◌, IfErr, IfOk, length};
 ghost use Rattle.vx_image.specs.WellFormed.{IsWellFormed};
 ghost use Rattle.vx_picks.specs.Followed.{tells_missing};
-ghost use Rattle.vx_simulate.specs.Followed.{IsPickedText, pick_line};
-ghost use Rattle.vx_simulate.specs.Following.{BreaksPicked, IsCourse, WritesLack, WritesPicked};
-ghost use Rattle.vx_tell.specs.Lines.{no_memory};
-ghost use Rattle.vx_tell.specs.Refused.{GainsFault};
+ghost use Rattle.vx_simulate.specs.Followed.{IsFollowText, IsPickedText, pick_line};
+ghost use Rattle.vx_tell.specs.Scripts.{OfScript};
+ghost use Rattle.vx_tell.specs.Told.{IsOutputOf, Told};
 
 use std::alloc::Global;
 use vx_base::{Bytes, End, NoMemory, Scripted};
@@ -16,22 +13,11 @@ use vx_grammar::read_script;
 use vx_host::Sink;
 use vx_image::System;
 use vx_picks::{PickFail, run_picks};
-use vx_script::{ScriptFail, print_script};
-use vx_tell::{Status, fault_line, tell, tell_no_memory, tell_transcript};
+use vx_script::print_script;
+use vx_tell::{Output, Status, refusal, tell_output};
 use vx_text::print_num;
 use vx_trailer::print_run;
 use vx_words::Picks;
-
-/// What an input comes to.
-#[derive(Drop)]
-pub enum Course {
-    /// The run that the places choose: how it ended, and its transcript.
-    Ended(End, Bytes),
-    /// A place is not there, and this is the line that tells it.
-    Missing(Bytes),
-    /// The input is no script, and this is the line of its first fault.
-    Refused(Bytes),
-}
 
 // The line of a record that has no event at its place, by its number and how many events are enabled there.
 fn pick_line(alloc: Global, number: u32, count: u32) -> Result<Bytes, NoMemory>
@@ -66,23 +52,36 @@ fn transcript(alloc: Global, system: System, picks: &Picks) -> Result<(Bytes, En
     }
 }
 
+/// What a system comes to: the run that the places choose, or the place that is not there.
+fn followed(alloc: Global, system: System, picks: &Picks) -> Result<Output, NoMemory>
+    requires formed { IsWellFormed system }
+    requires above { 1 ≤ picks.now.limit }
+    requires within { picks.now.limit ≤ 100000 }
+    ensures { IfOk result (IsOutputOf (IsFollowText picks.now system)) }
+{
+    match transcript(alloc, system, picks) {
+        Ok((text, end)) => Ok(Output {
+            status: Status::from(end),
+            text,
+        }),
+        Err(PickFail::Missing { number, count }) => Ok(Output {
+            status: Status::Illegal,
+            text: pick_line(alloc, number, count)?,
+        }),
+        Err(PickFail::NoMemory) => Err(NoMemory),
+    }
+}
+
 /// What an input comes to that was read whole.
-fn course_of(alloc: Global, picks: &Picks, input: &[u8]) -> Result<Course, NoMemory>
+fn answer(alloc: Global, picks: &Picks, input: &[u8]) -> Result<Output, NoMemory>
     requires size { length input.now < 4294967295 }
     requires above { 1 ≤ picks.now.limit }
     requires within { picks.now.limit ≤ 100000 }
-    ensures { IfOk result (IsCourse input.now picks.now) }
+    ensures { IfOk result (IsOutputOf (OfScript (IsFollowText picks.now) input.now)) }
 {
     match read_script(alloc, input) {
-        Ok(system) => match transcript(alloc, system, picks) {
-            Ok((text, end)) => Ok(Course::Ended(end, text)),
-            Err(PickFail::Missing { number, count }) => {
-                Ok(Course::Missing(pick_line(alloc, number, count)?))
-            }
-            Err(PickFail::NoMemory) => Err(NoMemory),
-        },
-        Err(ScriptFail::Fault(fault)) => Ok(Course::Refused(fault_line(alloc, fault)?)),
-        Err(ScriptFail::NoMemory) => Err(NoMemory),
+        Ok(system) => followed(alloc, system, picks),
+        Err(fail) => refusal(alloc, fail),
     }
 }
 
@@ -91,29 +90,9 @@ pub fn follow<K: Sink>(alloc: Global, picks: &Picks, input: &Bytes, sink: &mut K
     requires size { length input.now < 4294967295 }
     requires above { 1 ≤ picks.now.limit }
     requires within { picks.now.limit ≤ 100000 }
-    ensures status { (result ≡ Status.Done) ⊎ (result ≡ Status.Hung) ⊎ (result ≡ Status.Limit) ⊎ (result ≡ Status.Illegal)
-        ⊎ (result ≡ Status.Form) ⊎ (result ≡ Status.NoMemory) ⊎ (result ≡ Status.WriteFault) }
-    ensures done { result ≡ Status.Done →
-        WritesPicked input.now picks.now (K.held sink.old) (K.held sink.new) End.Done }
-    ensures hung { result ≡ Status.Hung →
-        WritesPicked input.now picks.now (K.held sink.old) (K.held sink.new) End.Hung }
-    ensures limit { result ≡ Status.Limit →
-        WritesPicked input.now picks.now (K.held sink.old) (K.held sink.new) End.Limit }
-    ensures illegal { result ≡ Status.Illegal →
-        WritesLack input.now picks.now (K.held sink.old) (K.held sink.new) }
-    ensures form { result ≡ Status.Form →
-        GainsFault input.now (K.held sink.old) (K.held sink.new) }
-    ensures no_memory { result ≡ Status.NoMemory →
-        Appends (K.held sink.old) (K.held sink.new) no_memory }
-    ensures front { result ≡ Status.WriteFault →
-        BreaksPicked input.now picks.now (K.held sink.old) (K.held sink.new) }
-    ensures cause { result ≡ Status.WriteFault → Rose (K.faults sink.old) (K.faults sink.new) }
+    ensures told { Told (OfScript (IsFollowText picks.now) input.now) (K.faults sink.old) (K.faults sink.new)
+        (K.held sink.old) (K.held sink.new) result }
     ensures later { K.faults sink.old ≤ K.faults sink.new }
 {
-    match course_of(alloc, picks, input.as_slice()) {
-        Ok(Course::Ended(end, text)) => tell_transcript(sink, text.as_slice(), end),
-        Ok(Course::Missing(text)) => tell(sink, text.as_slice(), Status::Illegal),
-        Ok(Course::Refused(text)) => tell(sink, text.as_slice(), Status::Form),
-        Err(NoMemory) => tell_no_memory(sink),
-    }
+    tell_output(sink, answer(alloc, picks, input.as_slice()))
 }

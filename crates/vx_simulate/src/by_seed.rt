@@ -1,6 +1,6 @@
 //! Runs a system, and writes its transcript as the run goes. It keeps no record.
 
-ghost use Rattle.std.specs.Prelude.{◌≡◌, ◌⊎◌, ◌<◌, ◌≤◌, ◌++◌, [], None, Contains, IfOk, IsErrOf, OnErr, OnOk, length};
+ghost use Rattle.std.specs.Prelude.{◌≡◌, ◌<◌, ◌≤◌, ◌++◌, [], None, Contains, IfOk, IsErrOf, OnErr, OnOk, length};
 ghost use Rattle.vx_exec.specs.View.{after_step, plan};
 ghost use Rattle.vx_host.specs.Causes.{HasCause, Rose};
 ghost use Rattle.vx_host.specs.Streams.{AppendsFront};
@@ -8,8 +8,10 @@ ghost use Rattle.vx_image.specs.WellFormed.{IsWellFormed};
 ghost use Rattle.vx_lines.specs.Records.{ended_lines, record_lines};
 ghost use Rattle.vx_record.specs.Events.{enabled};
 ghost use Rattle.vx_record.specs.Runs.{end_of, first, record_of};
-ghost use Rattle.vx_simulate.specs.Simulating.{BreaksInput, BreaksRun, GainsCut, GainsFront, GainsLines, GainsRun, Sends, StopsInput, WritesRun, lines_so_far};
-ghost use Rattle.vx_tell.specs.Refused.{GainsFault};
+ghost use Rattle.vx_simulate.specs.Simulated.{IsSimText};
+ghost use Rattle.vx_simulate.specs.Simulating.{GainsFront, GainsLines, GainsRun, Sends, lines_so_far};
+ghost use Rattle.vx_tell.specs.Scripts.{OfScript};
+ghost use Rattle.vx_tell.specs.Told.{Told};
 
 use std::alloc::Global;
 use vx_base::{Bytes, End, Event, NoMemory, Scripted};
@@ -18,8 +20,8 @@ use vx_grammar::read_script;
 use vx_host::{Failed, Sink, write_all};
 use vx_image::System;
 use vx_lines::print_record;
-use vx_script::{ScriptFail, print_script};
-use vx_tell::{Status, tell_fault, tell_no_memory};
+use vx_script::print_script;
+use vx_tell::{Status, refusal, tell_no_memory, tell_output};
 use vx_trailer::print_trailer;
 use vx_words::Options;
 
@@ -169,25 +171,12 @@ fn run<K: Sink>(alloc: Global, system: System, options: Options, sink: &mut K) -
     requires formed { IsWellFormed system }
     requires above { 1 ≤ options.limit }
     requires within { options.limit ≤ 100000 }
-    ensures status { (result ≡ Status.Done) ⊎ (result ≡ Status.Hung) ⊎ (result ≡ Status.Limit)
-        ⊎ (result ≡ Status.NoMemory) ⊎ (result ≡ Status.WriteFault) }
-    ensures done { result ≡ Status.Done →
-        GainsRun system options (K.held sink.old) (K.held sink.new) End.Done }
-    ensures hung { result ≡ Status.Hung →
-        GainsRun system options (K.held sink.old) (K.held sink.new) End.Hung }
-    ensures limit { result ≡ Status.Limit →
-        GainsRun system options (K.held sink.old) (K.held sink.new) End.Limit }
-    ensures no_memory { result ≡ Status.NoMemory →
-        GainsCut system options (K.held sink.old) (K.held sink.new) }
-    ensures front { result ≡ Status.WriteFault →
-        BreaksRun system options (K.held sink.old) (K.held sink.new) }
-    ensures cause { result ≡ Status.WriteFault → Rose (K.faults sink.old) (K.faults sink.new) }
+    ensures told { Told (IsSimText options system) (K.faults sink.old) (K.faults sink.new)
+        (K.held sink.old) (K.held sink.new) result }
     ensures later { K.faults sink.old ≤ K.faults sink.new }
 {
     match write_run(alloc, system, options, sink) {
-        Ok(End::Done) => Status::Done,
-        Ok(End::Hung) => Status::Hung,
-        Ok(End::Limit) => Status::Limit,
+        Ok(end) => Status::from(end),
         Err(RunFail::NoMemory) => tell_no_memory(sink),
         Err(RunFail::Fault) => Status::WriteFault,
     }
@@ -198,26 +187,12 @@ pub fn simulate<K: Sink>(alloc: Global, options: Options, input: &Bytes, sink: &
     requires size { length input.now < 4294967295 }
     requires above { 1 ≤ options.limit }
     requires within { options.limit ≤ 100000 }
-    ensures status { (result ≡ Status.Done) ⊎ (result ≡ Status.Hung) ⊎ (result ≡ Status.Limit)
-        ⊎ (result ≡ Status.Form) ⊎ (result ≡ Status.NoMemory) ⊎ (result ≡ Status.WriteFault) }
-    ensures done { result ≡ Status.Done →
-        WritesRun input.now options (K.held sink.old) (K.held sink.new) End.Done }
-    ensures hung { result ≡ Status.Hung →
-        WritesRun input.now options (K.held sink.old) (K.held sink.new) End.Hung }
-    ensures limit { result ≡ Status.Limit →
-        WritesRun input.now options (K.held sink.old) (K.held sink.new) End.Limit }
-    ensures form { result ≡ Status.Form →
-        GainsFault input.now (K.held sink.old) (K.held sink.new) }
-    ensures no_memory { result ≡ Status.NoMemory →
-        StopsInput input.now options (K.held sink.old) (K.held sink.new) }
-    ensures front { result ≡ Status.WriteFault →
-        BreaksInput input.now options (K.held sink.old) (K.held sink.new) }
-    ensures cause { result ≡ Status.WriteFault → Rose (K.faults sink.old) (K.faults sink.new) }
+    ensures told { Told (OfScript (IsSimText options) input.now) (K.faults sink.old) (K.faults sink.new)
+        (K.held sink.old) (K.held sink.new) result }
     ensures later { K.faults sink.old ≤ K.faults sink.new }
 {
     match read_script(alloc, input.as_slice()) {
         Ok(system) => run(alloc, system, options, sink),
-        Err(ScriptFail::Fault(fault)) => tell_fault(alloc, fault, sink),
-        Err(ScriptFail::NoMemory) => tell_no_memory(sink),
+        Err(fail) => tell_output(sink, refusal(alloc, fail)),
     }
 }

@@ -1,14 +1,12 @@
 //! Runs a generated system, and writes the summary of its records. It keeps none of them.
 
-ghost use Rattle.std.specs.Prelude.{◌≡◌, ◌⊎◌, ◌≤◌, ◌++◌, ◌∷◌, [], IfOk, OnOk};
-ghost use Rattle.std.specs.Io.KnownBytes.{Appends};
+ghost use Rattle.std.specs.Prelude.{◌≡◌, ◌≤◌, ◌++◌, ◌∷◌, [], IfOk, OnOk};
 ghost use Rattle.vx_gen.specs.Generated.{generated};
-ghost use Rattle.vx_host.specs.Causes.{Rose};
 ghost use Rattle.vx_image.specs.WellFormed.{IsWellFormed};
 ghost use Rattle.vx_record.specs.Runs.{first};
-ghost use Rattle.vx_simulate.specs.Summed.{IsSummed, count_line, full_run, summary};
-ghost use Rattle.vx_simulate.specs.Summing.{BreaksSummed, Tallies, WritesSummed};
-ghost use Rattle.vx_tell.specs.Lines.{no_memory};
+ghost use Rattle.vx_simulate.specs.Summed.{IsGenText, IsSummed, count_line, full_run, summary};
+ghost use Rattle.vx_simulate.specs.Summing.{Tallies};
+ghost use Rattle.vx_tell.specs.Told.{IsOutputOf, Told};
 
 use std::alloc::Global;
 use vx_base::{Bytes, End, NoMemory, Scripted};
@@ -17,7 +15,7 @@ use vx_gen::{Tally, generate};
 use vx_host::Sink;
 use vx_image::System;
 use vx_journal::print_end;
-use vx_tell::{Status, tell_no_memory, tell_transcript};
+use vx_tell::{Output, Status, tell_output};
 use vx_text::print_num;
 use vx_words::Options;
 
@@ -100,7 +98,7 @@ fn sum_up(alloc: Global, system: System, options: Options) -> Result<(Bytes, End
     run
 }
 
-/// The summary of a generated system's run.
+/// The summary of a generated system's run, and how the run ended.
 #[tactic(auto, unfolding(crate::specs::Summed::full_run))]
 fn generated_summary(alloc: Global, n: u32) -> Result<(Bytes, End), NoMemory>
     requires above { 1 ≤ n }
@@ -111,24 +109,25 @@ fn generated_summary(alloc: Global, n: u32) -> Result<(Bytes, End), NoMemory>
     sum_up(alloc, system, FULL_RUN)
 }
 
+/// What `gen` comes to.
+fn summed(alloc: Global, n: u32) -> Result<Output, NoMemory>
+    requires above { 1 ≤ n }
+    requires within { n ≤ 200 }
+    ensures { IfOk result (IsOutputOf (IsGenText n)) }
+{
+    let (text, end) = generated_summary(alloc, n)?;
+    Ok(Output {
+        status: Status::from(end),
+        text,
+    })
+}
+
 /// Runs the generated system for n, and writes its summary.
 pub fn summarize<K: Sink>(alloc: Global, n: u32, sink: &mut K) -> Status
     requires above { 1 ≤ n }
     requires within { n ≤ 200 }
-    ensures status { (result ≡ Status.Done) ⊎ (result ≡ Status.Hung) ⊎ (result ≡ Status.Limit)
-        ⊎ (result ≡ Status.NoMemory) ⊎ (result ≡ Status.WriteFault) }
-    ensures done { result ≡ Status.Done → WritesSummed n (K.held sink.old) (K.held sink.new) End.Done }
-    ensures hung { result ≡ Status.Hung → WritesSummed n (K.held sink.old) (K.held sink.new) End.Hung }
-    ensures limit { result ≡ Status.Limit → WritesSummed n (K.held sink.old) (K.held sink.new) End.Limit }
-    ensures no_memory { result ≡ Status.NoMemory →
-        Appends (K.held sink.old) (K.held sink.new) no_memory }
-    ensures front { result ≡ Status.WriteFault →
-        BreaksSummed n (K.held sink.old) (K.held sink.new) }
-    ensures cause { result ≡ Status.WriteFault → Rose (K.faults sink.old) (K.faults sink.new) }
+    ensures told { Told (IsGenText n) (K.faults sink.old) (K.faults sink.new) (K.held sink.old) (K.held sink.new) result }
     ensures later { K.faults sink.old ≤ K.faults sink.new }
 {
-    match generated_summary(alloc, n) {
-        Ok((text, end)) => tell_transcript(sink, text.as_slice(), end),
-        Err(NoMemory) => tell_no_memory(sink),
-    }
+    tell_output(sink, summed(alloc, n))
 }

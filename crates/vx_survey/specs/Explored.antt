@@ -1,4 +1,4 @@
--- What exploring an input comes to: how all its runs end, or that there are too many states.
+-- What exploring a system comes to: how all its runs end, or that there are too many states.
 use Rattle.std.specs.Prelude.{◌≡◌, ℕ, List, [], ◌∷◌, ◌++◌, Contains, map}
 use Rattle.std.specs.List.{AllByRecursion}
 use Rattle.vx_base.specs.declared.record.End.{End}
@@ -10,8 +10,10 @@ use Rattle.vx_endings.specs.Text.{cut_line, endings_text}
 use Rattle.vx_endings.specs.Worst.{worst_end}
 use Rattle.vx_endings.specs.declared.ending.RunEnding.{RunEnding}
 use Rattle.vx_explore.specs.declared.found.Found.{Found}
-use Rattle.vx_grammar.specs.Grammar.{Spells}
 use Rattle.vx_image.specs.declared.system.System.{System}
+use Rattle.vx_tell.specs.Code.{status_of_end}
+use Rattle.vx_tell.specs.declared.status.Status.{Status}
+use Rattle.vx_tell.specs.declared.status.Status.TheVariants as status
 use Rattle.vx_words.specs.declared.scope.Scope.{Scope}
 
 -- These rows tell how all runs end of at most so many records. They are the summary of the list of all runs; each run that has ended
@@ -33,14 +35,7 @@ pub record TellsCut (system : System) (scope : Scope) (text : List ℕ) : Type 0
   pub wide : IsTooWide system scope.limit scope.states
   pub spells : text ≡ cut_line scope.states ++ 10 ∷ []
 
--- The input is the script of a system, and the text tells how all its runs end.
-pub record IsExplored (input : List ℕ) (scope : Scope) (end : End) (text : List ℕ) : Type 0 where
-  pub system : System
-  pub says : Spells input system
-  pub told : TellsEndings system scope end text
-
--- The input is the script of a system that has too many states.
-pub record IsCutShort (input : List ℕ) (scope : Scope) (text : List ℕ) : Type 0 where
-  pub system : System
-  pub says : Spells input system
-  pub told : TellsCut system scope text
+-- what `explore` comes to of a system
+pub data IsExploreText (scope : Scope) (system : System) : Status → List ℕ → Type 0 where
+  told : (end : End) (text : List ℕ) → TellsEndings system scope end text → IsExploreText scope system (status_of_end end) text
+  cut : (text : List ℕ) → TellsCut system scope text → IsExploreText scope system status.Cut text

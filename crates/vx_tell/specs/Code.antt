@@ -1,5 +1,7 @@
 -- The program's statuses.
 use Rattle.std.specs.Prelude.{ℕ}
+use Rattle.vx_base.specs.declared.record.End.{End}
+use Rattle.vx_base.specs.declared.record.End.TheVariants as end
 use Rattle.vx_tell.specs.declared.status.Status.{Status}
 use Rattle.vx_tell.specs.declared.status.Status.TheVariants.{Done, Hung, Words, Form, Limit, Illegal, ReadFault, WriteFault, NoMemory, TooLong, Cut}
 
@@ -15,3 +17,9 @@ code_of WriteFault = 7
 code_of NoMemory = 8
 code_of TooLong = 9
 code_of Cut = 10
+
+-- the status of a run that has ended so
+abbrev pub status_of_end : End → Status
+status_of_end end.Done = Done
+status_of_end end.Hung = Hung
+status_of_end end.Limit = Limit

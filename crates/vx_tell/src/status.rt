@@ -2,6 +2,8 @@
 
 ghost use Rattle.std.specs.Prelude.{◌≡◌};
 
+use vx_base::End;
+
 /// What a call answers.
 #[derive(Clone, Copy, Debug, PartialEq, Eq)]
 pub enum Status {
@@ -49,6 +51,21 @@ impl Status {
             Status::NoMemory => 8,
             Status::TooLong => 9,
             Status::Cut => 10,
+        }
+    }
+}
+
+impl From<End> for Status {
+    ghost use Rattle.std.specs.Prelude.{◌≡◌};
+    ghost use Rattle.vx_tell.specs.Code.{status_of_end};
+
+    ghost from_gives = { λ end status. status ≡ status_of_end end };
+
+    fn from(end: End) -> Self {
+        match end {
+            End::Done => Status::Done,
+            End::Hung => Status::Hung,
+            End::Limit => Status::Limit,
         }
     }
 }

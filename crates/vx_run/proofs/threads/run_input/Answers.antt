@@ -1,22 +1,7 @@
-use Rattle.vx_base.specs.declared.record.End.TheVariants.{Done, Hung, Limit}
-use Rattle.vx_run.proofs.Carrying.{breaks_carried, breaks_fault, gains_carried}
-use Rattle.vx_tell.proofs.Told.{gains_fault, told}
+use Rattle.vx_run.specs.Carried.{IsRunText}
+use Rattle.vx_tell.specs.Scripts.{OfScript, out_of_memory}
+use Rattle.vx_tell.proofs.Told.{told_output}
 use Rattle.vx_run.proofs.threads.run_input.Goals as goal
 
-pub returns-in-Ok-clause-done : goal.returns-in-Ok-clause-done
-returns-in-Ok-clause-done g c = λ e. gains_carried c.args.input.now c.args.crew.limit _ _ c.in-Ok.system Done (rw c.as_slice.ensures at c.in-Ok.ensures.spelled) (c.carry.ensures.done e)
-
-pub returns-in-Ok-clause-hung : goal.returns-in-Ok-clause-hung
-returns-in-Ok-clause-hung g c = λ e. gains_carried c.args.input.now c.args.crew.limit _ _ c.in-Ok.system Hung (rw c.as_slice.ensures at c.in-Ok.ensures.spelled) (c.carry.ensures.hung e)
-
-pub returns-in-Ok-clause-limit : goal.returns-in-Ok-clause-limit
-returns-in-Ok-clause-limit g c = λ e. gains_carried c.args.input.now c.args.crew.limit _ _ c.in-Ok.system Limit (rw c.as_slice.ensures at c.in-Ok.ensures.spelled) (c.carry.ensures.limit e)
-
-pub returns-in-Ok-clause-front : goal.returns-in-Ok-clause-front
-returns-in-Ok-clause-front g c = λ e. breaks_carried c.args.input.now c.args.crew.limit _ _ c.in-Ok.system (rw c.as_slice.ensures at c.in-Ok.ensures.spelled) (c.carry.ensures.front e)
-
-pub returns-in-Err-Fault-clause-form : goal.returns-in-Err-Fault-clause-form
-returns-in-Err-Fault-clause-form g c = λ e. gains_fault c.args.input.now _ _ c.in-Err-Fault.fault (told _ _ _ _ c.as_slice.ensures c.in-Err-Fault.field-0-is c.in-Err-Fault.ensures.fault) (rw c.in-Err-Fault.field-0-is at (c.tell_fault.ensures.form e))
-
-pub returns-in-Err-Fault-clause-front : goal.returns-in-Err-Fault-clause-front
-returns-in-Err-Fault-clause-front g c = λ e. breaks_fault c.args.input.now c.args.crew.limit _ _ c.in-Err-Fault.fault (told _ _ _ _ c.as_slice.ensures c.in-Err-Fault.field-0-is c.in-Err-Fault.ensures.fault) (rw c.in-Err-Fault.field-0-is at (c.tell_fault.ensures.front e))
+pub returns-clause-told : goal.returns-clause-told
+returns-clause-told g c = told_output (OfScript (IsRunText c.args.crew.limit) c.args.input.now) _ _ _ _ _ _ (rw c.as_slice.ensures at c.answer.ensures) out_of_memory c.tell_output.ensures.told

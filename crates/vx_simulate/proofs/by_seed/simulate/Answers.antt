@@ -1,26 +1,13 @@
-use Rattle.vx_base.specs.declared.record.End.TheVariants.{Done, Hung, Limit}
-use Rattle.vx_simulate.specs.Simulating.{in_run, on_the_way}
-use Rattle.vx_tell.proofs.Told.{gains_fault, told}
-use Rattle.vx_simulate.proofs.Simulating.{breaks_fault, writes_run}
+use Rattle.std.proofs.Common.{Err, List, ℕ, subst}
+use Rattle.vx_grammar.specs.FirstFault.{TellsIfFault}
+use Rattle.vx_simulate.specs.Simulated.{IsSimText}
+use Rattle.vx_tell.specs.Scripts.{OfScript, out_of_memory}
+use Rattle.vx_tell.proofs.Told.{refused_output, told_of_system, told_output}
 use Rattle.vx_simulate.proofs.by_seed.simulate.Goals as goal
 
-pub returns-in-Ok-clause-done : goal.returns-in-Ok-clause-done
-returns-in-Ok-clause-done g c = λ e. writes_run c.args.input.now c.args.options _ _ c.in-Ok.system Done (rw c.as_slice.ensures at c.in-Ok.ensures.spelled) (c.run.ensures.done e)
+pub returns-in-Ok-clause-told : goal.returns-in-Ok-clause-told
+returns-in-Ok-clause-told g c = told_of_system (IsSimText c.args.options) c.args.input.now c.in-Ok.system _ _ _ _ _ (rw c.as_slice.ensures at c.in-Ok.ensures.spelled) c.run.ensures.told
 
-pub returns-in-Ok-clause-hung : goal.returns-in-Ok-clause-hung
-returns-in-Ok-clause-hung g c = λ e. writes_run c.args.input.now c.args.options _ _ c.in-Ok.system Hung (rw c.as_slice.ensures at c.in-Ok.ensures.spelled) (c.run.ensures.hung e)
-
-pub returns-in-Ok-clause-limit : goal.returns-in-Ok-clause-limit
-returns-in-Ok-clause-limit g c = λ e. writes_run c.args.input.now c.args.options _ _ c.in-Ok.system Limit (rw c.as_slice.ensures at c.in-Ok.ensures.spelled) (c.run.ensures.limit e)
-
-pub returns-in-Ok-clause-no_memory : goal.returns-in-Ok-clause-no_memory
-returns-in-Ok-clause-no_memory g c = λ e. on_the_way c.in-Ok.system (rw c.as_slice.ensures at c.in-Ok.ensures.spelled) (c.run.ensures.no_memory e)
-
-pub returns-in-Ok-clause-front : goal.returns-in-Ok-clause-front
-returns-in-Ok-clause-front g c = λ e. in_run c.in-Ok.system (rw c.as_slice.ensures at c.in-Ok.ensures.spelled) (c.run.ensures.front e)
-
-pub returns-in-Err-Fault-clause-form : goal.returns-in-Err-Fault-clause-form
-returns-in-Err-Fault-clause-form g c = λ e. gains_fault c.args.input.now _ _ c.in-Err-Fault.fault (told _ _ _ _ c.as_slice.ensures c.in-Err-Fault.field-0-is c.in-Err-Fault.ensures.fault) (rw c.in-Err-Fault.field-0-is at (c.tell_fault.ensures.form e))
-
-pub returns-in-Err-Fault-clause-front : goal.returns-in-Err-Fault-clause-front
-returns-in-Err-Fault-clause-front g c = λ e. breaks_fault c.args.input.now c.args.options _ _ c.in-Err-Fault.fault (told _ _ _ _ c.as_slice.ensures c.in-Err-Fault.field-0-is c.in-Err-Fault.ensures.fault) (rw c.in-Err-Fault.field-0-is at (c.tell_fault.ensures.front e))
+pub returns-in-Err-clause-told : goal.returns-in-Err-clause-told
+returns-in-Err-clause-told g c =
+    told_output (OfScript (IsSimText c.args.options) c.args.input.now) _ _ _ _ _ _ (refused_output (IsSimText c.args.options) c.args.input.now c.in-Err.fail _ (subst (λ (z : List ℕ). TellsIfFault z (Err c.in-Err.fail)) c.as_slice.ensures c.in-Err.ensures.fault) c.refusal.ensures) out_of_memory c.tell_output.ensures.told

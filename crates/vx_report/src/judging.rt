@@ -1,14 +1,11 @@
 //! Judges a transcript that was read whole, and reports of it.
 
-ghost use Rattle.std.specs.Prelude.{◌≡◌, ◌≢◌, ◌⊎◌, ◌<◌, ◌≤◌, IfOk, length};
-ghost use Rattle.std.specs.Io.KnownBytes.{Appends};
+ghost use Rattle.std.specs.Prelude.{◌≡◌, ◌<◌, ◌≤◌, IfOk, length};
 ghost use Rattle.vx_check.specs.Verdict.{IsJudged};
 ghost use Rattle.vx_draw.specs.Columns.{columns};
 ghost use Rattle.vx_draw.specs.Picture.{picture};
-ghost use Rattle.vx_host.specs.Causes.{Rose};
-ghost use Rattle.vx_report.specs.Judged.{BreaksJudged, GainsRefusal, IsFinding, WritesFinding};
-ghost use Rattle.vx_tell.specs.Lines.{no_memory};
-ghost use Rattle.vx_report.specs.Reported.{IsReported, status_of, report_text, wrong_in};
+ghost use Rattle.vx_report.specs.Reported.{IsReported, IsReportText, status_of, report_text, wrong_in};
+ghost use Rattle.vx_tell.specs.Told.{IsOutputOf, Told};
 
 use crate::verdict::verdict_line;
 use std::alloc::Global;
@@ -17,22 +14,12 @@ use vx_check::{Verdict, check_text};
 use vx_draw::{print_columns, print_picture};
 use vx_host::Sink;
 use vx_journal::{Journal, JournalFail, read_journal};
-use vx_tell::{Status, fault_line, form_line, tell, tell_no_memory};
+use vx_tell::{Output, Status, fault_line, form_line, tell_output};
 use vx_words::Report;
-
-/// What an input is found to be.
-#[derive(Drop)]
-pub enum Finding {
-    /// A transcript, with its verdict and the report of it.
-    Judged(Verdict, Bytes),
-    /// None that is judged, with the line that tells why.
-    Refused(Bytes),
-}
 
 /// The status of a verdict.
 fn status_of(verdict: Verdict) -> Status
-    ensures status { result ≡ status_of verdict }
-    ensures no_fault { result ≢ Status.WriteFault }
+    ensures { result ≡ status_of verdict }
 {
     match verdict {
         Verdict::Complete(_) => Status::Done,
@@ -124,18 +111,24 @@ fn reported(
     }
 }
 
-/// Judges an input, and reports of it.
-fn judged(alloc: Global, report: Report, input: &[u8]) -> Result<Finding, NoMemory>
+/// What an input comes to that was read whole.
+fn answer(alloc: Global, report: Report, input: &[u8]) -> Result<Output, NoMemory>
     requires { length input.now < 4294967295 }
-    ensures { IfOk result (λ found. IsFinding input.now report found) }
+    ensures { IfOk result (IsOutputOf (IsReportText report input.now)) }
 {
     match check_text(alloc, input) {
-        Ok(verdict) => {
-            let text = reported(alloc, report, input, verdict)?;
-            Ok(Finding::Judged(verdict, text))
-        }
-        Err(JournalFail::Script(fault)) => Ok(Finding::Refused(fault_line(alloc, fault)?)),
-        Err(JournalFail::Form(line)) => Ok(Finding::Refused(form_line(alloc, line)?)),
+        Ok(verdict) => Ok(Output {
+            status: status_of(verdict),
+            text: reported(alloc, report, input, verdict)?,
+        }),
+        Err(JournalFail::Script(fault)) => Ok(Output {
+            status: Status::Form,
+            text: fault_line(alloc, fault)?,
+        }),
+        Err(JournalFail::Form(line)) => Ok(Output {
+            status: Status::Form,
+            text: form_line(alloc, line)?,
+        }),
         Err(JournalFail::NoMemory) => Err(NoMemory),
     }
 }
@@ -143,28 +136,9 @@ fn judged(alloc: Global, report: Report, input: &[u8]) -> Result<Finding, NoMemo
 /// Judges an input that was read whole, and writes a report of it, or why there is none.
 pub fn judge<K: Sink>(alloc: Global, report: Report, input: &Bytes, sink: &mut K) -> Status
     requires { length input.now < 4294967295 }
-    ensures status { (result ≡ Status.Done) ⊎ (result ≡ Status.Hung) ⊎ (result ≡ Status.Limit) ⊎ (result ≡ Status.Illegal)
-        ⊎ (result ≡ Status.Form) ⊎ (result ≡ Status.NoMemory) ⊎ (result ≡ Status.WriteFault) }
-    ensures done { result ≡ Status.Done →
-        WritesFinding input.now report (K.held sink.old) (K.held sink.new) Status.Done }
-    ensures hung { result ≡ Status.Hung →
-        WritesFinding input.now report (K.held sink.old) (K.held sink.new) Status.Hung }
-    ensures limit { result ≡ Status.Limit →
-        WritesFinding input.now report (K.held sink.old) (K.held sink.new) Status.Limit }
-    ensures illegal { result ≡ Status.Illegal →
-        WritesFinding input.now report (K.held sink.old) (K.held sink.new) Status.Illegal }
-    ensures form { result ≡ Status.Form →
-        GainsRefusal input.now (K.held sink.old) (K.held sink.new) }
-    ensures no_memory { result ≡ Status.NoMemory →
-        Appends (K.held sink.old) (K.held sink.new) no_memory }
-    ensures front { result ≡ Status.WriteFault →
-        BreaksJudged input.now report (K.held sink.old) (K.held sink.new) }
-    ensures cause { result ≡ Status.WriteFault → Rose (K.faults sink.old) (K.faults sink.new) }
+    ensures told { Told (IsReportText report input.now) (K.faults sink.old) (K.faults sink.new)
+        (K.held sink.old) (K.held sink.new) result }
     ensures later { K.faults sink.old ≤ K.faults sink.new }
 {
-    match judged(alloc, report, input.as_slice()) {
-        Ok(Finding::Judged(verdict, text)) => tell(sink, text.as_slice(), status_of(verdict)),
-        Ok(Finding::Refused(text)) => tell(sink, text.as_slice(), Status::Form),
-        Err(NoMemory) => tell_no_memory(sink),
-    }
+    tell_output(sink, answer(alloc, report, input.as_slice()))
 }
