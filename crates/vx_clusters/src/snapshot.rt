@@ -79,7 +79,8 @@ impl Model for ClustersSnapshot {
 }
 
 impl ClustersSnapshot {
-    /// The same clusters and associations in place of others, with the same room. If memory runs out, the others are gone.
+    /// The same clusters and associations in place of others, with the same room. If memory runs out, the others are of
+    /// no more use.
     pub fn restore(&self, alloc: Global, clusters: &mut Clusters) -> Result<(), NoMemory>
         ensures { OnOk result (clusters.new ≡ self.now) }
     {

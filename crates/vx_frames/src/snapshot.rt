@@ -45,7 +45,7 @@ impl FramesSnapshot {
         })
     }
 
-    /// The same frames in place of others, with as much room or more. If memory runs out, the others are gone.
+    /// The same frames in place of others, with as much room or more. If memory runs out, the others are of no more use.
     pub fn restore(&self, alloc: Global, frames: &mut Frames) -> Result<(), NoMemory>
         ensures items { OnOk result (frames.new.items ≡ self.now.items) }
         ensures room { OnOk result (self.now.capacity ≤ frames.new.capacity) }

@@ -30,7 +30,7 @@ impl Model for Store {
 }
 
 impl Store {
-    /// All zero. This call takes memory, and no other.
+    /// All zero. Of the calls of a `Store`, this one and `snapshot` take memory.
     pub fn new(alloc: Global) -> Result<Store, NoMemory>
         ensures { IfOk result (λ store. store ≡ no_storage) }
     {

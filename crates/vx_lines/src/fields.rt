@@ -13,7 +13,7 @@ use vx_image::UnitDecl;
 use vx_table::mode_word;
 use vx_text::{LexFail, Tok, Token, tokens};
 
-/// A number of 32 bits.
+/// A number of 32 bits, in decimal.
 pub fn number_of(word: &[u8]) -> Option<u32>
     ensures { result ≡ spec.number_of word.now }
 {
@@ -33,7 +33,7 @@ pub fn id_of(word: &[u8]) -> Option<Id>
     }
 }
 
-/// A process's number, in decimal with no leading zero.
+/// A process's number, in decimal.
 pub fn pid_of(word: &[u8]) -> Option<Pid>
     ensures { result ≡ spec.pid_of word.now }
 {

@@ -18,7 +18,7 @@ use vx_table::{ServiceTable, service_table};
 /// Why lines are not read.
 #[derive(Clone, Copy)]
 pub enum LinesFail {
-    /// The line of this number is the first that may not stand there.
+    /// The number of the first line that may not stand there. The caller says which number the first line of all has.
     Bad(u32),
     /// No memory was found.
     NoMemory,

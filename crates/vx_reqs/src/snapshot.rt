@@ -99,7 +99,8 @@ impl<R: Routine> ReqsSnapshot<R> {
         })
     }
 
-    /// The same requests in place of others, each with a routine made from its tag. If memory runs out, the others are gone.
+    /// The same requests in place of others, each with a routine made from its tag. If memory runs out, the others are of no
+    /// more use.
     pub fn restore(&self, reqs: &mut Reqs<R>) -> Result<(), NoMemory>
         ensures { OnOk result (reqs.new.items ≡ self.now) }
     {

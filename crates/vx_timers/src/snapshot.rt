@@ -94,7 +94,8 @@ impl<R: Routine> TimersSnapshot<R> {
         })
     }
 
-    /// The same entries in place of others, each with a routine made from its tag. If memory runs out, the others are gone.
+    /// The same entries in place of others, each with a routine made from its tag. If memory runs out, the others are of no more
+    /// use.
     pub fn restore(&self, alloc: Global, timers: &mut Timers<R>) -> Result<(), NoMemory>
         ensures { OnOk result (timers.new.items ≡ self.now) }
     {

@@ -18,8 +18,8 @@ use std::marker::Model;
 use vx_base::{NoMemory, Routine};
 
 /// The timers and scheduled wakes of all processes, in the order of opening. Contracts see the entries, and how many there is room
-/// for in all. Only `reserve` takes memory. The least due time and the first entry that is due are found in as many steps as the
-/// number of places can be halved.
+/// for in all. Of the calls on them only `reserve` and `snapshot` take memory. The least due time and the first entry that is due are
+/// found in as many steps as the number of places can be halved.
 #[derive(Drop)]
 pub struct Timers<R: Routine> {
     // in the order of opening, with an empty place where an entry has gone, and empty places behind
