@@ -9,7 +9,7 @@ use Rattle.vx_exec.specs.View.{Plan}
 use Rattle.vx_turn.specs.Rule.{StartsWith, numbered}
 use Rattle.vx_turn.specs.Seats.{Adds, Keeps}
 use Rattle.vx_turn.specs.declared.view.View.{View}
-use Rattle.vx_carrier.specs.Turns.{AtEnd, Gives, HandsOut, IsLeaseAt, SawBeg, SawEnd, SeatGave, SeatSaw, SeatTook, Takes, TakesEvent, now}
+use Rattle.vx_carrier.specs.Turns.{AtEnd, Gives, HandsOut, IsLeaseAt, SawBeg, SawEnd, SeatGave, SeatGrew, SeatSaw, SeatTook, Takes, TakesEvent, now}
 use Rattle.vx_carrier.specs.declared.turn.Turn.{Turn}
 use Rattle.vx_carrier.specs.declared.turn.Turn.TheVariants.{Took, Nothing, Stale, Ended, NoMemory}
 
@@ -47,6 +47,20 @@ seat_gave plan v u w s t found after_it run seen later keeps gave adds = record 
   saw = saw plan v u w found gave.0 after_it run seen later keeps gave.1 adds;
   gave = gave.2;
 }
+
+-- what a seat had seen and left stays
+
+longer_still : {A : Type 0} (xs ys zs : List A) → StartsWith ys xs → StartsWith zs ys → StartsWith zs xs
+longer_still xs ys zs a b = (a.0 ++ b.0, b.1 ∙ (ap (λ (l : List _). l ++ b.0) a.1 ∙ append_assoc xs a.0 b.0))
+
+pub saw_grew : (plan : Plan) (v w : View Rec) (found more : List Rec) → SeatSaw plan v found more w → SeatGrew v w
+saw_grew plan v w found more h = record { seen = longer_still v.seen found w.seen h.later (more, h.seen); own = (numbered (length found) more, h.own) }
+
+pub grew_still : (v : View Rec) → SeatGrew v v
+grew_still v = record { seen = ([], sym (append-nil v.seen)); own = ([], sym (append-nil v.own)) }
+
+pub grew_on : (u v w : View Rec) → SeatGrew u v → SeatGrew v w → SeatGrew u w
+grew_on u v w a b = record { seen = longer_still u.seen v.seen w.seen a.seen b.seen; own = longer_still u.own v.own w.own a.own b.own }
 
 -- a longer history has the BEG too
 pub saw_later : (plan : Plan) (found seen : List Rec) (lease : Lease) → StartsWith found seen → SawBeg plan seen lease → SawBeg plan found lease

@@ -95,6 +95,11 @@ pub record SeatGave (plan : Plan) (v : View Rec) (served : LeaseServed) (answer 
   pub saw : SeatSaw plan v found more w
   pub gave : Gives plan found served answer more
 
+-- what a seat had seen and left stays, and more may follow
+pub record SeatGrew (v w : View Rec) : Type 0 where
+  pub seen : StartsWith w.seen v.seen
+  pub own : StartsWith w.own v.own
+
 -- the history has the BEG of this lease
 pub record SawBeg (plan : Plan) (seen : List Rec) (lease : Lease) : Type 0 where
   pub before : List Rec

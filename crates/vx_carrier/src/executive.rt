@@ -5,7 +5,7 @@ ghost use Rattle.vx_record.specs.Runs.{first};
 ghost use Rattle.vx_exec.specs.View.{plan};
 ghost use Rattle.vx_turn.specs.Seats.{IsNew, IsOne, IsSharedBy};
 ghost use Rattle.vx_carrier.specs.Desk.{HasRun};
-ghost use Rattle.vx_carrier.specs.Turns.{AtEnd, SawBeg, SawEnd, SeatGave, SeatTook};
+ghost use Rattle.vx_carrier.specs.Turns.{AtEnd, SawBeg, SawEnd, SeatGave, SeatGrew, SeatTook};
 
 use crate::desk::Desk;
 use crate::gate::Gate;
@@ -89,6 +89,7 @@ impl<R: Routine, G: Gate, J: Naming> Executive<R, G, J> {
         requires seat { IsOne self.now.table seat.old }
         requires saw { SawBeg J.plan seat.old.me.0.seen lease }
         ensures seat { IsOne self.now.table seat.new }
+        ensures grew { SeatGrew seat.old.me.0 seat.new.me.0 }
         ensures ended { AtEnd J.plan result seat.new.me.0.seen }
     {
         self.gate.serving(lease.unit(), lease.number());
@@ -99,6 +100,7 @@ impl<R: Routine, G: Gate, J: Naming> Executive<R, G, J> {
     fn go_on<Q: Wait>(&self, rt: &Q, seat: &mut Seat<R, J>) -> Turn
         requires { IsOne self.now.table seat.old }
         ensures seat { IsOne self.now.table seat.new }
+        ensures grew { SeatGrew seat.old.me.0 seat.new.me.0 }
         ensures ended { AtEnd J.plan result seat.new.me.0.seen }
     {
         match self.turn(rt, seat) {
@@ -107,10 +109,13 @@ impl<R: Routine, G: Gate, J: Naming> Executive<R, G, J> {
         }
     }
 
-    /// Takes turns until the run has ended, and serves the units that they hand out, while the lock is free.
+    /// Takes turns until the run has ended, and serves the units that they hand out, while the lock is free. What the seat had seen and left
+    /// stays.
+    #[tactic(auto, using(crate::proofs::Seats::grew_on, crate::proofs::Seats::grew_still))]
     pub fn carry<Q: Wait>(&self, rt: &Q, seat: &mut Seat<R, J>) -> Result<End, NoMemory>
         requires { IsOne self.now.table seat.old }
         ensures seat { IsOne self.now.table seat.new }
+        ensures grew { SeatGrew seat.old.me.0 seat.new.me.0 }
         ensures ended { IfOk result (SawEnd J.plan seat.new.me.0.seen) }
     {
         'turns: for _ in rt.forever() {

@@ -14,6 +14,10 @@ pub record TakesRun (before after : Executive) (recs : List Rec) : Type 0 where
   pub counted : after.taken ≡ before.taken + length recs
   pub planned : plan after ≡ plan before
 
+-- It took some steps of a run, or none, and their records are lost.
+abbrev pub TakesSome : Executive → Executive → Type 0
+TakesSome before after = (recs : List Rec) × TakesRun before after recs
+
 -- The run has ended so, and its records are those that the seed chooses, as many as the limit leaves.
 pub record EndsRun (before after : Executive) (seed : ℕ) (recs : List Rec) (end : End) : Type 0 where
   pub takes : TakesRun before after recs

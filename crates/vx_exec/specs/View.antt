@@ -1,5 +1,5 @@
 -- What an executive stands for.
-use Rattle.std.specs.Prelude.{ℕ, ◌+◌, Bool, true, false}
+use Rattle.std.specs.Prelude.{◌≡◌, ℕ, ◌+◌, [], Bool, true, false}
 use Rattle.vx_base.specs.declared.record.Event.{Event}
 use Rattle.vx_base.specs.declared.record.Event.TheVariants as event
 use Rattle.vx_image.specs.declared.system.System.{System}
@@ -23,6 +23,12 @@ pub record Plan : Type 0 where
 
 abbrev pub plan : Executive → Plan
 plan e = record { system = e.state.system; limit = e.limit }
+
+-- its state is lost: there is no process any more, and the system, the limit and the number of records are as they were
+pub record LosesState (before after : Executive) : Type 0 where
+  pub empty : after.state.procs ≡ []
+  pub planned : plan after ≡ plan before
+  pub counted : after.taken ≡ before.taken
 
 -- whether an event ends the service of a unit
 abbrev pub is_don : Event → Bool

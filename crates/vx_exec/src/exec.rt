@@ -11,7 +11,7 @@ ghost use Rattle.vx_exec.specs.Engines.{IsWithin, leasing};
 ghost use Rattle.vx_exec.specs.Picks.{moved_seed, picked_event};
 ghost use Rattle.vx_exec.specs.Sound.{IsGoing};
 ghost use Rattle.vx_record.specs.Standing.{code_of, standing_of};
-ghost use Rattle.vx_exec.specs.View.{after_step, is_don, plan};
+ghost use Rattle.vx_exec.specs.View.{LosesState, after_step, is_don, plan};
 
 use crate::engine::Engine;
 use crate::events::{count, enabled_at, is_enabled};
@@ -89,7 +89,8 @@ impl<R: Routine> Exec<R> {
         taken: u32,
     ) -> Result<(), NoMemory>
         requires { IsGoing core.now limit taken }
-        ensures { OnOk result (self.new ≡ record { state = core.now; limit = limit; taken = taken }) }
+        ensures ok { OnOk result (self.new ≡ record { state = core.now; limit = limit; taken = taken }) }
+        ensures err { OnErr result (LosesState self.old self.new) }
     {
         core.restore(&mut self.engine.core)?;
         self.engine.limit = limit;
@@ -187,12 +188,13 @@ impl<R: Routine> Exec<R> {
     }
 
     /// Takes an enabled event as `step` does, and gives no record: the room for its effects serves the next event. Where memory is short,
-    /// nothing has changed.
+    /// nothing has changed. A DON needs none, and never fails.
     pub fn advance(&mut self, event: Event) -> Result<(), NoMemory>
         requires enabled { Contains (enabled self.old.state) event }
         requires going { end_of self.old.limit self.old.taken self.old.state ≡ None }
         ensures after { OnOk result (self.new ≡ after_step self.old event) }
         ensures err { OnErr result (self.new ≡ self.old) }
+        ensures don_never_fails { IsTrue (is_don event) → IsOk result }
         ensures plan { plan self.new ≡ plan self.old }
     {
         self.engine.take(event)?;

@@ -1,8 +1,8 @@
 //! Runs that a seed chooses.
 
-ghost use Rattle.std.specs.Prelude.{◌≤◌, IfOk};
+ghost use Rattle.std.specs.Prelude.{◌≤◌, IfOk, OnErr};
 ghost use Rattle.vx_image.specs.WellFormed.{IsWellFormed};
-ghost use Rattle.vx_exec.specs.Taken.{EndsRun, IsChosenRun};
+ghost use Rattle.vx_exec.specs.Taken.{EndsRun, IsChosenRun, TakesSome};
 
 use crate::exec::Exec;
 use crate::seed::Seed;
@@ -10,13 +10,15 @@ use std::alloc::Global;
 use vx_base::{End, NoMemory, Recs, Routine};
 use vx_image::System;
 
-/// Takes the events that a seed picks until the run has ended: the records, and how it ended.
+/// Takes the events that a seed picks until the run has ended: the records, and how it ended. If memory runs out, the executive stands
+/// where the last step led, and the records are lost.
 pub fn take_run<R: Routine>(
     alloc: Global,
     exec: &mut Exec<R>,
     seed: u64,
 ) -> Result<(Recs, End), NoMemory>
-    ensures { IfOk result (λ run. EndsRun exec.old exec.new seed run.0 run.1) }
+    ensures run { IfOk result (λ run. EndsRun exec.old exec.new seed run.0 run.1) }
+    ensures err { OnErr result (TakesSome exec.old exec.new) }
 {
     let mut recs = Recs::new(alloc);
     let mut next = Seed { x: seed };

@@ -1,8 +1,8 @@
 //! The executive, put away.
 
-ghost use Rattle.std.specs.Prelude.{◌≡◌, ◌↔◌, IsTrue, OnOk};
+ghost use Rattle.std.specs.Prelude.{◌≡◌, ◌↔◌, IsTrue, OnErr, OnOk};
 ghost use Rattle.vx_exec.specs.Sound.{IsGoing};
-ghost use Rattle.vx_exec.specs.View.{plan};
+ghost use Rattle.vx_exec.specs.View.{LosesState, plan};
 
 use crate::exec::Exec;
 use std::marker::Model;
@@ -39,9 +39,11 @@ impl<R: Routine> ExecSnapshot<R> {
         ExecSnapshot { core, limit, taken }
     }
 
-    /// Has the executive that was put away in place of another. If memory runs out, the other has no processes any more.
+    /// Has the executive that was put away in place of another. If memory runs out, the other has no processes any more; what else it keeps
+    /// is its system, its limit and how many records it has.
     pub fn restore(&self, exec: &mut Exec<R>) -> Result<(), NoMemory>
-        ensures { OnOk result (exec.new ≡ self.now) }
+        ensures ok { OnOk result (exec.new ≡ self.now) }
+        ensures err { OnErr result (LosesState exec.old exec.new) }
     {
         exec.restore(&self.core, self.limit, self.taken)
     }

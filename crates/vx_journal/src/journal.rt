@@ -48,7 +48,7 @@ pub struct Front {
 pub enum JournalFail {
     /// What stands before `$JOURNAL` is no script, and this is its first fault.
     Script(ScriptFault),
-    /// The line of this number, from 1, is the first that may not stand there.
+    /// The number, from 1, of the first line that may not stand there; if a line is missing at the end, one more than the number of lines.
     Form(u32),
     /// No memory was found.
     NoMemory,

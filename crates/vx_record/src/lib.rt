@@ -2,8 +2,8 @@
 //! is and how it ends.
 //!
 //! There is hardly any code here. The definitions stand in `specs/`, in files by theme, from `State.antt` to `Runs.antt`;
-//! every contract of the executive cites them, and they cite nothing of how the code keeps its state. `proofs/` has whole
-//! examples, computed from the definitions, and the law that references stand (`specs/Sound.antt`).
+//! every contract of the executive cites them, and they cite nothing of how the code keeps its state. `proofs/` has the
+//! law that references stand (`specs/Sound.antt`). Whole examples, computed from the definitions, stand in `vx_examples`.
 #![tactic(auto)]
 
 mod law;

@@ -34,7 +34,7 @@ pub enum FaultKind {
     Extra,
     /// The line ends too early.
     Missing,
-    /// The text ends within an image.
+    /// The text ends within an image. The line is the one behind the last.
     End,
     /// There are more units, images, PROCESS lines or statements than a script may have.
     Size,

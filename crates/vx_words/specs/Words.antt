@@ -100,6 +100,7 @@ pub record IsScope (scope : Scope) : Type 0 where
   pub above : 1 ≤ scope.limit
   pub within : scope.limit ≤ 100000
   pub some : 1 ≤ scope.states
+  pub few : scope.states ≤ 10000000
 
 -- a limit is one that a run may have
 

@@ -201,7 +201,7 @@ fn sim_in(alloc: Global, words: &[Bytes]) -> Result<Option<Command>, NoMemory>
     }
 }
 
-/// The command that the words ask for, if they are one that reads. Words that are none take no memory.
+/// The command that the words ask for, if it reads its input and is not `run`, which `crew_of` reads. Words that are none take no memory.
 pub fn command_of(alloc: Global, words: &[Bytes]) -> Result<Option<Command>, NoMemory>
     ensures command { IfOk result (λ command. command ≡ spec.command_of words.now) }
     ensures limited { IfOk result (λ command. IfSome command spec.HasLimit) }

@@ -26,13 +26,15 @@ const MOST_STATES: u64 = 10_000_000;
 fn states_in(word: &[u8]) -> Option<u32>
     ensures value { result ≡ spec.states_in word.now }
     ensures above { IfSome result (λ n. 1 ≤ n) }
+    ensures within { IfSome result (λ n. n ≤ 10000000) }
 {
     let n = number_up_to(MOST_STATES, word)?;
     if n == 0 { None } else { Some(n as u32) }
 }
 
 fn with_limit(scope: Scope, word: &[u8]) -> Option<Scope>
-    requires { 1 ≤ scope.states }
+    requires some { 1 ≤ scope.states }
+    requires few { scope.states ≤ 10000000 }
     ensures scope { result ≡ spec.scope_of (spec.limit_in word.now) (Some scope.states) }
     ensures limited { IfSome result spec.IsScope }
 {
