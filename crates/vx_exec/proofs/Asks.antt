@@ -36,8 +36,7 @@ use Rattle.vx_record.proofs.Lists.{either}
 use Rattle.vx_procs.proofs.Firsts.{less_few}
 use Rattle.vx_exec.proofs.Boxed.{attend_ends, begun_ends}
 use Rattle.vx_exec.proofs.Ends.{Ends, each_ends, ends_more, ends_then, finish_ends, iosb_ends, named_ends, none_ends}
-use Rattle.vx_exec.proofs.Few.{filter_few}
-use Rattle.vx_exec.proofs.Goes.{Goes, GoesBy, awaited_goes, flag_goes, goes_stays, goes_still, numbered_goes, run_most, same_services, stays_changed, stays_common, stays_then}
+use Rattle.vx_exec.proofs.Goes.{Goes, GoesBy, awaited_goes, filter_few, flag_goes, goes_stays, goes_still, numbered_goes, run_most, same_services, stays_changed, stays_common, stays_then}
 
 ends_goes : (n bound : ℕ) (s : State) (part : Part) → n ≤ bound → Ends n s part → Goes bound s part.after part.effects
 ends_goes n bound s part few h = goes_stays bound s part.after part.effects h.stays (omega (arith, few, h.few))

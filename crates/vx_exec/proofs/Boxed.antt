@@ -21,8 +21,7 @@ use Rattle.vx_record.specs.State.{State}
 use Rattle.vx_record.proofs.Lists.{either}
 use Rattle.vx_procs.proofs.Firsts.{less_few}
 use Rattle.vx_exec.proofs.Ends.{Ends, each_ends, ends_more, ends_then, finish_ends}
-use Rattle.vx_exec.proofs.Few.{filter_few}
-use Rattle.vx_exec.proofs.Goes.{stays_changed, stays_still}
+use Rattle.vx_exec.proofs.Goes.{filter_few, stays_changed, stays_still}
 
 -- nothing is done, or little
 still_ends : (n : ℕ) (s : State) → Ends n s (nothing s)

@@ -39,13 +39,12 @@ use Rattle.vx_record.specs.declared.served.Served.TheVariants.{Answered, Waits}
 use Rattle.vx_record.proofs.Ground.{at_set}
 use Rattle.vx_record.proofs.Lists.{either}
 use Rattle.vx_record.specs.Timers.{gettim, is_cancelled_timer, is_wake_for, scheduled, setimr_at, unscheduled}
-use Rattle.vx_rundown.proofs.Changed.{process_there}
+use Rattle.vx_io.proofs.Changed.{process_there}
 use Rattle.vx_clusters.proofs.Few.{associate_few, dissociate_few, mark_few}
 use Rattle.vx_ctl.proofs.Common.{associates, dissociates, marks}
 use Rattle.vx_exec.proofs.Deepest.{at_most, deepest_set}
-use Rattle.vx_exec.proofs.Few.{filter_few}
 use Rattle.vx_exec.proofs.Asks.{assign_goes, cancel_goes, crembx_goes, dassgn_goes, delmbx_goes, qio_goes, qiow_goes, synch_goes}
-use Rattle.vx_exec.proofs.Goes.{Goes, GoesBy, canexh_goes, common_goes, control_goes, created_goes, declared_goes, dropped_goes, exited_few, exited_goes, flag_goes, forced_goes, goes_after, goes_changed, goes_on, goes_stays, goes_still, handler_goes, handlers_few, handlers_stay, left_few, Stays, stays_then, made_stays, masked_goes, put_goes, quiet_read, read_goes, run_most, scheduled_goes, set_goes, stays_changed, tested_goes, top_few}
+use Rattle.vx_exec.proofs.Goes.{Goes, GoesBy, Stays, canexh_goes, common_goes, control_goes, created_goes, declared_goes, dropped_goes, exited_few, exited_goes, filter_few, flag_goes, forced_goes, goes_after, goes_changed, goes_on, goes_stays, goes_still, handler_goes, handlers_few, handlers_stay, left_few, made_stays, masked_goes, put_goes, quiet_read, read_goes, run_most, scheduled_goes, set_goes, stays_changed, stays_then, tested_goes, top_few}
 
 -- a process is named for deletion: its frames go, and its exit handlers end
 deleted_goes : (p : Pid) (s : State) (q : Pid) → GoesBy p s (deleted_by s q)

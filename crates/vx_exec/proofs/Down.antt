@@ -26,13 +26,12 @@ use Rattle.vx_clusters.proofs.Few.{dissociate_few}
 use Rattle.vx_procs.specs.Cells.{dissociation_part}
 use Rattle.vx_procs.proofs.Firsts.{less_few}
 use Rattle.vx_rundown.specs.Steps.{drained, passed, passed_by, then_by, then_on}
-use Rattle.vx_rundown.proofs.Changed.{process_there}
+use Rattle.vx_io.proofs.Changed.{process_there}
 use Rattle.vx_rundown.proofs.Freed.{free_all}
 use Rattle.vx_rundown.proofs.Modes.{drain_is, mode_is}
 use Rattle.vx_exec.proofs.Cancels.{mode_cancels}
 use Rattle.vx_exec.proofs.Ends.{Ends, ends_more}
-use Rattle.vx_exec.proofs.Few.{filter_few}
-use Rattle.vx_exec.proofs.Goes.{Goes, Stays, goes_stays, made_stays, stays_changed, stays_common, stays_still, stays_then}
+use Rattle.vx_exec.proofs.Goes.{Goes, Stays, filter_few, goes_stays, made_stays, stays_changed, stays_common, stays_still, stays_then}
 
 -- how much a mode tells at most: of the requests that are outstanding six for each as it is cancelled, and the AST that it queues then;
 -- of the ASTs queued for a process, the timers and wakes, attention entries and channels there are; and two clusters

@@ -1,25 +1,30 @@
--- BEG and DON, and how much a request tells that finishes.
-use Rattle.std.proofs.Common.{◌≡◌, ℕ, ◌+◌, ◌*◌, ◌≤◌, List, [], ◌∷◌, true, ◌&&◌, ◌==◌, not, nat_lt, length, length-append, Option, Some, None, refl, ap, slice_index_or, arith}
+-- TICK, BEG and DON, and how much a request tells that finishes.
+use Rattle.std.proofs.Common.{◌≡◌, ℕ, ◌+◌, ◌-◌, ◌*◌, ◌≤◌, List, [], ◌∷◌, true, ◌&&◌, ◌==◌, not, nat_lt, length, length-append, length-set, Option, Some, None, refl, ap, slice_index_or, arith}
+use Rattle.std.specs.List.{filter}
 use Rattle.std.proofs.Math.Nat.{mul-suc}
-use Rattle.vx_base.specs.Pieces.{DeviceUnit, Promised, Request, Status}
+use Rattle.vx_base.specs.Lists.{amend, less}
+use Rattle.vx_base.specs.Pieces.{DeviceUnit, Promised, Request, Status, Timer, Alarm, OfTimer, OfWake}
 use Rattle.vx_base.specs.Serving.{serve, settled}
 use Rattle.vx_base.specs.declared.effects.Cell.{Cell}
 use Rattle.vx_base.specs.declared.effects.Cell.TheVariants.{Common, Local}
+use Rattle.vx_base.specs.declared.effects.Effect.TheVariants as effect
+use Rattle.vx_base.specs.declared.mode.Mode.{Mode}
 use Rattle.vx_base.specs.declared.number.Pid.{Pid}
 use Rattle.vx_base.specs.declared.number.UnitNo.{UnitNo}
 use Rattle.vx_base.specs.declared.request.Req.{Req}
-use Rattle.vx_record.specs.State.{State, no_unit, unit_at}
+use Rattle.vx_base.specs.declared.routine.Entry.{Entry}
+use Rattle.vx_record.specs.State.{State, change, no_unit, process_at, unit_at}
 use Rattle.vx_record.specs.Asts.{charged_ast, with_queued}
 use Rattle.vx_record.specs.Events.{beg, don}
 use Rattle.vx_record.specs.Finish.{Ending, buf_part, done_ast_part, done_flag_part, fin_part, finish, iosb_part, is_read, put_status, status_of, with_stored_bytes, with_stored_status}
-use Rattle.vx_record.specs.Flags.{cell, flag_where_named}
-use Rattle.vx_record.specs.Parts.{Part, and_then, each, nothing}
+use Rattle.vx_record.specs.Control.{with_wake}
+use Rattle.vx_record.specs.Flags.{cell, flag_where_named, with_local_flag}
+use Rattle.vx_record.specs.Parts.{Part, and_then, each, nothing, tells}
 use Rattle.vx_record.specs.Requests.{unit_ending, with_unit}
+use Rattle.vx_record.specs.Timers.{at_time, due_again, fire, fire_timer, fired, is_due, next_time, que_timer, this_timer, tick}
 use Rattle.vx_record.proofs.Ground.{at_set}
 use Rattle.vx_record.proofs.Lists.{either}
-use Rattle.vx_exec.proofs.Few.{few_flags}
-use Rattle.vx_exec.proofs.Fired.{flag_stays}
-use Rattle.vx_exec.proofs.Goes.{Goes, Stays, goes_stays, stays_changed, stays_still, stays_then}
+use Rattle.vx_exec.proofs.Goes.{Goes, Stays, filter_few, goes_stays, stays_changed, stays_common, stays_still, stays_then}
 
 -- a part stays, leaves no more attention entries, and tells so many effects at most
 pub record Ends (bound : ℕ) (s : State) (part : Part) : Type 0 where
@@ -53,13 +58,10 @@ buf_ends s r e = either (λ (x : Part). Ends 1 s x) (is_read r.func && nat_lt 0 
 pub iosb_ends : (s : State) (p : Pid) (i : ℕ) (status : Status) → Ends 1 s (iosb_part s p i status)
 iosb_ends s p i status = either (λ (x : Part). Ends 1 s x) (not (i == 0)) (put_status s p i status) (nothing s) (record { stays = stays_changed s p (with_stored_status i status); attention = omega arith; few = omega arith }) (none_ends s)
 
-same_attention : (s : State) (o : Option Cell) → (flag_where_named s o true).after.attention ≡ s.attention
-same_attention s None = refl
-same_attention s (Some (Local q n)) = refl
-same_attention s (Some (Common group name n)) = refl
-
 pub named_ends : (s : State) (o : Option Cell) → Ends 1 s (flag_where_named s o true)
-named_ends s o = record { stays = flag_stays s o; attention = omega (arith, ap length (same_attention s o)); few = few_flags s o }
+named_ends s None = none_ends s
+named_ends s (Some (Local q n)) = record { stays = stays_changed s q (with_local_flag n true); attention = omega arith; few = omega arith }
+named_ends s (Some (Common g name n)) = record { stays = stays_common s _; attention = omega arith; few = omega arith }
 
 flag_ends : (s : State) (r : Req) → Ends 1 s (done_flag_part s r)
 flag_ends s r = named_ends s (cell s r.p r.efn)
@@ -79,6 +81,39 @@ finish_ends s r e =
     let three = ends_then 2 1 s b (λ s. iosb_part s r.req.p r.req.iosb (status_of e)) two (iosb_ends b.after r.req.p r.req.iosb (status_of e)) in
     let four = ends_then 3 1 s c (λ s. done_flag_part s r.req) three (flag_ends c.after r.req) in
     ends_then 4 1 s d (λ s. done_ast_part s r.req r.ast) four (ast_ends d.after r.req r.ast)
+
+-- TICK.
+
+timer_ast_ends : (s : State) (t : Timer) (mode : Mode) (o : Option Entry) → Ends 1 s (que_timer s t mode o)
+timer_ast_ends s t mode None = none_ends s
+timer_ast_ends s t mode (Some tag) = record { stays = stays_changed s t.p (with_queued (charged_ast t.id mode tag)); attention = omega arith; few = omega arith }
+
+fired_ends : (s : State) (t : Timer) (a : Alarm) → Ends 3 s (fired s t a)
+fired_ends s t (OfTimer efn reqid mode tag) =
+    let a = fire_timer s t in
+    let b = and_then a (λ u. flag_where_named u (cell u t.p efn) true) in
+    let one : Ends 1 s a = record { stays = record { procs = refl; next = refl; units = refl }; attention = omega arith; few = omega arith } in
+    let two = ends_then 1 1 s a (λ u. flag_where_named u (cell u t.p efn) true) one (named_ends a.after (cell a.after t.p efn)) in
+    ends_then 2 1 s b (λ u. que_timer u t mode tag) two (timer_ast_ends b.after t mode tag)
+fired_ends s t (OfWake target repeat) = either (λ (u : State). Ends 3 s (wakes u)) (repeat == 0) _ _ (wake_ends (less (this_timer t.id) s.timers)) (wake_ends (amend (this_timer t.id) (due_again repeat) s.timers))
+  where
+    wakes : State → Part
+    wakes u = tells (effect.Fire t.id) (change u target (with_wake true))
+
+    wake_ends : (ts : List Timer) → Ends 3 s (wakes (record s { timers = ts }))
+    wake_ends ts = record {
+      stays = record { procs = length-set s.procs (target.0 - 1) (with_wake true (process_at s target)); next = refl; units = refl };
+      attention = omega arith;
+      few = omega arith;
+    }
+
+pub tick_goes : (s : State) → Goes (3 * length s.timers) s (tick s).after (tick s).effects
+tick_goes s =
+    let now = next_time s in
+    let t = at_time s now in
+    let all = each_ends 3 fire (λ u x. fired_ends u x x.what) (filter (is_due now) s.timers) t in
+    let fewer = filter_few (is_due now) s.timers in
+    goes_stays (3 * length s.timers) s (tick s).after (tick s).effects (stays_then s t _ (record { procs = refl; next = refl; units = refl }) all.stays) (omega (arith, all.few, fewer))
 
 -- BEG opens nothing, and tells nothing.
 pub beg_goes : (s : State) (o : Option Request) → Goes 0 s (beg s o).after (beg s o).effects

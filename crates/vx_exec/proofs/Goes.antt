@@ -34,7 +34,12 @@ use Rattle.vx_record.proofs.Lists.{either, either_by}
 use Rattle.vx_record.specs.Timers.{drop_timer, drop_timers, new_wake, open_timer, scheduled, setimr_at, timer_set, with_timer}
 use Rattle.vx_procs.specs.Words.{deepest, left, left_kind}
 use Rattle.vx_procs.proofs.Stack.{left_after, left_effects}
-use Rattle.vx_exec.proofs.Few.{filter_few}
+
+pub filter_few : {A : Type 0} (p : A → Bool) (xs : List A) → length (filter p xs) ≤ length xs
+filter_few p [] = omega arith
+filter_few p (x ∷ xs) =
+    let rest = filter_few p xs in
+    either (λ ys. length ys ≤ length (x ∷ xs)) (p x) (x ∷ filter p xs) (filter p xs) (omega (arith, rest)) (omega (arith, rest))
 
 -- from s to t: no process comes or goes, no id is opened, and units stay as they are
 pub record Stays (s t : State) : Type 0 where

@@ -9,8 +9,6 @@ pub mod Down
 pub mod Enabled
 pub mod Engines
 pub mod Ends
-pub mod Few
-pub mod Fired
 pub mod Goes
 pub mod Open
 pub mod Owned

@@ -33,8 +33,7 @@ use Rattle.vx_exec.specs.Ready.{HasOwner, HasRoomFor, IsIdle, IsNext, IsOpen, Is
 use Rattle.vx_exec.specs.Sound.{IsGoing, IsWhole}
 use Rattle.vx_exec.proofs.Down.{rundown_goes}
 use Rattle.vx_exec.proofs.Enabled.{enabled_owned}
-use Rattle.vx_exec.proofs.Ends.{beg_goes, don_goes}
-use Rattle.vx_exec.proofs.Fired.{tick_goes}
+use Rattle.vx_exec.proofs.Ends.{beg_goes, don_goes, tick_goes}
 use Rattle.vx_exec.proofs.Called.{delivered_goes, run_goes}
 use Rattle.vx_exec.proofs.Goes.{Goes}
 

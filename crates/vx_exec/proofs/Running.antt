@@ -38,7 +38,7 @@ use Rattle.vx_record.proofs.Ground.{at_set}
 use Rattle.vx_procs.specs.Kernel.{Does, DoesQuietly, Fits, Kernel, changed, told, with_state}
 use Rattle.vx_procs.specs.Words.{advanced_at, advanced_from, handlers_have_own_ids, without_started}
 use Rattle.vx_procs.proofs.Rest as rest
-use Rattle.vx_rundown.proofs.Changed.{made_still, process_there}
+use Rattle.vx_io.proofs.Changed.{made_still, process_there}
 use Rattle.vx_base.specs.declared.service.Service.TheVariants.{Qio}
 use Rattle.vx_io.specs.Asking.{asked as given}
 use Rattle.vx_io.specs.declared.asking.Asking.{Asking}

@@ -1,5 +1,6 @@
 pub mod Asked
 pub mod Cancelled
+pub mod Changed
 pub mod Ended
 pub mod Finished
 pub mod Firing

@@ -1,14 +1,13 @@
 -- A request finishes alike whether its AST is queued last, as the machine has it, or first, as the code does.
-use Rattle.std.proofs.Common.{◌≡◌, ℕ, ◌-◌, ◌%◌, List, [], ◌++◌, Bool, true, false, cond, not, ◌&&◌, ◌==◌, nat_lt, length-set, slice_set, get_or-set_same, Option, Some, None, is_some, refl, ap, sym, ◌∙◌, arith}
+use Rattle.std.proofs.Common.{◌≡◌, ℕ, ◌-◌, ◌%◌, List, [], ◌++◌, Bool, true, false, cond, not, ◌&&◌, ◌==◌, nat_lt, slice_set, Option, Some, None, is_some, refl, ap, sym, ◌∙◌, arith}
 use Rattle.std.specs.List.{find}
-use Rattle.std.proofs.lemmas.List.{set-set}
 use Rattle.vx_base.specs.Clusters.{cluster_number, is_association}
 use Rattle.vx_base.specs.Pieces.{Association, Promised, Queued, Request, Status}
 use Rattle.vx_base.specs.declared.effects.Cell.TheVariants.{Local}
 use Rattle.vx_base.specs.declared.effects.Effect.TheVariants as effect
 use Rattle.vx_base.specs.declared.number.Pid.{Pid}
 use Rattle.vx_base.specs.declared.request.Req.{Req}
-use Rattle.vx_record.specs.State.{Process, State, IsProcess, change, nobody, process_at}
+use Rattle.vx_record.specs.State.{Process, State, IsProcess, change, process_at}
 use Rattle.vx_record.specs.Parts.{Part, and_then, nothing, part_if, tells}
 use Rattle.vx_record.specs.Finish.{Ending, buf_part, done_ast_part, done_flag_part, fin_part, finish, iosb_part, is_read, status_of, with_stored_bytes, with_stored_status}
 use Rattle.vx_record.specs.Flags.{common_cell, flag_where_named, with_local_flag}
@@ -17,6 +16,7 @@ use Rattle.vx_procs.specs.Requests.{ended, finished, request_ast}
 use Rattle.vx_procs.specs.Words.{with_queued_if}
 use Rattle.vx_procs.proofs.Changed.{none_changed}
 use Rattle.vx_io.specs.Finishing.{finishing}
+use Rattle.vx_io.proofs.Changed.{change_again, made_still}
 
 -- the AST of p queued before a part, and after it
 abbrev queued_in : Pid → Option Queued → State → State
@@ -25,21 +25,10 @@ queued_in p o s = change s p (with_queued_if o)
 abbrev queued_after : Pid → Option Queued → Part → Part
 queued_after p o a = record { effects = a.effects; after = queued_in p o a.after }
 
-there : (s : State) (p : Pid) (f : Process → Process) → IsProcess s p → process_at (change s p f) p ≡ f (process_at s p)
-there s p f made = get_or-set_same s.procs (p.0 - 1) (f (process_at s p)) nobody (omega (arith, made.above, made.within))
-
-twice : (s : State) (p : Pid) (f g : Process → Process) → IsProcess s p → change (change s p f) p g ≡ record s { procs = slice_set s.procs (p.0 - 1) (g (f (process_at s p))) }
-twice s p f g made =
-    ap (λ (x : Process). let t : State = record s { procs = slice_set (slice_set s.procs (p.0 - 1) (f (process_at s p))) (p.0 - 1) (g x) } in t) (there s p f made)
-    ∙ ap (λ (ps : List Process). let t : State = record s { procs = ps } in t) (set-set s.procs (p.0 - 1) (f (process_at s p)) (g (f (process_at s p))))
-
 swapped : (s : State) (p : Pid) (o : Option Queued) (f : Process → Process) → IsProcess s p → f (with_queued_if o (process_at s p)) ≡ with_queued_if o (f (process_at s p)) → change (queued_in p o s) p f ≡ queued_in p o (change s p f)
 swapped s p o f made same =
-    twice s p (with_queued_if o) f made
-    ∙ (ap (λ (x : Process). let t : State = record s { procs = slice_set s.procs (p.0 - 1) x } in t) same ∙ sym (twice s p f (with_queued_if o) made))
-
-made_by : (s : State) (p : Pid) (f : Process → Process) → IsProcess s p → IsProcess (change s p f) p
-made_by s p f made = record { above = made.above; within = omega (arith, made.within, length-set s.procs (p.0 - 1) (f (process_at s p))) }
+    change_again s p (with_queued_if o) f made
+    ∙ (ap (λ (x : Process). let t : State = record s { procs = slice_set s.procs (p.0 - 1) x } in t) same ∙ sym (change_again s p f (with_queued_if o) made))
 
 -- what is stored is not in the queue
 
@@ -70,7 +59,7 @@ buffer_swapped s r e o made =
 
 buffer_made : (s : State) (r : Req) (e : Ending) → IsProcess s r.p → IsProcess (buf_part s r e).after r.p
 buffer_made s r e made =
-    either (λ (a : Part). IsProcess a.after r.p) (is_read r.func && nat_lt 0 e.0.count) (tells (effect.Buf r.p r.buf e.0.bytes) (change s r.p (with_stored_bytes r.buf e.0.bytes))) (nothing s) (made_by s r.p (with_stored_bytes r.buf e.0.bytes) made) made
+    either (λ (a : Part). IsProcess a.after r.p) (is_read r.func && nat_lt 0 e.0.count) (tells (effect.Buf r.p r.buf e.0.bytes) (change s r.p (with_stored_bytes r.buf e.0.bytes))) (nothing s) (made_still s r.p r.p (with_stored_bytes r.buf e.0.bytes) made) made
 
 status_swapped : (s : State) (p : Pid) (i : ℕ) (status : Status) (o : Option Queued) → IsProcess s p → iosb_part (queued_in p o s) p i status ≡ queued_after p o (iosb_part s p i status)
 status_swapped s p i status o made =
@@ -81,7 +70,7 @@ status_swapped s p i status o made =
 
 status_made : (s : State) (p : Pid) (i : ℕ) (status : Status) → IsProcess s p → IsProcess (iosb_part s p i status).after p
 status_made s p i status made =
-    either (λ (a : Part). IsProcess a.after p) (not (i == 0)) (tells (effect.Iosb p i status.cond status.count status.info) (change s p (with_stored_status i status))) (nothing s) (made_by s p (with_stored_status i status) made) made
+    either (λ (a : Part). IsProcess a.after p) (not (i == 0)) (tells (effect.Iosb p i status.cond status.count status.info) (change s p (with_stored_status i status))) (nothing s) (made_still s p p (with_stored_status i status) made) made
 
 flag_swapped : (s : State) (r : Req) (o : Option Queued) → IsProcess s r.p → done_flag_part (queued_in r.p o s) r ≡ queued_after r.p o (done_flag_part s r)
 flag_swapped s r o made = named (nat_lt r.efn 64) (find (is_association r.p (cluster_number r.efn)) s.common.associations)

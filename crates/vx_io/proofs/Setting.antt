@@ -1,33 +1,21 @@
 -- An attention entry is set: its part, step after step.
-use Rattle.std.proofs.Common.{◌≡◌, ℕ, List, [], ◌∷◌, ◌++◌, true, not, ◌==◌, Option, Some, None, refl, ap, ◌∙◌}
+use Rattle.std.proofs.Common.{◌≡◌, ℕ, List, [], ◌∷◌, ◌++◌, true, Option, Some, refl, ap, ◌∙◌}
 use Rattle.std.specs.List.{find}
-use Rattle.vx_base.specs.Pieces.{Attention, Status}
-use Rattle.vx_base.specs.declared.effects.Cell.{Cell}
-use Rattle.vx_base.specs.declared.effects.Cell.TheVariants.{Common, Local}
+use Rattle.vx_base.specs.Pieces.{Attention}
 use Rattle.vx_base.specs.declared.number.Id.{Id}
 use Rattle.vx_base.specs.declared.number.Pid.{Pid}
-use Rattle.vx_record.specs.Finish.{iosb_part, put_status}
+use Rattle.vx_record.specs.Finish.{iosb_part}
 use Rattle.vx_record.specs.Flags.{cell, flag_where_named}
 use Rattle.vx_record.specs.Mailboxes.{attend, this_attention}
-use Rattle.vx_record.specs.Parts.{Part, and_then, nothing, part_if}
+use Rattle.vx_record.specs.Parts.{Part, and_then, part_if}
 use Rattle.vx_record.specs.Requests.{Asked, attention_opened, attention_set, done_at_once}
 use Rattle.vx_record.specs.Sound.{AreOrdered, attention_id}
 use Rattle.vx_record.specs.State.{State}
-use Rattle.vx_record.proofs.Lists.{either}
+use Rattle.vx_record.proofs.Apart.{flag_attention, iosb_attention}
 use Rattle.vx_procs.specs.Kernel.{Acts, Kernel}
 use Rattle.vx_procs.proofs.Rest.{acted, acts_both}
 use Rattle.vx_io.specs.Boxes.{attend_by, fire_found, is_answered}
 use Rattle.vx_io.proofs.Opening.{last_found}
-
--- What a status block and an event flag leave.
-
-status_entries : (s : State) (p : Pid) (i : ℕ) (st : Status) → (iosb_part s p i st).after.attention ≡ s.attention
-status_entries s p i st = either (λ (x : Part). x.after.attention ≡ s.attention) (not (i == 0)) (put_status s p i st) (nothing s) refl refl
-
-flag_entries : (s : State) (o : Option Cell) → (flag_where_named s o true).after.attention ≡ s.attention
-flag_entries s None = refl
-flag_entries s (Some (Local q n)) = refl
-flag_entries s (Some (Common group name n)) = refl
 
 -- The steps so far.
 
@@ -49,9 +37,9 @@ half_done k l m p q a did then = acts_both k l m (attention_opened k.state p q a
 entries_there : (k l m n : Kernel) (p : Pid) (q : Asked) (a : Attention) → Acts (attention_opened k.state p q a) k l → Acts (filling p q l.state) l m → Acts (flagging p q m.state) m n → n.state.attention ≡ k.state.attention ++ a ∷ []
 entries_there k l m n p q a did then last =
     ap (λ (y : Kernel). y.state.attention) last
-    ∙ (flag_entries m.state (cell m.state p q.efn)
+    ∙ (flag_attention m.state (cell m.state p q.efn) true
     ∙ (ap (λ (y : Kernel). y.state.attention) then
-    ∙ (status_entries l.state p q.iosb done_at_once ∙ ap (λ (y : Kernel). y.state.attention) did)))
+    ∙ (iosb_attention l.state p q.iosb done_at_once ∙ ap (λ (y : Kernel). y.state.attention) did)))
 
 -- and it fires, if there is already what it asks for
 attend_same : (k n : Kernel) (a : Attention) (id : Id) → id ≡ a.id → a.id.0 ≡ k.state.next → AreOrdered attention_id 0 k.state.next k.state.attention → n.state.attention ≡ k.state.attention ++ a ∷ [] → attend_by n.state a.box a.func id ≡ attend n.state a

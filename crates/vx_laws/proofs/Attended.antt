@@ -33,7 +33,7 @@ use Rattle.vx_record.specs.Parts.{Part, Outcome, nothing, at_tested, part_of}
 use Rattle.vx_record.specs.Requests.{Asked, new_attention, attention_set, attention_opened, attention_on, transfer, accepted, done_at_once, request_test, qio_tested, qiow_tested, cleared_part}
 use Rattle.vx_record.specs.Services.{number, place, access_mode, text, asked, numbered_at, service_of, with_variable}
 use Rattle.vx_record.specs.State.{Process, State, process_at, change, current, nobody}
-use Rattle.vx_record.proofs.Apart.{Here}
+use Rattle.vx_record.proofs.Apart.{Here, flag_attention, here_after, iosb_attention}
 use Rattle.vx_record.proofs.Base.{Base}
 use Rattle.vx_record.proofs.Cancelled.{cancel_channel_attention, cancel_channel_all}
 use Rattle.vx_record.proofs.SoundRequests.{request_test_row}
@@ -67,7 +67,6 @@ use Rattle.vx_record.specs.Rundown.{without_ast}
 use Rattle.vx_record.specs.State.{image_of, unit_at}
 use Rattle.vx_record.specs.declared.served.Served.{Served}
 use Rattle.vx_record.specs.declared.served.Served.TheVariants.{Answered, Waits}
-use Rattle.vx_record.proofs.Apart.{here_after}
 use Rattle.vx_record.proofs.Locals.{advanced_statuses}
 use Rattle.vx_record.proofs.Moves.{moved}
 use Rattle.vx_record.proofs.Steps.{IsThere, returned_moves}
@@ -170,14 +169,6 @@ unasked_lists Q = record { due = λ n t k. tt; timer = λ t e. tt; wake = λ t e
 -- what opens no attention entry keeps what is said of all
 plain_held : (Q : Attention → Type 0) (s : State) (es : List Effect) (t : State) → Moves s None es t None → Plain es → AllByRecursion Q s.attention → AllByRecursion Q t.attention
 plain_held Q s es t j h k = (moves_held Untimed Q (λ k p. not (is_asked k)) (unasked_lists Q) s None es t None j (all_weaker (λ x. is_plain x ≡ true) (λ x. is_open_allowed (λ k p. not (is_asked k)) x ≡ true) plain_open es h.all) (all_untimed s.timers, k)).1
-
-flag_attention : (s : State) (o : Option Cell) (on : Bool) → (flag_where_named s o on).after.attention ≡ s.attention
-flag_attention s None on = refl
-flag_attention s (Some (Local p n)) on = refl
-flag_attention s (Some (Shared g a n)) on = refl
-
-iosb_attention : (s : State) (p : Pid) (i : ℕ) (st : Status) → (iosb_part s p i st).after.attention ≡ s.attention
-iosb_attention s p i st = either (λ (x : Part). x.after.attention ≡ s.attention) (not (i == 0)) _ (nothing s) refl refl
 
 set_held : (Q : Attention → Type 0) (s : State) (p : Pid) (q : Asked) (a : Attention) → AllByRecursion Q s.attention → Q a → AllByRecursion Q (attention_set s p q a).after.attention
 set_held Q s p q a h k =

@@ -34,7 +34,7 @@ use Rattle.std.proofs.lemmas.List.{append-nil}
 use Rattle.vx_procs.proofs.Rest.{IsAnswering, acted, answering_begun, answering_on}
 use Rattle.vx_rundown.specs.Leaving.{IsLeaving}
 use Rattle.vx_rundown.specs.Steps.{drained, entered_as, frame_of, passed, passed_by}
-use Rattle.vx_rundown.proofs.Changed.{process_there}
+use Rattle.vx_io.proofs.Changed.{change_again, process_there}
 use Rattle.vx_rundown.proofs.Left.{handler_follows, leaving_acted, leaving_by, leaving_handling, leaving_told}
 use Rattle.vx_rundown.proofs.Modes.{cancelled_leaving, cancelled_phase, leaving_cancel}
 use Rattle.vx_rundown.proofs.Standing.{own_handlers_at}
@@ -71,17 +71,6 @@ found_known (Some h) id tag e = let same : (id, tag) ≡ known h = cc in record 
 none_known : (o : Option Handler) → None ≡ option_map known o → o ≡ None
 none_known None e = refl
 none_known (Some h) e = absurd (cc)
-
-set_again : {A : Type 0} (xs : List A) (i : ℕ) (a b : A) → slice_set (slice_set xs i a) i b ≡ slice_set xs i b
-set_again [] i a b = refl
-set_again (x ∷ xs) zero a b = refl
-set_again (x ∷ xs) (suc i) a b = ap (λ ys. x ∷ ys) (set_again xs i a b)
-
--- two changes of one process
-change_again : (s : State) (p : Pid) (f g : Process → Process) → IsProcess s p → change (change s p f) p g ≡ change s p (λ pr. g (f pr))
-change_again s p f g made =
-    ap (λ (pr : Process). let u : State = record s { procs = slice_set (slice_set s.procs (p.0 - 1) (f (process_at s p))) (p.0 - 1) (g pr) } in u) (process_there s p f made)
-    ∙ ap (λ (ps : List Process). let u : State = record s { procs = ps } in u) (set_again s.procs (p.0 - 1) (f (process_at s p)) (g (f (process_at s p))))
 
 -- the handlers of a process in another phase are its handlers
 phase_handlers : (k l : KernelOf) (p : Pid) (m : Mode) → IsProcess k.state p → l ≡ changed k p (in_phase (phase.Handlers m)) → (process_at l.state p).handlers ≡ (process_at k.state p).handlers

@@ -22,7 +22,7 @@ use Rattle.vx_record.proofs.Lists.{all_get, either, none_passes}
 use Rattle.vx_procs.specs.Kernel.{Acts, Fits, Kernel, with_state}
 use Rattle.vx_procs.proofs.Rest.{IsDoing, doing_begun, doing_end, doing_on, doing_room}
 use Rattle.vx_rundown.specs.Leaving.{IsDrained, IsLeaving}
-use Rattle.vx_rundown.proofs.Changed.{process_there}
+use Rattle.vx_io.proofs.Changed.{process_there}
 use Rattle.vx_rundown.proofs.Left.{Follows, boxes_follow, change_follows, follows_still, follows_then, leaving_acted, leaving_by}
 
 -- Numbers.

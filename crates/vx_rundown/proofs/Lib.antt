@@ -1,5 +1,4 @@
 pub mod Cancelled
-pub mod Changed
 pub mod Entering
 pub mod Freed
 pub mod Left

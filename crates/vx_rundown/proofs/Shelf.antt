@@ -22,7 +22,7 @@ use Rattle.vx_procs.proofs.Ended.{found_id, found_none}
 use Rattle.vx_procs.proofs.Firsts.{filter_found, filter_none}
 use Rattle.vx_procs.proofs.Own.{less_own, own_less}
 use Rattle.vx_procs.proofs.Rest.{IsDoing, acted, doing_begun, doing_end, doing_on, doing_room, told_none}
-use Rattle.vx_rundown.proofs.Changed.{process_there, made_still}
+use Rattle.vx_io.proofs.Changed.{process_there, made_still}
 
 -- a list that a process has, of things with ids
 pub record Shelf (A : Type 0) : Type 1 where

@@ -18,6 +18,8 @@ mod clusters;
 #[cfg(test)]
 mod commands;
 #[cfg(test)]
+mod exec;
+#[cfg(test)]
 mod exits;
 #[cfg(test)]
 mod explore;
