@@ -211,7 +211,7 @@ drained_falls p m s made =
 -- a mode is passed
 
 passed_falls : (p : Pid) (m : Mode) (s : State) → IsProcess s p → Falls p (length s.requests) (load s p) s (passed p m s).after (passed p m s).effects
-passed_falls p m s made = by (find (is_handler_of m) (process_at s p).handlers)
+passed_falls p m s made = by (find (is_handler_of m) (process_at (handling p m s) p).handlers)
   where
     by : (o : Option Handler) → Falls p (length s.requests) (load s p) s (passed_by p m o (handling p m s)).after (passed_by p m o (handling p m s)).effects
     by None =
@@ -285,7 +285,7 @@ run_down_ends p (m ∷ ms) s made =
     let one = passed_falls p m s made in
     let rest = run_down_ends p ms o.after (falls_made p (length s.requests) (load s p) s o.after _ made one) in
     let count : suc k * heavy s p (suc k) ≡ k * heavy s p (suc k) + heavy s p (suc k) = suc-mul k (heavy s p (suc k)) in
-    subst (λ (r : Outcome Answer). Ends (down_most s p (m ∷ ms)) s (part_of r)) (sym (mode_is s p m ms))
+    subst (λ (r : Outcome Answer). Ends (down_most s p (m ∷ ms)) s (part_of r)) (sym (mode_is s p m ms made))
     (ends_more (load s p + k * heavy s p (suc k) + length (process_at s p).handlers + length s.timers + 1) (down_most s p (m ∷ ms)) s _ (omega (arith, count)) (then_ends p (load s p) s ms o (omega arith) one rest))
 
 -- of four modes at most

@@ -23,11 +23,11 @@ use Rattle.vx_base.specs.declared.number.UnitNo.{UnitNo}
 use Rattle.vx_base.specs.declared.routine.Entry.{Entry}
 use Rattle.vx_base.specs.Modes.{is_kernel}
 use Rattle.vx_record.specs.State.{Process, State, IsProcess, process_at, change, current, next_id, no_unit, past_id, unit_at, with_top}
-use Rattle.vx_record.specs.Parts.{Outcome, Part, answered, at_tested, nothing, refused, part_of, commonly, each}
+use Rattle.vx_record.specs.Parts.{Outcome, Part, answered, at_tested, nothing, refused, refused_value, part_of, commonly, each}
 use Rattle.vx_record.specs.Asts.{charged_ast, declared_ast, with_queued, open_part}
 use Rattle.vx_record.specs.Charges.{exceeds, ast_need, timer_need}
 use Rattle.vx_record.specs.Control.{changed_process, created, creprc, exit_ast, forced, new_part, next_pid}
-use Rattle.vx_record.specs.Flags.{at_flag, at_named, awaited_at, cell, flag_part, put_flag_at, readef, readef_at, refused_value, refused_wait, wait_condition, waits_on, with_local_flag, with_wait}
+use Rattle.vx_record.specs.Flags.{at_flag, at_named, awaited_at, cell, flag_part, put_flag_at, readef, readef_at, refused_wait, wait_condition, waits_on, with_local_flag, with_wait}
 use Rattle.vx_record.specs.Rundown.{cancel_found, cancel_handlers, canexh, dclexh, drop_handler, drop_handlers, exited, handler_declared, is_handler_of, is_handler_with, new_handler, with_handler, without_frames, without_handler}
 use Rattle.vx_record.specs.Services.{numbered_at, place, valued_at, with_number, with_variable}
 use Rattle.vx_record.proofs.Lists.{either, either_by}

@@ -29,8 +29,8 @@ use Rattle.vx_base.specs.declared.routine.Entry.{Entry}
 use Rattle.vx_base.specs.declared.service.Service.{Service}
 use Rattle.vx_base.specs.declared.service.Service.TheVariants.{SetEf, ClrEf, ReadEf, WaitFr, WflOr, WflAnd, AscEfc, DacEfc, DlcEfc, DclAst, SetAst, CmExec, CmKrnl, SetImr, CanTim, SchdWk, CanWak, Hiber, Wake, Suspnd, Resume, ForceX, CrePrc, DelPrc, Exit, DclExh, CanExh, Assign, Dassgn, CreMbx, DelMbx, Qio, QioW, Synch, Cancel, GetTim}
 use Rattle.vx_record.specs.State.{State, process_at, change, current}
-use Rattle.vx_record.specs.Parts.{Part, Outcome, nothing, each, refused, at_tested, part_of}
-use Rattle.vx_record.specs.Flags.{cell, flag_where_named, at_named, at_flag, put_flag_at, refused_value, readef_at, readef, refused_wait, wait_condition, awaited_at, waits_on, is_common, wants_prmceb}
+use Rattle.vx_record.specs.Parts.{Part, Outcome, nothing, each, refused, refused_value, at_tested, part_of}
+use Rattle.vx_record.specs.Flags.{cell, flag_where_named, at_named, at_flag, put_flag_at, readef_at, readef, refused_wait, wait_condition, awaited_at, waits_on, is_common, wants_prmceb}
 use Rattle.vx_record.specs.Asts.{is_inside}
 use Rattle.vx_record.specs.Charges.{exceeds, ast_need, timer_need}
 use Rattle.vx_record.specs.Finish.{Ending, ending, is_read, fin_part, buf_part, status_of, iosb_part, done_flag_part, done_ast_part, finish, finish_found, this_request}

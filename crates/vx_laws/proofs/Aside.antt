@@ -38,9 +38,9 @@ use Rattle.vx_record.specs.Charges.{exceeds, ast_need, timer_need}
 use Rattle.vx_record.specs.Control.{process_test, changed_process, with_wake, with_suspension, forced, creprc, created, new_part}
 use Rattle.vx_record.specs.Events.{returned, returned_from, started, r0_of, put_back, below_top}
 use Rattle.vx_record.specs.Finish.{iosb_part, put_status, with_stored_status}
-use Rattle.vx_record.specs.Flags.{cell, flag_where_named, at_named, at_flag, put_flag_at, refused_value, readef_at, readef, refused_wait, wait_condition, awaited_at, waits_on, is_common, wants_prmceb, flag_part, with_local_flag, with_wait}
+use Rattle.vx_record.specs.Flags.{cell, flag_where_named, at_named, at_flag, put_flag_at, readef_at, readef, refused_wait, wait_condition, awaited_at, waits_on, is_common, wants_prmceb, flag_part, with_local_flag, with_wait}
 use Rattle.vx_record.specs.Mailboxes.{is_attention_at, fire_attention, call_attention, is_answered_now, attend}
-use Rattle.vx_record.specs.Parts.{Part, Outcome, nothing, each, refused, at_tested, part_of, commonly, and_then}
+use Rattle.vx_record.specs.Parts.{Part, Outcome, nothing, each, refused, refused_value, at_tested, part_of, commonly, and_then}
 use Rattle.vx_record.specs.Requests.{Asked, new_attention, attention_set, attention_opened, attention_on, done_at_once, cleared_part}
 use Rattle.vx_record.specs.Rundown.{leave_kind, leave_frame, leave_all, exited, is_handler_of, is_handler_with, drop_handler, drop_handlers, any_handler, cancel_found, cancel_handlers, named_for_deletion, deleted_by, drop_ast, drop_asts, is_ast_reached, part_with, new_handler, with_handler, without_frames, without_handler, without_ast}
 use Rattle.vx_record.specs.Services.{number, place, text, routine_or_none, decl_place, valued_at, numbered_at, service_of, var_part, with_variable, routine}

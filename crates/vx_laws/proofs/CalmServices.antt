@@ -16,9 +16,9 @@ use Rattle.vx_base.specs.declared.routine.Entry.{Entry}
 use Rattle.vx_base.specs.declared.service.Service.{Service}
 use Rattle.vx_base.specs.declared.service.Service.TheVariants.{SetEf, ClrEf, ReadEf, WaitFr, WflOr, WflAnd, AscEfc, DacEfc, DlcEfc, DclAst, SetAst, CmExec, CmKrnl, SetImr, CanTim, SchdWk, CanWak, Hiber, Wake, Suspnd, Resume, ForceX, CrePrc, DelPrc, Exit, DclExh, CanExh, Assign, Dassgn, CreMbx, DelMbx, Qio, QioW, Synch, Cancel, GetTim}
 use Rattle.vx_record.specs.State.{State, process_at, change, current, image_of}
-use Rattle.vx_record.specs.Parts.{Part, Outcome, nothing, refused, at_tested, part_of}
+use Rattle.vx_record.specs.Parts.{Part, Outcome, nothing, refused, refused_value, at_tested, part_of}
 use Rattle.vx_record.specs.Charges.{exceeds, ast_need}
-use Rattle.vx_record.specs.Flags.{put_flag_at, refused_value, readef_at, readef, is_common, wants_prmceb}
+use Rattle.vx_record.specs.Flags.{put_flag_at, readef_at, readef, is_common, wants_prmceb}
 use Rattle.vx_record.specs.Asts.{is_inside}
 use Rattle.vx_record.specs.Channels.{channel_test, device_named, assign, crembx, delmbx_at, free_channel}
 use Rattle.vx_record.specs.Cancel.{cancel_channel, cancel_at, dassgn_at}

@@ -27,9 +27,9 @@ use Rattle.vx_base.specs.declared.routine.Entry.{Entry}
 use Rattle.vx_base.specs.declared.service.Service.{Service}
 use Rattle.vx_base.specs.declared.service.Service.TheVariants.{SetEf, ClrEf, ReadEf, WaitFr, WflOr, WflAnd, AscEfc, DacEfc, DlcEfc, DclAst, SetAst, CmExec, CmKrnl, SetImr, CanTim, SchdWk, CanWak, Hiber, Wake, Suspnd, Resume, ForceX, CrePrc, DelPrc, Exit, DclExh, CanExh, Assign, Dassgn, CreMbx, DelMbx, Qio, QioW, Synch, Cancel, GetTim}
 use Rattle.vx_record.specs.State.{State, process_at, change, current}
-use Rattle.vx_record.specs.Parts.{Part, Outcome, nothing, each, part_if, refused, at_tested, part_of}
+use Rattle.vx_record.specs.Parts.{Part, Outcome, nothing, each, part_if, refused, refused_value, at_tested, part_of}
 use Rattle.vx_record.specs.Charges.{exceeds, ast_need, timer_need, is_direct, is_attention}
-use Rattle.vx_record.specs.Flags.{cell, flag_part, flag_where_named, at_named, at_flag, put_flag_at, refused_value, readef_at, readef, is_common, wants_prmceb}
+use Rattle.vx_record.specs.Flags.{cell, flag_part, flag_where_named, at_named, at_flag, put_flag_at, readef_at, readef, is_common, wants_prmceb}
 use Rattle.vx_record.specs.Finish.{Ending, ending, is_read, fin_part, buf_part, status_of, iosb_part, done_flag_part, done_ast_part, finish, finish_found, this_request}
 use Rattle.vx_record.specs.Mailboxes.{mailbox_at, is_waiting_func, waits_at, this_message, mput_part, mget_part, mcut_part, message_of, read_ending, write_ending, received, write_done, is_attention_at, fire_attention, call_attention, store_message, hand_over, write_box, take_message, read_box, is_answered_now, attend}
 use Rattle.vx_record.specs.Channels.{channel_test, box_named, device_named, with_channel, free_channel_of, assign_at, assign_to, assign, is_bad_box, new_box, make_box, make_box_in, find_or_create, crembx, marked_box, delmbx_on, delmbx_at, is_assigned, goes_unused, box_gone, swept_device, swept_box, free_channel}
@@ -82,7 +82,7 @@ use Rattle.vx_image.specs.declared.stop.Stop.TheVariants as stop
 use Rattle.vx_record.specs.Asts.{is_inside, with_frame, new_frame}
 use Rattle.vx_record.specs.Flags.{awaited_at, waits_on, refused_wait, wait_condition, with_wait}
 use Rattle.vx_record.specs.Requests.{qiow_tested, begun, unit_ending, with_unit}
-use Rattle.vx_record.specs.Rundown.{leave_kind, leave_frame, leave_all, exited, without_frames, leaving, leaving_deleted, deleted_by, named_for_deletion}
+use Rattle.vx_record.specs.Rundown.{leave_kind, leave_frame, leave_all, exited, without_frames, leaving, deleted_by, named_for_deletion}
 use Rattle.vx_record.specs.State.{image_of, unit_at, top_mode}
 use Rattle.vx_record.specs.Events.{with_r0, put_back, below_top, resumed_with, uses_wake, returned, returned_from, r0_of, served_call, moved_behind, run_on, reader, run_frame, run, or_normal, started, delivered, beg, don}
 use Rattle.vx_record.specs.declared.served.Served.TheVariants.{Waits}
@@ -574,12 +574,6 @@ leaving_passes (phase.Handlers n) m = refl
 leaving_passes (phase.Draining n) m = refl
 leaving_passes phase.Deleted m = refl
 
-deleted_passes : (x : Phase) → Passes x (leaving_deleted x)
-deleted_passes phase.Alive = tt
-deleted_passes (phase.Handlers n) = refl
-deleted_passes (phase.Draining n) = refl
-deleted_passes phase.Deleted = refl
-
 leave_keeps : (s : State) (k : FrameKind) → PartKeeps s (leave_kind s k)
 leave_keeps s (kind.Ast id) = keep_none s
 leave_keeps s kind.Main = keep_none s
@@ -598,7 +592,7 @@ deleted_ages : (s : State) (q : Pid) → Ages s (deleted_by s q).after
 deleted_ages s q =
     let a = change s q named_for_deletion in
     let b = leave_all (process_at s q).frames a in
-    ages_then s a (deleted_by s q).after (change_ages s q named_for_deletion (deleted_passes (process_at s q).phase))
+    ages_then s a (deleted_by s q).after (change_ages s q named_for_deletion (leaving_passes (process_at s q).phase User))
     (ages_of a (deleted_by s q).after (keep_then (leave_all_keeps (process_at s q).frames a) (drop_handlers_keeps b.after q any_handler)))
 
 -- Services and events.

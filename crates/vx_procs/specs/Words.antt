@@ -18,7 +18,7 @@ use Rattle.vx_image.specs.declared.decl.ProcDecl.{ProcDecl}
 use Rattle.vx_image.specs.declared.image.Image.{Image}
 use Rattle.vx_image.specs.declared.stop.Stop.TheVariants as stop
 use Rattle.vx_image.specs.declared.system.System.{System}
-use Rattle.vx_record.specs.State.{Process, State, IsWithin, process_at, change, decl_of, image_of, no_decl, no_image, top_mode}
+use Rattle.vx_record.specs.State.{Process, State, IsWithin, process_at, change, decl_of, image_of, top_mode}
 use Rattle.vx_record.specs.Control.{created, held_by_both}
 use Rattle.vx_base.specs.Modes.{outer}
 use Rattle.vx_record.specs.Asts.{charged_ast, deliverable_at, with_queued}
@@ -67,14 +67,6 @@ without_started (Some q) pr = without_ast q.id pr
 -- the process without the first of its queued ASTs that is of a mode or an outer one
 abbrev pub without_reached : Mode → Process → Process
 without_reached mode pr = record pr { asts = less (is_ast_reached mode) pr.asts }
-
--- the process declaration at a place, and its image
-
-abbrev pub decl_in : System → ℕ → ProcDecl
-decl_in system place = slice_index_or system.decls place no_decl
-
-abbrev pub image_in : System → ℕ → Image
-image_in system place = slice_index_or system.images (decl_in system place).image no_image
 
 -- the declaration of p is the system's, and so is its image
 

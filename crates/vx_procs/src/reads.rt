@@ -5,14 +5,14 @@ ghost use Rattle.vx_frames.specs.Frames.{top_of};
 ghost use Rattle.vx_image.specs.Local.{place_of};
 ghost use Rattle.vx_image.specs.Storage.{buffer_at, status_at};
 ghost use Rattle.vx_base.specs.Frames.{active_mode};
-ghost use Rattle.vx_record.specs.State.{IsProcess, process_at, decl_of, image_of, limits_of, current};
+ghost use Rattle.vx_record.specs.State.{IsProcess, process_at, decl_in, decl_of, image_in, image_of, limits_of, current};
 ghost use Rattle.vx_record.specs.Asts.{deliverable_ast, entry_place, entry_prm, new_frame};
 ghost use Rattle.vx_record.specs.Charges.{exceeds};
 ghost use Rattle.vx_record.specs.Control.{decl_at, is_deleted};
 ghost use Rattle.vx_record.specs.Events.{r0_of};
 ghost use Rattle.vx_record.specs.Flags.{is_filled};
 ghost use Rattle.vx_procs.specs.View.{process};
-ghost use Rattle.vx_procs.specs.Words.{decl_in, image_in, HasDecl, HasImage};
+ghost use Rattle.vx_procs.specs.Words.{HasDecl, HasImage};
 
 use crate::process::Proc;
 use crate::procs::Core;

@@ -14,7 +14,7 @@ use Rattle.vx_base.specs.declared.request.Device.{Device}
 use Rattle.vx_base.specs.declared.request.Device.TheVariants as device
 use Rattle.vx_image.specs.declared.unit.UnitDecl.{UnitDecl}
 use Rattle.vx_record.specs.State.{Process, State, process_at, change, current, with_box}
-use Rattle.vx_record.specs.Parts.{Part, Outcome, nothing, tells, and_then, part_if, answered, refused, at_tested}
+use Rattle.vx_record.specs.Parts.{Part, Outcome, nothing, tells, and_then, part_if, answered, refused, refused_value, at_tested}
 use Rattle.vx_record.specs.Mailboxes.{is_box, mailbox_at}
 
 -- Channel test: IVCHAN for a number that is none, NOPRIV for a free channel or one of a mode inner than the caller's.
@@ -70,11 +70,11 @@ abbrev pub free_channel_of : State → Pid → Option ℕ
 free_channel_of s p = least_free (process_at s p).channels
 
 abbrev pub assign_at : State → Pid → Device → Mode → Option ℕ → Outcome (Result ℕ Cond)
-assign_at s p dev mode None = answered (Err NoIoChan) (nothing s)
+assign_at s p dev mode None = refused_value s NoIoChan
 assign_at s p dev mode (Some n) = answered (Ok n) (nothing (assigned s p dev mode n))
 
 abbrev pub assign_to : State → Pid → Mode → Option Device → Outcome (Result ℕ Cond)
-assign_to s p mode None = answered (Err NoSuchDev) (nothing s)
+assign_to s p mode None = refused_value s NoSuchDev
 assign_to s p mode (Some dev) = assign_at s p dev mode (free_channel_of s p)
 
 -- $ASSIGN: the number of the channel, which gets the outer one of the mode and the caller's
@@ -95,16 +95,16 @@ box_made s b box = tells (effect.Mbx box.name true) (with_box s (box_number b) (
 
 -- a new mailbox and a channel to it
 abbrev pub make_box : State → Pid → Mode → Mailbox → ℕ → Option ℕ → Outcome (Result ℕ Cond)
-make_box s p mode box b None = answered (Err NoIoChan) (nothing s)
+make_box s p mode box b None = refused_value s NoIoChan
 make_box s p mode box b (Some n) = answered (Ok n) (and_then (box_made s b box) (λ a. nothing (assigned a p (device.Mailbox (box_number b)) mode n)))
 
 abbrev pub make_box_in : State → Pid → Mode → Mailbox → Option ℕ → Outcome (Result ℕ Cond)
-make_box_in s p mode box None = answered (Err NoSlot) (nothing s)
+make_box_in s p mode box None = refused_value s NoSlot
 make_box_in s p mode box (Some b) = make_box s p mode box b (free_channel_of s p)
 
 abbrev pub create_box : State → Pid → Mode → Mailbox → Outcome (Result ℕ Cond)
 create_box s p mode box =
-    if box.permanent && not (process_at s p).privs.prmmbx then answered (Err NoPriv) (nothing s) else
+    if box.permanent && not (process_at s p).privs.prmmbx then refused_value s NoPriv else
     make_box_in s p mode box (position is_none s.boxes)
 
 -- a mailbox that is there is assigned as it is
@@ -114,7 +114,7 @@ find_or_create s p mode box (Some b) = assign_at s p (device.Mailbox (box_number
 
 abbrev pub crembx : State → Pid → List ℕ → ℕ → ℕ → ℕ → Mode → Outcome (Result ℕ Cond)
 crembx s p name perm maxmsg bufquo mode =
-    if is_bad_box s name maxmsg bufquo then answered (Err BadParam) (nothing s) else
+    if is_bad_box s name maxmsg bufquo then refused_value s BadParam else
     find_or_create s p (outer mode (current s p)) (new_box name perm maxmsg bufquo) (box_named s name)
 
 -- $DELMBX: a permanent mailbox is marked; a temporary one goes by itself

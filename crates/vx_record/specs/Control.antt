@@ -1,5 +1,5 @@
 -- Control of processes: who may control whom, hibernation, suspension, forced exits, creation.
-use Rattle.std.specs.Prelude.{ℕ, ◌+◌, [], ◌∷◌, ◌++◌, Bool, true, false, ◌&&◌, ◌||◌, ◌==◌, not, nat_le, if◌then◌else◌, length, replicate, Some, None, Result, Ok, Err, slice_index_or}
+use Rattle.std.specs.Prelude.{ℕ, ◌+◌, [], ◌∷◌, ◌++◌, Bool, true, false, ◌&&◌, ◌||◌, ◌==◌, not, nat_le, if◌then◌else◌, length, replicate, Some, None, Result, Ok, Err}
 use Rattle.vx_base.specs.Modes.{outer}
 use Rattle.vx_base.specs.Pieces.{all_on, Queued}
 use Rattle.vx_base.specs.declared.cond.Cond.{Cond}
@@ -18,8 +18,8 @@ use Rattle.vx_base.specs.declared.quota.Privs.{Privs}
 use Rattle.vx_base.specs.declared.routine.Entry.TheVariants as entry
 use Rattle.vx_image.specs.Storage.{no_storage}
 use Rattle.vx_image.specs.declared.decl.ProcDecl.{ProcDecl}
-use Rattle.vx_record.specs.State.{Process, State, process_at, change, current, next_id, past_id, pid, no_decl}
-use Rattle.vx_record.specs.Parts.{Part, Outcome, nothing, tells, and_then, answered, at_tested}
+use Rattle.vx_record.specs.State.{Process, State, process_at, change, current, next_id, past_id, pid, decl_in}
+use Rattle.vx_record.specs.Parts.{Part, Outcome, nothing, tells, and_then, answered, at_tested, refused_value}
 use Rattle.vx_record.specs.Flags.{with_wait}
 use Rattle.vx_record.specs.Asts.{open_part, que_part}
 use Rattle.vx_record.specs.declared.served.Served.{Served}
@@ -139,7 +139,7 @@ held_by_both a b = record {
 }
 
 abbrev pub decl_at : State → ℕ → ProcDecl
-decl_at s place = slice_index_or s.system.decls place no_decl
+decl_at s place = decl_in s.system place
 
 -- the number of the process that is made next
 abbrev pub next_pid : State → Pid
@@ -156,5 +156,5 @@ new_part s p place = tells (effect.New (next_pid s) (decl_at s place).name) (rec
 -- $CREPRC of the declaration at a place: the number of the new process
 abbrev pub creprc : State → Pid → ℕ → Outcome (Result ℕ Cond)
 creprc s p place =
-    if nat_le 1000 (length s.procs) then answered (Err NoSlot) (nothing s) else
+    if nat_le 1000 (length s.procs) then refused_value s NoSlot else
     answered (Ok (next_pid s).0) (new_part s p place)

@@ -15,7 +15,7 @@ use Rattle.vx_base.specs.declared.frame.Wait.TheVariants as wait
 use Rattle.vx_base.specs.declared.number.Pid.{Pid}
 use Rattle.vx_image.specs.Storage.{status_at}
 use Rattle.vx_record.specs.State.{Process, State, process_at, change, with_top}
-use Rattle.vx_record.specs.Parts.{Part, Outcome, nothing, tells, answered, refused, commonly}
+use Rattle.vx_record.specs.Parts.{Part, Outcome, nothing, tells, answered, refused, refused_value, commonly}
 use Rattle.vx_record.specs.declared.served.Served.{Served}
 use Rattle.vx_record.specs.declared.served.Served.TheVariants.{Answered, Waits}
 
@@ -92,9 +92,6 @@ abbrev pub clref : State → Pid → ℕ → Outcome Cond
 clref s p efn = at_flag s p efn (refused s) (put_flag_at s false)
 
 -- $READEF: the condition, and the flags of the cluster
-
-abbrev pub refused_value : {A : Type 0} → State → Cond → Outcome (Result A Cond)
-refused_value s c = answered (Err c) (nothing s)
 
 abbrev pub readef_at : State → Cell → Outcome (Result (Cond × ℕ) Cond)
 readef_at s c = answered (Ok (how_it_was (is_set_in s c), flags_of s c)) (nothing s)

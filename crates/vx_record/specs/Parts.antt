@@ -43,6 +43,10 @@ answered a part = record { answer = a; effects = part.effects; after = part.afte
 abbrev pub refused : State → Cond → Outcome Cond
 refused s c = answered c (nothing s)
 
+-- the same, of a call that gives a value
+abbrev pub refused_value : {A : Type 0} → State → Cond → Outcome (Result A Cond)
+refused_value s c = answered (Err c) (nothing s)
+
 -- what is done with what a test found; where it refuses, its refusal alone
 abbrev pub at_tested : {A : Type 0} → State → (A → Outcome Cond) → Result A Cond → Outcome Cond
 at_tested s go (Err c) = refused s c

@@ -111,12 +111,8 @@ canexh s p tag = if is_kernel (current s p) then refused s IvSsRq else cancel_ha
 
 -- $DELPRC: all frames go, no handler is called, and the process is resumed to be run down
 
-abbrev pub leaving_deleted : Phase → Phase
-leaving_deleted phase.Alive = phase.Handlers User
-leaving_deleted other = other
-
 abbrev pub named_for_deletion : Process → Process
-named_for_deletion pr = record pr { frames = []; suspended = false; delete_pending = true; phase = leaving_deleted pr.phase }
+named_for_deletion pr = record pr { frames = []; suspended = false; delete_pending = true; phase = leaving pr.phase User }
 
 abbrev pub deleted_by : State → Pid → Outcome Cond
 deleted_by s q =

@@ -25,7 +25,7 @@ use Rattle.vx_image.specs.WellFormed.{has_its_label}
 use Rattle.vx_image.specs.declared.image.Image.{Image}
 use Rattle.vx_image.specs.declared.system.System.{System}
 use Rattle.vx_record.specs.Parts.{total}
-use Rattle.vx_record.specs.State.{Process, State, IsWithin, nobody, no_decl, no_image}
+use Rattle.vx_record.specs.State.{Process, State, IsWithin, image_in, nobody}
 
 -- What references are to: the system, the processes, the mailboxes, and how many units there are.
 pub record Ground : Type 0 where
@@ -43,13 +43,9 @@ IsMade g p = IsWithin (length g.procs) p
 abbrev pub process_of : Ground → Pid → Process
 process_of g p = slice_index_or g.procs (p.0 - 1) nobody
 
--- the image of the process declaration at a place
-abbrev pub image_for : System → ℕ → Image
-image_for system place = slice_index_or system.images (slice_index_or system.decls place no_decl).image no_image
-
 -- a routine is at a label of that image; the exit of a $FORCEX, and routines of the host, are in no image
 abbrev pub IsRoutine : System → ℕ → Entry → Type 0
-IsRoutine system place (entry.Label k prm) = k < length (image_for system place).labels
+IsRoutine system place (entry.Label k prm) = k < length (image_in system place).labels
 IsRoutine system place (entry.Exit code) = ⊤
 IsRoutine system place (entry.Host prm) = ⊤
 

@@ -116,12 +116,21 @@ process_at s p = slice_index_or s.procs (p.0 - 1) nobody
 abbrev pub change : State → Pid → (Process → Process) → State
 change s p f = record s { procs = slice_set s.procs (p.0 - 1) (f (process_at s p)) }
 
-abbrev pub decl_of : State → Pid → ProcDecl
-decl_of s p = slice_index_or s.system.decls (process_at s p).decl no_decl
+-- the declaration at a place, and its image
 
--- the image that a process runs
+abbrev pub decl_in : System → ℕ → ProcDecl
+decl_in system place = slice_index_or system.decls place no_decl
+
+abbrev pub image_in : System → ℕ → Image
+image_in system place = slice_index_or system.images (decl_in system place).image no_image
+
+-- the declaration of a process, and the image that it runs
+
+abbrev pub decl_of : State → Pid → ProcDecl
+decl_of s p = decl_in s.system (process_at s p).decl
+
 abbrev pub image_of : State → Pid → Image
-image_of s p = slice_index_or s.system.images (decl_of s p).image no_image
+image_of s p = image_in s.system (process_at s p).decl
 
 -- the limits of its quotas
 abbrev pub limits_of : State → Pid → Need

@@ -57,151 +57,80 @@ rank_same User Exec e = absurd (omega (arith, e))
 rank_same User Super e = absurd (omega (arith, e))
 rank_same User User e = refl
 
--- what is known of a handler is of the one that was found
-record IsFound (o : Option Handler) (i : Id) (e : Entry) : Type 0 where
-  pub handler : Handler
-  pub there : o ≡ Some handler
-  pub id : handler.id ≡ i
-  pub tag : handler.tag ≡ e
-
-found_known : (o : Option Handler) (id : Id) (tag : Entry) → Some (id, tag) ≡ option_map known o → IsFound o id tag
-found_known None id tag e = absurd (cc)
-found_known (Some h) id tag e = let same : (id, tag) ≡ known h = cc in record { handler = h; there = refl; id = sym (ap (λ (x : Id × Entry). x.0) same); tag = sym (ap (λ (x : Id × Entry). x.1) same) }
+-- the handler that was found, by what is known of it
+handler_known : (m : Mode) (hs : List Handler) (id : Id) (tag : Entry) → Some (id, tag) ≡ option_map known (find (is_handler_of m) hs) → find (is_handler_of m) hs ≡ Some (record { id = id; mode = m; tag = tag })
+handler_known m hs id tag found = by (find (is_handler_of m) hs) refl found
+  where
+    by : (o : Option Handler) → find (is_handler_of m) hs ≡ o → Some (id, tag) ≡ option_map known o → o ≡ Some (record { id = id; mode = m; tag = tag })
+    by None at e = absurd (cc)
+    by (Some h) at e =
+        let mode : h.mode ≡ m = rank_same h.mode m (eqb-true (rank h.mode) (rank m) (find_passes (is_handler_of m) hs h at)) in
+        let same : (id, tag) ≡ known h = cc in
+        ap (λ (x : Mode). let y : Handler = record h { mode = x } in Some y) mode ∙ ap (λ (x : Id × Entry). let y : Handler = record { id = x.0; mode = m; tag = x.1 } in Some y) (sym same)
 
 none_known : (o : Option Handler) → None ≡ option_map known o → o ≡ None
 none_known None e = refl
 none_known (Some h) e = absurd (cc)
 
--- the handlers of a process in another phase are its handlers
-phase_handlers : (k l : KernelOf) (p : Pid) (m : Mode) → IsProcess k.state p → l ≡ changed k p (in_phase (phase.Handlers m)) → (process_at l.state p).handlers ≡ (process_at k.state p).handlers
-phase_handlers k l p m made there = ap (λ (x : KernelOf). (process_at x.state p).handlers) there ∙ ap (λ (pr : Process). pr.handlers) (process_there k.state p (in_phase (phase.Handlers m)) made)
-
-newest : (k l : KernelOf) (p : Pid) (m : Mode) (id : Id) (tag : Entry) → IsProcess k.state p → l ≡ changed k p (in_phase (phase.Handlers m)) → Some (id, tag) ≡ option_map known (find (is_sought (Of m)) (process_at l.state p).handlers) → IsFound (find (is_handler_of m) (process_at k.state p).handlers) id tag
-newest k l p m id tag made there found = found_known (find (is_handler_of m) (process_at k.state p).handlers) id tag (found ∙ ap (λ (hs : List Handler). option_map known (find (is_handler_of m) hs)) (phase_handlers k l p m made there))
-
--- the frame of a handler, by the process
-abbrev entry_by : System → Entry → Process → ℕ
-entry_by system (entry.Label k prm) pr = place_of (slice_index_or system.images (slice_index_or system.decls pr.decl no_decl).image no_image) k
-entry_by system (entry.Exit code) pr = 0
-entry_by system (entry.Host prm) pr = 0
-
-abbrev frame_by : System → Mode → Entry → Process → Frame
-frame_by system m tag pr = record { kind = kind.Handler; mode = m; pc = entry_by system tag pr; prm = pr.exit_code; saved_r0 = 0; wait = None }
-
-frame_is : (s : State) (p : Pid) (m : Mode) (tag : Entry) → frame_of s p m tag ≡ frame_by s.system m tag (process_at s p)
-frame_is s p m (entry.Label k prm) = refl
-frame_is s p m (entry.Exit code) = refl
-frame_is s p m (entry.Host prm) = refl
-
-frame_less : (system : System) (m : Mode) (tag : Entry) (pr : Process) → frame_by system m tag (without_sought (Of m) pr) ≡ frame_by system m tag pr
-frame_less system m (entry.Label k prm) pr = refl
-frame_less system m (entry.Exit code) pr = refl
-frame_less system m (entry.Host prm) pr = refl
-
-frame_same : (s : State) (p : Pid) (m : Mode) (tag : Entry) → IsProcess s p → frame_of (change s p (without_sought (Of m))) p m tag ≡ frame_of s p m tag
-frame_same s p m tag made =
-    let u = change s p (without_sought (Of m)) in
-    frame_is u p m tag ∙ (ap (frame_by s.system m tag) (process_there s p (without_sought (Of m)) made) ∙ (frame_less s.system m tag (process_at s p) ∙ sym (frame_is s p m tag)))
+-- it is entered in the frame that it had before it was taken out
+frame_same : (s : State) (p : Pid) (h : Handler) → IsProcess s p → handler_frame (change s p (without_sought (Of h.mode))) p h ≡ handler_frame s p h
+frame_same s p h made = rw (process_there s p (without_sought (Of h.mode)) made) refl
 
 -- the state where it was taken out and is entered
-entered_state : (s : State) (p : Pid) (m : Mode) (h : Handler) → IsProcess s p → find (is_handler_of m) (process_at s p).handlers ≡ Some h → IsTrue (handlers_have_own_ids (process_at s p).handlers) → (let u = change s p (without_sought (Of m)) in change u p (with_frame (frame_of u p m h.tag)) ≡ (entered s p h).after)
-entered_state s p m h made found own =
+entered_state : (s : State) (p : Pid) (h : Handler) → IsProcess s p → find (is_handler_of h.mode) (process_at s p).handlers ≡ Some h → IsTrue (handlers_have_own_ids (process_at s p).handlers) → (let u = change s p (without_sought (Of h.mode)) in change u p (with_frame (handler_frame u p h)) ≡ (entered s p h).after)
+entered_state s p h made found own =
     let hs = (process_at s p).handlers in
-    let out = without_sought (Of m) in
-    let u = change s p out in
-    let mode : h.mode ≡ m = rank_same h.mode m (eqb-true (rank h.mode) (rank m) (find_passes (is_handler_of m) hs h found)) in
-    let frame : frame_of u p m h.tag ≡ handler_frame s p h = frame_same s p m h.tag made ∙ ap (λ (x : Mode). let f : Frame = record (new_frame s p kind.Handler x h.tag 0) { prm = (process_at s p).exit_code } in f) (sym mode) in
-    let left : less (is_handler_of m) hs ≡ less (λ (x : Handler). x.id.0 == h.id.0) hs = sym (less_own (λ (x : Handler). x.id) (is_handler_of m) hs h own found) in
-    ap (λ (f : Frame). change u p (with_frame f)) frame
+    let out = without_sought (Of h.mode) in
+    let left : less (is_handler_of h.mode) hs ≡ less (λ (x : Handler). x.id.0 == h.id.0) hs = sym (less_own (λ (x : Handler). x.id) (is_handler_of h.mode) hs h own found) in
+    ap (λ (f : Frame). change (change s p out) p (with_frame f)) (frame_same s p h made)
     ∙ (change_again s p out (with_frame (handler_frame s p h)) made
     ∙ ap (λ (xs : List Handler). change s p (λ pr. record pr { handlers = xs; frames = handler_frame s p h ∷ pr.frames })) left)
 
 -- Where one was taken out.
 
-pub enter_leaving : (k l n : KernelOf) (p : Pid) (m : Mode) (id : Id) (tag : Entry) → IsLeaving k p → l ≡ changed k p (in_phase (phase.Handlers m)) → Some (id, tag) ≡ option_map known (find (is_sought (Of m)) (process_at l.state p).handlers) → n ≡ changed l p (without_sought (Of m)) → IsLeaving n p
-enter_leaving k l n p m id tag h there found out =
-    let here = subst (λ (x : KernelOf). IsLeaving x p) (sym there) (leaving_handling k p m h) in
-    let hs = (process_at l.state p).handlers in
-    let f = found_known (find (is_handler_of m) hs) id tag found in
-    let ends = drop_handler p l.state f.handler in
-    let left = leaving_by true l p ends.effects ends.after (end_handler l.state p (is_handler_of m) f.handler here.made f.there) (handler_follows p l.state f.handler) here in
-    let same : less (this_handler f.handler.id) hs ≡ less (is_handler_of m) hs = less_own (λ (x : Handler). x.id) (is_handler_of m) hs f.handler (own_handlers_at l.state p here.sound here.made) f.there in
-    subst (λ (x : KernelOf). IsLeaving x p) (sym out) (subst (λ (xs : List Handler). IsLeaving (changed l p (λ pr. record pr { handlers = xs })) p) same left)
+pub enter_leaving : (k n : KernelOf) (p : Pid) (m : Mode) (id : Id) (tag : Entry) → IsLeaving k p → Some (id, tag) ≡ option_map known (find (is_sought (Of m)) (process_at k.state p).handlers) → n ≡ changed k p (without_sought (Of m)) → IsLeaving n p
+enter_leaving k n p m id tag h found out =
+    let hs = (process_at k.state p).handlers in
+    let f : Handler = record { id = id; mode = m; tag = tag } in
+    let there = handler_known m hs id tag found in
+    let ends = drop_handler p k.state f in
+    let left = leaving_by true k p ends.effects ends.after (end_handler k.state p (is_handler_of m) f h.made there) (handler_follows p k.state f) h in
+    let same : less (this_handler id) hs ≡ less (is_handler_of m) hs = less_own (λ (x : Handler). x.id) (is_handler_of m) hs f (own_handlers_at k.state p h.sound h.made) there in
+    subst (λ (x : KernelOf). IsLeaving x p) (sym out) (subst (λ (xs : List Handler). IsLeaving (changed k p (λ pr. record pr { handlers = xs })) p) same left)
 
-pub enter_room : (k l n : KernelOf) (p : Pid) (m : Mode) (id : Id) (tag : Entry) → IsLeaving k p → l ≡ changed k p (in_phase (phase.Handlers m)) → Some (id, tag) ≡ option_map known (find (is_sought (Of m)) (process_at l.state p).handlers) → n ≡ changed l p (without_sought (Of m)) → Fits k (passed p m k.state).effects → Fits n (effect.Enter id ∷ [])
-enter_room k l n p m id tag h there found out room =
-    let f = newest k l p m id tag h.made there found in
-    rw (out, there) (omega (arith, room, ap (λ (o : Option Handler). length (passed_by p m o (handling p m k.state)).effects) f.there))
+pub enter_room : (k n : KernelOf) (p : Pid) (m : Mode) (id : Id) (tag : Entry) → Some (id, tag) ≡ option_map known (find (is_sought (Of m)) (process_at k.state p).handlers) → n ≡ changed k p (without_sought (Of m)) → Fits k (passed_on p m k.state).effects → Fits n (effect.Enter id ∷ [])
+enter_room k n p m id tag found out room =
+    rw out (omega (arith, room, ap (λ (o : Option Handler). length (passed_by p m o k.state).effects) (handler_known m (process_at k.state p).handlers id tag found)))
 
-pub enter_done : (k l n q : KernelOf) (p : Pid) (m : Mode) (id : Id) (tag : Entry) (x : Answer) → IsLeaving k p → l ≡ changed k p (in_phase (phase.Handlers m)) → Some (id, tag) ≡ option_map known (find (is_sought (Of m)) (process_at l.state p).handlers) → n ≡ changed l p (without_sought (Of m)) → Does (entered_as n.state p id m tag) x n q → Does (passed p m k.state) (Some x) k q
-enter_done k l n q p m id tag x h there found out did =
-    let f = newest k l p m id tag h.made there found in
-    let t = handling p m k.state in
-    let u = change t p (without_sought (Of m)) in
-    let begun = leaving_handling k p m h in
-    let made : IsProcess t p = begun.made in
-    let at : find (is_handler_of m) (process_at t p).handlers ≡ Some f.handler = ap (λ (pr : Process). find (is_handler_of m) pr.handlers) (process_there k.state p (in_phase (phase.Handlers m)) h.made) ∙ f.there in
-    let whole : passed p m k.state ≡ passed_by p m (Some f.handler) t = ap (λ (o : Option Handler). passed_by p m o t) f.there in
-    let told_as : Id → State → KernelOf = λ i s. told (with_state k s) (effect.Enter i ∷ []) in
-    let here : q ≡ told_as id (change u p (with_frame (frame_of u p m tag))) =
-    did.leaves ∙ (ap (λ (y : KernelOf). acted y (part_of (entered_as y.state p id m tag))) out ∙ ap (λ (y : KernelOf). let z = changed y p (without_sought (Of m)) in acted z (part_of (entered_as z.state p id m tag))) there) in
-    let is : Does (passed_by p m (Some f.handler) t) (Some x) k q = record {
+pub enter_done : (k n q : KernelOf) (p : Pid) (m : Mode) (id : Id) (tag : Entry) (x : Answer) → IsLeaving k p → Some (id, tag) ≡ option_map known (find (is_sought (Of m)) (process_at k.state p).handlers) → n ≡ changed k p (without_sought (Of m)) → Does (entered_as n.state p (record { id = id; mode = m; tag = tag })) x n q → Does (passed_on p m k.state) (Some x) k q
+enter_done k n q p m id tag x h found out did =
+    let f : Handler = record { id = id; mode = m; tag = tag } in
+    let there = handler_known m (process_at k.state p).handlers id tag found in
+    let is : Does (passed_by p m (Some f) k.state) (Some x) k q = record {
       answers = ap (λ (y : Answer). Some y) did.answers;
-      leaves = here ∙ (ap (λ (i : Id). told_as i (change u p (with_frame (frame_of u p m tag)))) (sym f.id) ∙ (ap (λ (y : Entry). told_as f.handler.id (change u p (with_frame (frame_of u p m y)))) (sym f.tag) ∙ ap (told_as f.handler.id) (entered_state t p m f.handler made at (own_handlers_at t p begun.sound made))));
+      leaves = did.leaves ∙ (ap (λ (y : KernelOf). acted y (part_of (entered_as y.state p f))) out ∙ ap (λ (s : State). told (with_state k s) (effect.Enter id ∷ [])) (entered_state k.state p f h.made there (own_handlers_at k.state p h.sound h.made)));
     } in
-    subst (λ (o : Outcome (Option Answer)). Does o (Some x) k q) (sym whole) is
+    subst (λ (o : Option Handler). Does (passed_by p m o k.state) (Some x) k q) (sym there) is
 
 -- Where there is none: the mode is cancelled and drained.
 
-pub none_in : (k l : KernelOf) (p : Pid) (m : Mode) → IsLeaving k p → l ≡ changed k p (in_phase (phase.Handlers m)) → None ≡ option_map known (find (is_sought (Of m)) (process_at l.state p).handlers) → passed p m k.state ≡ followed_by (cancelled_in (handling p m k.state) p m) (drained p m)
-none_in k l p m h there found =
-    let none : find (is_handler_of m) (process_at k.state p).handlers ≡ None = sym (ap (λ (hs : List Handler). find (is_handler_of m) hs) (phase_handlers k l p m h.made there)) ∙ none_known (find (is_handler_of m) (process_at l.state p).handlers) found in
-    ap (λ (o : Option Handler). passed_by p m o (handling p m k.state)) none
+pub none_passed : (s : State) (p : Pid) (m : Mode) → None ≡ option_map known (find (is_sought (Of m)) (process_at s p).handlers) → passed_on p m s ≡ cancelled_and_drained p m s
+none_passed s p m found = ap (λ (o : Option Handler). passed_by p m o s) (none_known (find (is_handler_of m) (process_at s p).handlers) found)
 
-pub pass_begun : (k l n : KernelOf) (p : Pid) (m : Mode) → IsLeaving k p → l ≡ changed k p (in_phase (phase.Handlers m)) → n ≡ l → IsLeaving n p
-pass_begun k l n p m h there kept = subst (λ (x : KernelOf). IsLeaving x p) (sym (kept ∙ there)) (leaving_handling k p m h)
-
-pub cancel_room : (k l n : KernelOf) (p : Pid) (m : Mode) → IsLeaving k p → l ≡ changed k p (in_phase (phase.Handlers m)) → None ≡ option_map known (find (is_sought (Of m)) (process_at l.state p).handlers) → n ≡ l → Fits k (passed p m k.state).effects → Fits n (cancel_modes n.state p m).effects
-cancel_room k l n p m h there found kept room =
-    let t = handling p m k.state in
-    let c = cancel_modes t p m in
-    let here : Fits (changed k p (in_phase (phase.Handlers m))) c.effects =
-    omega (arith, room, ap (λ (o : Outcome (Option Answer)). length o.effects) (none_in k l p m h there found), length-append (cancelled_in t p m).effects (drained p m (cancelled_in t p m).after).effects, length-append c.effects []) in
-    subst (λ (x : KernelOf). Fits x (cancel_modes x.state p m).effects) (sym (kept ∙ there)) here
+pub cancel_room : (k : KernelOf) (p : Pid) (m : Mode) → Fits k (cancelled_and_drained p m k.state).effects → Fits k (cancel_modes k.state p m).effects
+cancel_room k p m room =
+    let c = cancelled_in k.state p m in
+    omega (arith, room, length-append c.effects (drained p m c.after).effects, length-append (cancel_modes k.state p m).effects [])
 
 -- the state where it is drained
-drained_at : (k l n o r : KernelOf) (p : Pid) (m : Mode) → l ≡ changed k p (in_phase (phase.Handlers m)) → n ≡ l → Acts (cancel_modes n.state p m) n o → r ≡ changed o p (in_phase (phase.Draining m)) → r ≡ acted k (cancelled_in (handling p m k.state) p m)
-drained_at k l n o r p m there kept did drains =
-    let t = handling p m k.state in
-    let c = cancel_modes t p m in
+pub drained_at : (k o r : KernelOf) (p : Pid) (m : Mode) → Acts (cancel_modes k.state p m) k o → r ≡ changed o p (in_phase (phase.Draining m)) → r ≡ acted k (cancelled_in k.state p m)
+drained_at k o r p m did drains =
+    let c = cancel_modes k.state p m in
     drains
     ∙ (ap (λ (x : KernelOf). changed x p (in_phase (phase.Draining m))) did
-    ∙ (ap (λ (x : KernelOf). changed (acted x (cancel_modes x.state p m)) p (in_phase (phase.Draining m))) (kept ∙ there)
-    ∙ ap (λ es. told (with_state k (draining p m c.after)) es) (sym (append-nil c.effects))))
+    ∙ ap (λ es. told (with_state k (draining p m c.after)) es) (sym (append-nil c.effects)))
 
-pub drain_leaving : (k l n o r : KernelOf) (p : Pid) (m : Mode) → IsLeaving k p → l ≡ changed k p (in_phase (phase.Handlers m)) → n ≡ l → Acts (cancel_modes n.state p m) n o → r ≡ changed o p (in_phase (phase.Draining m)) → IsLeaving r p
-drain_leaving k l n o r p m h there kept did drains =
-    let t = changed k p (in_phase (phase.Handlers m)) in
-    let part = cancelled_in t.state p m in
-    subst (λ (x : KernelOf). IsLeaving x p) (sym (drained_at k l n o r p m there kept did drains)) (leaving_told (with_state t part.after) p part.effects (cancelled_leaving p m t (leaving_handling k p m h)))
-
-pub drain_phase : (k l n o r : KernelOf) (p : Pid) (m : Mode) → IsLeaving k p → l ≡ changed k p (in_phase (phase.Handlers m)) → n ≡ l → Acts (cancel_modes n.state p m) n o → r ≡ changed o p (in_phase (phase.Draining m)) → (process_at r.state p).phase ≡ phase.Draining m
-drain_phase k l n o r p m h there kept did drains =
-    let t = changed k p (in_phase (phase.Handlers m)) in
-    ap (λ (x : KernelOf). (process_at x.state p).phase) (drained_at k l n o r p m there kept did drains) ∙ cancelled_phase p m t (leaving_handling k p m h)
-
-pub cancel_made : (k l n o : KernelOf) (p : Pid) (m : Mode) → IsLeaving k p → l ≡ changed k p (in_phase (phase.Handlers m)) → n ≡ l → Acts (cancel_modes n.state p m) n o → IsProcess o.state p
-cancel_made k l n o p m h there kept did = (leaving_acted n o p (cancel_modes n.state p m) did (leaving_cancel p m n (pass_begun k l n p m h there kept))).made
-
-drain_on : (k l n o r : KernelOf) (p : Pid) (m : Mode) → IsLeaving k p → l ≡ changed k p (in_phase (phase.Handlers m)) → None ≡ option_map known (find (is_sought (Of m)) (process_at l.state p).handlers) → n ≡ l → Fits k (passed p m k.state).effects → Acts (cancel_modes n.state p m) n o → r ≡ changed o p (in_phase (phase.Draining m)) → IsAnswering (passed p m k.state) k (drained p m r.state) r
-drain_on k l n o r p m h there found kept room did drains =
-    let whole = passed p m k.state in
-    answering_on whole k k r whole (cancelled_in (handling p m k.state) p m) (drained p m) (none_in k l p m h there found) (drained_at k l n o r p m there kept did drains) (answering_begun whole k room)
-
-pub drain_fits : (k l n o r : KernelOf) (p : Pid) (m : Mode) → IsLeaving k p → l ≡ changed k p (in_phase (phase.Handlers m)) → None ≡ option_map known (find (is_sought (Of m)) (process_at l.state p).handlers) → n ≡ l → Fits k (passed p m k.state).effects → Acts (cancel_modes n.state p m) n o → r ≡ changed o p (in_phase (phase.Draining m)) → Fits r (drained p m r.state).effects
-drain_fits k l n o r p m h there found kept room did drains = (drain_on k l n o r p m h there found kept room did drains).doing.room
-
-pub pass_done : (k l n o r q : KernelOf) (p : Pid) (m : Mode) (x : Option Answer) → IsLeaving k p → l ≡ changed k p (in_phase (phase.Handlers m)) → None ≡ option_map known (find (is_sought (Of m)) (process_at l.state p).handlers) → n ≡ l → Fits k (passed p m k.state).effects → Acts (cancel_modes n.state p m) n o → r ≡ changed o p (in_phase (phase.Draining m)) → Does (drained p m r.state) x r q → Does (passed p m k.state) x k q
-pass_done k l n o r q p m x h there found kept room did drains last =
-    let on = drain_on k l n o r p m h there found kept room did drains in
-    record { answers = last.answers ∙ on.answers; leaves = last.leaves ∙ on.doing.leaves }
+pub drain_on : (k o r : KernelOf) (p : Pid) (m : Mode) → Fits k (cancelled_and_drained p m k.state).effects → Acts (cancel_modes k.state p m) k o → r ≡ changed o p (in_phase (phase.Draining m)) → IsAnswering (cancelled_and_drained p m k.state) k (drained p m r.state) r
+drain_on k o r p m room did drains =
+    let whole = cancelled_and_drained p m k.state in
+    answering_on whole k k r whole (cancelled_in k.state p m) (drained p m) refl (drained_at k o r p m did drains) (answering_begun whole k room)

@@ -14,7 +14,7 @@ use Rattle.vx_base.specs.declared.record.Answer.{Answer}
 use Rattle.vx_base.specs.declared.record.Answer.TheVariants as answer
 use Rattle.vx_record.specs.Parts.{Outcome, Part, and_then, answered, followed_by, nothing, part_of}
 use Rattle.vx_record.specs.Rundown.{cancel_modes, cancelled_in, drain, drop_asts, handling, in_phase, inner_modes, is_busy, is_handler_of, is_timer_in, is_wake_by, part_with, release, run_down, run_handlers, rundown, rundown_from}
-use Rattle.vx_record.specs.State.{State, process_at}
+use Rattle.vx_record.specs.State.{IsProcess, Process, State, process_at}
 use Rattle.vx_record.proofs.Freeing.{phase_at}
 use Rattle.vx_record.proofs.Lists.{either_by}
 use Rattle.vx_record.proofs.Steps.{cancelled_in_moves}
@@ -22,6 +22,7 @@ use Rattle.vx_record.specs.Sound.{IsSound}
 use Rattle.vx_record.specs.Timers.{drop_timers}
 use Rattle.vx_procs.specs.Kernel.{Acts, Does, Fits, Kernel as KernelOf, changed, with_state}
 use Rattle.vx_procs.proofs.Rest.{IsAnswering, IsDoing, answering_begun, answering_on, doing_begun, doing_on, doing_room}
+use Rattle.vx_io.proofs.Changed.{process_there}
 use Rattle.vx_rundown.specs.Leaving.{IsDrained, IsLeaving}
 use Rattle.vx_rundown.specs.Steps.{drained, modes_from, next_inner, passed, passed_by, then_by, then_on}
 use Rattle.vx_rundown.proofs.Cancelled.{cancel_all, cancels_follow, leaving_cancels}
@@ -110,13 +111,14 @@ after_part a f next = by (f a.after).answer
     by None = let b = f a.after in ap (λ (es : List Effect). let x : Outcome Answer = record { answer = (next b.after).answer; effects = es; after = (next b.after).after } in x) (sym (append_assoc a.effects b.effects (next b.after).effects))
     by (Some x) = refl
 
-pub mode_is : (s : State) (p : Pid) (m : Mode) (ms : List Mode) → run_down p (m ∷ ms) s ≡ then_on (passed p m s) (run_down p ms)
-mode_is s p m ms = by (find (is_handler_of m) (process_at s p).handlers)
+pub mode_is : (s : State) (p : Pid) (m : Mode) (ms : List Mode) → IsProcess s p → run_down p (m ∷ ms) s ≡ then_on (passed p m s) (run_down p ms)
+mode_is s p m ms made =
+    let t = handling p m s in
+    by (find (is_handler_of m) (process_at s p).handlers) ∙ ap (λ (pr : Process). then_on (passed_by p m (find (is_handler_of m) pr.handlers) t) (run_down p ms)) (sym (process_there s p (in_phase (phase.Handlers m)) made))
   where
     by : (o : Option Handler) → run_handlers (handling p m s) p m (run_down p ms) o ≡ then_on (passed_by p m o (handling p m s)) (run_down p ms)
     by None =
-        let t = handling p m s in
-        let a = cancelled_in t p m in
+        let a = cancelled_in (handling p m s) p m in
         ap (λ (o : Outcome Answer). let x : Outcome Answer = record { answer = o.answer; effects = a.effects ++ o.effects; after = o.after } in x) (drain_is a.after p m (run_down p ms)) ∙ after_part a (drained p m) (run_down p ms)
     by (Some h) = refl
 
@@ -166,7 +168,7 @@ cancelled_phase p m k h = phase_at (cancel_modes k.state p m).after p (phase.Dra
 
 -- no handler of the mode was there
 pub leaving_passed : (p : Pid) (m : Mode) (k l : KernelOf) → Does (passed p m k.state) None k l → IsLeaving k p → IsLeaving l p
-leaving_passed p m k l did h = by (find (is_handler_of m) (process_at k.state p).handlers) did
+leaving_passed p m k l did h = by (find (is_handler_of m) (process_at (handling p m k.state) p).handlers) did
   where
     by : (o : Option Handler) → Does (passed_by p m o (handling p m k.state)) None k l → IsLeaving l p
     by None did =
@@ -192,16 +194,16 @@ inner_next Super = refl
 inner_next User = refl
 
 pub pass_room : (p : Pid) (m : Mode) (whole : Outcome Answer) (first k : KernelOf) → IsRunning p whole first (modes_from (Some m)) k → Fits k (passed p m k.state).effects
-pass_room p m whole first k h = omega (arith, h.rest.doing.room, ap (λ (o : Outcome Answer). length o.effects) (mode_is k.state p m (inner_modes m)), then_few (passed p m k.state) (run_down p (inner_modes m)))
+pass_room p m whole first k h = omega (arith, h.rest.doing.room, ap (λ (o : Outcome Answer). length o.effects) (mode_is k.state p m (inner_modes m) h.leaving.made), then_few (passed p m k.state) (run_down p (inner_modes m)))
 
 pub pass_ends : (p : Pid) (m : Mode) (x : Answer) (whole : Outcome Answer) (first k l : KernelOf) → IsRunning p whole first (modes_from (Some m)) k → Does (passed p m k.state) (Some x) k l → Does whole x first l
 pass_ends p m x whole first k l h did =
-    let here : Does (run_down p (m ∷ inner_modes m) k.state) x k l = subst (λ (o : Outcome Answer). Does o x k l) (sym (mode_is k.state p m (inner_modes m))) (then_ends (passed p m k.state) (run_down p (inner_modes m)) x k l did) in
+    let here : Does (run_down p (m ∷ inner_modes m) k.state) x k l = subst (λ (o : Outcome Answer). Does o x k l) (sym (mode_is k.state p m (inner_modes m) h.leaving.made)) (then_ends (passed p m k.state) (run_down p (inner_modes m)) x k l did) in
     record { answers = here.answers ∙ h.rest.answers; leaves = here.leaves ∙ h.rest.doing.leaves }
 
 pub pass_more : (p : Pid) (m : Mode) (n : Option Mode) (whole : Outcome Answer) (first k l : KernelOf) → IsRunning p whole first (modes_from (Some m)) k → Does (passed p m k.state) None k l → n ≡ next_inner m → IsRunning p whole first (modes_from n) l
 pass_more p m n whole first k l h did next =
-    let splits = mode_is k.state p m (inner_modes m) ∙ then_goes (passed p m k.state) (run_down p (inner_modes m)) k l did in
+    let splits = mode_is k.state p m (inner_modes m) h.leaving.made ∙ then_goes (passed p m k.state) (run_down p (inner_modes m)) k l did in
     let on = answering_on whole first k l (run_down p (m ∷ inner_modes m) k.state) (part_of (passed p m k.state)) (run_down p (inner_modes m)) splits did.leaves h.rest in
     let is : modes_from n ≡ inner_modes m = ap modes_from next ∙ inner_next m in
     record {

@@ -3,18 +3,14 @@ use Rattle.std.specs.Prelude.{List, [], ◌∷◌, Option, Some, None, if◌then
 use Rattle.std.specs.List.{find}
 use Rattle.vx_base.specs.Pieces.{Handler}
 use Rattle.vx_base.specs.declared.effects.Effect.TheVariants as effect
-use Rattle.vx_base.specs.declared.frame.Frame.{Frame}
-use Rattle.vx_base.specs.declared.frame.FrameKind.TheVariants as kind
 use Rattle.vx_base.specs.declared.mode.Mode.{Mode}
 use Rattle.vx_base.specs.declared.mode.Mode.TheVariants.{Kernel, Exec, Super, User}
-use Rattle.vx_base.specs.declared.number.Id.{Id}
 use Rattle.vx_base.specs.declared.number.Pid.{Pid}
 use Rattle.vx_base.specs.declared.record.Answer.{Answer}
 use Rattle.vx_base.specs.declared.record.Answer.TheVariants as answer
-use Rattle.vx_base.specs.declared.routine.Entry.{Entry}
-use Rattle.vx_record.specs.Asts.{new_frame, with_frame}
+use Rattle.vx_record.specs.Asts.{with_frame}
 use Rattle.vx_record.specs.Parts.{Outcome, Part, answered, followed_by, nothing, part_of, tells}
-use Rattle.vx_record.specs.Rundown.{cancelled_in, entered, handling, inner_modes, is_busy, is_handler_of, release}
+use Rattle.vx_record.specs.Rundown.{cancelled_in, entered, handler_frame, handling, inner_modes, is_busy, is_handler_of, release}
 use Rattle.vx_record.specs.State.{State, change, process_at}
 
 -- the mode next to a mode, further in
@@ -29,25 +25,29 @@ abbrev pub modes_from : Option Mode → List Mode
 modes_from None = []
 modes_from (Some m) = m ∷ inner_modes m
 
--- the frame of a handler of this mode and tag, with the exit code as its parameter
-abbrev pub frame_of : State → Pid → Mode → Entry → Frame
-frame_of s p m tag = record (new_frame s p kind.Handler m tag 0) { prm = (process_at s p).exit_code }
-
 -- a handler that was taken out is entered
-abbrev pub entered_as : State → Pid → Id → Mode → Entry → Outcome Answer
-entered_as s p id m tag = answered answer.Handler (tells (effect.Enter id) (change s p (with_frame (frame_of s p m tag))))
+abbrev pub entered_as : State → Pid → Handler → Outcome Answer
+entered_as s p h = answered answer.Handler (tells (effect.Enter h.id) (change s p (with_frame (handler_frame s p h))))
 
 -- a mode that is drained: a request that is outstanding answers
 abbrev pub drained : Pid → Mode → State → Outcome (Option Answer)
 drained p m s = if is_busy s p m then answered (Some answer.Busy) (nothing s) else answered None (release s p m)
 
--- the newest handler of the mode answers; where there is none, the mode is cancelled and drained
+-- what was opened in a mode is cancelled, and it is drained
+abbrev pub cancelled_and_drained : Pid → Mode → State → Outcome (Option Answer)
+cancelled_and_drained p m s = followed_by (cancelled_in s p m) (drained p m)
+
+-- the newest handler of the mode is entered; where there is none, the mode is cancelled and drained
 abbrev pub passed_by : Pid → Mode → Option Handler → State → Outcome (Option Answer)
-passed_by p m None s = followed_by (cancelled_in s p m) (drained p m)
+passed_by p m None s = cancelled_and_drained p m s
 passed_by p m (Some h) s = answered (Some (entered s p h).answer) (part_of (entered s p h))
 
+abbrev pub passed_on : Pid → Mode → State → Outcome (Option Answer)
+passed_on p m s = passed_by p m (find (is_handler_of m) (process_at s p).handlers) s
+
+-- rundown comes to a mode
 abbrev pub passed : Pid → Mode → State → Outcome (Option Answer)
-passed p m s = passed_by p m (find (is_handler_of m) (process_at s p).handlers) (handling p m s)
+passed p m s = passed_on p m (handling p m s)
 
 -- where it answers, that is the answer; else the next follows
 abbrev pub then_by : Option Answer → Part → (State → Outcome Answer) → Outcome Answer

@@ -8,7 +8,7 @@ ghost use Rattle.vx_record.specs.Rundown.{cancel_modes, cancel_one, drop_asts, f
 ghost use Rattle.vx_record.specs.State.{process_at};
 ghost use Rattle.vx_procs.specs.Kernel.{Acts, Does, Fits};
 ghost use Rattle.vx_rundown.specs.Leaving.{IsDrained, IsLeaving};
-ghost use Rattle.vx_rundown.specs.Steps.{drained, entered_as, passed};
+ghost use Rattle.vx_rundown.specs.Steps.{cancelled_and_drained, drained, entered_as, passed, passed_on};
 
 use vx_base::{Answer, Effect, Entry, Frame, FrameKind, Id, Mode, Phase, Pid, Routine};
 use vx_io::{cancel_channel, free_channel};
@@ -80,8 +80,8 @@ fn release<R: Routine>(core: &mut Core<R>, p: Pid, mode: Mode)
 // A handler that was taken out is entered, with the exit code as its parameter.
 fn enter<R: Routine>(core: &mut Core<R>, p: Pid, id: Id, mode: Mode, entry: Entry) -> Answer
     requires leaving { IsLeaving core.old p }
-    requires room { Fits core.old (entered_as core.old.state p id mode entry).effects }
-    ensures { Does (entered_as core.old.state p id mode entry) result core.old core.new }
+    requires room { Fits core.old (entered_as core.old.state p (record { id = id; mode = mode; tag = entry })).effects }
+    ensures { Does (entered_as core.old.state p (record { id = id; mode = mode; tag = entry })) result core.old core.new }
 {
     let frame = core.new_frame(p, FrameKind::Handler, mode, entry, 0);
     let prm = core.exit_code(p);
@@ -104,6 +104,29 @@ pub(crate) fn drain<R: Routine>(core: &mut Core<R>, p: Pid, mode: Mode) -> Optio
     None
 }
 
+// What was opened in a mode is cancelled, and the mode is drained.
+fn cancel_and_drain<R: Routine>(core: &mut Core<R>, p: Pid, mode: Mode) -> Option<Answer>
+    requires leaving { IsLeaving core.old p }
+    requires room { Fits core.old (cancelled_and_drained p mode core.old.state).effects }
+    ensures { Does (cancelled_and_drained p mode core.old.state) result core.old core.new }
+{
+    cancel_modes(core, p, mode);
+    core.set_phase(p, Phase::Draining(mode));
+    drain(core, p, mode)
+}
+
+// The newest handler of a mode is entered, which is the answer; where there is none, the mode is cancelled and drained.
+fn pass_on<R: Routine>(core: &mut Core<R>, p: Pid, mode: Mode) -> Option<Answer>
+    requires leaving { IsLeaving core.old p }
+    requires room { Fits core.old (passed_on p mode core.old.state).effects }
+    ensures { Does (passed_on p mode core.old.state) result core.old core.new }
+{
+    match core.take_handler(p, Sought::Of(mode)) {
+        Some((id, routine)) => Some(enter(core, p, id, mode, routine.enter())),
+        None => cancel_and_drain(core, p, mode),
+    }
+}
+
 /// Rundown comes to a mode: its newest handler is entered, which is the answer; where there is none, the mode is cancelled and drained.
 pub(crate) fn pass<R: Routine>(core: &mut Core<R>, p: Pid, mode: Mode) -> Option<Answer>
     requires leaving { IsLeaving core.old p }
@@ -111,10 +134,5 @@ pub(crate) fn pass<R: Routine>(core: &mut Core<R>, p: Pid, mode: Mode) -> Option
     ensures { Does (passed p mode core.old.state) result core.old core.new }
 {
     core.set_phase(p, Phase::Handlers(mode));
-    if let Some((id, routine)) = core.take_handler(p, Sought::Of(mode)) {
-        return Some(enter(core, p, id, mode, routine.enter()));
-    }
-    cancel_modes(core, p, mode);
-    core.set_phase(p, Phase::Draining(mode));
-    drain(core, p, mode)
+    pass_on(core, p, mode)
 }

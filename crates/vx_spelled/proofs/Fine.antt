@@ -46,9 +46,9 @@ use Rattle.vx_record.specs.Charges.{ast_need, exceeds, is_attention, is_direct, 
 use Rattle.vx_record.specs.Channels.{box_gone, box_named, device_named, free_channel_of, goes_unused, is_assigned, is_bad_box, marked_box, with_channel, assign, assign_at, assign_to, create_box, crembx, delete_box, delmbx, delmbx_at, delmbx_on, find_or_create, free_channel, make_box, make_box_in, swept_box, swept_device, new_box, box_number, channel_test}
 use Rattle.vx_record.specs.Control.{new_part, next_pid, at_process, changed_process, creprc, forced, forcex, hiber, process_test, resume, suspnd, wake, with_suspension, with_wake}
 use Rattle.vx_record.specs.Finish.{ending, is_read, put_status, this_request, with_stored_bytes, Ending, buf_part, done_ast_part, done_flag_part, fin_part, finish, finish_found, iosb_part, status_of}
-use Rattle.vx_record.specs.Flags.{ascefc, at_flag, at_named, awaited, awaited_at, cell, common_cell, dacefc, dlcefc, flag_part, flag_where_named, is_common, put_flag_at, readef, readef_at, refused_value, refused_wait, waits_on, wait_condition, wants_prmceb}
+use Rattle.vx_record.specs.Flags.{ascefc, at_flag, at_named, awaited, awaited_at, cell, common_cell, dacefc, dlcefc, flag_part, flag_where_named, is_common, put_flag_at, readef, readef_at, refused_wait, waits_on, wait_condition, wants_prmceb}
 use Rattle.vx_record.specs.Mailboxes.{is_answered_now, is_waiting_func, mcut_part, mget_part, mput_part, read_ending, this_message, write_ending, attend, call_attention, fire_attention, hand_over, mailbox_at, read_box, received, store_message, take_message, wait_for_message, waits_at, write_box, write_done, is_attention_at, message_of}
-use Rattle.vx_record.specs.Parts.{Outcome, Part, and_then, answered, at_tested, each, followed_by, nothing, part_if, refused, tells}
+use Rattle.vx_record.specs.Parts.{Outcome, Part, and_then, answered, at_tested, each, followed_by, nothing, part_if, refused, refused_value, tells}
 use Rattle.vx_record.specs.Requests.{attention_opened, done_at_once, has_function, is_full, is_too_long, new_attention, new_request, unit_ending, with_request, with_unit, Asked, accepted, asked_of, attention_on, attention_set, begun_on, cleared_part, done, opened_request, qio, qio_tested, qiow, qiow_tested, request_test, synch, transfer, device_test, on_cell, on_channel, is_bad}
 use Rattle.vx_record.specs.Rundown.{draining, gone_part, handler_declared, is_ast_reached, is_busy, is_handler_with, is_timer_in, is_wake_by, named_for_deletion, without_frames, any_handler, cancel_found, cancel_handlers, cancel_modes, cancel_one, cancelled_in, canexh, dclexh, deleted_by, delprc, drain, drop_all_handlers, drop_ast, drop_asts, drop_handler, drop_handlers, exited, free_one, gone, handling, leave_all, leave_frame, leave_kind, part_with, release, run_down, run_handlers, rundown, rundown_from, inner_modes, is_handler_of}
 use Rattle.vx_record.specs.State.{Process, State, change, current, past_id, process_at, unit_at}

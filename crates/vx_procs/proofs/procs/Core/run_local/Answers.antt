@@ -1,10 +1,10 @@
 use Rattle.std.proofs.Common.{◌≡◌, ap, ◌∙◌}
 use Rattle.vx_image.specs.declared.image.Image.{Image}
 use Rattle.vx_image.specs.declared.system.System.{System}
-use Rattle.vx_record.specs.State.{Process, image_of}
+use Rattle.vx_record.specs.State.{Process, image_in, image_of}
 use Rattle.vx_procs.specs.Kernel.{Kernel}
 use Rattle.vx_procs.specs.View.{process, state}
-use Rattle.vx_procs.specs.Words.{advanced_at, advanced_of, image_in, moved_as}
+use Rattle.vx_procs.specs.Words.{advanced_at, advanced_of, moved_as}
 use Rattle.vx_procs.proofs.Changed.{changed_as, held_as, made_in, seen}
 use Rattle.vx_procs.proofs.Quiet.{moved_quiet}
 use Rattle.vx_procs.proofs.procs.Core.run_local.Goals as goal
