@@ -71,7 +71,7 @@ use Rattle.vx_base.specs.Modes.{inner}
 use Rattle.vx_base.specs.declared.cond.Cond.TheVariants.{BadParam}
 use Rattle.vx_base.specs.declared.frame.FrameKind.{FrameKind}
 use Rattle.vx_base.specs.declared.frame.Wait.TheVariants as wait
-use Rattle.vx_base.specs.declared.mode.Mode.TheVariants.{Exec, Kernel}
+use Rattle.vx_base.specs.declared.mode.Mode.TheVariants.{Exec, Kernel, User}
 use Rattle.vx_base.specs.declared.number.UnitNo.{UnitNo}
 use Rattle.vx_base.specs.declared.routine.Entry.TheVariants as entry
 use Rattle.vx_base.specs.declared.call.Call.{Call}
