@@ -13,7 +13,7 @@ ghost use Rattle.vx_timers.specs.Seen.{alarm_of};
 ghost use Rattle.vx_record.specs.Events.{put_back, resumed_with, uses_wake};
 ghost use Rattle.vx_record.specs.Flags.{with_local_flag};
 ghost use Rattle.vx_record.specs.State.{top_mode};
-ghost use Rattle.vx_record.specs.Rundown.{is_ast_reached, leaving, leaving_deleted, named_for_deletion, without_frames};
+ghost use Rattle.vx_record.specs.Rundown.{is_ast_reached, leaving, named_for_deletion, without_frames};
 ghost use Rattle.vx_procs.specs.View.{books_of, process, room_of};
 ghost use Rattle.vx_procs.specs.Kernel.{IsWithinRoom};
 ghost use Rattle.vx_procs.specs.Counts.{CountsAsts, freed};
@@ -115,12 +115,12 @@ impl<R: Routine> Proc<R> {
         }
     }
 
-    /// Its phase after an exit: an alive process goes on to the exit handlers of its mode.
-    pub(crate) fn phase_after_exit(&self) -> Phase
-        ensures { result ≡ leaving (process self.now).phase (top_mode (process self.now).frames) }
+    /// Its phase when its frames go: an alive process goes on to the exit handlers of a mode.
+    fn phase_left(&self, mode: Mode) -> Phase
+        ensures { result ≡ leaving (process self.now).phase mode }
     {
         match self.phase {
-            Phase::Alive => Phase::Handlers(self.mode()),
+            Phase::Alive => Phase::Handlers(mode),
             phase => phase,
         }
     }
@@ -188,29 +188,19 @@ impl<R: Routine> Proc<R> {
         ensures after { process self.new ≡ without_frames code (process self.old) }
         ensures books { books_of self.new ≡ books_of self.old }
     {
-        self.phase = self.phase_after_exit();
+        self.phase = self.phase_left(self.mode());
         self.exit_code = code;
         leave_all(&mut self.frames, log);
     }
 
-    /// Its phase after a deletion: an alive process is run down from user mode on.
-    fn phase_after_deletion(&self) -> Phase
-        ensures { result ≡ leaving_deleted (process self.now).phase }
-    {
-        match self.phase {
-            Phase::Alive => Phase::Handlers(Mode::User),
-            phase => phase,
-        }
-    }
-
-    /// All its frames go, it is resumed, and it is named for deletion.
+    /// All its frames go, it is resumed, and it is named for deletion: if it is alive, it is run down from user mode on.
     pub(crate) fn delete(&mut self, log: &mut Effects)
         requires { HasRoom log.old (length (left (process self.old).frames)) }
         ensures log { log.new ≡ logged log.old (left (process self.old).frames) }
         ensures after { process self.new ≡ named_for_deletion (process self.old) }
         ensures books { books_of self.new ≡ books_of self.old }
     {
-        self.phase = self.phase_after_deletion();
+        self.phase = self.phase_left(Mode::User);
         self.suspended = false;
         self.delete_pending = true;
         leave_all(&mut self.frames, log);
