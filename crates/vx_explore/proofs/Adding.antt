@@ -1,47 +1,78 @@
 -- How a level is made from the one before.
-use Rattle.std.proofs.Common.{Contains, inl, inr, ◌≤◌, ◌≡◌, ℕ, zero, suc, ◌+◌, ◌<◌, List, [], ◌∷◌, ◌++◌, length, map, Option, sym, ap, ◌∙◌, subst, arith, add-one, append_assoc, append-nil, inl, inr}
-use Rattle.std.specs.Prelude.{All}
+use Rattle.std.proofs.Common.{Bool, Contains, inl, inr, ◌≤◌, ◌≡◌, ℕ, zero, suc, ◌+◌, ◌<◌, List, [], ◌∷◌, ◌++◌, get_or, length, map, sym, ap, ◌∙◌, subst, arith, add-one, append_assoc, append-nil}
+use Rattle.std.specs.Prelude.{All, IsTrue, ◌⊎◌, false}
 use Rattle.std.specs.List.{range_with_len}
 use Rattle.std.proofs.lemmas.List.{map-append, nil_from_length}
-use Rattle.std.proofs.lemmas.List.Elements.{All-contains, Contains-push_cases}
+use Rattle.std.proofs.lemmas.List.Elements.{All-contains, Contains-append_left, Contains-get_or, Contains-push, Contains-push_cases}
 use Rattle.std.proofs.lemmas.List.Concat.{flat_map-append}
 use Rattle.std.proofs.lemmas.Bool.{cases_eq}
 use Rattle.vx_explore.specs.declared.found.Found.{Found}
 use Rattle.vx_explore.specs.Alike.{Like, one_after, open_to, all_after}
-use Rattle.vx_explore.specs.Index.{IsLevel, StartAs, whats}
+use Rattle.vx_explore.specs.Index.{AreMore, AreNext, IsNext, Spreads, StartAs, whats}
 use Rattle.vx_explore.specs.Runs.{Leads}
-use Rattle.vx_explore.proofs.Indexed.{Contains-middle, StartAs-other, whats-push}
+use Rattle.vx_explore.proofs.Indexed.{StartAs-other, whats-push}
 use Rattle.vx_explore.proofs.Finding.{Like-refl, Like-trans, Like-append}
+
+pub All-from : {X : Type 0} (P : X → Type 0) (xs : List X) → ((x : X) → Contains xs x → P x) → All P xs
+All-from P xs all i d within = all (get_or xs i d) (Contains-get_or xs i d within)
+
+-- One state more.
+
+pub AreMore-same : {S : Type 0} (ss : List S) (s : S) → Contains ss s → AreMore ss s ss
+AreMore-same ss s there = record { kept = λ t h. h; there = there; only = λ t h. inl h }
+
+pub AreMore-push : {S : Type 0} (xs : List (Found S)) (x : Found S) → AreMore (whats xs) x.what (whats (xs ++ x ∷ []))
+AreMore-push xs x = rw (whats-push xs x) (record {
+  kept = λ t h. Contains-append_left (whats xs) (x.what ∷ []) t h;
+  there = Contains-push (whats xs) x.what;
+  only = λ t h. Contains-push_cases (whats xs) x.what t h;
+})
+
+-- what holds of the old ones and of this one holds of all
+pub All-more : {S : Type 0} {old : List S} {s : S} {new : List S} (P : S → Type 0) → AreMore old s new → All P old → P s → All P new
+All-more {S} {old} {s} {new} P a all here = All-from P new (λ t h. elim (a.only t h) [
+  | inl before ↦ All-contains P old t all before
+  | inr is_it ↦ subst P is_it here
+])
 
 range_with_len-more : (a n : ℕ) → range_with_len a (suc n) ≡ range_with_len a n ++ (a + n) ∷ []
 range_with_len-more a zero = ap (λ k. k ∷ []) (omega arith)
 range_with_len-more a (suc n) =
     ap (λ ks. a ∷ ks) (range_with_len-more (a + 1) n ∙ ap (λ k. range_with_len (a + 1) n ++ k ∷ []) (omega arith))
 
-module _ {S : Type 0} (enabled : S → ℕ) (after : S → ℕ → S) (digest_of : S → ℕ) (origin : S → S) (m most : ℕ) where
-  -- the successors of one state by its first n picks were added
-  pub record Adding (old : List (Found S)) (there : Found S) (new : List (Found S)) (older : List (Option ℕ)) (latest : ℕ → Option ℕ) (n : ℕ) : Type 0 where
-    pub like : Like m new (old ++ map (one_after enabled after there) (range_with_len 0 n))
-    pub led : (k : ℕ) (s : S) → Leads enabled after k s there.what → All (Leads enabled after (suc k) s) (whats old) → All (Leads enabled after (suc k) s) (whats new)
-    pub few : length old ≤ most → length new ≤ most
-    pub kept : (t : S) → Contains (whats old) t → Contains (whats new) t
-    pub all : (i : ℕ) → i < n → Contains (whats new) (after there.what i)
-    pub alike : StartAs origin there.what (whats new)
-    pub level : IsLevel digest_of new older latest
+module _ {S : Type 0} (enabled : S → ℕ) (after : S → ℕ → S) (origin : S → S) where
+  -- where k steps lead to all of a level, one more leads to all of the next
+  pub led_next : {now next : List S} → AreNext enabled after origin now next → (k : ℕ) (s : S) → All (Leads enabled after k s) now → All (Leads enabled after (suc k) s) next
+  led_next {now} {next} a k s all = All-from (Leads enabled after (suc k) s) next (λ t h.
+      let (u, here, next) = a.only t h in
+      (u, next.0, All-contains (Leads enabled after k s) now u all here, next.1, next.2))
 
-  pub Adding-more : (old : List (Found S)) (there : Found S) (mid new : List (Found S)) (older older' : List (Option ℕ)) (latest latest' : ℕ → Option ℕ) (n : ℕ) (what : S)
-      → Adding old there mid older latest n
+module _ {S : Type 0} (enabled : S → ℕ) (after : S → ℕ → S) (origin : S → S) (m : ℕ) where
+  -- the successors of one state by its first n picks were added
+  pub record Adding (old : List (Found S)) (there : Found S) (new : List (Found S)) (n : ℕ) : Type 0 where
+    pub like : Like m new (old ++ map (one_after enabled after there) (range_with_len 0 n))
+    pub kept : (t : S) → Contains (whats old) t → Contains (whats new) t
+    pub added : (i : ℕ) → i < n → Contains (whats new) (after there.what i)
+    pub only : (t : S) → Contains (whats new) t → Contains (whats old) t ⊎ IsNext enabled after there.what t
+    pub alike : StartAs origin there.what (whats new)
+
+  pub Adding-none : (old : List (Found S)) (there : Found S) → StartAs origin there.what (whats old) → Adding old there old 0
+  Adding-none old there alike = record {
+    like = rw (append-nil old) (Like-refl old);
+    kept = λ t h. h;
+    added = λ i h. absurd (omega arith);
+    only = λ t h. inl h;
+    alike = alike;
+  }
+
+  pub Adding-more : (old : List (Found S)) (there : Found S) (mid new : List (Found S)) (n : ℕ) (what : S) → Adding old there mid n
       → n < enabled there.what
       → what ≡ after there.what n
+      → origin what ≡ origin there.what
       → Like m new (mid ++ record { what = what; ways = there.ways; picks = there.picks ++ n ∷ [] } ∷ [])
-      → ((k : ℕ) (s : S) → All (Leads enabled after k s) (whats mid) → Leads enabled after k s what → All (Leads enabled after k s) (whats new))
-      → length new ≤ most
-      → ((t : S) → Contains (whats mid) t → Contains (whats new) t)
-      → Contains (whats new) what
-      → StartAs origin there.what (whats new)
-      → IsLevel digest_of new older' latest'
-      → Adding old there new older' latest' (n + 1)
-  Adding-more old there mid new older older' latest latest' n what a within is_next like led few kept here alike level = record {
+      → AreMore (whats mid) what (whats new)
+      → Adding old there new (n + 1)
+  Adding-more old there mid new n what a within is_next same like more = record {
     like =
         let one : Found S = one_after enabled after there n in
         let added : Like m new (mid ++ one ∷ []) = subst (λ w. Like m new (mid ++ record { what = w; ways = there.ways; picks = there.picks ++ n ∷ [] } ∷ [])) is_next like in
@@ -51,90 +82,126 @@ module _ {S : Type 0} (enabled : S → ℕ) (after : S → ℕ → S) (digest_of
         ∙ ap (λ xs. old ++ xs) (sym (map-append (one_after enabled after there) (range_with_len 0 n) (n ∷ [])))
         ∙ ap (λ ks. old ++ map (one_after enabled after there) ks) (sym (ap (range_with_len 0) (add-one n) ∙ range_with_len-more 0 n ∙ ap (λ k. range_with_len 0 n ++ k ∷ []) (omega arith))) in
         subst (Like m new) regrouped (Like-trans added joined);
-    led = λ k s here all. led (suc k) s (a.led k s here all) (there.what, n, here, within, sym is_next);
-    few = λ h. few;
-    kept = λ t h. kept t (a.kept t h);
-    all = all;
-    alike = alike;
-    level = level;
+    kept = λ t h. more.kept t (a.kept t h);
+    added = added;
+    only = only;
+    alike = All-more (λ t. origin t ≡ origin there.what) more a.alike same;
   }
     where
-      all : (i : ℕ) → i < n + 1 → Contains (whats new) (after there.what i)
-      all i h =
+      added : (i : ℕ) → i < n + 1 → Contains (whats new) (after there.what i)
+      added i h =
           elim (cases_eq i n) [
-            | inl at_end ↦ subst (Contains (whats new)) (is_next ∙ ap (after there.what) (sym at_end)) here
-            | inr other ↦ kept (after there.what i) (a.all i (omega arith))
+            | inl at_end ↦ subst (Contains (whats new)) (is_next ∙ ap (after there.what) (sym at_end)) more.there
+            | inr other ↦ more.kept (after there.what i) (a.added i (omega arith))
           ]
 
-  -- the successors of the states that are done were added, and the rest is left
-  pub record Rising (reached done rest new : List (Found S)) (older : List (Option ℕ)) (latest : ℕ → Option ℕ) : Type 0 where
-    pub parts : reached ≡ done ++ rest
-    pub like : Like m new (all_after enabled after done)
-    pub led : (k : ℕ) (s : S) → All (Leads enabled after k s) (whats reached) → All (Leads enabled after (suc k) s) (whats new)
-    pub few : length new ≤ most
-    pub all : (u : S) (i : ℕ) → Contains (whats done) u → i < enabled u → Contains (whats new) (after u i)
-    pub alike : (o : S) → StartAs origin o (whats reached) → StartAs origin o (whats new)
-    pub level : IsLevel digest_of new older latest
+      only : (t : S) → Contains (whats new) t → Contains (whats old) t ⊎ IsNext enabled after there.what t
+      only t h =
+          elim (more.only t h) [
+            | inl before ↦ a.only t before
+            | inr is_it ↦ inr (n, within, sym is_next ∙ is_it)
+          ]
 
-  -- none were added yet
-  pub none_risen : (reached rest new : List (Found S)) (older : List (Option ℕ)) (latest : ℕ → Option ℕ) → rest ≡ reached → new ≡ [] → IsLevel digest_of new older latest → Rising reached [] rest new older latest
-  none_risen reached rest new older latest all none level = record {
-    parts = sym all;
-    like = subst (λ xs. Like m xs []) (sym none) (Like-refl []);
-    led = λ k s h. rw none (λ i d within. absurd (omega arith));
-    few = rw none (omega arith);
-    all = λ u i h. absurd (omega (arith, h.1));
-    alike = λ o h. rw none (λ i d within. absurd (omega arith));
-    level = level;
+  pub Spreads-some : (old : List (Found S)) (there : Found S) (new : List (Found S)) (n : ℕ) → Adding old there new n
+      → Spreads enabled after origin there.what false (whats old) (whats new)
+  Spreads-some old there new n a = record {
+    kept = a.kept;
+    there = λ never i h. absurd (cc);
+    only = a.only;
+    alike = a.alike;
   }
 
-  module _ (reached done left rest mid : List (Found S)) (older : List (Option ℕ)) (latest : ℕ → Option ℕ) (there : Found S) (is_left : left ≡ there ∷ rest) (a : Rising reached done left mid older latest) where
-    parts : reached ≡ done ++ there ∷ rest
-    parts = a.parts ∙ ap (λ xs. done ++ xs) is_left
+  -- the successors of the states that are done were added, and the rest is left
+  pub record Rising (reached done rest new : List (Found S)) : Type 0 where
+    pub parts : reached ≡ done ++ rest
+    pub like : Like m new (all_after enabled after done)
+    pub states : AreNext enabled after origin (whats done) (whats new)
 
-    -- what holds of each state that was reached holds of the next
-    pub at_next : (P : S → Type 0) → All P (whats reached) → P there.what
-    at_next P all = All-contains P (whats reached) there.what all (Contains-middle reached done rest there parts)
+  -- none were added yet
+  pub none_risen : (reached rest : List (Found S)) → rest ≡ reached → Rising reached [] rest []
+  none_risen reached rest all = record {
+    parts = sym all;
+    like = Like-refl [];
+    states = record {
+      there = λ s i h. absurd (omega (arith, h.1));
+      only = λ t h. absurd (omega (arith, h.1));
+      alike = λ o h i d within. absurd (omega arith);
+    };
+  }
 
-    -- and those that were added start as it does
-    pub alike_next : (o : S) → StartAs origin o (whats reached) → StartAs origin there.what (whats mid)
-    alike_next o all = StartAs-other origin o there.what (whats mid) (sym (at_next (λ t. origin t ≡ origin o) all)) (a.alike o all)
+  module _ (reached done left rest mid : List (Found S)) (there : Found S) (is_left : left ≡ there ∷ rest) (a : Rising reached done left mid) where
+    parts : reached ≡ (done ++ there ∷ []) ++ rest
+    parts = a.parts ∙ ap (λ xs. done ++ xs) is_left ∙ sym (append_assoc done (there ∷ []) rest)
 
-    pub Rising-more : (new : List (Found S)) (older' : List (Option ℕ)) (latest' : ℕ → Option ℕ)
-        → Like m new (mid ++ map (one_after enabled after there) (open_to enabled after there.what))
-        → ((k : ℕ) (s : S) → Leads enabled after k s there.what → All (Leads enabled after (suc k) s) (whats mid) → All (Leads enabled after (suc k) s) (whats new))
-        → (length mid ≤ most → length new ≤ most)
-        → ((t : S) → Contains (whats mid) t → Contains (whats new) t)
-        → ((i : ℕ) → i < enabled there.what → Contains (whats new) (after there.what i))
-        → StartAs origin there.what (whats new)
-        → IsLevel digest_of new older' latest'
-        → Rising reached (done ++ there ∷ []) rest new older' latest'
-    Rising-more new older' latest' like led few kept here alike level = record {
-      parts = parts ∙ sym (append_assoc done (there ∷ []) rest);
-      like =
-          let one : List (Found S) = map (one_after enabled after there) (open_to enabled after there.what) in
-          let joined : Like m (mid ++ one) (all_after enabled after done ++ one) = Like-append a.like (Like-refl one) in
-          let regrouped : all_after enabled after done ++ one ≡ all_after enabled after (done ++ there ∷ []) =
-          sym (flat_map-append (λ x. map (one_after enabled after x) (open_to enabled after x.what)) done (there ∷ [])
-          ∙ ap (λ xs. all_after enabled after done ++ xs) (append-nil one)) in
-          subst (Like m new) regrouped (Like-trans like joined);
-      led = λ k s all. led k s (at_next (Leads enabled after k s) all) (a.led k s all);
-      few = few a.few;
-      all = all;
-      alike = λ o all. StartAs-other origin there.what o (whats new) (at_next (λ t. origin t ≡ origin o) all) alike;
-      level = level;
-    }
+    -- what holds of each state that was reached holds of those that are done and of the next
+    all_done : (P : S → Type 0) → All P (whats reached) → All P (whats (done ++ there ∷ []))
+    all_done P all = All-from P (whats (done ++ there ∷ [])) (λ t h. All-contains P (whats reached) t all
+        (rw (parts, map-append (λ x. x.what) (done ++ there ∷ []) rest) (Contains-append_left (whats (done ++ there ∷ [])) (whats rest) t h)))
+
+    all_before : (P : S → Type 0) → All P (whats (done ++ there ∷ [])) → All P (whats done)
+    all_before P all = All-from P (whats done) (λ t h. All-contains P (whats (done ++ there ∷ [])) t all (more.kept t h))
       where
-        all : (u : S) (i : ℕ) → Contains (whats (done ++ there ∷ [])) u → i < enabled u → Contains (whats new) (after u i)
-        all u i h open_there =
-            elim (Contains-push_cases (whats done) there.what u (rw (whats-push done there) at h)) [
-              | inl before ↦ kept (after u i) (a.all u i before open_there)
-              | inr is_it ↦ subst (λ t. Contains (whats new) (after t i)) is_it (here i (rw is_it open_there))
-            ]
+        more : AreMore (whats done) there.what (whats (done ++ there ∷ []))
+        more = AreMore-push done there
+
+    at_next : (P : S → Type 0) → All P (whats (done ++ there ∷ [])) → P there.what
+    at_next P all = All-contains P (whats (done ++ there ∷ [])) there.what all (AreMore-push done there).there
+
+    -- those that were added start as the next does
+    alike_mid : (o : S) → StartAs origin o (whats (done ++ there ∷ [])) → StartAs origin there.what (whats mid)
+    alike_mid o all = StartAs-other origin o there.what (whats mid) (sym (at_next (λ t. origin t ≡ origin o) all)) (a.states.alike o (all_before (λ t. origin t ≡ origin o) all))
+
+    pub alike_next : (o : S) → StartAs origin o (whats reached) → StartAs origin there.what (whats mid)
+    alike_next o all = alike_mid o (all_done (λ t. origin t ≡ origin o) all)
+
+    module _ (new : List (Found S)) where
+      -- if not all were added, those that are there are led to all the same
+      pub led_some : (all : Bool) → Spreads enabled after origin there.what all (whats mid) (whats new)
+          → (k : ℕ) (s : S) → All (Leads enabled after k s) (whats reached) → All (Leads enabled after (suc k) s) (whats new)
+      led_some all spread k s led = All-from (Leads enabled after (suc k) s) (whats new) (λ t h. elim (spread.only t h) [
+        | inl before ↦ All-contains (Leads enabled after (suc k) s) (whats mid) t (led_next enabled after origin a.states k s (all_before (Leads enabled after k s) (all_done (Leads enabled after k s) led))) before
+        | inr next ↦ (there.what, next.0, at_next (Leads enabled after k s) (all_done (Leads enabled after k s) led), next.1, next.2)
+      ])
+
+      pub Rising-more : (all : Bool) → IsTrue all → Like m new (mid ++ map (one_after enabled after there) (open_to enabled after there.what))
+          → Spreads enabled after origin there.what all (whats mid) (whats new)
+          → Rising reached (done ++ there ∷ []) rest new
+      Rising-more all whole like spread = record {
+        parts = parts;
+        like =
+            let one : List (Found S) = map (one_after enabled after there) (open_to enabled after there.what) in
+            let joined : Like m (mid ++ one) (all_after enabled after done ++ one) = Like-append a.like (Like-refl one) in
+            let regrouped : all_after enabled after done ++ one ≡ all_after enabled after (done ++ there ∷ []) =
+            sym (flat_map-append (λ x. map (one_after enabled after x) (open_to enabled after x.what)) done (there ∷ [])
+            ∙ ap (λ xs. all_after enabled after done ++ xs) (append-nil one)) in
+            subst (Like m new) regrouped (Like-trans like joined);
+        states = record {
+          there = added;
+          only = only;
+          alike = λ o same. StartAs-other origin there.what o (whats new) (at_next (λ t. origin t ≡ origin o) same) spread.alike;
+        };
+      }
+        where
+          more : AreMore (whats done) there.what (whats (done ++ there ∷ []))
+          more = AreMore-push done there
+
+          added : (s : S) (i : ℕ) → Contains (whats (done ++ there ∷ [])) s → i < enabled s → Contains (whats new) (after s i)
+          added s i h within =
+              elim (more.only s h) [
+                | inl before ↦ spread.kept (after s i) (a.states.there s i before within)
+                | inr is_it ↦ subst (λ t. Contains (whats new) (after t i)) is_it (spread.there whole i (rw is_it within))
+              ]
+
+          only : (t : S) → Contains (whats new) t → (s : S) × Contains (whats (done ++ there ∷ [])) s × IsNext enabled after s t
+          only t h =
+              elim (spread.only t h) [
+                | inl before ↦ let (s, here, next) = a.states.only t before in (s, more.kept s here, next)
+                | inr next ↦ (there.what, more.there, next)
+              ]
 
   -- in the end, those of all states
-  pub Rising-end : (reached done rest new : List (Found S)) (older : List (Option ℕ)) (latest : ℕ → Option ℕ) → length rest ≡ 0 → Rising reached done rest new older latest
-      → Like m new (all_after enabled after reached) × ((u : S) (i : ℕ) → Contains (whats reached) u → i < enabled u → Contains (whats new) (after u i))
-  Rising-end reached done rest new older latest none a =
-      let is_done : reached ≡ done = a.parts ∙ ap (λ xs. done ++ xs) (nil_from_length rest none) ∙ append-nil done in
-      rw is_done (a.like, a.all)
+  pub Rising-end : (reached done rest new : List (Found S)) → length rest ≡ 0 → Rising reached done rest new → Rising reached reached [] new
+  Rising-end reached done rest new none a =
+      let no_rest = nil_from_length rest none in
+      let is_done : done ≡ reached = sym (a.parts ∙ ap (λ xs. done ++ xs) no_rest ∙ append-nil done) in
+      subst (λ xs. Rising reached xs [] new) is_done (subst (λ xs. Rising reached done xs new) no_rest a)

@@ -5,7 +5,7 @@ use Rattle.std.proofs.lemmas.Bool.{cases_eq, eqb-false}
 use Rattle.std.proofs.lemmas.List.{get_or_default, length-map, map-append, get_or_append_left, get_or_push, length_push}
 use Rattle.std.proofs.lemmas.List.Elements.{Contains-append_right}
 use Rattle.vx_explore.specs.declared.found.Found.{Found}
-use Rattle.vx_explore.specs.Index.{last_of, IsIndex, digests, StartAs, whats}
+use Rattle.vx_explore.specs.Index.{HaveSame, IsIndex, IsLevel, StartAs, digests, last_of, whats}
 
 -- a place not above the one that is found
 abbrev pub IsUpTo : ℕ → Option ℕ → Type 0
@@ -99,13 +99,12 @@ module _ {S : Type 0} (digest_of : S → ℕ) (xs : List (Found S)) (what : S) (
       let is_last : last_of (digest_of what) (digests digest_of xs) (length (digests digest_of xs)) ≡ next = sym (e ∙ index.last d ∙ ap (λ k. last_of k (digests digest_of xs) (length (digests digest_of xs))) is_digest) in
       subst (Seeks digest_of xs what) is_last (Seeks-first digest_of xs what (length (digests digest_of xs)) (length-digests digest_of xs))
 
-  pub Seeks-step : (i : ℕ) (there : Found S) → Seeks digest_of xs what (Some i) → there ≡ get_or xs i there → (there.what ≡ what → ⊥) → (next : Option ℕ) → next ≡ get_or older i next
+  pub Seeks-step : (i : ℕ) (d : Found S) → Seeks digest_of xs what (Some i) → ((get_or xs i d).what ≡ what → ⊥) → (next : Option ℕ) → next ≡ get_or older i None
       → Seeks digest_of xs what next × (height next < suc i)
-  Seeks-step i there s read other next e =
+  Seeks-step i d s other next e =
       let within : i < length (digests digest_of xs) = rw (length-digests digest_of xs) s.found.0 in
-      let inside : i < length older = rw index.len within in
-      let is_last : next ≡ last_of (get_or (digests digest_of xs) i 0) (digests digest_of xs) i = e ∙ get_or_default older i next None inside ∙ index.behind i within in (
-        Seeks-next digest_of xs what i there s (λ same. other (ap (λ x. x.what) read ∙ same)) next is_last,
+      let is_last : next ≡ last_of (get_or (digests digest_of xs) i 0) (digests digest_of xs) i = e ∙ index.behind i within in (
+        Seeks-next digest_of xs what i d s other next is_last,
         height_below (get_or (digests digest_of xs) i 0) (digests digest_of xs) i next
             (subst (IsFound (get_or (digests digest_of xs) i 0) (digests digest_of xs) i) (sym is_last) (last_of-found (get_or (digests digest_of xs) i 0) (digests digest_of xs) i)),
       )
@@ -167,8 +166,8 @@ get_or-whats (x ∷ xs) zero d = refl
 get_or-whats (x ∷ xs) (suc i) d = get_or-whats xs i d
 
 -- P holds of the state at a place
-pub All-whats : {S : Type 0} (P : S → Type 0) (xs : List (Found S)) (i : ℕ) (x : Found S) → i < length xs → x ≡ get_or xs i x → All P (whats xs) → P x.what
-All-whats P xs i x within read all = subst P (get_or-whats xs i x ∙ ap (λ y. y.what) (sym read)) (all i x.what (rw (length-whats xs) within))
+pub All-whats : {S : Type 0} (P : S → Type 0) (xs : List (Found S)) (i : ℕ) (d : Found S) → i < length xs → All P (whats xs) → P (get_or xs i d).what
+All-whats P xs i d within all = subst P (get_or-whats xs i d) (all i d.what (rw (length-whats xs) within))
 
 pub whats-push : {S : Type 0} (xs : List (Found S)) (x : Found S) → whats (xs ++ x ∷ []) ≡ whats xs ++ x.what ∷ []
 whats-push xs x = map-append (λ y. y.what) xs (x ∷ [])
@@ -197,8 +196,18 @@ whats-different {S} xs x apart new = rw (whats-push xs x) (different-push (whats
 pub Contains-whats : {S : Type 0} (xs : List (Found S)) (i : ℕ) (s : S) → i < length xs → ((d : Found S) → (get_or xs i d).what ≡ s) → Contains (whats xs) s
 Contains-whats xs i s within is_it = (i, rw (length-whats xs) within, get_or-whats xs i (record { what = s; ways = 0; picks = [] }) ∙ is_it (record { what = s; ways = 0; picks = [] }))
 
-pub Contains-more : {X : Type 0} (xs : List X) (y x : X) → Contains xs x → Contains (xs ++ y ∷ []) x
-Contains-more xs y x h = (h.0, rw (length_push xs y) (omega (arith, h.1)), get_or-push-below xs y x h.0 h.1 ∙ h.2)
+-- A level with one more state.
+
+pub IsLevel-push : {S : Type 0} (digest_of : S → ℕ) (xs : List (Found S)) (x : Found S) (older : List (Option ℕ)) (latest latest' : ℕ → Option ℕ) (d n : ℕ) (before : Option ℕ)
+    → IsLevel digest_of xs older latest → HaveSame xs x.what None → d ≡ digest_of x.what → n ≡ length xs → before ≡ latest d
+    → ((k : ℕ) → latest' k ≡ cond (eqb d k) (Some n) (latest k))
+    → IsLevel digest_of (xs ++ x ∷ []) (older ++ before ∷ []) latest'
+IsLevel-push digest_of xs x older latest latest' d n before level new is_digest is_len is_before updates = record {
+  index =
+      rw (digests-push digest_of xs x, ← is_digest) (IsIndex-push (digests digest_of xs) older latest latest' d before level.index is_before
+      (λ k. updates k ∙ ap (λ l. cond (eqb d k) (Some l) (latest k)) (is_len ∙ sym (length-digests digest_of xs))));
+  different = whats-different xs x level.different new;
+}
 
 pub Contains-middle : {S : Type 0} (xs ys zs : List (Found S)) (y : Found S) → xs ≡ ys ++ y ∷ zs → Contains (whats xs) y.what
 Contains-middle xs ys zs y is_xs = rw (is_xs, map-append (λ x. x.what) ys (y ∷ zs)) (Contains-append_right (whats ys) (y.what ∷ whats zs) y.what (0, omega arith, refl))

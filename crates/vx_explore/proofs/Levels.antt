@@ -5,8 +5,9 @@ use Rattle.std.proofs.lemmas.Bool.{cases_eq, cases_lt}
 use Rattle.std.proofs.Math.Nat.{suc-add}
 use Rattle.vx_explore.specs.declared.found.Found.{Found}
 use Rattle.vx_explore.specs.Alike.{Like, Tells, all_after, ends, ends_below, is_limit, one_at, walks}
-use Rattle.vx_explore.specs.Index.{whats}
+use Rattle.vx_explore.specs.Index.{AreNext, whats}
 use Rattle.vx_explore.specs.Runs.{AreTooMany, IsCrowded, Leads, runs, shortest_first, summary}
+use Rattle.vx_explore.proofs.Adding.{led_next}
 use Rattle.vx_explore.proofs.Counted.{length-le_from_among}
 use Rattle.vx_explore.proofs.Indexed.{length-whats}
 use Rattle.vx_explore.proofs.Finding.{Like-refl, Like-trans, Like-append, Like-all_after, Like-ends}
@@ -40,19 +41,18 @@ module _ {S E : Type 0} (enabled : S → ℕ) (after : S → ℕ → S) (ending_
       rw at_limit (Tells-Like same (tell (ends_below enabled after ending_of n first k) e.tells)
       (Like-append (Like-refl (ends_below enabled after ending_of n first k)) (Like-ends enabled ending_of last e.like)))
 
-  pub Explores-more : (rows rows' : List (Found E)) (level next : List (Found S)) (k : ℕ) → k < n → Explores rows level k
+  pub Explores-more : {origin : S → S} (rows rows' : List (Found E)) (level next : List (Found S)) (k : ℕ) → k < n → Explores rows level k
       → ((xs : List (Found E)) → Tells same m rows xs → Tells same m rows' (xs ++ ends enabled ending_of false level))
       → Like m next (all_after enabled after level)
-      → ((j : ℕ) (s : S) → All (Leads enabled after j s) (whats level) → All (Leads enabled after (suc j) s) (whats next))
       → length next ≤ most
-      → ((u : S) (i : ℕ) → Contains (whats level) u → i < enabled u → Contains (whats next) (after u i))
+      → AreNext enabled after origin (whats level) (whats next)
       → Explores rows' next (k + 1)
-  Explores-more rows rows' level next k below e tell like led few all = rw add-one (record {
+  Explores-more {origin} rows rows' level next k below e tell like few states = rw add-one (record {
     like = Like-trans like (Like-all_after enabled after e.like);
     tells = tells_level rows rows' level k false (is_limit_below n k below) e tell;
-    led = led k first e.led;
+    led = led_next enabled after origin states k first e.led;
     few = few;
-    all = λ t (u, i, there, h, is_it). subst (Contains (whats next)) is_it (all u i (e.all u there) h);
+    all = λ t (u, i, there, h, is_it). subst (Contains (whats next)) is_it (states.there u i (e.all u there) h);
     before = before;
   })
     where

@@ -47,7 +47,7 @@ pub trait Machine: Drop {
     fn put_away(alloc: Global, machine: &Self::Running) -> Result<Self, NoMemory>
         ensures { IfOk result (λ state. state ≡ state_of machine.now) };
 
-    /// How a run ends that stops here. The machine is brought to this state, whatever its own was.
+    /// How a run ends that stops here. The machine's own state is of no more use after it.
     fn ending(&self, machine: &mut Self::Running) -> Result<Self::Ending, NoMemory>
         ensures { IfOk result (λ ending. ending ≡ ending_of self.now) };
 

@@ -16,18 +16,18 @@ returns-then-is_empty-clause-told g c = let m = g.M.Machine in let e = g.met.M.E
 
 pub returns-in_default-clause-cut : goal.returns-in_default-clause-cut
 returns-in_default-clause-cut g c =
-    let before = rw c.in_default.is at (c.in_ok-next.ensures.led c.loop-step._step c.args.first c.loop-step.invariant.0.led) in
+    let many = rw c.in_default.is at c.in_ok-next.ensures.many in
+    let here = many c.loop-step._step c.args.first c.loop-step.invariant.0.led in
     let within : suc c.loop-step._step ≤ c.args.limit = omega (arith, c.loop-step-test.true) in
-    (suc c.loop-step._step, before.0, within, before.1)
+    (suc c.loop-step._step, here.0, within, here.1)
 
 pub loop-step-preserved : goal.loop-step-preserved
 loop-step-preserved g c = let m = g.M.Machine in (
   Explores-more m.enabled m.after m.ending_of g.M.Ending.Ending.is_same _ c.args.limit c.args.most c.args.first
       c.loop-step.rows.items c.tell_all.new.rows.items c.loop-step.level.items c.in-Some.next.items c.loop-step._step
       c.loop-step-test.true c.loop-step.invariant.0 (rw c.as_slice.ensures.value at c.in_ok-tell_all.ensures)
-      (rw c.in-Some.is at c.in_ok-next.ensures.like) (λ j s all. rw c.in-Some.is at (c.in_ok-next.ensures.led j s all))
-      (rw c.in-Some.is at c.in_ok-next.ensures.few) (rw c.in-Some.is at c.in_ok-next.ensures.all),
-  (rw c.in-Some.is at c.in_ok-next.ensures.alike) c.args.first c.loop-step.invariant.1,
+      (rw c.in-Some.is at c.in_ok-next.ensures.like) (rw c.in-Some.is at c.in_ok-next.ensures.few) (rw c.in-Some.is at c.in_ok-next.ensures.states),
+  (rw c.in-Some.is at c.in_ok-next.ensures.states).alike c.args.first c.loop-step.invariant.1,
 )
 
 pub returns-clause-told : goal.returns-clause-told
