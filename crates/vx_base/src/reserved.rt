@@ -122,7 +122,8 @@ impl<T: Drop> Reserved<T> {
         }
     }
 
-    /// Takes out the item at a place, if there is one.
+    /// Takes out the item at a place, if there is one: the first that passes a test, for each test whose first place this is. Of other
+    /// places no more is said than that the list gets no longer.
     pub fn take(&mut self, place: Option<usize>) -> Option<T>
         requires { IfSome place (λ i. i < length self.old.items) }
         ensures found { (p : T → Bool) → place ≡ position p self.old.items → result ≡ find p self.old.items }

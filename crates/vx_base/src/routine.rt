@@ -16,6 +16,7 @@ pub enum Entry {
 
 /// A routine that is entered at most once. It is known by its tag, the entry that it was made with; it cannot be copied.
 pub trait Routine: Drop {
+    /// Its tag: where it is entered.
     ghost tagged: { Self → EntryOf };
 
     /// The routine of a script that is entered there.

@@ -8,6 +8,7 @@ use vx_base::{NoMemory, Reply, Req};
 
 /// A device unit, which serves reads and writes of at most 2,048 bytes.
 pub trait DeviceUnit {
+    /// What it holds, what it holds when the service that pends is done, if one does, and whether it is ready for one.
     ghost serving: { Self → Serving };
 
     /// Makes ready to serve a request: finds the memory, or changes nothing. The unit and its pending service stay as they
