@@ -32,24 +32,18 @@ run_allowed s p m =
     either P (can_run s p (process_at s p).frames) _ _ (m, tt)
     (either_by P (can_run_down s p (process_at s p).frames) _ _ (λ e. ((m, no_frames s p (process_at s p).frames e), tt)) (λ e. tt))
 
-ast_allowed : (s : State) (p : Pid) (o : Option Queued) → IsProcess s p → AllByRecursion (Allowed s) (ast_or_run s p o)
-ast_allowed s p None m = run_allowed s p m
-ast_allowed s p (Some q) m = (m, tt)
-
 process_allowed : (s : State) (p : Pid) → IsProcess s p → AllByRecursion (Allowed s) (process_events s p)
-process_allowed s p m = either (AllByRecursion (Allowed s)) (process_at s p).suspended _ _ tt (ast_allowed s p (deliverable_ast s p) m)
+process_allowed s p m =
+    either (AllByRecursion (Allowed s)) (process_at s p).suspended _ _ tt
+    (elim (deliverable_ast s p) as (λ (o : Option Queued). AllByRecursion (Allowed s) (ast_or_run s p o)) [ None ↦ run_allowed s p m | Some q ↦ (m, tt) ])
 
 processes_allowed : (s : State) (n : ℕ) (prs : List Process) → 1 ≤ n → n + length prs ≡ 1 + length s.procs → AllByRecursion (Allowed s) (processes_from s n prs)
 processes_allowed s n [] above e = tt
 processes_allowed s n (pr ∷ prs) above e =
     all_append (Allowed s) (process_events s (pid n)) (processes_from s (n + 1) prs) (process_allowed s (pid n) (record { above = above; within = omega arith })) (processes_allowed s (n + 1) prs (omega arith) (omega arith))
 
-beg_allowed : (s : State) (u : UnitNo) (o : Option Request) → AllByRecursion (Allowed s) (beg_event u o)
-beg_allowed s u None = tt
-beg_allowed s u (Some r) = (tt, tt)
-
 don_allowed : (s : State) (u : UnitNo) (o : Option Request) → AllByRecursion (Allowed s) (don_or_beg s u o)
-don_allowed s u None = beg_allowed s u (front u s.requests)
+don_allowed s u None = elim (front u s.requests) as (λ (o : Option Request). AllByRecursion (Allowed s) (beg_event u o)) [ None ↦ tt | Some r ↦ (tt, tt) ]
 don_allowed s u (Some r) = (tt, tt)
 
 units_allowed : (s : State) (n : ℕ) (us : List DeviceUnit) → AllByRecursion (Allowed s) (units_from s n us)
@@ -71,12 +65,8 @@ enabled_allowed s e c =
 
 -- the process of an event is there
 allowed_there : (s : State) (e : Event) → Allowed s e → IsThere s e
-allowed_there s (event.Run p) m = m
-allowed_there s (event.Ast p) m = m
 allowed_there s (event.Rdn p) m = m.0
-allowed_there s (event.Beg u) m = tt
-allowed_there s (event.Don u) m = tt
-allowed_there s event.Tick m = tt
+allowed_there s e m = m
 
 pub enabled_there : (s : State) (e : Event) → Contains (enabled s) e → IsThere s e
 enabled_there s e c = allowed_there s e (enabled_allowed s e c)

@@ -16,7 +16,7 @@ use Rattle.vx_record.specs.Runs.{AreSteps, after_from, first}
 use Rattle.vx_record.specs.State.{State, change}
 use Rattle.vx_record.proofs.Allowed.{enabled_there}
 use Rattle.vx_record.proofs.Base.{Base, amended_base, change_of, moves_keep}
-use Rattle.vx_record.proofs.Steps.{IsThere, is_headed}
+use Rattle.vx_record.proofs.Steps.{IsThere}
 use Rattle.vx_record.proofs.Told.{started_moves, step_moves}
 
 pub first_base : (system : System) → Base (first system)
@@ -32,16 +32,10 @@ ast_base s p (Some q) h =
     let t = change s p (without_ast q.id) in
     (moves_keep {refs = false} t None (started t p q q.tag).effects (started t p q q.tag).after None (started_moves t p q q.tag) (change_of s p (without_ast q.id) h).base).base
 
-moved_base : (s : State) (e : Event) → is_headed e ≡ false → IsThere s e → Base s → Base (step s e).after
-moved_base s e other m h = (moves_keep {refs = false} s None (step s e).effects (step s e).after None (step_moves s e other m h) h).base
-
 pub step_base : (s : State) (e : Event) → IsThere s e → Base s → Base (step s e).after
-step_base s (event.Run p) m h = moved_base s (event.Run p) refl m h
 step_base s (event.Ast p) m h = ast_base s p (deliverable_ast s p) h
-step_base s (event.Rdn p) m h = moved_base s (event.Rdn p) refl m h
 step_base s (event.Beg u) m h = beg_base s (front u s.requests) h
-step_base s (event.Don u) m h = moved_base s (event.Don u) refl m h
-step_base s event.Tick m h = moved_base s event.Tick refl m h
+step_base s e m h = (moves_keep {refs = false} s None (step s e).effects (step s e).after None (step_moves s e refl m h) h).base
 
 pub run_base : (s : State) (rs : List Rec) → AreSteps s rs → Base s → Base (after_from s rs)
 run_base s [] k h = h

@@ -1,7 +1,7 @@
 -- What services share, as sequences of moves: flags, clusters, ends of requests, mailboxes, and requests.
-use Rattle.std.proofs.Common.{◌≡◌, ℕ, ◌%◌, List, [], ◌∷◌, Bool, true, false, cond, not, ◌==◌, ◌&&◌, ◌||◌, nat_lt, Option, Some, None, Result, Ok, Err, is_some, refl, ◌∙◌}
-use Rattle.std.specs.List.{filter, find, list_any}
-use Rattle.vx_base.specs.Pieces.{Channel, Request, Promised, Attention, Status, cleared}
+use Rattle.std.proofs.Common.{◌≡◌, ℕ, ◌%◌, List, [], ◌∷◌, Bool, true, false, cond, not, ◌==◌, ◌&&◌, nat_lt, Option, Some, None, Result, Ok, Err, is_some, refl, ◌∙◌, ◌+◌, ◌≤◌, ◌++◌, IfSome, sym, ap, arith, subst, get_or}
+use Rattle.std.specs.List.{filter, find, list_any, AllByRecursion}
+use Rattle.vx_base.specs.Pieces.{Channel, Request, Promised, Attention, Status, cleared, Association, Cluster}
 use Rattle.vx_base.specs.declared.cond.Cond.{Cond}
 use Rattle.vx_base.specs.declared.cond.Cond.TheVariants.{EndOfFile}
 use Rattle.vx_base.specs.declared.effects.Cell.{Cell}
@@ -17,50 +17,33 @@ use Rattle.vx_base.specs.declared.request.Func.{Func}
 use Rattle.vx_base.specs.declared.request.Func.TheVariants.{ReadAttn, WrtAttn}
 use Rattle.vx_base.specs.declared.request.Msg.{Msg}
 use Rattle.vx_base.specs.declared.routine.Entry.{Entry}
-use Rattle.vx_record.specs.State.{State, process_at, change, current}
-use Rattle.vx_record.specs.Parts.{Part, Outcome, nothing, each, part_if}
-use Rattle.vx_record.specs.Charges.{moved_bytes, request_need, exceeds, ast_need, is_direct, is_attention}
-use Rattle.vx_record.specs.Flags.{cell, flag_part, flag_where_named, at_named, at_flag, refused_wait, wait_condition, awaited_at, awaited, waits_on}
-use Rattle.vx_record.specs.Finish.{Ending, ending, is_read, fin_part, buf_part, status_of, iosb_part, done_flag_part, done_ast_part, finish, finish_found, this_request}
-use Rattle.vx_record.specs.Mailboxes.{mailbox_at, is_waiting_func, waits_at, mput_part, mget_part, message_of, read_ending, write_ending, received, write_done, is_attention_at, fire_attention, call_attention, store_message, hand_over, write_box, take_message, read_box, is_answered_now, attend}
+use Rattle.vx_record.specs.State.{State, process_at, change, current, Process, IsProcess, limits_of, no_decl}
+use Rattle.vx_record.specs.Parts.{Part, Outcome, nothing, each, part_if, and_then, followed_by}
+use Rattle.vx_record.specs.Charges.{moved_bytes, request_need, exceeds, ast_need, is_direct, is_attention, charge}
+use Rattle.vx_record.specs.Flags.{cell, flag_part, flag_where_named, at_named, at_flag, refused_wait, wait_condition, awaited_at, awaited, waits_on, common_cell, with_wait, with_local_flag, with_cell}
+use Rattle.vx_record.specs.Finish.{Ending, ending, is_read, fin_part, buf_part, status_of, iosb_part, done_flag_part, done_ast_part, finish, finish_found, this_request, with_stored_status}
+use Rattle.vx_record.specs.Mailboxes.{mailbox_at, is_waiting_func, waits_at, mput_part, mget_part, message_of, read_ending, write_ending, received, write_done, is_attention_at, fire_attention, call_attention, store_message, hand_over, write_box, take_message, read_box, is_answered_now, attend, this_attention}
 use Rattle.vx_record.specs.Channels.{channel_test}
 use Rattle.vx_record.specs.Cancel.{is_attention_on, drop_attention}
-use Rattle.vx_record.specs.Requests.{is_bad, has_function, is_too_long, is_full, device_test, on_channel, on_cell, attention_set, Asked, request_test, new_request, opened_request, cleared_part, begun_on, transfer, new_attention, attention_opened, done_at_once, attention_on, asked_of, accepted, qio_tested, qiow_tested}
-use Rattle.vx_record.proofs.Lists.{either}
-use Rattle.std.proofs.Common.{◌+◌, ◌≤◌, ◌++◌, IfSome, sym, ap, arith, subst, zero, suc, get_or}
-use Rattle.vx_record.specs.Requests.{promised}
+use Rattle.vx_record.specs.Requests.{is_bad, has_function, is_too_long, is_full, device_test, on_channel, on_cell, attention_set, Asked, request_test, new_request, opened_request, cleared_part, begun_on, transfer, new_attention, attention_opened, done_at_once, attention_on, asked_of, accepted, qio_tested, qiow_tested, promised}
+use Rattle.vx_record.proofs.Lists.{either, either_by, all_weaker, all_both, all_append, all_filter, all_find, find_passes, all_from, ordered_more}
 use Rattle.std.proofs.lemmas.Bool.{eq-eqb, eqb-true, ltb-true}
-use Rattle.std.specs.List.{AllByRecursion}
 use Rattle.std.specs.Prelude.{option_map}
-use Rattle.vx_base.specs.Clusters.{Common as Clusters, Change, stands, followed, joined, parted, swept_at, swept, dissociated_at, dissociated, has_already, made_where_new, associated, marked_at, is_used, is_user, is_association, is_cluster}
+use Rattle.vx_base.specs.Clusters.{Common as Clusters, Change, stands, followed, joined, parted, swept_at, swept, dissociated_at, dissociated, has_already, made_where_new, associated, marked_at, is_used, is_user, is_association, is_cluster, cluster_number}
 use Rattle.vx_base.specs.Lists.{less}
-use Rattle.vx_base.specs.Pieces.{Association, Cluster}
 use Rattle.vx_base.specs.declared.effects.Effect.{Effect}
 use Rattle.vx_base.specs.declared.effects.Effect.TheVariants as effect
 use Rattle.vx_base.specs.declared.effects.Opened.TheVariants as opened
 use Rattle.vx_record.specs.Timers.{mode_of_ast}
 use Rattle.vx_base.specs.declared.number.Id.{Id}
-use Rattle.vx_record.specs.State.{Process, IsProcess}
-use Rattle.vx_record.specs.Parts.{and_then, followed_by}
-use Rattle.vx_record.specs.Flags.{common_cell, with_wait, with_local_flag}
-use Rattle.vx_base.specs.Clusters.{cluster_number}
 use Rattle.vx_record.specs.Asts.{charged_ast}
-use Rattle.vx_record.specs.Mailboxes.{this_attention}
-use Rattle.vx_record.specs.Sound.{AreOrdered, request_id, timer_id, attention_id}
-use Rattle.vx_record.proofs.Lists.{either_by, all_weaker, all_both, all_append, all_filter, all_find, find_passes, all_from, ordered_more}
+use Rattle.vx_record.specs.Sound.{AreOrdered, request_id, timer_id, attention_id, ground, RequestStands, AttentionStands, WaitStands}
 use Rattle.std.proofs.lemmas.Slice.Eq.{bytes_eq-Decides}
 use Rattle.vx_base.specs.declared.quota.Need.{Need}
 use Rattle.vx_base.specs.Quotas.{together, is_within}
-use Rattle.vx_record.specs.State.{limits_of, no_decl}
-use Rattle.vx_record.specs.Charges.{charge}
-use Rattle.vx_record.specs.Finish.{with_stored_status}
-use Rattle.vx_record.specs.Flags.{with_cell}
-use Rattle.vx_record.proofs.Moves.{Loose, passed, IsAt, IsSetWhere, promised_by, loosed, IsCellMade, IsSilent, is_clusters, IsNew, IsNewAttention, HasRequest, HasTimer, HasAttention, none, skip, both, quiet, bytes, status, flag, que, open_request, fin, mput, mget, open_attention, attention_fires, end_attention, MovesBy, PartBy, OutcomeBy}
-use Rattle.vx_record.specs.Sound.{ground, RequestStands, AttentionStands}
+use Rattle.vx_record.proofs.Moves.{Loose, passed, IsAt, IsSetWhere, promised_by, loosed, IsCellMade, IsSilent, is_clusters, IsNew, IsNewAttention, HasRequest, HasTimer, HasAttention, none, skip, both, quiet, bytes, status, flag, que, open_request, fin, mput, mget, open_attention, attention_fires, end_attention, MovesBy, PartBy, OutcomeBy, Answers, IsTame, calm}
 use Rattle.vx_record.proofs.Changes.{Quiet, with_wait_quiet}
-use Rattle.vx_record.proofs.Fits.{field_same, IsSeated, seated_then, cell_seated, status_seated, IsFit, fit_seated, fit_request, fit_attention}
-use Rattle.vx_record.proofs.Moves.{Answers, IsTame, calm}
-use Rattle.vx_record.specs.Sound.{WaitStands}
+use Rattle.vx_record.proofs.Fits.{field_same, seated_then, cell_seated, status_seated, IsFit, fit_seated, fit_request, fit_attention}
 use Rattle.vx_record.proofs.Base.{Base, made_more, moves_keep}
 use Rattle.vx_record.proofs.Finds.{other_id, find_less, all_found, ordered_filter}
 
@@ -101,20 +84,16 @@ outcome_then s a f h k g = both s a.after (f a.after).after None None None a.eff
 
 -- either of two
 pub part_either : {refs : Bool} (s : State) (l m : Option Loose) (b : Bool) (x y : Part) → MovesBy refs s l x.effects x.after m → MovesBy refs s l y.effects y.after m → MovesBy refs s l (cond b x y).effects (cond b x y).after m
-part_either s l m true x y h k = h
-part_either s l m false x y h k = k
+part_either {refs} s l m b x y h k = either (λ (a : Part). MovesBy refs s l a.effects a.after m) b x y h k
 
 pub part_by : {refs : Bool} (s : State) (l m : Option Loose) (b : Bool) (x y : Part) → (b ≡ true → MovesBy refs s l x.effects x.after m) → MovesBy refs s l y.effects y.after m → MovesBy refs s l (cond b x y).effects (cond b x y).after m
-part_by s l m true x y h k = h refl
-part_by s l m false x y h k = k
+part_by {refs} s l m b x y h k = either_by (λ (a : Part). MovesBy refs s l a.effects a.after m) b x y h (λ f. k)
 
 above_zero : (i : ℕ) → not (i == 0) ≡ true → 1 ≤ i
-above_zero zero e = absurd (let never : false ≡ true = e in cc)
-above_zero (suc i) e = omega arith
+above_zero i e = grind arith
 
 pub outcome_either : {refs : Bool} {A : Type 0} (s : State) (b : Bool) (x y : Outcome A) → OutcomeBy refs s x → OutcomeBy refs s y → OutcomeBy refs s (cond b x y)
-outcome_either s true x y h k = h
-outcome_either s false x y h k = k
+outcome_either {refs} s b x y h k = either (OutcomeBy refs s) b x y h k
 
 pub moves_if : {refs : Bool} (s : State) (l : Option Loose) (test : Bool) (part : Part) → MovesBy refs s l part.effects part.after l → MovesBy refs s l (part_if test part s).effects (part_if test part s).after l
 moves_if s l test part k = part_either s l l test part (nothing s) k (none s l)
@@ -144,45 +123,33 @@ tamely s p f q e h = calm f (record { going = λ m r. rw q.phase r; idle = λ r.
 
 -- a cluster that somebody has associated is used
 used_by : (p : Pid) (k : ℕ) (xs : List Association) (a : Association) → find (is_association p k) xs ≡ Some a → list_any (is_user a.group a.name) xs ≡ true
-used_by p k [] a e = absurd (let never : None ≡ Some a = e in cc)
+used_by p k [] a e = cc
 used_by p k (x ∷ xs) a e =
-    either_by (λ (o : Option Association). o ≡ Some a → list_any (is_user a.group a.name) (x ∷ xs) ≡ true) (is_association p k x) (Some x) (find (is_association p k) xs)
-    (λ t is. let same : x ≡ a = cc in rw (same, eq-eqb a.group a.group refl, (bytes_eq-Decides a.name a.name).1 refl) refl)
-    (λ f is. or_right (is_user a.group a.name x) (list_any (is_user a.group a.name) xs) (used_by p k xs a is)) e
-  where
-    or_right : (b c : Bool) → c ≡ true → (b || c) ≡ true
-    or_right true c h = refl
-    or_right false c h = h
-
-common_made : (s : State) (n : ℕ) (p : Pid) (k : ℕ) (o : Option Association) → find (is_association p k) s.common.associations ≡ o → IfSome (common_cell n o) (IsCellMade s)
-common_made s n p k None is = tt
-common_made s n p k (Some a) is = used_by p k s.common.associations a is
+    let rest = used_by p k xs a in
+    let same = eq-eqb a.group a.group refl in
+    let alike = (bytes_eq-Decides a.name a.name).1 refl in
+    grind arith
 
 pub cell_made : (s : State) (p : Pid) (efn : ℕ) → IsProcess s p → IfSome (cell s p efn) (IsCellMade s)
 cell_made s p efn m =
-    either_by (λ (o : Option Cell). IfSome o (IsCellMade s)) (nat_lt efn 64) (Some (Local p efn)) (common_cell (efn % 32) (find (is_association p (cluster_number efn)) s.common.associations))
-    (λ t. (m, ltb-true efn 64 t)) (λ f. common_made s (efn % 32) p (cluster_number efn) (find (is_association p (cluster_number efn)) s.common.associations) refl)
+    let o = find (is_association p (cluster_number efn)) s.common.associations in
+    either_by (λ (o : Option Cell). IfSome o (IsCellMade s)) (nat_lt efn 64) (Some (Local p efn)) (common_cell (efn % 32) o) (λ t. (m, ltb-true efn 64 t))
+    (λ f. (elim o as (λ (x : Option Association). find (is_association p (cluster_number efn)) s.common.associations ≡ x → IfSome (common_cell (efn % 32) x) (IsCellMade s)) [ None ↦ λ is. tt | Some a ↦ λ is. used_by p (cluster_number efn) s.common.associations a is ]) refl)
 
 pub named_flag : {refs : Bool} (s : State) (l : Option Loose) (o : Option Cell) (on : Bool) → IfSome o (IsCellMade s) → IsAt 2 l → IsSetWhere l on → MovesBy refs s l (flag_where_named s o on).effects (flag_where_named s o on).after (passed 3 l)
 named_flag s l None on k at set_on = skip s l 3 (at_more 2 3 l (omega arith) at)
 named_flag s l (Some c) on k at set_on = flag s l c on k at set_on
 
-at_named_moves : {refs : Bool} {A : Type 0} (s : State) (refuse : Cond → Outcome A) (go : Cell → Outcome A) (o : Option Cell) → ((c : Cond) → OutcomeBy refs s (refuse c)) → ((c : Cell) → IsCellMade s c → OutcomeBy refs s (go c)) → IfSome o (IsCellMade s) → OutcomeBy refs s (at_named refuse go o)
-at_named_moves s refuse go None f g k = f _
-at_named_moves s refuse go (Some c) f g k = g c k
-
 pub at_flag_moves : {refs : Bool} {A : Type 0} (s : State) (p : Pid) (efn : ℕ) (refuse : Cond → Outcome A) (go : Cell → Outcome A) → IsProcess s p → ((c : Cond) → OutcomeBy refs s (refuse c)) → ((c : Cell) → IsCellMade s c → OutcomeBy refs s (go c)) → OutcomeBy refs s (at_flag s p efn refuse go)
-at_flag_moves s p efn refuse go m f g = outcome_either s (nat_lt 127 efn) _ _ (f _) (at_named_moves s refuse go (cell s p efn) f g (cell_made s p efn m))
+at_flag_moves {refs} s p efn refuse go m f g =
+    outcome_either s (nat_lt 127 efn) _ _ (f _)
+    ((elim (cell s p efn) as (λ (o : Option Cell). IfSome o (IsCellMade s) → OutcomeBy refs s (at_named refuse go o)) [ None ↦ λ k. f _ | Some c ↦ λ k. g c k ]) (cell_made s p efn m))
 
 pub waited : {refs : Bool} (s : State) (p : Pid) (w : Option Wait) → (refs ≡ true → IfSome w WaitStands) → IsSilent refs s p (with_wait w)
 waited s p w k = record { decl = refl; enables = refl; asts = refl; channels = refl; handlers = refl; cluster_0 = refl; cluster_1 = refl; statuses = refl; tame = λ e h. tamely s p (with_wait w) (with_wait_quiet w (process_at s p) (k e)) e h }
 
-awaited_at_moves : {refs : Bool} (s : State) (p : Pid) (w : Wait) (o : Option Cond) → (refs ≡ true → WaitStands w) → OutcomeBy refs s (awaited_at s p w o)
-awaited_at_moves s p w None k = quiet s None p (with_wait (Some w)) (waited s p (Some w) k)
-awaited_at_moves s p w (Some c) k = none s None
-
 pub awaited_moves : {refs : Bool} (s : State) (p : Pid) (w : Wait) → (refs ≡ true → WaitStands w) → OutcomeBy refs s (awaited s p w)
-awaited_moves s p w k = awaited_at_moves s p w (wait_condition s p w) k
+awaited_moves {refs} s p w k = elim (wait_condition s p w) as (λ (o : Option Cond). OutcomeBy refs s (awaited_at s p w o)) [ None ↦ quiet s None p (with_wait (Some w)) (waited s p (Some w) k) | Some c ↦ none s None ]
 
 pub waits_moves : {refs : Bool} (s : State) (p : Pid) (efn : ℕ) (w : Wait) → IsProcess s p → (refs ≡ true → WaitStands w) → OutcomeBy refs s (at_flag s p efn (refused_wait s) (waits_on s p w))
 waits_moves s p efn w m is = at_flag_moves s p efn (refused_wait s) (waits_on s p w) m (λ c. none s None) (λ c k. awaited_moves s p w is)
@@ -193,25 +160,22 @@ abbrev Only : Change → Type 0
 Only c = AllByRecursion (λ x. is_clusters x ≡ true) c.effects
 
 only_either : (b : Bool) (x y : Change) → Only x → Only y → Only (cond b x y)
-only_either true x y h k = h
-only_either false x y h k = k
+only_either b x y h k = either Only b x y h k
 
 only_then : (a : Change) (f : Clusters → Change) → Only a → Only (f a.after) → Only (followed a f)
 only_then a f h k = all_append (λ (x : Effect). is_clusters x ≡ true) a.effects (f a.after).effects h k
 
-swept_at_only : (c : Clusters) (o : Option Cluster) → Only (swept_at c o)
-swept_at_only c None = tt
-swept_at_only c (Some cl) = only_either (cl.permanent && not cl.marked) _ _ tt (refl, tt)
-
 swept_only : (c : Clusters) (g : ℕ) (n : List ℕ) → Only (swept c g n)
-swept_only c g n = only_either (is_used c g n) _ _ tt (swept_at_only c (find (is_cluster g n) c.clusters))
-
-dissociated_at_only : (c : Clusters) (p : Pid) (k : ℕ) (o : Option Association) → Only (dissociated_at c p k o)
-dissociated_at_only c p k None = tt
-dissociated_at_only c p k (Some a) = only_then (parted c p k) (λ d. swept d a.group a.name) (refl, tt) (swept_only (parted c p k).after a.group a.name)
+swept_only c g n =
+    only_either (is_used c g n) _ _ tt
+    (elim (find (is_cluster g n) c.clusters) as (λ (o : Option Cluster). Only (swept_at c o)) [ None ↦ tt | Some cl ↦ only_either (cl.permanent && not cl.marked) _ _ tt (refl, tt) ])
 
 pub dissociated_only : (c : Clusters) (p : Pid) (k : ℕ) → Only (dissociated c p k)
-dissociated_only c p k = dissociated_at_only c p k (find (is_association p k) c.associations)
+dissociated_only c p k =
+    elim (find (is_association p k) c.associations) as (λ (o : Option Association). Only (dissociated_at c p k o)) [
+      | None ↦ tt
+      | Some a ↦ only_then (parted c p k) (λ d. swept d a.group a.name) (refl, tt) (swept_only (parted c p k).after a.group a.name)
+    ]
 
 made_only : (c : Clusters) (g : ℕ) (n : List ℕ) (perm : Bool) → Only (made_where_new c g n perm)
 made_only c g n perm = only_either (stands c g n) _ _ tt (refl, tt)
@@ -228,16 +192,9 @@ marked_at_only c (Some cl) = only_either (not cl.permanent) _ _ tt (only_either 
 
 -- Finish and mailboxes.
 
-request_made : (s : State) (r : Request) → HasRequest s r → Base s → IsProcess s r.req.p
-request_made s r has h = all_find (λ (x : Request). IsProcess s x.req.p) (this_request r.req.id) s.requests r h.request_owners has
-
 done_ast_moves : {refs : Bool} (s : State) (r : Request) (o : Option Promised) → IsProcess s r.req.p → MovesBy refs s (passed 3 (passed 2 (passed 1 (option_map (promised_by r) o)))) (done_ast_part s r.req o).effects (done_ast_part s r.req o).after None
 done_ast_moves s r None m = none s None
 done_ast_moves s r (Some ast) m = que s r.req.p (charged_ast r.req.id ast.mode ast.tag) 3 m
-
-loosed_at : (r : Request) (o : Option Promised) → IsAt 0 (option_map (promised_by r) o)
-loosed_at r None = tt
-loosed_at r (Some ast) = omega arith
 
 pub finish_moves : {refs : Bool} (s : State) (r : Request) (e : Ending) → HasRequest s r → Base s → PartBy refs s (finish s r e)
 finish_moves {refs} s r e has h =
@@ -246,12 +203,12 @@ finish_moves {refs} s r e has h =
     let l1 = passed 1 l in
     let l2 = passed 2 l1 in
     let l3 = passed 3 l2 in
-    let at = loosed_at r r.ast in
+    let at : IsAt 0 l = elim r.ast as (λ (o : Option Promised). IsAt 0 (option_map (promised_by r) o)) [ None ↦ tt | Some ast ↦ omega arith ] in
     let b = λ (a : State). buf_part a r.req e in
     let i = λ (a : State). iosb_part a p r.req.iosb (status_of e) in
     let d = λ (a : State). done_flag_part a r.req in
     let q = λ (a : State). done_ast_part a r.req r.ast in
-    let here : Here s p = record { base = h; made = request_made s r has h } in
+    let here : Here s p = record { base = h; made = all_find (λ (x : Request). IsProcess s x.req.p) (this_request r.req.id) s.requests r h.request_owners has } in
     let one = fin_part s r.req.id e.0.cond in
     let two = and_then one b in
     let three = and_then two i in
@@ -267,12 +224,12 @@ id_is s id r e =
     let same : r.req.id ≡ id = ap (λ (n : ℕ). let i : Id = record { 0 = n } in i) (eqb-true r.req.id.0 id.0 (find_passes (this_request id) s.requests r e)) in
     subst (λ (i : Id). find (this_request i) s.requests ≡ Some r) (sym same) e
 
-finish_found_moves : {refs : Bool} (s : State) (id : Id) (o : Option Request) (e : Ending) → find (this_request id) s.requests ≡ o → Base s → PartBy refs s (finish_found s o e)
-finish_found_moves s id None e k h = none s None
-finish_found_moves s id (Some r) e k h = finish_moves s r e (id_is s id r k) h
-
 write_done_moves : {refs : Bool} (s : State) (m : Msg) → Base s → PartBy refs s (write_done s m)
-write_done_moves s m h = finish_found_moves s m.id (find (this_request m.id) s.requests) (write_ending m) refl h
+write_done_moves {refs} s m h =
+    (elim (find (this_request m.id) s.requests) as (λ (o : Option Request). find (this_request m.id) s.requests ≡ o → PartBy refs s (finish_found s o (write_ending m))) [
+      | None ↦ λ is. none s None
+      | Some r ↦ λ is. finish_moves s r (write_ending m) (id_is s m.id r is) h
+    ]) refl
 
 received_moves : {refs : Bool} (s : State) (b : BoxNo) (m : Msg) (r : Request) → HasRequest s r → Base s → PartBy refs s (received s b m r)
 received_moves s b m r has h = based_then s (mget_part s b m r.req.id) (λ a. finish a r (read_ending r.req m m.body)) h (mget s b m r.req.id) (λ k. finish_moves (mget_part s b m r.req.id).after r (read_ending r.req m m.body) has k)
@@ -331,9 +288,6 @@ take_message_moves s b r (m ∷ ms) has h =
     let a = (received s b m r).after in
     based_then s (received s b m r) (λ a. part_if m.held (write_done a m) a) h (received_moves s b m r has h) (λ k. moves_if a None m.held (write_done a m) (write_done_moves a m k))
 
-attend_moves : {refs : Bool} (s : State) (a : Attention) → HasAttention s a → Base s → PartBy refs s (attend s a)
-attend_moves s a has h = moves_if s None (is_answered_now s a) (fire_attention s a) (fire_attention_moves s a h has)
-
 -- Requests.
 
 last_of : {A : Type 0} (P : A → Type 0) (xs : List A) (x : A) → AllByRecursion P (xs ++ x ∷ []) → P x
@@ -345,28 +299,19 @@ newest : {A : Type 0} (key : A → ℕ) (low high : ℕ) (xs : List A) (x : A) �
 newest key low high xs x e h = last_of (λ y. find (λ z. key z == key y) (xs ++ x ∷ []) ≡ Some y) xs x (all_found key low (high + 1) (xs ++ x ∷ []) (ordered_more key low high xs x e h))
 
 promised_mode : (mode : Mode) (o : Option Entry) → mode_of_ast mode o ≡ option_map (λ a. a.mode) (promised mode o)
-promised_mode mode None = refl
-promised_mode mode (Some tag) = refl
+promised_mode mode o = grind arith
 
 promised_some : (mode : Mode) (o : Option Entry) → is_some (promised mode o) ≡ is_some o
-promised_some mode None = refl
-promised_some mode (Some tag) = refl
+promised_some mode o = grind arith
 
 -- there is room for a request
 abbrev pub HasRoom : State → Pid → Asked → Channel → Type 0
 HasRoom s p q ch = exceeds s p (request_need s ch.device q.func (is_some q.ast) q.len) ≡ false
 
 new_is : (s : State) (p : Pid) (q : Asked) (ch : Channel) → IsProcess s p → is_attention q.func ≡ false → HasRoom s p q ch → IsNew s p (mode_of_ast (current s p) q.ast) (new_request s p q ch)
-new_is s p q ch m plain room = record {
-  made = m;
-  id = refl;
-  owner = refl;
-  ast = promised_mode (current s p) q.ast;
-  served = refl;
-  marked = refl;
-  plain = plain;
-  room = rw (promised_some (current s p) q.ast) room;
-}
+new_is s p q ch m plain room =
+    let free : exceeds s p (request_need s ch.device q.func (is_some (promised (current s p) q.ast)) q.len) ≡ false = rw (promised_some (current s p) q.ast) room in
+    search promised_mode
 
 pub opened_request_moves : {refs : Bool} (s : State) (p : Pid) (q : Asked) (ch : Channel) → IsProcess s p → is_attention q.func ≡ false → HasRoom s p q ch → Answers refs s (RequestStands (ground s) (new_request s p q ch)) → PartBy refs s (opened_request s p q ch)
 opened_request_moves {refs} s p q ch m plain room ok =
@@ -396,9 +341,7 @@ pub iosb_attention : (s : State) (p : Pid) (i : ℕ) (st : Status) → (iosb_par
 iosb_attention s p i st = either (λ (x : Part). x.after.attention ≡ s.attention) (not (i == 0)) _ (nothing s) refl refl
 
 pub flag_attention : (s : State) (o : Option Cell) (on : Bool) → (flag_where_named s o on).after.attention ≡ s.attention
-flag_attention s None on = refl
-flag_attention s (Some (Local p n)) on = refl
-flag_attention s (Some (Common g n k)) on = refl
+flag_attention s o on = grind arith
 
 attention_set_moves : {refs : Bool} (s : State) (p : Pid) (q : Asked) (b : BoxNo) (tag : Entry) → Here s p → exceeds s p (ast_need true) ≡ false → Answers refs s (AttentionStands (ground s) (new_attention s p q b tag)) → PartBy refs s (attention_set s p q (new_attention s p q b tag))
 attention_set_moves {refs} s p q b tag h room ok =
@@ -416,7 +359,7 @@ attention_set_moves {refs} s p q b tag h room ok =
     let there : HasAttention one.after a = newest attention_id 0 s.next s.attention a refl h.base.attention in
     let same : three.after.attention ≡ one.after.attention = flag_attention t (cell t p q.efn) true ∙ iosb_attention one.after p q.iosb done_at_once in
     part_then s p None None None two (λ c. and_then (f c) g) h second
-    (λ k. part_then t p None None None three g k (named_flag t None (cell t p q.efn) true (cell_made t p q.efn k.made) tt tt) (λ j. attend_moves three.after a (rw same there) j.base))
+    (λ k. part_then t p None None None three g k (named_flag t None (cell t p q.efn) true (cell_made t p q.efn k.made) tt tt) (λ j. moves_if three.after None (is_answered_now three.after a) (fire_attention three.after a) (fire_attention_moves three.after a j.base (rw same there))))
 
 pub attention_on_moves : {refs : Bool} (s : State) (p : Pid) (q : Asked) (d : Device) (o : Option Entry) → Here s p → exceeds s p (ast_need (is_some o)) ≡ false → ((b : BoxNo) (tag : Entry) → d ≡ device.Mailbox b → o ≡ Some tag → Answers refs s (AttentionStands (ground s) (new_attention s p q b tag))) → PartBy refs s (attention_on s p q d o)
 attention_on_moves s p q (device.Unit u) o h room ok = none s None
@@ -465,9 +408,6 @@ cleared_room s p q c ch room =
     let t = (cleared_part s p q c).after in
     request_room_as s t p q ch (both_charged_as s u t p (cell_charged_as s p c false) (status_charged_as u p p q.iosb cleared)) room
 
-cleared_seated : (s : State) (p : Pid) (q : Asked) (c : Cell) → IsSeated s (cleared_part s p q c).after p
-cleared_seated s p q c = let a = (flag_part s c false).after in seated_then s a _ p (cell_seated s p c false) (status_seated a p p q.iosb cleared)
-
 accepted_moves : {refs : Bool} (s : State) (p : Pid) (q : Asked) (c : Cell) (ch : Channel) → IsCellMade s c → HasRoom s p q ch → (refs ≡ true → IsFit s p q ch) → Here s p → PartBy refs s (accepted s p q c ch)
 accepted_moves {refs} s p q c ch k room fit h =
     let two = cleared_part s p q c in
@@ -476,7 +416,8 @@ accepted_moves {refs} s p q c ch k room fit h =
     part_then s p None None None two (λ a. asked_of a p q ch) h second
     (λ j.
     let free : HasRoom t p q ch = cleared_room s p q c ch room in
-    let fits : refs ≡ true → IsFit t p q ch = λ e. fit_seated s t p q ch (cleared_seated s p q c) (fit e) in
+    let u = (flag_part s c false).after in
+    let fits : refs ≡ true → IsFit t p q ch = λ e. fit_seated s t p q ch (seated_then s u t p (cell_seated s p c false) (status_seated u p p q.iosb cleared)) (fit e) in
     either_by (PartBy refs t) (is_attention q.func) (attention_on t p q ch.device q.ast) (transfer t p q ch) (λ y. attention_on_moves t p q ch.device q.ast j (attention_room t p q ch y free) (λ b tag on is e l. fit_attention t p q ch b tag j.made on is (fits e) l)) (λ n. transfer_moves t p q ch j.made j.base n free fits))
 
 -- the cell of an accepted request is one that is there
@@ -492,14 +433,12 @@ on_channel_cell s p q c (Ok ch) k =
     let P = CellOf s p q in
     either P (not (has_function ch.device q.func)) _ _ tt (either P (is_too_long s ch.device q) _ _ tt (either P (is_full s ch.device q) _ _ tt (either_by P (exceeds s p (request_need s ch.device q.func (is_some q.ast) q.len)) _ _ (λ e. tt) (λ e. (k, e)))))
 
-on_cell_cell : (s : State) (p : Pid) (q : Asked) (o : Option Cell) → IfSome o (IsCellMade s) → CellOf s p q (on_cell s p q o)
-unfolding CellOf
-on_cell_cell s p q None k = tt
-on_cell_cell s p q (Some c) k = on_channel_cell s p q c (channel_test s p q.chan) k
-
 pub tested_cell : (s : State) (p : Pid) (q : Asked) → IsProcess s p → CellOf s p q (request_test s p q)
 unfolding CellOf
-tested_cell s p q m = either (CellOf s p q) (is_bad q) _ _ tt (either (CellOf s p q) (nat_lt 127 q.efn) _ _ tt (on_cell_cell s p q (cell s p q.efn) (cell_made s p q.efn m)))
+tested_cell s p q m =
+    let P = CellOf s p q in
+    either P (is_bad q) _ _ tt (either P (nat_lt 127 q.efn) _ _ tt
+    ((elim (cell s p q.efn) as (λ (o : Option Cell). IfSome o (IsCellMade s) → P (on_cell s p q o)) [ None ↦ λ k. tt | Some c ↦ λ k. on_channel_cell s p q c (channel_test s p q.chan) k ]) (cell_made s p q.efn m)))
 
 pub qio_moves : {refs : Bool} (s : State) (p : Pid) (q : Asked) (r : Result (Cell × Channel) Cond) → CellOf s p q r → ((to : Cell × Channel) → r ≡ Ok to → refs ≡ true → IsFit s p q to.1) → Here s p → OutcomeBy refs s (qio_tested s p q r)
 unfolding CellOf

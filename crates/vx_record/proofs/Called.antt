@@ -1,5 +1,5 @@
 -- What references ask of a call: its labels are the image's, and the process has a frame.
-use Rattle.std.proofs.Common.{◌≡◌, ℕ, ◌+◌, List, [], ◌∷◌, true, length, IfSome, refl, ap, subst, sym, ◌<◌, ◌&&◌, Option, Some, None, option_map}
+use Rattle.std.proofs.Common.{◌≡◌, ℕ, ◌+◌, List, [], ◌∷◌, Bool, true, length, IfSome, refl, ap, arith, subst, sym, ◌<◌, ◌&&◌, Option, Some, None, option_map}
 use Rattle.std.proofs.lemmas.Bool.{and_parts}
 use Rattle.vx_base.specs.Services.{is_of_kind, are_args, args_list, params_of}
 use Rattle.vx_base.specs.declared.call.Args.{Args}
@@ -13,10 +13,10 @@ use Rattle.vx_image.specs.Storage.{Storage}
 use Rattle.vx_image.specs.WellFormed.{IsWellFormed, decl_names, is_image, has_its_label}
 use Rattle.vx_image.specs.declared.image.Image.{Image}
 use Rattle.vx_image.specs.declared.stop.Stop.{Stop}
-use Rattle.vx_record.specs.State.{Process, State, HasFrame, process_at, change, decl_of, image_of, no_image, with_top}
+use Rattle.vx_record.specs.State.{Process, State, HasFrame, process_at, change, decl_of, image_of, no_image, image_in}
 use Rattle.vx_record.specs.Events.{moved_to, moved_behind, reader}
 use Rattle.vx_record.specs.Services.{label, routine, routine_or_none, routine_at, label_place}
-use Rattle.vx_record.specs.Sound.{ground, image_for, IsRoutineOf, FitsImage}
+use Rattle.vx_record.specs.Sound.{ground, IsRoutineOf, FitsImage}
 use Rattle.vx_record.proofs.Fits.{field_same}
 use Rattle.vx_record.proofs.Lists.{all_get}
 use Rattle.vx_record.proofs.SoundCalls.{all_from_list, labelled, labelled_or_none, StopFits, advanced_fits}
@@ -36,15 +36,14 @@ pub record Labels (image : Image) (a : Args) : Type 0 where
   pub third : has_its_label image a.a2 ≡ true
   pub fifth : has_its_label image a.a4 ≡ true
 
+odd_ones : (a b c d e r : Bool) → (a && (b && (c && (d && (e && r))))) ≡ true → (a ≡ true) × ((c ≡ true) × (e ≡ true))
+odd_ones a b c d e r h = grind arith
+
 pub labels_of : (image : Image) (a : Args) → list_all (has_its_label image) (args_list a) ≡ true → Labels image a
 labels_of image a h =
     let p = has_its_label image in
-    let last = list_all p (a.a5 ∷ a.a6 ∷ a.a7 ∷ a.a8 ∷ []) in
-    let one = and_parts (p a.a0) (p a.a1 && (p a.a2 && (p a.a3 && (p a.a4 && last)))) h in
-    let two = and_parts (p a.a1) (p a.a2 && (p a.a3 && (p a.a4 && last))) one.1 in
-    let three = and_parts (p a.a2) (p a.a3 && (p a.a4 && last)) two.1 in
-    let four = and_parts (p a.a3) (p a.a4 && last) three.1 in
-    record { first = one.0; third = three.0; fifth = (and_parts (p a.a4) last four.1).0 }
+    let k = odd_ones (p a.a0) (p a.a1) (p a.a2) (p a.a3) (p a.a4) _ h in
+    record { first = k.0; third = k.1.0; fifth = k.1.1 }
 
 pub record IsCalled (s : State) (p : Pid) (a : Args) (v : Service) : Type 0 where
   pub args : are_args (params_of v) (args_list a) ≡ true
@@ -72,16 +71,12 @@ abbrev pub IsStopped : State → Pid → Stop → Type 0
 IsStopped s p x = StopFits (image_of s p) x × HasFrame s p
 
 image_moved : (s : State) (p : Pid) (store : Storage) (place : ℕ) → image_of (change s p (moved_to store place)) p ≡ image_of s p
-image_moved s p store place = ap (λ (n : ℕ). image_for s.system n) (field_same (λ (pr : Process). pr.decl) (moved_to store place) s p p refl)
+image_moved s p store place = ap (λ (n : ℕ). image_in s.system n) (field_same (λ (pr : Process). pr.decl) (moved_to store place) s p p refl)
 
 frame_moved : (s : State) (p : Pid) (store : Storage) (place : ℕ) → HasFrame s p → HasFrame (change s p (moved_to store place)) p
 frame_moved s p store place has =
     let f = moved_to store place in
-    rw (field_same (λ (pr : Process). length pr.frames) f s p p (same (process_at s p).frames)) has
-  where
-    same : (fs : List Frame) → length (with_top (λ f. record f { pc = place }) fs) ≡ length fs
-    same [] = refl
-    same (f ∷ fs) = refl
+    rw (field_same (λ (pr : Process). length pr.frames) f s p p (grind arith)) has
 
 pub moved_stopped : (s : State) (p : Pid) (store : Storage) (place : ℕ) (x : Stop) → IsStopped s p x → IsStopped (change s p (moved_to store place)) p x
 moved_stopped s p store place x k = (subst (λ (i : Image). StopFits i x) (sym (image_moved s p store place)) k.0, frame_moved s p store place k.1)

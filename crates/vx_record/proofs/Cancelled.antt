@@ -1,8 +1,8 @@
 -- Channels, cancelling and timers, as sequences of moves, and what is left on a channel that was cancelled.
-use Rattle.std.proofs.Common.{◌≡◌, ℕ, List, [], ◌∷◌, Bool, true, false, not, ◌==◌, ◌&&◌, nat_lt, length, Option, Some, None, Result, Ok, Err, is_some, position, is_none, refl, ◌∙◌}
-use Rattle.std.specs.List.{filter, find, list_any}
+use Rattle.std.proofs.Common.{◌≡◌, ℕ, List, [], ◌∷◌, Bool, true, false, not, ◌==◌, ◌&&◌, length, Option, Some, None, Result, Ok, Err, is_some, position, is_none, refl, ◌∙◌, ◌+◌, ◌-◌, ◌≤◌, IfSome, sym, ap, arith, subst, ◌<◌, ◌≢◌}
+use Rattle.std.specs.List.{filter, find, list_any, AllByRecursion}
 use Rattle.vx_base.specs.Modes.{outer}
-use Rattle.vx_base.specs.Pieces.{Channel, Request, Promised, Timer, Alarm, OfTimer, OfWake, Attention, Mailbox}
+use Rattle.vx_base.specs.Pieces.{Channel, Request, Timer, Alarm, OfTimer, OfWake, Attention, Mailbox}
 use Rattle.vx_base.specs.declared.cond.Cond.{Cond}
 use Rattle.vx_base.specs.declared.cond.Cond.TheVariants.{Cancel as Cancelled}
 use Rattle.vx_base.specs.declared.effects.Cell.{Cell}
@@ -11,54 +11,35 @@ use Rattle.vx_base.specs.declared.mode.Mode.{Mode}
 use Rattle.vx_base.specs.declared.number.Pid.{Pid}
 use Rattle.vx_base.specs.declared.request.Device.{Device}
 use Rattle.vx_base.specs.declared.request.Device.TheVariants as device
-use Rattle.vx_base.specs.declared.request.Req.{Req}
 use Rattle.vx_base.specs.declared.routine.Entry.{Entry}
-use Rattle.vx_record.specs.State.{State, process_at, change, current}
-use Rattle.vx_record.specs.Parts.{Part, Outcome, nothing, each, refused, at_tested}
+use Rattle.vx_record.specs.State.{State, process_at, change, current, IsProcess}
+use Rattle.vx_record.specs.Parts.{Part, Outcome, nothing, each, refused, at_tested, and_then}
 use Rattle.vx_record.specs.Charges.{exceeds, ast_need, timer_need}
-use Rattle.vx_record.specs.Flags.{cell, flag_part, flag_where_named}
-use Rattle.vx_record.specs.Finish.{Ending, ending, is_read, fin_part, buf_part, status_of, iosb_part, done_flag_part, done_ast_part, finish, this_request}
-use Rattle.vx_record.specs.Mailboxes.{mailbox_at, this_message, mcut_part}
-use Rattle.vx_record.specs.Channels.{box_named, with_channel, free_channel_of, assign_at, assign_to, is_bad_box, new_box, make_box, make_box_in, find_or_create, crembx, marked_box, delmbx_on, is_assigned, goes_unused, box_gone, swept_device, swept_box, free_channel}
-use Rattle.vx_record.specs.Cancel.{mark_part, withdraw, cancelled_request, cancel_request, is_request_on, is_attention_on, drop_attention, cancel_channel}
+use Rattle.vx_record.specs.Flags.{cell, flag_part, flag_where_named, with_local_flag}
+use Rattle.vx_record.specs.Finish.{Ending, ending, finish, this_request}
+use Rattle.vx_record.specs.Mailboxes.{mailbox_at, this_message, mcut_part, this_attention}
+use Rattle.vx_record.specs.Channels.{box_named, with_channel, free_channel_of, assign_at, assign_to, is_bad_box, new_box, make_box, make_box_in, find_or_create, crembx, marked_box, delmbx_on, is_assigned, goes_unused, box_gone, swept_device, swept_box, free_channel, box_number, box_made, is_box_of}
+use Rattle.vx_record.specs.Cancel.{mark_part, withdraw, cancelled_request, cancel_request, is_request_on, is_attention_on, drop_attention, cancel_channel, with_abort}
 use Rattle.vx_record.specs.Control.{with_wake}
-use Rattle.vx_record.specs.Timers.{drop_timer, drop_timers, setimr_at, setimr, scheduled, que_timer, fire_timer, fired, fire, is_due, at_time, next_time, tick}
+use Rattle.vx_record.specs.Timers.{drop_timer, drop_timers, setimr_at, setimr, scheduled, que_timer, fired, fire, is_due, at_time, next_time, tick, mode_of_ast, this_timer, due_again, after_wake, new_timer, new_wake, timer_set}
 use Rattle.vx_base.specs.Channels.{channel_at}
-use Rattle.vx_record.proofs.Lists.{either}
-use Rattle.std.proofs.Common.{◌+◌, ◌-◌, ◌≤◌, IfSome, sym, ap, arith, subst}
-use Rattle.std.proofs.lemmas.Bool.{eq-eqb, eqb-true, and_parts}
+use Rattle.vx_record.proofs.Lists.{either, either_by, all_weaker, all_both, all_filter, all_find, not_holds, all_less, all_amend, ordered_amend, ordered_less, removed, fails_not, false_from, apart_bools}
+use Rattle.std.proofs.lemmas.Bool.{eq-eqb, and_parts, and_from, or_left, or_right}
 use Rattle.std.proofs.Math.ListN.{length-set}
-use Rattle.std.specs.List.{AllByRecursion}
 use Rattle.std.specs.Prelude.{option_map}
-use Rattle.vx_base.specs.Lists.{less, amend}
+use Rattle.vx_base.specs.Lists.{less}
 use Rattle.vx_base.specs.declared.effects.Effect.TheVariants as effect
-use Rattle.vx_record.specs.Channels.{box_number, box_made}
-use Rattle.vx_record.specs.Timers.{mode_of_ast}
-use Rattle.vx_record.specs.State.{IsProcess}
-use Rattle.vx_record.specs.Parts.{and_then}
-use Rattle.vx_record.specs.Flags.{with_local_flag}
 use Rattle.vx_record.specs.Asts.{charged_ast}
-use Rattle.vx_record.specs.Cancel.{with_abort}
-use Rattle.vx_record.specs.Mailboxes.{this_attention}
-use Rattle.vx_record.specs.Timers.{this_timer, due_again, after_wake, new_timer, new_wake, timer_set}
-use Rattle.vx_record.specs.Sound.{AreOrdered, request_id, timer_id, attention_id}
-use Rattle.vx_record.proofs.Lists.{either_by, all_weaker, all_both, all_filter, all_find, not_holds}
-use Rattle.std.proofs.Common.{◌<◌}
+use Rattle.vx_record.specs.Sound.{AreOrdered, request_id, timer_id, attention_id, ground, IsRoutineOf, DeviceStands, RequestStands, MayBeServed}
 use Rattle.std.proofs.lemmas.List.Quantifiers.{position-Some}
-use Rattle.vx_record.proofs.Moves.{passed, IsAt, loosed_timer, fired_by, IsCellMade, IsAlarmMade, IsOfTimer, IsSilent, IsNewTimer, HasRequest, HasTimer, none, both, quiet, channel, flag, que, mark, mcut, box_opens, box_ends, box_marked, open_timer, open_wake, timer_fires, wake_fires, end_timer, time, MovesBy, PartBy, OutcomeBy}
-use Rattle.std.proofs.Common.{◌≢◌, inl, inr}
-use Rattle.std.proofs.lemmas.Bool.{and_from, or_cases, or_left, or_right}
-use Rattle.vx_record.specs.Channels.{is_box_of}
-use Rattle.vx_record.specs.Sound.{ground, IsRoutineOf, DeviceStands, RequestStands, MayBeServed}
+use Rattle.vx_record.proofs.Moves.{passed, IsAt, loosed_timer, fired_by, IsCellMade, IsAlarmMade, IsOfTimer, IsSilent, IsNewTimer, HasRequest, HasTimer, none, both, quiet, channel, flag, que, mark, mcut, box_opens, box_ends, box_marked, open_timer, open_wake, timer_fires, wake_fires, end_timer, time, MovesBy, PartBy, OutcomeBy, Answers, IsRow}
 use Rattle.vx_record.proofs.Firm.{IsFirm}
-use Rattle.vx_record.proofs.Lists.{all_less, all_amend, ordered_amend, ordered_less, removed, fails_not, false_from, apart_bools}
 use Rattle.vx_record.proofs.Changes.{with_wake_quiet}
 use Rattle.vx_record.proofs.Fits.{cell_seated, routine_seated}
-use Rattle.vx_record.proofs.Moves.{Answers, IsRow}
 use Rattle.vx_record.proofs.SoundChannels.{IsClear, is_on_box, free_row, is_some_box, made_there}
 use Rattle.vx_record.proofs.Base.{Base, moves_keep}
 use Rattle.vx_record.proofs.Finds.{other_id, find_less, find_amend, ordered_filter}
-use Rattle.vx_record.proofs.Apart.{set_where, Here, part_then, based_then, part_either, part_by, outcome_either, moves_if, each_moves, tamely, cell_made, named_flag, at_flag_moves, finish_moves, requests_found, timers_found, drop_attentions_moves, iosb_attention, flag_attention, cell_charged_as, room_as}
+use Rattle.vx_record.proofs.Apart.{set_where, Here, part_then, based_then, part_either, part_by, outcome_either, moves_if, each_moves, tamely, cell_made, named_flag, at_flag_moves, finish_moves, requests_found, timers_found, drop_attentions_moves, cell_charged_as, room_as}
 
 -- Channels.
 
@@ -67,12 +48,9 @@ at_tested_moves s go (Err c) f = none s None
 at_tested_moves s go (Ok x) f = f x refl
 
 -- a channel is assigned at the least free number
-row_free : (s : State) (p : Pid) (n : ℕ) → free_channel_of s p ≡ Some n → channel_at (process_at s p).channels n ≡ None
-row_free s p n e = (free_row 1 n (process_at s p).channels e).1
-
 assign_at_moves : {refs : Bool} (s : State) (p : Pid) (d : Device) (mode : Mode) (o : Option ℕ) → free_channel_of s p ≡ o → Answers refs s (DeviceStands (ground s) d) → OutcomeBy refs s (assign_at s p d mode o)
 assign_at_moves s p d mode None e k = none s None
-assign_at_moves s p d mode (Some n) e k = channel s None p n (Some (record { device = d; mode = mode })) (λ refers h. (row_free s p n e, k refers h))
+assign_at_moves s p d mode (Some n) e k = channel s None p n (Some (record { device = d; mode = mode })) (λ refers h. ((free_row 1 n (process_at s p).channels e).1, k refers h))
 
 pub assign_to_moves : {refs : Bool} (s : State) (p : Pid) (mode : Mode) (o : Option Device) → Answers refs s (IfSome o (DeviceStands (ground s))) → OutcomeBy refs s (assign_to s p mode o)
 assign_to_moves s p mode None k = none s None
@@ -83,7 +61,7 @@ make_box_moves s p mode box b None k e = none s None
 make_box_moves s p mode box b (Some n) k e =
     let a = (box_made s b box).after in
     let ch : Channel = record { device = device.Mailbox (box_number b); mode = mode } in
-    both s a (change a p (with_channel n (Some ch))) None None None (effect.Mbx box.name true ∷ []) [] (box_opens s b box) (channel a None p n (Some ch) (λ refers h. (row_free s p n e, made_there s b box k)))
+    both s a (change a p (with_channel n (Some ch))) None None None (effect.Mbx box.name true ∷ []) [] (box_opens s b box) (channel a None p n (Some ch) (λ refers h. ((free_row 1 n (process_at s p).channels e).1, made_there s b box k)))
 
 make_box_in_moves : {refs : Bool} (s : State) (p : Pid) (mode : Mode) (box : Mailbox) (o : Option ℕ) → position is_none s.boxes ≡ o → OutcomeBy refs s (make_box_in s p mode box o)
 make_box_in_moves s p mode box None e = none s None
@@ -125,53 +103,28 @@ withdraw_moves s r (device.Unit u) = none s None
 withdraw_moves s r (device.Mailbox b) = moves_if s None (list_any (this_message r.req.id) (mailbox_at s b).messages) (mcut_part s b r.req.id) (mcut s b r.req.id)
 
 pub withdraw_requests : (s : State) (r : Request) (d : Device) → (withdraw s r d).after.requests ≡ s.requests
-withdraw_requests s r (device.Unit u) = refl
-withdraw_requests s r (device.Mailbox b) = either (λ (x : Part). x.after.requests ≡ s.requests) (list_any (this_message r.req.id) (mailbox_at s b).messages) (mcut_part s b r.req.id) (nothing s) refl refl
-
-cancelled_moves : {refs : Bool} (s : State) (r : Request) → HasRequest s r → Base s → PartBy refs s (cancelled_request s r)
-cancelled_moves s r has h =
-    let w = withdraw s r r.req.device in
-    based_then s w (λ a. finish a r (ending Cancelled 0 0 [])) h (withdraw_moves s r r.req.device) (λ k. finish_moves w.after r (ending Cancelled 0 0 []) (rw (withdraw_requests s r r.req.device) has) k)
+withdraw_requests s r d = grind arith
 
 cancel_request_moves : {refs : Bool} (s : State) (r : Request) → Base s → HasRequest s r → PartBy refs s (cancel_request s r)
 cancel_request_moves {refs} s r h has =
     part_either s None None r.served _ (cancelled_request s r)
     (either_by (λ (x : Part). PartBy refs s x) (not r.marked) (mark_part s r) (nothing s) (λ t. mark s r has (not_holds r.marked t)) (λ f. none s None))
-    (cancelled_moves s r has h)
+    (let w = withdraw s r r.req.device in
+    based_then s w (λ a. finish a r (ending Cancelled 0 0 [])) h (withdraw_moves s r r.req.device) (λ k. finish_moves w.after r (ending Cancelled 0 0 []) (rw (withdraw_requests s r r.req.device) has) k))
 
 -- what a finish does to the list of requests
-
-flag_requests : (s : State) (o : Option Cell) (on : Bool) → (flag_where_named s o on).after.requests ≡ s.requests
-flag_requests s None on = refl
-flag_requests s (Some (Local p n)) on = refl
-flag_requests s (Some (Common g n k)) on = refl
-
-ast_requests : (s : State) (r : Req) (o : Option Promised) → (done_ast_part s r o).after.requests ≡ s.requests
-ast_requests s r None = refl
-ast_requests s r (Some ast) = refl
-
 pub finish_requests : (s : State) (r : Request) (e : Ending) → (finish s r e).after.requests ≡ less (this_request r.req.id) s.requests
-finish_requests s r e =
-    let a = (fin_part s r.req.id e.0.cond).after in
-    let b = (buf_part a r.req e).after in
-    let c = (iosb_part b r.req.p r.req.iosb (status_of e)).after in
-    let d = (done_flag_part c r.req).after in
-    ast_requests d r.req r.ast ∙ (flag_requests c (cell c r.req.p r.req.efn) true ∙ (either (λ (x : Part). x.after.requests ≡ b.requests) (not (r.req.iosb == 0)) _ (nothing b) refl refl ∙ either (λ (x : Part). x.after.requests ≡ a.requests) (is_read r.req.func && nat_lt 0 e.0.count) _ (nothing a) refl refl))
+finish_requests s r e = grind arith
 
-other_request : (l : List Request) (x y : Request) → request_id x + 1 ≤ request_id y → find (this_request y.req.id) l ≡ Some y → find (this_request y.req.id) (less (this_request x.req.id) l) ≡ Some y
-other_request l x y h e = find_less (this_request x.req.id) (this_request y.req.id) l y (λ z. other_id z.req.id.0 x.req.id.0 y.req.id.0 (λ same. omega arith)) e
-
-other_marked : (l : List Request) (x y : Request) → request_id x + 1 ≤ request_id y → find (this_request y.req.id) l ≡ Some y → find (this_request y.req.id) (amend (this_request x.req.id) with_abort l) ≡ Some y
-other_marked l x y h e =
-    let apart = λ (z : Request). other_id z.req.id.0 x.req.id.0 y.req.id.0 (λ same. omega arith) in
-    find_amend (this_request x.req.id) (this_request y.req.id) with_abort l y apart apart e
+cancelled_requests : (s : State) (r : Request) → (cancelled_request s r).after.requests ≡ less (this_request r.req.id) s.requests
+cancelled_requests s r = finish_requests (withdraw s r r.req.device).after r (ending Cancelled 0 0 []) ∙ ap (less (this_request r.req.id)) (withdraw_requests s r r.req.device)
 
 still_has : (s : State) (x y : Request) → request_id x + 1 ≤ request_id y → HasRequest s y → HasRequest (cancel_request s x).after y
 still_has s x y h e =
     let P = λ (a : Part). HasRequest a.after y in
-    either P x.served _ (cancelled_request s x) (either P (not x.marked) (mark_part s x) (nothing s) (other_marked s.requests x y h e) e)
-    (let w = withdraw s x x.req.device in
-    rw (finish_requests w.after x (ending Cancelled 0 0 []), withdraw_requests s x x.req.device) (other_request s.requests x y h e))
+    let apart = λ (z : Request). other_id z.req.id.0 x.req.id.0 y.req.id.0 (λ same. omega arith) in
+    either P x.served _ (cancelled_request s x) (either P (not x.marked) (mark_part s x) (nothing s) (find_amend (this_request x.req.id) (this_request y.req.id) with_abort s.requests y apart apart e) e)
+    (rw (cancelled_requests s x) (find_less (this_request x.req.id) (this_request y.req.id) s.requests y apart e))
 
 pub cancel_channel_moves : {refs : Bool} (s : State) (p : Pid) (n : ℕ) → Base s → PartBy refs s (cancel_channel s p n)
 cancel_channel_moves {refs} s p n h =
@@ -184,48 +137,56 @@ cancel_channel_moves {refs} s p n h =
 
 -- What is left on a channel that was cancelled.
 
-takes : Request → Request → Bool
-takes r t = this_request t.req.id r && not t.served
+-- each that a test is true of has one in the list that is to do
+abbrev IsToDo : {A : Type 0} → (A → Bool) → (A → A → Bool) → List A → A → Type 0
+IsToDo on takes todo x = on x ≡ true → list_any (takes x) todo ≡ true
+
+all_to_do : {A : Type 0} (on test : A → Bool) (takes : A → A → Bool) → ((x : A) → on x ≡ true → (test x ≡ true) × (takes x x ≡ true)) → (xs : List A) → AllByRecursion (IsToDo on takes (filter test xs)) xs
+all_to_do on test takes k [] = tt
+all_to_do on test takes k (x ∷ xs) =
+    let rest = all_to_do on test takes k xs in
+    let ys = filter test xs in
+    either_by (λ todo. AllByRecursion (IsToDo on takes todo) (x ∷ xs)) (test x) (x ∷ ys) ys
+    (λ e. ((λ o. or_left (takes x x) (list_any (takes x) ys) (k x o).1), all_weaker (IsToDo on takes ys) (IsToDo on takes (x ∷ ys)) (λ y h o. or_right (takes y x) (list_any (takes y) ys) (h o)) xs rest))
+    (λ e. ((λ o. absurd (apart_bools (test x) (k x o).0 e)), rest))
+
+past : {A : Type 0} (on : A → Bool) (takes : A → A → Bool) (t : A) (ts : List A) (x : A) → takes x t ≡ false → IsToDo on takes (t ∷ ts) x → IsToDo on takes ts x
+past on takes t ts x other k e = rw other at (k e)
+
+none_to_do : {A : Type 0} (on : A → Bool) (takes : A → A → Bool) (x : A) → IsToDo on takes [] x → on x ≡ false
+none_to_do on takes x k = false_from _ (λ e. let no : false ≡ true = k e in cc)
+
+-- of each of a list
+pub each_keeps : {A : Type 0} (P : State → Type 0) (f : State → A → Part) → ((s : State) (x : A) → P s → P (f s x).after) → (xs : List A) (s : State) → P s → P (each f xs s).after
+each_keeps P f k [] s h = h
+each_keeps P f k (x ∷ xs) s h = each_keeps P f k xs (f s x).after (k s x h)
 
 -- a request on the channel that is not in service is still to come
-Covered : Pid → ℕ → List Request → Request → Type 0
-Covered p n todo r = (not r.served && is_request_on p n r) ≡ true → list_any (takes r) todo ≡ true
+abbrev is_waiting : Pid → ℕ → Request → Bool
+is_waiting p n r = not r.served && is_request_on p n r
 
-past_served : (p : Pid) (n : ℕ) (t : Request) (ts : List Request) → t.served ≡ true → (r : Request) → Covered p n (t ∷ ts) r → Covered p n ts r
-unfolding takes Covered
-past_served p n t ts served r k e =
-    elim (or_cases (takes r t) (list_any (takes r) ts) (k e)) [
-      | inl here ↦ absurd (apart_bools t.served served (not_holds t.served (and_parts (this_request t.req.id r) (not t.served) here).1))
-      | inr there ↦ there
-    ]
+abbrev takes : Request → Request → Bool
+takes r t = this_request t.req.id r && not t.served
 
-past_gone : (p : Pid) (n : ℕ) (t : Request) (ts : List Request) (r : Request) → request_id r ≢ t.req.id.0 → Covered p n (t ∷ ts) r → Covered p n ts r
-unfolding takes Covered
-past_gone p n t ts r other k e =
-    elim (or_cases (takes r t) (list_any (takes r) ts) (k e)) [
-      | inl here ↦ absurd (other (eqb-true (request_id r) t.req.id.0 (and_parts (this_request t.req.id r) (not t.served) here).0))
-      | inr there ↦ there
-    ]
+abbrev Covered : Pid → ℕ → List Request → Request → Type 0
+Covered p n todo = IsToDo (is_waiting p n) takes todo
 
-abort_covered : (p : Pid) (n : ℕ) (ts : List Request) (r : Request) → Covered p n ts r → Covered p n ts (with_abort r)
-unfolding takes Covered
-abort_covered p n ts r k e = k e
+served_takes : (r t : Request) → t.served ≡ true → takes r t ≡ false
+served_takes r t e = grind arith
 
-cancelled_requests : (s : State) (r : Request) → (cancelled_request s r).after.requests ≡ less (this_request r.req.id) s.requests
-cancelled_requests s r =
-    let w = (withdraw s r r.req.device).after in
-    finish_requests w r (ending Cancelled 0 0 []) ∙ ap (less (this_request r.req.id)) (withdraw_requests s r r.req.device)
+other_takes : (r t : Request) → request_id r ≢ t.req.id.0 → takes r t ≡ false
+other_takes r t e = grind arith
 
 covered_after : (s : State) (p : Pid) (n high : ℕ) (t : Request) (ts : List Request) → AllByRecursion (Covered p n (t ∷ ts)) s.requests → AreOrdered request_id 0 high s.requests → AllByRecursion (Covered p n ts) (cancel_request s t).after.requests
 covered_after s p n high t ts k o =
     let P = λ (x : Part). AllByRecursion (Covered p n ts) x.after.requests in
     either_by P t.served _ (cancelled_request s t)
     (λ served.
-    let rest = all_weaker (Covered p n (t ∷ ts)) (Covered p n ts) (past_served p n t ts served) s.requests k in
-    either P (not t.marked) (mark_part s t) (nothing s) (all_amend (Covered p n ts) (this_request t.req.id) with_abort (abort_covered p n ts) s.requests rest) rest)
+    let rest = all_weaker (Covered p n (t ∷ ts)) (Covered p n ts) (λ r. past (is_waiting p n) takes t ts r (served_takes r t served)) s.requests k in
+    either P (not t.marked) (mark_part s t) (nothing s) (all_amend (Covered p n ts) (this_request t.req.id) with_abort (λ r k. k) s.requests rest) rest)
     (λ free.
     rw (cancelled_requests s t)
-    (all_weaker (λ r. Covered p n (t ∷ ts) r × (request_id r ≢ t.req.id.0)) (Covered p n ts) (λ r e. past_gone p n t ts r e.1 e.0) (less (this_request t.req.id) s.requests)
+    (all_weaker (λ r. Covered p n (t ∷ ts) r × (request_id r ≢ t.req.id.0)) (Covered p n ts) (λ r e. past (is_waiting p n) takes t ts r (other_takes r t e.1) e.0) (less (this_request t.req.id) s.requests)
     (all_both (Covered p n (t ∷ ts)) (λ r. request_id r ≢ t.req.id.0) (less (this_request t.req.id) s.requests) (all_less (Covered p n (t ∷ ts)) (this_request t.req.id) s.requests k)
     (removed request_id t.req.id.0 0 high s.requests o))))
 
@@ -235,126 +196,53 @@ cancel_ordered s high t o =
     either P t.served _ (cancelled_request s t) (either P (not t.marked) (mark_part s t) (nothing s) (ordered_amend request_id (this_request t.req.id) with_abort (λ x. refl) 0 high s.requests o) o)
     (rw (cancelled_requests s t) (ordered_less request_id (this_request t.req.id) 0 high s.requests o))
 
--- a request on the channel is in service
-AreServed : Pid → ℕ → Request → Type 0
-AreServed p n r = (not r.served && is_request_on p n r) ≡ false
-
-none_left : (p : Pid) (n : ℕ) (r : Request) → Covered p n [] r → AreServed p n r
-unfolding Covered AreServed
-none_left p n r k = false_from _ (λ e. let no : false ≡ true = k e in cc)
-
-each_cancel_served : (s : State) (p : Pid) (n high : ℕ) (todo : List Request) → AllByRecursion (Covered p n todo) s.requests → AreOrdered request_id 0 high s.requests → AllByRecursion (AreServed p n) (each cancel_request todo s).after.requests
-each_cancel_served s p n high [] c o = all_weaker (Covered p n []) (AreServed p n) (none_left p n) s.requests c
+each_cancel_served : (s : State) (p : Pid) (n high : ℕ) (todo : List Request) → AllByRecursion (Covered p n todo) s.requests → AreOrdered request_id 0 high s.requests → AllByRecursion (λ r. is_waiting p n r ≡ false) (each cancel_request todo s).after.requests
+each_cancel_served s p n high [] c o = all_weaker (Covered p n []) (λ r. is_waiting p n r ≡ false) (none_to_do (is_waiting p n) takes) s.requests c
 each_cancel_served s p n high (t ∷ ts) c o = each_cancel_served (cancel_request s t).after p n high ts (covered_after s p n high t ts c o) (cancel_ordered s high t o)
-
-covered_more : (p : Pid) (n : ℕ) (t : Request) (ts : List Request) (r : Request) → Covered p n ts r → Covered p n (t ∷ ts) r
-unfolding Covered
-covered_more p n t ts r k e = or_right (takes r t) (list_any (takes r) ts) (k e)
-
-covered_here : (p : Pid) (n : ℕ) (r : Request) (ts : List Request) → Covered p n (r ∷ ts) r
-unfolding takes Covered
-covered_here p n r ts e = or_left (takes r r) (list_any (takes r) ts) (and_from (this_request r.req.id r) (not r.served) (eq-eqb r.req.id.0 r.req.id.0 refl) (and_parts (not r.served) (is_request_on p n r) e).0)
-
-covered_not : (p : Pid) (n : ℕ) (r : Request) (ts : List Request) → is_request_on p n r ≡ false → Covered p n ts r
-unfolding Covered
-covered_not p n r ts other e = absurd (apart_bools (is_request_on p n r) (and_parts (not r.served) (is_request_on p n r) e).1 other)
-
-all_covered : (p : Pid) (n : ℕ) (xs : List Request) → AllByRecursion (Covered p n (filter (is_request_on p n) xs)) xs
-all_covered p n [] = tt
-all_covered p n (x ∷ xs) =
-    let rest = all_covered p n xs in
-    let ys = filter (is_request_on p n) xs in
-    either_by (λ todo. AllByRecursion (Covered p n todo) (x ∷ xs)) (is_request_on p n x) (x ∷ ys) ys
-    (λ e. (covered_here p n x ys, all_weaker (Covered p n ys) (Covered p n (x ∷ ys)) (covered_more p n x ys) xs rest)) (λ e. (covered_not p n x ys e, rest))
 
 -- the attention entries on it are dropped
 
-Attended : Pid → ℕ → List Attention → Attention → Type 0
-Attended p n todo a = is_attention_on p n a ≡ true → list_any (λ t. this_attention t.id a) todo ≡ true
+abbrev calls : Attention → Attention → Bool
+calls a t = this_attention t.id a
 
-past_dropped : (p : Pid) (n : ℕ) (t : Attention) (ts : List Attention) (a : Attention) → attention_id a ≢ t.id.0 → Attended p n (t ∷ ts) a → Attended p n ts a
-unfolding Attended
-past_dropped p n t ts a other k e =
-    elim (or_cases (this_attention t.id a) (list_any (λ t. this_attention t.id a) ts) (k e)) [ inl here ↦ absurd (other (eqb-true (attention_id a) t.id.0 here)) | inr there ↦ there ]
+other_calls : (a t : Attention) → attention_id a ≢ t.id.0 → calls a t ≡ false
+other_calls a t e = grind arith
 
-none_attended : (p : Pid) (n : ℕ) (a : Attention) → Attended p n [] a → is_attention_on p n a ≡ false
-unfolding Attended
-none_attended p n a k = false_from _ (λ e. let no : false ≡ true = k e in cc)
-
-attended_more : (p : Pid) (n : ℕ) (t : Attention) (ts : List Attention) (a : Attention) → Attended p n ts a → Attended p n (t ∷ ts) a
-unfolding Attended
-attended_more p n t ts a k e = or_right (this_attention t.id a) (list_any (λ t. this_attention t.id a) ts) (k e)
-
-attended_here : (p : Pid) (n : ℕ) (a : Attention) (ts : List Attention) → Attended p n (a ∷ ts) a
-unfolding Attended
-attended_here p n a ts e = or_left (this_attention a.id a) (list_any (λ t. this_attention t.id a) ts) (eq-eqb a.id.0 a.id.0 refl)
-
-attended_not : (p : Pid) (n : ℕ) (a : Attention) (ts : List Attention) → is_attention_on p n a ≡ false → Attended p n ts a
-unfolding Attended
-attended_not p n a ts other e = absurd (apart_bools (is_attention_on p n a) e other)
-
-all_attended : (p : Pid) (n : ℕ) (xs : List Attention) → AllByRecursion (Attended p n (filter (is_attention_on p n) xs)) xs
-all_attended p n [] = tt
-all_attended p n (x ∷ xs) =
-    let rest = all_attended p n xs in
-    let ys = filter (is_attention_on p n) xs in
-    either_by (λ todo. AllByRecursion (Attended p n todo) (x ∷ xs)) (is_attention_on p n x) (x ∷ ys) ys
-    (λ e. (attended_here p n x ys, all_weaker (Attended p n ys) (Attended p n (x ∷ ys)) (attended_more p n x ys) xs rest)) (λ e. (attended_not p n x ys e, rest))
+abbrev Attended : Pid → ℕ → List Attention → Attention → Type 0
+Attended p n todo = IsToDo (is_attention_on p n) calls todo
 
 each_drop_clear : (s : State) (p : Pid) (n high : ℕ) (todo : List Attention) → AllByRecursion (Attended p n todo) s.attention → AreOrdered attention_id 0 high s.attention → AllByRecursion (λ a. is_attention_on p n a ≡ false) (each drop_attention todo s).after.attention
-each_drop_clear s p n high [] k o = all_weaker (Attended p n []) (λ a. is_attention_on p n a ≡ false) (none_attended p n) s.attention k
+each_drop_clear s p n high [] k o = all_weaker (Attended p n []) (λ a. is_attention_on p n a ≡ false) (none_to_do (is_attention_on p n) calls) s.attention k
 each_drop_clear s p n high (t ∷ ts) k o =
     let xs = less (this_attention t.id) s.attention in
     each_drop_clear (drop_attention s t).after p n high ts
-    (all_weaker (λ x. Attended p n (t ∷ ts) x × (attention_id x ≢ t.id.0)) (Attended p n ts) (λ x e. past_dropped p n t ts x e.1 e.0) xs
+    (all_weaker (λ x. Attended p n (t ∷ ts) x × (attention_id x ≢ t.id.0)) (Attended p n ts) (λ x e. past (is_attention_on p n) calls t ts x (other_calls x t e.1) e.0) xs
     (all_both (Attended p n (t ∷ ts)) (λ x. attention_id x ≢ t.id.0) xs (all_less (Attended p n (t ∷ ts)) (this_attention t.id) s.attention k) (removed attention_id t.id.0 0 high s.attention o)))
     (ordered_less attention_id (this_attention t.id) 0 high s.attention o)
-
-each_drop_requests : (s : State) (todo : List Attention) → (each drop_attention todo s).after.requests ≡ s.requests
-each_drop_requests s [] = refl
-each_drop_requests s (t ∷ ts) = each_drop_requests (drop_attention s t).after ts
 
 -- what holds of all attention entries holds of those that are left
 
 flag_attention_same : (s : State) (r : Request) (e : Ending) → (finish s r e).after.attention ≡ s.attention
-flag_attention_same s r e =
-    let a = (fin_part s r.req.id e.0.cond).after in
-    let b = (buf_part a r.req e).after in
-    let c = (iosb_part b r.req.p r.req.iosb (status_of e)).after in
-    let d = (done_flag_part c r.req).after in
-    ast_same d r.req r.ast ∙ (flag_attention c (cell c r.req.p r.req.efn) true ∙ (iosb_attention b r.req.p r.req.iosb (status_of e) ∙ either (λ (x : Part). x.after.attention ≡ a.attention) (is_read r.req.func && nat_lt 0 e.0.count) _ (nothing a) refl refl))
-  where
-    ast_same : (s : State) (r : Req) (o : Option Promised) → (done_ast_part s r o).after.attention ≡ s.attention
-    ast_same s r None = refl
-    ast_same s r (Some ast) = refl
+flag_attention_same s r e = grind arith
 
 cancel_request_attention : (s : State) (r : Request) → (cancel_request s r).after.attention ≡ s.attention
 cancel_request_attention s r =
     let P = λ (x : Part). x.after.attention ≡ s.attention in
     let w = (withdraw s r r.req.device).after in
-    either P r.served _ (cancelled_request s r) (either P (not r.marked) (mark_part s r) (nothing s) refl refl) (flag_attention_same w r (ending Cancelled 0 0 []) ∙ withdrawn r.req.device)
-  where
-    withdrawn : (d : Device) → (withdraw s r d).after.attention ≡ s.attention
-    withdrawn (device.Unit u) = refl
-    withdrawn (device.Mailbox b) = either (λ (x : Part). x.after.attention ≡ s.attention) (list_any (this_message r.req.id) (mailbox_at s b).messages) (mcut_part s b r.req.id) (nothing s) refl refl
-
-each_cancel_attention : (s : State) (todo : List Request) → (each cancel_request todo s).after.attention ≡ s.attention
-each_cancel_attention s [] = refl
-each_cancel_attention s (t ∷ ts) = each_cancel_attention (cancel_request s t).after ts ∙ cancel_request_attention s t
-
-each_drop_all : (P : Attention → Type 0) (s : State) (todo : List Attention) → AllByRecursion P s.attention → AllByRecursion P (each drop_attention todo s).after.attention
-each_drop_all P s [] k = k
-each_drop_all P s (t ∷ ts) k = each_drop_all P (drop_attention s t).after ts (all_less P (this_attention t.id) s.attention k)
+    let same : w.attention ≡ s.attention = grind arith in
+    either P r.served _ (cancelled_request s r) (either P (not r.marked) (mark_part s r) (nothing s) refl refl) (flag_attention_same w r (ending Cancelled 0 0 []) ∙ same)
 
 pub cancel_channel_all : (P : Attention → Type 0) (s : State) (p : Pid) (n : ℕ) → AllByRecursion P s.attention → AllByRecursion P (cancel_channel s p n).after.attention
 cancel_channel_all P s p n k =
     let a = (each cancel_request (filter (is_request_on p n) s.requests) s).after in
-    each_drop_all P a (filter (is_attention_on p n) a.attention) (rw (each_cancel_attention s (filter (is_request_on p n) s.requests)) k)
+    each_keeps (λ x. AllByRecursion P x.attention) drop_attention (λ t y. all_less P (this_attention y.id) t.attention) (filter (is_attention_on p n) a.attention) a
+    (each_keeps (λ x. AllByRecursion P x.attention) cancel_request (λ t r k. rw (cancel_request_attention t r) k) (filter (is_request_on p n) s.requests) s k)
 
 pub cancel_channel_attention : (s : State) (p : Pid) (n : ℕ) → Base s → AllByRecursion (λ a. is_attention_on p n a ≡ false) (cancel_channel s p n).after.attention
 cancel_channel_attention s p n h =
     let a = (each cancel_request (filter (is_request_on p n) s.requests) s).after in
-    each_drop_clear a p n s.next (filter (is_attention_on p n) a.attention) (all_attended p n a.attention) (rw (each_cancel_attention s (filter (is_request_on p n) s.requests)) h.attention)
+    each_drop_clear a p n s.next (filter (is_attention_on p n) a.attention) (all_to_do (is_attention_on p n) (is_attention_on p n) calls (λ x e. (e, eq-eqb x.id.0 x.id.0 refl)) a.attention)
+    (each_keeps (λ x. AreOrdered attention_id 0 s.next x.attention) cancel_request (λ t r k. rw (cancel_request_attention t r) k) (filter (is_request_on p n) s.requests) s h.attention)
 
 -- a request on a mailbox is not in service
 box_unserved : (served : Bool) (d : Device) → MayBeServed served d → is_on_box d ≡ true → not served ≡ true
@@ -362,19 +250,20 @@ box_unserved served (device.Unit u) k e = cc
 box_unserved served (device.Mailbox b) k e = fails_not served k
 
 pub cancel_channel_clears : (s : State) (p : Pid) (n : ℕ) → Base s → IsFirm (cancel_channel s p n).after → IsClear (cancel_channel s p n).after p n
-unfolding AreServed
 cancel_channel_clears s p n h i =
     let todo = filter (is_request_on p n) s.requests in
     let a = (each cancel_request todo s).after in
     let t = (cancel_channel s p n).after in
-    let served : AllByRecursion (AreServed p n) t.requests = rw (each_drop_requests a (filter (is_attention_on p n) a.attention)) (each_cancel_served s p n s.next todo (all_covered p n s.requests) h.requests) in
+    let Served = λ (r : Request). is_waiting p n r ≡ false in
+    let covered = all_to_do (is_waiting p n) (is_request_on p n) takes (λ r e. let b = and_parts (not r.served) (is_request_on p n r) e in (b.1, and_from (this_request r.req.id r) (not r.served) (eq-eqb r.req.id.0 r.req.id.0 refl) b.0)) s.requests in
+    let served = each_keeps (λ x. AllByRecursion Served x.requests) drop_attention (λ x y k. k) (filter (is_attention_on p n) a.attention) a (each_cancel_served s p n s.next todo covered h.requests) in
     record {
-      requests = all_weaker (λ r. RequestStands (ground t) r × AreServed p n r) (λ r. (is_on_box r.req.device && is_request_on p n r) ≡ false)
+      requests = all_weaker (λ r. RequestStands (ground t) r × Served r) (λ r. (is_on_box r.req.device && is_request_on p n r) ≡ false)
           (λ r k. false_from _
           (λ e.
           let both = and_parts (is_on_box r.req.device) (is_request_on p n r) e in
           apart_bools (not r.served && is_request_on p n r) (and_from (not r.served) (is_request_on p n r) (box_unserved r.served r.req.device k.0.served both.0) both.1) k.1)) t.requests
-          (all_both (RequestStands (ground t)) (AreServed p n) t.requests i.requests served);
+          (all_both (RequestStands (ground t)) Served t.requests i.requests served);
       attention = cancel_channel_attention s p n h;
     }
 
@@ -389,25 +278,22 @@ drop_timers_moves s passes h =
     (ordered_filter timer_id passes 0 s.next s.timers h.timers) (all_filter (HasTimer s) passes s.timers (timers_found s h)) h
 
 tag_mode : (mode : Mode) (o : Option Entry) → mode_of_ast mode o ≡ option_map (λ t. mode) o
-tag_mode mode None = refl
-tag_mode mode (Some tag) = refl
+tag_mode mode o = grind arith
+
+flag_made : (s : State) (p : Pid) (c : Cell) → IsProcess s p → IsProcess (flag_part s c false).after p
+flag_made s p (Local q n) m = record { above = m.above; within = (let e = length-set s.procs (q.0 - 1) (with_local_flag n false (process_at s q)) in omega (arith, e, m.within)) }
+flag_made s p (Common g x n) m = m
 
 pub setimr_moves : {refs : Bool} (s : State) (p : Pid) (efn delta : ℕ) (tag : Option Entry) (reqid : ℕ) → IsProcess s p → (refs ≡ true → IfSome tag (IsRoutineOf (ground s) p)) → OutcomeBy refs s (setimr s p efn delta tag reqid)
 setimr_moves {refs} s p efn delta tag reqid m is =
     at_flag_moves s p efn (refused s) (setimr_at s p efn delta tag reqid) m (λ c. none s None) (λ c k. either_by (λ (o : Outcome Cond). OutcomeBy refs s o) (exceeds s p (timer_need (is_some tag))) _ _ (λ t. none s None) (λ f. set_moves c k f))
   where
     set_moves : (c : Cell) → IsCellMade s c → exceeds s p (timer_need (is_some tag)) ≡ false → PartBy refs s (timer_set s p efn delta tag reqid c)
-    set_moves (Local q n) k f =
-        let a = (flag_part s (Local q n) false).after in
-        let m2 : IsProcess a p = record { above = m.above; within = (let e = length-set s.procs (q.0 - 1) (with_local_flag n false (process_at s q)) in omega (arith, e, m.within)) } in
+    set_moves c k f =
+        let a = (flag_part s c false).after in
         let t = new_timer a p efn delta tag reqid in
-        let new : IsNewTimer a p t = record { made = m2; id = refl; owner = refl; alarm = tt; room = room_as s a p (timer_need (is_some tag)) (cell_charged_as s p (Local q n) false) f } in
-        both s a _ None None None (effect.Flag (Local q n) false ∷ []) _ (flag s None (Local q n) false k tt tt) (open_timer a p (mode_of_ast (current a p) tag) t efn reqid (current a p) tag new refl (tag_mode (current a p) tag) (λ e h. record { made = new.made; alarm = routine_seated s a p tag (cell_seated s p (Local q n) false) (is e) }))
-    set_moves (Common g x n) k f =
-        let a = (flag_part s (Common g x n) false).after in
-        let t = new_timer a p efn delta tag reqid in
-        let new : IsNewTimer a p t = record { made = m; id = refl; owner = refl; alarm = tt; room = f } in
-        both s a _ None None None (effect.Flag (Common g x n) false ∷ []) _ (flag s None (Common g x n) false k tt tt) (open_timer a p (mode_of_ast (current a p) tag) t efn reqid (current a p) tag new refl (tag_mode (current a p) tag) (λ e h. record { made = new.made; alarm = routine_seated s a p tag (cell_seated s p (Common g x n) false) (is e) }))
+        let new : IsNewTimer a p t = record { made = flag_made s p c m; id = refl; owner = refl; alarm = tt; room = room_as s a p (timer_need (is_some tag)) (cell_charged_as s p c false) f } in
+        both s a _ None None None (effect.Flag c false ∷ []) _ (flag s None c false k tt tt) (open_timer a p (mode_of_ast (current a p) tag) t efn reqid (current a p) tag new refl (tag_mode (current a p) tag) (λ e h. record { made = new.made; alarm = routine_seated s a p tag (cell_seated s p c false) (is e) }))
 
 pub scheduled_moves : {refs : Bool} (s : State) (p : Pid) (delta repeat : ℕ) (q : Pid) → IsProcess s p → IsProcess s q → OutcomeBy refs s (scheduled s p delta repeat q)
 scheduled_moves {refs} s p delta repeat q m k =
@@ -441,23 +327,11 @@ fired_moves s t (OfWake target repeat) e h has =
     let a = after_wake s t repeat in
     both s a (change a target (with_wake true)) None None None (effect.Fire t.id ∷ []) [] (wake_fires s t target repeat has e) (quiet a None target (with_wake true) (woken a target true))
 
-fire_moves : {refs : Bool} (s : State) (t : Timer) → Base s → HasTimer s t → PartBy refs s (fire s t)
-fire_moves s t h has = fired_moves s t t.what refl h has
-
-flag_timers : (s : State) (o : Option Cell) (on : Bool) → (flag_where_named s o on).after.timers ≡ s.timers
-flag_timers s None on = refl
-flag_timers s (Some (Local p n)) on = refl
-flag_timers s (Some (Common g n k)) on = refl
-
-que_timers : (s : State) (t : Timer) (mode : Mode) (o : Option Entry) → (que_timer s t mode o).after.timers ≡ s.timers
-que_timers s t mode None = refl
-que_timers s t mode (Some tag) = refl
+fired_timers : (s : State) (t : Timer) (efn reqid : ℕ) (mode : Mode) (tag : Option Entry) → (fired s t (OfTimer efn reqid mode tag)).after.timers ≡ less (this_timer t.id) s.timers
+fired_timers s t efn reqid mode tag = grind arith
 
 still_timed : (s : State) (x : Timer) (a : Alarm) (y : Timer) → timer_id x + 1 ≤ timer_id y → HasTimer s y → HasTimer (fired s x a).after y
-still_timed s x (OfTimer efn reqid mode tag) y h e =
-    let one = (Rattle.vx_record.specs.Timers.fire_timer s x).after in
-    let two = (flag_where_named one (cell one x.p efn) true).after in
-    rw (que_timers two x mode tag, flag_timers one (cell one x.p efn) true) (timers_less s x y h e)
+still_timed s x (OfTimer efn reqid mode tag) y h e = rw (fired_timers s x efn reqid mode tag) (timers_less s x y h e)
 still_timed s x (OfWake target repeat) y h e =
     let apart = λ (z : Timer). other_id z.id.0 x.id.0 y.id.0 (λ same. omega arith) in
     either (λ (a : State). find (this_timer y.id) a.timers ≡ Some y) (repeat == 0) _ _ (timers_less s x y h e) (find_amend (this_timer x.id) (this_timer y.id) (due_again repeat) s.timers y apart apart e)
@@ -469,7 +343,7 @@ tick_moves {refs} s h =
     let k = (moves_keep s None [] a None first h).base in
     let todo = filter (is_due (next_time s)) s.timers in
     let second : PartBy refs a (each fire todo a) =
-    each_moves timer_id fire HasTimer fire_moves (λ t x y hx l e. still_timed t x x.what y l e) 0 s.next todo a
+    each_moves timer_id fire HasTimer (λ t x. fired_moves t x x.what refl) (λ t x y hx l e. still_timed t x x.what y l e) 0 s.next todo a
     (ordered_filter timer_id (is_due (next_time s)) 0 s.next s.timers h.timers) (all_filter (HasTimer a) (is_due (next_time s)) s.timers (timers_found s h)) k
     in
     both s a (each fire todo a).after None None None [] (each fire todo a).effects first second

@@ -1,6 +1,5 @@
 -- Changes of one process that keep references.
-use Rattle.std.proofs.Common.{IfSome}
-use Rattle.std.proofs.Common.{◌≡◌, ℕ, ◌-◌, ◌≤◌, List, [], ◌∷◌, Bool, false, nat_lt, length, Option, None, refl, sym, ◌∙◌, arith}
+use Rattle.std.proofs.Common.{IfSome, ◌≡◌, ℕ, ◌-◌, ◌≤◌, List, [], ◌∷◌, Bool, false, nat_lt, ◌==◌, length, Option, None, refl, ◌∙◌, arith}
 use Rattle.vx_base.specs.Pieces.{Queued, Handler, Status}
 use Rattle.vx_base.specs.declared.call.Target.{Target}
 use Rattle.vx_base.specs.declared.frame.Frame.{Frame}
@@ -17,39 +16,31 @@ use Rattle.vx_record.specs.Flags.{with_local_flag, with_wait}
 use Rattle.vx_record.specs.Asts.{with_queued, with_delivery}
 use Rattle.vx_record.specs.Finish.{with_stored_bytes, with_stored_status}
 use Rattle.vx_record.specs.Control.{with_wake, with_suspension}
-use Rattle.vx_record.specs.Rundown.{leaving, with_handler, without_handler, leaving_deleted, in_phase, without_ast, entering}
+use Rattle.vx_record.specs.Rundown.{this_handler, leaving, with_handler, without_handler, in_phase, without_ast, entering}
 use Rattle.vx_record.specs.Services.{with_variable}
 use Rattle.vx_record.specs.Events.{uses_wake, with_r0, moved_to, without_top, below_top, put_back}
-use Rattle.vx_record.specs.Sound.{ground, IsRoutine, IsRoutineOf, is_drained, IsIdle, ProcessStands}
-use Rattle.vx_record.specs.Sound.{IsSound}
+use Rattle.vx_record.specs.Sound.{ground, IsRoutine, IsRoutineOf, is_drained, IsIdle, ProcessStands, IsSound, WaitStands, WaitsStand}
 use Rattle.vx_record.proofs.Firm.{IsFirm}
 use Rattle.vx_record.proofs.Lists.{either, all_append, all_less, all_at}
-use Rattle.vx_record.specs.Sound.{WaitStands, WaitsStand}
-use Rattle.vx_record.proofs.Ground.{Seat, Still, change_sound, change_still}
+use Rattle.vx_record.proofs.Ground.{Still, change_sound, change_still}
 
 -- Idle processes.
 
 pub idle_none : (ph : Phase) → IsIdle ph []
 idle_none phase.Alive = tt
-idle_none (phase.Handlers m) = tt
-idle_none (phase.Draining m) = tt
-idle_none phase.Deleted = tt
+idle_none ph = tt
 
 -- a process with a frame drains nothing
 pub going_of : (ph : Phase) (frames : List Frame) → 1 ≤ length frames → IsIdle ph frames → (m : Mode) → is_drained ph m ≡ false
-going_of phase.Alive frames h i m = refl
-going_of (phase.Handlers n) frames h i m = refl
 going_of (phase.Draining n) [] h i m = absurd (omega arith)
 going_of (phase.Draining n) (f ∷ fs) h i m = absurd i
-going_of phase.Deleted frames h i m = refl
+going_of ph frames h i m = refl
 
 -- and may get any frames
 pub idle_of : (ph : Phase) (frames others : List Frame) → 1 ≤ length frames → IsIdle ph frames → IsIdle ph others
-idle_of phase.Alive frames others h i = tt
-idle_of (phase.Handlers n) frames others h i = tt
 idle_of (phase.Draining n) [] others h i = absurd (omega arith)
 idle_of (phase.Draining n) (f ∷ fs) others h i = absurd i
-idle_of phase.Deleted frames others h i = tt
+idle_of ph frames others h i = tt
 
 pub idle_top : (ph : Phase) (f : Frame → Frame) (frames : List Frame) → IsIdle ph frames → IsIdle ph (with_top f frames)
 idle_top ph f [] i = idle_none ph
@@ -85,63 +76,32 @@ pub record Quiet (x y : Process) : Type 0 where
   pub idle : IsIdle x.phase x.frames → IsIdle x.phase y.frames
   pub waits : WaitsStand x.frames → WaitsStand y.frames
 
-quiet_seat : (x y : Process) → Quiet x y → Seat x y
-quiet_seat x y q = record {
-  decl = q.decl;
-  channel = λ n ch e. rw q.channels e;
-  going = λ m e. rw q.phase e;
-}
-
-quiet_then : (x y z : Process) → Quiet x y → Quiet y z → Quiet x z
-quiet_then x y z a b = record {
-  decl = b.decl ∙ a.decl;
-  channels = b.channels ∙ a.channels;
-  asts = b.asts ∙ a.asts;
-  handlers = b.handlers ∙ a.handlers;
-  phase = b.phase ∙ a.phase;
-  idle = λ i. rw (sym a.phase) (b.idle (rw a.phase (a.idle i)));
-  waits = λ w. b.waits (a.waits w);
-}
-
 pub quiet_still : (s : State) (p : Pid) (f : Process → Process) → Quiet (process_at s p) (f (process_at s p)) → IsFirm s → Still s (change s p f)
-quiet_still s p f q h =
-    change_still s p f (quiet_seat (process_at s p) (f (process_at s p)) q)
-    (λ k. record {
-      decl = rw q.decl k.decl;
-      numbers = rw q.channels k.numbers;
-      channels = rw q.channels k.channels;
-      asts = rw (q.asts, q.decl) k.asts;
-      handlers = rw (q.handlers, q.decl) k.handlers;
-      idle = rw q.phase (q.idle k.idle);
-      waits = q.waits k.waits;
-    }) h
-
-same_frames : (x y : Process) → y.decl ≡ x.decl → y.channels ≡ x.channels → y.asts ≡ x.asts → y.handlers ≡ x.handlers → y.phase ≡ x.phase → y.frames ≡ x.frames → Quiet x y
-same_frames x y a b c d e f = record { decl = a; channels = b; asts = c; handlers = d; phase = e; idle = λ i. rw f i; waits = λ w. rw f w }
+quiet_still s p f q h = change_still s p f (search (q.decl, q.channels, q.phase)) (λ k. search (q.decl, q.channels, q.asts, q.handlers, q.phase, q.idle, q.waits)) h
 
 pub with_local_flag_quiet : (n : ℕ) (on : Bool) (pr : Process) → Quiet pr (with_local_flag n on pr)
-with_local_flag_quiet n on pr = either (Quiet pr) (nat_lt n 32) _ _ (same_frames pr _ refl refl refl refl refl refl) (same_frames pr _ refl refl refl refl refl refl)
+with_local_flag_quiet n on pr = either (Quiet pr) (nat_lt n 32) _ _ (search) (search)
 
 pub with_wait_quiet : (w : Option Wait) (pr : Process) → IfSome w WaitStands → Quiet pr (with_wait w pr)
 with_wait_quiet w pr k = record { decl = refl; channels = refl; asts = refl; handlers = refl; phase = refl; idle = idle_top pr.phase (λ f. record f { wait = w }) pr.frames; waits = λ h. waits_top (λ f. record f { wait = w }) pr.frames (λ f r. k) h }
 
 pub with_delivery_quiet : (m : Mode) (on : Bool) (pr : Process) → Quiet pr (with_delivery m on pr)
-with_delivery_quiet m on pr = same_frames pr _ refl refl refl refl refl refl
+with_delivery_quiet m on pr = search
 
 pub with_stored_bytes_quiet : (b : ℕ) (bytes : List ℕ) (pr : Process) → Quiet pr (with_stored_bytes b bytes pr)
-with_stored_bytes_quiet b bytes pr = same_frames pr _ refl refl refl refl refl refl
+with_stored_bytes_quiet b bytes pr = search
 
 pub with_stored_status_quiet : (i : ℕ) (status : Status) (pr : Process) → Quiet pr (with_stored_status i status pr)
-with_stored_status_quiet i status pr = same_frames pr _ refl refl refl refl refl refl
+with_stored_status_quiet i status pr = search
 
 pub with_wake_quiet : (on : Bool) (pr : Process) → Quiet pr (with_wake on pr)
-with_wake_quiet on pr = same_frames pr _ refl refl refl refl refl refl
+with_wake_quiet on pr = search
 
 pub with_suspension_quiet : (on : Bool) (pr : Process) → Quiet pr (with_suspension on pr)
-with_suspension_quiet on pr = same_frames pr _ refl refl refl refl refl refl
+with_suspension_quiet on pr = search
 
 pub with_variable_quiet : (t : Target) (n : ℕ) (pr : Process) → Quiet pr (with_variable t n pr)
-with_variable_quiet t n pr = same_frames pr _ refl refl refl refl refl refl
+with_variable_quiet t n pr = search
 
 pub moved_to_quiet : (store : Storage) (place : ℕ) (pr : Process) → Quiet pr (moved_to store place pr)
 moved_to_quiet store place pr = record { decl = refl; channels = refl; asts = refl; handlers = refl; phase = refl; idle = idle_top pr.phase (λ f. record f { pc = place }) pr.frames; waits = λ h. waits_top (λ f. record f { pc = place }) pr.frames (λ f r. r) h }
@@ -152,116 +112,40 @@ below_top_quiet pr = record { decl = refl; channels = refl; asts = refl; handler
 pub put_back_quiet : (r0 : ℕ) (pr : Process) → Quiet pr (put_back r0 pr)
 put_back_quiet r0 pr = record { decl = refl; channels = refl; asts = refl; handlers = refl; phase = refl; idle = idle_below pr.phase pr.frames; waits = λ h. waits_below pr.frames h }
 
-uses_wake_quiet : (w : Wait) (pr : Process) → Quiet pr (uses_wake w pr)
-uses_wake_quiet (wait.Flags a b c) pr = same_frames pr _ refl refl refl refl refl refl
-uses_wake_quiet (wait.Synch a b) pr = same_frames pr _ refl refl refl refl refl refl
-uses_wake_quiet wait.Hiber pr = same_frames pr _ refl refl refl refl refl refl
-
 pub woken_quiet : (w : Wait) (n : ℕ) (pr : Process) → Quiet pr (with_r0 n (uses_wake w (with_wait None pr)))
-woken_quiet w n pr =
-    quiet_then pr (with_wait None pr) _ (with_wait_quiet None pr tt)
-    (quiet_then (with_wait None pr) (uses_wake w (with_wait None pr)) _ (uses_wake_quiet w (with_wait None pr)) (same_frames (uses_wake w (with_wait None pr)) _ refl refl refl refl refl refl))
+woken_quiet wait.Hiber n pr = search (with_wait_quiet None pr tt)
+woken_quiet w n pr = search (with_wait_quiet None pr tt)
 
 -- Queued ASTs and handlers.
-
-same_seat_of : (x y : Process) → y.decl ≡ x.decl → y.channels ≡ x.channels → y.phase ≡ x.phase → Seat x y
-same_seat_of x y a b c = record { decl = a; channel = λ n ch e. rw b e; going = λ m e. rw c e }
 
 pub with_queued_still : (s : State) (p : Pid) (q : Queued) → IsRoutineOf (ground s) p q.tag → IsFirm s → Still s (change s p (with_queued q))
 with_queued_still s p q r h =
     let pr = process_at s p in
-    change_still s p (with_queued q) (same_seat_of pr (with_queued q pr) refl refl refl)
-    (λ k. record {
-      decl = k.decl;
-      numbers = k.numbers;
-      channels = k.channels;
-      asts = all_append (λ (x : Queued). IsRoutine s.system pr.decl x.tag) pr.asts (q ∷ []) k.asts (r, tt);
-      handlers = k.handlers;
-      idle = k.idle;
-      waits = k.waits;
-    }) h
+    change_still s p (with_queued q) (search) (λ k. search (all_append (λ (x : Queued). IsRoutine s.system pr.decl x.tag) pr.asts (q ∷ []) k.asts (r, tt))) h
 
 pub without_ast_still : (s : State) (p : Pid) (id : Id) → IsFirm s → Still s (change s p (without_ast id))
 without_ast_still s p id h =
     let pr = process_at s p in
-    change_still s p (without_ast id) (same_seat_of pr (without_ast id pr) refl refl refl)
-    (λ k. record {
-      decl = k.decl;
-      numbers = k.numbers;
-      channels = k.channels;
-      asts = all_less (λ (x : Queued). IsRoutine s.system pr.decl x.tag) _ pr.asts k.asts;
-      handlers = k.handlers;
-      idle = k.idle;
-      waits = k.waits;
-    }) h
+    change_still s p (without_ast id) (search) (λ k. search (all_less (λ (x : Queued). IsRoutine s.system pr.decl x.tag) (λ x. x.id.0 == id.0) pr.asts k.asts)) h
 
 pub with_handler_still : (s : State) (p : Pid) (d : Handler) → IsRoutineOf (ground s) p d.tag → IsFirm s → Still s (change s p (with_handler d))
-with_handler_still s p d r h =
-    let pr = process_at s p in
-    change_still s p (with_handler d) (same_seat_of pr (with_handler d pr) refl refl refl)
-    (λ k. record {
-      decl = k.decl;
-      numbers = k.numbers;
-      channels = k.channels;
-      asts = k.asts;
-      handlers = (r, k.handlers);
-      idle = k.idle;
-      waits = k.waits;
-    }) h
+with_handler_still s p d r h = change_still s p (with_handler d) (search) (λ k. search) h
 
 pub without_handler_still : (s : State) (p : Pid) (id : Id) → IsFirm s → Still s (change s p (without_handler id))
 without_handler_still s p id h =
     let pr = process_at s p in
-    change_still s p (without_handler id) (same_seat_of pr (without_handler id pr) refl refl refl)
-    (λ k. record {
-      decl = k.decl;
-      numbers = k.numbers;
-      channels = k.channels;
-      asts = k.asts;
-      handlers = all_less (λ (x : Handler). IsRoutine s.system pr.decl x.tag) _ pr.handlers k.handlers;
-      idle = k.idle;
-      waits = k.waits;
-    }) h
+    change_still s p (without_handler id) (search) (λ k. search (all_less (λ (x : Handler). IsRoutine s.system pr.decl x.tag) (this_handler id) pr.handlers k.handlers)) h
 
 -- Frames.
 
 pub entering_sound : (s : State) (p : Pid) (f : Frame) (id : Id) → IsIdle (process_at s p).phase (f ∷ (process_at s p).frames) → IfSome f.wait WaitStands → IsFirm s → IsFirm (change s p (entering f id))
 entering_sound s p f id i w h =
     let pr = process_at s p in
-    change_sound s p (entering f id) (same_seat_of pr (entering f id pr) refl refl refl)
-    (λ k. record {
-      decl = k.decl;
-      numbers = k.numbers;
-      channels = k.channels;
-      asts = k.asts;
-      handlers = all_less (λ (x : Handler). IsRoutine s.system pr.decl x.tag) _ pr.handlers k.handlers;
-      idle = i;
-      waits = (w, k.waits);
-    }) h
+    change_sound s p (entering f id) (search) (λ k. search (all_less (λ (x : Handler). IsRoutine s.system pr.decl x.tag) (this_handler id) pr.handlers k.handlers)) h
 
 pub leaving_going : (ph : Phase) (m n : Mode) → is_drained ph n ≡ false → is_drained (leaving ph m) n ≡ false
-leaving_going phase.Alive m n h = refl
-leaving_going (phase.Handlers k) m n h = h
-leaving_going (phase.Draining k) m n h = h
-leaving_going phase.Deleted m n h = h
-
-pub deleted_going : (ph : Phase) (n : Mode) → is_drained ph n ≡ false → is_drained (leaving_deleted ph) n ≡ false
-deleted_going phase.Alive n h = refl
-deleted_going (phase.Handlers k) n h = h
-deleted_going (phase.Draining k) n h = h
-deleted_going phase.Deleted n h = h
+leaving_going ph m n h = grind arith
 
 -- a phase that drains nothing
 pub in_phase_still : (s : State) (p : Pid) (ph : Phase) → ((m : Mode) → is_drained ph m ≡ false) → IsIdle ph (process_at s p).frames → IsFirm s → Still s (change s p (in_phase ph))
-in_phase_still s p ph g i h =
-    let pr = process_at s p in
-    change_still s p (in_phase ph) (record { decl = refl; channel = λ n ch e. e; going = λ m e. g m })
-    (λ k. record {
-      decl = k.decl;
-      numbers = k.numbers;
-      channels = k.channels;
-      asts = k.asts;
-      handlers = k.handlers;
-      idle = i;
-      waits = k.waits;
-    }) h
+in_phase_still s p ph g i h = change_still s p (in_phase ph) (search) (λ k. search) h

@@ -16,28 +16,7 @@ pub record IsFirm (s : State) : Type 0 where
   pub attention_ids : AreOrdered attention_id 0 s.next s.attention
 
 pub firm : (s : State) → IsSound s → IsFirm s
-firm s h = record {
-  units = h.units;
-  procs = h.procs;
-  associations = h.associations;
-  requests = h.requests;
-  timers = h.timers;
-  attention = h.attention;
-  request_ids = h.request_ids;
-  timer_ids = h.timer_ids;
-  attention_ids = h.attention_ids;
-}
+firm s h = search
 
 pub sound_of : (s : State) → IsFirm s → HaveOwnIds s → IsSound s
-sound_of s h own = record {
-  units = h.units;
-  procs = h.procs;
-  associations = h.associations;
-  requests = h.requests;
-  timers = h.timers;
-  attention = h.attention;
-  request_ids = h.request_ids;
-  timer_ids = h.timer_ids;
-  attention_ids = h.attention_ids;
-  own_ids = own;
-}
+sound_of s h own = search

@@ -27,11 +27,9 @@ pub field_same : {T : Type 0} (g : Process → T) (f : Process → Process) (s :
 field_same g f s p q h = kept_at g s.procs (p.0 - 1) (q.0 - 1) (f (process_at s p)) nobody h
   where
     kept_at : {A T : Type 0} (g : A → T) (l : List A) (i j : ℕ) (a d : A) → g a ≡ g (get_or l i d) → g (get_or (set l i a) j d) ≡ g (get_or l j d)
-    kept_at g [] i j a d h = refl
     kept_at g (x ∷ xs) zero zero a d h = h
-    kept_at g (x ∷ xs) zero (suc j) a d h = refl
-    kept_at g (x ∷ xs) (suc i) zero a d h = refl
     kept_at g (x ∷ xs) (suc i) (suc j) a d h = kept_at g xs i j a d h
+    kept_at g l i j a d h = refl
 
 -- the system is as it was, and a process has the declaration, the channels and the frames that it had
 pub record IsSeated (s t : State) (p : Pid) : Type 0 where
@@ -44,12 +42,7 @@ pub seated_then : (s t u : State) (p : Pid) → IsSeated s t p → IsSeated t u 
 seated_then s t u p a b = record { system = b.system ∙ a.system; decl = b.decl ∙ a.decl; channels = b.channels ∙ a.channels; frames = b.frames ∙ a.frames }
 
 seated : (s : State) (p q : Pid) (f : Process → Process) → (f (process_at s q)).decl ≡ (process_at s q).decl → (f (process_at s q)).channels ≡ (process_at s q).channels → (f (process_at s q)).frames ≡ (process_at s q).frames → IsSeated s (change s q f) p
-seated s p q f d c r = record {
-  system = refl;
-  decl = field_same (λ (pr : Process). pr.decl) f s q p d;
-  channels = field_same (λ (pr : Process). pr.channels) f s q p c;
-  frames = field_same (λ (pr : Process). pr.frames) f s q p r;
-}
+seated s p q f d c r = record { system = refl; decl = field_same (λ (pr : Process). pr.decl) f s q p d; channels = field_same (λ (pr : Process). pr.channels) f s q p c; frames = field_same (λ (pr : Process). pr.frames) f s q p r }
 
 pub cell_seated : (s : State) (p : Pid) (c : Cell) (on : Bool) → IsSeated s (with_cell s c on) p
 cell_seated s p (Local q n) on =
@@ -80,43 +73,16 @@ tested_fits s p q to e has r =
     let first = or_none (nat_lt 32 q.iosb) _ parts.0 in
     let second = or_none (nat_lt 31 q.buf) _ first.1 in
     let third = or_none (nat_lt 2048 q.len) _ second.1 in
-    record {
-      number = row.0;
-      row = row.1;
-      iosb = ltb-false 32 q.iosb first.0;
-      buf = ltb-false 31 q.buf second.0;
-      len = ltb-false 2048 q.len third.0;
-      frame = has;
-      routine = r;
-    }
+    search ltb-false
 
 pub fit_seated : (s t : State) (p : Pid) (q : Asked) (ch : Channel) → IsSeated s t p → IsFit s p q ch → IsFit t p q ch
-fit_seated s t p q ch k f = record {
-  number = f.number;
-  row = rw k.channels f.row;
-  iosb = f.iosb;
-  buf = f.buf;
-  len = f.len;
-  frame = rw k.frames f.frame;
-  routine = routine_seated s t p q.ast k f.routine;
-}
+fit_seated s t p q ch k f = search (k.channels, k.frames, routine_seated)
 
 pub fit_request : (s : State) (p : Pid) (q : Asked) (ch : Channel) → IsProcess s p → IsFit s p q ch → IsFirm s → RequestStands (ground s) (new_request s p q ch)
-fit_request s p q ch m f h = record {
-  made = m;
-  stands = device_stands s p q.chan ch m f.row h;
-  rooted = rooted_new (ground s) p q.chan ch.mode ch.device f.number f.row;
-  served = unserved ch.device;
-  iosb = f.iosb;
-  buf = f.buf;
-  len = f.len;
-  routine = promised_stands (ground s) p (current s p) q.ast f.routine;
-}
+fit_request s p q ch m f h = search (device_stands, rooted_new, unserved, promised_stands (ground s) p (current s p) q.ast f.routine)
 
 pub fit_attention : (s : State) (p : Pid) (q : Asked) (ch : Channel) (b : BoxNo) (tag : Entry) → IsProcess s p → ch.device ≡ device.Mailbox b → q.ast ≡ Some tag → IsFit s p q ch → IsFirm s → AttentionStands (ground s) (new_attention s p q b tag)
 fit_attention s p q ch b tag m on is f h =
-    let P : Option Entry → Type 0 = λ o. IfSome o (IsRoutineOf (ground s) p) in
-    let routine : P (Some tag) = subst P is f.routine in
     let row : channel_at (process_at s p).channels q.chan ≡ Some (record { device = device.Mailbox b; mode = ch.mode }) = subst (λ (d : Device). channel_at (process_at s p).channels q.chan ≡ Some (record { device = d; mode = ch.mode })) on f.row in
     record {
       made = m;
@@ -124,5 +90,5 @@ fit_attention s p q ch b tag m on is f h =
       channel_mode = ch.mode;
       channel = record { number = f.number; row = row };
       going = going_of (process_at s p).phase (process_at s p).frames f.frame (firm_at s p h m).idle ch.mode;
-      routine = routine;
+      routine = subst (λ (o : Option Entry). IfSome o (IsRoutineOf (ground s) p)) is f.routine;
     }

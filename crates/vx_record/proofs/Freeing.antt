@@ -1,5 +1,5 @@
 -- The channels of a mode that is drained are freed: nothing hangs on them.
-use Rattle.std.proofs.Common.{◌≡◌, ℕ, zero, suc, ◌+◌, ◌-◌, ◌<◌, ◌≤◌, List, [], ◌∷◌, true, false, not, ◌==◌, ◌&&◌, nat_le, length, Option, Some, None, get_or, set, refl, sym, ap, ◌∙◌, arith, subst, get_or-set_same}
+use Rattle.std.proofs.Common.{◌≡◌, ℕ, zero, suc, ◌+◌, ◌-◌, ◌<◌, ◌≤◌, List, [], ◌∷◌, true, false, ◌==◌, ◌&&◌, nat_le, length, Option, Some, None, get_or, set, refl, sym, ap, ◌∙◌, arith, subst, get_or-set_same}
 use Rattle.std.proofs.Math.ListN.{length-set}
 use Rattle.std.proofs.lemmas.Bool.{and_parts, and_from, eqb-true, le-leb}
 use Rattle.std.specs.List.{AllByRecursion, filter}
@@ -13,19 +13,17 @@ use Rattle.vx_base.specs.declared.number.Pid.{Pid}
 use Rattle.vx_base.specs.declared.request.Device.{Device}
 use Rattle.vx_base.specs.declared.request.Device.TheVariants as device
 use Rattle.vx_record.specs.State.{Process, State, IsProcess, process_at, change, nobody}
-use Rattle.vx_record.specs.Parts.{Part, nothing, each}
+use Rattle.vx_record.specs.Parts.{each}
 use Rattle.vx_record.specs.Charges.{is_same}
-use Rattle.vx_record.specs.Mailboxes.{mailbox_at}
-use Rattle.vx_record.specs.Channels.{with_channel, is_assigned, goes_unused, box_gone, swept_device, swept_box, free_channel}
+use Rattle.vx_record.specs.Channels.{with_channel, swept_box, free_channel}
 use Rattle.vx_record.specs.Cancel.{is_request_on, is_attention_on}
-use Rattle.vx_record.specs.Rundown.{in_phase, keeps_busy, free_one, drop_ast, is_ast_reached, release}
+use Rattle.vx_record.specs.Rundown.{in_phase, keeps_busy, free_one, drop_ast, is_ast_reached, release, without_ast}
 use Rattle.vx_record.specs.Sound.{ground, process_of, IsRooted, RequestStands, is_drained, AttentionStands}
 use Rattle.vx_record.proofs.Firm.{IsFirm}
-use Rattle.vx_record.proofs.Lists.{either, either_by, all_weaker, all_both, false_from, apart_bools}
+use Rattle.vx_record.proofs.Lists.{either_by, all_weaker, all_both, false_from, apart_bools}
 use Rattle.vx_record.proofs.Ground.{at_set}
 use Rattle.vx_record.proofs.Changes.{firm_at}
 use Rattle.vx_record.proofs.SoundChannels.{is_on_box, IsClear}
-use Rattle.vx_record.specs.Rundown.{without_ast}
 use Rattle.vx_record.proofs.Fits.{field_same}
 use Rattle.vx_record.proofs.Moves.{IsRow}
 
@@ -53,26 +51,13 @@ row_reached m None e = tt
 row_reached m (Some ch) e = e
 
 swept_procs : (s : State) (o : Option Channel) → (swept_box s o).after.procs ≡ s.procs
-swept_procs s None = refl
-swept_procs s (Some ch) = device_procs ch.device
-  where
-    device_procs : (d : Device) → (swept_device s d).after.procs ≡ s.procs
-    device_procs (device.Unit u) = refl
-    device_procs (device.Mailbox b) = either (λ (x : Part). x.after.procs ≡ s.procs) (not (is_assigned s b) && goes_unused (mailbox_at s b)) (box_gone s b) (nothing s) refl refl
+swept_procs s o = grind arith
 
 swept_requests : (s : State) (o : Option Channel) → (swept_box s o).after.requests ≡ s.requests
-swept_requests s None = refl
-swept_requests s (Some ch) = device_requests ch.device
-  where
-    device_requests : (d : Device) → (swept_device s d).after.requests ≡ s.requests
-    device_requests (device.Unit u) = refl
-    device_requests (device.Mailbox b) = either (λ (x : Part). x.after.requests ≡ s.requests) (not (is_assigned s b) && goes_unused (mailbox_at s b)) (box_gone s b) (nothing s) refl refl
+swept_requests s o = grind arith
 
 freed_procs : (s : State) (p : Pid) (n : ℕ) → (free_channel s p n).after.procs ≡ set s.procs (p.0 - 1) (with_channel n None (process_at s p))
 freed_procs s p n = swept_procs (change s p (with_channel n None)) (channel_at (process_at s p).channels n)
-
-freed_requests : (s : State) (p : Pid) (n : ℕ) → (free_channel s p n).after.requests ≡ s.requests
-freed_requests s p n = swept_requests (change s p (with_channel n None)) (channel_at (process_at s p).channels n)
 
 freed_seat : (R : Process → Process → Type 0) → ((x : Process) → R x x) → (s : State) (p : Pid) (n : ℕ) → R (process_at s p) (with_channel n None (process_at s p)) → R (process_at s p) (process_at (free_channel s p n).after p)
 freed_seat R same s p n k =
@@ -97,36 +82,27 @@ pub freeing_first : (s : State) (p : Pid) (m : Mode) → IsProcess s p → IsRel
 unfolding IsFreed
 freeing_first s p m made k =
     let rows = (process_at s p).channels in
-    record {
-      made = made;
-      released = k;
-      rows = all_weaker (λ n. (1 ≤ n) × (n < 1 + length rows) × (is_reached m (get_or rows (n - 1) None) ≡ true)) (IsFreed s p m) (λ n e. (e.0, omega (arith, e.1), row_reached m (channel_at rows n) e.2)) (channels_of m rows) (reached_rows 1 m rows);
-    }
+    let all = all_weaker (λ n. (1 ≤ n) × (n < 1 + length rows) × (is_reached m (get_or rows (n - 1) None) ≡ true)) (IsFreed s p m) (λ n e. (e.0, omega (arith, e.1), row_reached m (channel_at rows n) e.2)) (channels_of m rows) (reached_rows 1 m rows) in
+    record { made = made; released = k; rows = all }
+
+-- what is on a channel that the mode reaches is of that mode or an outer one
+row_of : (s : State) (p q : Pid) (m : Mode) (n k : ℕ) (ch : Channel) → RowReached m (channel_at (process_at s p).channels n) → channel_at (process_of (ground s) q).channels k ≡ Some ch → (is_same q p && (k == n)) ≡ true → reaches ch.mode m ≡ true
+unfolding RowReached
+row_of s p q m n k ch row c e =
+    let parts = and_parts (is_same q p) (k == n) e in
+    let its : channel_at (process_of (ground s) q).channels k ≡ channel_at (process_at s p).channels n = ap (λ (i : ℕ). channel_at (get_or s.procs (i - 1) nobody).channels k) (eqb-true q.0 p.0 parts.0) ∙ ap (λ (i : ℕ). channel_at (process_at s p).channels i) (eqb-true k n parts.1) in
+    subst (RowReached m) (sym its ∙ c) row
 
 clear_request : (s : State) (p : Pid) (m : Mode) (n : ℕ) (q : Pid) (k : ℕ) (mode : Mode) (d : Device) → RowReached m (channel_at (process_at s p).channels n) → IsRooted (ground s) q k mode d → (is_same q p && reaches mode m) ≡ false → (is_on_box d && (is_same q p && (k == n))) ≡ true → ⊥
-unfolding RowReached
 clear_request s p m n q k mode (device.Unit u) row c idle e = cc
-clear_request s p m n q k mode (device.Mailbox b) row c idle e =
-    let parts = and_parts (is_same q p) (k == n) e in
-    let one : q.0 ≡ p.0 = eqb-true q.0 p.0 parts.0 in
-    let two : k ≡ n = eqb-true k n parts.1 in
-    let ch : Channel = record { device = device.Mailbox b; mode = mode } in
-    let its : channel_at (process_of (ground s) q).channels k ≡ channel_at (process_at s p).channels n = ap (λ (i : ℕ). channel_at (get_or s.procs (i - 1) nobody).channels k) one ∙ ap (λ (i : ℕ). channel_at (process_at s p).channels i) two in
-    let there : RowReached m (Some ch) = subst (RowReached m) (sym its ∙ c.row) row in
-    apart_bools (is_same q p && reaches mode m) (and_from (is_same q p) (reaches mode m) parts.0 there) idle
+clear_request s p m n q k mode (device.Mailbox b) row c idle e = apart_bools (is_same q p && reaches mode m) (and_from (is_same q p) (reaches mode m) (and_parts (is_same q p) (k == n) e).0 (row_of s p q m n k (record { device = device.Mailbox b; mode = mode }) row c.row e)) idle
 
 clear_attention : (s : State) (p : Pid) (m : Mode) (n : ℕ) (a : Attention) → (process_at s p).phase ≡ phase.Draining m → RowReached m (channel_at (process_at s p).channels n) → AttentionStands (ground s) a → is_attention_on p n a ≡ true → ⊥
-unfolding RowReached
 clear_attention s p m n a drained row k e =
-    let parts = and_parts (is_same a.p p) (a.chan == n) e in
-    let one : a.p.0 ≡ p.0 = eqb-true a.p.0 p.0 parts.0 in
-    let two : a.chan ≡ n = eqb-true a.chan n parts.1 in
-    let ch : Channel = record { device = device.Mailbox a.box; mode = k.channel_mode } in
-    let its : channel_at (process_of (ground s) a.p).channels a.chan ≡ channel_at (process_at s p).channels n = ap (λ (i : ℕ). channel_at (get_or s.procs (i - 1) nobody).channels a.chan) one ∙ ap (λ (i : ℕ). channel_at (process_at s p).channels i) two in
-    let there : RowReached m (Some ch) = subst (RowReached m) (sym its ∙ k.channel.row) row in
+    let one : a.p.0 ≡ p.0 = eqb-true a.p.0 p.0 (and_parts (is_same a.p p) (a.chan == n) e).0 in
     let ph : (process_of (ground s) a.p).phase ≡ phase.Draining m = ap (λ (i : ℕ). (get_or s.procs (i - 1) nobody).phase) one ∙ drained in
     let going : is_drained (phase.Draining m) k.channel_mode ≡ false = subst (λ (x : Phase). is_drained x k.channel_mode ≡ false) ph k.going in
-    apart_bools (reaches k.channel_mode m) there going
+    apart_bools (reaches k.channel_mode m) (row_of s p a.p m n a.chan (record { device = device.Mailbox a.box; mode = k.channel_mode }) row k.channel.row e) going
 
 pub freeing_row : (s : State) (p : Pid) (m : Mode) (n : ℕ) (ns : List ℕ) → IsFreeing s p m (n ∷ ns) → IsFirm s → IsRow s p n None
 unfolding IsFreed
@@ -161,7 +137,7 @@ freed_on s p m n ns f =
       made = record { above = f.made.above; within = omega (arith, size, f.made.within) };
       released = record {
         phase = freed_seat (λ (x y : Process). x.phase ≡ phase.Draining m → y.phase ≡ phase.Draining m) (λ x e. e) s p n (λ e. e) f.released.phase;
-        idle = subst (AllByRecursion (λ r. keeps_busy p m r ≡ false)) (sym (freed_requests s p n)) f.released.idle;
+        idle = subst (AllByRecursion (λ r. keeps_busy p m r ≡ false)) (sym (swept_requests (change s p (with_channel n None)) (channel_at (process_at s p).channels n))) f.released.idle;
       };
       rows = all_weaker (IsFreed s p m) (IsFreed t p m) (is_freed_after s p m n) ns f.rows.1;
     }

@@ -39,21 +39,11 @@ pub made_keeps : (g h : Ground) → Keeps g h → (p : Pid) → IsMade g p → I
 made_keeps g h k p m = made_base g h k.base p m
 
 pub keeps_all : (g : Ground) → Keeps g g
-keeps_all g = record {
-  base = record { system = refl; more = omega arith; decl = λ p m. refl; units = refl };
-  channel = λ p n ch m e. e;
-  box = λ b h. h;
-  going = λ p m made h. h;
-}
+keeps_all g = search arith
 
 pub keeps_more : (g h i : Ground) → Keeps g h → Keeps h i → Keeps g i
 keeps_more g h i a b = record {
-  base = record {
-    system = b.base.system ∙ a.base.system;
-    more = omega (arith, a.base.more, b.base.more);
-    decl = λ p m. b.base.decl p (made_keeps g h a p m) ∙ a.base.decl p m;
-    units = b.base.units ∙ a.base.units;
-  };
+  base = record { system = b.base.system ∙ a.base.system; more = omega (arith, a.base.more, b.base.more); decl = λ p m. b.base.decl p (made_keeps g h a p m) ∙ a.base.decl p m; units = b.base.units ∙ a.base.units };
   channel = λ p n ch m e. b.channel p n ch (made_keeps g h a p m) (a.channel p n ch m e);
   box = λ box e. b.box box (a.box box e);
   going = λ p m made e. b.going p m (made_keeps g h a p made) (a.going p m made e);
@@ -89,16 +79,9 @@ rooted_keeps g h k p n mode (device.Unit u) m r = tt
 rooted_keeps g h k p n mode (device.Mailbox b) m r = has_channel_keeps g h k p n b mode m r
 
 pub request_moves : (g h : Ground) → Base g h → (r : Request) → (DeviceStands g r.req.device → DeviceStands h r.req.device) → (IsRooted g r.req.p r.req.chan r.req.chan_mode r.req.device → IsRooted h r.req.p r.req.chan r.req.chan_mode r.req.device) → RequestStands g r → RequestStands h r
-request_moves g h k r d c f = record {
-  made = made_base g h k r.req.p f.made;
-  stands = d f.stands;
-  rooted = c f.rooted;
-  served = f.served;
-  iosb = f.iosb;
-  buf = f.buf;
-  len = f.len;
-  routine = some_weaker (λ (ast : Promised). IsRoutineOf g r.req.p ast.tag) (λ ast. IsRoutineOf h r.req.p ast.tag) (λ ast e. routine_of_moves g h k r.req.p ast.tag f.made e) r.ast f.routine;
-}
+request_moves g h k r d c f =
+    let routine = some_weaker (λ (ast : Promised). IsRoutineOf g r.req.p ast.tag) (λ ast. IsRoutineOf h r.req.p ast.tag) (λ ast e. routine_of_moves g h k r.req.p ast.tag f.made e) r.ast f.routine in
+    search made_base
 
 pub request_keeps : (g h : Ground) → Keeps g h → (r : Request) → RequestStands g r → RequestStands h r
 request_keeps g h k r f =
@@ -111,26 +94,18 @@ alarm_moves g h k p (OfWake target repeat) m f = made_base g h k target f
 pub timer_moves : (g h : Ground) → Base g h → (t : Timer) → TimerStands g t → TimerStands h t
 timer_moves g h k t f = record { made = made_base g h k t.p f.made; alarm = alarm_moves g h k t.p t.what f.made f.alarm }
 
+pub attention_moves : (g h : Ground) → Base g h → (a : Attention) (f : AttentionStands g a) → BoxStands h a.box → HasChannel h a.p a.chan a.box f.channel_mode → is_drained (process_of h a.p).phase f.channel_mode ≡ false → AttentionStands h a
+attention_moves g h k a f b c d = search (made_base, routine_of_moves)
+
 pub attention_keeps : (g h : Ground) → Keeps g h → (a : Attention) → AttentionStands g a → AttentionStands h a
-attention_keeps g h k a f = record {
-  made = made_keeps g h k a.p f.made;
-  stands = k.box a.box f.stands;
-  channel_mode = f.channel_mode;
-  channel = has_channel_keeps g h k a.p a.chan a.box f.channel_mode f.made f.channel;
-  going = k.going a.p f.channel_mode f.made f.going;
-  routine = routine_of_moves g h k.base a.p a.tag f.made f.routine;
-}
+attention_keeps g h k a f = attention_moves g h k.base a f (k.box a.box f.stands) (has_channel_keeps g h k a.p a.chan a.box f.channel_mode f.made f.channel) (k.going a.p f.channel_mode f.made f.going)
 
 pub process_moves : (g h : Ground) → h.system ≡ g.system → h.units ≡ g.units → ((b : BoxNo) → BoxStands g b → BoxStands h b) → (pr : Process) → ProcessStands g pr → ProcessStands h pr
-process_moves g h e u k pr f = record {
-  decl = rw e f.decl;
-  numbers = f.numbers;
-  channels = all_weaker (ChannelStands g) (ChannelStands h) (row_moves g h u k) pr.channels f.channels;
-  asts = all_weaker (λ (q : Queued). IsRoutine g.system pr.decl q.tag) (λ q. IsRoutine h.system pr.decl q.tag) (λ q r. routine_moves g.system h.system pr.decl pr.decl q.tag e refl r) pr.asts f.asts;
-  handlers = all_weaker (λ (q : Handler). IsRoutine g.system pr.decl q.tag) (λ q. IsRoutine h.system pr.decl q.tag) (λ q r. routine_moves g.system h.system pr.decl pr.decl q.tag e refl r) pr.handlers f.handlers;
-  idle = f.idle;
-  waits = f.waits;
-}
+process_moves g h e u k pr f =
+    let channels = all_weaker (ChannelStands g) (ChannelStands h) (row_moves g h u k) pr.channels f.channels in
+    let asts = all_weaker (λ (q : Queued). IsRoutine g.system pr.decl q.tag) (λ q. IsRoutine h.system pr.decl q.tag) (λ q r. routine_moves g.system h.system pr.decl pr.decl q.tag e refl r) pr.asts f.asts in
+    let handlers = all_weaker (λ (q : Handler). IsRoutine g.system pr.decl q.tag) (λ q. IsRoutine h.system pr.decl q.tag) (λ q r. routine_moves g.system h.system pr.decl pr.decl q.tag e refl r) pr.handlers f.handlers in
+    search e
 
 pub association_moves : (n m : ℕ) (c : Common) → n ≤ m → (a : Association) → AssociationStands n c a → AssociationStands m c a
 association_moves n m c k a f = record { made = record { above = f.made.above; within = omega (arith, f.made.within) }; stands = f.stands }
@@ -145,109 +120,36 @@ pub still : (s : State) → IsFirm s → Still s s
 still s h = record { sound = h; keeps = keeps_all (ground s) }
 
 pub still_then : {s t u : State} → Still s t → Still t u → Still s u
-still_then {s} {t} {u} a b = record {
-  sound = b.sound;
-  keeps = keeps_more (ground s) (ground t) (ground u) a.keeps b.keeps;
-}
+still_then {s} {t} {u} a b = record { sound = b.sound; keeps = keeps_more (ground s) (ground t) (ground u) a.keeps b.keeps }
 
 -- other processes, mailboxes and units
-pub moved : (s : State) (procs : List Process) (boxes : List (Option Mailbox)) (units : List DeviceUnit) → length units ≡ length s.units → Keeps (ground s) (ground (record s { procs = procs; boxes = boxes; units = units })) → AllByRecursion (ProcessStands (ground (record s { procs = procs; boxes = boxes; units = units }))) procs → IsFirm s → IsFirm (record s { procs = procs; boxes = boxes; units = units })
-moved s procs boxes units e k f h =
-    let g = ground s in
+-- where what requests and attention entries refer to is shown of each
+pub rebuilt : (s : State) (procs : List Process) (boxes : List (Option Mailbox)) (units : List DeviceUnit) → length units ≡ length s.units → Base (ground s) (ground (record s { procs = procs; boxes = boxes; units = units })) → AllByRecursion (ProcessStands (ground (record s { procs = procs; boxes = boxes; units = units }))) procs → AllByRecursion (RequestStands (ground (record s { procs = procs; boxes = boxes; units = units }))) s.requests → AllByRecursion (AttentionStands (ground (record s { procs = procs; boxes = boxes; units = units }))) s.attention → IsFirm s → IsFirm (record s { procs = procs; boxes = boxes; units = units })
+rebuilt s procs boxes units e b f r a h =
     let to = ground (record s { procs = procs; boxes = boxes; units = units }) in
-    record {
-      units = e ∙ h.units;
-      procs = f;
-      associations = all_weaker (AssociationStands (length s.procs) s.common) (AssociationStands (length procs) s.common) (association_moves (length s.procs) (length procs) s.common k.base.more) s.common.associations h.associations;
-      requests = all_weaker (RequestStands g) (RequestStands to) (request_keeps g to k) s.requests h.requests;
-      timers = all_weaker (TimerStands g) (TimerStands to) (timer_moves g to k.base) s.timers h.timers;
-      attention = all_weaker (AttentionStands g) (AttentionStands to) (attention_keeps g to k) s.attention h.attention;
-      request_ids = h.request_ids;
-      timer_ids = h.timer_ids;
-      attention_ids = h.attention_ids;
-    }
+    let associations = all_weaker (AssociationStands (length s.procs) s.common) (AssociationStands (length procs) s.common) (association_moves (length s.procs) (length procs) s.common b.more) s.common.associations h.associations in
+    let timers = all_weaker (TimerStands (ground s)) (TimerStands to) (timer_moves (ground s) to b) s.timers h.timers in
+    search (e ∙ h.units)
+
+pub moved : (s : State) (procs : List Process) (boxes : List (Option Mailbox)) (units : List DeviceUnit) → length units ≡ length s.units → Keeps (ground s) (ground (record s { procs = procs; boxes = boxes; units = units })) → AllByRecursion (ProcessStands (ground (record s { procs = procs; boxes = boxes; units = units }))) procs → IsFirm s → IsFirm (record s { procs = procs; boxes = boxes; units = units })
+moved s procs boxes units e k f h = rebuilt s procs boxes units e k.base f (all_weaker _ _ (request_keeps _ _ k) s.requests h.requests) (all_weaker _ _ (attention_keeps _ _ k) s.attention h.attention) h
 
 -- other requests, timers, attention entries, associations, another time and next id
 
 pub requests_still : (s : State) (xs : List Request) → AllByRecursion (RequestStands (ground s)) xs → AreOrdered request_id 0 s.next xs → IsFirm s → Still s (record s { requests = xs })
-requests_still s xs f o h = record {
-  keeps = keeps_all (ground s);
-  sound = record {
-    units = h.units;
-    procs = h.procs;
-    associations = h.associations;
-    requests = f;
-    timers = h.timers;
-    attention = h.attention;
-    request_ids = o;
-    timer_ids = h.timer_ids;
-    attention_ids = h.attention_ids;
-  };
-}
+requests_still s xs f o h = search keeps_all
 
 pub timers_still : (s : State) (xs : List Timer) → AllByRecursion (TimerStands (ground s)) xs → AreOrdered timer_id 0 s.next xs → IsFirm s → Still s (record s { timers = xs })
-timers_still s xs f o h = record {
-  keeps = keeps_all (ground s);
-  sound = record {
-    units = h.units;
-    procs = h.procs;
-    associations = h.associations;
-    requests = h.requests;
-    timers = f;
-    attention = h.attention;
-    request_ids = h.request_ids;
-    timer_ids = o;
-    attention_ids = h.attention_ids;
-  };
-}
+timers_still s xs f o h = search keeps_all
 
 pub attention_still : (s : State) (xs : List Attention) → AllByRecursion (AttentionStands (ground s)) xs → AreOrdered attention_id 0 s.next xs → IsFirm s → Still s (record s { attention = xs })
-attention_still s xs f o h = record {
-  keeps = keeps_all (ground s);
-  sound = record {
-    units = h.units;
-    procs = h.procs;
-    associations = h.associations;
-    requests = h.requests;
-    timers = h.timers;
-    attention = f;
-    request_ids = h.request_ids;
-    timer_ids = h.timer_ids;
-    attention_ids = o;
-  };
-}
+attention_still s xs f o h = search keeps_all
 
 pub common_still : (s : State) (c : Common) → AllByRecursion (AssociationStands (length s.procs) c) c.associations → IsFirm s → Still s (record s { common = c })
-common_still s c f h = record {
-  keeps = keeps_all (ground s);
-  sound = record {
-    units = h.units;
-    procs = h.procs;
-    associations = f;
-    requests = h.requests;
-    timers = h.timers;
-    attention = h.attention;
-    request_ids = h.request_ids;
-    timer_ids = h.timer_ids;
-    attention_ids = h.attention_ids;
-  };
-}
+common_still s c f h = search keeps_all
 
 pub later_still : (s : State) (time next : ℕ) → s.next ≤ next → IsFirm s → Still s (record s { time = time; next = next })
-later_still s time next k h = record {
-  keeps = keeps_all (ground s);
-  sound = record {
-    units = h.units;
-    procs = h.procs;
-    associations = h.associations;
-    requests = h.requests;
-    timers = h.timers;
-    attention = h.attention;
-    request_ids = ordered_below request_id 0 s.next next s.requests k h.request_ids;
-    timer_ids = ordered_below timer_id 0 s.next next s.timers k h.timer_ids;
-    attention_ids = ordered_below attention_id 0 s.next next s.attention k h.attention_ids;
-  };
-}
+later_still s time next k h = search (keeps_all, ordered_below)
 
 pub past_id_still : (s : State) → IsFirm s → Still s (past_id s)
 past_id_still s h = later_still s s.time (s.next + 1) (omega arith) h
@@ -274,12 +176,7 @@ pub change_keeps : (s : State) (p : Pid) (f : Process → Process) → Seat (pro
 change_keeps s p f k =
     let seat : (q : Pid) → Seat (process_at s q) (process_at (change s p f) q) = λ q. at_set Seat same_seat s.procs (p.0 - 1) (q.0 - 1) (f (process_at s p)) nobody k in
     record {
-      base = record {
-        system = refl;
-        more = omega (arith, length-set s.procs (p.0 - 1) (f (process_at s p)));
-        decl = λ q m. (seat q).decl;
-        units = refl;
-      };
+      base = record { system = refl; more = omega (arith, length-set s.procs (p.0 - 1) (f (process_at s p))); decl = λ q m. (seat q).decl; units = refl };
       channel = λ q n ch m e. (seat q).channel n ch e;
       box = λ b e. e;
       going = λ q m made e. (seat q).going m e;
@@ -293,7 +190,4 @@ change_sound s p f k stands h =
     (all_set (ProcessStands (ground s)) s.procs (p.0 - 1) (f (process_at s p)) nobody stands h.procs)) h
 
 pub change_still : (s : State) (p : Pid) (f : Process → Process) → Seat (process_at s p) (f (process_at s p)) → (ProcessStands (ground s) (process_at s p) → ProcessStands (ground s) (f (process_at s p))) → IsFirm s → Still s (change s p f)
-change_still s p f k stands h = record {
-  sound = change_sound s p f k stands h;
-  keeps = change_keeps s p f k;
-}
+change_still s p f k stands h = record { sound = change_sound s p f k stands h; keeps = change_keeps s p f k }

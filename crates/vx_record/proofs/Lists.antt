@@ -57,8 +57,7 @@ all_find P p (y ∷ ys) x h e =
 
 pub find_passes : {A : Type 0} (p : A → Bool) (xs : List A) (x : A) → find p xs ≡ Some x → p x ≡ true
 find_passes p [] x e = cc
-find_passes p (y ∷ ys) x e =
-    either_by (λ (o : Option _). o ≡ Some x → p x ≡ true) (p y) (Some y) (find p ys) (λ t same. let is : y ≡ x = cc in rw (← is) t) (λ f same. find_passes p ys x same) e
+find_passes p (y ∷ ys) x e = let rest = find_passes p ys x in grind arith
 
 pub all_get : {A : Type 0} (P : A → Type 0) (xs : List A) (i : ℕ) (d : A) → P d → AllByRecursion P xs → P (get_or xs i d)
 all_get P [] i d e h = e
@@ -73,20 +72,16 @@ some_found P p (x ∷ xs) h = either (λ (o : Option _). IfSome o P) (p x) (Some
 -- Tests.
 
 pub or_none : (a b : Bool) → (a || b) ≡ false → (a ≡ false) × (b ≡ false)
-or_none true b h = cc
-or_none false b h = (refl, h)
+or_none a b h = grind arith
 
 pub not_holds : (b : Bool) → not b ≡ true → b ≡ false
-not_holds true h = cc
-not_holds false h = refl
+not_holds b h = grind arith
 
 pub not_fails : (b : Bool) → not b ≡ false → b ≡ true
-not_fails true h = refl
-not_fails false h = cc
+not_fails b h = grind arith
 
 pub fails_not : (b : Bool) → b ≡ false → not b ≡ true
-fails_not true h = cc
-fails_not false h = refl
+fails_not b h = grind arith
 
 pub false_from : (b : Bool) → (b ≡ true → ⊥) → b ≡ false
 false_from true h = absurd (h refl)

@@ -1,8 +1,8 @@
 -- What the machine does, taken apart: each event is a sequence of moves, each with at most one effect. A law over runs is then
 -- one clause for each move, and says nothing of services.
 use Rattle.std.proofs.Common.{◌<◌, ◌≤◌, ◌≡◌, ℕ, List, [], ◌∷◌, ◌++◌, Bool, true, false, ◌==◌, Option, Some, None}
-use Rattle.std.specs.Prelude.{IfSome, option_map, is_some, bytes_eq, length, if◌then◌else◌, ⊤}
-use Rattle.std.specs.List.{AllByRecursion, find}
+use Rattle.std.specs.Prelude.{IfSome, option_map, is_some, bytes_eq, length, if◌then◌else◌, ⊤, IsTrue}
+use Rattle.std.specs.List.{AllByRecursion, find, list_any}
 use Rattle.vx_base.specs.Clusters.{Change, Common, is_used, associated, dissociated, marked}
 use Rattle.vx_base.specs.Pieces.{Queued, Channel, Handler, Request, Promised, Timer, Alarm, OfTimer, OfWake, Attention, Mailbox, Status, DeviceUnit}
 use Rattle.vx_base.specs.declared.call.Target.{Target}
@@ -22,13 +22,11 @@ use Rattle.vx_base.specs.declared.number.Pid.{Pid}
 use Rattle.vx_base.specs.declared.number.UnitNo.{UnitNo}
 use Rattle.vx_base.specs.declared.request.Msg.{Msg}
 use Rattle.vx_base.specs.declared.routine.Entry.{Entry}
-use Rattle.std.specs.Prelude.{IsTrue}
-use Rattle.std.specs.List.{list_any}
 use Rattle.vx_base.specs.Channels.{is_channel_number, channel_at, channels_of}
 use Rattle.vx_base.specs.declared.frame.Phase.TheVariants as phase
-use Rattle.vx_record.specs.Cancel.{is_attention_on}
-use Rattle.vx_record.specs.Channels.{is_assigned}
-use Rattle.vx_record.specs.Rundown.{in_phase}
+use Rattle.vx_record.specs.Cancel.{is_attention_on, mark_part, drop_attention}
+use Rattle.vx_record.specs.Channels.{is_assigned, with_channel, box_made, box_gone}
+use Rattle.vx_record.specs.Rundown.{in_phase, drop_handler, drop_handlers, drop_asts, handler_declared, entering, gone_part}
 use Rattle.vx_record.specs.Sound.{ground, DeviceStands, IsRoutineOf, RequestStands, TimerStands, AttentionStands, AssociationStands, is_drained, IsIdle as Idles, WaitStands, WaitsStand}
 use Rattle.vx_record.proofs.Firm.{IsFirm}
 use Rattle.vx_record.proofs.SoundChannels.{IsClear}
@@ -40,11 +38,8 @@ use Rattle.vx_record.specs.Flags.{flag_part}
 use Rattle.vx_record.specs.Asts.{que_part, charged_ast, enb_part}
 use Rattle.vx_record.specs.Finish.{this_request, fin_part, with_stored_bytes, put_status}
 use Rattle.vx_record.specs.Mailboxes.{mput_part, mget_part, mcut_part, this_attention}
-use Rattle.vx_record.specs.Cancel.{mark_part, drop_attention}
-use Rattle.vx_record.specs.Channels.{with_channel, box_made, box_gone}
 use Rattle.vx_record.specs.Control.{exit_ast, new_part, decl_at}
 use Rattle.vx_record.specs.Requests.{with_request, with_attention, with_unit}
-use Rattle.vx_record.specs.Rundown.{drop_handler, drop_handlers, drop_asts, handler_declared, entering, gone_part}
 use Rattle.vx_image.specs.Storage.{Storage}
 use Rattle.vx_record.specs.Events.{moved_to}
 use Rattle.vx_record.specs.Services.{var_part}

@@ -1,9 +1,8 @@
 -- No two open things have one id, after each move.
-use Rattle.std.proofs.Common.{◌≡◌, ℕ, zero, suc, ◌+◌, ◌-◌, ◌≤◌, List, [], ◌∷◌, ◌++◌, Bool, cond, ◌==◌, nat_lt, Option, Some, None, refl, ap, arith, get_or, set, inl, inr}
-use Rattle.std.proofs.lemmas.Bool.{cases_eq, eq-eqb, ne_eqb}
+use Rattle.std.proofs.Common.{◌≡◌, ℕ, zero, suc, ◌+◌, ◌-◌, ◌≤◌, List, [], ◌∷◌, ◌++◌, Bool, ◌==◌, nat_lt, Option, Some, None, refl, ap, arith, get_or, set}
 use Rattle.std.specs.List.{filter, find}
 use Rattle.vx_base.specs.Lists.{less, amend, tally}
-use Rattle.vx_base.specs.Pieces.{Queued, Handler, Request, Promised, Timer, Alarm, OfTimer, OfWake, Attention}
+use Rattle.vx_base.specs.Pieces.{Queued, Handler, Request, Promised, Timer, Alarm, Attention}
 use Rattle.vx_base.specs.declared.effects.Cell.{Cell}
 use Rattle.vx_base.specs.declared.effects.Cell.TheVariants.{Local, Common}
 use Rattle.vx_base.specs.declared.effects.Effect.{Effect}
@@ -23,17 +22,10 @@ use Rattle.vx_record.specs.Sound.{process_bears, bearers, HaveOwnIds, request_id
 use Rattle.vx_image.specs.declared.decl.ProcDecl.{ProcDecl}
 use Rattle.vx_image.specs.declared.system.System.{System}
 use Rattle.vx_record.specs.Requests.{begun, taken_up}
-use Rattle.vx_record.specs.Runs.{born_of, born_from, first}
-use Rattle.vx_base.specs.declared.frame.Phase.TheVariants as phase
-use Rattle.vx_record.specs.Asts.{with_delivery}
-use Rattle.vx_record.specs.Channels.{with_channel}
-use Rattle.vx_record.specs.Events.{moved_to}
-use Rattle.vx_record.specs.Finish.{with_stored_bytes, with_stored_status}
-use Rattle.vx_record.specs.Rundown.{in_phase}
-use Rattle.vx_record.specs.Services.{with_variable}
+use Rattle.vx_record.specs.Runs.{born_from, first}
 use Rattle.vx_record.specs.Timers.{this_timer, due_again, after_wake}
-use Rattle.vx_record.proofs.Lists.{either, either_by}
-use Rattle.vx_record.proofs.Moves.{Loose, passed, loosed, loosed_timer, MovesBy, none, skip, both, quiet, moved, bytes, var, status, enb, channel, newly, gone, leave, flag, clusters, open_ast, open_force, que, end_asts, open_handler, end_handler, end_handlers, enter, open_request, fin, mark, unit, mput, mget, mcut, box_opens, box_ends, box_marked, open_attention, attention_fires, end_attention, open_timer, open_wake, timer_fires, wake_fires, end_timer, time}
+use Rattle.vx_record.proofs.Lists.{either}
+use Rattle.vx_record.proofs.Moves.{Loose, passed, loosed, loosed_timer, MovesBy, both, quiet, newly, open_ast, open_force, que, end_asts, open_handler, end_handlers, enter, open_request, fin, mark, open_attention, attention_fires, end_attention, open_timer, open_wake, timer_fires, end_timer}
 
 -- Lists.
 
@@ -42,10 +34,8 @@ tally_less p q [] = omega arith
 tally_less p q (x ∷ xs) = let rest = tally_less p q xs in either (λ ys. tally p ys ≤ one (p x) + tally p xs) (q x) xs (x ∷ less q xs) (omega arith) (omega (arith, rest))
 
 tally_taken : {A : Type 0} (p q : A → Bool) (xs : List A) (x : A) → find q xs ≡ Some x → tally p xs ≡ one (p x) + tally p (less q xs)
-tally_taken p q [] x e = absurd (let never : None ≡ Some x = e in cc)
-tally_taken p q (y ∷ ys) x e =
-    either_by (λ (o : Option _). o ≡ Some x → tally p (y ∷ ys) ≡ one (p x) + tally p (cond (q y) ys (y ∷ less q ys))) (q y) (Some y) (find q ys)
-    (λ t g. let same : y ≡ x = cc in rw (t, same) refl) (λ n g. rw n (let rest = tally_taken p q ys x g in omega (arith, rest))) e
+tally_taken p q [] x e = cc
+tally_taken p q (y ∷ ys) x e = let rest = tally_taken p q ys x in grind arith
 
 tally_append : {A : Type 0} (p : A → Bool) (xs : List A) (y : A) → tally p (xs ++ y ∷ []) ≡ tally p xs + one (p y)
 tally_append p [] y = omega arith
@@ -93,13 +83,7 @@ fewer_own : {s : State} {l : Option Loose} {t : State} {m : Option Loose} → Fe
 fewer_own k h = record { single = λ id. let a = h.single id in let b = k.few id in omega (arith, a, b); below = λ id e. let n = k.next in let a = h.below id (omega (arith, n, e)) in let b = k.few id in omega (arith, a, b) }
 
 more_own : {s : State} {l : Option Loose} {t : State} {m : Option Loose} → OneMore s l t m → Own s l → Own t m
-more_own {s} {l} {t} {m} k h = record {
-  single = λ id. let b = k.few id in elim (cases_eq s.next id) [
-    | inl here ↦ let a = h.below id (omega (arith, here)) in let c : one (s.next == id) ≡ 1 = rw (eq-eqb s.next id here) refl in omega (arith, a, b, c)
-    | inr other ↦ let a = h.single id in let c : one (s.next == id) ≡ 0 = rw (ne_eqb s.next id other) refl in omega (arith, a, b, c)
-  ];
-  below = λ id e. let n = k.next in let b = k.few id in let a = h.below id (omega (arith, n, e)) in let c : one (s.next == id) ≡ 0 = rw (ne_eqb s.next id (λ (same : s.next ≡ id). omega (arith, n, e))) refl in omega (arith, a, b, c);
-}
+more_own {s} {l} {t} {m} k h = let n = k.next in record { single = λ id. let a = h.single id in let b = h.below id in let c = k.few id in grind arith; below = λ id e. let b = h.below id in let c = k.few id in grind arith }
 
 -- A process changed.
 
@@ -109,8 +93,8 @@ change_bears s p f id n k = let e = total_set (process_bears id) s.procs (p.0 - 
 change_fewer : (s : State) (p : Pid) (f : Process → Process) (l : Option Loose) → ((id : ℕ) → process_bears id (f (process_at s p)) ≤ process_bears id (process_at s p)) → Fewer s l (change s p f) l
 change_fewer s p f l k = record { next = refl; few = λ id. let e = change_bears s p f id 0 (let a = k id in omega (arith, a)) in omega (arith, e) }
 
-same_fewer : (s : State) (p : Pid) (f : Process → Process) (l : Option Loose) → (f (process_at s p)).asts ≡ (process_at s p).asts → (f (process_at s p)).handlers ≡ (process_at s p).handlers → Fewer s l (change s p f) l
-same_fewer s p f l a b = change_fewer s p f l (λ id. let e : process_bears id (f (process_at s p)) ≡ process_bears id (process_at s p) = rw (a, b) refl in omega (arith, e))
+put_fewer : (s : State) (p : Pid) (pr : Process) (l : Option Loose) → pr.asts ≡ (process_at s p).asts → pr.handlers ≡ (process_at s p).handlers → Fewer s l (record s { procs = set s.procs (p.0 - 1) pr }) l
+put_fewer s p pr l a b = change_fewer s p (λ x. pr) l (λ id. let e : process_bears id pr ≡ process_bears id (process_at s p) = rw (a, b) refl in omega (arith, e))
 
 passed_fewer : (s t : State) (l : Option Loose) (k : ℕ) → Fewer s l t l → Fewer s l t (passed k l)
 passed_fewer s t l k f = record { next = f.next; few = λ id. let a = f.few id in let b = passed_bears k l id in omega (arith, a, b) }
@@ -119,7 +103,7 @@ still_fewer : (s t : State) (l : Option Loose) → t.next ≡ s.next → ((id : 
 still_fewer s t l n k = record { next = n; few = λ id. let a = k id in omega (arith, a) }
 
 cell_fewer : (s : State) (c : Cell) (on : Bool) (l : Option Loose) → Fewer s l (with_cell s c on) l
-cell_fewer s (Local p n) on l = let pr = process_at s p in same_fewer s p (with_local_flag n on) l (either (λ (x : Process). x.asts ≡ pr.asts) (nat_lt n 32) _ _ refl refl) (either (λ (x : Process). x.handlers ≡ pr.handlers) (nat_lt n 32) _ _ refl refl)
+cell_fewer s (Local p n) on l = let pr = process_at s p in put_fewer s p (with_local_flag n on pr) l (either (λ (x : Process). x.asts ≡ pr.asts) (nat_lt n 32) _ _ refl refl) (either (λ (x : Process). x.handlers ≡ pr.handlers) (nat_lt n 32) _ _ refl refl)
 cell_fewer s (Common g n k) on l = still_fewer s (with_cell s (Common g n k) on) l refl (λ id. refl)
 
 drop_ast_fewer : (p : Pid) (s : State) (q : Id) → Fewer s None (change s p (without_ast q)) None
@@ -139,13 +123,10 @@ each_handlers_own p (q ∷ qs) s h = each_handlers_own p qs (drop_handler p s q)
 -- What is promised bears the id of what ended.
 
 request_loose_bears : (r : Request) (o : Option Promised) (id : ℕ) → loose_bears (loosed (record r { ast = o })) id ≤ one (request_id r == id)
-request_loose_bears r None id = omega arith
-request_loose_bears r (Some ast) id = omega arith
+request_loose_bears r o id = grind arith
 
 timer_loose_bears : (t : Timer) (a : Alarm) (id : ℕ) → loose_bears (loosed_timer t a) id ≤ one (timer_id t == id)
-timer_loose_bears t (OfTimer efn reqid mode None) id = omega arith
-timer_loose_bears t (OfTimer efn reqid mode (Some tag)) id = omega arith
-timer_loose_bears t (OfWake to n) id = omega arith
+timer_loose_bears t a id = grind arith
 
 same_id : {A : Type 0} (key : A → ℕ) (x : A) (n id : ℕ) → key x ≡ n → one (key x == id) ≡ one (n == id)
 same_id key x n id e = rw e refl
@@ -156,56 +137,31 @@ wake_fewer s t n =
     (record { next = refl; few = λ id. let e = tally_less (λ (x : Timer). timer_id x == id) (this_timer t.id) s.timers in omega (arith, e) })
     (record { next = refl; few = λ id. let e = tally_amend (λ (x : Timer). timer_id x == id) (this_timer t.id) (due_again n) (λ x. refl) s.timers in omega (arith, e) })
 
+-- what moves come to that open nothing and end nothing
+ruleset fewer = (still_fewer, put_fewer, passed_fewer, cell_fewer, drop_handler_fewer, wake_fewer)
+
 pub moves_own : {refs : Bool} (s : State) (l : Option Loose) (es : List Effect) (t : State) (m : Option Loose) → MovesBy refs s l es t m → Own s l → Own t m
-moves_own s l es t m (none x a) h = h
-moves_own s l es t m (skip x a k at) h = fewer_own (passed_fewer x x a k (still_fewer x x a refl (λ id. refl))) h
 moves_own s l es t m (both x y z a b c fs gs i j) h = moves_own y b gs z c j (moves_own x a fs y b i h)
-moves_own s l es t m (quiet x a p f q) h = fewer_own (same_fewer x p f a q.asts q.handlers) h
-moves_own s l es t m (moved x a p store place same) h = fewer_own (same_fewer x p (moved_to store place) a refl refl) h
-moves_own s l es t m (bytes x a p b more at) h = fewer_own (passed_fewer x (change x p (with_stored_bytes b more)) a 1 (same_fewer x p (with_stored_bytes b more) a refl refl)) h
-moves_own s l es t m (var x a p v n idle) h = fewer_own (same_fewer x p (with_variable v n) a refl refl) h
-moves_own s l es t m (status x a p i st made at named) h = fewer_own (passed_fewer x (change x p (with_stored_status i st)) a 2 (same_fewer x p (with_stored_status i st) a refl refl)) h
-moves_own s l es t m (enb x a p mode on made idle) h = fewer_own (same_fewer x p (with_delivery mode on) a refl refl) h
-moves_own s l es t m (channel x a p n ch ok) h = fewer_own (same_fewer x p (with_channel n ch) a refl refl) h
+moves_own s l es t m (quiet x a p f q) h = fewer_own (put_fewer x p (f (process_at x p)) a q.asts q.handlers) h
 moves_own s l es t m (newly x a p place idle ok) h = fewer_own (still_fewer x _ a refl (λ id. let e = total_append (process_bears id) x.procs (created x p place) in omega (arith, e))) h
-moves_own s l es t m (gone x a p idle) h = fewer_own (same_fewer x p (in_phase phase.Deleted) a refl refl) h
-moves_own s l es t m (leave x a id idle) h = h
-moves_own s l es t m (flag x a c on made at set_on) h = fewer_own (passed_fewer x (with_cell x c on) a 3 (cell_fewer x c on a)) h
-moves_own s l es t m (clusters x a c k idle told ok) h = fewer_own (still_fewer x _ a refl (λ id. refl)) h
 moves_own s l es t m (open_ast x p mode tag made ok) h = more_own (record { next = refl; few = λ id. omega arith }) h
 moves_own s l es t m (open_force x p code made) h = more_own (record { next = refl; few = λ id. omega arith }) h
-moves_own s l es t m (que x p q stage made) h =
-    fewer_own (record {
-      next = refl;
-      few = λ id.
-          let e = tally_append (λ (y : Queued). y.id.0 == id) (process_at x p).asts q in
-          let f = change_bears x p (with_queued q) id (one (q.id.0 == id)) (omega (arith, e)) in
-          omega (arith, f);
-    }) h
+moves_own s l es t m (que x p q stage made) h = fewer_own (record { next = refl; few = λ id. let e = tally_append (λ (y : Queued). y.id.0 == id) (process_at x p).asts q in let f = change_bears x p (with_queued q) id (one (q.id.0 == id)) (omega (arith, e)) in omega (arith, f) }) h
 moves_own s l es t m (end_asts x p mode made) h = each_asts_own p (filter (is_ast_reached mode) (process_at x p).asts) x h
 moves_own s l es t m (open_handler x p tag made ok) h = more_own (record { next = refl; few = λ id. let f = change_bears (past_id x) p (with_handler (new_handler x p tag)) id (one (x.next == id)) (omega arith) in omega (arith, f) }) h
-moves_own s l es t m (end_handler x p test d made is) h = fewer_own (drop_handler_fewer p x d.id) h
 moves_own s l es t m (end_handlers x p test made) h = each_handlers_own p (filter test (process_at x p).handlers) x h
 moves_own s l es t m (enter x p f test d made is ok) h = fewer_own (change_fewer x p (entering f d.id) None (λ id. let e = tally_less (λ (y : Handler). y.id.0 == id) (this_handler d.id) (process_at x p).handlers in omega (arith, e))) h
 moves_own s l es t m (open_request x k p mode n r is new ok) h = more_own (record { next = refl; few = λ id. let e = tally_append (λ (y : Request). request_id y == id) x.requests r in let f = same_id request_id r x.next id (ap (λ (i : Id). i.0) new.id) in omega (arith, e, f) }) h
 moves_own s l es t m (fin x r c has) h = fewer_own (record { next = refl; few = λ id. let e = tally_taken (λ (y : Request). request_id y == id) (this_request r.req.id) x.requests r has in let f = request_loose_bears r r.ast id in omega (arith, e, f) }) h
 moves_own s l es t m (mark x r has free) h = fewer_own (still_fewer x _ None refl (λ id. let e = tally_amend (λ (y : Request). request_id y == id) (this_request r.req.id) with_abort (λ y. refl) x.requests in omega (arith, e))) h
-moves_own s l es t m (unit x a u d) h = fewer_own (still_fewer x _ a refl (λ id. refl)) h
-moves_own s l es t m (mput x b d) h = fewer_own (still_fewer x _ None refl (λ id. refl)) h
-moves_own s l es t m (mget x b d r) h = fewer_own (still_fewer x _ None refl (λ id. refl)) h
-moves_own s l es t m (mcut x b w) h = fewer_own (still_fewer x _ None refl (λ id. refl)) h
-moves_own s l es t m (box_opens x b box) h = fewer_own (still_fewer x _ None refl (λ id. refl)) h
-moves_own s l es t m (box_ends x b ok) h = fewer_own (still_fewer x _ None refl (λ id. refl)) h
-moves_own s l es t m (box_marked x b box) h = fewer_own (still_fewer x _ None refl (λ id. refl)) h
 moves_own s l es t m (open_attention x p mode a new at ok) h = more_own (record { next = refl; few = λ id. let e = tally_append (λ (y : Attention). attention_id y == id) x.attention a in let f = same_id attention_id a x.next id (ap (λ (i : Id). i.0) new.id) in omega (arith, e, f) }) h
 moves_own s l es t m (attention_fires x a has) h = fewer_own (record { next = refl; few = λ id. let e = tally_taken (λ (y : Attention). attention_id y == id) (this_attention a.id) x.attention a has in omega (arith, e) }) h
 moves_own s l es t m (end_attention x a has) h = fewer_own (record { next = refl; few = λ id. let e = tally_less (λ (y : Attention). attention_id y == id) (this_attention a.id) x.attention in omega (arith, e) }) h
 moves_own s l es t m (open_timer x p mode a efn reqid n tag new is at ok) h = more_own (record { next = refl; few = λ id. let e = tally_append (λ (y : Timer). timer_id y == id) x.timers a in let f = same_id timer_id a x.next id (ap (λ (i : Id). i.0) new.id) in omega (arith, e, f) }) h
 moves_own s l es t m (open_wake x p n a to new is) h = more_own (record { next = refl; few = λ id. let e = tally_append (λ (y : Timer). timer_id y == id) x.timers a in let f = same_id timer_id a x.next id (ap (λ (i : Id). i.0) new.id) in omega (arith, e, f) }) h
 moves_own s l es t m (timer_fires x a has is) h = fewer_own (record { next = refl; few = λ id. let e = tally_taken (λ (y : Timer). timer_id y == id) (this_timer a.id) x.timers a has.0 in let f = timer_loose_bears a a.what id in omega (arith, e, f) }) h
-moves_own s l es t m (wake_fires x a to n has is) h = fewer_own (wake_fewer x a n) h
 moves_own s l es t m (end_timer x a has) h = fewer_own (record { next = refl; few = λ id. let e = tally_less (λ (y : Timer). timer_id y == id) (this_timer a.id) x.timers in omega (arith, e) }) h
-moves_own s l es t m (time x a now) h = fewer_own (still_fewer x _ a refl (λ id. refl)) h
+moves_own s l es t m k h = fewer_own (search fewer) h
 
 -- A state by itself.
 
@@ -223,7 +179,7 @@ begun_own s r h = owned (begun s r) (fewer_own (still_fewer s (begun s r) None r
 
 born_bear : (id place : ℕ) (ds : List ProcDecl) → total (process_bears id) (born_from place ds) ≡ 0
 born_bear id place [] = refl
-born_bear id place (d ∷ ds) = let rest = born_bear id (place + 1) ds in either (λ (ps : List Process). total (process_bears id) ps ≡ 0) d.start (born_of place d ∷ born_from (place + 1) ds) (born_from (place + 1) ds) (omega (arith, rest)) rest
+born_bear id place (d ∷ ds) = let rest = born_bear id (place + 1) ds in grind arith
 
 pub first_own : (system : System) → HaveOwnIds (first system)
 first_own system = record { single = λ id. let e = born_bear id 0 system.decls in omega (arith, e); below = λ id k. let e = born_bear id 0 system.decls in omega (arith, e) }

@@ -1,9 +1,9 @@
 -- References stand after each move.
-use Rattle.std.proofs.Common.{◌≡◌, ℕ, ◌-◌, ◌+◌, ◌<◌, ◌≤◌, List, [], ◌∷◌, ◌++◌, ◌≢◌, ◌==◌, Bool, true, false, Option, Some, None, IfSome, refl, sym, ap, ◌∙◌, subst, length, arith, inl, inr, get_or-set_other}
+use Rattle.std.proofs.Common.{◌≡◌, ℕ, ◌-◌, ◌+◌, ◌<◌, ◌≤◌, List, [], ◌∷◌, ◌++◌, ◌≢◌, ◌==◌, Bool, true, false, Option, Some, None, IfSome, refl, sym, ap, ◌∙◌, subst, length, arith, inl, inr, get_or-set_other, set, zero, suc, nat_le, get_or}
 use Rattle.std.proofs.Math.ListN.{length-set}
-use Rattle.std.proofs.lemmas.Bool.{cases_eq}
-use Rattle.std.specs.List.{filter, list_any}
-use Rattle.vx_base.specs.Channels.{channels_of}
+use Rattle.std.proofs.lemmas.Bool.{cases_eq, and_parts, and_from, eq-eqb, or_left, or_right, leb-true}
+use Rattle.std.specs.List.{list_any}
+use Rattle.vx_base.specs.Channels.{channels_of, channel_at, is_reached, reached_from}
 use Rattle.vx_base.specs.Pieces.{Attention, Request, Promised, Timer, Alarm, OfTimer, OfWake, Channel}
 use Rattle.vx_base.specs.declared.effects.Effect.{Effect}
 use Rattle.vx_base.specs.declared.frame.Frame.{Frame}
@@ -11,41 +11,29 @@ use Rattle.vx_base.specs.declared.frame.Phase.TheVariants as phase
 use Rattle.vx_base.specs.declared.mode.Mode.{Mode}
 use Rattle.vx_base.specs.declared.number.Pid.{Pid}
 use Rattle.vx_record.specs.State.{Process, State, IsProcess, process_at, change, nobody}
-use Rattle.vx_record.specs.Asts.{with_delivery}
 use Rattle.vx_record.specs.Cancel.{is_attention_on}
 use Rattle.vx_record.specs.Channels.{with_channel}
 use Rattle.vx_record.specs.Control.{created}
-use Rattle.vx_record.specs.Events.{moved_to}
-use Rattle.vx_record.specs.Finish.{this_request, with_stored_bytes, with_stored_status}
+use Rattle.vx_record.specs.Finish.{this_request}
 use Rattle.vx_record.specs.Mailboxes.{this_attention}
-use Rattle.vx_record.specs.Rundown.{in_phase, draining, is_ast_reached, new_handler}
-use Rattle.vx_record.specs.Services.{with_variable}
+use Rattle.vx_record.specs.Rundown.{in_phase, draining, new_handler}
 use Rattle.vx_record.specs.Timers.{this_timer}
-use Rattle.vx_record.specs.Sound.{Ground, ground, IsMade, IsRoutineOf, RequestStands, TimerStands, AlarmStands, AttentionStands, ProcessStands, AssociationStands, is_drained, IsIdle as Idles}
+use Rattle.vx_record.specs.Sound.{Ground, ground, IsMade, IsRoutineOf, RequestStands, TimerStands, AlarmStands, AttentionStands, ProcessStands, is_drained, IsIdle as Idles, HasChannel, IsRooted}
 use Rattle.vx_record.proofs.Firm.{IsFirm}
-use Rattle.vx_record.proofs.Lists.{all_weaker, all_both, all_append, all_set, all_find}
-use Rattle.vx_record.proofs.Ground.{Base, made_base, routine_of_moves, request_moves, timer_moves, process_moves, association_moves, Still, moved as with_procs, common_still, later_still, past_id_still, at_set, change_sound}
-use Rattle.vx_record.proofs.Changes.{quiet_still, with_queued_still, with_handler_still, without_handler_still, entering_sound, in_phase_still, moved_to_quiet, with_delivery_quiet, with_stored_bytes_quiet, with_stored_status_quiet, with_variable_quiet}
+use Rattle.vx_record.proofs.Lists.{all_weaker, all_both, all_append, all_set, all_find, either, false_from, apart_bools}
+use Rattle.vx_record.proofs.Ground.{Base, attention_moves, rebuilt, made_base, routine_of_moves, request_moves, process_moves, Still, moved as with_procs, common_still, later_still, past_id_still, at_set, change_sound}
+use Rattle.vx_record.proofs.Changes.{Quiet, quiet_still, with_queued_still, with_handler_still, without_handler_still, entering_sound, in_phase_still, moved_to_quiet, with_delivery_quiet, with_stored_bytes_quiet, with_stored_status_quiet, with_variable_quiet}
 use Rattle.vx_record.proofs.Fits.{field_same}
-use Rattle.vx_record.proofs.Moves.{Loose, passed, loosed, loosed_timer, IsAlarmMade, IsTame, calm, drains, IsSilent, IsRow, AreUnattended, MovesBy, none, skip, both, quiet, moved, bytes, var, status, enb, channel, newly, gone, leave, flag, clusters, open_ast, open_force, que, end_asts, open_handler, end_handler, end_handlers, enter, open_request, fin, mark, unit, mput, mget, mcut, box_opens, box_ends, box_marked, open_attention, attention_fires, end_attention, open_timer, open_wake, timer_fires, wake_fires, end_timer, time}
-use Rattle.vx_record.proofs.SoundLists.{with_timer_still, less_timer_still, after_wake_still}
-use Rattle.vx_record.proofs.SoundLists.{less_request_still, less_attention_still, box_still, with_messages_still}
-use Rattle.vx_record.proofs.SoundLists.{mark_still}
+use Rattle.vx_record.proofs.Moves.{Loose, passed, loosed, loosed_timer, IsAlarmMade, IsTame, calm, drains, IsSilent, IsRow, AreUnattended, MovesBy, both, quiet, channel, newly, clusters, open_ast, open_force, open_handler, enter, open_request, fin, box_ends, open_attention, attention_fires, open_timer, open_wake, timer_fires}
+use Rattle.vx_record.proofs.SoundLists.{with_timer_still, less_timer_still, after_wake_still, less_request_still, less_attention_still, box_still, mark_still, more_keeps, born_stands, each_drop_handler_still, each_drop_ast_still}
 use Rattle.vx_record.proofs.SoundChannels.{assigned_still, freed_sound, gone_sound}
 use Rattle.vx_record.proofs.SoundFlags.{flag_part_still}
-use Rattle.vx_record.proofs.SoundLists.{more_keeps, born_stands, each_drop_handler_still}
 use Rattle.vx_record.proofs.SoundRequests.{with_request_still, with_unit_still, with_attention_still}
-use Rattle.vx_record.proofs.SoundLists.{each_drop_ast_still}
-use Rattle.std.proofs.Common.{zero, suc, nat_le, get_or}
-use Rattle.std.proofs.lemmas.Bool.{and_parts, and_from, eq-eqb, or_cases, or_left, or_right, leb-true}
-use Rattle.vx_base.specs.Channels.{channel_at, is_reached, reached_from}
 use Rattle.vx_base.specs.Modes.{reaches}
 use Rattle.vx_base.specs.declared.number.BoxNo.{BoxNo}
 use Rattle.vx_base.specs.declared.request.Device.{Device}
 use Rattle.vx_base.specs.declared.request.Device.TheVariants as device
 use Rattle.vx_record.specs.Charges.{is_same}
-use Rattle.vx_record.specs.Sound.{HasChannel, IsRooted, process_of}
-use Rattle.vx_record.proofs.Lists.{either, false_from, apart_bools}
 
 -- what is promised is of a process that is there, whose routine it is
 abbrev pub IsLooseOf : Ground → Option Loose → Type 0
@@ -60,28 +48,25 @@ loose_on : (g h : Ground) (l : Option Loose) → Base g h → IsLooseOf g l → 
 loose_on g h None b k = tt
 loose_on g h (Some x) b k = (made_base g h b x.p k.0, routine_of_moves g h b x.p x.ast.tag k.0 k.1)
 
-loose_passed : (g : Ground) (k : ℕ) (l : Option Loose) → IsLooseOf g l → IsLooseOf g (passed k l)
-loose_passed g k None h = h
-loose_passed g k (Some x) h = h
-
 still_stands : (s t : State) (l : Option Loose) → Stands s l → Still s t → Stands t l
 still_stands s t l h k = record { sound = k.sound; loose = loose_on (ground s) (ground t) l k.keeps.base h.loose }
 
 passes : (s : State) (k : ℕ) (l : Option Loose) → Stands s l → Stands s (passed k l)
-passes s k l h = record { sound = h.sound; loose = loose_passed (ground s) k l h.loose }
+passes s k l h = record { sound = h.sound; loose = (elim l as (λ (o : Option Loose). IsLooseOf (ground s) o → IsLooseOf (ground s) (passed k o)) [ None ↦ λ e. e | Some x ↦ λ e. e ]) h.loose }
 
 nothing_loose : (s : State) → IsFirm s → Stands s None
 nothing_loose s h = record { sound = h; loose = tt }
 
+nothing_left : (s t : State) → IsFirm s → Still s t → Stands t None
+nothing_left s t h k = record { sound = k.sound; loose = tt }
+
+put_still : (s : State) (p : Pid) (pr : Process) → Quiet (process_at s p) pr → IsFirm s → Still s (record s { procs = set s.procs (p.0 - 1) pr })
+put_still s p pr q h = quiet_still s p (λ x. pr) q h
+
 -- A process changed.
 
 change_base : (s : State) (p : Pid) (f : Process → Process) → (f (process_at s p)).decl ≡ (process_at s p).decl → Base (ground s) (ground (change s p f))
-change_base s p f e = record {
-  system = refl;
-  more = omega (arith, length-set s.procs (p.0 - 1) (f (process_at s p)));
-  decl = λ q m. field_same (λ (pr : Process). pr.decl) f s p q e;
-  units = refl;
-}
+change_base s p f e = record { system = refl; more = omega (arith, length-set s.procs (p.0 - 1) (f (process_at s p))); decl = λ q m. field_same (λ (pr : Process). pr.decl) f s p q e; units = refl }
 
 -- A mode is drained.
 
@@ -102,8 +87,7 @@ reached_there k n m (row ∷ rows) h e =
 
 any_weaker : {A : Type 0} (f g : A → Bool) → ((x : A) → f x ≡ true → g x ≡ true) → (xs : List A) → list_any f xs ≡ true → list_any g xs ≡ true
 any_weaker f g k [] h = cc
-any_weaker f g k (x ∷ xs) h =
-    elim (or_cases (f x) (list_any f xs) h) [ inl here ↦ or_left (g x) (list_any g xs) (k x here) | inr there ↦ or_right (g x) (list_any g xs) (any_weaker f g k xs there) ]
+any_weaker f g k (x ∷ xs) h = let rest = any_weaker f g k xs in let one = k x in grind arith
 
 -- what is not attended on the channels of a mode is of no mode that is drained
 still_going : (s : State) (p : Pid) (m : Mode) (a : Attention) → IsProcess s p → (k : AttentionStands (ground s) a) → a.p.0 ≡ p.0 → (list_any (λ n. is_attention_on p n a) (channels_of m (process_at s p).channels) ≡ false) → reaches k.channel_mode m ≡ false
@@ -112,20 +96,15 @@ still_going s p m a made k same away =
     (λ e.
     let ch : Channel = record { device = device.Mailbox a.box; mode = k.channel_mode } in
     let rows = (process_at s p).channels in
-    let its : channel_at (process_of (ground s) a.p).channels a.chan ≡ channel_at rows a.chan = ap (λ (i : ℕ). channel_at (get_or s.procs (i - 1) nobody).channels a.chan) same in
-    let row : channel_at rows a.chan ≡ Some ch = sym its ∙ k.channel.row in
-    let P : Option Channel → Type 0 = λ o. is_reached m o ≡ true in
-    let reached : P (channel_at rows a.chan) = subst P (sym row) e in
+    let row : channel_at rows a.chan ≡ Some ch = ap (λ (i : ℕ). channel_at (get_or s.procs (i - 1) nobody).channels a.chan) (sym same) ∙ k.channel.row in
+    let reached = subst (λ (o : Option Channel). is_reached m o ≡ true) (sym row) e in
     let above = leb-true 1 a.chan (and_parts (nat_le 1 a.chan) (nat_le a.chan 64) k.channel.number).0 in
     let there = reached_there 1 a.chan m rows above reached in
     let on = any_weaker (λ j. a.chan == j) (λ n. is_attention_on p n a) (λ j f. and_from (is_same a.p p) (a.chan == j) (eq-eqb a.p.0 p.0 same) f) (channels_of m rows) there in
     apart_bools _ on away)
 
 draining_rooted : (s : State) (p q : Pid) (m : Mode) (n : ℕ) (b : BoxNo) (mode : Mode) → HasChannel (ground s) q n b mode → HasChannel (ground (draining p m s)) q n b mode
-draining_rooted s p q m n b mode c = record {
-  number = c.number;
-  row = at_set (λ (x y : Process). channel_at x.channels n ≡ Some (record { device = device.Mailbox b; mode = mode }) → channel_at y.channels n ≡ Some (record { device = device.Mailbox b; mode = mode })) (λ x e. e) s.procs (p.0 - 1) (q.0 - 1) (in_phase (phase.Draining m) (process_at s p)) nobody (λ e. e) c.row;
-}
+draining_rooted s p q m n b mode c = record { number = c.number; row = at_set (λ (x y : Process). channel_at x.channels n ≡ Some (record { device = device.Mailbox b; mode = mode }) → channel_at y.channels n ≡ Some (record { device = device.Mailbox b; mode = mode })) (λ x e. e) s.procs (p.0 - 1) (q.0 - 1) (in_phase (phase.Draining m) (process_at s p)) nobody (λ e. e) c.row }
 
 draining_root : (s : State) (p q : Pid) (m : Mode) (n : ℕ) (mode : Mode) (d : Device) → IsRooted (ground s) q n mode d → IsRooted (ground (draining p m s)) q n mode d
 draining_root s p q m n mode (device.Unit u) c = tt
@@ -139,37 +118,12 @@ draining_sound s p m made bare left h =
     let to = ground t in
     let base : Base g to = change_base s p f refl in
     let idle : Idles (phase.Draining m) (process_at s p).frames = subst (λ (fs : List Frame). Idles (phase.Draining m) fs) (sym bare) tt in
-    let phased = λ (x : Attention) (e : AttentionStands g x) (away : list_any (λ n. is_attention_on p n x) (channels_of m (process_at s p).channels) ≡ false). going x e away in
-    record {
-      units = h.units;
-      procs = all_weaker (ProcessStands g) (ProcessStands to) (process_moves g to refl refl (λ b e. e)) t.procs
-          (all_set (ProcessStands g) s.procs (p.0 - 1) (f (process_at s p)) nobody
-          (λ e. record {
-            decl = e.decl;
-            numbers = e.numbers;
-            channels = e.channels;
-            asts = e.asts;
-            handlers = e.handlers;
-            idle = idle;
-            waits = e.waits;
-          }) h.procs);
-      associations = all_weaker (AssociationStands (length s.procs) s.common) (AssociationStands (length t.procs) s.common) (association_moves (length s.procs) (length t.procs) s.common base.more) s.common.associations h.associations;
-      requests = all_weaker (RequestStands g) (RequestStands to) (λ r e. request_moves g to base r (λ d. d) (draining_root s p r.req.p m r.req.chan r.req.chan_mode r.req.device) e) s.requests h.requests;
-      timers = all_weaker (TimerStands g) (TimerStands to) (timer_moves g to base) s.timers h.timers;
-      attention = all_weaker (λ x. AttentionStands g x × (list_any (λ n. is_attention_on p n x) (channels_of m (process_at s p).channels) ≡ false)) (AttentionStands to)
-          (λ x e. record {
-            made = made_base g to base x.p e.0.made;
-            stands = e.0.stands;
-            channel_mode = e.0.channel_mode;
-            channel = draining_rooted s p x.p m x.chan x.box e.0.channel_mode e.0.channel;
-            going = phased x e.0 e.1;
-            routine = routine_of_moves g to base x.p x.tag e.0.made e.0.routine;
-          }) s.attention
-          (all_both (AttentionStands g) (λ x. list_any (λ n. is_attention_on p n x) (channels_of m (process_at s p).channels) ≡ false) s.attention h.attention left);
-      request_ids = h.request_ids;
-      timer_ids = h.timer_ids;
-      attention_ids = h.attention_ids;
-    }
+    rebuilt s t.procs s.boxes s.units refl base
+    (all_weaker (ProcessStands g) (ProcessStands to) (process_moves g to refl refl (λ b e. e)) t.procs (all_set (ProcessStands g) s.procs (p.0 - 1) (f (process_at s p)) nobody (λ e. search) h.procs))
+    (all_weaker (RequestStands g) (RequestStands to) (λ r e. request_moves g to base r (λ d. d) (draining_root s p r.req.p m r.req.chan r.req.chan_mode r.req.device) e) s.requests h.requests)
+    (all_weaker (λ x. AttentionStands g x × (list_any (λ n. is_attention_on p n x) (channels_of m (process_at s p).channels) ≡ false)) (AttentionStands to)
+    (λ x e. attention_moves g to base x e.0 e.0.stands (draining_rooted s p x.p m x.chan x.box e.0.channel_mode e.0.channel) (going x e.0 e.1)) s.attention
+    (all_both (AttentionStands g) (λ x. list_any (λ n. is_attention_on p n x) (channels_of m (process_at s p).channels) ≡ false) s.attention h.attention left)) h
   where
     going : (x : Attention) (e : AttentionStands (ground s) x) → list_any (λ n. is_attention_on p n x) (channels_of m (process_at s p).channels) ≡ false → is_drained (process_at (draining p m s) x.p).phase e.channel_mode ≡ false
     going x e away =
@@ -186,15 +140,7 @@ draining_sound s p m made bare left h =
 tame_sound : (s : State) (p : Pid) (f : Process → Process) → IsSilent true s p f → IsTame s p f → IsFirm s → IsFirm (change s p f)
 tame_sound s p f q (calm g c) h =
     change_sound s p f (record { decl = q.decl; channel = λ n ch e. rw q.channels e; going = c.going })
-    (λ k. record {
-      decl = rw q.decl k.decl;
-      numbers = rw q.channels k.numbers;
-      channels = rw q.channels k.channels;
-      asts = rw (q.asts, q.decl) k.asts;
-      handlers = rw (q.handlers, q.decl) k.handlers;
-      idle = c.idle k.idle;
-      waits = c.waits k.waits;
-    }) h
+    (λ k. search (q.decl, q.channels, q.asts, q.handlers, c.idle, c.waits)) h
 tame_sound s p f q (drains m made bare left) h = draining_sound s p m made bare left h
 
 row_stands : (s : State) (p : Pid) (n : ℕ) (ch : Option Channel) → IsRow s p n ch → IsFirm s → IsFirm (change s p (with_channel n ch))
@@ -205,72 +151,42 @@ created_still : (s : State) (p : Pid) (place : ℕ) → place < length s.system.
 created_still s p place k h =
     let pr = created s p place in
     let to = ground (record s { procs = s.procs ++ pr ∷ [] }) in
-    record {
-      keeps = more_keeps s pr;
-      sound = with_procs s (s.procs ++ pr ∷ []) s.boxes s.units refl (more_keeps s pr)
-          (all_weaker (ProcessStands (ground s)) (ProcessStands to) (process_moves (ground s) to refl refl (λ b e. e)) (s.procs ++ pr ∷ [])
-          (all_append (ProcessStands (ground s)) s.procs (pr ∷ []) h.procs (born_stands s place pr.group pr.member pr.privs _ k, tt))) h;
-    }
+    let procs = all_append (ProcessStands (ground s)) s.procs (pr ∷ []) h.procs (born_stands s place pr.group pr.member pr.privs _ k, tt) in
+    record { keeps = more_keeps s pr; sound = with_procs s (s.procs ++ pr ∷ []) s.boxes s.units refl (more_keeps s pr) (all_weaker (ProcessStands (ground s)) (ProcessStands to) (process_moves (ground s) to refl refl (λ b e. e)) (s.procs ++ pr ∷ []) procs) h }
 
 -- What is promised.
 
 request_loose : (g : Ground) (r : Request) → RequestStands g r → IsLooseOf g (loosed r)
-request_loose g r k = promised r.ast k.routine
-  where
-    promised : (o : Option Promised) → IfSome o (λ ast. IsRoutineOf g r.req.p ast.tag) → IsLooseOf g (loosed (record r { ast = o }))
-    promised None e = tt
-    promised (Some ast) e = (k.made, e)
+request_loose g r k = (elim r.ast as (λ (o : Option Promised). IfSome o (λ ast. IsRoutineOf g r.req.p ast.tag) → IsLooseOf g (loosed (record r { ast = o }))) [ None ↦ λ e. tt | Some ast ↦ λ e. (k.made, e) ]) k.routine
 
 timer_loose : (g : Ground) (t : Timer) (a : Alarm) → IsMade g t.p → AlarmStands g t.p a → IsLooseOf g (loosed_timer t a)
-timer_loose g t (OfTimer efn reqid mode None) m k = tt
 timer_loose g t (OfTimer efn reqid mode (Some tag)) m k = (m, k)
-timer_loose g t (OfWake to n) m k = tt
+timer_loose g t a m k = tt
 
 wake_stands : (g : Ground) (t : Timer) (to : Pid) (n : ℕ) → IsMade g t.p → IsMade g to → t.what ≡ OfWake to n → TimerStands g t
 wake_stands g t to n m k e = record { made = m; alarm = subst (λ (a : Alarm). AlarmStands g t.p a) (sym e) k }
 
+-- what moves of no premise come to
+ruleset standing = (still_stands, nothing_left, passes, put_still, moved_to_quiet, with_variable_quiet, with_stored_bytes_quiet, with_stored_status_quiet, with_delivery_quiet, in_phase_still, flag_part_still, with_unit_still, later_still, box_still, each_drop_ast_still, without_handler_still, each_drop_handler_still, mark_still, less_attention_still, less_timer_still, after_wake_still, with_queued_still)
+
 pub moves_stand : (s : State) (l : Option Loose) (es : List Effect) (t : State) (m : Option Loose) → MovesBy true s l es t m → Stands s l → Stands t m
-moves_stand s l es t m (none x a) h = h
-moves_stand s l es t m (skip x a k at) h = passes x k a h
 moves_stand s l es t m (both x y z a b c fs gs i j) h = moves_stand y b gs z c j (moves_stand x a fs y b i h)
 moves_stand s l es t m (quiet x a p f q) h = record { sound = tame_sound x p f q (q.tame refl h.sound) h.sound; loose = loose_on (ground x) (ground (change x p f)) a (change_base x p f q.decl) h.loose }
-moves_stand s l es t m (moved x a p store place same) h = still_stands x _ a h (quiet_still x p (moved_to store place) (moved_to_quiet store place (process_at x p)) h.sound)
-moves_stand s l es t m (bytes x a p b more at) h = passes _ 1 a (still_stands x _ a h (quiet_still x p (with_stored_bytes b more) (with_stored_bytes_quiet b more (process_at x p)) h.sound))
-moves_stand s l es t m (var x a p v n idle) h = still_stands x _ a h (quiet_still x p (with_variable v n) (with_variable_quiet v n (process_at x p)) h.sound)
-moves_stand s l es t m (status x a p i st made at named) h = passes _ 2 a (still_stands x _ a h (quiet_still x p (with_stored_status i st) (with_stored_status_quiet i st (process_at x p)) h.sound))
-moves_stand s l es t m (enb x a p mode on made idle) h = still_stands x _ a h (quiet_still x p (with_delivery mode on) (with_delivery_quiet mode on (process_at x p)) h.sound)
 moves_stand s l es t m (channel x a p n ch ok) h = record { sound = row_stands x p n ch (ok refl h.sound) h.sound; loose = loose_on (ground x) (ground (change x p (with_channel n ch))) a (change_base x p (with_channel n ch) refl) h.loose }
 moves_stand s l es t m (newly x a p place idle ok) h = still_stands x _ a h (created_still x p place (ok refl h.sound) h.sound)
-moves_stand s l es t m (gone x a p idle) h = still_stands x _ a h (in_phase_still x p phase.Deleted (λ n. refl) tt h.sound)
-moves_stand s l es t m (leave x a id idle) h = h
-moves_stand s l es t m (flag x a c on made at set_on) h = passes _ 3 a (still_stands x _ a h (flag_part_still x c on h.sound))
 moves_stand s l es t m (clusters x a c k idle told ok) h = still_stands x _ a h (common_still x c.after (ok refl h.sound) h.sound)
 moves_stand s l es t m (open_ast x p mode tag made ok) h = record { sound = (past_id_still x h.sound).sound; loose = (made.made, ok refl h.sound) }
 moves_stand s l es t m (open_force x p code made) h = record { sound = (past_id_still x h.sound).sound; loose = (made, tt) }
-moves_stand s l es t m (que x p q stage made) h = nothing_loose _ (with_queued_still x p q h.loose.1 h.sound).sound
-moves_stand s l es t m (end_asts x p mode made) h = nothing_loose _ (each_drop_ast_still p x (filter (is_ast_reached mode) (process_at x p).asts) h.sound).sound
 moves_stand s l es t m (open_handler x p tag made ok) h = let k = past_id_still x h.sound in nothing_loose _ (with_handler_still _ p (new_handler x p tag) (ok refl h.sound) k.sound).sound
-moves_stand s l es t m (end_handler x p test d made is) h = nothing_loose _ (without_handler_still x p d.id h.sound).sound
-moves_stand s l es t m (end_handlers x p test made) h = nothing_loose _ (each_drop_handler_still p (filter test (process_at x p).handlers) x h.sound).sound
 moves_stand s l es t m (enter x p f test d made is ok) h = nothing_loose _ (let k = ok refl h.sound in entering_sound x p f d.id k.0 k.1 h.sound)
 moves_stand s l es t m (open_request x k p mode n r is new ok) h = nothing_loose _ (with_request_still x r new.id (ok refl h.sound) h.sound).sound
 moves_stand s l es t m (fin x r c has) h = record { sound = (less_request_still x r.req.id h.sound).sound; loose = request_loose (ground x) r (all_find (RequestStands (ground x)) (this_request r.req.id) x.requests r h.sound.requests has) }
-moves_stand s l es t m (mark x r has free) h = nothing_loose _ (mark_still x r h.sound).sound
-moves_stand s l es t m (unit x a u d) h = still_stands x _ a h (with_unit_still x u d h.sound)
-moves_stand s l es t m (mput x b d) h = nothing_loose _ (with_messages_still x b _ h.sound).sound
-moves_stand s l es t m (mget x b d r) h = nothing_loose _ (with_messages_still x b _ h.sound).sound
-moves_stand s l es t m (mcut x b w) h = nothing_loose _ (with_messages_still x b _ h.sound).sound
-moves_stand s l es t m (box_opens x b box) h = nothing_loose _ (box_still x _ box h.sound).sound
 moves_stand s l es t m (box_ends x b ok) h = nothing_loose _ (gone_sound x b (ok refl h.sound) h.sound)
-moves_stand s l es t m (box_marked x b box) h = nothing_loose _ (box_still x b box h.sound).sound
 moves_stand s l es t m (open_attention x p mode a new at ok) h = nothing_loose _ (with_attention_still x a new.id (ok refl h.sound) h.sound).sound
 moves_stand s l es t m (attention_fires x a has) h = let k = all_find (AttentionStands (ground x)) (this_attention a.id) x.attention a h.sound.attention has in record { sound = (less_attention_still x a.id h.sound).sound; loose = (k.made, k.routine) }
-moves_stand s l es t m (end_attention x a has) h = nothing_loose _ (less_attention_still x a.id h.sound).sound
 moves_stand s l es t m (open_timer x p mode a efn reqid n tag new is at ok) h = nothing_loose _ (with_timer_still x a new.id (ok refl h.sound) h.sound).sound
 moves_stand s l es t m (open_wake x p n a to new is) h =
     let alarm : IsProcess x to = subst (λ (w : Alarm). IsAlarmMade x w) is new.alarm in
     nothing_loose _ (with_timer_still x a new.id (wake_stands (ground x) a to n (rw new.owner new.made) alarm is) h.sound).sound
 moves_stand s l es t m (timer_fires x a has is) h = let k = all_find (TimerStands (ground x)) (this_timer a.id) x.timers a h.sound.timers has.0 in record { sound = (less_timer_still x a.id h.sound).sound; loose = timer_loose (ground x) a a.what k.made k.alarm }
-moves_stand s l es t m (wake_fires x a to n has is) h = nothing_loose _ (after_wake_still x a n h.sound).sound
-moves_stand s l es t m (end_timer x a has) h = nothing_loose _ (less_timer_still x a.id h.sound).sound
-moves_stand s l es t m (time x a now) h = still_stands x _ a h (later_still x now x.next (omega arith) h.sound)
+moves_stand s l es t m k h = search standing

@@ -1,5 +1,5 @@
 -- A call that a well formed image makes names labels of the image, also with its arguments computed.
-use Rattle.std.proofs.Common.{◌≡◌, ℕ, zero, suc, ◌<◌, List, [], ◌∷◌, Bool, true, ◌&&◌, nat_lt, nat_le, length, map, Option, Some, None, IfSome, position, unwrap_or, bytes_eq, slice_get, refl, arith}
+use Rattle.std.proofs.Common.{◌≡◌, ℕ, zero, suc, ◌<◌, List, [], ◌∷◌, Bool, true, ◌&&◌, nat_lt, length, map, Option, Some, None, IfSome, position, unwrap_or, bytes_eq, slice_get, refl, arith}
 use Rattle.std.proofs.lemmas.Bool.{and_parts, and_from, ltb-true}
 use Rattle.std.specs.List.{AllByRecursion, list_all, list_any, position_or_len}
 use Rattle.vx_base.specs.Services.{is_of_kind, kind_of, is_unused, are_args, args_list, is_call, params_of}
@@ -9,9 +9,9 @@ use Rattle.vx_base.specs.declared.call.Call.{Call}
 use Rattle.vx_base.specs.declared.service.Kind.{Kind}
 use Rattle.vx_base.specs.declared.service.Kind.TheVariants as kind
 use Rattle.vx_base.specs.declared.service.Param.{Param}
-use Rattle.vx_image.specs.Local.{Reader, Moved, Advanced, computed_arg, computed, stop_at, go_on, local_at, run_local, advanced}
+use Rattle.vx_image.specs.Local.{Reader, Moved, computed_arg, computed, stop_at, go_on, local_at, run_local, advanced}
 use Rattle.vx_image.specs.Storage.{Storage}
-use Rattle.vx_image.specs.WellFormed.{is_among, are_distinct, falls_nowhere, label_names, label_places, has_its_label, has_its_decl, is_call_of, is_stmt, is_image}
+use Rattle.vx_image.specs.WellFormed.{is_among, label_names, has_its_label, has_its_decl, is_call_of, is_stmt, is_image}
 use Rattle.vx_image.specs.declared.stop.Stop.{Stop}
 use Rattle.vx_image.specs.declared.stop.Stop.TheVariants as stop
 use Rattle.vx_image.specs.declared.image.Image.{Image}
@@ -46,69 +46,33 @@ label_stands image name h = placed (λ (l : Label). bytes_eq l.name name) image.
 -- a label that has to be there
 pub labelled : (image : Image) (a : Arg) → is_of_kind kind.Label a ≡ true → has_its_label image a ≡ true → label_place image (or_start (label a)) < length image.labels
 labelled image (arg.Label (Some name)) k h = label_stands image name h
-labelled image (arg.Label None) k h = cc
-labelled image (arg.Value x) k h = cc
-labelled image (arg.Target x) k h = cc
-labelled image (arg.Mode x) k h = cc
-labelled image (arg.Name x) k h = cc
-labelled image (arg.Func x) k h = cc
-labelled image arg.Unused k h = cc
+labelled image a k h = cc
 
 -- a label that may be there
 pub labelled_or_none : (image : Image) (a : Arg) → has_its_label image a ≡ true → IfSome (label a) (λ name. label_place image name < length image.labels)
 labelled_or_none image (arg.Label (Some name)) h = label_stands image name h
-labelled_or_none image (arg.Label None) h = tt
-labelled_or_none image (arg.Value x) h = tt
-labelled_or_none image (arg.Target x) h = tt
-labelled_or_none image (arg.Mode x) h = tt
-labelled_or_none image (arg.Name x) h = tt
-labelled_or_none image (arg.Func x) h = tt
-labelled_or_none image arg.Unused h = tt
+labelled_or_none image a h = tt
 
 -- Computed arguments.
 
 computed_label : (image : Image) (who : Reader) (store : Storage) (a : Arg) → has_its_label image a ≡ true → has_its_label image (computed_arg who store a) ≡ true
 computed_label image who store (arg.Label x) h = h
-computed_label image who store (arg.Value x) h = refl
-computed_label image who store (arg.Target x) h = refl
-computed_label image who store (arg.Mode x) h = refl
-computed_label image who store (arg.Name x) h = refl
-computed_label image who store (arg.Func x) h = refl
-computed_label image who store arg.Unused h = refl
+computed_label image who store a h = refl
 
 computed_kind : (k : Kind) (who : Reader) (store : Storage) (a : Arg) → is_of_kind k a ≡ true → is_of_kind k (computed_arg who store a) ≡ true
 computed_kind kind.Value who store (arg.Value x) h = refl
-computed_kind kind.Target who store (arg.Value x) h = h
-computed_kind kind.Mode who store (arg.Value x) h = h
-computed_kind kind.Name who store (arg.Value x) h = h
-computed_kind kind.Label who store (arg.Value x) h = h
-computed_kind kind.LabelOrNone who store (arg.Value x) h = h
-computed_kind kind.Func who store (arg.Value x) h = h
-computed_kind k who store (arg.Label x) h = h
-computed_kind k who store (arg.Target x) h = h
-computed_kind k who store (arg.Mode x) h = h
-computed_kind k who store (arg.Name x) h = h
-computed_kind k who store (arg.Func x) h = h
-computed_kind k who store arg.Unused h = h
+computed_kind k who store (arg.Value x) h = h
+computed_kind k who store a h = h
 
 computed_unused : (who : Reader) (store : Storage) (a : Arg) → is_unused a ≡ true → is_unused (computed_arg who store a) ≡ true
-computed_unused who store (arg.Label x) h = h
 computed_unused who store (arg.Value x) h = h
-computed_unused who store (arg.Target x) h = h
-computed_unused who store (arg.Mode x) h = h
-computed_unused who store (arg.Name x) h = h
-computed_unused who store (arg.Func x) h = h
-computed_unused who store arg.Unused h = h
+computed_unused who store a h = h
 
 computed_args : (who : Reader) (store : Storage) (ps : List Param) (xs : List Arg) → are_args ps xs ≡ true → are_args ps (map (computed_arg who store) xs) ≡ true
 computed_args who store [] [] h = refl
-computed_args who store [] (a ∷ more) h =
-    let parts = and_parts (is_unused a) (are_args [] more) h in
-    and_from (is_unused (computed_arg who store a)) (are_args [] (map (computed_arg who store) more)) (computed_unused who store a parts.0) (computed_args who store [] more parts.1)
+computed_args who store [] (a ∷ more) h = let rest = computed_args who store [] more in let one = computed_unused who store a in grind arith
 computed_args who store (p ∷ ps) [] h = h
-computed_args who store (p ∷ ps) (a ∷ more) h =
-    let parts = and_parts (is_of_kind (kind_of p) a) (are_args ps more) h in
-    and_from (is_of_kind (kind_of p) (computed_arg who store a)) (are_args ps (map (computed_arg who store) more)) (computed_kind (kind_of p) who store a parts.0) (computed_args who store ps more parts.1)
+computed_args who store (p ∷ ps) (a ∷ more) h = let rest = computed_args who store ps more in let one = computed_kind (kind_of p) who store a in grind arith
 
 fits_of : (names : List (List ℕ)) (image : Image) (c : Call) → is_call_of names image c ≡ true → FitsImage image c
 fits_of names image c h =
@@ -116,10 +80,7 @@ fits_of names image c h =
     record { args = parts.0; labels = (and_parts (list_all (has_its_label image) (args_list c.args)) (has_its_decl names c.service c.args.a1) parts.1).0 }
 
 computed_fits : (image : Image) (who : Reader) (store : Storage) (c : Call) → FitsImage image c → FitsImage image (computed who store c)
-computed_fits image who store c f = record {
-  args = computed_args who store (params_of c.service) (args_list c.args) f.args;
-  labels = all_map (has_its_label image) (computed_arg who store) (computed_label image who store) (args_list c.args) f.labels;
-}
+computed_fits image who store c f = record { args = computed_args who store (params_of c.service) (args_list c.args) f.args; labels = all_map (has_its_label image) (computed_arg who store) (computed_label image who store) (args_list c.args) f.labels }
 
 -- A run of local statements.
 
@@ -130,21 +91,8 @@ StopFits image stop.End = Unit {0}
 StopFits image stop.Local = Unit {0}
 
 stop_fits : (names : List (List ℕ)) (image : Image) (who : Reader) (store : Storage) (o : Option Stmt) → IfSome o (λ s. is_stmt names image s ≡ true) → StopFits image (stop_at who store o)
-stop_fits names image who store None k = tt
 stop_fits names image who store (Some (stmt.Service c)) k = computed_fits image who store c (fits_of names image c k)
-stop_fits names image who store (Some stmt.Return) k = tt
-stop_fits names image who store (Some (stmt.Let t x)) k = tt
-stop_fits names image who store (Some (stmt.Add t x y)) k = tt
-stop_fits names image who store (Some (stmt.Sub t x y)) k = tt
-stop_fits names image who store (Some (stmt.Goto l)) k = tt
-stop_fits names image who store (Some (stmt.If x r y l)) k = tt
-stop_fits names image who store (Some (stmt.Put b bytes)) k = tt
-stop_fits names image who store (Some (stmt.Byte t b x)) k = tt
-stop_fits names image who store (Some (stmt.Iosb t i f)) k = tt
-
-go_on_fits : (names : List (List ℕ)) (image : Image) (who : Reader) (store : Storage) (place : ℕ) (o : Option Stmt) (m : Option Moved) (on : Moved → Advanced) → IfSome o (λ s. is_stmt names image s ≡ true) → ((moved : Moved) → StopFits image (on moved).stop) → StopFits image (go_on who store place o m on).stop
-go_on_fits names image who store place o None on k f = stop_fits names image who store o k
-go_on_fits names image who store place o (Some moved) on k f = f moved
+stop_fits names image who store o k = tt
 
 some_at : {A : Type 0} (p : A → Bool) (xs : List A) (i : ℕ) → AllByRecursion (λ x. p x ≡ true) xs → IfSome (slice_get xs i) (λ x. p x ≡ true)
 some_at p [] i h = tt
@@ -154,18 +102,11 @@ some_at p (x ∷ xs) (suc i) h = some_at p xs i h.1
 run_local_fits : (n : ℕ) (names : List (List ℕ)) (image : Image) (who : Reader) (store : Storage) (place : ℕ) → AllByRecursion (λ s. is_stmt names image s ≡ true) image.stmts → StopFits image (run_local n image who store place).stop
 run_local_fits zero names image who store place h = tt
 run_local_fits (suc n) names image who store place h =
-    go_on_fits names image who store place (slice_get image.stmts place) (local_at image who store place (slice_get image.stmts place)) (λ moved. run_local n image who moved.store moved.place)
-    (some_at (is_stmt names image) image.stmts place h) (λ moved. run_local_fits n names image who moved.store moved.place h)
-
-image_stmts : (names : List (List ℕ)) (image : Image) → is_image names image ≡ true → AllByRecursion (λ s. is_stmt names image s ≡ true) image.stmts
-image_stmts names image h =
-    let places = list_all (λ place. nat_le place (length image.stmts)) (label_places image) in
-    let rest = list_all (is_stmt names image) image.stmts in
-    let few = and_parts (nat_lt (length image.labels) 4294967296) (nat_le (length image.stmts) 10000 && (are_distinct (label_names image) && (falls_nowhere 0 (label_places image) && (places && rest)))) h in
-    let one = and_parts (nat_le (length image.stmts) 10000) (are_distinct (label_names image) && (falls_nowhere 0 (label_places image) && (places && rest))) few.1 in
-    let two = and_parts (are_distinct (label_names image)) (falls_nowhere 0 (label_places image) && (places && rest)) one.1 in
-    let three = and_parts (falls_nowhere 0 (label_places image)) (places && rest) two.1 in
-    all_from_list (is_stmt names image) image.stmts (and_parts places rest three.1).1
+    let o = slice_get image.stmts place in
+    elim (local_at image who store place o) as (λ (m : Option Moved). StopFits image (go_on who store place o m (λ moved. run_local n image who moved.store moved.place)).stop) [
+      | None ↦ stop_fits names image who store o (some_at (is_stmt names image) image.stmts place h)
+      | Some moved ↦ run_local_fits n names image who moved.store moved.place h
+    ]
 
 pub advanced_fits : (names : List (List ℕ)) (image : Image) (who : Reader) (store : Storage) (place : ℕ) → is_image names image ≡ true → StopFits image (advanced image who store place).stop
-advanced_fits names image who store place h = run_local_fits 1000 names image who store place (image_stmts names image h)
+advanced_fits names image who store place h = run_local_fits 1000 names image who store place (all_from_list (is_stmt names image) image.stmts (grind arith))

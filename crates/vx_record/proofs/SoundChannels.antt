@@ -16,10 +16,10 @@ use Rattle.vx_record.specs.Charges.{is_same}
 use Rattle.vx_record.specs.Mailboxes.{is_box}
 use Rattle.vx_record.specs.Cancel.{is_request_on, is_attention_on}
 use Rattle.vx_record.specs.Channels.{is_unit_of, is_box_of, box_number, unit_named, box_named, unit_or_box, with_channel, assigned, is_channel_to, has_channel_to, is_assigned}
-use Rattle.vx_record.specs.Sound.{ground, BoxStands, DeviceStands, ChannelStands, HasChannel, IsRooted, RequestStands, is_drained, TimerStands, AttentionStands, ProcessStands, AssociationStands}
+use Rattle.vx_record.specs.Sound.{ground, BoxStands, DeviceStands, ChannelStands, HasChannel, IsRooted, RequestStands, is_drained, AttentionStands, ProcessStands}
 use Rattle.vx_record.proofs.Firm.{IsFirm}
 use Rattle.vx_record.proofs.Lists.{all_weaker, all_both, all_set, all_at, all_get, none_passes}
-use Rattle.vx_record.proofs.Ground.{Base, made_base, routine_of_moves, request_moves, timer_moves, process_moves, association_moves, Still, change_still, at_set}
+use Rattle.vx_record.proofs.Ground.{Base, request_moves, attention_moves, rebuilt, process_moves, Still, change_still, at_set}
 
 -- The least free number.
 
@@ -33,24 +33,12 @@ free_row k n (Some row ∷ rows) e =
 
 -- Assigning.
 
-assigned_channel : (x : Process) (n : ℕ) (new : Channel) (m : ℕ) (ch : Channel) → channel_at x.channels n ≡ None → channel_at x.channels m ≡ Some ch → channel_at (with_channel n (Some new) x).channels m ≡ Some ch
-assigned_channel x n new m ch free e =
-    at_set (λ (a b : Option Channel). a ≡ Some ch → b ≡ Some ch) (λ a k. k) x.channels (n - 1) (m - 1) (Some new) None (λ k. cc) e
-
 pub assigned_still : (s : State) (p : Pid) (d : Device) (mode : Mode) (n : ℕ) → channel_at (process_at s p).channels n ≡ None → DeviceStands (ground s) d → IsFirm s → Still s (assigned s p d mode n)
 assigned_still s p d mode n free k h =
     let new : Channel = record { device = d; mode = mode } in
     let x = process_at s p in
-    change_still s p (with_channel n (Some new)) (record { decl = refl; channel = λ m ch e. assigned_channel x n new m ch free e; going = λ m e. e })
-    (λ f. record {
-      decl = f.decl;
-      numbers = length-set x.channels (n - 1) (Some new) ∙ f.numbers;
-      channels = all_set (ChannelStands (ground s)) x.channels (n - 1) (Some new) None (λ u. k) f.channels;
-      asts = f.asts;
-      handlers = f.handlers;
-      idle = f.idle;
-      waits = f.waits;
-    }) h
+    change_still s p (with_channel n (Some new)) (record { decl = refl; channel = λ m ch e. at_set (λ (a b : Option Channel). a ≡ Some ch → b ≡ Some ch) (λ a k. k) x.channels (n - 1) (m - 1) (Some new) None (λ k. cc) e; going = λ m e. e })
+    (λ f. search (length-set x.channels (n - 1) (Some new) ∙ f.numbers, all_set (ChannelStands (ground s)) x.channels (n - 1) (Some new) None (λ u. k) f.channels)) h
 
 pub is_some_box : (name : List ℕ) (o : Option Mailbox) → is_box_of name o ≡ true → is_some o ≡ true
 is_some_box name None e = cc
@@ -81,9 +69,6 @@ pub record IsClear (s : State) (p : Pid) (n : ℕ) : Type 0 where
 number_above : (n : ℕ) → is_channel_number n ≡ true → 1 ≤ n
 number_above n e = leb-true 1 n (and_parts (nat_le 1 n) (nat_le n 64) e).0
 
-freed_row : (x : Process) (n m : ℕ) (ch : Channel) → m - 1 ≢ n - 1 → channel_at x.channels m ≡ Some ch → channel_at (with_channel n None x).channels m ≡ Some ch
-freed_row x n m ch apart e = get_or-set_other x.channels (n - 1) (m - 1) None None apart ∙ e
-
 -- a channel stays where it is not the one that goes
 channel_stays : (s : State) (p q : Pid) (n m : ℕ) (b : BoxNo) (mode : Mode) → IsProcess s p → IsProcess s q → is_channel_number n ≡ true → (is_same q p && (m == n)) ≡ false → HasChannel (ground s) q m b mode → HasChannel (ground (change s p (with_channel n None))) q m b mode
 channel_stays s p q n m b mode made also number other c =
@@ -99,7 +84,7 @@ channel_stays s p q n m b mode made also number other c =
             rw (get_or-set_other s.procs (p.0 - 1) (q.0 - 1) (f (process_at s p)) nobody apart) c.row
         | inr ne ↦
             at_set (λ (x y : Process). channel_at x.channels m ≡ Some ch → channel_at y.channels m ≡ Some ch) (λ x e. e) s.procs (p.0 - 1) (q.0 - 1) (f (process_at s p)) nobody
-            (λ e. freed_row (process_at s p) n m ch (λ k. ne (omega (arith, low, high, k))) e) c.row
+            (λ e. get_or-set_other (process_at s p).channels (n - 1) (m - 1) None None (λ k. ne (omega (arith, low, high, k))) ∙ e) c.row
       ];
     }
 
@@ -110,47 +95,21 @@ rooted_stays s p q n m mode (device.Mailbox b) made also number other c = channe
 pub freed_sound : (s : State) (p : Pid) (n : ℕ) → IsProcess s p → is_channel_number n ≡ true → IsClear s p n → IsFirm s → IsFirm (change s p (with_channel n None))
 freed_sound s p n made number clear h =
     let f = with_channel n None in
+    let x = process_at s p in
     let t = change s p f in
     let g = ground s in
     let to = ground t in
-    let base : Base g to = record {
-      system = refl;
-      more = omega (arith, length-set s.procs (p.0 - 1) (f (process_at s p)));
-      decl = λ q m. at_set (λ (x y : Process). y.decl ≡ x.decl) (λ x. refl) s.procs (p.0 - 1) (q.0 - 1) (f (process_at s p)) nobody refl;
-      units = refl;
-    } in
-    record {
-      units = h.units;
-      procs = all_weaker (ProcessStands g) (ProcessStands to) (process_moves g to refl refl (λ b e. e)) t.procs
-          (all_set (ProcessStands g) s.procs (p.0 - 1) (f (process_at s p)) nobody
-          (λ k. record {
-            decl = k.decl;
-            numbers = length-set (process_at s p).channels (n - 1) None ∙ k.numbers;
-            channels = all_set (ChannelStands g) (process_at s p).channels (n - 1) None None (λ u. tt) k.channels;
-            asts = k.asts;
-            handlers = k.handlers;
-            idle = k.idle;
-            waits = k.waits;
-          }) h.procs);
-      associations = all_weaker (AssociationStands (length s.procs) s.common) (AssociationStands (length t.procs) s.common) (association_moves (length s.procs) (length t.procs) s.common base.more) s.common.associations h.associations;
-      requests = all_weaker (λ r. RequestStands g r × ((is_on_box r.req.device && is_request_on p n r) ≡ false)) (RequestStands to)
-          (λ r k. request_moves g to base r (λ e. e) (rooted_stays s p r.req.p n r.req.chan r.req.chan_mode r.req.device made k.0.made number k.1) k.0) s.requests
-          (all_both (RequestStands g) (λ r. (is_on_box r.req.device && is_request_on p n r) ≡ false) s.requests h.requests clear.requests);
-      timers = all_weaker (TimerStands g) (TimerStands to) (timer_moves g to base) s.timers h.timers;
-      attention = all_weaker (λ a. AttentionStands g a × (is_attention_on p n a ≡ false)) (AttentionStands to)
-          (λ a k. record {
-            made = made_base g to base a.p k.0.made;
-            stands = k.0.stands;
-            channel_mode = k.0.channel_mode;
-            channel = channel_stays s p a.p n a.chan a.box k.0.channel_mode made k.0.made number k.1 k.0.channel;
-            going = at_set (λ (x y : Process). is_drained x.phase k.0.channel_mode ≡ false → is_drained y.phase k.0.channel_mode ≡ false) (λ x e. e) s.procs (p.0 - 1) (a.p.0 - 1) (f (process_at s p)) nobody (λ e. e) k.0.going;
-            routine = routine_of_moves g to base a.p a.tag k.0.made k.0.routine;
-          }) s.attention
-          (all_both (AttentionStands g) (λ a. is_attention_on p n a ≡ false) s.attention h.attention clear.attention);
-      request_ids = h.request_ids;
-      timer_ids = h.timer_ids;
-      attention_ids = h.attention_ids;
-    }
+    let base : Base g to = record { system = refl; more = omega (arith, length-set s.procs (p.0 - 1) (f x)); decl = λ q m. at_set (λ (x y : Process). y.decl ≡ x.decl) (λ x. refl) s.procs (p.0 - 1) (q.0 - 1) (f x) nobody refl; units = refl } in
+    rebuilt s t.procs s.boxes s.units refl base
+    (all_weaker (ProcessStands g) (ProcessStands to) (process_moves g to refl refl (λ b e. e)) t.procs
+    (all_set (ProcessStands g) s.procs (p.0 - 1) (f x) nobody (λ k. search (length-set x.channels (n - 1) None ∙ k.numbers, all_set (ChannelStands g) x.channels (n - 1) None None (λ u. tt) k.channels)) h.procs))
+    (all_weaker (λ r. RequestStands g r × ((is_on_box r.req.device && is_request_on p n r) ≡ false)) (RequestStands to)
+    (λ r k. request_moves g to base r (λ e. e) (rooted_stays s p r.req.p n r.req.chan r.req.chan_mode r.req.device made k.0.made number k.1) k.0) s.requests
+    (all_both (RequestStands g) (λ r. (is_on_box r.req.device && is_request_on p n r) ≡ false) s.requests h.requests clear.requests))
+    (all_weaker (λ a. AttentionStands g a × (is_attention_on p n a ≡ false)) (AttentionStands to)
+    (λ a k. attention_moves g to base a k.0 k.0.stands (channel_stays s p a.p n a.chan a.box k.0.channel_mode made k.0.made number k.1 k.0.channel)
+    (at_set (λ (x y : Process). is_drained x.phase k.0.channel_mode ≡ false → is_drained y.phase k.0.channel_mode ≡ false) (λ x e. e) s.procs (p.0 - 1) (a.p.0 - 1) (f x) nobody (λ e. e) k.0.going)) s.attention
+    (all_both (AttentionStands g) (λ a. is_attention_on p n a ≡ false) s.attention h.attention clear.attention)) h
 
 -- A mailbox goes that no channel is to.
 
@@ -188,34 +147,12 @@ gone_sound s b none h =
     let g = ground s in
     let to = ground t in
     let base : Base g to = record { system = refl; more = omega arith; decl = λ q m. refl; units = refl } in
-    record {
-      units = h.units;
-      procs = all_weaker (λ x. ProcessStands g x × (has_channel_to b x ≡ false)) (ProcessStands to)
-          (λ x k. record {
-            decl = k.0.decl;
-            numbers = k.0.numbers;
-            channels = all_weaker (λ o. ChannelStands g o × (is_channel_to b o ≡ false)) (ChannelStands to) (λ o e. row_stays s b o e.1 e.0) x.channels
-                (all_both (ChannelStands g) (λ o. is_channel_to b o ≡ false) x.channels k.0.channels (none_passes (is_channel_to b) x.channels k.1));
-            asts = k.0.asts;
-            handlers = k.0.handlers;
-            idle = k.0.idle;
-            waits = k.0.waits;
-          }) s.procs
-          (all_both (ProcessStands g) (λ x. has_channel_to b x ≡ false) s.procs h.procs (none_passes (has_channel_to b) s.procs none));
-      associations = h.associations;
-      requests = all_weaker (RequestStands g) (RequestStands to)
-          (λ r k. request_moves g to base r (device_rooted_stays s b r.req.p r.req.chan r.req.chan_mode r.req.device none k.made k.rooted) (rooted_same s b r.req.p r.req.chan r.req.chan_mode r.req.device) k) s.requests h.requests;
-      timers = all_weaker (TimerStands g) (TimerStands to) (timer_moves g to base) s.timers h.timers;
-      attention = all_weaker (AttentionStands g) (AttentionStands to)
-          (λ a k. record {
-            made = k.made;
-            stands = box_stays s b a.box (no_channel_to s b a.p a.chan a.box k.channel_mode none k.made k.channel) k.stands;
-            channel_mode = k.channel_mode;
-            channel = record { number = k.channel.number; row = k.channel.row };
-            going = k.going;
-            routine = k.routine;
-          }) s.attention h.attention;
-      request_ids = h.request_ids;
-      timer_ids = h.timer_ids;
-      attention_ids = h.attention_ids;
-    }
+    rebuilt s s.procs t.boxes s.units refl base
+    (all_weaker (λ x. ProcessStands g x × (has_channel_to b x ≡ false)) (ProcessStands to)
+    (λ x k. search (all_weaker (λ o. ChannelStands g o × (is_channel_to b o ≡ false)) (ChannelStands to) (λ o e. row_stays s b o e.1 e.0) x.channels
+    (all_both (ChannelStands g) (λ o. is_channel_to b o ≡ false) x.channels k.0.channels (none_passes (is_channel_to b) x.channels k.1)))) s.procs
+    (all_both (ProcessStands g) (λ x. has_channel_to b x ≡ false) s.procs h.procs (none_passes (has_channel_to b) s.procs none)))
+    (all_weaker (RequestStands g) (RequestStands to)
+    (λ r k. request_moves g to base r (device_rooted_stays s b r.req.p r.req.chan r.req.chan_mode r.req.device none k.made k.rooted) (rooted_same s b r.req.p r.req.chan r.req.chan_mode r.req.device) k) s.requests h.requests)
+    (all_weaker (AttentionStands g) (AttentionStands to)
+    (λ a k. attention_moves g to base a k (box_stays s b a.box (no_channel_to s b a.p a.chan a.box k.channel_mode none k.made k.channel) k.stands) (record { number = k.channel.number; row = k.channel.row }) k.going) s.attention h.attention) h

@@ -1,7 +1,7 @@
 -- References stand after what is done to event flags and common clusters.
-use Rattle.std.proofs.Common.{◌≡◌, ℕ, List, [], ◌∷◌, ◌++◌, Bool, true, false, not, ◌==◌, ◌&&◌, length, Option, Some, None, IfSome, bytes_eq, refl, sym, ◌∙◌, inl, inr}
+use Rattle.std.proofs.Common.{◌≡◌, ℕ, List, [], ◌∷◌, ◌++◌, Bool, true, false, not, ◌==◌, ◌&&◌, length, Option, Some, None, bytes_eq, refl, arith}
 use Rattle.std.specs.List.{AllByRecursion, find, list_any}
-use Rattle.std.proofs.lemmas.Bool.{eq-eqb, eqb-true, or_cases, and_parts, and_from, or_left, or_right}
+use Rattle.std.proofs.lemmas.Bool.{eq-eqb, eqb-true, and_parts, and_from, or_left, or_right}
 use Rattle.std.proofs.lemmas.Slice.Eq.{bytes_eq-Decides}
 use Rattle.vx_base.specs.Clusters.{Common, Change, is_cluster, is_association, is_user, stands, is_used, made, gone, joined, parted, swept_at, swept, dissociated_at, dissociated, has_already, made_where_new, associated, with_mark, marked_at, marked}
 use Rattle.vx_base.specs.Lists.{less, amend}
@@ -10,7 +10,7 @@ use Rattle.vx_base.specs.declared.effects.Cell.{Cell}
 use Rattle.vx_base.specs.declared.effects.Cell.TheVariants.{Local, Common as Shared}
 use Rattle.vx_base.specs.declared.number.Pid.{Pid}
 use Rattle.vx_record.specs.State.{State, IsWithin, process_at}
-use Rattle.vx_record.specs.Flags.{with_local_flag, with_cluster_flag, with_cell, flag_part}
+use Rattle.vx_record.specs.Flags.{with_local_flag, with_cluster_flag, flag_part}
 use Rattle.vx_record.specs.Sound.{AssociationStands}
 use Rattle.vx_record.proofs.Firm.{IsFirm}
 use Rattle.vx_record.proofs.Lists.{either, either_by, all_weaker, all_both, all_append, all_less, find_passes, none_passes}
@@ -21,8 +21,7 @@ use Rattle.vx_record.proofs.Changes.{quiet_still, with_local_flag_quiet}
 
 any_append : {A : Type 0} (p : A → Bool) (xs ys : List A) → list_any p xs ≡ true → list_any p (xs ++ ys) ≡ true
 any_append p [] ys h = cc
-any_append p (x ∷ xs) ys h =
-    elim (or_cases (p x) (list_any p xs) h) [ inl here ↦ or_left (p x) (list_any p (xs ++ ys)) here | inr there ↦ or_right (p x) (list_any p (xs ++ ys)) (any_append p xs ys there) ]
+any_append p (x ∷ xs) ys h = let rest = any_append p xs ys in grind arith
 
 any_last : {A : Type 0} (p : A → Bool) (xs : List A) (y : A) → p y ≡ true → list_any p (xs ++ y ∷ []) ≡ true
 any_last p [] y h = or_left (p y) false h
@@ -30,16 +29,11 @@ any_last p (x ∷ xs) y h = or_right (p x) (list_any p (xs ++ y ∷ [])) (any_la
 
 any_less : {A : Type 0} (p q : A → Bool) → ((x : A) → p x ≡ true → q x ≡ true → ⊥) → (xs : List A) → list_any q xs ≡ true → list_any q (less p xs) ≡ true
 any_less p q apart [] h = h
-any_less p q apart (x ∷ xs) h =
-    either_by (λ ys. list_any q ys ≡ true) (p x) xs (x ∷ less p xs)
-    (λ e. elim (or_cases (q x) (list_any q xs) h) [ inl here ↦ absurd (apart x e here) | inr there ↦ there ])
-    (λ n. elim (or_cases (q x) (list_any q xs) h) [ inl here ↦ or_left (q x) (list_any q (less p xs)) here | inr there ↦ or_right (q x) (list_any q (less p xs)) (any_less p q apart xs there) ])
+any_less p q apart (x ∷ xs) h = let rest = any_less p q apart xs in let not_both = apart x in grind arith
 
 any_amend : {A : Type 0} (p q : A → Bool) (f : A → A) → ((x : A) → q (f x) ≡ q x) → (xs : List A) → list_any q xs ≡ true → list_any q (amend p f xs) ≡ true
 any_amend p q f same [] h = h
-any_amend p q f same (x ∷ xs) h =
-    either (λ ys. list_any q ys ≡ true) (p x) (f x ∷ xs) (x ∷ amend p f xs) (rw (same x) h)
-    (elim (or_cases (q x) (list_any q xs) h) [ inl here ↦ or_left (q x) (list_any q (amend p f xs)) here | inr there ↦ or_right (q x) (list_any q (amend p f xs)) (any_amend p q f same xs there) ])
+any_amend p q f same (x ∷ xs) h = let rest = any_amend p q f same xs in grind (arith, same x)
 
 -- Common clusters.
 
@@ -49,9 +43,6 @@ CommonStands n c = AllByRecursion (AssociationStands n c) c.associations
 clusters_move : (n : ℕ) (c : Common) (clusters : List Cluster) → ((a : Association) → list_any (is_cluster a.group a.name) c.clusters ≡ true → list_any (is_cluster a.group a.name) clusters ≡ true) → CommonStands n c → CommonStands n (record c { clusters = clusters })
 clusters_move n c clusters f h =
     all_weaker (AssociationStands n c) (AssociationStands n (record c { clusters = clusters })) (λ a k. record { made = k.made; stands = f a k.stands }) c.associations h
-
-made_stands : (n : ℕ) (c : Common) (group : ℕ) (name : List ℕ) (permanent : Bool) → CommonStands n c → CommonStands n (made c group name permanent).after
-made_stands n c group name permanent h = clusters_move n c (made c group name permanent).after.clusters (λ a k. any_append (is_cluster a.group a.name) c.clusters _ k) h
 
 is_itself : (group : ℕ) (name : List ℕ) → (group == group && bytes_eq name name) ≡ true
 is_itself group name = and_from (group == group) (bytes_eq name name) (eq-eqb group group refl) ((bytes_eq-Decides name name).1 refl)
@@ -63,9 +54,7 @@ apart : (a : Association) (group : ℕ) (name : List ℕ) → is_user group name
 apart a group name none cl here there =
     let one = both_names cl.group group cl.name name here in
     let two = both_names cl.group a.group cl.name a.name there in
-    let same : a.group ≡ group = sym two.0 ∙ one.0 in
-    let alike : a.name ≡ name = sym two.1 ∙ one.1 in
-    let yes : is_user group name a ≡ true = rw (same, alike) (is_itself group name) in
+    let itself = is_itself group name in
     cc
 
 gone_stands : (n : ℕ) (c : Common) (group : ℕ) (name : List ℕ) → is_used c group name ≡ false → CommonStands n c → CommonStands n (gone c group name).after
@@ -74,41 +63,29 @@ gone_stands n c group name none h =
     (λ a k. record { made = k.0.made; stands = any_less (is_cluster group name) (is_cluster a.group a.name) (apart a group name k.1) c.clusters k.0.stands }) c.associations
     (all_both (AssociationStands n c) (λ a. is_user group name a ≡ false) c.associations h (none_passes (is_user group name) c.associations none))
 
-gone_stands_by : (n : ℕ) (c : Common) (group also : ℕ) (name named : List ℕ) → also ≡ group → named ≡ name → is_used c group name ≡ false → CommonStands n c → CommonStands n (gone c also named).after
-gone_stands_by n c group also name named e f none h = gone_stands n c also named (rw (e, f) none) h
-
-swept_at_stands : (n : ℕ) (c : Common) (group : ℕ) (name : List ℕ) (o : Option Cluster) → IfSome o (λ cl. is_cluster group name cl ≡ true) → is_used c group name ≡ false → CommonStands n c → CommonStands n (swept_at c o).after
+swept_at_stands : (n : ℕ) (c : Common) (group : ℕ) (name : List ℕ) (o : Option Cluster) → find (is_cluster group name) c.clusters ≡ o → is_used c group name ≡ false → CommonStands n c → CommonStands n (swept_at c o).after
 swept_at_stands n c group name None is none h = h
 swept_at_stands n c group name (Some cl) is none h =
-    let same = both_names cl.group group cl.name name is in
-    either (λ (d : Change). CommonStands n d.after) (cl.permanent && not cl.marked) _ _ h (gone_stands_by n c group cl.group name cl.name same.0 same.1 none h)
-
-found_passes : {A : Type 0} (p : A → Bool) (o : Option A) → ((x : A) → o ≡ Some x → p x ≡ true) → IfSome o (λ x. p x ≡ true)
-found_passes p None f = tt
-found_passes p (Some x) f = f x refl
+    let same = both_names cl.group group cl.name name (find_passes (is_cluster group name) c.clusters cl is) in
+    either (λ (d : Change). CommonStands n d.after) (cl.permanent && not cl.marked) _ _ h (gone_stands n c cl.group cl.name (rw (same.0, same.1) none) h)
 
 swept_stands : (n : ℕ) (c : Common) (group : ℕ) (name : List ℕ) → CommonStands n c → CommonStands n (swept c group name).after
-swept_stands n c group name h =
-    either_by (λ (d : Change). CommonStands n d.after) (is_used c group name) _ _ (λ e. h)
-    (λ none. swept_at_stands n c group name (find (is_cluster group name) c.clusters) (found_passes (is_cluster group name) (find (is_cluster group name) c.clusters) (λ x e. find_passes (is_cluster group name) c.clusters x e)) none h)
+swept_stands n c group name h = either_by (λ (d : Change). CommonStands n d.after) (is_used c group name) _ _ (λ e. h) (λ none. swept_at_stands n c group name (find (is_cluster group name) c.clusters) refl none h)
 
 parted_stands : (n : ℕ) (c : Common) (p : Pid) (k : ℕ) → CommonStands n c → CommonStands n (parted c p k).after
 parted_stands n c p k h =
     all_weaker (AssociationStands n c) (AssociationStands n (parted c p k).after) (λ a e. record { made = e.made; stands = e.stands }) (less (is_association p k) c.associations)
     (all_less (AssociationStands n c) (is_association p k) c.associations h)
 
-dissociated_at_stands : (n : ℕ) (c : Common) (p : Pid) (k : ℕ) (o : Option Association) → CommonStands n c → CommonStands n (dissociated_at c p k o).after
-dissociated_at_stands n c p k None h = h
-dissociated_at_stands n c p k (Some a) h = swept_stands n (parted c p k).after a.group a.name (parted_stands n c p k h)
-
 pub dissociated_stands : (n : ℕ) (c : Common) (p : Pid) (k : ℕ) → CommonStands n c → CommonStands n (dissociated c p k).after
-dissociated_stands n c p k h = dissociated_at_stands n c p k (find (is_association p k) c.associations) h
+dissociated_stands n c p k h =
+    elim (find (is_association p k) c.associations) as (λ (o : Option Association). CommonStands n (dissociated_at c p k o).after) [ None ↦ h | Some a ↦ swept_stands n (parted c p k).after a.group a.name (parted_stands n c p k h) ]
 
 -- the cluster is there, and all that were
 made_where_new_stands : (n : ℕ) (c : Common) (group : ℕ) (name : List ℕ) (permanent : Bool) → CommonStands n c → CommonStands n (made_where_new c group name permanent).after × (stands (made_where_new c group name permanent).after group name ≡ true)
 made_where_new_stands n c group name permanent h =
     either_by (λ (d : Change). CommonStands n d.after × (stands d.after group name ≡ true)) (stands c group name) _ _ (λ e. (h, e))
-    (λ e. (made_stands n c group name permanent h, any_last (is_cluster group name) c.clusters _ (is_itself group name)))
+    (λ e. (clusters_move n c (made c group name permanent).after.clusters (λ a k. any_append (is_cluster a.group a.name) c.clusters _ k) h, any_last (is_cluster group name) c.clusters _ (is_itself group name)))
 
 joined_stands : (n : ℕ) (c : Common) (p : Pid) (k group : ℕ) (name : List ℕ) → IsWithin n p → stands c group name ≡ true → CommonStands n c → CommonStands n (joined c p k group name).after
 joined_stands n c p k group name m e h =
@@ -135,12 +112,9 @@ marked_stands n c group name h = marked_at_stands n c (find (is_cluster group na
 
 -- Flags.
 
-with_cell_still : (s : State) (c : Cell) (on : Bool) → IsFirm s → Still s (with_cell s c on)
-with_cell_still s (Local p n) on h = quiet_still s p (with_local_flag n on) (with_local_flag_quiet n on (process_at s p)) h
-with_cell_still s (Shared group name n) on h =
+pub flag_part_still : (s : State) (c : Cell) (on : Bool) → IsFirm s → Still s (flag_part s c on).after
+flag_part_still s (Local p n) on h = quiet_still s p (with_local_flag n on) (with_local_flag_quiet n on (process_at s p)) h
+flag_part_still s (Shared group name n) on h =
     let clusters = amend (is_cluster group name) (with_cluster_flag n on) s.common.clusters in
     common_still s (record s.common { clusters = clusters })
     (clusters_move (length s.procs) s.common clusters (λ a k. any_amend (is_cluster group name) (is_cluster a.group a.name) (with_cluster_flag n on) (λ x. refl) s.common.clusters k) h.associations) h
-
-pub flag_part_still : (s : State) (c : Cell) (on : Bool) → IsFirm s → Still s (flag_part s c on).after
-flag_part_still s c on h = with_cell_still s c on h

@@ -5,7 +5,7 @@ use Rattle.vx_base.specs.Pieces.{Timer, Mailbox, Request, Handler, Queued}
 use Rattle.vx_base.specs.declared.number.Id.{Id}
 use Rattle.vx_record.specs.State.{State, next_id, past_id, with_box, Process, IsProcess, process_at, nobody}
 use Rattle.vx_record.specs.Timers.{this_timer, with_timer, due_again, after_wake}
-use Rattle.vx_record.specs.Sound.{ground, TimerStands, timer_id, RequestStands, AttentionStands, ProcessStands, request_id, attention_id, ChannelStands}
+use Rattle.vx_record.specs.Sound.{BoxStands, ground, TimerStands, timer_id, RequestStands, AttentionStands, ProcessStands, request_id, attention_id, ChannelStands}
 use Rattle.vx_record.proofs.Firm.{IsFirm}
 use Rattle.vx_record.proofs.Lists.{either, all_append, all_less, all_amend, ordered_less, ordered_amend, ordered_more, all_weaker}
 use Rattle.vx_record.proofs.Ground.{Still, still_then, timers_still, past_id_still, Keeps, process_moves, moved, requests_still, attention_still, at_set, still}
@@ -54,20 +54,14 @@ less_request_still s id h =
 -- Mailboxes.
 
 box_keeps : (s : State) (b : BoxNo) (box : Mailbox) → Keeps (ground s) (ground (with_box s b (Some box)))
-box_keeps s b box = record {
-  base = record { system = refl; more = omega arith; decl = λ p m. refl; units = refl };
-  channel = λ p n ch m e. e;
-  box = λ c e. at_set (λ (x y : Option Mailbox). IsTrue (is_some x) → IsTrue (is_some y)) (λ x k. k) s.boxes b.0 c.0 (Some box) None (λ k. refl) e;
-  going = λ p m made e. e;
-}
+box_keeps s b box =
+    let stays = λ (c : BoxNo) (e : BoxStands (ground s) c). at_set (λ (x y : Option Mailbox). IsTrue (is_some x) → IsTrue (is_some y)) (λ x k. k) s.boxes b.0 c.0 (Some box) None (λ k. refl) e in
+    search (arith, stays)
 
 pub box_still : (s : State) (b : BoxNo) (box : Mailbox) → IsFirm s → Still s (with_box s b (Some box))
 box_still s b box h =
     let k = box_keeps s b box in
-    record {
-      keeps = k;
-      sound = moved s s.procs (with_box s b (Some box)).boxes s.units refl k (all_weaker (ProcessStands (ground s)) (ProcessStands (ground (with_box s b (Some box)))) (process_moves (ground s) (ground (with_box s b (Some box))) refl refl k.box) s.procs h.procs) h;
-    }
+    record { keeps = k; sound = moved s s.procs (with_box s b (Some box)).boxes s.units refl k (all_weaker _ _ (process_moves (ground s) _ refl refl k.box) s.procs h.procs) h }
 
 pub with_messages_still : (s : State) (b : BoxNo) (messages : List Msg) → IsFirm s → Still s (with_messages s b messages)
 with_messages_still s b messages h = box_still s b (record (mailbox_at s b) { messages = messages }) h
@@ -81,16 +75,7 @@ less_attention_still s id h =
 -- One request.
 
 with_abort_stands : (s : State) (x : Request) → RequestStands (ground s) x → RequestStands (ground s) (with_abort x)
-with_abort_stands s x k = record {
-  made = k.made;
-  stands = k.stands;
-  rooted = k.rooted;
-  served = k.served;
-  iosb = k.iosb;
-  buf = k.buf;
-  len = k.len;
-  routine = k.routine;
-}
+with_abort_stands s x k = search
 
 pub mark_still : (s : State) (r : Request) → IsFirm s → Still s (mark_part s r).after
 mark_still s r h =
@@ -107,36 +92,20 @@ pub more_keeps : (s : State) (pr : Process) → Keeps (ground s) (ground (record
 more_keeps s pr =
     let same : (q : Pid) → IsProcess s q → get_or (s.procs ++ pr ∷ []) (q.0 - 1) nobody ≡ process_at s q = λ q m. get_or_append_left s.procs (pr ∷ []) nobody (q.0 - 1) (omega (arith, m.above, m.within)) in
     record {
-      base = record {
-        system = refl;
-        more = omega (arith, length-append s.procs (pr ∷ []));
-        decl = λ q m. ap (λ (x : Process). x.decl) (same q m);
-        units = refl;
-      };
+      base = record { system = refl; more = omega (arith, length-append s.procs (pr ∷ [])); decl = λ q m. ap (λ (x : Process). x.decl) (same q m); units = refl };
       channel = λ q n ch m e. rw (same q m) e;
       box = λ b e. e;
       going = λ q mode m e. rw (same q m) e;
     }
 
 pub born_stands : (s : State) (place group member : ℕ) (privs : Privs) (mode : Mode) → place < length s.system.decls → ProcessStands (ground s) (new_process place group member privs mode)
-born_stands s place group member privs mode k = record {
-  decl = k;
-  numbers = refl;
-  channels = all_free s 64;
-  asts = tt;
-  handlers = tt;
-  idle = tt;
-  waits = (tt, tt);
-}
+born_stands s place group member privs mode k = search (all_free s 64)
 
 -- Exit handlers.
 
-drop_handler_still : (p : Pid) (s : State) (d : Handler) → IsFirm s → Still s (drop_handler p s d).after
-drop_handler_still p s d h = without_handler_still s p d.id h
-
 pub each_drop_handler_still : (p : Pid) (ds : List Handler) (s : State) → IsFirm s → Still s (each (drop_handler p) ds s).after
 each_drop_handler_still p [] s h = still s h
-each_drop_handler_still p (d ∷ ds) s h = let one = drop_handler_still p s d h in still_then one (each_drop_handler_still p ds (drop_handler p s d).after one.sound)
+each_drop_handler_still p (d ∷ ds) s h = let one = without_handler_still s p d.id h in still_then one (each_drop_handler_still p ds (drop_handler p s d).after one.sound)
 
 -- The channels of a mode that is drained are freed: nothing hangs on them.
 

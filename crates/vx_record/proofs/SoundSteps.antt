@@ -1,9 +1,9 @@
 -- References stand at first, and after each step.
-use Rattle.std.proofs.Common.{◌≡◌, ℕ, ◌+◌, List, [], ◌∷◌, true, length, Option, Some, None, Contains, refl, sym, ◌∙◌, arith, subst}
+use Rattle.std.proofs.Common.{◌≡◌, ℕ, ◌+◌, List, [], ◌∷◌, true, length, Option, Some, None, Contains, refl, sym, ◌∙◌, arith, subst, ◌<◌}
 use Rattle.std.proofs.lemmas.List.{length-map}
-use Rattle.std.specs.List.{AllByRecursion, find, list_any}
-use Rattle.vx_base.specs.Pieces.{Queued, Request, Timer}
-use Rattle.vx_base.specs.Queues.{is_served_by, waits_for, front}
+use Rattle.std.specs.List.{AllByRecursion}
+use Rattle.vx_base.specs.Pieces.{Queued, Request, Timer, Alarm, OfTimer, OfWake, Attention}
+use Rattle.vx_base.specs.Queues.{front}
 use Rattle.vx_base.specs.declared.call.Call.{Call}
 use Rattle.vx_base.specs.declared.frame.Frame.{Frame}
 use Rattle.vx_base.specs.declared.number.Pid.{Pid}
@@ -15,11 +15,10 @@ use Rattle.vx_image.specs.WellFormed.{IsWellFormed}
 use Rattle.vx_image.specs.declared.decl.ProcDecl.{ProcDecl}
 use Rattle.vx_image.specs.declared.system.System.{System}
 use Rattle.vx_image.specs.Units.{first_unit}
-use Rattle.vx_base.specs.Pieces.{Alarm, OfTimer, OfWake, Attention}
 use Rattle.vx_record.specs.Parts.{Outcome}
 use Rattle.vx_base.specs.declared.record.Answer.{Answer}
 use Rattle.vx_record.specs.Rundown.{without_ast}
-use Rattle.vx_record.specs.Sound.{TimerStands, AttentionStands, AlarmStands}
+use Rattle.vx_record.specs.Sound.{TimerStands, AttentionStands, AlarmStands, ground, RequestStands, ProcessStands, IsSound, FitsImage}
 use Rattle.vx_record.proofs.Steps.{service_moves, started_moves, step_moves}
 use Rattle.vx_record.proofs.Base.{Base}
 use Rattle.vx_record.proofs.Called.{called}
@@ -29,17 +28,12 @@ use Rattle.vx_record.specs.Requests.{begun}
 use Rattle.vx_record.proofs.Firm.{firm, sound_of}
 use Rattle.vx_record.proofs.OwnIds.{moves_own, own_of, owned, started_own, begun_own, first_own}
 use Rattle.vx_record.proofs.References.{moves_stand}
-use Rattle.vx_record.proofs.Lists.{all_weaker}
+use Rattle.vx_record.proofs.Lists.{all_weaker, either}
 use Rattle.vx_record.specs.State.{Process, State, IsProcess, HasFrame, process_at, change, image_of}
-use Rattle.vx_record.specs.Parts.{Outcome}
-use Rattle.vx_base.specs.declared.record.Answer.{Answer}
 use Rattle.vx_record.specs.Asts.{deliverable_at, deliverable_ast}
-use Rattle.vx_record.specs.Rundown.{without_ast}
 use Rattle.vx_record.specs.Services.{service}
 use Rattle.vx_record.specs.Events.{enabled, run, delivered, beg, step}
 use Rattle.vx_record.specs.Runs.{born_of, born_from, first, AreSteps, IsRun, after_from, after}
-use Rattle.vx_record.specs.Sound.{ground, RequestStands, ProcessStands, IsSound, FitsImage}
-use Rattle.vx_record.proofs.Lists.{either}
 use Rattle.vx_record.proofs.Changes.{without_ast_still}
 use Rattle.vx_record.proofs.SoundLists.{all_free}
 use Rattle.vx_record.proofs.SoundRequests.{begun_sound}
@@ -50,14 +44,11 @@ use Rattle.vx_record.proofs.Fixed.{step_keeps_system}
 
 -- ids rise, and owners are there, where references stand
 sound_base : (s : State) → IsSound s → Base s
-sound_base s h = record {
-  requests = h.request_ids;
-  timers = h.timer_ids;
-  attention = h.attention_ids;
-  request_owners = all_weaker (RequestStands (ground s)) (λ (r : Request). IsProcess s r.req.p) (λ r k. k.made) s.requests h.requests;
-  timer_owners = all_weaker (TimerStands (ground s)) (λ (t : Timer). IsProcess s t.p × IsAlarmMade s t.what) (λ t k. (k.made, alarm_made t.p t.what k.alarm)) s.timers h.timers;
-  attention_owners = all_weaker (AttentionStands (ground s)) (λ (a : Attention). IsProcess s a.p) (λ a k. k.made) s.attention h.attention;
-}
+sound_base s h =
+    let owners = all_weaker (RequestStands (ground s)) (λ (r : Request). IsProcess s r.req.p) (λ r k. k.made) s.requests h.requests in
+    let timers = all_weaker (TimerStands (ground s)) (λ (t : Timer). IsProcess s t.p × IsAlarmMade s t.what) (λ t k. (k.made, alarm_made t.p t.what k.alarm)) s.timers h.timers in
+    let entries = all_weaker (AttentionStands (ground s)) (λ (a : Attention). IsProcess s a.p) (λ a k. k.made) s.attention h.attention in
+    search
   where
     alarm_made : (p : Pid) (a : Alarm) → AlarmStands (ground s) p a → IsAlarmMade s a
     alarm_made p (OfTimer efn reqid mode tag) k = tt
@@ -76,8 +67,7 @@ framed_at s p [] q e d = cc
 framed_at s p (f ∷ fs) q e d = rw e (omega arith)
 
 deliverable_framed : (s : State) (p : Pid) (q : Queued) → deliverable_ast s p ≡ Some q → HasFrame s p
-deliverable_framed s p q =
-    either (λ (o : Option Queued). o ≡ Some q → HasFrame s p) (process_at s p).suspended _ _ (λ e. cc) (λ e. framed_at s p (process_at s p).frames q refl e)
+deliverable_framed s p q = either (λ (o : Option Queued). o ≡ Some q → HasFrame s p) (process_at s p).suspended _ _ (λ e. cc) (λ e. framed_at s p (process_at s p).frames q refl e)
 
 delivered_sound : (s : State) (p : Pid) (o : Option Queued) → deliverable_ast s p ≡ o → IsSound s → IsSound (delivered s p o).after
 delivered_sound s p None e h = h
@@ -87,20 +77,16 @@ delivered_sound s p (Some q) e h =
     let o : Outcome Answer = delivered s p (Some q) in
     moved_sound t o (started_moves t p q q.tag (λ y. has)) (sound_of t (without_ast_still s p q.id (firm s h)).sound (started_own s p q.id h.own_ids))
 
-front_found : (u : UnitNo) (xs : List Request) (r : Request) → front u xs ≡ Some r → find (waits_for u) xs ≡ Some r
-front_found u xs r = either (λ (o : Option Request). o ≡ Some r → find (waits_for u) xs ≡ Some r) (list_any (is_served_by u) xs) _ _ (λ e. cc) (λ e. e)
-
 beg_sound : (s : State) (u : UnitNo) (o : Option Request) → front u s.requests ≡ o → IsSound s → IsSound (beg s o).after
 beg_sound s u None e h = h
-beg_sound s u (Some r) e h = sound_of (begun s r) (begun_sound s u r (front_found u s.requests r e) (firm s h)) (begun_own s r h.own_ids)
+beg_sound s u (Some r) e h = sound_of (begun s r) (begun_sound s u r (grind arith) (firm s h)) (begun_own s r h.own_ids)
 
 allowed_sound : (s : State) (e : Event) → Allowed s e → IsWellFormed s.system → IsSound s → IsSound (step s e).after
 allowed_sound s (event.Run p) m w h = moved_sound s (step s (event.Run p)) (step_moves s (event.Run p) refl m (sound_base s h) (λ y. w)) h
 allowed_sound s (event.Ast p) m w h = delivered_sound s p (deliverable_ast s p) refl h
 allowed_sound s (event.Rdn p) m w h = moved_sound s (step s (event.Rdn p)) (step_moves s (event.Rdn p) refl m.0 (sound_base s h) (λ y. m.1)) h
 allowed_sound s (event.Beg u) m w h = beg_sound s u (front u s.requests) refl h
-allowed_sound s (event.Don u) m w h = moved_sound s (step s (event.Don u)) (step_moves s (event.Don u) refl tt (sound_base s h) (λ y. tt)) h
-allowed_sound s event.Tick m w h = moved_sound s (step s event.Tick) (step_moves s event.Tick refl tt (sound_base s h) (λ y. tt)) h
+allowed_sound s e m w h = moved_sound s (step s e) (step_moves s e refl m (sound_base s h) (λ y. tt)) h
 
 pub step_sound : (s : State) (e : Event) → IsWellFormed s.system → IsSound s → Contains (enabled s) e → IsSound (step s e).after
 step_sound s e w h c = allowed_sound s e (enabled_allowed s e c) w h
@@ -111,30 +97,12 @@ born_stand : (s : State) (place : ℕ) (ds : List ProcDecl) → place + length d
 born_stand s place [] e = tt
 born_stand s place (d ∷ ds) e =
     let rest = born_stand s (place + 1) ds (omega arith) in
-    let here : ProcessStands (ground s) (born_of place d) = record {
-      decl = omega arith;
-      numbers = refl;
-      channels = all_free s 64;
-      asts = tt;
-      handlers = tt;
-      idle = tt;
-      waits = (tt, tt);
-    } in
+    let k : place < length s.system.decls = omega arith in
+    let here : ProcessStands (ground s) (born_of place d) = search (all_free s 64) in
     either (AllByRecursion (ProcessStands (ground s))) d.start (born_of place d ∷ born_from (place + 1) ds) (born_from (place + 1) ds) (here, rest) rest
 
 pub first_sound : (system : System) → IsSound (first system)
-first_sound system = record {
-  units = length-map system.units first_unit;
-  procs = born_stand (first system) 0 system.decls (omega arith);
-  associations = tt;
-  requests = tt;
-  timers = tt;
-  attention = tt;
-  request_ids = omega arith;
-  timer_ids = omega arith;
-  attention_ids = omega arith;
-  own_ids = first_own system;
-}
+first_sound system = let procs = born_stand (first system) 0 system.decls (omega arith) in search (arith, length-map system.units first_unit, first_own)
 
 -- Along a run.
 

@@ -1,15 +1,15 @@
 -- Each service and each event is a sequence of moves.
-use Rattle.std.proofs.Common.{◌≡◌, ℕ, ◌^◌, ◌%◌, List, [], ◌∷◌, Bool, true, false, not, ◌==◌, ◌&&◌, ◌||◌, nat_lt, nat_le, length, Option, Some, None, Result, Ok, Err, position, refl, ◌∙◌}
-use Rattle.std.specs.List.{filter, find, list_any}
+use Rattle.std.proofs.Common.{◌≡◌, ℕ, ◌^◌, ◌%◌, List, [], ◌∷◌, Bool, true, false, not, ◌==◌, ◌&&◌, ◌||◌, nat_lt, nat_le, length, Option, Some, None, Result, Ok, Err, position, refl, ◌∙◌, ◌+◌, ◌≤◌, IfSome, sym, ap, arith, subst, append-nil, zero, suc, get_or, ◌<◌}
+use Rattle.std.specs.List.{filter, find, list_any, AllByRecursion}
 use Rattle.vx_base.specs.Modes.{outer, is_kernel}
-use Rattle.vx_base.specs.Pieces.{Queued, Channel, Handler, Request, Promised, Timer, Attention}
-use Rattle.vx_base.specs.Queues.{in_service}
+use Rattle.vx_base.specs.Pieces.{Queued, Channel, Handler, Request, Promised, Attention}
+use Rattle.vx_base.specs.Queues.{in_service, is_served_by}
 use Rattle.vx_base.specs.Serving.{serve, settled}
 use Rattle.vx_base.specs.declared.call.Args.{Args}
 use Rattle.vx_base.specs.declared.call.Call.{Call}
 use Rattle.vx_base.specs.declared.call.Target.{Target}
 use Rattle.vx_base.specs.declared.cond.Cond.{Cond}
-use Rattle.vx_base.specs.declared.cond.Cond.TheVariants.{Cancel as Cancelled}
+use Rattle.vx_base.specs.declared.cond.Cond.TheVariants.{Cancel as Cancelled, Normal}
 use Rattle.vx_base.specs.declared.effects.Cell.{Cell}
 use Rattle.vx_base.specs.declared.effects.Cell.TheVariants.{Local, Common}
 use Rattle.vx_base.specs.declared.frame.Frame.{Frame}
@@ -25,8 +25,6 @@ use Rattle.vx_base.specs.declared.number.UnitNo.{UnitNo}
 use Rattle.vx_base.specs.declared.record.Answer.{Answer}
 use Rattle.vx_base.specs.declared.record.Event.{Event}
 use Rattle.vx_base.specs.declared.record.Event.TheVariants as event
-use Rattle.vx_base.specs.declared.request.Device.{Device}
-use Rattle.vx_base.specs.declared.request.Device.TheVariants as device
 use Rattle.vx_base.specs.declared.request.Req.{Req}
 use Rattle.vx_base.specs.declared.routine.Entry.{Entry}
 use Rattle.vx_base.specs.declared.routine.Entry.TheVariants as entry
@@ -35,91 +33,56 @@ use Rattle.vx_base.specs.declared.service.Service.TheVariants.{SetEf, ClrEf, Rea
 use Rattle.vx_image.specs.Local.{Advanced, advanced}
 use Rattle.vx_image.specs.declared.stop.Stop.{Stop}
 use Rattle.vx_image.specs.declared.stop.Stop.TheVariants as stop
-use Rattle.vx_record.specs.State.{State, process_at, change, current, image_of, unit_at}
-use Rattle.vx_record.specs.Parts.{Part, Outcome, nothing, each, refused, part_of}
+use Rattle.vx_record.specs.State.{State, process_at, change, current, image_of, unit_at, Process, IsProcess, next_id, past_id, no_decl, HasFrame, top_mode}
+use Rattle.vx_record.specs.Parts.{Part, Outcome, nothing, each, refused, refused_value, part_of, and_then, followed_by}
 use Rattle.vx_record.specs.Charges.{exceeds, ast_need}
-use Rattle.vx_record.specs.Flags.{cell, flag_where_named, put_flag_at, refused_value, readef_at, readef, wait_condition, is_common, wants_prmceb}
-use Rattle.vx_record.specs.Asts.{is_inside}
-use Rattle.vx_record.specs.Finish.{Ending, ending, is_read, fin_part, buf_part, status_of, iosb_part, done_flag_part, done_ast_part, finish}
-use Rattle.vx_record.specs.Mailboxes.{mailbox_at, this_message, mcut_part}
-use Rattle.vx_record.specs.Channels.{channel_test, box_named, device_named, assign, crembx, delmbx_at, free_channel}
+use Rattle.vx_record.specs.Flags.{cell, flag_where_named, put_flag_at, readef_at, readef, wait_condition, is_common, wants_prmceb, with_wait, with_local_flag}
+use Rattle.vx_record.specs.Asts.{is_inside, declared_ast, charged_ast, with_frame, with_queued}
+use Rattle.vx_record.specs.Finish.{Ending, ending, is_read, fin_part, buf_part, status_of, iosb_part, done_flag_part, done_ast_part, finish, with_stored_status, with_stored_bytes}
+use Rattle.vx_record.specs.Channels.{channel_test, box_named, device_named, assign, crembx, delmbx_at, free_channel, unit_named}
 use Rattle.vx_record.specs.Cancel.{mark_part, withdraw, cancelled_request, cancel_request, is_request_on, is_attention_on, drop_attention, cancel_channel, cancel_at, dassgn_at}
 use Rattle.vx_record.specs.Requests.{request_test, unit_ending, with_unit}
-use Rattle.vx_record.specs.Control.{process_test, changed_process, with_wake, with_suspension, forced, creprc}
-use Rattle.vx_record.specs.Timers.{drop_timer, drop_timers, is_cancelled_timer, scheduled, is_wake_for, unscheduled}
-use Rattle.vx_record.specs.Rundown.{leave_kind, leave_frame, leave_all, exited, without_frames, is_handler_of, is_handler_with, drop_handlers, any_handler, cancel_found, cancel_handlers, named_for_deletion, deleted_by, cancel_one, free_one, is_timer_in, is_wake_by, cancel_modes, release, drop_all_handlers, is_busy, drain, cancelled_in, run_handlers, handling, run_down, inner_modes, rundown_from}
-use Rattle.vx_record.specs.Services.{number, place, access_mode, text, routine_or_none, decl_place, asked, valued_at, numbered_at, service_of, service}
-use Rattle.vx_record.specs.Events.{r0_of, returned_from, returned, served_call, moved_behind, moved_to, run_on, run_advanced, reader, run_frame, run, started, don, step}
+use Rattle.vx_record.specs.Control.{process_test, changed_process, with_wake, with_suspension, forced, creprc, exists_for_control, may_control, named_process, exit_ast}
+use Rattle.vx_record.specs.Timers.{drop_timer, drop_timers, is_cancelled_timer, scheduled, is_wake_for, unscheduled, gettim}
+use Rattle.vx_record.specs.Rundown.{leave_kind, leave_frame, leave_all, exited, without_frames, is_handler_of, is_handler_with, drop_handlers, any_handler, cancel_found, cancel_handlers, named_for_deletion, deleted_by, cancel_one, free_one, is_timer_in, is_wake_by, cancel_modes, release, drop_all_handlers, is_busy, drain, cancelled_in, run_handlers, handling, run_down, inner_modes, rundown_from, drop_asts, handler_frame, in_phase, gone_part, part_with, leaving, keeps_busy}
+use Rattle.vx_record.specs.Services.{number, place, access_mode, text, routine_or_none, decl_place, asked, valued_at, numbered_at, service_of, service, var_part, valued, routine}
+use Rattle.vx_record.specs.Events.{r0_of, returned_from, returned, served_call, moved_behind, moved_to, run_on, run_advanced, reader, run_frame, run, started, don, step, resumed_with, uses_wake, with_r0, put_back, below_top, or_normal}
 use Rattle.vx_record.specs.declared.served.Served.{Served}
 use Rattle.vx_record.specs.declared.served.Served.TheVariants.{Answered, Waits}
 use Rattle.vx_base.specs.Channels.{channels_of}
-use Rattle.vx_record.proofs.Lists.{either}
-use Rattle.std.proofs.Common.{◌+◌, ◌≤◌, IfSome, sym, ap, arith, subst, append-nil, zero, suc, get_or}
-use Rattle.vx_record.specs.Rundown.{drop_asts}
-use Rattle.std.proofs.lemmas.Bool.{and_parts, leb-true}
-use Rattle.std.specs.List.{AllByRecursion}
-use Rattle.vx_base.specs.Clusters.{dissociated, associated, marked, is_cluster}
-use Rattle.vx_base.specs.declared.effects.Effect.{Effect}
+use Rattle.vx_record.proofs.Lists.{either, either_by, all_weaker, all_both, not_fails, some_found, none_passes}
+use Rattle.std.proofs.lemmas.Bool.{and_parts, leb-true, ltb-false}
+use Rattle.vx_base.specs.Clusters.{dissociated, associated, marked, is_cluster, cluster_number}
 use Rattle.vx_base.specs.declared.effects.Effect.TheVariants as effect
 use Rattle.vx_base.specs.declared.effects.Opened.TheVariants as opened
-use Rattle.vx_record.specs.State.{Process, IsProcess}
-use Rattle.vx_record.specs.Parts.{and_then, followed_by}
-use Rattle.vx_record.specs.Flags.{with_wait, with_local_flag}
-use Rattle.vx_base.specs.Clusters.{cluster_number}
-use Rattle.vx_base.specs.declared.cond.Cond.TheVariants.{Normal}
 use Rattle.vx_base.specs.declared.mode.Mode.TheVariants.{User}
-use Rattle.vx_record.specs.State.{next_id, past_id}
-use Rattle.vx_record.specs.Asts.{declared_ast, charged_ast, with_frame}
-use Rattle.vx_record.specs.Control.{exists_for_control, may_control, named_process, exit_ast}
 use Rattle.vx_base.specs.Cond.{number_of}
-use Rattle.vx_base.specs.Queues.{is_served_by}
-use Rattle.vx_record.specs.Rundown.{handler_frame, in_phase, gone_part, part_with}
-use Rattle.vx_record.specs.Services.{var_part, valued, routine}
-use Rattle.vx_record.specs.Timers.{gettim}
-use Rattle.vx_record.specs.Events.{resumed_with, uses_wake, with_r0, put_back, below_top, or_normal}
-use Rattle.vx_record.proofs.Lists.{either_by, all_weaker, all_both, not_fails, some_found}
-use Rattle.std.proofs.Common.{◌<◌}
-use Rattle.std.specs.Prelude.{bytes_eq, unwrap_or}
+use Rattle.std.specs.Prelude.{bytes_eq, unwrap_or, ⊤}
 use Rattle.std.proofs.lemmas.Slice.Eq.{bytes_eq-Decides}
 use Rattle.std.proofs.lemmas.List.Quantifiers.{position-Some}
 use Rattle.vx_image.specs.declared.decl.ProcDecl.{ProcDecl}
-use Rattle.vx_record.specs.State.{no_decl}
-use Rattle.vx_record.specs.Finish.{with_stored_status}
-use Rattle.vx_record.proofs.Moves.{IsDeclared}
-use Rattle.vx_record.proofs.Moves.{IsSilent, associates, dissociates, marks, HasRequest, none, both, quiet, moved, bytes, var, enb, newly, gone, leave, flag, clusters, open_ast, open_force, que, end_asts, open_handler, end_handler, end_handlers, enter, unit, MovesBy, PartBy, OutcomeBy}
+use Rattle.vx_record.proofs.Moves.{IsDeclared, IsSilent, associates, dissociates, marks, HasRequest, none, both, quiet, moved, var, enb, newly, leave, flag, clusters, open_ast, open_force, que, end_asts, open_handler, end_handler, end_handlers, enter, unit, MovesBy, PartBy, OutcomeBy, PartMoves, Answers, IsTame, calm, drains, AreUnattended}
 use Rattle.vx_record.proofs.Locals.{advanced_statuses}
-use Rattle.std.specs.Prelude.{⊤}
 use Rattle.vx_base.specs.declared.call.Target.TheVariants as target
 use Rattle.vx_image.specs.WellFormed.{IsWellFormed}
-use Rattle.vx_record.specs.State.{HasFrame, top_mode}
-use Rattle.vx_record.specs.Asts.{with_queued}
-use Rattle.vx_record.specs.Channels.{unit_named}
-use Rattle.vx_record.specs.Finish.{with_stored_bytes}
-use Rattle.vx_record.specs.Rundown.{leaving, leaving_deleted, keeps_busy}
-use Rattle.vx_record.specs.Sound.{ground, IsRoutineOf, IsIdle as Idles}
-use Rattle.vx_record.proofs.Lists.{none_passes}
-use Rattle.vx_record.proofs.Changes.{with_suspension_quiet, with_variable_quiet, put_back_quiet, below_top_quiet, woken_quiet, leaving_going, deleted_going, idle_none, idle_of, firm_at}
+use Rattle.vx_record.specs.Sound.{ground, IsRoutineOf, IsIdle as Idles, WaitStands}
+use Rattle.vx_record.proofs.Changes.{with_suspension_quiet, with_variable_quiet, put_back_quiet, below_top_quiet, woken_quiet, leaving_going, idle_none, idle_of, firm_at}
 use Rattle.vx_record.proofs.Called.{IsCalled, declared_routine, handler_routine, third_routine, fifth_routine, IsStopped, stopped_call, moved_stopped, advanced_stopped}
 use Rattle.vx_record.proofs.Fits.{field_same, tested_fits}
 use Rattle.vx_record.proofs.Freeing.{IsFreeing, IsReleased, freeing_first, freeing_row, freed_on, released_frames, phase_at}
-use Rattle.vx_record.proofs.Moves.{PartMoves, Answers, IsTame, calm, drains, AreUnattended}
 use Rattle.vx_record.proofs.SoundCalls.{placed}
 use Rattle.vx_record.proofs.SoundChannels.{named_stands}
 use Rattle.vx_record.proofs.SoundFlags.{associated_stands, dissociated_stands, marked_stands}
 use Rattle.vx_record.proofs.SoundRequests.{tested_channel}
-use Rattle.std.proofs.lemmas.Bool.{ltb-false}
-use Rattle.vx_record.specs.Sound.{WaitStands}
 use Rattle.vx_record.proofs.Base.{Base, moves_keep}
 use Rattle.vx_record.proofs.Apart.{Here, here_after, part_then, based_then, outcome_either, each_free, tamely, at_flag_moves, waited, waits_moves, dissociated_only, associated_only, marked_at_only, finish_moves, requests_found, tested_cell, qio_moves, qiow_moves}
-use Rattle.vx_record.proofs.Cancelled.{at_tested_moves, assign_to_moves, crembx_moves, delmbx_moves, free_channel_moves, cancel_channel_moves, cancel_channel_all, cancel_channel_attention, cancel_channel_clears, drop_timers_moves, setimr_moves, scheduled_moves, woken, tick_moves}
+use Rattle.vx_record.proofs.Cancelled.{at_tested_moves, assign_to_moves, crembx_moves, delmbx_moves, free_channel_moves, cancel_channel_moves, cancel_channel_all, cancel_channel_attention, cancel_channel_clears, each_keeps, drop_timers_moves, setimr_moves, scheduled_moves, woken, tick_moves}
 
 -- Leaving.
 
 leave_kind_moves : {refs : Bool} (s : State) (k : FrameKind) → PartBy refs s (leave_kind s k)
 leave_kind_moves s (kind.Ast id) = leave s None id tt
-leave_kind_moves s kind.Main = none s None
-leave_kind_moves s kind.Change = none s None
-leave_kind_moves s kind.Handler = none s None
+leave_kind_moves s k = none s None
 
 leave_all_moves : {refs : Bool} (frames : List Frame) (s : State) → PartBy refs s (leave_all frames s)
 leave_all_moves frames s = each_free leave_frame (λ t f. leave_kind_moves t f.kind) frames s
@@ -146,7 +109,7 @@ deleted_by_moves {refs} s q h =
     let b = leave_all (process_at s q).frames a in
     let c = drop_handlers b.after q any_handler in
     let first : MovesBy refs s None b.effects b.after None = both s a b.after None None None [] b.effects
-    (quiet s None q named_for_deletion (record { decl = refl; enables = refl; asts = refl; channels = refl; handlers = refl; cluster_0 = refl; cluster_1 = refl; statuses = refl; tame = λ e h. calm named_for_deletion (record { going = deleted_going (process_at s q).phase; idle = λ i. idle_none (leaving_deleted (process_at s q).phase); waits = λ w. tt }) }))
+    (quiet s None q named_for_deletion (record { decl = refl; enables = refl; asts = refl; channels = refl; handlers = refl; cluster_0 = refl; cluster_1 = refl; statuses = refl; tame = λ e h. calm named_for_deletion (record { going = leaving_going (process_at s q).phase User; idle = λ i. idle_none (leaving (process_at s q).phase User); waits = λ w. tt }) }))
     (leave_all_moves (process_at s q).frames a) in
     both s b.after c.after None None None b.effects c.effects first (end_handlers b.after q any_handler (here_after s q None b.effects b.after None first h).made)
 
@@ -165,9 +128,6 @@ test_made s p n q =
     let same : named_process p n ≡ q = cc in
     rw (← same) (record { above = leb-true _ _ one.0; within = leb-true _ _ two.0 }))
     (λ e. cc))
-
-quiet_wake : {refs : Bool} (s : State) (q : Pid) (on : Bool) → OutcomeBy refs s (changed_process s (with_wake on) q)
-quiet_wake s q on = quiet s None q (with_wake on) (woken s q on)
 
 quiet_suspension : {refs : Bool} (s : State) (q : Pid) (on : Bool) → OutcomeBy refs s (changed_process s (with_suspension on) q)
 quiet_suspension s q on = quiet s None q (with_suspension on) (record { decl = refl; enables = refl; asts = refl; channels = refl; handlers = refl; cluster_0 = refl; cluster_1 = refl; statuses = refl; tame = tamely s q (with_suspension on) (with_suspension_quiet on (process_at s q)) })
@@ -244,7 +204,7 @@ service_of_moves s p a SchdWk h fits =
     at_tested_moves s (scheduled s p (number a.a1) (number a.a2)) (process_test s p (number a.a0)) (λ q e. scheduled_moves s p (number a.a1) (number a.a2) q h.made (test_made s p (number a.a0) q e))
 service_of_moves s p a CanWak h fits = at_tested_moves s (unscheduled s) (process_test s p (number a.a0)) (λ q e. drop_timers_moves s (is_wake_for q) h.base)
 service_of_moves s p a Hiber h fits = outcome_either s (process_at s p).wake_pending _ _ (quiet s None p (with_wake false) (woken s p false)) (quiet s None p (with_wait (Some wait.Hiber)) (waited s p (Some wait.Hiber) (λ e. tt)))
-service_of_moves s p a Wake h fits = at_tested_moves s (changed_process s (with_wake true)) (process_test s p (number a.a0)) (λ q e. quiet_wake s q true)
+service_of_moves s p a Wake h fits = at_tested_moves s (changed_process s (with_wake true)) (process_test s p (number a.a0)) (λ q e. quiet s None q (with_wake true) (woken s q true))
 service_of_moves s p a Suspnd h fits = at_tested_moves s (changed_process s (with_suspension true)) (process_test s p (number a.a0)) (λ q e. quiet_suspension s q true)
 service_of_moves s p a Resume h fits = at_tested_moves s (changed_process s (with_suspension false)) (process_test s p (number a.a0)) (λ q e. quiet_suspension s q false)
 service_of_moves s p a ForceX h fits = at_tested_moves s (forced s (number a.a1)) (process_test s p (number a.a0)) (λ q e. forced_moves s (number a.a1) q (test_made s p (number a.a0) q e))
@@ -280,26 +240,23 @@ service_moves s p c h fits = service_of_moves s p c.args c.service h fits
 
 -- The frames and the channels of processes stay while requests end.
 
-kept_words : Process → List Frame × List (Option Channel)
+abbrev kept_words : Process → List Frame × List (Option Channel)
 kept_words pr = (pr.frames, pr.channels)
 
 -- of each process
-AreKept : State → State → Type 0
+abbrev AreKept : State → State → Type 0
 AreKept s t = (q : Pid) → kept_words (process_at t q) ≡ kept_words (process_at s q)
 
 cell_kept : (s : State) (o : Option Cell) (on : Bool) → AreKept s (flag_where_named s o on).after
-unfolding kept_words AreKept
 cell_kept s None on q = refl
 cell_kept s (Some (Local p n)) on q = field_same kept_words (with_local_flag n on) s p q (either (λ (x : Process). kept_words x ≡ kept_words (process_at s p)) (nat_lt n 32) _ _ refl refl)
 cell_kept s (Some (Common g n k)) on q = refl
 
 ast_kept : (s : State) (r : Req) (o : Option Promised) → AreKept s (done_ast_part s r o).after
-unfolding kept_words AreKept
 ast_kept s r None q = refl
 ast_kept s r (Some ast) q = field_same kept_words (with_queued (charged_ast r.id ast.mode ast.tag)) s r.p q refl
 
 finish_kept : (s : State) (r : Request) (e : Ending) → AreKept s (finish s r e).after
-unfolding kept_words AreKept
 finish_kept s r e q =
     let a = (fin_part s r.req.id e.0.cond).after in
     let b = (buf_part a r.req e).after in
@@ -312,44 +269,30 @@ finish_kept s r e q =
     ∙ either (P a) (is_read r.req.func && nat_lt 0 e.0.count) _ (nothing a) (field_same kept_words (with_stored_bytes r.req.buf e.0.bytes) a r.req.p q refl) refl))
 
 cancel_request_kept : (s : State) (r : Request) → AreKept s (cancel_request s r).after
-unfolding kept_words AreKept
 cancel_request_kept s r q =
     let P = λ (x : Part). kept_words (process_at x.after q) ≡ kept_words (process_at s q) in
-    either P r.served _ (cancelled_request s r) (either P (not r.marked) (mark_part s r) (nothing s) refl refl) (finish_kept (withdraw s r r.req.device).after r (ending Cancelled 0 0 []) q ∙ withdrawn r.req.device)
+    let w = (withdraw s r r.req.device).after in
+    let same : w.procs ≡ s.procs = grind arith in
+    either P r.served _ (cancelled_request s r) (either P (not r.marked) (mark_part s r) (nothing s) refl refl) (finish_kept w r (ending Cancelled 0 0 []) q ∙ procs_kept s w same q)
   where
-    withdrawn : (d : Device) → kept_words (process_at (withdraw s r d).after q) ≡ kept_words (process_at s q)
-    withdrawn (device.Unit u) = refl
-    withdrawn (device.Mailbox b) = either (λ (x : Part). kept_words (process_at x.after q) ≡ kept_words (process_at s q)) (list_any (this_message r.req.id) (mailbox_at s b).messages) (mcut_part s b r.req.id) (nothing s) refl refl
-
-each_kept : {A : Type 0} (f : State → A → Part) → ((s : State) (x : A) → AreKept s (f s x).after) → (xs : List A) (s : State) → AreKept s (each f xs s).after
-unfolding kept_words AreKept
-each_kept f k [] s q = refl
-each_kept f k (x ∷ xs) s q = each_kept f k xs (f s x).after q ∙ k s x q
-
-procs_kept : (s t : State) → t.procs ≡ s.procs → AreKept s t
-unfolding kept_words AreKept
-procs_kept s t e q = rw e refl
+    procs_kept : (s t : State) → t.procs ≡ s.procs → AreKept s t
+    procs_kept s t e q = rw e refl
 
 cancel_one_kept : (p : Pid) (s : State) (n : ℕ) → AreKept s (cancel_one p s n).after
-unfolding kept_words AreKept
 cancel_one_kept p s n q =
+    let K = λ (x : State). kept_words (process_at x q) ≡ kept_words (process_at s q) in
     let a = (each cancel_request (filter (is_request_on p n) s.requests) s).after in
-    each_kept drop_attention (λ x y. procs_kept x (drop_attention x y).after refl) (filter (is_attention_on p n) a.attention) a q ∙ each_kept cancel_request cancel_request_kept (filter (is_request_on p n) s.requests) s q
+    each_keeps K drop_attention (λ x y h. h) (filter (is_attention_on p n) a.attention) a (each_keeps K cancel_request (λ x y h. cancel_request_kept x y q ∙ h) (filter (is_request_on p n) s.requests) s refl)
 
 cancel_modes_kept : (s : State) (p : Pid) (m : Mode) → AreKept s (cancel_modes s p m).after
-unfolding kept_words AreKept
 cancel_modes_kept s p m q =
     let ns = channels_of m (process_at s p).channels in
     let a = (each (cancel_one p) ns s).after in
     let b = (drop_timers (is_timer_in p m) a).after in
-    let drops = λ (x : State) (y : Timer). procs_kept x (drop_timer x y).after refl in
-    each_kept drop_timer drops (filter (is_wake_by p) b.timers) b q ∙ (each_kept drop_timer drops (filter (is_timer_in p m) a.timers) a q ∙ each_kept (cancel_one p) (cancel_one_kept p) ns s q)
+    let K = λ (x : State). kept_words (process_at x q) ≡ kept_words (process_at s q) in
+    each_keeps K drop_timer (λ x y h. h) (filter (is_wake_by p) b.timers) b (each_keeps K drop_timer (λ x y h. h) (filter (is_timer_in p m) a.timers) a (each_keeps K (cancel_one p) (λ x y h. cancel_one_kept p x y q ∙ h) ns s refl))
 
 -- What is attended no more.
-
-each_cancel_one_all : (P : Attention → Type 0) (p : Pid) (s : State) (ns : List ℕ) → AllByRecursion P s.attention → AllByRecursion P (each (cancel_one p) ns s).after.attention
-each_cancel_one_all P p s [] k = k
-each_cancel_one_all P p s (n ∷ ns) k = each_cancel_one_all P p (cancel_channel s p n).after ns (cancel_channel_all P s p n k)
 
 cancelled_base : (s : State) (p : Pid) (n : ℕ) → Base s → Base (cancel_channel s p n).after
 cancelled_base s p n h = let one : PartMoves s (cancel_channel s p n) = cancel_channel_moves s p n h in (moves_keep s None _ (cancel_channel s p n).after None one h).base
@@ -365,26 +308,19 @@ each_cancel_one_clear p s (n ∷ ns) h =
     let t = (each (cancel_one p) ns a).after in
     all_weaker (λ x. (is_attention_on p n x ≡ false) × (list_any (λ n. is_attention_on p n x) ns ≡ false)) (λ x. list_any (λ n. is_attention_on p n x) (n ∷ ns) ≡ false) (λ x e. rw (e.0, e.1) refl) t.attention
     (all_both (λ x. is_attention_on p n x ≡ false) (λ x. list_any (λ n. is_attention_on p n x) ns ≡ false) t.attention
-    (each_cancel_one_all (λ x. is_attention_on p n x ≡ false) p a ns (cancel_channel_attention s p n h)) (each_cancel_one_clear p a ns (cancelled_base s p n h)))
-
-each_drop_timer_attention : (s : State) (ts : List Timer) → (each drop_timer ts s).after.attention ≡ s.attention
-each_drop_timer_attention s [] = refl
-each_drop_timer_attention s (t ∷ ts) = each_drop_timer_attention (drop_timer s t).after ts
+    (each_keeps (λ x. AllByRecursion (λ y. is_attention_on p n y ≡ false) x.attention) (cancel_one p) (λ x i. cancel_channel_all (λ y. is_attention_on p n y ≡ false) x p i) ns a (cancel_channel_attention s p n h)) (each_cancel_one_clear p a ns (cancelled_base s p n h)))
 
 cancel_modes_unattended : (s : State) (p : Pid) (m : Mode) → Base s → AreUnattended (cancel_modes s p m).after p (channels_of m (process_at (cancel_modes s p m).after p).channels)
-unfolding kept_words AreKept
 cancel_modes_unattended s p m h =
     let ns = channels_of m (process_at s p).channels in
     let a = (each (cancel_one p) ns s).after in
     let b = (drop_timers (is_timer_in p m) a).after in
     let same : (process_at (cancel_modes s p m).after p).channels ≡ (process_at s p).channels = ap (λ (x : List Frame × List (Option Channel)). x.1) (cancel_modes_kept s p m p) in
-    rw (same, each_drop_timer_attention b (filter (is_wake_by p) b.timers), each_drop_timer_attention a (filter (is_timer_in p m) a.timers)) (each_cancel_one_clear p s ns h)
+    let K = λ (x : State). AreUnattended x p ns in
+    rw same (each_keeps K drop_timer (λ x y k. k) (filter (is_wake_by p) b.timers) b (each_keeps K drop_timer (λ x y k. k) (filter (is_timer_in p m) a.timers) a (each_cancel_one_clear p s ns h)))
 
 outcome_here : {refs : Bool} {A : Type 0} (s : State) (p : Pid) (a : Part) (f : State → Outcome A) → Here s p → PartBy refs s a → (Here a.after p → OutcomeBy refs a.after (f a.after)) → OutcomeBy refs s (followed_by a f)
 outcome_here s p a f h k g = both s a.after (f a.after).after None None None a.effects (f a.after).effects k (g (here_after s p None a.effects a.after None k h))
-
-here_then : {refs : Bool} (s : State) (p : Pid) (a : Part) (f : State → Part) → Here s p → PartBy refs s a → (Here a.after p → PartBy refs a.after (f a.after)) → PartBy refs s (and_then a f)
-here_then s p a f h k g = part_then s p None None None a f h k g
 
 pub phase_silent : {refs : Bool} (s : State) (p : Pid) (ph : Phase) → Answers refs s (IsTame s p (in_phase ph)) → IsSilent refs s p (in_phase ph)
 phase_silent s p ph k = record { decl = refl; enables = refl; asts = refl; channels = refl; handlers = refl; cluster_0 = refl; cluster_1 = refl; statuses = refl; tame = k }
@@ -410,9 +346,9 @@ release_moves {refs} s p m h drained =
     let two = and_then one (drop_asts p m) in
     let three = and_then two (part_with p 2) in
     let first : PartBy refs s one = each_free_moves p m ns s (λ e. freeing_first s p m h.made (drained e)) in
-    let second : PartBy refs s two = here_then s p one (drop_asts p m) h first (λ k. end_asts one.after p m k.made) in
-    let third : PartBy refs s three = here_then s p two (part_with p 2) h second (λ k. part_with_moves two.after p 2) in
-    here_then s p three (part_with p 3) h third (λ k. part_with_moves three.after p 3)
+    let second : PartBy refs s two = part_then s p None None None one (drop_asts p m) h first (λ k. end_asts one.after p m k.made) in
+    let third : PartBy refs s three = part_then s p None None None two (part_with p 2) h second (λ k. part_with_moves two.after p 2) in
+    part_then s p None None None three (part_with p 3) h third (λ k. part_with_moves three.after p 3)
 
 each_cancel_moves : {refs : Bool} (p : Pid) (ns : List ℕ) (s : State) → Base s → PartBy refs s (each (cancel_one p) ns s)
 each_cancel_moves p [] s h = none s None
@@ -433,7 +369,6 @@ pub record IsDown (s : State) (p : Pid) : Type 0 where
   pub none : (process_at s p).frames ≡ []
 
 cancelled_down : (s : State) (p : Pid) (m : Mode) → Base s → IsDown s p → IsDown (cancel_modes s p m).after p
-unfolding kept_words AreKept
 cancelled_down s p m h d =
     let one : PartMoves s (cancel_modes s p m) = cancel_modes_moves s p m h in
     record { made = (here_after s p None _ (cancel_modes s p m).after None one (record { base = h; made = d.made })).made; none = rw (ap (λ (x : List Frame × List (Option Channel)). x.0) (cancel_modes_kept s p m p)) d.none }
@@ -483,28 +418,23 @@ run_down_moves {refs} (m ∷ ms) p s h d =
 rundown_moves : {refs : Bool} (s : State) (p : Pid) (ph : Phase) → (process_at s p).phase ≡ ph → Here s p → (refs ≡ true → (process_at s p).frames ≡ []) → OutcomeBy refs s (rundown_from p ph s)
 rundown_moves s p (phase.Handlers m) at h d = run_down_moves (m ∷ inner_modes m) p s h d
 rundown_moves s p (phase.Draining m) at h d = drain_moves s p m (run_down p (inner_modes m)) h (λ e. (at, d e)) (λ t k n. run_down_moves (inner_modes m) p t k n)
-rundown_moves s p phase.Alive at h d = none s None
-rundown_moves s p phase.Deleted at h d = none s None
+rundown_moves s p ph at h d = none s None
 
 -- Steps.
 
 served_call_moves : {refs : Bool} (s : State) (p : Pid) (c : Call) (o : Outcome Served) (answer : Served) → OutcomeBy refs s o → OutcomeBy refs s (served_call p c o answer)
-served_call_moves {refs} s p c o (Answered x) k = moves_end s o.effects o.after (change o.after p (with_r0 (number_of x))) k (quiet o.after None p (with_r0 (number_of x)) (record { decl = refl; enables = refl; asts = refl; channels = refl; handlers = refl; cluster_0 = refl; cluster_1 = refl; statuses = refl; tame = tamely o.after p (with_r0 (number_of x)) (with_variable_quiet target.R0 (number_of x) (process_at o.after p)) }))
-  where
-    moves_end : (s : State) (es : List Effect) (t u : State) → MovesBy refs s None es t None → MovesBy refs t None [] u None → MovesBy refs s None es u None
-    moves_end s es t u k j = subst (λ (fs : List Effect). MovesBy refs s None fs u None) (append-nil es) (both s t u None None None es [] k j)
+served_call_moves s p c o (Answered x) k =
+    rw (← append-nil o.effects)
+    (both s o.after (change o.after p (with_r0 (number_of x))) None None None o.effects [] k
+    (quiet o.after None p (with_r0 (number_of x)) (record { decl = refl; enables = refl; asts = refl; channels = refl; handlers = refl; cluster_0 = refl; cluster_1 = refl; statuses = refl; tame = tamely o.after p (with_r0 (number_of x)) (with_variable_quiet target.R0 (number_of x) (process_at o.after p)) })))
 served_call_moves s p c o Waits k = k
-
-frames_silent : {refs : Bool} (s : State) (p : Pid) (r0 : ℕ) → IsSilent refs s p (put_back r0)
-frames_silent s p r0 = record { decl = refl; enables = refl; asts = refl; channels = refl; handlers = refl; cluster_0 = refl; cluster_1 = refl; statuses = refl; tame = tamely s p (put_back r0) (put_back_quiet r0 (process_at s p)) }
 
 returned_from_moves : {refs : Bool} (s : State) (p : Pid) (f : Frame) (k : FrameKind) → OutcomeBy refs s (returned_from s p f k)
 returned_from_moves s p f kind.Main = exited_moves s p (r0_of s p)
 returned_from_moves s p f (kind.Ast id) =
     let a = change s p (put_back f.saved_r0) in
-    both s a a None None None [] (effect.Leave id ∷ []) (quiet s None p (put_back f.saved_r0) (frames_silent s p f.saved_r0)) (leave a None id tt)
-returned_from_moves s p f kind.Change = quiet s None p below_top (record { decl = refl; enables = refl; asts = refl; channels = refl; handlers = refl; cluster_0 = refl; cluster_1 = refl; statuses = refl; tame = tamely s p below_top (below_top_quiet (process_at s p)) })
-returned_from_moves s p f kind.Handler = quiet s None p below_top (record { decl = refl; enables = refl; asts = refl; channels = refl; handlers = refl; cluster_0 = refl; cluster_1 = refl; statuses = refl; tame = tamely s p below_top (below_top_quiet (process_at s p)) })
+    both s a a None None None [] (effect.Leave id ∷ []) (quiet s None p (put_back f.saved_r0) (record { decl = refl; enables = refl; asts = refl; channels = refl; handlers = refl; cluster_0 = refl; cluster_1 = refl; statuses = refl; tame = tamely s p (put_back f.saved_r0) (put_back_quiet f.saved_r0 (process_at s p)) })) (leave a None id tt)
+returned_from_moves s p f k = quiet s None p below_top (record { decl = refl; enables = refl; asts = refl; channels = refl; handlers = refl; cluster_0 = refl; cluster_1 = refl; statuses = refl; tame = tamely s p below_top (below_top_quiet (process_at s p)) })
 
 pub returned_moves : {refs : Bool} (s : State) (p : Pid) (frames : List Frame) → OutcomeBy refs s (returned s p frames)
 returned_moves s p [] = none s None
@@ -518,9 +448,8 @@ run_on_moves {refs} s p place (stop.Call c) h fits =
     let k = here_after s p None [] t None first h in
     let two = served_call p c o o.answer in
     both s t two.after None None None [] two.effects first (served_call_moves t p c o o.answer (service_moves t p c k (λ e. stopped_call s p place c (fits e))))
-run_on_moves s p place stop.Return h fits = returned_moves s p (process_at s p).frames
-run_on_moves s p place stop.End h fits = returned_moves s p (process_at s p).frames
 run_on_moves s p place stop.Local h fits = none s None
+run_on_moves s p place x h fits = returned_moves s p (process_at s p).frames
 
 run_advanced_moves : {refs : Bool} (s : State) (p : Pid) (a : Advanced) → a.store.statuses ≡ (process_at s p).store.statuses → Here s p → (refs ≡ true → IsStopped s p a.stop) → OutcomeBy refs s (run_advanced s p a)
 run_advanced_moves {refs} s p a same h fits =
@@ -530,9 +459,8 @@ run_advanced_moves {refs} s p a same h fits =
     both s t two.after None None None [] two.effects first (run_on_moves t p a.place a.stop (here_after s p None [] t None first h) (λ e. moved_stopped s p a.store a.place a.stop (fits e)))
 
 uses_silent : {refs : Bool} (w : Wait) (n : ℕ) (s : State) (p : Pid) → IsSilent refs s p (λ pr. with_r0 n (uses_wake w (with_wait None pr)))
-uses_silent (wait.Flags a b c) n s p = record { decl = refl; enables = refl; asts = refl; channels = refl; handlers = refl; cluster_0 = refl; cluster_1 = refl; statuses = refl; tame = tamely s p _ (woken_quiet (wait.Flags a b c) n (process_at s p)) }
-uses_silent (wait.Synch a b) n s p = record { decl = refl; enables = refl; asts = refl; channels = refl; handlers = refl; cluster_0 = refl; cluster_1 = refl; statuses = refl; tame = tamely s p _ (woken_quiet (wait.Synch a b) n (process_at s p)) }
 uses_silent wait.Hiber n s p = record { decl = refl; enables = refl; asts = refl; channels = refl; handlers = refl; cluster_0 = refl; cluster_1 = refl; statuses = refl; tame = tamely s p _ (woken_quiet wait.Hiber n (process_at s p)) }
+uses_silent w n s p = record { decl = refl; enables = refl; asts = refl; channels = refl; handlers = refl; cluster_0 = refl; cluster_1 = refl; statuses = refl; tame = tamely s p _ (woken_quiet w n (process_at s p)) }
 
 run_frame_moves : {refs : Bool} (s : State) (p : Pid) (f : Frame) (o : Option Wait) → Here s p → (refs ≡ true → IsWellFormed s.system × HasFrame s p) → OutcomeBy refs s (run_frame s p f o)
 run_frame_moves s p f None h fits = run_advanced_moves s p (advanced (image_of s p) (reader p f) (process_at s p).store f.pc) (advanced_statuses (image_of s p) (reader p f) (process_at s p).store f.pc) h (λ e. advanced_stopped s p f (fits e).0 (fits e).1)
@@ -546,8 +474,7 @@ pub started_moves : {refs : Bool} (s : State) (p : Pid) (q : Queued) (tag : Entr
 started_moves s p q (entry.Exit code) has =
     let b = exited s p code in
     both s s b.after None None None (effect.Leave q.id ∷ []) b.effects (leave s None q.id tt) (exited_moves s p code)
-started_moves s p q (entry.Label k prm) has = frame_quiet s p _ tt has
-started_moves s p q (entry.Host prm) has = frame_quiet s p _ tt has
+started_moves s p q tag has = frame_quiet s p _ tt has
 
 don_moves : {refs : Bool} (s : State) (u : UnitNo) (o : Option Request) → IfSome o (HasRequest s) → Base s → OutcomeBy refs s (don s u o)
 don_moves s u None k h = none s None
@@ -581,8 +508,7 @@ IsReady s e = ⊤
 -- each other event is moves
 pub step_moves : {refs : Bool} (s : State) (e : Event) → is_headed e ≡ false → IsThere s e → Base s → (refs ≡ true → IsReady s e) → OutcomeBy refs s (step s e)
 step_moves s (event.Run p) other m h ready = run_moves s p (process_at s p).frames refl (record { base = h; made = m }) ready
-step_moves s (event.Ast p) other m h ready = absurd (let yes : true ≡ false = other in cc)
 step_moves s (event.Rdn p) other m h ready = rundown_moves s p (process_at s p).phase refl (record { base = h; made = m }) ready
-step_moves s (event.Beg u) other m h ready = absurd (let yes : true ≡ false = other in cc)
 step_moves s (event.Don u) other m h ready = don_moves s u (in_service u s.requests) (some_found (HasRequest s) (is_served_by u) s.requests (requests_found s h)) h
 step_moves s event.Tick other m h ready = tick_moves s h
+step_moves s e other m h ready = absurd (let yes : true ≡ false = other in cc)
