@@ -261,6 +261,7 @@ run_kept s p (f ∷ fs) = frame f.wait
   where
     moved : (a : Advanced) → fixed (run_advanced s p a).after ≡ fixed s
     moved a = run_on_kept (change s p (moved_to a.store a.place)) p a.place a.stop
+
     frame : (o : Option Wait) → fixed (run_frame s p f o).after ≡ fixed s
     frame None = moved (advanced (image_of s p) (reader p f) (process_at s p).store f.pc)
     frame (Some w) = refl

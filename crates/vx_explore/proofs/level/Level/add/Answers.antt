@@ -25,7 +25,7 @@ pub returns-in-Some-clause-states : goal.returns-in-Some-clause-states
 returns-in-Some-clause-states g c =
     let there = c.at_mut-there.result.now in
     rw (map-counted (λ s. s) c.self.inside.reached.items c.in-Some.i there c.saturating_add-there.result (rw c.self.view_is c.in-Some.ensures.0) c.at_mut-there.ensures.value, c.self.view_is)
-        (AreMore-same (whats c.args.self.now) _ (Contains-whats c.args.self.now c.in-Some.i (g.M.Machine.state_of c.args.machine.now) c.in-Some.ensures.0 c.in-Some.ensures.1))
+    (AreMore-same (whats c.args.self.now) _ (Contains-whats c.args.self.now c.in-Some.i (g.M.Machine.state_of c.args.machine.now) c.in-Some.ensures.0 c.in-Some.ensures.1))
 
 pub returns-in_ok-push-in-None-clause-states : goal.returns-in_ok-push-in-None-clause-states
 returns-in_ok-push-in-None-clause-states g c = rw (c.in_ok-push-in-None.ensures.ok, ← c.in_ok-what-in-None.ensures) (AreMore-push c.args.self.now _)

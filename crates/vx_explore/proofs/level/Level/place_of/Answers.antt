@@ -6,8 +6,8 @@ use Rattle.vx_explore.proofs.level.Level.place_of.Goals as goal
 pub loop-next-init : goal.loop-next-init
 loop-next-init g c =
     rw c.as_slice-reached.ensures
-        (Seeks-start g.M.Machine.digest_of c.self.inside.reached.items (g.M.Machine.state_of c.args.machine.now) _ _ c.self.invariant.index
-        c.args.digest c.copied-next.result c.requires.digest (c.copied-next.ensures ∙ c.get.ensures.value))
+    (Seeks-start g.M.Machine.digest_of c.self.inside.reached.items (g.M.Machine.state_of c.args.machine.now) _ _ c.self.invariant.index
+    c.args.digest c.copied-next.result c.requires.digest (c.copied-next.ensures ∙ c.get.ensures.value))
 
 pub same-requires : goal.same-requires
 same-requires g c = let m = g.M.Machine in
