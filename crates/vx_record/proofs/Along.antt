@@ -1,5 +1,5 @@
 -- Ids rise, and owners are there, along a run.
-use Rattle.std.proofs.Common.{◌≡◌, false, List, [], ◌∷◌, Option, Some, None, refl, arith}
+use Rattle.std.proofs.Common.{false, List, [], ◌∷◌, Option, Some, None, refl, arith}
 use Rattle.vx_base.specs.Pieces.{Queued, Request}
 use Rattle.vx_base.specs.Queues.{front}
 use Rattle.vx_base.specs.declared.number.Pid.{Pid}

@@ -8,7 +8,6 @@ use Rattle.vx_base.specs.declared.effects.Cell.{Cell}
 use Rattle.vx_base.specs.declared.effects.Cell.TheVariants.{Local, Common}
 use Rattle.vx_base.specs.declared.frame.Wait.{Wait}
 use Rattle.vx_base.specs.declared.frame.Wait.TheVariants as wait
-use Rattle.vx_base.specs.declared.mode.Mode.{Mode}
 use Rattle.vx_base.specs.declared.number.BoxNo.{BoxNo}
 use Rattle.vx_base.specs.declared.number.Pid.{Pid}
 use Rattle.vx_base.specs.declared.request.Device.{Device}
@@ -298,20 +297,16 @@ last_of P (y ∷ ys) x k = last_of P ys x k.1
 newest : {A : Type 0} (key : A → ℕ) (low high : ℕ) (xs : List A) (x : A) → key x ≡ high → AreOrdered key low high xs → find (λ z. key z == key x) (xs ++ x ∷ []) ≡ Some x
 newest key low high xs x e h = last_of (λ y. find (λ z. key z == key y) (xs ++ x ∷ []) ≡ Some y) xs x (all_found key low (high + 1) (xs ++ x ∷ []) (ordered_more key low high xs x e h))
 
-promised_mode : (mode : Mode) (o : Option Entry) → mode_of_ast mode o ≡ option_map (λ a. a.mode) (promised mode o)
-promised_mode mode o = grind arith
-
-promised_some : (mode : Mode) (o : Option Entry) → is_some (promised mode o) ≡ is_some o
-promised_some mode o = grind arith
-
 -- there is room for a request
 abbrev pub HasRoom : State → Pid → Asked → Channel → Type 0
 HasRoom s p q ch = exceeds s p (request_need s ch.device q.func (is_some q.ast) q.len) ≡ false
 
 new_is : (s : State) (p : Pid) (q : Asked) (ch : Channel) → IsProcess s p → is_attention q.func ≡ false → HasRoom s p q ch → IsNew s p (mode_of_ast (current s p) q.ast) (new_request s p q ch)
 new_is s p q ch m plain room =
-    let free : exceeds s p (request_need s ch.device q.func (is_some (promised (current s p) q.ast)) q.len) ≡ false = rw (promised_some (current s p) q.ast) room in
-    search promised_mode
+    let mode : mode_of_ast (current s p) q.ast ≡ option_map (λ a. a.mode) (promised (current s p) q.ast) = grind arith in
+    let some : is_some (promised (current s p) q.ast) ≡ is_some q.ast = grind arith in
+    let free : exceeds s p (request_need s ch.device q.func (is_some (promised (current s p) q.ast)) q.len) ≡ false = rw some room in
+    search
 
 pub opened_request_moves : {refs : Bool} (s : State) (p : Pid) (q : Asked) (ch : Channel) → IsProcess s p → is_attention q.func ≡ false → HasRoom s p q ch → Answers refs s (RequestStands (ground s) (new_request s p q ch)) → PartBy refs s (opened_request s p q ch)
 opened_request_moves {refs} s p q ch m plain room ok =

@@ -1,5 +1,5 @@
 -- What references ask of a call: its labels are the image's, and the process has a frame.
-use Rattle.std.proofs.Common.{◌≡◌, ℕ, ◌+◌, List, [], ◌∷◌, Bool, true, length, IfSome, refl, ap, arith, subst, sym, ◌<◌, ◌&&◌, Option, Some, None, option_map}
+use Rattle.std.proofs.Common.{◌≡◌, ℕ, ◌+◌, List, Bool, true, length, IfSome, refl, ap, arith, subst, sym, ◌<◌, ◌&&◌, Option, Some, None, option_map}
 use Rattle.std.proofs.lemmas.Bool.{and_parts}
 use Rattle.vx_base.specs.Services.{is_of_kind, are_args, args_list, params_of}
 use Rattle.vx_base.specs.declared.call.Args.{Args}

@@ -1,21 +1,20 @@
 -- Channels, cancelling and timers, as sequences of moves, and what is left on a channel that was cancelled.
-use Rattle.std.proofs.Common.{◌≡◌, ℕ, List, [], ◌∷◌, Bool, true, false, not, ◌==◌, ◌&&◌, length, Option, Some, None, Result, Ok, Err, is_some, position, is_none, refl, ◌∙◌, ◌+◌, ◌-◌, ◌≤◌, IfSome, sym, ap, arith, subst, ◌<◌, ◌≢◌}
+use Rattle.std.proofs.Common.{◌≡◌, ℕ, List, [], ◌∷◌, Bool, true, false, not, ◌==◌, ◌&&◌, length, Option, Some, None, Result, Ok, Err, is_some, position, is_none, refl, ◌∙◌, ◌+◌, ◌≤◌, IfSome, sym, ap, arith, subst, ◌<◌, ◌≢◌}
 use Rattle.std.specs.List.{filter, find, list_any, AllByRecursion}
 use Rattle.vx_base.specs.Modes.{outer}
 use Rattle.vx_base.specs.Pieces.{Channel, Request, Timer, Alarm, OfTimer, OfWake, Attention, Mailbox}
 use Rattle.vx_base.specs.declared.cond.Cond.{Cond}
 use Rattle.vx_base.specs.declared.cond.Cond.TheVariants.{Cancel as Cancelled}
 use Rattle.vx_base.specs.declared.effects.Cell.{Cell}
-use Rattle.vx_base.specs.declared.effects.Cell.TheVariants.{Local, Common}
 use Rattle.vx_base.specs.declared.mode.Mode.{Mode}
 use Rattle.vx_base.specs.declared.number.Pid.{Pid}
 use Rattle.vx_base.specs.declared.request.Device.{Device}
 use Rattle.vx_base.specs.declared.request.Device.TheVariants as device
 use Rattle.vx_base.specs.declared.routine.Entry.{Entry}
-use Rattle.vx_record.specs.State.{State, process_at, change, current, IsProcess}
+use Rattle.vx_record.specs.State.{Process, State, process_at, change, current, IsProcess}
 use Rattle.vx_record.specs.Parts.{Part, Outcome, nothing, each, refused, at_tested, and_then}
 use Rattle.vx_record.specs.Charges.{exceeds, ast_need, timer_need}
-use Rattle.vx_record.specs.Flags.{cell, flag_part, flag_where_named, with_local_flag}
+use Rattle.vx_record.specs.Flags.{cell, flag_part, flag_where_named}
 use Rattle.vx_record.specs.Finish.{Ending, ending, finish, this_request}
 use Rattle.vx_record.specs.Mailboxes.{mailbox_at, this_message, mcut_part, this_attention}
 use Rattle.vx_record.specs.Channels.{box_named, with_channel, free_channel_of, assign_at, assign_to, is_bad_box, new_box, make_box, make_box_in, find_or_create, crembx, marked_box, delmbx_on, is_assigned, goes_unused, box_gone, swept_device, swept_box, free_channel, box_number, box_made, is_box_of}
@@ -23,7 +22,7 @@ use Rattle.vx_record.specs.Cancel.{mark_part, withdraw, cancelled_request, cance
 use Rattle.vx_record.specs.Control.{with_wake}
 use Rattle.vx_record.specs.Timers.{drop_timer, drop_timers, setimr_at, setimr, scheduled, que_timer, fired, fire, is_due, at_time, next_time, tick, mode_of_ast, this_timer, due_again, after_wake, new_timer, new_wake, timer_set}
 use Rattle.vx_base.specs.Channels.{channel_at}
-use Rattle.vx_record.proofs.Lists.{either, either_by, all_weaker, all_both, all_filter, all_find, not_holds, all_less, all_amend, ordered_amend, ordered_less, removed, fails_not, false_from, apart_bools}
+use Rattle.vx_record.proofs.Lists.{either, either_by, all_weaker, all_both, all_filter, all_find, not_holds, all_less, all_amend, ordered_amend, ordered_less, removed, false_from, apart_bools}
 use Rattle.std.proofs.lemmas.Bool.{eq-eqb, and_parts, and_from, or_left, or_right}
 use Rattle.std.proofs.Math.ListN.{length-set}
 use Rattle.std.specs.Prelude.{option_map}
@@ -246,8 +245,7 @@ cancel_channel_attention s p n h =
 
 -- a request on a mailbox is not in service
 box_unserved : (served : Bool) (d : Device) → MayBeServed served d → is_on_box d ≡ true → not served ≡ true
-box_unserved served (device.Unit u) k e = cc
-box_unserved served (device.Mailbox b) k e = fails_not served k
+box_unserved served d k e = grind arith
 
 pub cancel_channel_clears : (s : State) (p : Pid) (n : ℕ) → Base s → IsFirm (cancel_channel s p n).after → IsClear (cancel_channel s p n).after p n
 cancel_channel_clears s p n h i =
@@ -281,8 +279,7 @@ tag_mode : (mode : Mode) (o : Option Entry) → mode_of_ast mode o ≡ option_ma
 tag_mode mode o = grind arith
 
 flag_made : (s : State) (p : Pid) (c : Cell) → IsProcess s p → IsProcess (flag_part s c false).after p
-flag_made s p (Local q n) m = record { above = m.above; within = (let e = length-set s.procs (q.0 - 1) (with_local_flag n false (process_at s q)) in omega (arith, e, m.within)) }
-flag_made s p (Common g x n) m = m
+flag_made s p c m = grind (arith, length-set {A = Process})
 
 pub setimr_moves : {refs : Bool} (s : State) (p : Pid) (efn delta : ℕ) (tag : Option Entry) (reqid : ℕ) → IsProcess s p → (refs ≡ true → IfSome tag (IsRoutineOf (ground s) p)) → OutcomeBy refs s (setimr s p efn delta tag reqid)
 setimr_moves {refs} s p efn delta tag reqid m is =
@@ -305,8 +302,7 @@ que_timer_moves s t mode None m = none s None
 que_timer_moves s t mode (Some tag) m = que s t.p (charged_ast t.id mode tag) 3 m
 
 fired_at : (t : Timer) (mode : Mode) (o : Option Entry) → IsAt 2 (option_map (fired_by t mode) o)
-fired_at t mode None = tt
-fired_at t mode (Some tag) = omega arith
+fired_at t mode o = grind arith
 
 pub woken : {refs : Bool} (s : State) (p : Pid) (on : Bool) → IsSilent refs s p (with_wake on)
 woken s p on = record { decl = refl; enables = refl; asts = refl; channels = refl; handlers = refl; cluster_0 = refl; cluster_1 = refl; statuses = refl; tame = tamely s p (with_wake on) (with_wake_quiet on (process_at s p)) }

@@ -1,12 +1,10 @@
 -- Changes of one process that keep references.
-use Rattle.std.proofs.Common.{IfSome, ◌≡◌, ℕ, ◌-◌, ◌≤◌, List, [], ◌∷◌, Bool, false, nat_lt, ◌==◌, length, Option, None, refl, ◌∙◌, arith}
+use Rattle.std.proofs.Common.{IfSome, ◌≡◌, ℕ, ◌-◌, ◌≤◌, List, [], ◌∷◌, Bool, false, ◌==◌, length, Option, None, refl, arith}
 use Rattle.vx_base.specs.Pieces.{Queued, Handler, Status}
 use Rattle.vx_base.specs.declared.call.Target.{Target}
 use Rattle.vx_base.specs.declared.frame.Frame.{Frame}
 use Rattle.vx_base.specs.declared.frame.Phase.{Phase}
-use Rattle.vx_base.specs.declared.frame.Phase.TheVariants as phase
 use Rattle.vx_base.specs.declared.frame.Wait.{Wait}
-use Rattle.vx_base.specs.declared.frame.Wait.TheVariants as wait
 use Rattle.vx_base.specs.declared.mode.Mode.{Mode}
 use Rattle.vx_base.specs.declared.number.Id.{Id}
 use Rattle.vx_base.specs.declared.number.Pid.{Pid}
@@ -21,34 +19,28 @@ use Rattle.vx_record.specs.Services.{with_variable}
 use Rattle.vx_record.specs.Events.{uses_wake, with_r0, moved_to, without_top, below_top, put_back}
 use Rattle.vx_record.specs.Sound.{ground, IsRoutine, IsRoutineOf, is_drained, IsIdle, ProcessStands, IsSound, WaitStands, WaitsStand}
 use Rattle.vx_record.proofs.Firm.{IsFirm}
-use Rattle.vx_record.proofs.Lists.{either, all_append, all_less, all_at}
+use Rattle.vx_record.proofs.Lists.{all_append, all_less, all_at}
 use Rattle.vx_record.proofs.Ground.{Still, change_sound, change_still}
 
 -- Idle processes.
 
 pub idle_none : (ph : Phase) → IsIdle ph []
-idle_none phase.Alive = tt
-idle_none ph = tt
+idle_none ph = grind arith
 
 -- a process with a frame drains nothing
 pub going_of : (ph : Phase) (frames : List Frame) → 1 ≤ length frames → IsIdle ph frames → (m : Mode) → is_drained ph m ≡ false
-going_of (phase.Draining n) [] h i m = absurd (omega arith)
-going_of (phase.Draining n) (f ∷ fs) h i m = absurd i
-going_of ph frames h i m = refl
+going_of ph frames h i m = grind arith
 
 -- and may get any frames
 pub idle_of : (ph : Phase) (frames others : List Frame) → 1 ≤ length frames → IsIdle ph frames → IsIdle ph others
-idle_of (phase.Draining n) [] others h i = absurd (omega arith)
-idle_of (phase.Draining n) (f ∷ fs) others h i = absurd i
-idle_of ph frames others h i = tt
+idle_of ph frames others h i = grind arith
 
 pub idle_top : (ph : Phase) (f : Frame → Frame) (frames : List Frame) → IsIdle ph frames → IsIdle ph (with_top f frames)
 idle_top ph f [] i = idle_none ph
 idle_top ph f (x ∷ xs) i = idle_of ph (x ∷ xs) (f x ∷ xs) (omega arith) i
 
 pub idle_below : (ph : Phase) (frames : List Frame) → IsIdle ph frames → IsIdle ph (without_top frames)
-idle_below ph [] i = idle_none ph
-idle_below ph (x ∷ xs) i = idle_of ph (x ∷ xs) xs (omega arith) i
+idle_below ph frames i = grind (arith, idle_none, idle_of)
 
 -- of a state whose references stand
 pub stands_at : (s : State) (p : Pid) → IsSound s → IsProcess s p → ProcessStands (ground s) (process_at s p)
@@ -63,8 +55,7 @@ waits_top f [] k h = tt
 waits_top f (x ∷ xs) k h = (k x h.0, h.1)
 
 waits_below : (frames : List Frame) → WaitsStand frames → WaitsStand (without_top frames)
-waits_below [] h = tt
-waits_below (x ∷ xs) h = h.1
+waits_below frames h = grind arith
 
 -- A change of nothing that references are on.
 pub record Quiet (x y : Process) : Type 0 where
@@ -80,7 +71,7 @@ pub quiet_still : (s : State) (p : Pid) (f : Process → Process) → Quiet (pro
 quiet_still s p f q h = change_still s p f (search (q.decl, q.channels, q.phase)) (λ k. search (q.decl, q.channels, q.asts, q.handlers, q.phase, q.idle, q.waits)) h
 
 pub with_local_flag_quiet : (n : ℕ) (on : Bool) (pr : Process) → Quiet pr (with_local_flag n on pr)
-with_local_flag_quiet n on pr = either (Quiet pr) (nat_lt n 32) _ _ (search) (search)
+with_local_flag_quiet n on pr = grind arith
 
 pub with_wait_quiet : (w : Option Wait) (pr : Process) → IfSome w WaitStands → Quiet pr (with_wait w pr)
 with_wait_quiet w pr k = record { decl = refl; channels = refl; asts = refl; handlers = refl; phase = refl; idle = idle_top pr.phase (λ f. record f { wait = w }) pr.frames; waits = λ h. waits_top (λ f. record f { wait = w }) pr.frames (λ f r. k) h }
@@ -113,8 +104,7 @@ pub put_back_quiet : (r0 : ℕ) (pr : Process) → Quiet pr (put_back r0 pr)
 put_back_quiet r0 pr = record { decl = refl; channels = refl; asts = refl; handlers = refl; phase = refl; idle = idle_below pr.phase pr.frames; waits = λ h. waits_below pr.frames h }
 
 pub woken_quiet : (w : Wait) (n : ℕ) (pr : Process) → Quiet pr (with_r0 n (uses_wake w (with_wait None pr)))
-woken_quiet wait.Hiber n pr = search (with_wait_quiet None pr tt)
-woken_quiet w n pr = search (with_wait_quiet None pr tt)
+woken_quiet w n pr = grind (arith, with_wait_quiet None pr tt)
 
 -- Queued ASTs and handlers.
 

@@ -1,5 +1,5 @@
 -- What stands where a request is accepted, and stays while its flag and its status block are cleared.
-use Rattle.std.proofs.Common.{◌≡◌, ℕ, ◌-◌, ◌≤◌, Bool, true, not, ◌==◌, nat_lt, List, Option, Some, Ok, IfSome, refl, ◌∙◌, zero, suc, [], ◌∷◌, get_or, set, subst}
+use Rattle.std.proofs.Common.{◌≡◌, ℕ, ◌-◌, ◌≤◌, Bool, true, not, ◌==◌, nat_lt, Option, Some, Ok, IfSome, refl, ◌∙◌, subst}
 use Rattle.std.proofs.lemmas.Bool.{ltb-false}
 use Rattle.vx_base.specs.Channels.{is_channel_number, channel_at}
 use Rattle.vx_base.specs.Pieces.{Channel, Status}
@@ -18,18 +18,13 @@ use Rattle.vx_record.specs.Requests.{Asked, request_test, new_request, new_atten
 use Rattle.vx_record.specs.Sound.{ground, IsRoutineOf, DeviceStands, RequestStands, AttentionStands}
 use Rattle.vx_record.proofs.Firm.{IsFirm}
 use Rattle.vx_record.proofs.Lists.{either, or_none}
-use Rattle.vx_record.proofs.Ground.{some_weaker, routine_moves}
+use Rattle.vx_record.proofs.Ground.{some_weaker, routine_moves, at_set}
 use Rattle.vx_record.proofs.Changes.{going_of, firm_at}
 use Rattle.vx_record.proofs.SoundRequests.{request_test_row, tested_channel, device_stands, rooted_new, unserved, promised_stands}
 
 -- a field of a process after a change that keeps it
 pub field_same : {T : Type 0} (g : Process → T) (f : Process → Process) (s : State) (p q : Pid) → g (f (process_at s p)) ≡ g (process_at s p) → g (process_at (change s p f) q) ≡ g (process_at s q)
-field_same g f s p q h = kept_at g s.procs (p.0 - 1) (q.0 - 1) (f (process_at s p)) nobody h
-  where
-    kept_at : {A T : Type 0} (g : A → T) (l : List A) (i j : ℕ) (a d : A) → g a ≡ g (get_or l i d) → g (get_or (set l i a) j d) ≡ g (get_or l j d)
-    kept_at g (x ∷ xs) zero zero a d h = h
-    kept_at g (x ∷ xs) (suc i) (suc j) a d h = kept_at g xs i j a d h
-    kept_at g l i j a d h = refl
+field_same g f s p q h = at_set (λ (x y : Process). g y ≡ g x) (λ x. refl) s.procs (p.0 - 1) (q.0 - 1) (f (process_at s p)) nobody h
 
 -- the system is as it was, and a process has the declaration, the channels and the frames that it had
 pub record IsSeated (s t : State) (p : Pid) : Type 0 where

@@ -1,8 +1,7 @@
 -- Every event keeps the system, and each unit but the one whose service it ends.
-use Rattle.std.proofs.Common.{◌≡◌, ℕ, ◌^◌, ◌%◌, List, [], ◌∷◌, Bool, true, false, cond, not, ◌==◌, ◌&&◌, ◌||◌, length, Option, Some, None, Result, Ok, Err, slice_index_or, get_or-set_other, length-set, refl, arith, ap, ◌∙◌}
+use Rattle.std.proofs.Common.{◌≡◌, ℕ, List, [], ◌∷◌, Bool, true, false, cond, not, length, Option, Some, None, Result, Ok, Err, slice_index_or, get_or-set_other, length-set, refl, arith, ap, ◌∙◌}
 use Rattle.std.specs.List.{filter, find}
-use Rattle.vx_base.specs.Modes.{outer, is_kernel}
-use Rattle.vx_base.specs.Pieces.{Queued, Channel, Handler, Request, Timer, DeviceUnit, cleared}
+use Rattle.vx_base.specs.Pieces.{Queued, Channel, Handler, Request, Timer, DeviceUnit}
 use Rattle.vx_base.specs.Queues.{in_service}
 use Rattle.vx_base.specs.Serving.{serve, settled}
 use Rattle.vx_base.specs.declared.call.Args.{Args}
@@ -11,8 +10,6 @@ use Rattle.vx_base.specs.declared.cond.Cond.{Cond}
 use Rattle.vx_base.specs.declared.cond.Cond.TheVariants.{Cancel as Cancelled, EndOfFile}
 use Rattle.vx_base.specs.declared.effects.Cell.{Cell}
 use Rattle.vx_base.specs.declared.frame.Frame.{Frame}
-use Rattle.vx_base.specs.declared.frame.FrameKind.{FrameKind}
-use Rattle.vx_base.specs.declared.frame.FrameKind.TheVariants as kind
 use Rattle.vx_base.specs.declared.frame.Phase.{Phase}
 use Rattle.vx_base.specs.declared.frame.Phase.TheVariants as phase
 use Rattle.vx_base.specs.declared.frame.Wait.{Wait}
@@ -25,33 +22,29 @@ use Rattle.vx_base.specs.declared.record.Answer.{Answer}
 use Rattle.vx_base.specs.declared.record.Event.{Event}
 use Rattle.vx_base.specs.declared.record.Event.TheVariants as event
 use Rattle.vx_base.specs.declared.request.Device.{Device}
-use Rattle.vx_base.specs.declared.request.Device.TheVariants as device
 use Rattle.vx_base.specs.declared.request.Func.{Func}
-use Rattle.vx_base.specs.declared.request.Func.TheVariants.{ReadAttn, WrtAttn}
+use Rattle.vx_base.specs.declared.request.Func.TheVariants.{ReadAttn}
 use Rattle.vx_base.specs.declared.request.Msg.{Msg}
 use Rattle.vx_base.specs.declared.routine.Entry.{Entry}
 use Rattle.vx_base.specs.declared.routine.Entry.TheVariants as entry
 use Rattle.vx_base.specs.declared.service.Service.{Service}
-use Rattle.vx_base.specs.declared.service.Service.TheVariants.{CanTim, CanWak, DelPrc, Exit, CanExh, Dassgn, Qio, QioW, Cancel}
-use Rattle.vx_image.specs.Local.{Advanced, advanced}
+use Rattle.vx_base.specs.declared.service.Service.TheVariants.{Exit}
 use Rattle.vx_image.specs.declared.system.System.{System}
 use Rattle.vx_image.specs.declared.stop.Stop.{Stop}
 use Rattle.vx_image.specs.declared.stop.Stop.TheVariants as stop
-use Rattle.vx_record.specs.State.{State, process_at, change, current, image_of, unit_at, no_unit}
-use Rattle.vx_record.specs.Parts.{Part, Outcome, nothing, each, part_if, at_tested}
-use Rattle.vx_record.specs.Charges.{is_direct, is_attention}
+use Rattle.vx_record.specs.State.{State, process_at, change, unit_at, no_unit}
+use Rattle.vx_record.specs.Parts.{Part, Outcome, nothing, each, part_if}
 use Rattle.vx_record.specs.Flags.{awaited}
 use Rattle.vx_record.specs.Asts.{deliverable_ast}
-use Rattle.vx_record.specs.Finish.{Ending, ending, is_read, finish, finish_found, this_request}
-use Rattle.vx_record.specs.Mailboxes.{mailbox_at, is_waiting_func, waits_at, mput_part, mget_part, message_of, read_ending, write_ending, received, write_done, is_attention_at, fire_attention, call_attention, hand_over, write_box, take_message, read_box}
-use Rattle.vx_record.specs.Channels.{channel_test, free_channel}
-use Rattle.vx_record.specs.Cancel.{mark_part, withdraw, cancelled_request, cancel_request, is_request_on, is_attention_on, drop_attention, cancel_channel, cancel_at, dassgn_at}
-use Rattle.vx_record.specs.Requests.{Asked, cleared_part, request_test, new_request, opened_request, begun_on, transfer, attention_on, accepted, qio_tested, qiow_tested, unit_ending, with_unit}
-use Rattle.vx_record.specs.Control.{process_test}
-use Rattle.vx_record.specs.Timers.{drop_timer, drop_timers, is_cancelled_timer, is_wake_for, unscheduled, fire, is_due, at_time, next_time}
+use Rattle.vx_record.specs.Finish.{Ending, ending, finish, finish_found, this_request}
+use Rattle.vx_record.specs.Mailboxes.{is_waiting_func, mget_part, read_ending, write_ending, received, write_done, is_attention_at, fire_attention, call_attention, hand_over, take_message}
+use Rattle.vx_record.specs.Channels.{free_channel}
+use Rattle.vx_record.specs.Cancel.{mark_part, withdraw, cancelled_request, cancel_request, is_request_on, is_attention_on, drop_attention, cancel_channel}
+use Rattle.vx_record.specs.Requests.{Asked, begun_on, attention_on, accepted, qio_tested, qiow_tested, unit_ending, with_unit}
+use Rattle.vx_record.specs.Timers.{drop_timer, drop_timers, is_wake_for, fire, is_due, at_time, next_time}
 use Rattle.vx_record.specs.Rundown.{leave_frame, leave_all, exited, without_frames, is_handler_of, drop_handler, drop_handlers, any_handler, cancel_handlers, named_for_deletion, deleted_by, cancel_one, free_one, is_timer_in, is_wake_by, cancel_modes, drop_ast, is_ast_reached, release, drop_all_handlers, is_busy, drain, cancelled_in, run_handlers, handling, run_down, inner_modes, rundown_from, without_ast}
-use Rattle.vx_record.specs.Services.{number, access_mode, routine_or_none, asked, service_of, service}
-use Rattle.vx_record.specs.Events.{r0_of, returned_from, returned, served_call, moved_behind, moved_to, run_on, run_advanced, reader, run_frame, run, started, delivered, don, step}
+use Rattle.vx_record.specs.Services.{number, service_of, service}
+use Rattle.vx_record.specs.Events.{returned, served_call, moved_behind, run_on, run, started, delivered, don, step}
 use Rattle.vx_record.specs.declared.served.Served.{Served}
 use Rattle.vx_base.specs.Channels.{channels_of}
 
@@ -91,8 +84,7 @@ call_attention_kept : (s : State) (b : BoxNo) (func : Func) → fixed (call_atte
 call_attention_kept s b func = each_kept fire_attention (λ t a. refl) (filter (is_attention_at b func) s.attention) s
 
 hand_over_kept : (s : State) (b : BoxNo) (m : Msg) (o : Option Request) → fixed (hand_over s b m o).after ≡ fixed s
-hand_over_kept s b m None = call_attention_kept (part_if (not m.held) (write_done s m) s).after b WrtAttn ∙ parts s (not m.held) (write_done s m) (nothing s) (write_done_kept s m) refl
-hand_over_kept s b m (Some r) = write_done_kept (received s b m r).after m ∙ received_kept s b m r
+hand_over_kept s b m o = grind (arith, call_attention_kept, write_done_kept, received_kept)
 
 take_message_kept : (s : State) (b : BoxNo) (r : Request) (ms : List Msg) → fixed (take_message s b r ms).after ≡ fixed s
 take_message_kept s b r [] =
@@ -105,25 +97,13 @@ take_message_kept s b r (m ∷ ms) =
 -- Requests.
 
 begun_on_kept : (s : State) (r : Request) (d : Device) → fixed (begun_on s r d).after ≡ fixed s
-begun_on_kept s r (device.Unit u) = refl
-begun_on_kept s r (device.Mailbox b) =
-    let m = message_of r.req in
-    let a = (mput_part s b m).after in
-    parts s (is_read r.req.func) (read_box s b r) (write_box s b m) (take_message_kept s b r (mailbox_at s b).messages) (hand_over_kept a b m (find (waits_at b) a.requests))
-
-opened_request_kept : (s : State) (p : Pid) (q : Asked) (ch : Channel) → fixed (opened_request s p q ch).after ≡ fixed s
-opened_request_kept s p q ch = parts s (is_direct s ch.device) _ _ refl refl
+begun_on_kept s r d = grind (arith, take_message_kept, hand_over_kept)
 
 attention_on_kept : (s : State) (p : Pid) (q : Asked) (d : Device) (o : Option Entry) → fixed (attention_on s p q d o).after ≡ fixed s
 attention_on_kept s p q d o = grind arith
 
 accepted_kept : (s : State) (p : Pid) (q : Asked) (c : Cell) (ch : Channel) → fixed (accepted s p q c ch).after ≡ fixed s
-accepted_kept s p q c ch =
-    let a = (cleared_part s p q c).after in
-    let cleared : fixed a ≡ fixed s = grind arith in
-    let b = (opened_request a p q ch).after in
-    parts a (is_attention q.func) (attention_on a p q ch.device q.ast) (transfer a p q ch) (attention_on_kept a p q ch.device q.ast)
-    (begun_on_kept b (new_request a p q ch) ch.device ∙ opened_request_kept a p q ch) ∙ cleared
+accepted_kept s p q c ch = grind (arith, attention_on_kept, begun_on_kept)
 
 awaited_kept : (s : State) (p : Pid) (w : Wait) → fixed (awaited s p w).after ≡ fixed s
 awaited_kept s p w = grind arith
@@ -137,10 +117,6 @@ qiow_kept s p q (Err c) = refl
 qiow_kept s p q (Ok to) = awaited_kept (accepted s p q to.0 to.1).after p (wait.Synch q.efn q.iosb) ∙ accepted_kept s p q to.0 to.1
 
 -- Channels.
-
-at_tested_kept : {A : Type 0} (s : State) (go : A → Outcome Cond) (r : Result A Cond) → ((x : A) → fixed (go x).after ≡ fixed s) → fixed (at_tested s go r).after ≡ fixed s
-at_tested_kept s go (Err c) f = refl
-at_tested_kept s go (Ok x) f = f x
 
 free_channel_kept : (s : State) (p : Pid) (n : ℕ) → fixed (free_channel s p n).after ≡ fixed s
 free_channel_kept s p n = grind arith
@@ -177,8 +153,7 @@ drop_handlers_kept : (s : State) (p : Pid) (passes : Handler → Bool) → fixed
 drop_handlers_kept s p passes = each_kept (drop_handler p) (λ t x. refl) (filter passes (process_at s p).handlers) s
 
 cancel_handlers_kept : (s : State) (p : Pid) (o : Option Entry) → fixed (cancel_handlers s p o).after ≡ fixed s
-cancel_handlers_kept s p None = drop_handlers_kept s p (is_handler_of (current s p))
-cancel_handlers_kept s p (Some tag) = grind arith
+cancel_handlers_kept s p o = grind (arith, drop_handlers_kept)
 
 deleted_by_kept : (s : State) (q : Pid) → fixed (deleted_by s q).after ≡ fixed s
 deleted_by_kept s q =
@@ -186,20 +161,11 @@ deleted_by_kept s q =
     let frames = (process_at s q).frames in
     drop_handlers_kept (leave_all frames a).after q any_handler ∙ each_kept leave_frame leave_frame_kept frames a
 
--- Services: those that go through a list, and all others.
+-- Services.
 
 service_of_kept : (s : State) (p : Pid) (a : Args) (v : Service) → fixed (service_of s p a v).after ≡ fixed s
-service_of_kept s p a CanTim = drop_timers_kept s (is_cancelled_timer p (number a.a0) (outer (access_mode a.a1) (current s p)))
-service_of_kept s p a CanWak = at_tested_kept s (unscheduled s) (process_test s p (number a.a0)) (λ q. drop_timers_kept s (is_wake_for q))
-service_of_kept s p a DelPrc = at_tested_kept s (deleted_by s) (process_test s p (number a.a0)) (λ q. deleted_by_kept s q)
 service_of_kept s p a Exit = exited_kept s p (number a.a0)
-service_of_kept s p a CanExh = both s (is_kernel (current s p)) _ _ refl (cancel_handlers_kept s p (routine_or_none s p a.a0 0))
-service_of_kept s p a Dassgn =
-    at_tested_kept s (dassgn_at s p (number a.a0)) (channel_test s p (number a.a0)) (λ ch. free_channel_kept (cancel_channel s p (number a.a0)).after p (number a.a0) ∙ cancel_channel_kept s p (number a.a0))
-service_of_kept s p a Qio = qio_kept s p (asked s p a) (request_test s p (asked s p a))
-service_of_kept s p a QioW = qiow_kept s p (asked s p a) (request_test s p (asked s p a))
-service_of_kept s p a Cancel = at_tested_kept s (cancel_at s p (number a.a0)) (channel_test s p (number a.a0)) (λ ch. cancel_channel_kept s p (number a.a0))
-service_of_kept s p a v = grind arith
+service_of_kept s p a v = grind (arith, drop_timers_kept, deleted_by_kept, cancel_handlers_kept, free_channel_kept, cancel_channel_kept, qio_kept, qiow_kept)
 
 pub service_keeps_system : (s : State) (p : Pid) (c : Call) → fixed (service s p c).after ≡ fixed s
 service_keeps_system s p c = service_of_kept s p c.args c.service
@@ -238,12 +204,7 @@ rundown_kept s p ph = refl
 -- Steps.
 
 returned_kept : (s : State) (p : Pid) (frames : List Frame) → fixed (returned s p frames).after ≡ fixed s
-returned_kept s p [] = refl
-returned_kept s p (f ∷ fs) = from f.kind
-  where
-    from : (k : FrameKind) → fixed (returned_from s p f k).after ≡ fixed s
-    from kind.Main = exited_kept s p (r0_of s p)
-    from k = refl
+returned_kept s p frames = grind (arith, exited_kept)
 
 run_on_kept : (s : State) (p : Pid) (at : ℕ) (x : Stop) → fixed (run_on s p at x).after ≡ fixed s
 run_on_kept s p at (stop.Call c) =
@@ -257,14 +218,7 @@ run_on_kept s p at x = returned_kept s p (process_at s p).frames
 
 run_kept : (s : State) (p : Pid) (frames : List Frame) → fixed (run s p frames).after ≡ fixed s
 run_kept s p [] = refl
-run_kept s p (f ∷ fs) = frame f.wait
-  where
-    moved : (a : Advanced) → fixed (run_advanced s p a).after ≡ fixed s
-    moved a = run_on_kept (change s p (moved_to a.store a.place)) p a.place a.stop
-
-    frame : (o : Option Wait) → fixed (run_frame s p f o).after ≡ fixed s
-    frame None = moved (advanced (image_of s p) (reader p f) (process_at s p).store f.pc)
-    frame (Some w) = refl
+run_kept s p (f ∷ fs) = grind (arith, run_on_kept)
 
 delivered_kept : (s : State) (p : Pid) (o : Option Queued) → fixed (delivered s p o).after ≡ fixed s
 delivered_kept s p None = refl
@@ -300,16 +254,15 @@ abbrev pub Spares : Event → UnitNo → Type 0
 Spares (event.Don u) v = v.0 ≡ u.0 → ⊥
 Spares e v = Unit {0}
 
+other_unit : (s : State) (u v : UnitNo) (o : Option Request) → (v.0 ≡ u.0 → ⊥) → slice_index_or (units_served s u o) v.0 no_unit ≡ unit_at s v
+other_unit s u v o k = grind (arith, get_or-set_other {A = DeviceUnit})
+
 -- a unit stays as it is by an event that does not end its service
 pub step_keeps_unit : (s : State) (e : Event) (v : UnitNo) → Spares e v → unit_at (step s e).after v ≡ unit_at s v
 step_keeps_unit s e v k = ap (λ (x : System × List DeviceUnit). slice_index_or x.1 v.0 no_unit) (step_kept s e) ∙ same e k
   where
     same : (e : Event) → Spares e v → slice_index_or (units_after s e) v.0 no_unit ≡ unit_at s v
-    same (event.Don u) k = other (in_service u s.requests)
-      where
-        other : (o : Option Request) → slice_index_or (units_served s u o) v.0 no_unit ≡ unit_at s v
-        other None = refl
-        other (Some r) = get_or-set_other s.units u.0 v.0 (settled (unit_at s u) r.req) no_unit k
+    same (event.Don u) k = other_unit s u v (in_service u s.requests) k
     same e k = refl
 
 -- how many units there are stays

@@ -133,14 +133,11 @@ pub freed_on : (s : State) (p : Pid) (m : Mode) (n : ℕ) (ns : List ℕ) → Is
 freed_on s p m n ns f =
     let t = (free_channel s p n).after in
     let size : length t.procs ≡ length s.procs = ap length (freed_procs s p n) ∙ length-set s.procs (p.0 - 1) (with_channel n None (process_at s p)) in
-    record {
-      made = record { above = f.made.above; within = omega (arith, size, f.made.within) };
-      released = record {
-        phase = freed_seat (λ (x y : Process). x.phase ≡ phase.Draining m → y.phase ≡ phase.Draining m) (λ x e. e) s p n (λ e. e) f.released.phase;
-        idle = subst (AllByRecursion (λ r. keeps_busy p m r ≡ false)) (sym (swept_requests (change s p (with_channel n None)) (channel_at (process_at s p).channels n))) f.released.idle;
-      };
-      rows = all_weaker (IsFreed s p m) (IsFreed t p m) (is_freed_after s p m n) ns f.rows.1;
-    }
+    let made : IsProcess t p = record { above = f.made.above; within = omega (arith, size, f.made.within) } in
+    let drained = freed_seat (λ (x y : Process). x.phase ≡ phase.Draining m → y.phase ≡ phase.Draining m) (λ x e. e) s p n (λ e. e) f.released.phase in
+    let idle = subst (AllByRecursion (λ r. keeps_busy p m r ≡ false)) (sym (swept_requests (change s p (with_channel n None)) (channel_at (process_at s p).channels n))) f.released.idle in
+    let rows = all_weaker (IsFreed s p m) (IsFreed t p m) (is_freed_after s p m n) ns f.rows.1 in
+    record { made = made; released = record { phase = drained; idle = idle }; rows = rows }
 
 -- A release leaves the frames of the process.
 

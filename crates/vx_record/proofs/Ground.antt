@@ -42,12 +42,9 @@ pub keeps_all : (g : Ground) → Keeps g g
 keeps_all g = search arith
 
 pub keeps_more : (g h i : Ground) → Keeps g h → Keeps h i → Keeps g i
-keeps_more g h i a b = record {
-  base = record { system = b.base.system ∙ a.base.system; more = omega (arith, a.base.more, b.base.more); decl = λ p m. b.base.decl p (made_keeps g h a p m) ∙ a.base.decl p m; units = b.base.units ∙ a.base.units };
-  channel = λ p n ch m e. b.channel p n ch (made_keeps g h a p m) (a.channel p n ch m e);
-  box = λ box e. b.box box (a.box box e);
-  going = λ p m made e. b.going p m (made_keeps g h a p made) (a.going p m made e);
-}
+keeps_more g h i a b =
+    let decl = λ (p : Pid) (m : IsMade g p). b.base.decl p (made_keeps g h a p m) ∙ a.base.decl p m in
+    search (arith, b.base.system ∙ a.base.system, b.base.units ∙ a.base.units, made_keeps g h a, decl, a.channel, b.channel, a.box, b.box, a.going, b.going)
 
 -- Facts.
 
@@ -172,15 +169,13 @@ at_set R k (x ∷ xs) zero (suc j) y d h = k (get_or xs j d)
 at_set R k (x ∷ xs) (suc i) zero y d h = k x
 at_set R k (x ∷ xs) (suc i) (suc j) y d h = at_set R k xs i j y d h
 
+pub change_base : (s : State) (p : Pid) (f : Process → Process) → (f (process_at s p)).decl ≡ (process_at s p).decl → Base (ground s) (ground (change s p f))
+change_base s p f e = record { system = refl; more = omega (arith, length-set s.procs (p.0 - 1) (f (process_at s p))); decl = λ q m. at_set (λ (x y : Process). y.decl ≡ x.decl) (λ x. refl) s.procs (p.0 - 1) (q.0 - 1) (f (process_at s p)) nobody e; units = refl }
+
 pub change_keeps : (s : State) (p : Pid) (f : Process → Process) → Seat (process_at s p) (f (process_at s p)) → Keeps (ground s) (ground (change s p f))
 change_keeps s p f k =
     let seat : (q : Pid) → Seat (process_at s q) (process_at (change s p f) q) = λ q. at_set Seat same_seat s.procs (p.0 - 1) (q.0 - 1) (f (process_at s p)) nobody k in
-    record {
-      base = record { system = refl; more = omega (arith, length-set s.procs (p.0 - 1) (f (process_at s p))); decl = λ q m. (seat q).decl; units = refl };
-      channel = λ q n ch m e. (seat q).channel n ch e;
-      box = λ b e. e;
-      going = λ q m made e. (seat q).going m e;
-    }
+    record { base = change_base s p f k.decl; channel = λ q n ch m e. (seat q).channel n ch e; box = λ b e. e; going = λ q m made e. (seat q).going m e }
 
 pub change_sound : (s : State) (p : Pid) (f : Process → Process) → Seat (process_at s p) (f (process_at s p)) → (ProcessStands (ground s) (process_at s p) → ProcessStands (ground s) (f (process_at s p))) → IsFirm s → IsFirm (change s p f)
 change_sound s p f k stands h =

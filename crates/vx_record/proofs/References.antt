@@ -1,10 +1,9 @@
 -- References stand after each move.
 use Rattle.std.proofs.Common.{◌≡◌, ℕ, ◌-◌, ◌+◌, ◌<◌, ◌≤◌, List, [], ◌∷◌, ◌++◌, ◌≢◌, ◌==◌, Bool, true, false, Option, Some, None, IfSome, refl, sym, ap, ◌∙◌, subst, length, arith, inl, inr, get_or-set_other, set, zero, suc, nat_le, get_or}
-use Rattle.std.proofs.Math.ListN.{length-set}
 use Rattle.std.proofs.lemmas.Bool.{cases_eq, and_parts, and_from, eq-eqb, or_left, or_right, leb-true}
 use Rattle.std.specs.List.{list_any}
 use Rattle.vx_base.specs.Channels.{channels_of, channel_at, is_reached, reached_from}
-use Rattle.vx_base.specs.Pieces.{Attention, Request, Promised, Timer, Alarm, OfTimer, OfWake, Channel}
+use Rattle.vx_base.specs.Pieces.{Attention, Request, Promised, Timer, Alarm, OfTimer, Channel}
 use Rattle.vx_base.specs.declared.effects.Effect.{Effect}
 use Rattle.vx_base.specs.declared.frame.Frame.{Frame}
 use Rattle.vx_base.specs.declared.frame.Phase.TheVariants as phase
@@ -21,9 +20,8 @@ use Rattle.vx_record.specs.Timers.{this_timer}
 use Rattle.vx_record.specs.Sound.{Ground, ground, IsMade, IsRoutineOf, RequestStands, TimerStands, AlarmStands, AttentionStands, ProcessStands, is_drained, IsIdle as Idles, HasChannel, IsRooted}
 use Rattle.vx_record.proofs.Firm.{IsFirm}
 use Rattle.vx_record.proofs.Lists.{all_weaker, all_both, all_append, all_set, all_find, either, false_from, apart_bools}
-use Rattle.vx_record.proofs.Ground.{Base, attention_moves, rebuilt, made_base, routine_of_moves, request_moves, process_moves, Still, moved as with_procs, common_still, later_still, past_id_still, at_set, change_sound}
+use Rattle.vx_record.proofs.Ground.{Base, attention_moves, rebuilt, made_base, routine_of_moves, request_moves, process_moves, Still, moved as with_procs, common_still, later_still, past_id_still, at_set, change_sound, change_base}
 use Rattle.vx_record.proofs.Changes.{Quiet, quiet_still, with_queued_still, with_handler_still, without_handler_still, entering_sound, in_phase_still, moved_to_quiet, with_delivery_quiet, with_stored_bytes_quiet, with_stored_status_quiet, with_variable_quiet}
-use Rattle.vx_record.proofs.Fits.{field_same}
 use Rattle.vx_record.proofs.Moves.{Loose, passed, loosed, loosed_timer, IsAlarmMade, IsTame, calm, drains, IsSilent, IsRow, AreUnattended, MovesBy, both, quiet, channel, newly, clusters, open_ast, open_force, open_handler, enter, open_request, fin, box_ends, open_attention, attention_fires, open_timer, open_wake, timer_fires}
 use Rattle.vx_record.proofs.SoundLists.{with_timer_still, less_timer_still, after_wake_still, less_request_still, less_attention_still, box_still, mark_still, more_keeps, born_stands, each_drop_handler_still, each_drop_ast_still}
 use Rattle.vx_record.proofs.SoundChannels.{assigned_still, freed_sound, gone_sound}
@@ -64,9 +62,6 @@ put_still : (s : State) (p : Pid) (pr : Process) → Quiet (process_at s p) pr �
 put_still s p pr q h = quiet_still s p (λ x. pr) q h
 
 -- A process changed.
-
-change_base : (s : State) (p : Pid) (f : Process → Process) → (f (process_at s p)).decl ≡ (process_at s p).decl → Base (ground s) (ground (change s p f))
-change_base s p f e = record { system = refl; more = omega (arith, length-set s.procs (p.0 - 1) (f (process_at s p))); decl = λ q m. field_same (λ (pr : Process). pr.decl) f s p q e; units = refl }
 
 -- A mode is drained.
 
@@ -163,9 +158,6 @@ timer_loose : (g : Ground) (t : Timer) (a : Alarm) → IsMade g t.p → AlarmSta
 timer_loose g t (OfTimer efn reqid mode (Some tag)) m k = (m, k)
 timer_loose g t a m k = tt
 
-wake_stands : (g : Ground) (t : Timer) (to : Pid) (n : ℕ) → IsMade g t.p → IsMade g to → t.what ≡ OfWake to n → TimerStands g t
-wake_stands g t to n m k e = record { made = m; alarm = subst (λ (a : Alarm). AlarmStands g t.p a) (sym e) k }
-
 -- what moves of no premise come to
 ruleset standing = (still_stands, nothing_left, passes, put_still, moved_to_quiet, with_variable_quiet, with_stored_bytes_quiet, with_stored_status_quiet, with_delivery_quiet, in_phase_still, flag_part_still, with_unit_still, later_still, box_still, each_drop_ast_still, without_handler_still, each_drop_handler_still, mark_still, less_attention_still, less_timer_still, after_wake_still, with_queued_still)
 
@@ -187,6 +179,6 @@ moves_stand s l es t m (attention_fires x a has) h = let k = all_find (Attention
 moves_stand s l es t m (open_timer x p mode a efn reqid n tag new is at ok) h = nothing_loose _ (with_timer_still x a new.id (ok refl h.sound) h.sound).sound
 moves_stand s l es t m (open_wake x p n a to new is) h =
     let alarm : IsProcess x to = subst (λ (w : Alarm). IsAlarmMade x w) is new.alarm in
-    nothing_loose _ (with_timer_still x a new.id (wake_stands (ground x) a to n (rw new.owner new.made) alarm is) h.sound).sound
+    nothing_loose _ (with_timer_still x a new.id (record { made = rw new.owner new.made; alarm = subst (λ (w : Alarm). AlarmStands (ground x) a.p w) (sym is) alarm }) h.sound).sound
 moves_stand s l es t m (timer_fires x a has is) h = let k = all_find (TimerStands (ground x)) (this_timer a.id) x.timers a h.sound.timers has.0 in record { sound = (less_timer_still x a.id h.sound).sound; loose = timer_loose (ground x) a a.what k.made k.alarm }
 moves_stand s l es t m k h = search standing

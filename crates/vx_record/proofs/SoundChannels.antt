@@ -1,5 +1,5 @@
 -- References stand after channels are assigned and freed, and mailboxes come and go.
-use Rattle.std.proofs.Common.{◌≡◌, ◌≢◌, ℕ, zero, suc, ◌+◌, ◌-◌, ◌<◌, ◌≤◌, List, [], ◌∷◌, Bool, true, false, ◌==◌, ◌&&◌, nat_le, length, Option, Some, None, IfSome, is_some, get_or, refl, sym, ap, ◌∙◌, arith, inl, inr, get_or-set_same, get_or-set_other}
+use Rattle.std.proofs.Common.{◌≡◌, ◌≢◌, ℕ, zero, suc, ◌+◌, ◌-◌, ◌<◌, ◌≤◌, List, [], ◌∷◌, Bool, true, false, ◌==◌, ◌&&◌, nat_le, length, Option, Some, None, IfSome, is_some, get_or, refl, sym, ap, ◌∙◌, arith, inl, inr, get_or-set_same, get_or-set_other, subst}
 use Rattle.std.proofs.Math.ListN.{length-set}
 use Rattle.std.proofs.lemmas.Bool.{leb-true, and_parts, and_from, eq-eqb, eqb-false, cases_eq}
 use Rattle.std.proofs.lemmas.List.Quantifiers.{position-Some}
@@ -19,7 +19,7 @@ use Rattle.vx_record.specs.Channels.{is_unit_of, is_box_of, box_number, unit_nam
 use Rattle.vx_record.specs.Sound.{ground, BoxStands, DeviceStands, ChannelStands, HasChannel, IsRooted, RequestStands, is_drained, AttentionStands, ProcessStands}
 use Rattle.vx_record.proofs.Firm.{IsFirm}
 use Rattle.vx_record.proofs.Lists.{all_weaker, all_both, all_set, all_at, all_get, none_passes}
-use Rattle.vx_record.proofs.Ground.{Base, request_moves, attention_moves, rebuilt, process_moves, Still, change_still, at_set}
+use Rattle.vx_record.proofs.Ground.{Base, request_moves, attention_moves, rebuilt, process_moves, Still, change_still, at_set, change_base}
 
 -- The least free number.
 
@@ -99,7 +99,7 @@ freed_sound s p n made number clear h =
     let t = change s p f in
     let g = ground s in
     let to = ground t in
-    let base : Base g to = record { system = refl; more = omega (arith, length-set s.procs (p.0 - 1) (f x)); decl = λ q m. at_set (λ (x y : Process). y.decl ≡ x.decl) (λ x. refl) s.procs (p.0 - 1) (q.0 - 1) (f x) nobody refl; units = refl } in
+    let base = change_base s p f refl in
     rebuilt s t.procs s.boxes s.units refl base
     (all_weaker (ProcessStands g) (ProcessStands to) (process_moves g to refl refl (λ b e. e)) t.procs
     (all_set (ProcessStands g) s.procs (p.0 - 1) (f x) nobody (λ k. search (length-set x.channels (n - 1) None ∙ k.numbers, all_set (ChannelStands g) x.channels (n - 1) None None (λ u. tt) k.channels)) h.procs))
@@ -117,8 +117,7 @@ no_channel_to : (s : State) (b : BoxNo) (p : Pid) (n : ℕ) (c : BoxNo) (mode : 
 no_channel_to s b p n c mode none m k same =
     let pr : has_channel_to b (process_at s p) ≡ false = all_at (λ x. has_channel_to b x ≡ false) s.procs (p.0 - 1) nobody (none_passes (has_channel_to b) s.procs none) (omega (arith, m.above, m.within)) in
     let row : is_channel_to b (channel_at (process_at s p).channels n) ≡ false = all_get (λ x. is_channel_to b x ≡ false) (process_at s p).channels (n - 1) None refl (none_passes (is_channel_to b) (process_at s p).channels pr) in
-    let P : Option Channel → Type 0 = λ o. is_channel_to b o ≡ false in
-    let here : P (Some (record { device = device.Mailbox c; mode = mode })) = rw k.row at row in
+    let here : is_channel_to b (Some (record { device = device.Mailbox c; mode = mode })) ≡ false = subst (λ (o : Option Channel). is_channel_to b o ≡ false) k.row row in
     let yes : (b.0 == c.0) ≡ true = eq-eqb b.0 c.0 same in
     cc
 

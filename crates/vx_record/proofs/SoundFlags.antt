@@ -99,16 +99,16 @@ associated_stands n c p k group name permanent m h =
     either (λ (x : Change). CommonStands n x.after) (has_already group name (find (is_association p k) c.associations)) _ _ h
     (joined_stands n (made_where_new d group name permanent).after p k group name m e.1 e.0)
 
-marked_at_stands : (n : ℕ) (c : Common) (o : Option Cluster) → CommonStands n c → CommonStands n (marked_at c o).after
-marked_at_stands n c None h = h
-marked_at_stands n c (Some cl) h =
-    either (λ (x : Change). CommonStands n x.after) (not cl.permanent) _ _ h
-    (either_by (λ (x : Change). CommonStands n x.after) (is_used c cl.group cl.name) _ _
-    (λ e. clusters_move n c (amend (is_cluster cl.group cl.name) with_mark c.clusters) (λ a k. any_amend (is_cluster cl.group cl.name) (is_cluster a.group a.name) with_mark (λ x. refl) c.clusters k) h)
-    (λ none. gone_stands n c cl.group cl.name none h))
-
 pub marked_stands : (n : ℕ) (c : Common) (group : ℕ) (name : List ℕ) → CommonStands n c → CommonStands n (marked c group name).after
-marked_stands n c group name h = marked_at_stands n c (find (is_cluster group name) c.clusters) h
+marked_stands n c group name h =
+    let P = λ (x : Change). CommonStands n x.after in
+    elim (find (is_cluster group name) c.clusters) as (λ (o : Option Cluster). P (marked_at c o)) [
+      | None ↦ h
+      | Some cl ↦
+          either P (not cl.permanent) _ _ h (either_by P (is_used c cl.group cl.name) _ _
+          (λ e. clusters_move n c (amend (is_cluster cl.group cl.name) with_mark c.clusters) (λ a k. any_amend (is_cluster cl.group cl.name) (is_cluster a.group a.name) with_mark (λ x. refl) c.clusters k) h)
+          (λ none. gone_stands n c cl.group cl.name none h))
+    ]
 
 -- Flags.
 

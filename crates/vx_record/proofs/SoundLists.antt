@@ -1,5 +1,5 @@
 -- References stand where one thing is added, changed or taken.
-use Rattle.std.proofs.Common.{◌≡◌, ℕ, [], ◌∷◌, ◌++◌, ◌==◌, refl, ap, List, Option, Some, None, IsTrue, is_some, arith, zero, suc, ◌-◌, ◌<◌, length, replicate, get_or}
+use Rattle.std.proofs.Common.{◌≡◌, ℕ, [], ◌∷◌, ◌++◌, ◌==◌, refl, ap, List, Option, Some, None, IsTrue, is_some, arith, zero, suc, ◌-◌, ◌<◌, length, replicate, get_or, ◌≤◌}
 use Rattle.vx_base.specs.Lists.{less, amend}
 use Rattle.vx_base.specs.Pieces.{Timer, Mailbox, Request, Handler, Queued}
 use Rattle.vx_base.specs.declared.number.Id.{Id}
@@ -91,12 +91,8 @@ all_free s (suc n) = (tt, all_free s n)
 pub more_keeps : (s : State) (pr : Process) → Keeps (ground s) (ground (record s { procs = s.procs ++ pr ∷ [] }))
 more_keeps s pr =
     let same : (q : Pid) → IsProcess s q → get_or (s.procs ++ pr ∷ []) (q.0 - 1) nobody ≡ process_at s q = λ q m. get_or_append_left s.procs (pr ∷ []) nobody (q.0 - 1) (omega (arith, m.above, m.within)) in
-    record {
-      base = record { system = refl; more = omega (arith, length-append s.procs (pr ∷ [])); decl = λ q m. ap (λ (x : Process). x.decl) (same q m); units = refl };
-      channel = λ q n ch m e. rw (same q m) e;
-      box = λ b e. e;
-      going = λ q mode m e. rw (same q m) e;
-    }
+    let more : length s.procs ≤ length (s.procs ++ pr ∷ []) = omega (arith, length-append s.procs (pr ∷ [])) in
+    search same
 
 pub born_stands : (s : State) (place group member : ℕ) (privs : Privs) (mode : Mode) → place < length s.system.decls → ProcessStands (ground s) (new_process place group member privs mode)
 born_stands s place group member privs mode k = search (all_free s 64)

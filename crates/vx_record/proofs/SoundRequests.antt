@@ -1,5 +1,5 @@
 -- References stand after the services on requests, and after what units do.
-use Rattle.std.proofs.Common.{◌≡◌, ℕ, ◌+◌, ◌-◌, List, [], ◌∷◌, ◌++◌, Bool, true, false, not, Option, Some, None, Ok, IfSome, refl, ap, arith, subst, ◌∙◌, ◌==◌}
+use Rattle.std.proofs.Common.{◌≡◌, ℕ, ◌-◌, List, [], ◌∷◌, ◌++◌, Bool, true, false, not, Option, Some, None, Ok, IfSome, refl, ap, arith, subst, ◌∙◌, ◌==◌}
 use Rattle.std.proofs.Math.ListN.{length-set}
 use Rattle.std.proofs.lemmas.Bool.{and_parts, eqb-true}
 use Rattle.std.specs.List.{AllByRecursion, find}
@@ -37,11 +37,7 @@ tested_channel s p n ch e = grind (arith, usable_row)
 
 -- an assigned channel's device stands
 pub device_stands : (s : State) (p : Pid) (n : ℕ) (ch : Channel) → IsProcess s p → channel_at (process_at s p).channels n ≡ Some ch → IsFirm s → DeviceStands (ground s) ch.device
-device_stands s p n ch m e h =
-    let k = all_get (ChannelStands (ground s)) (process_at s p).channels (n - 1) None tt (firm_at s p h m).channels in
-    let P : Option Channel → Type 0 = λ o. ChannelStands (ground s) o in
-    let there : P (Some ch) = rw e at k in
-    there
+device_stands s p n ch m e h = subst (ChannelStands (ground s)) e (all_get (ChannelStands (ground s)) (process_at s p).channels (n - 1) None tt (firm_at s p h m).channels)
 
 -- What stands where a request is accepted.
 

@@ -1,5 +1,5 @@
 -- References stand at first, and after each step.
-use Rattle.std.proofs.Common.{◌≡◌, ℕ, ◌+◌, List, [], ◌∷◌, true, length, Option, Some, None, Contains, refl, sym, ◌∙◌, arith, subst, ◌<◌}
+use Rattle.std.proofs.Common.{◌≡◌, ℕ, ◌+◌, List, [], ◌∷◌, true, length, Option, Some, None, Contains, refl, sym, ◌∙◌, arith, subst}
 use Rattle.std.proofs.lemmas.List.{length-map}
 use Rattle.std.specs.List.{AllByRecursion}
 use Rattle.vx_base.specs.Pieces.{Queued, Request, Timer, Alarm, OfTimer, OfWake, Attention}
@@ -35,7 +35,7 @@ use Rattle.vx_record.specs.Services.{service}
 use Rattle.vx_record.specs.Events.{enabled, run, delivered, beg, step}
 use Rattle.vx_record.specs.Runs.{born_of, born_from, first, AreSteps, IsRun, after_from, after}
 use Rattle.vx_record.proofs.Changes.{without_ast_still}
-use Rattle.vx_record.proofs.SoundLists.{all_free}
+use Rattle.vx_record.proofs.SoundLists.{born_stands}
 use Rattle.vx_record.proofs.SoundRequests.{begun_sound}
 use Rattle.vx_record.proofs.Allowed.{Allowed, enabled_allowed}
 use Rattle.vx_record.proofs.Fixed.{step_keeps_system}
@@ -97,9 +97,7 @@ born_stand : (s : State) (place : ℕ) (ds : List ProcDecl) → place + length d
 born_stand s place [] e = tt
 born_stand s place (d ∷ ds) e =
     let rest = born_stand s (place + 1) ds (omega arith) in
-    let k : place < length s.system.decls = omega arith in
-    let here : ProcessStands (ground s) (born_of place d) = search (all_free s 64) in
-    either (AllByRecursion (ProcessStands (ground s))) d.start (born_of place d ∷ born_from (place + 1) ds) (born_from (place + 1) ds) (here, rest) rest
+    either (AllByRecursion (ProcessStands (ground s))) d.start (born_of place d ∷ born_from (place + 1) ds) (born_from (place + 1) ds) (born_stands s place d.group d.member d.privs d.mode (omega arith), rest) rest
 
 pub first_sound : (system : System) → IsSound (first system)
 first_sound system = let procs = born_stand (first system) 0 system.decls (omega arith) in search (arith, length-map system.units first_unit, first_own)

@@ -2,7 +2,7 @@
 use Rattle.std.proofs.Common.{◌≡◌, ℕ, ◌^◌, ◌%◌, List, [], ◌∷◌, Bool, true, false, not, ◌==◌, ◌&&◌, ◌||◌, nat_lt, nat_le, length, Option, Some, None, Result, Ok, Err, position, refl, ◌∙◌, ◌+◌, ◌≤◌, IfSome, sym, ap, arith, subst, append-nil, zero, suc, get_or, ◌<◌}
 use Rattle.std.specs.List.{filter, find, list_any, AllByRecursion}
 use Rattle.vx_base.specs.Modes.{outer, is_kernel}
-use Rattle.vx_base.specs.Pieces.{Queued, Channel, Handler, Request, Promised, Attention}
+use Rattle.vx_base.specs.Pieces.{Queued, Channel, Handler, Request, Promised}
 use Rattle.vx_base.specs.Queues.{in_service, is_served_by}
 use Rattle.vx_base.specs.Serving.{serve, settled}
 use Rattle.vx_base.specs.declared.call.Args.{Args}
@@ -42,7 +42,7 @@ use Rattle.vx_record.specs.Finish.{Ending, ending, is_read, fin_part, buf_part, 
 use Rattle.vx_record.specs.Channels.{channel_test, box_named, device_named, assign, crembx, delmbx_at, free_channel, unit_named}
 use Rattle.vx_record.specs.Cancel.{mark_part, withdraw, cancelled_request, cancel_request, is_request_on, is_attention_on, drop_attention, cancel_channel, cancel_at, dassgn_at}
 use Rattle.vx_record.specs.Requests.{request_test, unit_ending, with_unit}
-use Rattle.vx_record.specs.Control.{process_test, changed_process, with_wake, with_suspension, forced, creprc, exists_for_control, may_control, named_process, exit_ast}
+use Rattle.vx_record.specs.Control.{process_test, changed_process, with_wake, with_suspension, forced, creprc, exit_ast}
 use Rattle.vx_record.specs.Timers.{drop_timer, drop_timers, is_cancelled_timer, scheduled, is_wake_for, unscheduled, gettim}
 use Rattle.vx_record.specs.Rundown.{leave_kind, leave_frame, leave_all, exited, without_frames, is_handler_of, is_handler_with, drop_handlers, any_handler, cancel_found, cancel_handlers, named_for_deletion, deleted_by, cancel_one, free_one, is_timer_in, is_wake_by, cancel_modes, release, drop_all_handlers, is_busy, drain, cancelled_in, run_handlers, handling, run_down, inner_modes, rundown_from, drop_asts, handler_frame, in_phase, gone_part, part_with, leaving, keeps_busy}
 use Rattle.vx_record.specs.Services.{number, place, access_mode, text, routine_or_none, decl_place, asked, valued_at, numbered_at, service_of, service, var_part, valued, routine}
@@ -50,8 +50,8 @@ use Rattle.vx_record.specs.Events.{r0_of, returned_from, returned, served_call, 
 use Rattle.vx_record.specs.declared.served.Served.{Served}
 use Rattle.vx_record.specs.declared.served.Served.TheVariants.{Answered, Waits}
 use Rattle.vx_base.specs.Channels.{channels_of}
-use Rattle.vx_record.proofs.Lists.{either, either_by, all_weaker, all_both, not_fails, some_found, none_passes}
-use Rattle.std.proofs.lemmas.Bool.{and_parts, leb-true, ltb-false}
+use Rattle.vx_record.proofs.Lists.{either, either_by, all_weaker, all_both, some_found, none_passes}
+use Rattle.std.proofs.lemmas.Bool.{ltb-false}
 use Rattle.vx_base.specs.Clusters.{dissociated, associated, marked, is_cluster, cluster_number}
 use Rattle.vx_base.specs.declared.effects.Effect.TheVariants as effect
 use Rattle.vx_base.specs.declared.effects.Opened.TheVariants as opened
@@ -84,16 +84,13 @@ leave_kind_moves : {refs : Bool} (s : State) (k : FrameKind) → PartBy refs s (
 leave_kind_moves s (kind.Ast id) = leave s None id tt
 leave_kind_moves s k = none s None
 
-leave_all_moves : {refs : Bool} (frames : List Frame) (s : State) → PartBy refs s (leave_all frames s)
-leave_all_moves frames s = each_free leave_frame (λ t f. leave_kind_moves t f.kind) frames s
-
 exited_moves : {refs : Bool} (s : State) (p : Pid) (code : ℕ) → PartBy refs s (exited s p code)
 exited_moves s p code =
     let a = change s p (without_frames code) in
     let b = leave_all (process_at s p).frames a in
     both s a b.after None None None [] b.effects
     (quiet s None p (without_frames code) (record { decl = refl; enables = refl; asts = refl; channels = refl; handlers = refl; cluster_0 = refl; cluster_1 = refl; statuses = refl; tame = λ e h. calm (without_frames code) (record { going = leaving_going (process_at s p).phase (top_mode (process_at s p).frames); idle = λ i. idle_none (leaving (process_at s p).phase (top_mode (process_at s p).frames)); waits = λ w. tt }) }))
-    (leave_all_moves (process_at s p).frames a)
+    (each_free leave_frame (λ t f. leave_kind_moves t f.kind) (process_at s p).frames a)
 
 cancel_found_moves : {refs : Bool} (s : State) (p : Pid) (test : Handler → Bool) (o : Option Handler) → find test (process_at s p).handlers ≡ o → IsProcess s p → OutcomeBy refs s (cancel_found s p o)
 cancel_found_moves s p test None e m = none s None
@@ -110,24 +107,14 @@ deleted_by_moves {refs} s q h =
     let c = drop_handlers b.after q any_handler in
     let first : MovesBy refs s None b.effects b.after None = both s a b.after None None None [] b.effects
     (quiet s None q named_for_deletion (record { decl = refl; enables = refl; asts = refl; channels = refl; handlers = refl; cluster_0 = refl; cluster_1 = refl; statuses = refl; tame = λ e h. calm named_for_deletion (record { going = leaving_going (process_at s q).phase User; idle = λ i. idle_none (leaving (process_at s q).phase User); waits = λ w. tt }) }))
-    (leave_all_moves (process_at s q).frames a) in
+    (each_free leave_frame (λ t f. leave_kind_moves t f.kind) (process_at s q).frames a) in
     both s b.after c.after None None None b.effects c.effects first (end_handlers b.after q any_handler (here_after s q None b.effects b.after None first h).made)
 
 -- Services.
 
 -- the process that a test finds is there
 pub test_made : (s : State) (p : Pid) (n : ℕ) (q : Pid) → process_test s p n ≡ Ok q → IsProcess s q
-test_made s p n q =
-    either_by (λ (r : Result Pid Cond). r ≡ Ok q → IsProcess s q) (not (exists_for_control s (named_process p n).0)) _ _
-    (λ t e. cc)
-    (λ f. either (λ (r : Result Pid Cond). r ≡ Ok q → IsProcess s q) (may_control s p (named_process p n)) _ _
-    (λ e.
-    let there : exists_for_control s (named_process p n).0 ≡ true = not_fails _ f in
-    let one = and_parts _ _ there in
-    let two = and_parts _ _ one.1 in
-    let same : named_process p n ≡ q = cc in
-    rw (← same) (record { above = leb-true _ _ one.0; within = leb-true _ _ two.0 }))
-    (λ e. cc))
+test_made s p n q e = grind arith
 
 quiet_suspension : {refs : Bool} (s : State) (q : Pid) (on : Bool) → OutcomeBy refs s (changed_process s (with_suspension on) q)
 quiet_suspension s q on = quiet s None q (with_suspension on) (record { decl = refl; enables = refl; asts = refl; channels = refl; handlers = refl; cluster_0 = refl; cluster_1 = refl; statuses = refl; tame = tamely s q (with_suspension on) (with_suspension_quiet on (process_at s q)) })
@@ -294,21 +281,15 @@ cancel_modes_kept s p m q =
 
 -- What is attended no more.
 
-cancelled_base : (s : State) (p : Pid) (n : ℕ) → Base s → Base (cancel_channel s p n).after
-cancelled_base s p n h = let one : PartMoves s (cancel_channel s p n) = cancel_channel_moves s p n h in (moves_keep s None _ (cancel_channel s p n).after None one h).base
-
 each_cancel_one_clear : (p : Pid) (s : State) (ns : List ℕ) → Base s → AreUnattended (each (cancel_one p) ns s).after p ns
-each_cancel_one_clear p s [] h = trivial s.attention
-  where
-    trivial : (xs : List Attention) → AllByRecursion (λ a. list_any (λ n. is_attention_on p n a) [] ≡ false) xs
-    trivial [] = tt
-    trivial (x ∷ xs) = (refl, trivial xs)
+each_cancel_one_clear p s [] h = all_weaker (λ a. IsProcess s a.p) (λ a. list_any (λ n. is_attention_on p n a) [] ≡ false) (λ a k. refl) s.attention h.attention_owners
 each_cancel_one_clear p s (n ∷ ns) h =
     let a = (cancel_channel s p n).after in
+    let one : PartMoves s (cancel_channel s p n) = cancel_channel_moves s p n h in
     let t = (each (cancel_one p) ns a).after in
     all_weaker (λ x. (is_attention_on p n x ≡ false) × (list_any (λ n. is_attention_on p n x) ns ≡ false)) (λ x. list_any (λ n. is_attention_on p n x) (n ∷ ns) ≡ false) (λ x e. rw (e.0, e.1) refl) t.attention
     (all_both (λ x. is_attention_on p n x ≡ false) (λ x. list_any (λ n. is_attention_on p n x) ns ≡ false) t.attention
-    (each_keeps (λ x. AllByRecursion (λ y. is_attention_on p n y ≡ false) x.attention) (cancel_one p) (λ x i. cancel_channel_all (λ y. is_attention_on p n y ≡ false) x p i) ns a (cancel_channel_attention s p n h)) (each_cancel_one_clear p a ns (cancelled_base s p n h)))
+    (each_keeps (λ x. AllByRecursion (λ y. is_attention_on p n y ≡ false) x.attention) (cancel_one p) (λ x i. cancel_channel_all (λ y. is_attention_on p n y ≡ false) x p i) ns a (cancel_channel_attention s p n h)) (each_cancel_one_clear p a ns (moves_keep s None _ a None one h).base))
 
 cancel_modes_unattended : (s : State) (p : Pid) (m : Mode) → Base s → AreUnattended (cancel_modes s p m).after p (channels_of m (process_at (cancel_modes s p m).after p).channels)
 cancel_modes_unattended s p m h =
