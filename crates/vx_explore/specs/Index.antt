@@ -1,4 +1,5 @@
--- An index of digests: for each place the last place below with the same digest, and for each digest its last place.
+-- The states of a level, and an index of their digests: for each place the last place below with the same digest, and for each digest
+-- its last place.
 use Rattle.std.specs.Prelude.{◌≡◌, ◌≢◌, ◌⊎◌, ℕ, zero, suc, ◌<◌, ◌==◌, All, Bool, Contains, IsTrue, List, Option, Some, None, if◌then◌else◌, length, map, AllPairs, slice_index, slice_index_or}
 use Rattle.vx_explore.specs.declared.found.Found.{Found}
 
@@ -30,7 +31,7 @@ pub record IsLevel {S : Type 0} (digest_of : S → ℕ) (xs : List (Found S))
   pub index : IsIndex (digests digest_of xs) older latest
   pub different : AllPairs (λ a b. a ≢ b) (whats xs)
 
--- at this place stands this state, or at no place
+-- the state stands at this place, or, if none is given, at no place
 abbrev pub HaveSame : {S : Type 0} → List (Found S) → S → Option ℕ → Type 0
 HaveSame {S} xs s None = (i : ℕ) (d : Found S) → i < length xs → (slice_index_or xs i d).what ≢ s
 HaveSame {S} xs s (Some i) = (i < length xs) × ((d : Found S) → (slice_index_or xs i d).what ≡ s)
@@ -45,15 +46,17 @@ pub record AreMore {S : Type 0} (old : List S) (s : S) (new : List S) : Type 0 w
 abbrev pub IsNext : {S : Type 0} → (S → ℕ) → (S → ℕ → S) → S → S → Type 0
 IsNext enabled after s t = (i : ℕ) × (i < enabled s) × (after s i ≡ t)
 
--- these are the old states and successors of this one: each of them, if all were added
-pub record Spreads {S : Type 0} (enabled : S → ℕ) (after : S → ℕ → S) (origin : S → S) (s : S) (all : Bool) (old new : List S) : Type 0 where
+-- these are the old states and successors of this one, and each successor is there if all were added
+pub record Spreads {S : Type 0} (enabled : S → ℕ) (after : S → ℕ → S) (origin : S → S)
+    (s : S) (all : Bool) (old new : List S) : Type 0 where
   pub kept : (t : S) → Contains old t → Contains new t
   pub there : IsTrue all → (i : ℕ) → i < enabled s → Contains new (after s i)
   pub only : (t : S) → Contains new t → Contains old t ⊎ IsNext enabled after s t
   pub alike : StartAs origin s new
 
 -- these are the successors of all states of a level
-pub record AreNext {S : Type 0} (enabled : S → ℕ) (after : S → ℕ → S) (origin : S → S) (now next : List S) : Type 0 where
+pub record AreNext {S : Type 0} (enabled : S → ℕ) (after : S → ℕ → S) (origin : S → S)
+    (now next : List S) : Type 0 where
   pub there : (s : S) (i : ℕ) → Contains now s → i < enabled s → Contains next (after s i)
   pub only : (t : S) → Contains next t → (s : S) × Contains now s × IsNext enabled after s t
   pub alike : (o : S) → StartAs origin o now → StartAs origin o next

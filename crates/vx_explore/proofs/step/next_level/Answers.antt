@@ -23,8 +23,9 @@ returns-then-not-branch-clause-many g c = λ k s led.
     )
 
 pub loop-there-preserved : goal.loop-there-preserved
-loop-there-preserved g c = let m = g.M.Machine in (
+loop-there-preserved g c = let m = g.M.Machine in let added = c.in_ok-add_next.ensures in (
   Rising-more m.enabled m.after m.origin _ c.args.reached.items c.loop-there.yielded _ _ c.loop-there.next c.in-Some.there
-      c.in-Some.ensures.steps.0 c.loop-there.invariant.0 c.add_next.new.next _ c.if-not-branch.false (c.in_ok-add_next.ensures.like c.if-not-branch.false) c.in_ok-add_next.ensures.spreads,
-  MatchBool-at_true _ _ c.if-not-branch.false c.in_ok-add_next.ensures.most c.loop-there.invariant.1,
+      c.in-Some.ensures.steps.0 c.loop-there.invariant.0 c.add_next.new.next _ c.if-not-branch.false
+      (added.like c.if-not-branch.false) added.spreads,
+  MatchBool-at_true _ _ c.if-not-branch.false added.most c.loop-there.invariant.1,
 )
