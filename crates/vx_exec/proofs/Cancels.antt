@@ -7,7 +7,7 @@ use Rattle.vx_base.specs.declared.cond.Cond.TheVariants.{Cancel}
 use Rattle.vx_base.specs.declared.mode.Mode.{Mode}
 use Rattle.vx_base.specs.declared.number.Pid.{Pid}
 use Rattle.vx_base.specs.Lists.{amend, tally}
-use Rattle.vx_base.specs.Channels.{channels_of, is_reached, reached_from, channel_at}
+use Rattle.vx_base.specs.Channels.{channels_of, reached_from, channel_at}
 use Rattle.vx_base.specs.Flags.{one}
 use Rattle.vx_base.specs.declared.request.Device.{Device}
 use Rattle.vx_record.specs.State.{State, process_at}
@@ -106,13 +106,10 @@ on_of own chan n x = own x && (chan x == n)
 abbrev from_of : {A : Type 0} → (A → Bool) → (A → ℕ) → IsOn A
 from_of own chan j x = own x && nat_le j (chan x)
 
-here_or_on : (c j : ℕ) → one (c == j) + one (nat_le (j + 1) c) ≤ one (nat_le j c)
-here_or_on c j = grind (arith, nat_tests)
-
 tally_split : {A : Type 0} (own : A → Bool) (chan : A → ℕ) (j : ℕ) (xs : List A) → tally (on_of own chan j) xs + tally (from_of own chan (j + 1)) xs ≤ tally (from_of own chan j) xs
 tally_split own chan j [] = omega arith
 tally_split own chan j (x ∷ xs) =
-    let here = here_or_on (chan x) j in
+    let here : one (chan x == j) + one (nat_le (j + 1) (chan x)) ≤ one (nat_le j (chan x)) = grind (arith, nat_tests) in
     let rest = tally_split own chan j xs in
     grind arith
 
@@ -121,7 +118,7 @@ listed_from own chan m xs j [] = omega arith
 listed_from own chan m xs j (row ∷ rows) =
     let rest = listed_from own chan m xs (j + 1) rows in
     let both = tally_split own chan j xs in
-    either (λ (ns : List ℕ). listed (on_of own chan) xs ns ≤ tally (from_of own chan j) xs) (is_reached m row) (j ∷ reached_from (j + 1) m rows) (reached_from (j + 1) m rows) (omega (arith, rest, both)) (omega (arith, rest, both))
+    grind arith
 
 listed_few : {A : Type 0} (own : A → Bool) (chan : A → ℕ) (m : Mode) (xs : List A) (rows : List (Option Channel)) → listed (on_of own chan) xs (channels_of m rows) ≤ length xs
 listed_few own chan m xs rows = omega (arith, listed_from own chan m xs 1 rows, tally_length (from_of own chan 1) xs)

@@ -7,8 +7,7 @@ use Rattle.std.proofs.Math.Nat.{mul-le-mul_left, mul-le-mul_right, suc-mul}
 use Rattle.vx_base.specs.Pieces.{Handler, Channel, Queued}
 use Rattle.vx_base.specs.declared.mode.Mode.{Mode}
 use Rattle.vx_base.specs.declared.number.Pid.{Pid}
-use Rattle.vx_base.specs.Channels.{channels_of, is_reached, reached_from}
-use Rattle.vx_base.specs.Flags.{one}
+use Rattle.vx_base.specs.Channels.{channels_of, reached_from}
 use Rattle.vx_base.specs.declared.frame.Phase.{Phase}
 use Rattle.vx_base.specs.declared.frame.Phase.TheVariants as phase
 use Rattle.vx_base.specs.declared.record.Answer.{Answer}
@@ -36,9 +35,7 @@ load s p = length (process_at s p).asts + 7 * length s.requests + 2 * length s.t
 
 reached_few : (m : Mode) (j : ℕ) (rows : List (Option Channel)) → length (reached_from j m rows) ≤ length rows
 reached_few m j [] = omega arith
-reached_few m j (row ∷ rows) =
-    let rest = reached_few m (j + 1) rows in
-    either (λ (ns : List ℕ). length ns ≤ length (row ∷ rows)) (is_reached m row) (j ∷ reached_from (j + 1) m rows) (reached_from (j + 1) m rows) (omega (arith, rest)) (omega (arith, rest))
+reached_few m j (row ∷ rows) = let rest = reached_few m (j + 1) rows in grind arith
 
 asts_fall : (p : Pid) (m : Mode) (s : State) → Falls p 0 (length (process_at s p).asts) s (drop_asts p m s)
 asts_fall p m s = each_falls p 0 1 (drop_ast p) drop_falls (filter (is_ast_reached m) (process_at s p).asts) s (omega arith) (omega (arith, filter_few (is_ast_reached m) (process_at s p).asts))

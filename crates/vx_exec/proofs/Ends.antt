@@ -1,4 +1,4 @@
--- TICK, BEG and DON, and how much a request tells that finishes.
+-- What the parts of an event leave and tell: timers, exit handlers and frames end, and a request finishes; and TICK, BEG and DON.
 use Rattle.std.proofs.Common.{◌≡◌, ℕ, ◌++◌, ◌+◌, ◌-◌, ◌≤◌, List, ◌∷◌, Bool, true, length, length-set, length-append, Option, Some, None, ap, ◌*◌, arith, nat_lt, slice_index_or, [], ◌&&◌, ◌==◌, not}
 use Rattle.std.specs.List.{filter}
 use Rattle.std.proofs.Math.Nat.{mul-suc}
@@ -12,7 +12,6 @@ use Rattle.vx_base.specs.declared.number.UnitNo.{UnitNo}
 use Rattle.vx_base.specs.Lists.{tally}
 use Rattle.vx_base.specs.Serving.{serve, settled}
 use Rattle.vx_base.specs.declared.request.Req.{Req}
-use Rattle.vx_base.specs.Flags.{one}
 use Rattle.vx_record.specs.State.{Process, State, process_at, change, no_unit, unit_at, nobody}
 use Rattle.vx_record.specs.Parts.{Part, nothing, each, and_then}
 use Rattle.vx_record.specs.Asts.{charged_ast, with_queued}

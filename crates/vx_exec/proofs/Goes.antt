@@ -1,4 +1,4 @@
--- What services of a process do to the state: how many processes there are then, how many ids they open, and how much they tell.
+-- What an event does to the state: how many processes there are then, how many ids they open, and how much they tell.
 use Rattle.std.proofs.Common.{◌≡◌, ℕ, ◌+◌, ◌≤◌, List, ◌∷◌, Bool, length, length-set, ap, ◌*◌, arith, slice_index_or, []}
 use Rattle.std.specs.List.{filter}
 use Rattle.vx_base.specs.Pieces.{DeviceUnit}
