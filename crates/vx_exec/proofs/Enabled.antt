@@ -139,16 +139,10 @@ tick_enabled s some =
 
 -- The test of one event.
 
-own_of : (s : State) (p : Pid) (e : Event) → (e ≡ event.Run p) ⊎ ((e ≡ event.Ast p) ⊎ (e ≡ event.Rdn p)) → IsAbled s e → IsProcess s p × (process_events s p ≡ e ∷ [])
-own_of s p e is h = grind arith
-
-own_unit : (s : State) (u : UnitNo) (e : Event) → (e ≡ event.Beg u) ⊎ (e ≡ event.Don u) → IsAbled s e → (u.0 < length s.units) × (unit_events s u ≡ e ∷ [])
-own_unit s u e is h = grind arith
-
 pub own_iff : (s : State) (p : Pid) (e asked : Event) (b : Bool) → (e ≡ event.Run p) ⊎ ((e ≡ event.Ast p) ⊎ (e ≡ event.Rdn p)) → asked ≡ e → (IsTrue b → IsProcess s p) → (IsTrue b → process_events s p ≡ asked ∷ []) → (IsProcess s p → process_events s p ≡ asked ∷ [] → IsTrue b) → (IsTrue b → Contains (enabled s) e) × (Contains (enabled s) e → IsTrue b)
 own_iff s p e asked b is same made has only =
     let list : asked ∷ [] ≡ e ∷ [] = ap (λ (x : Event). x ∷ []) same in
-    (λ t. process_enabled s p e (made t) (has t ∙ list), λ there. let own = own_of s p e is (abled_of s e there) in only own.0 (own.1 ∙ sym list))
+    (λ t. process_enabled s p e (made t) (has t ∙ list), λ there. let able = abled_of s e there in let own : IsProcess s p × (process_events s p ≡ e ∷ []) = grind arith in only own.0 (own.1 ∙ sym list))
 
 pub tick_iff : (s : State) (e : Event) (n : ℕ) → e ≡ event.Tick → n ≡ length s.timers → (IsTrue (nat_lt 0 n) → Contains (enabled s) e) × (Contains (enabled s) e → IsTrue (nat_lt 0 n))
 tick_iff s e n is count = (
@@ -159,7 +153,7 @@ tick_iff s e n is count = (
 pub unit_iff : (s : State) (u : UnitNo) (e asked : Event) (b : Bool) → (e ≡ event.Beg u) ⊎ (e ≡ event.Don u) → asked ≡ e → (IsTrue b → u.0 < length s.units) → (IsTrue b → unit_events s u ≡ asked ∷ []) → (u.0 < length s.units → unit_events s u ≡ asked ∷ [] → IsTrue b) → (IsTrue b → Contains (enabled s) e) × (Contains (enabled s) e → IsTrue b)
 unit_iff s u e asked b is same there has only =
     let list : asked ∷ [] ≡ e ∷ [] = ap (λ (x : Event). x ∷ []) same in
-    (λ t. unit_enabled s u e (there t) (has t ∙ list), λ able. let own = own_unit s u e is (abled_of s e able) in only own.0 (own.1 ∙ sym list))
+    (λ t. unit_enabled s u e (there t) (has t ∙ list), λ able. let abled = abled_of s e able in let own : (u.0 < length s.units) × (unit_events s u ≡ e ∷ []) = grind arith in only own.0 (own.1 ∙ sym list))
 
 -- Loops over processes.
 
@@ -245,7 +239,6 @@ pub no_open_unit : (s : State) (ys : List Event) (place : ℕ) (found : Option E
 no_open_unit s ys place found within is so_far = rw (← so_far, no_unit_event s ys place within is) refl
 
 pub past_open_units : (s : State) (place : ℕ) (found : Option Event) → length s.units ≤ place → find is_open (later_units s place (tick_events s.timers)) ≡ found → slice_get (tick_events s.timers) 0 ≡ found
-past_open_units s place found past so_far = tick_first s.timers ∙ (ap (λ (us : List DeviceUnit). find is_open (units_from s place us ++ tick_events s.timers)) (sym (drop_of_length-le s.units past)) ∙ so_far)
-  where
-    tick_first : (ts : List Timer) → slice_get (tick_events ts) 0 ≡ find is_open (tick_events ts)
-    tick_first ts = grind arith
+past_open_units s place found past so_far =
+    let first : slice_get (tick_events s.timers) 0 ≡ find is_open (tick_events s.timers) = grind arith in
+    first ∙ (ap (λ (us : List DeviceUnit). find is_open (units_from s place us ++ tick_events s.timers)) (sym (drop_of_length-le s.units past)) ∙ so_far)

@@ -156,8 +156,7 @@ tick_goes s =
 
 -- BEG opens nothing, and tells nothing.
 pub beg_goes : (s : State) (o : Option Request) → Goes 0 s (beg s o).after (beg s o).effects
-beg_goes s None = goes_stays 0 s s [] (grind arith) (omega arith)
-beg_goes s (Some r) = goes_stays 0 s _ [] (grind arith) (omega arith)
+beg_goes s o = grind arith
 
 -- DON makes one service of its unit.
 pub don_goes : (s : State) (u : UnitNo) (o : Option Request) → Goes 5 s (don s u o).after (don s u o).effects

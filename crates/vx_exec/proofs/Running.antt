@@ -25,7 +25,7 @@ use Rattle.vx_image.specs.declared.system.System.{System}
 use Rattle.vx_record.specs.State.{Process, State, IsProcess, change, current, image_of, process_at, no_decl, no_image, nobody, top_mode}
 use Rattle.vx_record.specs.Parts.{Outcome}
 use Rattle.vx_record.specs.Asts.{deliverable_ast, deliverable_at}
-use Rattle.vx_record.specs.Events.{called, moved_to, reader, run, run_advanced, served_call}
+use Rattle.vx_record.specs.Events.{called, moved_to, reader, run, run_advanced}
 use Rattle.vx_record.specs.Requests.{Asked, qio}
 use Rattle.vx_record.specs.Services.{asked, at_once, number, routine_or_none, service, service_of}
 use Rattle.vx_record.specs.Timers.{setimr}
@@ -72,11 +72,8 @@ asked_once k l p a q cond same h = subst (λ (x : Asked). Does (at_once (qio k.s
 
 -- A call.
 
-served_effects : (p : Pid) (c : Call) (o : Outcome Served) (a : Served) → (served_call p c o a).effects ≡ o.effects
-served_effects p c o a = grind arith
-
 pub called_room : (p : Pid) (c : Call) (o : Outcome Served) (k : Kernel) → Fits k (called p c o).effects → Fits k o.effects
-called_room p c o k room = omega (arith, ap length (served_effects p c o o.answer), room)
+called_room p c o k room = let same : (called p c o).effects ≡ o.effects = grind arith in omega (arith, ap length same, room)
 
 -- Local statements, and what they stop at.
 
@@ -130,13 +127,13 @@ set_changed k l p f set there handlers decl channels fewer =
     let formed : IsImage (image_of t p) = subst IsImage (sym image) ready.formed in
     let was : (q : Pid) → IsProcess t q → IsProcess s q = λ q m. record { above = m.above; within = omega (arith, m.within, same) } in
     let spares : HasSpares (changed k p f) = λ q m.
-        let has = ready.spares q (was q m) in
-        let few = at_set IsFewer (λ x. record { frames = omega arith; asts = omega arith }) s.procs (p.0 - 1) (q.0 - 1) (f (process_at s p)) nobody fewer in
-        record { frame = omega (arith, has.frame, few.frames); ast = omega (arith, has.ast, few.asts) } in
+    let has = ready.spares q (was q m) in
+    let few = at_set IsFewer (λ x. record { frames = omega arith; asts = omega arith }) s.procs (p.0 - 1) (q.0 - 1) (f (process_at s p)) nobody fewer in
+    record { frame = omega (arith, has.frame, few.frames); ast = omega (arith, has.ast, few.asts) } in
     let opened = open_changed s p f decl channels set.opened in
     let all_handler_ids : (q : Pid) → IsProcess t q → IsTrue (handlers_have_own_ids (process_at t q).handlers) = λ q m.
-        let still = at_set (λ (x y : Process). y.handlers ≡ x.handlers) (λ x. refl) s.procs (p.0 - 1) (q.0 - 1) (f (process_at s p)) nobody handlers in
-        subst (λ (hs : List Handler). IsTrue (handlers_have_own_ids hs)) (sym still) (set.all_handler_ids q (was q m)) in
+    let still = at_set (λ (x y : Process). y.handlers ≡ x.handlers) (λ x. refl) s.procs (p.0 - 1) (q.0 - 1) (f (process_at s p)) nobody handlers in
+    subst (λ (hs : List Handler). IsTrue (handlers_have_own_ids hs)) (sym still) (set.all_handler_ids q (was q m)) in
     let handler_ids = all_handler_ids p made in
     let here : IsSet (changed k p f) p = grind arith in
     subst (λ (x : Kernel). IsSet x p) (sym there) here
