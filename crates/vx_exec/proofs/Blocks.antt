@@ -1,5 +1,5 @@
 -- Events of processes, block by block.
-use Rattle.std.proofs.Common.{◌≡◌, ℕ, zero, suc, ◌+◌, ◌-◌, ◌*◌, ◌/◌, ◌%◌, ◌<◌, ◌≤◌, List, [], ◌∷◌, ◌++◌, inl, inr, length, length-append, length-drop, length-take, min, drop, take, Option, Some, option_to_list, slice_get, Bool, true, if◌then◌else◌, refl, sym, ap, ◌∙◌, arith}
+use Rattle.std.proofs.Common.{◌≡◌, ℕ, zero, suc, ◌+◌, ◌-◌, ◌*◌, ◌/◌, ◌%◌, ◌<◌, ◌≤◌, List, [], ◌∷◌, ◌++◌, inl, inr, length, length-append, length-drop, length-take, min, drop, take, Option, Some, option_to_list, slice_get, true, refl, sym, ap, ◌∙◌, arith}
 use Rattle.std.proofs.Math.ListN.{drop_of_length-le}
 use Rattle.std.proofs.Math.Nat.{add-zero}
 use Rattle.std.proofs.lemmas.Bool.{cases_lt}
@@ -15,7 +15,7 @@ use Rattle.vx_procs.specs.Own.{block_of}
 use Rattle.vx_exec.specs.Blocks.{events_from, events_in}
 use Rattle.vx_exec.specs.Leases.{is_open}
 use Rattle.vx_exec.specs.Sound.{IsWhole}
-use Rattle.vx_exec.proofs.Enabled.{shape, some_here}
+use Rattle.vx_exec.proofs.Enabled.{empty_of, some_here}
 
 -- How many blocks there are, and how long one is.
 
@@ -73,7 +73,7 @@ past_blocks s b past = ap (λ (prs : List Process). processes_from s (32 * b + 1
 -- How many events there are.
 
 few_events : (s : State) (p : Pid) → length (process_events s p) ≤ 1
-few_events s p = shape (λ es. length es ≤ 1) s p (omega arith) (omega arith) (omega arith) (omega arith)
+few_events s p = grind arith
 
 few_from : (s : State) (n : ℕ) (prs : List Process) → length (processes_from s n prs) ≤ length prs
 few_from s n [] = omega arith
@@ -162,7 +162,7 @@ blocks_passed s b ys left found past so_far = ap (λ (es : List Event). slice_ge
 -- The first event that ends no service: an event of a process ends none.
 
 opens_of : (s : State) (p : Pid) → AllByRecursion (λ (e : Event). is_open e ≡ true) (process_events s p)
-opens_of s p = shape (AllByRecursion (λ (e : Event). is_open e ≡ true)) s p tt (refl, tt) (refl, tt) (refl, tt)
+opens_of s p = grind arith
 
 opens_from : (s : State) (n : ℕ) (prs : List Process) → AllByRecursion (λ (e : Event). is_open e ≡ true) (processes_from s n prs)
 opens_from s n [] = tt
@@ -170,19 +170,15 @@ opens_from s n (pr ∷ prs) = all_append (λ (e : Event). is_open e ≡ true) (p
 
 first_opens : (xs ys : List Event) (e : Event) → AllByRecursion (λ (e : Event). is_open e ≡ true) xs → slice_get xs 0 ≡ Some e → find is_open (xs ++ ys) ≡ Some e
 first_opens [] ys e all is = absurd (cc)
-first_opens (x ∷ xs) ys e all is = ap (λ (b : Bool). if b then Some x else find is_open (xs ++ ys)) all.0 ∙ is
+first_opens (x ∷ xs) ys e all is = rw all.0 is
 
 pub block_opens : (s : State) (b : ℕ) (ys : List Event) (e : Event) (found : Option Event) → slice_get (events_in s b) 0 ≡ Some e → find is_open (from_block s b ys) ≡ found → Some e ≡ found
 block_opens s b ys e found has so_far = sym (first_opens (events_in s b) (from_block s (b + 1) ys) e (opens_from s (32 * b + 1) (block_of b s.procs)) has) ∙ (ap (find is_open) (sym (from_now s b ys)) ∙ so_far)
 
 pub block_closed : (s : State) (b : ℕ) (ys : List Event) (behind : ℕ) (found : Option Event) → 0 ≡ length (events_in s b) + behind → find is_open (from_block s b ys) ≡ found → find is_open (from_block s (b + 1) ys) ≡ found
 block_closed s b ys behind found is so_far =
-    let all : from_block s b ys ≡ from_block s (b + 1) ys = from_now s b ys ∙ ap (λ (es : List Event). es ++ from_block s (b + 1) ys) (empty_of (events_in s b) behind is) in
-    ap (find is_open) (sym all) ∙ so_far
-  where
-    empty_of : (es : List Event) (behind : ℕ) → 0 ≡ length es + behind → es ≡ []
-    empty_of [] behind is = refl
-    empty_of (e ∷ es) behind is = absurd (omega (arith, is))
+    let none : events_in s b ≡ [] = empty_of (events_in s b) (omega (arith, is)) in
+    rw (← so_far, from_now s b ys, none) refl
 
 pub blocks_closed : (s : State) (b : ℕ) (ys : List Event) (found : Option Event) → length s.procs ≤ 32 * b → find is_open (from_block s b ys) ≡ found → find is_open ys ≡ found
 blocks_closed s b ys found past so_far = ap (find is_open) (sym (from_end s b ys past)) ∙ so_far

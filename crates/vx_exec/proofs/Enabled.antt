@@ -1,11 +1,11 @@
 -- What is enabled: each process has one event or none, and so has each unit, and time.
-use Rattle.std.proofs.Common.{◌≡◌, ℕ, zero, suc, ◌+◌, ◌-◌, ◌<◌, ◌≤◌, List, [], ◌∷◌, ◌++◌, length, length-append, drop, IsTrue, Option, Some, None, IsSome, Contains, option_to_list, slice_get, slice_index_or, nat_lt, ◌⊎◌, inl, inr, Bool, true, false, if◌then◌else◌, refl, sym, ap, subst, ◌∙◌, arith}
+use Rattle.std.proofs.Common.{◌≡◌, ℕ, zero, suc, ◌+◌, ◌-◌, ◌<◌, ◌≤◌, List, [], ◌∷◌, ◌++◌, length, length-append, drop, IsTrue, Option, Some, None, IsSome, Contains, option_to_list, slice_get, slice_index_or, nat_lt, ◌⊎◌, inl, inr, Bool, true, false, refl, sym, ap, subst, ◌∙◌, arith}
 use Rattle.std.proofs.Math.ListN.{drop_of_length-le}
 use Rattle.std.proofs.lemmas.Bool.{cases_eq, leb-true}
 use Rattle.std.proofs.lemmas.Bool.Decides.{nat_tests}
 use Rattle.std.proofs.lemmas.List.{drop_more}
 use Rattle.std.specs.List.{AllByRecursion, find}
-use Rattle.vx_base.specs.Pieces.{DeviceUnit, Queued, Request, Timer}
+use Rattle.vx_base.specs.Pieces.{DeviceUnit, Timer}
 use Rattle.vx_base.specs.Queues.{front, in_service}
 use Rattle.vx_base.specs.declared.frame.Frame.{Frame}
 use Rattle.vx_base.specs.declared.frame.Wait.{Wait}
@@ -15,12 +15,11 @@ use Rattle.vx_base.specs.declared.record.Event.{Event}
 use Rattle.vx_base.specs.declared.record.Event.TheVariants as event
 use Rattle.vx_frames.specs.Frames.{top_of}
 use Rattle.vx_record.specs.State.{Process, State, IsProcess, process_at, no_unit, nobody, pid}
-use Rattle.vx_record.specs.Asts.{deliverable_ast}
-use Rattle.vx_record.specs.Events.{ast_or_run, beg_event, can_run, can_run_down, don_or_beg, enabled, process_events, processes_from, run_events, tick_events, unit_events, units_from}
+use Rattle.vx_record.specs.Events.{enabled, process_events, processes_from, tick_events, unit_events, units_from}
 use Rattle.vx_record.specs.Runs.{next_seed, picked}
 use Rattle.vx_record.specs.Sound.{WaitStands, WaitsStand}
 use Rattle.vx_record.proofs.Changes.{stands_at}
-use Rattle.vx_record.proofs.Lists.{either, all_append, all_at}
+use Rattle.vx_record.proofs.Lists.{all_append, all_at}
 use Rattle.vx_exec.specs.Leases.{is_open}
 use Rattle.vx_exec.specs.Picks.{picked_event}
 use Rattle.vx_exec.specs.Ready.{HasOwner}
@@ -37,20 +36,8 @@ IsAbled s event.Tick = 0 < length s.timers
 IsAbled s (event.Beg u) = (u.0 < length s.units) × (unit_events s u ≡ event.Beg u ∷ [])
 IsAbled s (event.Don u) = (u.0 < length s.units) × (unit_events s u ≡ event.Don u ∷ [])
 
--- a process has one of four lists of events
-run_shape : (P : List Event → Type 0) (s : State) (p : Pid) → P [] → P (event.Run p ∷ []) → P (event.Rdn p ∷ []) → P (run_events s p)
-run_shape P s p none runs down = either P (can_run s p (process_at s p).frames) _ _ runs (either P (can_run_down s p (process_at s p).frames) _ _ down none)
-
-ast_shape : (P : List Event → Type 0) (s : State) (p : Pid) (o : Option Queued) → P [] → P (event.Run p ∷ []) → P (event.Rdn p ∷ []) → P (event.Ast p ∷ []) → P (ast_or_run s p o)
-ast_shape P s p None none runs down starts = run_shape P s p none runs down
-ast_shape P s p (Some q) none runs down starts = starts
-
-pub shape : (P : List Event → Type 0) (s : State) (p : Pid) → P [] → P (event.Run p ∷ []) → P (event.Rdn p ∷ []) → P (event.Ast p ∷ []) → P (process_events s p)
-shape P s p none runs down starts = either P (process_at s p).suspended _ _ none (ast_shape P s p (deliverable_ast s p) none runs down starts)
-
 process_abled : (s : State) (p : Pid) → IsProcess s p → AllByRecursion (IsAbled s) (process_events s p)
-process_abled s p made =
-    shape (λ es. process_events s p ≡ es → AllByRecursion (IsAbled s) es) s p (λ e. tt) (λ e. ((made, e), tt)) (λ e. ((made, e), tt)) (λ e. ((made, e), tt)) refl
+process_abled s p made = grind arith
 
 processes_abled : (s : State) (n : ℕ) (prs : List Process) → 1 ≤ n → n + length prs ≡ 1 + length s.procs → AllByRecursion (IsAbled s) (processes_from s n prs)
 processes_abled s n [] above e = tt
@@ -58,21 +45,11 @@ processes_abled s n (pr ∷ prs) above e =
     all_append (IsAbled s) (process_events s (pid n)) (processes_from s (n + 1) prs) (process_abled s (pid n) (record { above = above; within = omega arith })) (processes_abled s (n + 1) prs (omega arith) (omega arith))
 
 tick_abled : (s : State) (ts : List Timer) → length ts ≤ length s.timers → AllByRecursion (IsAbled s) (tick_events ts)
-tick_abled s [] few = tt
-tick_abled s (t ∷ ts) few = (omega (arith, few), tt)
+tick_abled s ts few = grind arith
 
 -- a unit has one of three lists of events
-
-beg_shape : (P : List Event → Type 0) (u : UnitNo) (o : Option Request) → P [] → P (event.Beg u ∷ []) → P (beg_event u o)
-beg_shape P u None none begs = none
-beg_shape P u (Some r) none begs = begs
-
-don_shape : (P : List Event → Type 0) (s : State) (u : UnitNo) (o : Option Request) → P [] → P (event.Beg u ∷ []) → P (event.Don u ∷ []) → P (don_or_beg s u o)
-don_shape P s u None none begs ends = beg_shape P u (front u s.requests) none begs
-don_shape P s u (Some r) none begs ends = ends
-
 unit_abled : (s : State) (u : UnitNo) → u.0 < length s.units → AllByRecursion (IsAbled s) (unit_events s u)
-unit_abled s u there = don_shape (λ es. unit_events s u ≡ es → AllByRecursion (IsAbled s) es) s u (in_service u s.requests) (λ e. tt) (λ e. ((there, e), tt)) (λ e. ((there, e), tt)) refl
+unit_abled s u there = grind arith
 
 units_abled : (s : State) (n : ℕ) (us : List DeviceUnit) → n + length us ≡ length s.units → AllByRecursion (IsAbled s) (units_from s n us)
 units_abled s n [] e = tt
@@ -92,42 +69,24 @@ abled_of s e there = subst (IsAbled s) there.2 (all_at (IsAbled s) (enabled s) t
 
 -- a process that can be run down has no frame
 
-idle_run : (s : State) (p : Pid) (fs : List Frame) → (if can_run s p fs then event.Run p ∷ [] else (if can_run_down s p fs then event.Rdn p ∷ [] else [])) ≡ event.Rdn p ∷ [] → fs ≡ []
-idle_run s p [] e = refl
-idle_run s p (f ∷ fs) e = elim (can_run s p (f ∷ fs)) as (λ b. (if b then event.Run p ∷ [] else []) ≡ event.Rdn p ∷ [] → (f ∷ fs) ≡ []) [ true ↦ λ is. absurd (cc) | false ↦ λ is. absurd (cc) ] e
-
-idle_from : (s : State) (p : Pid) (o : Option Queued) → ast_or_run s p o ≡ event.Rdn p ∷ [] → (process_at s p).frames ≡ []
-idle_from s p None e = idle_run s p (process_at s p).frames e
-idle_from s p (Some q) e = absurd (cc)
-
 idle_of : (s : State) (p : Pid) → process_events s p ≡ event.Rdn p ∷ [] → (process_at s p).frames ≡ []
-idle_of s p = either (λ (es : List Event). es ≡ event.Rdn p ∷ [] → (process_at s p).frames ≡ []) (process_at s p).suspended [] (ast_or_run s p (deliverable_ast s p)) (λ e. absurd (cc)) (idle_from s p (deliverable_ast s p))
+idle_of s p e = grind arith
 
 -- a unit that begins a service has a front request, and one that ends a service serves one
 
-begs_front : (u : UnitNo) (o : Option Request) → beg_event u o ≡ event.Beg u ∷ [] → IsSome o
-begs_front u None e = absurd (cc)
-begs_front u (Some r) e = refl
+begs_at : (s : State) (u : UnitNo) → unit_events s u ≡ event.Beg u ∷ [] → IsSome (front u s.requests)
+begs_at s u e = grind arith
 
-begs_at : (s : State) (u : UnitNo) (o : Option Request) → don_or_beg s u o ≡ event.Beg u ∷ [] → IsSome (front u s.requests)
-begs_at s u None e = begs_front u (front u s.requests) e
-begs_at s u (Some r) e = absurd (cc)
-
-never_ends : (u : UnitNo) (o : Option Request) → beg_event u o ≡ event.Don u ∷ [] → ⊥
-never_ends u None e = cc
-never_ends u (Some r) e = cc
-
-ends_at : (s : State) (u : UnitNo) (o : Option Request) → don_or_beg s u o ≡ event.Don u ∷ [] → IsSome o
-ends_at s u None e = absurd (never_ends u (front u s.requests) e)
-ends_at s u (Some r) e = refl
+ends_at : (s : State) (u : UnitNo) → unit_events s u ≡ event.Don u ∷ [] → IsSome (in_service u s.requests)
+ends_at s u e = grind arith
 
 owner_of : (s : State) (e : Event) → IsAbled s e → HasOwner s e
 owner_of s (event.Run p) h = h.0
 owner_of s (event.Ast p) h = h.0
 owner_of s (event.Rdn p) h = record { made = h.0; idle = idle_of s p h.1 }
 owner_of s event.Tick h = tt
-owner_of s (event.Beg u) h = begs_at s u (in_service u s.requests) h.1
-owner_of s (event.Don u) h = ends_at s u (in_service u s.requests) h.1
+owner_of s (event.Beg u) h = begs_at s u h.1
+owner_of s (event.Don u) h = ends_at s u h.1
 
 pub enabled_owned : (s : State) (e : Event) → Contains (enabled s) e → HasOwner s e
 enabled_owned s e there = owner_of s e (abled_of s e there)
@@ -180,19 +139,10 @@ tick_enabled s some =
 
 -- The test of one event.
 
-own_of : (s : State) (p : Pid) (e : Event) → (e ≡ event.Run p) ⊎ ((e ≡ event.Ast p) ⊎ (e ≡ event.Rdn p)) → IsAbled s e → IsProcess s p × (process_events s p ≡ e ∷ [])
-own_of s p e (inl is) h = let own = subst (IsAbled s) is h in (own.0, own.1 ∙ ap (λ (x : Event). x ∷ []) (sym is))
-own_of s p e (inr (inl is)) h = let own = subst (IsAbled s) is h in (own.0, own.1 ∙ ap (λ (x : Event). x ∷ []) (sym is))
-own_of s p e (inr (inr is)) h = let own = subst (IsAbled s) is h in (own.0, own.1 ∙ ap (λ (x : Event). x ∷ []) (sym is))
-
-own_unit : (s : State) (u : UnitNo) (e : Event) → (e ≡ event.Beg u) ⊎ (e ≡ event.Don u) → IsAbled s e → (u.0 < length s.units) × (unit_events s u ≡ e ∷ [])
-own_unit s u e (inl is) h = let own = subst (IsAbled s) is h in (own.0, own.1 ∙ ap (λ (x : Event). x ∷ []) (sym is))
-own_unit s u e (inr is) h = let own = subst (IsAbled s) is h in (own.0, own.1 ∙ ap (λ (x : Event). x ∷ []) (sym is))
-
 pub own_iff : (s : State) (p : Pid) (e asked : Event) (b : Bool) → (e ≡ event.Run p) ⊎ ((e ≡ event.Ast p) ⊎ (e ≡ event.Rdn p)) → asked ≡ e → (IsTrue b → IsProcess s p) → (IsTrue b → process_events s p ≡ asked ∷ []) → (IsProcess s p → process_events s p ≡ asked ∷ [] → IsTrue b) → (IsTrue b → Contains (enabled s) e) × (Contains (enabled s) e → IsTrue b)
 own_iff s p e asked b is same made has only =
     let list : asked ∷ [] ≡ e ∷ [] = ap (λ (x : Event). x ∷ []) same in
-    (λ t. process_enabled s p e (made t) (has t ∙ list), λ there. let own = own_of s p e is (abled_of s e there) in only own.0 (own.1 ∙ sym list))
+    (λ t. process_enabled s p e (made t) (has t ∙ list), λ there. let able = abled_of s e there in let own : IsProcess s p × (process_events s p ≡ e ∷ []) = grind arith in only own.0 (own.1 ∙ sym list))
 
 pub tick_iff : (s : State) (e : Event) (n : ℕ) → e ≡ event.Tick → n ≡ length s.timers → (IsTrue (nat_lt 0 n) → Contains (enabled s) e) × (Contains (enabled s) e → IsTrue (nat_lt 0 n))
 tick_iff s e n is count = (
@@ -203,7 +153,7 @@ tick_iff s e n is count = (
 pub unit_iff : (s : State) (u : UnitNo) (e asked : Event) (b : Bool) → (e ≡ event.Beg u) ⊎ (e ≡ event.Don u) → asked ≡ e → (IsTrue b → u.0 < length s.units) → (IsTrue b → unit_events s u ≡ asked ∷ []) → (u.0 < length s.units → unit_events s u ≡ asked ∷ [] → IsTrue b) → (IsTrue b → Contains (enabled s) e) × (Contains (enabled s) e → IsTrue b)
 unit_iff s u e asked b is same there has only =
     let list : asked ∷ [] ≡ e ∷ [] = ap (λ (x : Event). x ∷ []) same in
-    (λ t. unit_enabled s u e (there t) (has t ∙ list), λ able. let own = own_unit s u e is (abled_of s e able) in only own.0 (own.1 ∙ sym list))
+    (λ t. unit_enabled s u e (there t) (has t ∙ list), λ able. let abled = abled_of s e able in let own : (u.0 < length s.units) × (unit_events s u ≡ e ∷ []) = grind arith in only own.0 (own.1 ∙ sym list))
 
 -- Loops over processes.
 
@@ -242,35 +192,33 @@ pick_there x (e ∷ es) some = get_some (e ∷ es) (picked (next_seed x) (length
 
 -- Counting events, and looking for the one at a place.
 
+pub empty_of : (es : List Event) → length es ≡ 0 → es ≡ []
+empty_of [] none = refl
+empty_of (e ∷ es) none = absurd (omega (arith, none))
+
 pub count_step : (now here later : List Event) (count n all : ℕ) → now ≡ here ++ later → n ≡ length here → count + length now ≡ all → count + n + length later ≡ all
 count_step now here later count n all split is so_far = omega (arith, ap (λ (es : List Event). length es) split, length-append here later, is, so_far)
-
-past_first : (e : Event) (es : List Event) (left after : ℕ) (found : Option Event) → ¬ (left ≡ 0) → after ≡ left - 1 → slice_get (e ∷ es) left ≡ found → slice_get es after ≡ found
-past_first e es zero after found other is at = absurd (other refl)
-past_first e es (suc n) after found other is at = let same : after ≡ n = omega arith in rw same at
 
 -- the events of the units from one on, with others behind
 
 abbrev pub later_units : State → ℕ → List Event → List Event
 later_units s place ys = units_from s place (drop place s.units) ++ ys
 
-with_others : (now rest own here ys : List Event) → now ≡ own ++ rest → here ≡ own → now ++ ys ≡ (here ++ rest) ++ ys
-with_others now rest own here ys split is = ap (λ (es : List Event). es ++ ys) (split ∙ ap (λ (es : List Event). es ++ rest) (sym is))
-
 pub some_unit : (s : State) (ys : List Event) (place : ℕ) (e : Event) → place < length s.units → option_to_list (Some e) ≡ unit_events s (record { 0 = place }) → later_units s place ys ≡ e ∷ later_units s (place + 1) ys
-some_unit s ys place e within is = with_others _ _ _ (e ∷ []) ys (units_now s place within) is
+some_unit s ys place e within is = rw (units_now s place within, ← is) refl
 
 pub no_unit_event : (s : State) (ys : List Event) (place : ℕ) → place < length s.units → option_to_list None ≡ unit_events s (record { 0 = place }) → later_units s place ys ≡ later_units s (place + 1) ys
-no_unit_event s ys place within is = with_others _ _ _ [] ys (units_now s place within) is
+no_unit_event s ys place within is = rw (units_now s place within, ← is) refl
 
 pub some_step : (now later : List Event) (left after : ℕ) (e : Event) (found : Option Event) → now ≡ e ∷ later → ¬ (left ≡ 0) → after ≡ left - 1 → slice_get now left ≡ found → slice_get later after ≡ found
-some_step now later left after e found is other one so_far = past_first e later left after found other one (ap (λ (es : List Event). slice_get es left) (sym is) ∙ so_far)
+some_step now later zero after e found is other one so_far = absurd (other refl)
+some_step now later (suc n) after e found is other one so_far = let same : after ≡ n = omega arith in rw (same, ← so_far, is) refl
 
 pub some_here : (now later : List Event) (left : ℕ) (e : Event) (found : Option Event) → now ≡ e ∷ later → left ≡ 0 → slice_get now left ≡ found → Some e ≡ found
-some_here now later left e found is none so_far = ap (λ (n : ℕ). slice_get (e ∷ later) n) (sym none) ∙ (ap (λ (es : List Event). slice_get es left) (sym is) ∙ so_far)
+some_here now later left e found is none so_far = rw (← so_far, is, none) refl
 
 pub none_step : (now later : List Event) (left after : ℕ) (found : Option Event) → now ≡ later → after ≡ left → slice_get now left ≡ found → slice_get later after ≡ found
-none_step now later left after found is same so_far = rw same (ap (λ (es : List Event). slice_get es left) (sym is) ∙ so_far)
+none_step now later left after found is same so_far = cc
 
 pub past_units : (s : State) (ys : List Event) (place left : ℕ) (found : Option Event) → length s.units ≤ place → slice_get (later_units s place ys) left ≡ found → slice_get ys left ≡ found
 past_units s ys place left found past so_far = ap (λ (us : List DeviceUnit). slice_get (units_from s place us ++ ys) left) (sym (drop_of_length-le s.units past)) ∙ so_far
@@ -281,24 +229,16 @@ few_units s whole = omega (arith, whole.sound.units, leb-true (length s.system.u
 
 -- The first event that ends no service.
 
-find_here : (now later : List Event) (e : Event) (found : Option Event) → now ≡ e ∷ later → is_open e ≡ true → find is_open now ≡ found → Some e ≡ found
-find_here now later e found is opens so_far = sym (ap (λ (b : Bool). if b then Some e else find is_open later) opens) ∙ (ap (find is_open) (sym is) ∙ so_far)
-
-find_past : (now later : List Event) (e : Event) (found : Option Event) → now ≡ e ∷ later → is_open e ≡ false → find is_open now ≡ found → find is_open later ≡ found
-find_past now later e found is ends so_far = sym (ap (λ (b : Bool). if b then Some e else find is_open later) ends) ∙ (ap (find is_open) (sym is) ∙ so_far)
-
 pub open_unit : (s : State) (ys : List Event) (place : ℕ) (e : Event) (found : Option Event) → place < length s.units → option_to_list (Some e) ≡ unit_events s (record { 0 = place }) → is_open e ≡ true → find is_open (later_units s place ys) ≡ found → Some e ≡ found
-open_unit s ys place e found within is opens so_far = find_here (later_units s place ys) (later_units s (place + 1) ys) e found (some_unit s ys place e within is) opens so_far
+open_unit s ys place e found within is opens so_far = rw (← so_far, some_unit s ys place e within is, opens) refl
 
 pub closed_unit : (s : State) (ys : List Event) (place : ℕ) (e : Event) (found : Option Event) → place < length s.units → option_to_list (Some e) ≡ unit_events s (record { 0 = place }) → is_open e ≡ false → find is_open (later_units s place ys) ≡ found → find is_open (later_units s (place + 1) ys) ≡ found
-closed_unit s ys place e found within is ends so_far = find_past (later_units s place ys) (later_units s (place + 1) ys) e found (some_unit s ys place e within is) ends so_far
+closed_unit s ys place e found within is ends so_far = rw (← so_far, some_unit s ys place e within is, ends) refl
 
 pub no_open_unit : (s : State) (ys : List Event) (place : ℕ) (found : Option Event) → place < length s.units → option_to_list None ≡ unit_events s (record { 0 = place }) → find is_open (later_units s place ys) ≡ found → find is_open (later_units s (place + 1) ys) ≡ found
-no_open_unit s ys place found within is so_far = ap (find is_open) (sym (no_unit_event s ys place within is)) ∙ so_far
+no_open_unit s ys place found within is so_far = rw (← so_far, no_unit_event s ys place within is) refl
 
 pub past_open_units : (s : State) (place : ℕ) (found : Option Event) → length s.units ≤ place → find is_open (later_units s place (tick_events s.timers)) ≡ found → slice_get (tick_events s.timers) 0 ≡ found
-past_open_units s place found past so_far = tick_first s.timers ∙ (ap (λ (us : List DeviceUnit). find is_open (units_from s place us ++ tick_events s.timers)) (sym (drop_of_length-le s.units past)) ∙ so_far)
-  where
-    tick_first : (ts : List Timer) → slice_get (tick_events ts) 0 ≡ find is_open (tick_events ts)
-    tick_first [] = refl
-    tick_first (t ∷ ts) = refl
+past_open_units s place found past so_far =
+    let first : slice_get (tick_events s.timers) 0 ≡ find is_open (tick_events s.timers) = grind arith in
+    first ∙ (ap (λ (us : List DeviceUnit). find is_open (units_from s place us ++ tick_events s.timers)) (sym (drop_of_length-le s.units past)) ∙ so_far)

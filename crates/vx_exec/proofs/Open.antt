@@ -1,13 +1,11 @@
 -- The devices of a process's channels stand, and so do requests and attention entries, also after a process changed whose channels and
 -- declaration are the same.
-use Rattle.std.proofs.Common.{◌≡◌, ℕ, ◌-◌, List, Option, length-set, refl, sym, ap, subst, ◌∙◌, arith}
+use Rattle.std.proofs.Common.{◌≡◌, ℕ, ◌-◌, List, Option, length-set, refl, sym, subst, arith}
 use Rattle.std.specs.List.{AllByRecursion}
-use Rattle.vx_base.specs.Channels.{channel_at}
 use Rattle.vx_base.specs.Pieces.{Channel, Request}
 use Rattle.vx_base.specs.declared.mode.Mode.{Mode}
 use Rattle.vx_base.specs.declared.number.Pid.{Pid}
 use Rattle.vx_base.specs.declared.request.Device.{Device}
-use Rattle.vx_base.specs.declared.request.Device.TheVariants as device
 use Rattle.vx_record.specs.Sound.{ChannelStands, Ground, IsRooted, RequestStands, ground, process_of}
 use Rattle.vx_record.specs.State.{Process, State, change, nobody, process_at}
 use Rattle.vx_record.proofs.Ground.{Base, at_set, device_moves, request_moves, row_moves}
@@ -24,12 +22,11 @@ alike_at s p q f alike = at_set IsAlike (λ x. record { decl = refl; channels = 
 
 base_changed : (s : State) (p : Pid) (f : Process → Process) → IsAlike (process_at s p) (f (process_at s p)) → Base (ground s) (ground (change s p f))
 base_changed s p f alike =
-    let same = length-set s.procs (p.0 - 1) (f (process_at s p)) in
-    record { system = refl; more = omega (arith, same); decl = λ q m. (alike_at s p q f alike).decl; units = refl }
+    let decl : (q : Pid) → (process_at (change s p f) q).decl ≡ (process_at s q).decl = λ q. (alike_at s p q f alike).decl in
+    grind (arith, length-set {A = Process})
 
 rooted_changed : (g h : Ground) (p : Pid) (n : ℕ) (mode : Mode) (d : Device) → (process_of h p).channels ≡ (process_of g p).channels → IsRooted g p n mode d → IsRooted h p n mode d
-rooted_changed g h p n mode (device.Unit u) same r = tt
-rooted_changed g h p n mode (device.Mailbox b) same r = record { number = r.number; row = ap (λ (rows : List (Option Channel)). channel_at rows n) same ∙ r.row }
+rooted_changed g h p n mode d same r = grind arith
 
 request_changed : (s : State) (p : Pid) (f : Process → Process) → IsAlike (process_at s p) (f (process_at s p)) → (r : Request) → RequestStands (ground s) r → RequestStands (ground (change s p f)) r
 request_changed s p f alike r stands =

@@ -1,5 +1,5 @@
 -- What an event relies on, once room was made; and what the executive keeps.
-use Rattle.std.proofs.Common.{◌≡◌, ℕ, ◌+◌, ◌<◌, ◌≤◌, List, [], ◌∷◌, Bool, true, ◌&&◌, nat_lt, nat_le, length, map, Option, Some, None, Contains, refl, ap, sym, subst, arith}
+use Rattle.std.proofs.Common.{◌≡◌, ℕ, ◌+◌, ◌<◌, ◌≤◌, List, [], ◌∷◌, Bool, true, ◌&&◌, nat_lt, nat_le, length, map, Option, Some, None, IsTrue, Contains, refl, ap, sym, subst, arith}
 use Rattle.std.specs.List.{AllByRecursion}
 use Rattle.std.proofs.lemmas.Bool.{and_parts, leb-true, ltb-true}
 use Rattle.std.proofs.lemmas.Bool.Decides.{nat_tests}
@@ -16,15 +16,16 @@ use Rattle.vx_image.specs.declared.system.System.{System}
 use Rattle.vx_image.specs.declared.unit.UnitDecl.{UnitDecl}
 use Rattle.vx_record.specs.Asts.{deliverable_ast}
 use Rattle.vx_record.specs.Events.{beg, enabled, step}
-use Rattle.vx_record.specs.Runs.{are_deleted, born_from, born_of, end_of, end_with, first}
+use Rattle.vx_record.specs.Runs.{are_deleted, born_from, end_of, end_with, first}
 use Rattle.vx_record.specs.State.{State, IsProcess, decl_of, image_of, process_at, no_image, no_decl, no_unit}
 use Rattle.vx_record.proofs.Changes.{stands_at}
-use Rattle.vx_record.proofs.Lists.{all_at, all_get, either}
+use Rattle.vx_record.proofs.Lists.{all_at, all_get}
 use Rattle.vx_record.proofs.SoundCalls.{all_from_list}
 use Rattle.vx_record.proofs.SoundSteps.{first_sound, step_sound}
 use Rattle.vx_record.proofs.Fixed.{step_keeps_system}
 use Rattle.vx_procs.specs.Kernel.{Fits, Kernel}
 use Rattle.vx_procs.specs.Ready.{HasBegun}
+use Rattle.vx_procs.specs.Words.{handlers_have_own_ids}
 use Rattle.vx_io.specs.Finishing.{AreRequests}
 use Rattle.vx_rundown.specs.Leaving.{IsLeaving}
 use Rattle.vx_rundown.proofs.Standing.{own_handlers_at, own_ids_at}
@@ -57,48 +58,22 @@ next_of : (k : Kernel) (p : Pid) (limit taken effects : ℕ) → IsGoing k.state
 next_of k p limit taken effects going made begun =
     let whole = going.whole in
     let stands = stands_at k.state p whole.sound made in
-    record {
-      set = record {
-        ready = record {
-          made = made;
-          declared = stands.decl;
-          image = decl_image k.state p whole.formed stands.decl;
-          formed = image_formed k.state p whole.formed;
-          spares = begun.spares;
-          timer = begun.timer;
-          newcomer = begun.newcomer;
-          cluster = begun.cluster;
-          association = begun.association;
-          request = begun.request;
-          handler = begun.handler;
-          ids = omega (arith, going.ids, going.within, going.limited);
-          time = begun.time;
-          entry = begun.entry;
-          messages = begun.messages;
-        };
-        decls = leb-true (length k.state.system.decls) 1000 whole.formed.few_decls;
-        units = leb-true (length k.state.system.units) 32 whole.formed.few_units;
-        opened = record { channels = stands.channels; requests = requests_of k.state whole; entries = whole.sound.attention_ids };
-        order = whole.sound.timer_ids;
-        handler_ids = own_handlers_at k.state p whole.sound made;
-        all_handler_ids = λ q m. own_handlers_at k.state q whole.sound m;
-      };
-      waits = stands.waits;
-      ids = own_ids_at k.state p whole.sound made;
-    }
+    let image = decl_image k.state p whole.formed stands.decl in
+    let formed = image_formed k.state p whole.formed in
+    let requests = requests_of k.state whole in
+    let decls = leb-true (length k.state.system.decls) 1000 whole.formed.few_decls in
+    let units = leb-true (length k.state.system.units) 32 whole.formed.few_units in
+    let handler_ids : (q : Pid) → IsProcess k.state q → IsTrue (handlers_have_own_ids (process_at k.state q).handlers) = λ q m. own_handlers_at k.state q whole.sound m in
+    let here = handler_ids p made in
+    let ids = own_ids_at k.state p whole.sound made in
+    grind arith
 
 leaving_of : (k : Kernel) (p : Pid) (limit taken effects : ℕ) → IsGoing k.state limit taken → IsIdle k.state p → HasBegun k (Some p) effects → IsLeaving k p
 leaving_of k p limit taken effects going owner begun =
     let whole = going.whole in
     let stands = stands_at k.state p whole.sound owner.made in
-    record {
-      made = owner.made;
-      declared = stands.decl;
-      image = decl_image k.state p whole.formed stands.decl;
-      idle = owner.idle;
-      sound = whole.sound;
-      spares = begun.spares;
-    }
+    let image = decl_image k.state p whole.formed stands.decl in
+    search
 
 pub ready_for : (k : Kernel) (e : Event) (limit taken : ℕ) → IsGoing k.state limit taken → HasOwner k.state e → IsHomeFor k e → IsRoomMade k e → IsReadyFor k e
 ready_for k (event.Run p) limit taken going made home room = next_of k p limit taken room.effects going made room.begun
@@ -125,18 +100,14 @@ told_room : (k : Kernel) (e : Event) → IsWhole k.state → HasOwner k.state e 
 told_room k e whole owner made room = let goes = step_goes k e whole owner made in omega (arith, goes.few, room.enough, room.begun.room)
 
 begs_nothing : (s : State) (o : Option Request) → (beg s o).effects ≡ []
-begs_nothing s None = refl
-begs_nothing s (Some r) = refl
+begs_nothing s o = grind arith
 
 pub step_open : (k : Kernel) (e : Event) → IsWhole k.state → HasOwner k.state e → IsRoomMade k e → IsOpen k e
-step_open k (event.Run p) whole owner room = (room.begun.empty, told_room k (event.Run p) whole owner room room)
-step_open k (event.Ast p) whole owner room = (room.begun.empty, told_room k (event.Ast p) whole owner room room)
-step_open k (event.Rdn p) whole owner room = (room.begun.empty, told_room k (event.Rdn p) whole owner room room)
-step_open k event.Tick whole owner room = (room.begun.empty, told_room k event.Tick whole owner room room)
 step_open k (event.Beg u) whole owner begun =
     let none = begs_nothing k.state (front u k.state.requests) in
     (begun.1, omega (arith, ap length begun.1, ap length none))
 step_open k (event.Don u) whole owner begun = tt
+step_open k e whole owner room = (room.begun.empty, told_room k e whole owner room room)
 
 pub going_after : (k : Kernel) (t : State) (e : Event) (limit taken : ℕ) → IsGoing k.state limit taken → IsRoomMade k e → Contains (enabled k.state) e → taken < limit → t ≡ (step k.state e).after → IsGoing t limit (taken + 1)
 going_after k t e limit taken going begun there below leaves =
@@ -168,9 +139,7 @@ below_limit limit taken s h = goes_below limit taken (are_deleted s) (enabled s)
 
 born_few : (place : ℕ) (ds : List ProcDecl) → length (born_from place ds) ≤ length ds
 born_few place [] = omega arith
-born_few place (d ∷ ds) =
-    let rest = born_few (place + 1) ds in
-    either (λ prs. length prs ≤ length (d ∷ ds)) d.start (born_of place d ∷ born_from (place + 1) ds) (born_from (place + 1) ds) (omega (arith, rest)) (omega (arith, rest))
+born_few place (d ∷ ds) = let rest = born_few (place + 1) ds in grind arith
 
 none_served : (ds : List UnitDecl) → AllByRecursion (λ (x : DeviceUnit). x.services ≤ 0) (map first_unit ds)
 none_served [] = tt

@@ -1,5 +1,5 @@
 -- What the parts of an event come to, in the machine's words.
-use Rattle.std.proofs.Common.{◌≡◌, ℕ, ◌-◌, ◌≤◌, List, [], ◌∷◌, cond, ◌&&◌, nat_lt, nat_le, length, length-set, slice_index_or, IsTrue, Option, Some, None, refl, sym, ap, subst, ◌∙◌, ◌⊎◌, inl, inr, arith}
+use Rattle.std.proofs.Common.{◌≡◌, ℕ, ◌-◌, ◌≤◌, List, [], ◌∷◌, cond, ◌&&◌, nat_lt, nat_le, length, length-set, slice_index_or, IsTrue, Option, Some, None, refl, sym, ap, subst, ◌∙◌, arith}
 use Rattle.std.proofs.lemmas.Bool.{and_parts, eqb-true, leb-true}
 use Rattle.std.specs.List.{find, list_all}
 use Rattle.vx_base.specs.Modes.{rank, reaches}
@@ -12,10 +12,7 @@ use Rattle.vx_base.specs.declared.frame.Frame.{Frame}
 use Rattle.vx_base.specs.declared.mode.Mode.{Mode}
 use Rattle.vx_base.specs.declared.mode.Mode.TheVariants.{Kernel as KernelMode, Exec, Super, User}
 use Rattle.vx_base.specs.declared.number.Pid.{Pid}
-use Rattle.vx_base.specs.declared.record.Answer.TheVariants as answer
 use Rattle.vx_base.specs.declared.routine.Entry.{Entry}
-use Rattle.vx_base.specs.declared.routine.Entry.TheVariants as entry
-use Rattle.vx_base.specs.Frames.{active_mode}
 use Rattle.vx_frames.specs.Frames.{top_of}
 use Rattle.vx_image.specs.Storage.{Storage}
 use Rattle.vx_image.specs.WellFormed.{IsImage, are_distinct, falls_nowhere, is_stmt, label_names, label_places}
@@ -26,17 +23,18 @@ use Rattle.vx_image.specs.declared.system.System.{System}
 use Rattle.vx_record.specs.State.{Process, State, IsProcess, change, current, image_of, process_at, no_decl, no_image, nobody, top_mode}
 use Rattle.vx_record.specs.Parts.{Outcome}
 use Rattle.vx_record.specs.Asts.{deliverable_ast, deliverable_at}
-use Rattle.vx_record.specs.Events.{called, moved_to, reader, run, run_advanced, run_frame, served_call}
+use Rattle.vx_record.specs.Events.{called, moved_to, reader, run, run_advanced}
 use Rattle.vx_record.specs.Requests.{Asked, qio}
 use Rattle.vx_record.specs.Services.{asked, at_once, number, routine_or_none, service, service_of}
 use Rattle.vx_record.specs.Timers.{setimr}
 use Rattle.vx_record.specs.declared.served.Served.{Served}
-use Rattle.vx_record.specs.declared.served.Served.TheVariants.{Answered, Waits}
+use Rattle.vx_record.specs.declared.served.Served.TheVariants.{Answered}
 use Rattle.vx_record.proofs.Lists.{either_by, find_passes}
 use Rattle.vx_record.proofs.SoundCalls.{StopFits, advanced_fits}
 use Rattle.vx_record.proofs.Ground.{at_set}
 use Rattle.vx_procs.specs.Kernel.{Does, DoesQuietly, Fits, Kernel, changed, told, with_state}
 use Rattle.vx_procs.specs.Words.{advanced_at, advanced_from, handlers_have_own_ids, without_started}
+use Rattle.vx_procs.specs.Ready.{HasSpares}
 use Rattle.vx_procs.proofs.Rest as rest
 use Rattle.vx_io.proofs.Changed.{made_still, process_there}
 use Rattle.vx_base.specs.declared.service.Service.TheVariants.{Qio}
@@ -72,12 +70,8 @@ asked_once k l p a q cond same h = subst (λ (x : Asked). Does (at_once (qio k.s
 
 -- A call.
 
-served_effects : (p : Pid) (c : Call) (o : Outcome Served) (a : Served) → (served_call p c o a).effects ≡ o.effects
-served_effects p c o (Answered cond) = refl
-served_effects p c o Waits = refl
-
 pub called_room : (p : Pid) (c : Call) (o : Outcome Served) (k : Kernel) → Fits k (called p c o).effects → Fits k o.effects
-called_room p c o k room = omega (arith, ap length (served_effects p c o o.answer), room)
+called_room p c o k room = let same : (called p c o).effects ≡ o.effects = grind arith in omega (arith, ap length same, room)
 
 -- Local statements, and what they stop at.
 
@@ -89,8 +83,7 @@ few_stmts image is =
     leb-true (length image.stmts) 10000 (and_parts (nat_le (length image.stmts) 10000) (are_distinct (label_names image) && (falls_nowhere 0 (label_places image) && (places && rest))) labels.1).0
 
 stands_from : (s : State) (p : Pid) (fs : List Frame) → IsStopAt (image_of s p) (advanced_from (image_of s p) p (process_at s p).store fs).place (advanced_from (image_of s p) p (process_at s p).store fs).stop
-stands_from s p [] = tt
-stands_from s p (f ∷ fs) = advanced_stands (image_of s p) _ (process_at s p).store f.pc
+stands_from s p fs = grind (arith, advanced_stands)
 
 -- and its arguments are of their kinds
 
@@ -100,9 +93,7 @@ fits_from s p (f ∷ fs) formed = advanced_fits formed.0 (image_of s p) (reader 
 
 call_stands : (image : Image) (n : ℕ) (x : Stop) → length image.stmts ≤ 10000 → IsStopAt image n x → StopFits image x → IsCallAt n x
 call_stands image n (stop.Call c) few h fits = (omega (arith, few, h), fits.args)
-call_stands image n stop.Return few h fits = tt
-call_stands image n stop.End few h fits = tt
-call_stands image n stop.Local few h fits = tt
+call_stands image n x few h fits = tt
 
 pub advanced_call : (k : Kernel) (p : Pid) (n : ℕ) (x : Stop) → IsSet k p → n ≡ (advanced_at k.state p).place → x ≡ (advanced_at k.state p).stop → IsCallAt n x
 advanced_call k p n x set place stops =
@@ -129,38 +120,20 @@ set_changed k l p f set there handlers decl channels fewer =
     let its : (process_at t p).decl ≡ (process_at s p).decl = ap (λ (x : Process). x.decl) at ∙ decl in
     let image : image_of t p ≡ image_of s p = ap (image_at s.system) its in
     let declared : (process_at t p).handlers ≡ (process_at s p).handlers = ap (λ (x : Process). x.handlers) at ∙ handlers in
-    let here : IsSet (changed k p f) p = record {
-      ready = record {
-        made = made_still s p p f ready.made;
-        declared = omega (arith, its, ready.declared);
-        image = omega (arith, ap (λ (n : ℕ). (slice_index_or s.system.decls n no_decl).image) its, ready.image);
-        formed = subst IsImage (sym image) ready.formed;
-        spares = λ q m.
-            let was : IsProcess s q = record { above = m.above; within = omega (arith, m.within, length-set s.procs (p.0 - 1) (f (process_at s p))) } in
-            let has = ready.spares q was in
-            let few = at_set IsFewer (λ x. record { frames = omega arith; asts = omega arith }) s.procs (p.0 - 1) (q.0 - 1) (f (process_at s p)) nobody fewer in
-            record { frame = omega (arith, has.frame, few.frames); ast = omega (arith, has.ast, few.asts) };
-        timer = ready.timer;
-        newcomer = omega (arith, ready.newcomer, length-set s.procs (p.0 - 1) (f (process_at s p)));
-        cluster = ready.cluster;
-        association = ready.association;
-        request = ready.request;
-        handler = omega (arith, ready.handler, ap (λ (hs : List Handler). length hs) declared);
-        ids = ready.ids;
-        time = ready.time;
-        entry = ready.entry;
-        messages = ready.messages;
-      };
-      decls = set.decls;
-      units = set.units;
-      opened = open_changed s p f decl channels set.opened;
-      order = set.order;
-      handler_ids = subst (λ (hs : List Handler). IsTrue (handlers_have_own_ids hs)) (sym declared) set.handler_ids;
-      all_handler_ids = λ q m.
-          let was : IsProcess s q = record { above = m.above; within = omega (arith, m.within, length-set s.procs (p.0 - 1) (f (process_at s p))) } in
-          let same = at_set (λ (x y : Process). y.handlers ≡ x.handlers) (λ x. refl) s.procs (p.0 - 1) (q.0 - 1) (f (process_at s p)) nobody handlers in
-          subst (λ (hs : List Handler). IsTrue (handlers_have_own_ids hs)) (sym same) (set.all_handler_ids q was);
-    } in
+    let same = length-set s.procs (p.0 - 1) (f (process_at s p)) in
+    let made = made_still s p p f ready.made in
+    let formed : IsImage (image_of t p) = subst IsImage (sym image) ready.formed in
+    let was : (q : Pid) → IsProcess t q → IsProcess s q = λ q m. record { above = m.above; within = omega (arith, m.within, same) } in
+    let spares : HasSpares (changed k p f) = λ q m.
+    let has = ready.spares q (was q m) in
+    let few = at_set IsFewer (λ x. record { frames = omega arith; asts = omega arith }) s.procs (p.0 - 1) (q.0 - 1) (f (process_at s p)) nobody fewer in
+    record { frame = omega (arith, has.frame, few.frames); ast = omega (arith, has.ast, few.asts) } in
+    let opened = open_changed s p f decl channels set.opened in
+    let all_handler_ids : (q : Pid) → IsProcess t q → IsTrue (handlers_have_own_ids (process_at t q).handlers) = λ q m.
+    let still = at_set (λ (x y : Process). y.handlers ≡ x.handlers) (λ x. refl) s.procs (p.0 - 1) (q.0 - 1) (f (process_at s p)) nobody handlers in
+    subst (λ (hs : List Handler). IsTrue (handlers_have_own_ids hs)) (sym still) (set.all_handler_ids q (was q m)) in
+    let handler_ids = all_handler_ids p made in
+    let here : IsSet (changed k p f) p = grind arith in
     subst (λ (x : Kernel). IsSet x p) (sym there) here
 
 pub set_moved : (k l : Kernel) (p : Pid) (store : Storage) (place : ℕ) → IsSet k p → l ≡ changed k p (moved_to store place) → IsSet l p
@@ -175,11 +148,7 @@ call_made k l p c s set did =
 -- The top frame goes on, where it waits for nothing.
 
 goes_from : (s : State) (p : Pid) (fs : List Frame) (f : Frame) → Some f ≡ top_of fs → None ≡ f.wait → run s p fs ≡ run_advanced s p (advanced_from (image_of s p) p (process_at s p).store fs)
-goes_from s p [] f top none = absurd (cc)
-goes_from s p (g ∷ fs) f top none =
-    let same : f ≡ g = cc in
-    let its : g.wait ≡ None = ap (λ (x : Frame). x.wait) (sym same) ∙ sym none in
-    ap (run_frame s p g) its
+goes_from s p fs f top none = grind arith
 
 pub goes_at : (s : State) (p : Pid) (f : Frame) → Some f ≡ top_of (process_at s p).frames → None ≡ f.wait → run s p (process_at s p).frames ≡ run_advanced s p (advanced_at s p)
 goes_at s p f top none = goes_from s p (process_at s p).frames f top none
@@ -187,24 +156,19 @@ goes_at s p f top none = goes_from s p (process_at s p).frames f top none
 -- An AST that starts.
 
 same_frames : (o : Option Queued) (pr : Process) → (without_started o pr).frames ≡ pr.frames
-same_frames None pr = refl
-same_frames (Some q) pr = refl
+same_frames o pr = grind arith
 
 same_decl : (o : Option Queued) (pr : Process) → (without_started o pr).decl ≡ pr.decl
-same_decl None pr = refl
-same_decl (Some q) pr = refl
+same_decl o pr = grind arith
 
 fewer_asts : (o : Option Queued) (pr : Process) → length (without_started o pr).asts ≤ length pr.asts
-fewer_asts None pr = omega arith
-fewer_asts (Some q) pr = less_few _ pr.asts
+fewer_asts o pr = grind (arith, less_few {A = Queued})
 
 same_channels : (o : Option Queued) (pr : Process) → (without_started o pr).channels ≡ pr.channels
-same_channels None pr = refl
-same_channels (Some q) pr = refl
+same_channels o pr = grind arith
 
 same_handlers : (o : Option Queued) (pr : Process) → (without_started o pr).handlers ≡ pr.handlers
-same_handlers None pr = refl
-same_handlers (Some q) pr = refl
+same_handlers o pr = grind arith
 
 pub set_taken : (k l : Kernel) (p : Pid) → IsSet k p → l ≡ changed k p (without_started (deliverable_ast k.state p)) → IsSet l p
 set_taken k l p set there =
@@ -223,31 +187,21 @@ of_mode enables now active asts m q =
     rw same reached)
     (λ not none. cc)
 
-one_of_two : (a b : Option Queued) (q : Queued) → or_else a b ≡ Some q → (a ≡ Some q) ⊎ (b ≡ Some q)
-one_of_two None b q e = inr e
-one_of_two (Some x) b q e = inl e
-
 reached_by : (enables : Enables) (now : Mode) (active : Option Mode) (asts : List Queued) (q : Queued) → deliverable enables now active asts ≡ Some q → IsTrue (reaches now q.mode)
-reached_by enables now active asts q e =
-    let first : Mode → Option Queued = first_of_mode enables now active asts in
-    elim (one_of_two (first KernelMode) (or_else (first Exec) (or_else (first Super) (first User))) q e) [
-      | inl is ↦ of_mode enables now active asts KernelMode q is
-      | inr more ↦ elim (one_of_two (first Exec) (or_else (first Super) (first User)) q more) [
-        | inl is ↦ of_mode enables now active asts Exec q is
-        | inr further ↦ elim (one_of_two (first Super) (first User) q further) [
-          | inl is ↦ of_mode enables now active asts Super q is
-          | inr last ↦ of_mode enables now active asts User q last
-        ]
-      ]
-    ]
+reached_by enables now active asts q e = either_of _ _ (of KernelMode) (either_of _ _ (of Exec) (either_of _ _ (of Super) (of User))) e
+  where
+    of : (m : Mode) → first_of_mode enables now active asts m ≡ Some q → IsTrue (reaches now q.mode)
+    of m = of_mode enables now active asts m q
+
+    either_of : (a b : Option Queued) → (a ≡ Some q → IsTrue (reaches now q.mode)) → (b ≡ Some q → IsTrue (reaches now q.mode)) → or_else a b ≡ Some q → IsTrue (reaches now q.mode)
+    either_of None b f g is = g is
+    either_of a b f g is = f is
 
 reached_at : (pr : Process) (fs : List Frame) (q : Queued) → deliverable_at pr fs ≡ Some q → IsTrue (reaches (top_mode fs) q.mode)
-reached_at pr [] q e = absurd (cc)
-reached_at pr (f ∷ fs) q e = reached_by pr.enables f.mode (active_mode (f ∷ fs)) pr.asts q e
+reached_at pr fs q e = grind (arith, reached_by)
 
 inward_of : (s : State) (p : Pid) (q : Queued) → deliverable_ast s p ≡ Some q → IsTrue (reaches (current s p) q.mode)
-inward_of s p q =
-    either_by (λ (o : Option Queued). o ≡ Some q → IsTrue (reaches (current s p) q.mode)) (process_at s p).suspended None (deliverable_at (process_at s p) (process_at s p).frames) (λ e none. cc) (λ e is. reached_at (process_at s p) (process_at s p).frames q is)
+inward_of s p q e = let at = reached_at (process_at s p) (process_at s p).frames q in grind arith
 
 pub inward_taken : (k l : Kernel) (p : Pid) (q : Queued) → IsProcess k.state p → Some q ≡ deliverable_ast k.state p → l ≡ changed k p (without_started (deliverable_ast k.state p)) → IsTrue (reaches (current l.state p) q.mode)
 inward_taken k l p q made is there =
