@@ -17,7 +17,7 @@ use Rattle.vx_base.specs.declared.record.Answer.{Answer}
 use Rattle.vx_base.specs.declared.routine.Entry.{Entry}
 use Rattle.vx_exits.specs.Exits.{known}
 use Rattle.vx_record.proofs.Lists.{find_passes}
-use Rattle.vx_record.specs.Asts.{new_frame, with_frame}
+use Rattle.vx_record.specs.Asts.{entry_place, with_frame}
 use Rattle.vx_record.specs.Parts.{Outcome, followed_by, part_of}
 use Rattle.vx_record.proofs.Moves.{end_handler}
 use Rattle.vx_record.specs.Rundown.{cancel_modes, cancelled_in, draining, drop_handler, entered, handler_frame, handling, in_phase, is_handler_of, this_handler}
@@ -33,7 +33,7 @@ use Rattle.vx_procs.proofs.Own.{less_own}
 use Rattle.std.proofs.lemmas.List.{append-nil}
 use Rattle.vx_procs.proofs.Rest.{IsAnswering, acted, answering_begun, answering_on}
 use Rattle.vx_rundown.specs.Leaving.{IsLeaving}
-use Rattle.vx_rundown.specs.Steps.{drained, entered_as, frame_of, passed, passed_by}
+use Rattle.vx_rundown.specs.Steps.{cancelled_and_drained, drained, entered_as, passed_by, passed_on}
 use Rattle.vx_io.proofs.Changed.{change_again, process_there}
 use Rattle.vx_rundown.proofs.Left.{handler_follows, leaving_acted, leaving_by, leaving_handling, leaving_told}
 use Rattle.vx_rundown.proofs.Modes.{cancelled_leaving, cancelled_phase, leaving_cancel}
@@ -74,7 +74,14 @@ none_known (Some h) e = absurd (cc)
 
 -- it is entered in the frame that it had before it was taken out
 frame_same : (s : State) (p : Pid) (h : Handler) → IsProcess s p → handler_frame (change s p (without_sought (Of h.mode))) p h ≡ handler_frame s p h
-frame_same s p h made = rw (process_there s p (without_sought (Of h.mode)) made) refl
+frame_same s p h made = rw (process_there s p out made) (ap (λ (pc : ℕ). let f : Frame = record (handler_frame s p h) { pc = pc } in f) (at h.tag))
+  where
+    out : Process → Process
+    out = without_sought (Of h.mode)
+    at : (e : Entry) → entry_place (change s p out) p e ≡ entry_place s p e
+    at (entry.Label k prm) = rw (process_there s p out made) refl
+    at (entry.Exit code) = refl
+    at (entry.Host prm) = refl
 
 -- the state where it was taken out and is entered
 entered_state : (s : State) (p : Pid) (h : Handler) → IsProcess s p → find (is_handler_of h.mode) (process_at s p).handlers ≡ Some h → IsTrue (handlers_have_own_ids (process_at s p).handlers) → (let u = change s p (without_sought (Of h.mode)) in change u p (with_frame (handler_frame u p h)) ≡ (entered s p h).after)
