@@ -41,7 +41,7 @@ use Rattle.vx_procs.proofs.Booked.{tally-amend, tally-less}
 use Rattle.vx_procs.proofs.Firsts.{filter_none}
 use Rattle.vx_procs.proofs.Rest.{IsDoing, doing_begun, doing_end, doing_on, doing_room}
 use Rattle.vx_rundown.specs.Leaving.{IsLeaving}
-use Rattle.vx_rundown.proofs.Left.{Follows, IsLess, attention_follows, boxes_follow, change_follows, common_follows, each_follows, follows_still, follows_then, leaving_acted, leaving_by, made_then}
+use Rattle.vx_rundown.proofs.Left.{Follows, IsLess, attention_follows, change_follows, each_follows, follows_still, follows_then, leaving_acted, leaving_by, made_then, others_follow}
 use Rattle.vx_rundown.proofs.Standing.{base_of, sound_moved}
 
 -- A request finishes: its AST is owed no more, and is queued.
@@ -88,21 +88,21 @@ ended_follows s r made has =
 buffer_follows : (s : State) (r : Req) (e : Ending) → Follows true s (buf_part s r e).after
 buffer_follows s r e =
     either (λ (x : Part). Follows true s x.after) (is_read r.func && nat_lt 0 e.0.count) _ (nothing s)
-    (change_follows true s r.p (with_stored_bytes r.buf e.0.bytes) (record { decl = refl; frames = refl; channels = λ f. refl; asts = omega arith })) (follows_still true s)
+    (change_follows s r.p (with_stored_bytes r.buf e.0.bytes) (record { decl = refl; frames = refl; channels = λ f. refl; asts = omega arith })) follows_still
 
 status_follows : (s : State) (p : Pid) (i : ℕ) (status : Status) → Follows true s (iosb_part s p i status).after
 status_follows s p i status =
     either (λ (x : Part). Follows true s x.after) (not (i == 0)) (put_status s p i status) (nothing s)
-    (change_follows true s p (with_stored_status i status) (record { decl = refl; frames = refl; channels = λ f. refl; asts = omega arith })) (follows_still true s)
+    (change_follows s p (with_stored_status i status) (record { decl = refl; frames = refl; channels = λ f. refl; asts = omega arith })) follows_still
 
 flag_less : (n : ℕ) (pr : Process) → IsLess true pr (with_local_flag n true pr)
 flag_less n pr =
     either (IsLess true pr) (nat_lt n 32) _ _ (record { decl = refl; frames = refl; channels = λ f. refl; asts = omega arith }) (record { decl = refl; frames = refl; channels = λ f. refl; asts = omega arith })
 
 flag_follows : (s : State) (o : Option Cell) → Follows true s (flag_where_named s o true).after
-flag_follows s None = follows_still true s
-flag_follows s (Some (Local q n)) = change_follows true s q (with_local_flag n true) (flag_less n (process_at s q))
-flag_follows s (Some (Common group name n)) = common_follows true s (flag_where_named s (Some (Common group name n)) true).after.common
+flag_follows s None = follows_still
+flag_follows s (Some (Local q n)) = change_follows s q (with_local_flag n true) (flag_less n (process_at s q))
+flag_follows s (Some (Common group name n)) = others_follow refl refl (λ q. omega arith)
 
 finish_follows : (s : State) (r : Request) (e : Ending) → IsProcess s r.req.p → HasRequest s r → Follows true s (finish s r e).after
 finish_follows s r e made has =
@@ -110,44 +110,29 @@ finish_follows s r e made has =
     let b = (buf_part a r.req e).after in
     let c = (iosb_part b r.req.p r.req.iosb (status_of e)).after in
     let d = (done_flag_part c r.req).after in
-    let two = follows_then true s a b (ended_follows s r made has) (buffer_follows a r.req e) in
-    let three = follows_then true s b c two (status_follows b r.req.p r.req.iosb (status_of e)) in
-    let four = follows_then true s c d three (flag_follows c (cell c r.req.p r.req.efn)) in
-    subst (λ (x : Part). Follows true s x.after) (finish_same s r e made)
-    (either (λ (x : Part). Follows true s x.after) (is_some r.ast) (tells (effect.Que r.req.id) d) (nothing d) four four)
+    let all = follows_then (follows_then (follows_then (ended_follows s r made has) (buffer_follows a r.req e)) (status_follows b r.req.p r.req.iosb (status_of e))) (flag_follows c (cell c r.req.p r.req.efn)) in
+    subst (λ (x : Part). Follows true s x.after) (finish_same s r e made) (either (λ (x : Part). Follows true s x.after) (is_some r.ast) (tells (effect.Que r.req.id) d) (nothing d) all all)
 
 -- A request is cancelled.
 
 withdraw_follows : (s : State) (r : Request) (d : Device) → Follows true s (withdraw s r d).after
-withdraw_follows s r (device.Unit u) = follows_still true s
+withdraw_follows s r (device.Unit u) = follows_still
 withdraw_follows s r (device.Mailbox b) =
-    either (λ (x : Part). Follows true s x.after) (list_any (this_message r.req.id) (mailbox_at s b).messages) (mcut_part s b r.req.id) (nothing s) (boxes_follow true s (mcut_part s b r.req.id).after.boxes) (follows_still true s)
+    either (λ (x : Part). Follows true s x.after) (list_any (this_message r.req.id) (mailbox_at s b).messages) (mcut_part s b r.req.id) (nothing s) (others_follow refl refl (λ q. omega arith)) follows_still
 
 -- a request that is withdrawn is there still
 withdraw_has : (s : State) (x y : Request) (d : Device) → HasRequest s y → HasRequest (withdraw s x d).after y
 withdraw_has s x y d has = subst (λ (rs : List Request). find (this_request y.req.id) rs ≡ Some y) (sym (withdraw_requests s x d)) has
 
 mark_follows : (s : State) (r : Request) → Follows true s (mark_part s r).after
-mark_follows s r = record {
-  system = refl;
-  many = refl;
-  decl = λ q. refl;
-  frames = λ q. refl;
-  channels = λ e q. refl;
-  owed = λ q made. let same = tally-amend (bears_ast q) (this_request r.req.id) with_abort (λ x. refl) s.requests in omega (arith, same);
-}
-
-cancelled_follows : (s : State) (r : Request) → IsProcess s r.req.p → HasRequest s r → Follows true s (cancelled_request s r).after
-cancelled_follows s r made has =
-    let w = (withdraw s r r.req.device).after in
-    let first = withdraw_follows s r r.req.device in
-    let e = ending Cancel 0 0 [] in
-    follows_then true s w (finish w r e).after first (finish_follows w r e (made_then true s w r.req.p first made) (withdraw_has s r r r.req.device has))
+mark_follows s r = others_follow refl refl (λ q. let same = tally-amend (bears_ast q) (this_request r.req.id) with_abort (λ x. refl) s.requests in omega (arith, same))
 
 request_follows : (s : State) (r : Request) → IsProcess s r.req.p → HasRequest s r → Follows true s (cancel_request s r).after
 request_follows s r made has =
+    let first = withdraw_follows s r r.req.device in
+    let cancelled = follows_then first (finish_follows (withdraw s r r.req.device).after r (ending Cancel 0 0 []) (made_then first made) (withdraw_has s r r r.req.device has)) in
     either (λ (x : Part). Follows true s x.after) r.served _ (cancelled_request s r)
-    (either (λ (x : Part). Follows true s x.after) (not r.marked) (mark_part s r) (nothing s) (mark_follows s r) (follows_still true s)) (cancelled_follows s r made has)
+    (either (λ (x : Part). Follows true s x.after) (not r.marked) (mark_part s r) (nothing s) (mark_follows s r) follows_still) cancelled
 
 -- those that come later stand as they did
 still_has : (s : State) (x y : Request) → request_id x + 1 ≤ request_id y → HasRequest s y → HasRequest (cancel_request s x).after y
@@ -164,13 +149,13 @@ abbrev IsOf : State → Request → Type 0
 IsOf s r = IsProcess s r.req.p × HasRequest s r
 
 requests_follow : (low high : ℕ) (rs : List Request) (s : State) → AreOrdered request_id low high rs → AllByRecursion (IsOf s) rs → Follows true s (each cancel_request rs s).after
-requests_follow low high [] s order those = follows_still true s
+requests_follow low high [] s order those = follows_still
 requests_follow low high (r ∷ rs) s order those =
     let t = (cancel_request s r).after in
     let first = request_follows s r those.0.0 those.0.1 in
     let later = all_both (IsOf s) (λ y. request_id r + 1 ≤ request_id y) rs those.1 (all_from request_id (request_id r + 1) high rs order.1) in
-    let rest = all_weaker (λ y. IsOf s y × (request_id r + 1 ≤ request_id y)) (IsOf t) (λ y k. (made_then true s t y.req.p first k.0.0, still_has s r y k.1 k.0.1)) rs later in
-    follows_then true s t (each cancel_request rs t).after first (requests_follow (request_id r + 1) high rs t order.1 rest)
+    let rest = all_weaker (λ y. IsOf s y × (request_id r + 1 ≤ request_id y)) (IsOf t) (λ y k. (made_then first k.0.0, still_has s r y k.1 k.0.1)) rs later in
+    follows_then first (requests_follow (request_id r + 1) high rs t order.1 rest)
 
 -- A channel is cancelled: all of its requests, and then all of its attention entries.
 
@@ -182,23 +167,20 @@ channel_follows s p n sound =
     let owners = all_weaker (RequestStands (ground s)) (λ r. IsProcess s r.req.p) (λ r h. h.made) s.requests sound.requests in
     let those = all_both (λ r. IsProcess s r.req.p) (HasRequest s) s.requests owners (all_found request_id 0 s.next s.requests sound.request_ids) in
     let first = requests_follow 0 s.next rs s (ordered_filter request_id test 0 s.next s.requests sound.request_ids) (all_filter (IsOf s) test s.requests those) in
-    follows_then true s a (drop_attentions a p n).after first (each_follows true drop_attention attention_follows (filter (is_attention_on p n) a.attention) a)
+    follows_then first (each_follows drop_attention attention_follows (filter (is_attention_on p n) a.attention) a)
 
 pub leaving_cancelled : (p : Pid) (n : ℕ) (k : Kernel) → IsLeaving k p → IsLeaving (with_state k (cancel_channel k.state p n).after) p
-leaving_cancelled p n k h =
-    let part = cancel_channel k.state p n in
-    leaving_by true k p part.effects part.after (cancel_channel_moves k.state p n (base_of k.state h.sound)) (channel_follows k.state p n h.sound) h
+leaving_cancelled p n k h = leaving_by (cancel_channel_moves k.state p n (base_of k.state h.sound)) (channel_follows k.state p n h.sound) h
 
 pub leaving_cancels : (p : Pid) (ns : List ℕ) (k : Kernel) → IsLeaving k p → IsLeaving (with_state k (each (cancel_one p) ns k.state).after) p
 leaving_cancels p [] k h = h
 leaving_cancels p (n ∷ ns) k h = leaving_cancels p ns (with_state k (cancel_channel k.state p n).after) (leaving_cancelled p n k h)
 
 pub cancels_follow : (p : Pid) (ns : List ℕ) (s : State) → IsSound s → Follows true s (each (cancel_one p) ns s).after
-cancels_follow p [] s sound = follows_still true s
+cancels_follow p [] s sound = follows_still
 cancels_follow p (n ∷ ns) s sound =
     let a = cancel_channel s p n in
-    let rest = cancels_follow p ns a.after (sound_moved s a.after a.effects (cancel_channel_moves s p n (base_of s sound)) sound) in
-    follows_then true s a.after (each (cancel_one p) ns a.after).after (channel_follows s p n sound) rest
+    follows_then (channel_follows s p n sound) (cancels_follow p ns a.after (sound_moved s a.after a.effects (cancel_channel_moves s p n (base_of s sound)) sound))
 
 -- The channels of a mode that come after a number.
 
@@ -210,34 +192,23 @@ channels_behind m after rows = filter (λ n. nat_lt after n) (channels_of m rows
 rises_from : (j : ℕ) (m : Mode) (rows : List (Option Channel)) → AreOrdered (λ n. n) j (j + length rows) (reached_from j m rows)
 rises_from j m [] = omega arith
 rises_from j m (row ∷ rows) =
-    let high : j + length (row ∷ rows) ≡ j + 1 + length rows = omega arith in
-    let rest : AreOrdered (λ n. n) (j + 1) (j + length (row ∷ rows)) (reached_from (j + 1) m rows) = subst (λ h. AreOrdered (λ n. n) (j + 1) h (reached_from (j + 1) m rows)) (sym high) (rises_from (j + 1) m rows) in
+    let rest : AreOrdered (λ n. n) (j + 1) (j + length (row ∷ rows)) (reached_from (j + 1) m rows) = let high : j + length (row ∷ rows) ≡ j + 1 + length rows = omega arith in rw high (rises_from (j + 1) m rows) in
     either (AreOrdered (λ n. n) j (j + length (row ∷ rows))) (is_reached m row) (j ∷ reached_from (j + 1) m rows) (reached_from (j + 1) m rows) (omega arith, rest)
     (ordered_from (λ n. n) (j + 1) j (j + length (row ∷ rows)) (reached_from (j + 1) m rows) (omega arith) rest)
 
 all_behind : (after low high : ℕ) (ns : List ℕ) → after < low → AreOrdered (λ n. n) low high ns → filter (λ n. nat_lt after n) ns ≡ ns
 all_behind after low high [] below h = refl
-all_behind after low high (x ∷ xs) below h =
-    let past : nat_lt after x ≡ true = grind (arith, nat_tests, below, h.0) in
-    ap (λ b. cond b (x ∷ filter (λ n. nat_lt after n) xs) (filter (λ n. nat_lt after n) xs)) past ∙ ap (λ ys. x ∷ ys) (all_behind after (x + 1) high xs (omega (arith, below, h.0)) h.1)
+all_behind after low high (x ∷ xs) below h = let rest = all_behind after (x + 1) high xs (omega (arith, below, h.0)) h.1 in grind (arith, nat_tests)
 
 -- those after a number are the next, and those after that
 behind_next : (after low high n : ℕ) (ns : List ℕ) → AreOrdered (λ n. n) low high ns → find (λ n. nat_lt after n) ns ≡ Some n → filter (λ n. nat_lt after n) ns ≡ n ∷ filter (λ k. nat_lt n k) ns
 behind_next after low high n [] h found = absurd (cc)
 behind_next after low high n (x ∷ xs) h found =
-    elim (nat_lt after x) as (λ b. nat_lt after x ≡ b → cond b (Some x) (find (λ n. nat_lt after n) xs) ≡ Some n → cond b (x ∷ filter (λ n. nat_lt after n) xs) (filter (λ n. nat_lt after n) xs) ≡ n ∷ filter (λ k. nat_lt n k) (x ∷ xs)) [
-      | true ↦ λ past e.
-          let same : x ≡ n = cc in
-          let here : nat_lt n x ≡ false = grind (arith, nat_tests, same) in
-          let below : after < x = ltb-true after x past in
-          ap (λ ys. x ∷ ys) (all_behind after (x + 1) high xs (omega (arith, below)) h.1 ∙ sym (all_behind n (x + 1) high xs (omega (arith, same)) h.1))
-          ∙ (ap (λ y. y ∷ filter (λ k. nat_lt n k) xs) same ∙ ap (λ b. n ∷ cond b (x ∷ filter (λ k. nat_lt n k) xs) (filter (λ k. nat_lt n k) xs)) (sym here))
-      | false ↦ λ past e.
-          let rest = behind_next after (x + 1) high n xs h.1 e in
-          let passes : nat_lt after n ≡ true = find_passes (λ k. nat_lt after k) xs n e in
-          let here : nat_lt n x ≡ false = grind (arith, nat_tests, past, passes) in
-          rest ∙ ap (λ b. n ∷ cond b (x ∷ filter (λ k. nat_lt n k) xs) (filter (λ k. nat_lt n k) xs)) (sym here)
-    ] refl found
+    let rest = behind_next after (x + 1) high n xs h.1 in
+    let passes = find_passes (λ k. nat_lt after k) xs n in
+    let all : nat_lt after x ≡ true → filter (λ n. nat_lt after n) xs ≡ xs = λ past. all_behind after (x + 1) high xs (grind (arith, nat_tests, past)) h.1 in
+    let later = all_behind x (x + 1) high xs (omega arith) h.1 in
+    grind (arith, nat_tests)
 
 -- The loop.
 
@@ -272,7 +243,7 @@ cancelling_room p m first k after n h found =
 
 pub cancelling_more : (p : Pid) (m : Mode) (first k l : Kernel) (after n : ℕ) → IsCancelling p m first after k → Some n ≡ next_of_mode m after (process_at k.state p).channels → Acts (cancel_channel k.state p n) k l → IsCancelling p m first n l
 cancelling_more p m first k l after n h found did = record {
-  leaving = leaving_acted k l p (cancel_channel k.state p n) did (leaving_cancelled p n k h.leaving);
+  leaving = leaving_acted k (cancel_channel k.state p n) did (leaving_cancelled p n k h.leaving);
   doing = doing_on (cancel_all p m first.state) first k l (cancel_behind p m after k.state) (cancel_channel k.state p n) (cancel_behind p m n) (next_first p m after n k.state h.leaving.sound found) did h.doing;
 }
 

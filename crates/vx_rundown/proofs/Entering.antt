@@ -17,8 +17,8 @@ use Rattle.vx_base.specs.declared.record.Answer.{Answer}
 use Rattle.vx_base.specs.declared.routine.Entry.{Entry}
 use Rattle.vx_exits.specs.Exits.{known}
 use Rattle.vx_record.proofs.Lists.{find_passes}
-use Rattle.vx_record.specs.Asts.{new_frame, with_frame}
-use Rattle.vx_record.specs.Parts.{Outcome, followed_by, part_of}
+use Rattle.vx_record.specs.Asts.{entry_place, with_frame}
+use Rattle.vx_record.specs.Parts.{nothing, part_of}
 use Rattle.vx_record.proofs.Moves.{end_handler}
 use Rattle.vx_record.specs.Rundown.{cancel_modes, cancelled_in, draining, drop_handler, entered, handler_frame, handling, in_phase, is_handler_of, this_handler}
 use Rattle.vx_base.specs.declared.routine.Entry.TheVariants as entry
@@ -31,31 +31,15 @@ use Rattle.vx_procs.specs.Words.{handlers_have_own_ids}
 use Rattle.vx_procs.specs.declared.handlers.Sought.TheVariants.{Of}
 use Rattle.vx_procs.proofs.Own.{less_own}
 use Rattle.std.proofs.lemmas.List.{append-nil}
-use Rattle.vx_procs.proofs.Rest.{IsAnswering, acted, answering_begun, answering_on}
+use Rattle.vx_procs.proofs.Rest.{IsAnswering, acted, acts_both, answering_begun, answering_on, told_none}
 use Rattle.vx_rundown.specs.Leaving.{IsLeaving}
-use Rattle.vx_rundown.specs.Steps.{drained, entered_as, frame_of, passed, passed_by}
+use Rattle.vx_rundown.specs.Steps.{cancelled_and_drained, drained, entered_as, passed_by, passed_on}
 use Rattle.vx_io.proofs.Changed.{change_again, process_there}
-use Rattle.vx_rundown.proofs.Left.{handler_follows, leaving_acted, leaving_by, leaving_handling, leaving_told}
-use Rattle.vx_rundown.proofs.Modes.{cancelled_leaving, cancelled_phase, leaving_cancel}
+use Rattle.vx_rundown.proofs.Left.{handler_follows, leaving_by}
 use Rattle.vx_rundown.proofs.Standing.{own_handlers_at}
 
 rank_same : (a b : Mode) → rank a ≡ rank b → a ≡ b
-rank_same Kernel Kernel e = refl
-rank_same Kernel Exec e = absurd (omega (arith, e))
-rank_same Kernel Super e = absurd (omega (arith, e))
-rank_same Kernel User e = absurd (omega (arith, e))
-rank_same Exec Kernel e = absurd (omega (arith, e))
-rank_same Exec Exec e = refl
-rank_same Exec Super e = absurd (omega (arith, e))
-rank_same Exec User e = absurd (omega (arith, e))
-rank_same Super Kernel e = absurd (omega (arith, e))
-rank_same Super Exec e = absurd (omega (arith, e))
-rank_same Super Super e = refl
-rank_same Super User e = absurd (omega (arith, e))
-rank_same User Kernel e = absurd (omega (arith, e))
-rank_same User Exec e = absurd (omega (arith, e))
-rank_same User Super e = absurd (omega (arith, e))
-rank_same User User e = refl
+rank_same a b e = grind arith
 
 -- the handler that was found, by what is known of it
 handler_known : (m : Mode) (hs : List Handler) (id : Id) (tag : Entry) → Some (id, tag) ≡ option_map known (find (is_handler_of m) hs) → find (is_handler_of m) hs ≡ Some (record { id = id; mode = m; tag = tag })
@@ -69,12 +53,18 @@ handler_known m hs id tag found = by (find (is_handler_of m) hs) refl found
         ap (λ (x : Mode). let y : Handler = record h { mode = x } in Some y) mode ∙ ap (λ (x : Id × Entry). let y : Handler = record { id = x.0; mode = m; tag = x.1 } in Some y) (sym same)
 
 none_known : (o : Option Handler) → None ≡ option_map known o → o ≡ None
-none_known None e = refl
-none_known (Some h) e = absurd (cc)
+none_known o e = grind arith
 
 -- it is entered in the frame that it had before it was taken out
 frame_same : (s : State) (p : Pid) (h : Handler) → IsProcess s p → handler_frame (change s p (without_sought (Of h.mode))) p h ≡ handler_frame s p h
-frame_same s p h made = rw (process_there s p (without_sought (Of h.mode)) made) refl
+frame_same s p h made = rw (process_there s p out made) (ap (λ (pc : ℕ). let f : Frame = record (handler_frame s p h) { pc = pc } in f) (at h.tag))
+  where
+    out : Process → Process
+    out = without_sought (Of h.mode)
+    at : (e : Entry) → entry_place (change s p out) p e ≡ entry_place s p e
+    at (entry.Label k prm) = rw (process_there s p out made) refl
+    at (entry.Exit code) = refl
+    at (entry.Host prm) = refl
 
 -- the state where it was taken out and is entered
 entered_state : (s : State) (p : Pid) (h : Handler) → IsProcess s p → find (is_handler_of h.mode) (process_at s p).handlers ≡ Some h → IsTrue (handlers_have_own_ids (process_at s p).handlers) → (let u = change s p (without_sought (Of h.mode)) in change u p (with_frame (handler_frame u p h)) ≡ (entered s p h).after)
@@ -93,8 +83,7 @@ enter_leaving k n p m id tag h found out =
     let hs = (process_at k.state p).handlers in
     let f : Handler = record { id = id; mode = m; tag = tag } in
     let there = handler_known m hs id tag found in
-    let ends = drop_handler p k.state f in
-    let left = leaving_by true k p ends.effects ends.after (end_handler k.state p (is_handler_of m) f h.made there) (handler_follows p k.state f) h in
+    let left = leaving_by (end_handler k.state p (is_handler_of m) f h.made there) (handler_follows p k.state f) h in
     let same : less (this_handler id) hs ≡ less (is_handler_of m) hs = less_own (λ (x : Handler). x.id) (is_handler_of m) hs f (own_handlers_at k.state p h.sound h.made) there in
     subst (λ (x : KernelOf). IsLeaving x p) (sym out) (subst (λ (xs : List Handler). IsLeaving (changed k p (λ pr. record pr { handlers = xs })) p) same left)
 
@@ -117,18 +106,9 @@ enter_done k n q p m id tag x h found out did =
 pub none_passed : (s : State) (p : Pid) (m : Mode) → None ≡ option_map known (find (is_sought (Of m)) (process_at s p).handlers) → passed_on p m s ≡ cancelled_and_drained p m s
 none_passed s p m found = ap (λ (o : Option Handler). passed_by p m o s) (none_known (find (is_handler_of m) (process_at s p).handlers) found)
 
-pub cancel_room : (k : KernelOf) (p : Pid) (m : Mode) → Fits k (cancelled_and_drained p m k.state).effects → Fits k (cancel_modes k.state p m).effects
-cancel_room k p m room =
-    let c = cancelled_in k.state p m in
-    omega (arith, room, length-append c.effects (drained p m c.after).effects, length-append (cancel_modes k.state p m).effects [])
-
 -- the state where it is drained
 pub drained_at : (k o r : KernelOf) (p : Pid) (m : Mode) → Acts (cancel_modes k.state p m) k o → r ≡ changed o p (in_phase (phase.Draining m)) → r ≡ acted k (cancelled_in k.state p m)
-drained_at k o r p m did drains =
-    let c = cancel_modes k.state p m in
-    drains
-    ∙ (ap (λ (x : KernelOf). changed x p (in_phase (phase.Draining m))) did
-    ∙ ap (λ es. told (with_state k (draining p m c.after)) es) (sym (append-nil c.effects)))
+drained_at k o r p m did drains = acts_both k o r (cancel_modes k.state p m) (λ a. nothing (draining p m a)) did (drains ∙ told_none (changed o p (in_phase (phase.Draining m))))
 
 pub drain_on : (k o r : KernelOf) (p : Pid) (m : Mode) → Fits k (cancelled_and_drained p m k.state).effects → Acts (cancel_modes k.state p m) k o → r ≡ changed o p (in_phase (phase.Draining m)) → IsAnswering (cancelled_and_drained p m k.state) k (drained p m r.state) r
 drain_on k o r p m room did drains =

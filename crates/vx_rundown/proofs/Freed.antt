@@ -18,12 +18,12 @@ use Rattle.vx_record.proofs.Cancelled.{free_channel_moves}
 use Rattle.vx_record.proofs.Changes.{stands_at}
 use Rattle.vx_record.proofs.Firm.{firm}
 use Rattle.vx_record.proofs.Freeing.{IsFreeing as AreFreed, IsReleased, freed_on, freeing_first, freeing_row}
-use Rattle.vx_record.proofs.Lists.{all_get, either, none_passes}
+use Rattle.vx_record.proofs.Lists.{all_get, either, either_by, none_passes}
 use Rattle.vx_procs.specs.Kernel.{Acts, Fits, Kernel, with_state}
 use Rattle.vx_procs.proofs.Rest.{IsDoing, doing_begun, doing_end, doing_on, doing_room}
 use Rattle.vx_rundown.specs.Leaving.{IsDrained, IsLeaving}
 use Rattle.vx_io.proofs.Changed.{process_there}
-use Rattle.vx_rundown.proofs.Left.{Follows, boxes_follow, change_follows, follows_still, follows_then, leaving_acted, leaving_by}
+use Rattle.vx_rundown.proofs.Left.{Follows, change_follows, follows_still, follows_then, leaving_acted, leaving_by, others_follow}
 
 -- Numbers.
 
@@ -35,88 +35,63 @@ first_of (n ∷ ns) = Some n
 -- numbers from 1 on are above 0
 first_reached : (m : Mode) (j : ℕ) (rows : List (Option Channel)) → find (λ n. nat_lt 0 n) (reached_from (j + 1) m rows) ≡ first_of (reached_from (j + 1) m rows)
 first_reached m j [] = refl
-first_reached m j (row ∷ rows) =
-    let above : nat_lt 0 (j + 1) ≡ true = grind (arith, nat_tests) in
-    elim (is_reached m row) as (λ b. find (λ n. nat_lt 0 n) (cond b ((j + 1) ∷ reached_from (j + 1 + 1) m rows) (reached_from (j + 1 + 1) m rows)) ≡ first_of (cond b ((j + 1) ∷ reached_from (j + 1 + 1) m rows) (reached_from (j + 1 + 1) m rows))) [
-      | true ↦ ap (λ b. cond b (Some (j + 1)) (find (λ n. nat_lt 0 n) (reached_from (j + 1 + 1) m rows))) above
-      | false ↦ first_reached m (j + 1) rows
-    ]
-
-pub next_is : (m : Mode) (rows : List (Option Channel)) → next_of_mode m 0 rows ≡ first_of (channels_of m rows)
-next_is m rows = first_reached m 0 rows
+first_reached m j (row ∷ rows) = let rest = first_reached m (j + 1) rows in grind (arith, nat_tests)
 
 -- A reached channel is one of the rows, and is assigned; freed, the others are left.
-record IsReachedAt (m : Mode) (j n : ℕ) (ns : List ℕ) (rows : List (Option Channel)) : Type 0 where
-  above : j ≤ n
-  within : n < j + length rows
-  there : is_some (slice_index_or rows (n - j) None) ≡ true
-  rest : reached_from j m (slice_set rows (n - j) None) ≡ ns
+pub record IsReachedAt (m : Mode) (j n : ℕ) (ns : List ℕ) (rows : List (Option Channel)) : Type 0 where
+  pub above : j ≤ n
+  pub within : n < j + length rows
+  pub there : is_some (slice_index_or rows (n - j) None) ≡ true
+  pub rest : reached_from j m (slice_set rows (n - j) None) ≡ ns
 
 reached_some : (m : Mode) (row : Option Channel) → is_reached m row ≡ true → is_some row ≡ true
-reached_some m None e = absurd (cc)
-reached_some m (Some ch) e = refl
+reached_some m row e = grind arith
 
 reached_at : (m : Mode) (j n : ℕ) (ns : List ℕ) (rows : List (Option Channel)) → reached_from j m rows ≡ n ∷ ns → IsReachedAt m j n ns rows
 reached_at m j n ns [] e = absurd (cc)
-reached_at m j n ns (row ∷ rows) e =
-    elim (is_reached m row) as (λ b. is_reached m row ≡ b → cond b (j ∷ reached_from (j + 1) m rows) (reached_from (j + 1) m rows) ≡ n ∷ ns → IsReachedAt m j n ns (row ∷ rows)) [
-      | true ↦ λ is found.
-          let same : j ≡ n = cc in
-          let others : reached_from (j + 1) m rows ≡ ns = cc in
-          let at : n - j ≡ 0 = omega (arith, same) in
-          record {
-            above = omega (arith, same);
-            within = omega (arith, same);
-            there = ap (λ i. is_some (slice_index_or (row ∷ rows) i None)) at ∙ reached_some m row is;
-            rest = ap (λ i. reached_from j m (slice_set (row ∷ rows) i None)) at ∙ others;
-          }
-      | false ↦ λ is found.
-          let h = reached_at m (j + 1) n ns rows found in
-          let at : n - j ≡ suc (n - (j + 1)) = omega (arith, h.above) in
-          record {
-            above = omega (arith, h.above);
-            within = omega (arith, h.within);
-            there = ap (λ i. is_some (slice_index_or (row ∷ rows) i None)) at ∙ h.there;
-            rest = ap (λ i. reached_from j m (slice_set (row ∷ rows) i None)) at ∙ (ap (λ b. cond b (j ∷ reached_from (j + 1) m (slice_set rows (n - (j + 1)) None)) (reached_from (j + 1) m (slice_set rows (n - (j + 1)) None))) is ∙ h.rest);
-          }
-    ] refl e
+reached_at m j n ns (row ∷ rows) e = either_by (λ xs. xs ≡ n ∷ ns → IsReachedAt m j n ns (row ∷ rows)) (is_reached m row) (j ∷ reached_from (j + 1) m rows) (reached_from (j + 1) m rows) here (λ is found. behind is (reached_at m (j + 1) n ns rows found)) e
+  where
+    here : is_reached m row ≡ true → j ∷ reached_from (j + 1) m rows ≡ n ∷ ns → IsReachedAt m j n ns (row ∷ rows)
+    here is found =
+        let same : j ≡ n = cc in
+        let at : n - j ≡ 0 = omega (arith, same) in
+        record { above = omega (arith, same); within = omega (arith, same); there = rw at (reached_some m row is); rest = rw at (cc) }
+    behind : is_reached m row ≡ false → IsReachedAt m (j + 1) n ns rows → IsReachedAt m j n ns (row ∷ rows)
+    behind is h =
+        let at : n - j ≡ suc (n - (j + 1)) = omega (arith, h.above) in
+        record { above = omega (arith, h.above); within = omega (arith, h.within); there = rw at h.there; rest = rw (at, is) h.rest }
 
 -- what was found next is the first
 pub found_first : (m : Mode) (n : ℕ) (rows : List (Option Channel)) → Some n ≡ next_of_mode m 0 rows → (ns : List ℕ) × (channels_of m rows ≡ n ∷ ns)
-found_first m n rows found = cases (channels_of m rows) (found ∙ next_is m rows)
+found_first m n rows found = cases (channels_of m rows) (found ∙ first_reached m 0 rows)
   where
     cases : (xs : List ℕ) → Some n ≡ first_of xs → (ns : List ℕ) × (xs ≡ n ∷ ns)
     cases [] e = absurd (cc)
-    cases (x ∷ xs) e = let same : x ≡ n = cc in (xs, ap (λ y. y ∷ xs) same)
+    cases (x ∷ xs) e = (xs, grind arith)
 
 pub found_none : (m : Mode) (rows : List (Option Channel)) → None ≡ next_of_mode m 0 rows → channels_of m rows ≡ []
-found_none m rows found = cases (channels_of m rows) (found ∙ next_is m rows)
+found_none m rows found = cases (channels_of m rows) (found ∙ first_reached m 0 rows)
   where
     cases : (xs : List ℕ) → None ≡ first_of xs → xs ≡ []
-    cases [] e = refl
-    cases (x ∷ xs) e = absurd (cc)
+    cases xs e = grind arith
 
 -- Freeing.
 
 swept_follows : (rows : Bool) (s : State) (row : Option Channel) → Follows rows s (swept_box s row).after
-swept_follows rows s None = follows_still rows s
+swept_follows rows s None = follows_still
 swept_follows rows s (Some ch) = by_device ch.device
   where
     by_device : (d : Device) → Follows rows s (swept_device s d).after
-    by_device (device.Unit u) = follows_still rows s
-    by_device (device.Mailbox b) = either (λ (x : Part). Follows rows s x.after) (not (is_assigned s b) && goes_unused (mailbox_at s b)) (box_gone s b) (nothing s) (boxes_follow rows s (box_gone s b).after.boxes) (follows_still rows s)
+    by_device (device.Unit u) = follows_still
+    by_device (device.Mailbox b) = either (λ (x : Part). Follows rows s x.after) (not (is_assigned s b) && goes_unused (mailbox_at s b)) (box_gone s b) (nothing s) (others_follow refl refl (λ q. omega arith)) follows_still
 
 free_follows : (s : State) (p : Pid) (n : ℕ) → Follows false s (free_channel s p n).after
 free_follows s p n =
-    let a = change s p (with_channel n None) in
-    let row = channel_at (process_at s p).channels n in
-    follows_then false s a (swept_box a row).after (change_follows false s p (with_channel n None) (record { decl = refl; frames = refl; channels = λ e. absurd (cc); asts = omega arith })) (swept_follows false a row)
+    follows_then (change_follows s p (with_channel n None) (record { decl = refl; frames = refl; channels = λ e. absurd (cc); asts = omega arith })) (swept_follows false (change s p (with_channel n None)) (channel_at (process_at s p).channels n))
 
 -- no request and no attention entry is on a channel of a mode that is drained
 leaving_freed : (k : Kernel) (p : Pid) (m : Mode) (n : ℕ) (ns : List ℕ) → AreFreed k.state p m (n ∷ ns) → IsLeaving k p → IsLeaving (with_state k (free_channel k.state p n).after) p
-leaving_freed k p m n ns free h =
-    let part = free_channel k.state p n in
-    leaving_by false k p part.effects part.after (free_channel_moves k.state p n (λ e i. freeing_row k.state p m n ns free i)) (free_follows k.state p n) h
+leaving_freed k p m n ns free h = leaving_by (free_channel_moves k.state p n (λ e i. freeing_row k.state p m n ns free i)) (free_follows k.state p n) h
 
 abbrev pub free_all : Pid → Mode → State → Part
 free_all p m s = each (free_one p) (channels_of m (process_at s p).channels) s
@@ -130,11 +105,8 @@ freed_each p m (n ∷ ns) k free h = freed_each p m ns (with_state k (free_chann
 released : (s : State) (p : Pid) (m : Mode) → IsDrained s p m → IsReleased s p m
 released s p m h = record { phase = h.phase; idle = none_passes (keeps_busy p m) s.requests h.idle }
 
-all_free : (k : Kernel) (p : Pid) (m : Mode) → IsLeaving k p → IsReleased k.state p m → AreFreed k.state p m (channels_of m (process_at k.state p).channels)
-all_free k p m h free = freeing_first k.state p m h.made free
-
 pub leaving_channels : (p : Pid) (m : Mode) (k : Kernel) → IsDrained k.state p m → IsLeaving k p → IsLeaving (with_state k (free_all p m k.state).after) p
-leaving_channels p m k drained h = freed_each p m (channels_of m (process_at k.state p).channels) k (all_free k p m h (released k.state p m drained)) h
+leaving_channels p m k drained h = freed_each p m (channels_of m (process_at k.state p).channels) k (freeing_first k.state p m h.made (released k.state p m drained)) h
 
 -- The loop.
 pub record IsFreeing (p : Pid) (m : Mode) (first k : Kernel) : Type 0 where
@@ -146,24 +118,21 @@ pub freeing_begun : (p : Pid) (m : Mode) (k : Kernel) → IsLeaving k p → IsDr
 freeing_begun p m k h drained room = record { leaving = h; released = released k.state p m drained; doing = doing_begun (free_all p m k.state) k room }
 
 -- the channel that was found next, and those behind it
-record IsNext (p : Pid) (m : Mode) (k : Kernel) (n : ℕ) (ns : List ℕ) : Type 0 where
-  are : channels_of m (process_at k.state p).channels ≡ n ∷ ns
-  free : AreFreed k.state p m (n ∷ ns)
-  at : IsReachedAt m 1 n ns (process_at k.state p).channels
+pub record IsNext (p : Pid) (m : Mode) (k : Kernel) (n : ℕ) (ns : List ℕ) : Type 0 where
+  pub are : channels_of m (process_at k.state p).channels ≡ n ∷ ns
+  pub free : AreFreed k.state p m (n ∷ ns)
+  pub at : IsReachedAt m 1 n ns (process_at k.state p).channels
 
-next_here : (p : Pid) (m : Mode) (k : Kernel) (n : ℕ) → IsLeaving k p → IsReleased k.state p m → Some n ≡ next_of_mode m 0 (process_at k.state p).channels → (ns : List ℕ) × IsNext p m k n ns
+pub next_here : (p : Pid) (m : Mode) (k : Kernel) (n : ℕ) → IsLeaving k p → IsReleased k.state p m → Some n ≡ next_of_mode m 0 (process_at k.state p).channels → (ns : List ℕ) × IsNext p m k n ns
 next_here p m k n h free found =
     let rows = (process_at k.state p).channels in
     let first = found_first m n rows found in
-    (first.0, record { are = first.1; free = subst (AreFreed k.state p m) first.1 (all_free k p m h free); at = reached_at m 1 n first.0 rows first.1 })
+    (first.0, record { are = first.1; free = subst (AreFreed k.state p m) first.1 (freeing_first k.state p m h.made free); at = reached_at m 1 n first.0 rows first.1 })
 
 pub freeing_number : (p : Pid) (m : Mode) (first k : Kernel) (n : ℕ) → IsFreeing p m first k → Some n ≡ next_of_mode m 0 (process_at k.state p).channels → IsTrue (is_channel_number n)
 freeing_number p m first k n h found =
     let next = next_here p m k n h.leaving h.released found in
     (freeing_row k.state p m n next.0 next.1.free (firm k.state h.leaving.sound)).1.0
-
-pub freeing_there : (p : Pid) (m : Mode) (first k : Kernel) (n : ℕ) → IsFreeing p m first k → Some n ≡ next_of_mode m 0 (process_at k.state p).channels → IsSome (channel_at (process_at k.state p).channels n)
-freeing_there p m first k n h found = (next_here p m k n h.leaving h.released found).1.at.there
 
 pub freeing_stands : (p : Pid) (k : Kernel) (n : ℕ) → IsLeaving k p → ChannelStands (ground k.state) (channel_at (process_at k.state p).channels n)
 freeing_stands p k n h = all_get (ChannelStands (ground k.state)) (process_at k.state p).channels (n - 1) None tt (stands_at k.state p h.sound h.made).channels
@@ -189,7 +158,7 @@ freeing_more p m first k l n h found did =
     let next = next_here p m k n h.leaving h.released found in
     let part = free_channel k.state p n in
     record {
-      leaving = leaving_acted k l p part did (leaving_freed k p m n next.0 next.1.free h.leaving);
+      leaving = leaving_acted k part did (leaving_freed k p m n next.0 next.1.free h.leaving);
       released = subst (λ (x : Kernel). IsReleased x.state p m) (sym did) (freed_on k.state p m n next.0 next.1.free).released;
       doing = doing_on (free_all p m first.state) first k l (free_all p m k.state) part (free_all p m) (free_first p m first k n h found) did h.doing;
     }

@@ -21,74 +21,37 @@ use Rattle.vx_record.proofs.Steps.{cancelled_in_moves}
 use Rattle.vx_record.specs.Sound.{IsSound}
 use Rattle.vx_record.specs.Timers.{drop_timers}
 use Rattle.vx_procs.specs.Kernel.{Acts, Does, Fits, Kernel as KernelOf, changed, with_state}
-use Rattle.vx_procs.proofs.Rest.{IsAnswering, IsDoing, answering_begun, answering_on, doing_begun, doing_on, doing_room}
+use Rattle.vx_procs.proofs.Rest.{IsAnswering, acts_both, answering_begun, answering_end, answering_on, room_first, room_second}
 use Rattle.vx_io.proofs.Changed.{process_there}
 use Rattle.vx_rundown.specs.Leaving.{IsDrained, IsLeaving}
 use Rattle.vx_rundown.specs.Steps.{drained, modes_from, next_inner, passed, passed_by, then_by, then_on}
-use Rattle.vx_rundown.proofs.Cancelled.{cancel_all, cancels_follow, leaving_cancels}
+use Rattle.vx_rundown.proofs.Cancelled.{cancel_all, cancels_follow}
 use Rattle.vx_rundown.proofs.Freed.{free_all, leaving_channels}
-use Rattle.vx_rundown.proofs.Left.{Follows, follows_then, leaving_acted, leaving_asts, leaving_by, leaving_handling, leaving_parted, leaving_timers, phase_follows, timers_follow}
+use Rattle.vx_rundown.proofs.Left.{Follows, follows_then, leaving_acted, leaving_asts, leaving_by, leaving_handling, leaving_parted, made_then, phase_follows, timers_follow}
 use Rattle.vx_rundown.proofs.Standing.{base_of}
+
+-- Three parts, one after another: there is room for each, and together they are the whole.
+pub three_parts : (k : KernelOf) (a : Part) (f g : State → Part) → Fits k (and_then (and_then a f) g).effects → Fits k a.effects × ((l : KernelOf) → Acts a k l → Fits l (f l.state).effects × ((n : KernelOf) → Acts (f l.state) l n → Fits n (g n.state).effects × ((o : KernelOf) → Acts (g n.state) n o → Acts (and_then (and_then a f) g) k o)))
+three_parts k a f g room =
+    let two = and_then a f in
+    let first = room_first k two g room in
+    (room_first k a f first, λ l did. (room_second k l a f did first, λ n then. (room_second k n two g (acts_both k l n a f did then) room, λ o last. acts_both k n o two g (acts_both k l n a f did then) last)))
 
 -- Cancelling: the channels, the timers, the wakes.
 
-pub leaving_cancel : (p : Pid) (m : Mode) (k : KernelOf) → IsLeaving k p → IsLeaving (with_state k (cancel_modes k.state p m).after) p
-leaving_cancel p m k h =
-    let c = with_state k (cancel_all p m k.state).after in
-    let t = with_state k (drop_timers (is_timer_in p m) c.state).after in
-    leaving_timers p (is_wake_by p) t (leaving_timers p (is_timer_in p m) c (leaving_cancels p (channels_of m (process_at k.state p).channels) k h))
+cancel_follows : (p : Pid) (m : Mode) (s : State) → IsSound s → Follows true s (cancel_modes s p m).after
+cancel_follows p m s sound =
+    let c = (cancel_all p m s).after in
+    let t = (drop_timers (is_timer_in p m) c).after in
+    follows_then (follows_then (cancels_follow p (channels_of m (process_at s p).channels) s sound) (timers_follow (is_timer_in p m) c)) (timers_follow (is_wake_by p) t)
 
--- the parts of it
+pub cancel_made : (p : Pid) (m : Mode) (k : KernelOf) → IsLeaving k p → IsProcess (cancel_modes k.state p m).after p
+cancel_made p m k h = made_then (cancel_follows p m k.state h.sound) h.made
 
-abbrev after_channels : Pid → Mode → State → Part
-after_channels p m a = and_then (drop_timers (is_timer_in p m) a) (drop_timers (is_wake_by p))
+-- Releasing: the channels, the queued ASTs, the common clusters.
 
-cancel_first : (p : Pid) (m : Mode) (s : State) → cancel_modes s p m ≡ and_then (cancel_all p m s) (after_channels p m)
-cancel_first p m s =
-    let c = cancel_all p m s in
-    let t = drop_timers (is_timer_in p m) c.after in
-    let w = drop_timers (is_wake_by p) t.after in
-    ap (λ (es : List Effect). let x : Part = record { effects = es; after = w.after } in x) (append_assoc c.effects t.effects w.effects)
-
-pub channels_room : (p : Pid) (m : Mode) (k : KernelOf) → Fits k (cancel_modes k.state p m).effects → Fits k (cancel_all p m k.state).effects
-channels_room p m k room = doing_room (cancel_modes k.state p m) k k (cancel_modes k.state p m) (cancel_all p m k.state) (after_channels p m) (cancel_first p m k.state) (doing_begun (cancel_modes k.state p m) k room)
-
-channels_done : (p : Pid) (m : Mode) (k l : KernelOf) → Fits k (cancel_modes k.state p m).effects → Acts (cancel_all p m k.state) k l → IsDoing (cancel_modes k.state p m) k (after_channels p m l.state) l
-channels_done p m k l room did = doing_on (cancel_modes k.state p m) k k l (cancel_modes k.state p m) (cancel_all p m k.state) (after_channels p m) (cancel_first p m k.state) did (doing_begun (cancel_modes k.state p m) k room)
-
-pub timers_room : (p : Pid) (m : Mode) (k l : KernelOf) → Fits k (cancel_modes k.state p m).effects → Acts (cancel_all p m k.state) k l → Fits l (drop_timers (is_timer_in p m) l.state).effects
-timers_room p m k l room did = doing_room (cancel_modes k.state p m) k l (after_channels p m l.state) (drop_timers (is_timer_in p m) l.state) (drop_timers (is_wake_by p)) refl (channels_done p m k l room did)
-
-timers_done : (p : Pid) (m : Mode) (k l n : KernelOf) → Fits k (cancel_modes k.state p m).effects → Acts (cancel_all p m k.state) k l → Acts (drop_timers (is_timer_in p m) l.state) l n → IsDoing (cancel_modes k.state p m) k (drop_timers (is_wake_by p) n.state) n
-timers_done p m k l n room did drops = doing_on (cancel_modes k.state p m) k l n (after_channels p m l.state) (drop_timers (is_timer_in p m) l.state) (drop_timers (is_wake_by p)) refl drops (channels_done p m k l room did)
-
-pub wakes_room : (p : Pid) (m : Mode) (k l n : KernelOf) → Fits k (cancel_modes k.state p m).effects → Acts (cancel_all p m k.state) k l → Acts (drop_timers (is_timer_in p m) l.state) l n → Fits n (drop_timers (is_wake_by p) n.state).effects
-wakes_room p m k l n room did drops = (timers_done p m k l n room did drops).room
-
-pub cancel_done : (p : Pid) (m : Mode) (k l n o : KernelOf) → Fits k (cancel_modes k.state p m).effects → Acts (cancel_all p m k.state) k l → Acts (drop_timers (is_timer_in p m) l.state) l n → Acts (drop_timers (is_wake_by p) n.state) n o → Acts (cancel_modes k.state p m) k o
-cancel_done p m k l n o room did drops last = last ∙ (timers_done p m k l n room did drops).leaves
-
--- rundown can rely on what it did, after each of them
-
-pub after_all : (p : Pid) (m : Mode) (k l : KernelOf) → IsLeaving k p → Acts (cancel_all p m k.state) k l → IsLeaving l p
-after_all p m k l h did = leaving_acted k l p (cancel_all p m k.state) did (leaving_cancels p (channels_of m (process_at k.state p).channels) k h)
-
-pub after_timers : (p : Pid) (m : Mode) (k l n : KernelOf) → IsLeaving k p → Acts (cancel_all p m k.state) k l → Acts (drop_timers (is_timer_in p m) l.state) l n → IsLeaving n p
-after_timers p m k l n h did drops = leaving_acted l n p (drop_timers (is_timer_in p m) l.state) drops (leaving_timers p (is_timer_in p m) l (after_all p m k l h did))
-
--- Releasing: one part after another.
-
-abbrev parted : Pid → State → Part
-parted p s = and_then (part_with p 2 s) (part_with p 3)
-
-pub release_first : (p : Pid) (m : Mode) (s : State) → release s p m ≡ and_then (free_all p m s) (λ a. and_then (drop_asts p m a) (parted p))
-release_first p m s =
-    let f = free_all p m s in
-    let a = drop_asts p m f.after in
-    let b = part_with p 2 a.after in
-    let c = part_with p 3 b.after in
-    ap (λ (es : List Effect). let x : Part = record { effects = es; after = c.after } in x)
-    (append_assoc (f.effects ++ a.effects) b.effects c.effects ∙ append_assoc f.effects a.effects (b.effects ++ c.effects))
+abbrev pub until_third : Pid → Mode → State → Part
+until_third p m s = and_then (and_then (free_all p m s) (drop_asts p m)) (part_with p 2)
 
 pub leaving_release : (p : Pid) (m : Mode) (k : KernelOf) → IsDrained k.state p m → IsLeaving k p → IsLeaving (with_state k (release k.state p m).after) p
 leaving_release p m k drained h =
@@ -145,37 +108,24 @@ drained_leaving p m k draining h =
     either_by (λ (o : Outcome (Option Answer)). IsLeaving (with_state k o.after) p) (is_busy k.state p m) (answered (Some answer.Busy) (nothing k.state)) (answered None (release k.state p m)) (λ busy. h)
     (λ idle. leaving_release p m k (record { phase = draining; idle = idle }) h)
 
-pub leaving_drained : (p : Pid) (m : Mode) (k l : KernelOf) (x : Option Answer) → Does (drained p m k.state) x k l → (process_at k.state p).phase ≡ phase.Draining m → IsLeaving k p → IsLeaving l p
-leaving_drained p m k l x did draining h = leaving_acted k l p (part_of (drained p m k.state)) did.leaves (drained_leaving p m k draining h)
-
 -- cancelled first, nothing is attended on the channels of a mode that is drained
-cancelled_follows : (p : Pid) (m : Mode) (s : State) → IsSound s → Follows true s (cancelled_in s p m).after
-cancelled_follows p m s sound =
-    let c = (cancel_all p m s).after in
-    let t = (drop_timers (is_timer_in p m) c).after in
-    let w = (drop_timers (is_wake_by p) t).after in
-    let first = cancels_follow p (channels_of m (process_at s p).channels) s sound in
-    follows_then true s w (cancelled_in s p m).after (follows_then true s t w (follows_then true s c t first (timers_follow (is_timer_in p m) c)) (timers_follow (is_wake_by p) t)) (phase_follows w p (phase.Draining m))
-
 pub cancelled_leaving : (p : Pid) (m : Mode) (k : KernelOf) → IsLeaving k p → IsLeaving (with_state k (cancelled_in k.state p m).after) p
 cancelled_leaving p m k h =
-    let part = cancelled_in k.state p m in
-    leaving_by true k p part.effects part.after (cancelled_in_moves k.state p m (base_of k.state h.sound) (λ e. record { made = h.made; none = h.idle })) (cancelled_follows p m k.state h.sound) h
+    leaving_by (cancelled_in_moves k.state p m (base_of k.state h.sound) (λ e. record { made = h.made; none = h.idle })) (follows_then (cancel_follows p m k.state h.sound) (phase_follows (cancel_modes k.state p m).after p (phase.Draining m))) h
 
 -- and it is then in that phase
 pub cancelled_phase : (p : Pid) (m : Mode) (k : KernelOf) → IsLeaving k p → (process_at (cancelled_in k.state p m).after p).phase ≡ phase.Draining m
-cancelled_phase p m k h = phase_at (cancel_modes k.state p m).after p (phase.Draining m) (leaving_cancel p m k h).made
+cancelled_phase p m k h = phase_at (cancel_modes k.state p m).after p (phase.Draining m) (cancel_made p m k h)
 
 -- no handler of the mode was there
-pub leaving_passed : (p : Pid) (m : Mode) (k l : KernelOf) → Does (passed p m k.state) None k l → IsLeaving k p → IsLeaving l p
+leaving_passed : (p : Pid) (m : Mode) (k l : KernelOf) → Does (passed p m k.state) None k l → IsLeaving k p → IsLeaving l p
 leaving_passed p m k l did h = by (find (is_handler_of m) (process_at (handling p m k.state) p).handlers) did
   where
     by : (o : Option Handler) → Does (passed_by p m o (handling p m k.state)) None k l → IsLeaving l p
     by None did =
         let t = changed k p (in_phase (phase.Handlers m)) in
-        let u = with_state t (cancelled_in t.state p m).after in
         let begun = leaving_handling k p m h in
-        leaving_acted k l p (part_of (passed_by p m None (handling p m k.state))) did.leaves (drained_leaving p m u (cancelled_phase p m t begun) (cancelled_leaving p m t begun))
+        leaving_acted k (part_of (passed_by p m None t.state)) did.leaves (drained_leaving p m (with_state t (cancelled_in t.state p m).after) (cancelled_phase p m t begun) (cancelled_leaving p m t begun))
     by (Some x) did = absurd (cc (did.answers))
 
 -- The loop: what is left of a rundown.
@@ -184,73 +134,37 @@ pub record IsRunning (p : Pid) (whole : Outcome Answer) (first : KernelOf) (ms :
   pub leaving : IsLeaving k p
   pub rest : IsAnswering whole first (run_down p ms k.state) k
 
-pub running_begun : (p : Pid) (ms : List Mode) (k : KernelOf) → IsLeaving k p → Fits k (run_down p ms k.state).effects → IsRunning p (run_down p ms k.state) k ms k
-running_begun p ms k leaving room = record { leaving = leaving; rest = answering_begun (run_down p ms k.state) k room }
+pub running_at : {p : Pid} {whole : Outcome Answer} {first k : KernelOf} (n : Option Mode) {m : Mode} → n ≡ Some m → IsRunning p whole first (modes_from n) k → IsRunning p whole first (m ∷ inner_modes m) k
+running_at {p} {whole} {first} {k} n is h = subst (λ (x : Option Mode). IsRunning p whole first (modes_from x) k) is h
 
-pub inner_next : (m : Mode) → modes_from (next_inner m) ≡ inner_modes m
-inner_next Kernel = refl
-inner_next Exec = refl
-inner_next Super = refl
-inner_next User = refl
+inner_next : (m : Mode) → modes_from (next_inner m) ≡ inner_modes m
+inner_next m = grind arith
 
-pub pass_room : (p : Pid) (m : Mode) (whole : Outcome Answer) (first k : KernelOf) → IsRunning p whole first (modes_from (Some m)) k → Fits k (passed p m k.state).effects
-pass_room p m whole first k h = omega (arith, h.rest.doing.room, ap (λ (o : Outcome Answer). length o.effects) (mode_is k.state p m (inner_modes m) h.leaving.made), then_few (passed p m k.state) (run_down p (inner_modes m)))
+-- the answer, where it is known
+pub does_as : {A : Type 0} {o : Outcome A} {x y : A} {k l : KernelOf} → x ≡ y → Does o x k l → Does o y k l
+does_as is h = record { answers = sym is ∙ h.answers; leaves = h.leaves }
 
-pub pass_ends : (p : Pid) (m : Mode) (x : Answer) (whole : Outcome Answer) (first k l : KernelOf) → IsRunning p whole first (modes_from (Some m)) k → Does (passed p m k.state) (Some x) k l → Does whole x first l
-pass_ends p m x whole first k l h did =
-    let here : Does (run_down p (m ∷ inner_modes m) k.state) x k l = subst (λ (o : Outcome Answer). Does o x k l) (sym (mode_is k.state p m (inner_modes m) h.leaving.made)) (then_ends (passed p m k.state) (run_down p (inner_modes m)) x k l did) in
-    record { answers = here.answers ∙ h.rest.answers; leaves = here.leaves ∙ h.rest.doing.leaves }
+pub pass_room : {p : Pid} {m : Mode} {whole : Outcome Answer} {first k : KernelOf} → IsRunning p whole first (m ∷ inner_modes m) k → Fits k (passed p m k.state).effects
+pass_room {p} {m} {whole} {first} {k} h = omega (arith, h.rest.doing.room, ap (λ (o : Outcome Answer). length o.effects) (mode_is k.state p m (inner_modes m) h.leaving.made), then_few (passed p m k.state) (run_down p (inner_modes m)))
 
-pub pass_more : (p : Pid) (m : Mode) (n : Option Mode) (whole : Outcome Answer) (first k l : KernelOf) → IsRunning p whole first (modes_from (Some m)) k → Does (passed p m k.state) None k l → n ≡ next_inner m → IsRunning p whole first (modes_from n) l
-pass_more p m n whole first k l h did next =
-    let splits = mode_is k.state p m (inner_modes m) h.leaving.made ∙ then_goes (passed p m k.state) (run_down p (inner_modes m)) k l did in
-    let on = answering_on whole first k l (run_down p (m ∷ inner_modes m) k.state) (part_of (passed p m k.state)) (run_down p (inner_modes m)) splits did.leaves h.rest in
-    let is : modes_from n ≡ inner_modes m = ap modes_from next ∙ inner_next m in
-    record {
-      leaving = leaving_passed p m k l did h.leaving;
-      rest = subst (λ (ms : List Mode). IsAnswering whole first (run_down p ms l.state) l) (sym is) on;
-    }
+pub pass_ends : {p : Pid} {m : Mode} {x : Answer} {whole : Outcome Answer} {first k l : KernelOf} → IsRunning p whole first (m ∷ inner_modes m) k → Does (passed p m k.state) (Some x) k l → Does whole x first l
+pass_ends {p} {m} {x} {whole} {first} {k} {l} h did =
+    answering_end whole first k l (run_down p (m ∷ inner_modes m) k.state) x h.rest (subst (λ (o : Outcome Answer). Does o x k l) (sym (mode_is k.state p m (inner_modes m) h.leaving.made)) (then_ends (passed p m k.state) (run_down p (inner_modes m)) x k l did))
+
+-- a mode that goes on to the next
+goes_on : (p : Pid) (m : Mode) (o : Outcome (Option Answer)) (whole rest : Outcome Answer) (first k l : KernelOf) → IsAnswering whole first rest k → rest ≡ then_on o (run_down p (inner_modes m)) → Does o None k l → IsLeaving l p → IsRunning p whole first (modes_from (next_inner m)) l
+goes_on p m o whole rest first k l h is did leaving = record {
+  leaving = leaving;
+  rest = rw (inner_next m) (answering_on whole first k l rest (part_of o) (run_down p (inner_modes m)) (is ∙ then_goes o (run_down p (inner_modes m)) k l did) did.leaves h);
+}
+
+pub pass_more : {p : Pid} {m : Mode} {whole : Outcome Answer} {first k l : KernelOf} → IsRunning p whole first (m ∷ inner_modes m) k → Does (passed p m k.state) None k l → IsRunning p whole first (modes_from (next_inner m)) l
+pass_more {p} {m} {whole} {first} {k} {l} h did =
+    goes_on p m (passed p m k.state) whole (run_down p (m ∷ inner_modes m) k.state) first k l h.rest (mode_is k.state p m (inner_modes m) h.leaving.made) did (leaving_passed p m k l did h.leaving)
 
 -- A rundown that goes on with a mode that is drained.
 
-drains_is : (s : State) (p : Pid) (m : Mode) → phase.Draining m ≡ (process_at s p).phase → rundown s p ≡ then_on (drained p m s) (run_down p (inner_modes m))
-drains_is s p m is = ap (λ (ph : Phase). rundown_from p ph s) (sym is) ∙ drain_is s p m (run_down p (inner_modes m))
-
-pub drain_on : (p : Pid) (m : Mode) (n : Option Mode) (k l : KernelOf) → IsLeaving k p → phase.Draining m ≡ (process_at k.state p).phase → n ≡ next_inner m → Fits k (rundown k.state p).effects → Does (drained p m k.state) None k l → IsRunning p (rundown k.state p) k (modes_from n) l
-drain_on p m n k l h is next room did =
-    let splits = drains_is k.state p m is ∙ then_goes (drained p m k.state) (run_down p (inner_modes m)) k l did in
-    let on = answering_on (rundown k.state p) k k l (rundown k.state p) (part_of (drained p m k.state)) (run_down p (inner_modes m)) splits did.leaves (answering_begun (rundown k.state p) k room) in
-    let same : modes_from n ≡ inner_modes m = ap modes_from next ∙ inner_next m in
-    record {
-      leaving = leaving_drained p m k l None did (sym is) h;
-      rest = subst (λ (ms : List Mode). IsAnswering (rundown k.state p) k (run_down p ms l.state) l) (sym same) on;
-    }
-
--- The parts of a release, one after another.
-
-abbrev after_freed : Pid → Mode → State → Part
-after_freed p m a = and_then (drop_asts p m a) (parted p)
-
-pub free_room : (p : Pid) (m : Mode) (k : KernelOf) → Fits k (release k.state p m).effects → Fits k (free_all p m k.state).effects
-free_room p m k room = doing_room (release k.state p m) k k (release k.state p m) (free_all p m k.state) (after_freed p m) (release_first p m k.state) (doing_begun (release k.state p m) k room)
-
-freed_done : (p : Pid) (m : Mode) (k l : KernelOf) → Fits k (release k.state p m).effects → Acts (free_all p m k.state) k l → IsDoing (release k.state p m) k (after_freed p m l.state) l
-freed_done p m k l room did = doing_on (release k.state p m) k k l (release k.state p m) (free_all p m k.state) (after_freed p m) (release_first p m k.state) did (doing_begun (release k.state p m) k room)
-
-pub asts_room : (p : Pid) (m : Mode) (k l : KernelOf) → Fits k (release k.state p m).effects → Acts (free_all p m k.state) k l → Fits l (drop_asts p m l.state).effects
-asts_room p m k l room did = doing_room (release k.state p m) k l (after_freed p m l.state) (drop_asts p m l.state) (parted p) refl (freed_done p m k l room did)
-
-asts_done : (p : Pid) (m : Mode) (k l n : KernelOf) → Fits k (release k.state p m).effects → Acts (free_all p m k.state) k l → Acts (drop_asts p m l.state) l n → IsDoing (release k.state p m) k (parted p n.state) n
-asts_done p m k l n room did drops = doing_on (release k.state p m) k l n (after_freed p m l.state) (drop_asts p m l.state) (parted p) refl drops (freed_done p m k l room did)
-
-pub second_room : (p : Pid) (m : Mode) (k l n : KernelOf) → Fits k (release k.state p m).effects → Acts (free_all p m k.state) k l → Acts (drop_asts p m l.state) l n → Fits n (part_with p 2 n.state).effects
-second_room p m k l n room did drops = doing_room (release k.state p m) k n (parted p n.state) (part_with p 2 n.state) (part_with p 3) refl (asts_done p m k l n room did drops)
-
-second_done : (p : Pid) (m : Mode) (k l n o : KernelOf) → Fits k (release k.state p m).effects → Acts (free_all p m k.state) k l → Acts (drop_asts p m l.state) l n → Acts (part_with p 2 n.state) n o → IsDoing (release k.state p m) k (part_with p 3 o.state) o
-second_done p m k l n o room did drops second = doing_on (release k.state p m) k n o (parted p n.state) (part_with p 2 n.state) (part_with p 3) refl second (asts_done p m k l n room did drops)
-
-pub third_room : (p : Pid) (m : Mode) (k l n o : KernelOf) → Fits k (release k.state p m).effects → Acts (free_all p m k.state) k l → Acts (drop_asts p m l.state) l n → Acts (part_with p 2 n.state) n o → Fits o (part_with p 3 o.state).effects
-third_room p m k l n o room did drops second = (second_done p m k l n o room did drops second).room
-
-pub release_done : (p : Pid) (m : Mode) (k l n o q : KernelOf) → Fits k (release k.state p m).effects → Acts (free_all p m k.state) k l → Acts (drop_asts p m l.state) l n → Acts (part_with p 2 n.state) n o → Acts (part_with p 3 o.state) o q → Acts (release k.state p m) k q
-release_done p m k l n o q room did drops second third = third ∙ (second_done p m k l n o room did drops second).leaves
+pub drain_more : (p : Pid) (m : Mode) (k l : KernelOf) → IsLeaving k p → phase.Draining m ≡ (process_at k.state p).phase → Fits k (rundown k.state p).effects → Does (drained p m k.state) None k l → IsRunning p (rundown k.state p) k (modes_from (next_inner m)) l
+drain_more p m k l h is room did =
+    let whole = rundown k.state p in
+    goes_on p m (drained p m k.state) whole whole k k l (answering_begun whole k room) (ap (λ (ph : Phase). rundown_from p ph k.state) (sym is) ∙ drain_is k.state p m (run_down p (inner_modes m))) did (leaving_acted k (part_of (drained p m k.state)) did.leaves (drained_leaving p m k (sym is) h))

@@ -107,29 +107,21 @@ drop_end sh p test first k l h given there =
     let none = found_none sh.id (find test (sh.get (process_at k.state p))) given in
     doing_end (drop_all sh p test first.state) first k l (drop_all sh p test k.state) (ap (λ xs. each (drop_one sh p) xs k.state) (filter_none test (sh.get (process_at k.state p)) none)) (there ∙ ap (with_state k) (still sh p test k.state none)) h.doing
 
--- the first that passes ends
-pub one_dropped : {A : Type 0} (sh : Shelf A) (p : Pid) (test : A → Bool) (k l n : Kernel) (x : A) → IsTrue (have_own sh.id (sh.get (process_at k.state p))) → find test (sh.get (process_at k.state p)) ≡ Some x → l ≡ changed k p (without sh test) → n ≡ told l (effect.Drop (sh.id x) ∷ []) → Acts (drop_one sh p k.state x) k n
-one_dropped sh p test k l n x own found there tells_it =
-    let here = ap (λ ys. change k.state p (λ pr. sh.put ys pr)) (less_own sh.id test (sh.get (process_at k.state p)) x own found) in
-    tells_it ∙ (ap (λ (y : Kernel). told y (effect.Drop (sh.id x) ∷ [])) there ∙ ap (λ (s : State). told (with_state k s) (effect.Drop (sh.id x) ∷ [])) (sym here))
-
 -- $CANEXH of one.
-
-cancelled_found : (k : Kernel) (p : Pid) (o : Option Handler) (h : Handler) → o ≡ Some h → cancel_found k.state p o ≡ answered Normal (drop_handler p k.state h)
-cancelled_found k p o h e = ap (λ (x : Option Handler). cancel_found k.state p x) e
 
 pub cancel_room : (p : Pid) (m : Mode) (tag : Entry) (k l : Kernel) (id : Id) → Some id ≡ option_map (λ h. h.id) (find (is_handler_with m tag) (process_at k.state p).handlers) → l ≡ changed k p (without handlers (is_handler_with m tag)) → Fits k (cancel_found k.state p (find (is_handler_with m tag) (process_at k.state p).handlers)).effects → Fits l (effect.Drop id ∷ [])
 cancel_room p m tag k l id given there room =
     let o = find (is_handler_with m tag) (process_at k.state p).handlers in
     let found = found_id (λ (h : Handler). h.id) o id given in
-    rw there (omega (arith, room, ap (λ (x : Outcome Cond). length x.effects) (cancelled_found k p o found.0 found.1.0)))
+    rw there (omega (arith, room, ap (λ (x : Option Handler). length (cancel_found k.state p x).effects) found.1.0))
 
 pub cancel_done : (p : Pid) (m : Mode) (tag : Entry) (k l n : Kernel) (id : Id) → IsTrue (handlers_have_own_ids (process_at k.state p).handlers) → Some id ≡ option_map (λ h. h.id) (find (is_handler_with m tag) (process_at k.state p).handlers) → l ≡ changed k p (without handlers (is_handler_with m tag)) → n ≡ told l (effect.Drop id ∷ []) → Does (cancel_found k.state p (find (is_handler_with m tag) (process_at k.state p).handlers)) Normal k n
 cancel_done p m tag k l n id own given there tells_it =
     let o = find (is_handler_with m tag) (process_at k.state p).handlers in
     let found = found_id (λ (h : Handler). h.id) o id given in
-    let acts = one_dropped handlers p (is_handler_with m tag) k l n found.0 own found.1.0 there (tells_it ∙ ap (λ (i : Id). told l (effect.Drop i ∷ [])) (sym found.1.1)) in
-    subst (λ (x : Outcome Cond). Does x Normal k n) (sym (cancelled_found k p o found.0 found.1.0)) (record { answers = refl; leaves = acts })
+    let here = ap (λ ys. change k.state p (λ pr. handlers.put ys pr)) (less_own handlers.id (is_handler_with m tag) (process_at k.state p).handlers found.0 own found.1.0) in
+    let acts : n ≡ acted k (drop_handler p k.state found.0) = tells_it ∙ (ap (λ (y : Kernel). told y (effect.Drop id ∷ [])) there ∙ (ap (λ (i : Id). told (changed k p (without handlers (is_handler_with m tag))) (effect.Drop i ∷ [])) (sym found.1.1) ∙ ap (λ (s : State). told (with_state k s) (effect.Drop found.0.id ∷ [])) (sym here))) in
+    subst (λ (x : Option Handler). Does (cancel_found k.state p x) Normal k n) (sym found.1.0) (record { answers = refl; leaves = acts })
 
 pub cancel_none : (p : Pid) (m : Mode) (tag : Entry) (k l : Kernel) → None ≡ option_map (λ h. h.id) (find (is_handler_with m tag) (process_at k.state p).handlers) → l ≡ k → Does (cancel_found k.state p (find (is_handler_with m tag) (process_at k.state p).handlers)) NoHandler k l
 cancel_none p m tag k l given kept =

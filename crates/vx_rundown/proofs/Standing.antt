@@ -1,7 +1,8 @@
 -- What of a process follows from a state whose references stand: no two of its queued ASTs have one id, and no two of its exit handlers.
 use Rattle.std.proofs.Common.{◌≡◌, ℕ, zero, suc, ◌-◌, ◌<◌, ◌≤◌, List, [], ◌∷◌, ◌==◌, not, true, false, IsTrue, None, length, slice_index_or, inl, inr, refl, sym, arith}
 use Rattle.std.specs.List.{list_any}
-use Rattle.std.proofs.lemmas.Bool.{and_from, cases_eq, eq-eqb, ne_eqb}
+use Rattle.std.proofs.lemmas.Bool.{and_from, eq-eqb}
+use Rattle.std.proofs.lemmas.Bool.Decides.{nat_tests}
 use Rattle.vx_base.specs.Flags.{one}
 use Rattle.vx_base.specs.Lists.{tally}
 use Rattle.vx_base.specs.Pieces.{Alarm, Attention, Handler, OfTimer, OfWake, Queued, Request, Timer}
@@ -27,12 +28,7 @@ bearing key id xs = tally (λ x. (key x).0 == id) xs
 
 none_bears : {A : Type 0} (key : A → Id) (id : ℕ) (xs : List A) → bearing key id xs ≤ 0 → list_any (λ y. id == (key y).0) xs ≡ false
 none_bears key id [] none = refl
-none_bears key id (x ∷ xs) none = elim (cases_eq (key x).0 id) [
-  | inl here ↦ let one_here : one ((key x).0 == id) ≡ 1 = rw (eq-eqb (key x).0 id here) refl in absurd (omega (arith, none, one_here))
-  | inr other ↦
-      let not_here : (id == (key x).0) ≡ false = ne_eqb id (key x).0 (λ same. other (sym same)) in
-      rw not_here (none_bears key id xs (omega (arith, none)))
-]
+none_bears key id (x ∷ xs) none = let rest = none_bears key id xs in grind (arith, nat_tests)
 
 own_from : {A : Type 0} (key : A → Id) (xs : List A) → ((id : ℕ) → bearing key id xs ≤ 1) → IsTrue (have_own key xs)
 own_from key [] few = refl

@@ -1,4 +1,4 @@
-use Rattle.vx_rundown.proofs.Freed.{freeing_begun, freeing_end, freeing_fewer, freeing_more, freeing_number, freeing_room, freeing_stands, freeing_there}
+use Rattle.vx_rundown.proofs.Freed.{freeing_begun, freeing_end, freeing_fewer, freeing_more, freeing_number, freeing_room, freeing_stands, next_here}
 use Rattle.vx_rundown.proofs.mode.free_channels.Goals as goal
 
 pub channels-init : goal.channels-init
@@ -14,7 +14,7 @@ pub free_channel-requires-clause-number : goal.free_channel-requires-clause-numb
 free_channel-requires-clause-number g c = freeing_number c.args.p c.args.mode c.args.core.now c.channels.core c.in-Some.n c.channels.invariant c.in-Some.ensures
 
 pub free_channel-requires-clause-assigned : goal.free_channel-requires-clause-assigned
-free_channel-requires-clause-assigned g c = freeing_there c.args.p c.args.mode c.args.core.now c.channels.core c.in-Some.n c.channels.invariant c.in-Some.ensures
+free_channel-requires-clause-assigned g c = (next_here c.args.p c.args.mode c.channels.core c.in-Some.n c.channels.invariant.leaving c.channels.invariant.released c.in-Some.ensures).1.at.there
 
 pub free_channel-requires-clause-stands : goal.free_channel-requires-clause-stands
 free_channel-requires-clause-stands g c = freeing_stands c.args.p c.channels.core c.in-Some.n c.channels.invariant.leaving

@@ -10,12 +10,11 @@ drop_handlers-requires-clause-ids g c = own_handlers_at c.args.core.now.state c.
 pub drop_timers-requires-clause-order : goal.drop_timers-requires-clause-order
 drop_timers-requires-clause-order g c =
     let k = c.args.core.now in
-    (leaving_acted k c.drop_handlers.new.core c.args.p (drop_handlers k.state c.args.p any_handler) c.drop_handlers.ensures (leaving_handlers c.args.p any_handler k c.requires.leaving)).sound.timer_ids
+    (leaving_acted k (drop_handlers k.state c.args.p any_handler) c.drop_handlers.ensures (leaving_handlers c.args.p any_handler k c.requires.leaving)).sound.timer_ids
 
 pub set_phase-requires : goal.set_phase-requires
 set_phase-requires g c =
     let k = c.args.core.now in
     let l = c.drop_handlers.new.core in
-    let h = leaving_acted k l c.args.p (drop_handlers k.state c.args.p any_handler) c.drop_handlers.ensures (leaving_handlers c.args.p any_handler k c.requires.leaving) in
-    let last = leaving_acted l c.drop_timers.new.core c.args.p (drop_timers (is_wake_for c.args.p) l.state) c.drop_timers.ensures (leaving_timers c.args.p (is_wake_for c.args.p) l h) in
-    rw c.tell.ensures last.made
+    let h = leaving_acted k (drop_handlers k.state c.args.p any_handler) c.drop_handlers.ensures (leaving_handlers c.args.p any_handler k c.requires.leaving) in
+    rw c.tell.ensures (leaving_acted l (drop_timers (is_wake_for c.args.p) l.state) c.drop_timers.ensures (leaving_timers (is_wake_for c.args.p) h)).made
