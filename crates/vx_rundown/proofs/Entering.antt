@@ -61,6 +61,7 @@ frame_same s p h made = rw (process_there s p out made) (ap (λ (pc : ℕ). let 
   where
     out : Process → Process
     out = without_sought (Of h.mode)
+
     at : (e : Entry) → entry_place (change s p out) p e ≡ entry_place s p e
     at (entry.Label k prm) = rw (process_there s p out made) refl
     at (entry.Exit code) = refl

@@ -56,6 +56,7 @@ reached_at m j n ns (row ∷ rows) e = either_by (λ xs. xs ≡ n ∷ ns → IsR
         let same : j ≡ n = cc in
         let at : n - j ≡ 0 = omega (arith, same) in
         record { above = omega (arith, same); within = omega (arith, same); there = rw at (reached_some m row is); rest = rw at (cc) }
+
     behind : is_reached m row ≡ false → IsReachedAt m (j + 1) n ns rows → IsReachedAt m j n ns (row ∷ rows)
     behind is h =
         let at : n - j ≡ suc (n - (j + 1)) = omega (arith, h.above) in
