@@ -56,6 +56,9 @@ longer_still xs ys zs a b = (a.0 ++ b.0, b.1 ∙ (ap (λ (l : List _). l ++ b.0)
 pub saw_grew : (plan : Plan) (v w : View Rec) (found more : List Rec) → SeatSaw plan v found more w → SeatGrew v w
 saw_grew plan v w found more h = record { seen = longer_still v.seen found w.seen h.later (more, h.seen); own = (numbered (length found) more, h.own) }
 
+pub took_grew : (plan : Plan) (v w : View Rec) (t : Turn) → SeatTook plan v t w → SeatGrew v w
+took_grew plan v w t h = saw_grew plan v w h.found h.more h.saw
+
 pub grew_still : (v : View Rec) → SeatGrew v v
 grew_still v = record { seen = ([], sym (append-nil v.seen)); own = ([], sym (append-nil v.own)) }
 

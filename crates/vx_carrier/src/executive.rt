@@ -97,6 +97,7 @@ impl<R: Routine, G: Gate, J: Naming> Executive<R, G, J> {
     }
 
     // Takes a turn, and serves the unit that it hands out.
+    #[tactic(auto, using(crate::proofs::Seats::took_grew, crate::proofs::Seats::grew_on))]
     fn go_on<Q: Wait>(&self, rt: &Q, seat: &mut Seat<R, J>) -> Turn
         requires { IsOne self.now.table seat.old }
         ensures seat { IsOne self.now.table seat.new }

@@ -1,6 +1,6 @@
 use Rattle.std.proofs.Common.{◌≡◌, Some}
 use Rattle.vx_carrier.specs.declared.turn.Turn.TheVariants.{Took}
-use Rattle.vx_carrier.proofs.Seats.{grew_on, saw_grew, saw_handed, took_end}
+use Rattle.vx_carrier.proofs.Seats.{saw_handed, took_end, took_grew}
 use Rattle.vx_carrier.proofs.executive.Executive.go_on.Goals as goal
 
 pub serve-requires-clause-saw : goal.serve-requires-clause-saw
@@ -9,4 +9,4 @@ serve-requires-clause-saw g c =
     saw_handed g.J.Naming.plan c.args.seat.now.me.0 c.turn.new.seat.me.0 c.turn.result c.in-Took-Some.lease c.turn.ensures.took is
 
 pub returns-in_default-2 : goal.returns-in_default-2
-returns-in_default-2 g c = let took = c.turn.ensures.took in record { seat = c.turn.ensures.seat; grew = saw_grew g.J.Naming.plan c.args.seat.now.me.0 c.turn.new.seat.me.0 took.found took.more took.saw; ended = took_end g.J.Naming.plan c.args.seat.now.me.0 c.turn.new.seat.me.0 c.turn.result c.turn.ensures.took }
+returns-in_default-2 g c = record { seat = c.turn.ensures.seat; grew = took_grew g.J.Naming.plan c.args.seat.now.me.0 c.turn.new.seat.me.0 c.turn.result c.turn.ensures.took; ended = took_end g.J.Naming.plan c.args.seat.now.me.0 c.turn.new.seat.me.0 c.turn.result c.turn.ensures.took }
