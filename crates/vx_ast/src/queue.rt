@@ -49,8 +49,7 @@ impl<R: Routine> AstQueue<R> {
 
     /// Makes room for n ASTs more, or changes nothing.
     pub fn reserve(&mut self, n: u32) -> Result<(), NoMemory>
-        ensures items { self.new.items ≡ self.old.items }
-        ensures enables { self.new.enables ≡ self.old.enables }
+        ensures same { self.new ≡ record self.old { capacity = self.new.capacity } }
         ensures kept { self.old.capacity ≤ self.new.capacity }
         ensures ok { OnOk result (length self.new.items + n ≤ self.new.capacity) }
         ensures err { OnErr result (self.new ≡ self.old) }

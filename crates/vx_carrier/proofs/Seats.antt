@@ -7,6 +7,7 @@ use Rattle.vx_record.specs.Runs.{IsRun, record_of}
 use Rattle.vx_units.specs.Leases.{Lease, LeaseServed}
 use Rattle.vx_exec.specs.View.{Plan}
 use Rattle.vx_turn.specs.Rule.{StartsWith, numbered}
+use Rattle.vx_turn.proofs.Lists.{starts_here}
 use Rattle.vx_turn.specs.Seats.{Adds, Keeps}
 use Rattle.vx_turn.specs.declared.view.View.{View}
 use Rattle.vx_carrier.specs.Turns.{AtEnd, Gives, HandsOut, IsLeaseAt, SawBeg, SawEnd, SeatGave, SeatGrew, SeatSaw, SeatTook, Takes, TakesEvent, now}
@@ -60,7 +61,7 @@ pub took_grew : (plan : Plan) (v w : View Rec) (t : Turn) → SeatTook plan v t 
 took_grew plan v w t h = saw_grew plan v w h.found h.more h.saw
 
 pub grew_still : (v : View Rec) → SeatGrew v v
-grew_still v = record { seen = ([], sym (append-nil v.seen)); own = ([], sym (append-nil v.own)) }
+grew_still v = record { seen = starts_here v.seen; own = starts_here v.own }
 
 pub grew_on : (u v w : View Rec) → SeatGrew u v → SeatGrew v w → SeatGrew u w
 grew_on u v w a b = record { seen = longer_still u.seen v.seen w.seen a.seen b.seen; own = longer_still u.own v.own w.own a.own b.own }

@@ -49,10 +49,8 @@ impl Clusters {
     /// 4294967295 clusters.
     pub fn reserve(&mut self) -> Result<(), NoMemory>
         ensures common { self.new.common ≡ self.old.common }
-        ensures kept_clusters { self.old.cluster_capacity ≤ self.new.cluster_capacity }
-        ensures kept_associations { self.old.association_capacity ≤ self.new.association_capacity }
-        ensures ok_clusters { OnOk result (length self.new.common.clusters < self.new.cluster_capacity) }
-        ensures ok_associations { OnOk result (length self.new.common.associations < self.new.association_capacity) }
+        ensures kept { (self.old.cluster_capacity ≤ self.new.cluster_capacity) × (self.old.association_capacity ≤ self.new.association_capacity) }
+        ensures ok { OnOk result ((length self.new.common.clusters < self.new.cluster_capacity) × (length self.new.common.associations < self.new.association_capacity)) }
         ensures err { OnErr result (self.new ≡ self.old) }
     {
         self.table.reserve()

@@ -66,10 +66,8 @@ impl Table {
     /// Makes room for one cluster and one association more, or changes nothing.
     pub(crate) fn reserve(&mut self) -> Result<(), NoMemory>
         ensures common { self.new.common ≡ self.old.common }
-        ensures kept_clusters { self.old.cluster_capacity ≤ self.new.cluster_capacity }
-        ensures kept_associations { self.old.association_capacity ≤ self.new.association_capacity }
-        ensures ok_clusters { OnOk result (length self.new.common.clusters < self.new.cluster_capacity) }
-        ensures ok_associations { OnOk result (length self.new.common.associations < self.new.association_capacity) }
+        ensures kept { (self.old.cluster_capacity ≤ self.new.cluster_capacity) × (self.old.association_capacity ≤ self.new.association_capacity) }
+        ensures ok { OnOk result ((length self.new.common.clusters < self.new.cluster_capacity) × (length self.new.common.associations < self.new.association_capacity)) }
         ensures err { OnErr result (self.new ≡ self.old) }
     {
         if self.clusters.len() >= MOST_CLUSTERS {

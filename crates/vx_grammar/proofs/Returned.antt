@@ -15,9 +15,9 @@ use Rattle.vx_grammar.proofs.FirstFaults.{first_fault}
 use Rattle.vx_grammar.proofs.ToldFaults.{only_fault}
 use Rattle.vx_grammar.proofs.Whole.{read_is_spelled, spelled_is_read}
 
-pub if_spelled : (text : List ℕ) (r : Result System ScriptFail) → ReadsScript r (read_script text) → IfOk r (λ s. Spells text s)
-if_spelled text (Ok s) h = read_is_spelled text s h
-if_spelled text (Err e) h = tt
+pub if_spelled : (text : List ℕ) (r : Result System ScriptFail) → ReadsScript r (read_script text) → length text < 4294967295 → IfOk r (λ s. Spells text s × IsWellFormed s)
+if_spelled text (Ok s) h short = (read_is_spelled text s h, well_formed text s short (read_is_spelled text s h) (accepted text s h))
+if_spelled text (Err e) h short = tt
 
 pub no_other : (text : List ℕ) (r : Result System ScriptFail) → ReadsScript r (read_script text) → (s : System) → Spells text s → ReadsScript r (Ok s)
 no_other text r h s g = subst (λ x. ReadsScript r x) (spelled_is_read text s g) h
@@ -26,10 +26,6 @@ pub if_fault : (text : List ℕ) (r : Result System ScriptFail) → ReadsScript 
 if_fault text (Ok s) h = tt
 if_fault text (Err fail.NoMemory) h = tt
 if_fault text (Err (fail.Fault f)) h = first_fault text f h
-
-pub if_formed : (text : List ℕ) (r : Result System ScriptFail) → ReadsScript r (read_script text) → length text < 4294967295 → IfOk r (λ s. IsWellFormed s)
-if_formed text (Ok s) h short = well_formed text s short (read_is_spelled text s h) (accepted text s h)
-if_formed text (Err e) h short = tt
 
 pub no_other_fault : (text : List ℕ) (r : Result System ScriptFail) → ReadsScript r (read_script text) → (fault : ScriptFault) → Tells text fault → ReadsScript r (Err fault)
 no_other_fault text r h fault t = subst (λ x. ReadsScript r x) (only_fault text fault t) h

@@ -21,16 +21,15 @@ use vx_script::ScriptFail;
 
 /// Reads the system that a text is spelled as, or tells the first fault of the text: its line, from 1, and its kind. The text may
 /// be of any bytes.
-#[tactic(auto, using(crate::proofs::Returned::if_spelled, crate::proofs::Returned::no_other, crate::proofs::Returned::if_fault, crate::proofs::Returned::no_other_fault, crate::proofs::Returned::if_formed))]
+#[tactic(auto, using(crate::proofs::Returned::if_spelled, crate::proofs::Returned::no_other, crate::proofs::Returned::if_fault, crate::proofs::Returned::no_other_fault))]
 pub fn read_script(alloc: Global, text: &[u8]) -> Result<System, ScriptFail>
     requires { length text.now < 4294967295 }
-    // What is read is spelled so, and what is spelled so is read, unless memory runs out.
-    ensures spelled { IfOk result (λ s. Spells text.now s) }
+    // What is read is spelled so and well formed, and what is spelled so is read, unless memory runs out.
+    ensures spelled { IfOk result (λ s. Spells text.now s × IsWellFormed s) }
     ensures only { (s : System) → Spells text.now s → ReadsScript result (Ok s) }
     // The same of the text's fault.
     ensures fault { TellsIfFault text.now result }
     ensures only_fault { (fault : ScriptFault) → Tells text.now fault → ReadsScript result (Err fault) }
-    ensures well_formed { IfOk result (λ s. IsWellFormed s) }
 {
     vx_script::parse_script(alloc, text)
 }

@@ -1,6 +1,5 @@
 -- Terms in their small form stay as their texts get more.
-use Rattle.std.proofs.Common.{◌≡◌, ℕ, ◌<◌, List, [], ◌∷◌, ◌++◌, drop, length, slice_index_or, Result, Ok, Err, ap, refl, sym, ◌∙◌, arith}
-use Rattle.std.specs.Result.{OnErr}
+use Rattle.std.proofs.Common.{◌≡◌, ℕ, ◌<◌, List, [], ◌∷◌, ◌++◌, drop, length, slice_index_or, ap, refl, sym, ◌∙◌, arith}
 use Rattle.std.proofs.Math.Seq.{get_or-append_seam, take-append_seam}
 use Rattle.std.proofs.lemmas.List.{get_or_append_left, length-append, map-append, take-append-drop}
 use Rattle.vx_image.proofs.Packed.{all_and_one}
@@ -8,11 +7,6 @@ use Rattle.vx_image.specs.Packed.{Begins}
 use Rattle.vx_image.specs.Terms.{Term, term_of, terms_in, IsThere, AreThere, IsPacked}
 use Rattle.vx_image.specs.declared.terms.Packed.{Packed}
 use Rattle.vx_image.specs.declared.terms.Packed.TheVariants as packed
-
--- whether it went well or not
-pub on_err_too : {T E P : Type 0} (r : Result T E) → P → OnErr r P
-on_err_too (Ok x) p = tt
-on_err_too (Err e) p = p
 
 pub last_text : (texts all : List (List ℕ)) (text : List ℕ) → all ≡ texts ++ text ∷ [] → slice_index_or all (length texts) [] ≡ text
 last_text texts all text more = rw more (get_or-append_seam texts text [] [])

@@ -15,18 +15,11 @@ use Rattle.vx_journal.specs.declared.journal.JournalFail.{JournalFail}
 
 -- Where the script part, which is this text, says a system.
 
-pub is_read : (text part : List ℕ) (system : System) (r : Result Journal JournalFail) → part ≡ script_part text → Spells part system → ReadsJournal r (journal_of system text) → IfOk r (IsJournal text)
-is_read text part system (Ok j) same says reads =
-    let kept : j.system ≡ system = (whole_text system text j reads).0 in
-    record {
-      says = subst (λ s. Spells (script_part text) s) (sym kept) (subst (λ z. Spells z system) same says);
-      reads = subst (λ (s : System). journal_of s text ≡ Ok j) (sym kept) reads;
-    }
-is_read text part system (Err e) same says reads = tt
-
-pub is_formed : (text : List ℕ) (system : System) (r : Result Journal JournalFail) → IsWellFormed system → ReadsJournal r (journal_of system text) → IfOk r (λ j. IsWellFormed j.system)
-is_formed text system (Ok j) formed reads = subst (λ (s : System). IsWellFormed s) (sym (whole_text system text j reads).0) formed
-is_formed text system (Err e) formed reads = tt
+pub is_read : (text part : List ℕ) (system : System) (r : Result Journal JournalFail) → part ≡ script_part text → Spells part system → IsWellFormed system → ReadsJournal r (journal_of system text) → IfOk r (λ j. IsJournal text j × IsWellFormed j.system)
+is_read text part system (Ok j) same says formed reads =
+    let kept : system ≡ j.system = sym (whole_text system text j reads).0 in
+    (record { says = subst (λ s. Spells (script_part text) s) kept (subst (λ z. Spells z system) same says); reads = subst (λ (s : System). journal_of s text ≡ Ok j) kept reads }, subst IsWellFormed kept formed)
+is_read text part system (Err e) same says formed reads = tt
 
 pub is_only : (text part : List ℕ) (system : System) (r : Result Journal JournalFail) → part ≡ script_part text → ((s : System) → Spells part s → ReadsScript (Ok system) (Ok s)) → ReadsJournal r (journal_of system text) → (s : System) → Spells (script_part text) s → ReadsJournal r (journal_of s text)
 is_only text part system r same only reads s says =

@@ -119,6 +119,11 @@ FailsScript fault (Err (fail.Form line)) = ⊥
 FailsScript fault (Err (fail.Script f)) = f ≡ fault
 FailsScript fault (Err fail.NoMemory) = Unit {0}
 
+-- unless memory ran out, a result is the journal that the text says, and a fault of the script part is told
+pub record TellsWhatIsThere (text : List ℕ) (result : Result Journal JournalFail) : Type 0 where
+  pub journal : (s : System) → Spells (script_part text) s → ReadsJournal result (journal_of s text)
+  pub fault : (fault : ScriptFault) → Tells (script_part text) fault → FailsScript fault result
+
 -- what the failure of a result tells of the text
 abbrev pub TellsIfFailed : {A : Type 0} → List ℕ → Result A JournalFail → Type 0
 TellsIfFailed text (Ok x) = Unit {0}

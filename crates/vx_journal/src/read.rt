@@ -143,11 +143,9 @@ fn read_behind(alloc: Global, system: System, text: &[u8]) -> Result<Journal, Jo
 pub fn read_journal(alloc: Global, text: &[u8]) -> Result<Journal, JournalFail>
     requires { length text.now < 4294967295 }
     // What is read is what the text says, and the failure is the text's, unless memory runs out.
-    ensures journal { IfOk result (λ j. spec.IsJournal text.now j) }
+    ensures journal { IfOk result (λ j. spec.IsJournal text.now j × IsWellFormed j.system) }
     ensures failure { spec.TellsIfFailed text.now result }
-    ensures only { (s : SystemOf) → Spells (spec.script_part text.now) s → spec.ReadsJournal result (spec.journal_of s text.now) }
-    ensures only_fault { (fault : ScriptFaultOf) → Tells (spec.script_part text.now) fault → spec.FailsScript fault result }
-    ensures well_formed { IfOk result (λ j. IsWellFormed j.system) }
+    ensures only { spec.TellsWhatIsThere text.now result }
     // The text of a journal that has a spelling is read as the journal.
     ensures back { (j : JournalOf) → IsSpelledJournal j → text.now ≡ spec.journal_text j → spec.ReadsJournal result (Ok j) }
     // So the transcript of each run is read as its system, its records and its trailer.
@@ -181,12 +179,10 @@ fn front_of(alloc: Global, system: System, text: &[u8]) -> Result<Front, Journal
 pub fn read_front(alloc: Global, text: &[u8]) -> Result<Front, JournalFail>
     requires { length text.now < 4294967295 }
     // What is read is what the text says, and the failure is the text's, unless memory runs out.
-    ensures front { IfOk result (λ f. spec.IsFront text.now f) }
+    ensures front { IfOk result (λ f. spec.IsFront text.now f × IsWellFormed f.system) }
     ensures failure { spec.TellsIfFailed text.now result }
-    ensures well_formed { IfOk result (λ f. IsWellFormed f.system) }
     // The records stand within the text, and no more lines before them than bytes.
-    ensures within { IfOk result (λ f. f.end.len ≤ length text.now) }
-    ensures lines { IfOk result (λ f. f.end.line ≤ f.end.len) }
+    ensures within { IfOk result (λ f. (f.end.len ≤ length text.now) × (f.end.line ≤ f.end.len)) }
 {
     let len = script_len(text);
     match read_script(alloc, &text[..len]) {

@@ -1,6 +1,6 @@
 use Rattle.std.proofs.Common.{List, [], ◌∷◌, ◌++◌, ap, sym, subst, arith}
 use Rattle.vx_base.specs.declared.record.Rec.{Rec}
-use Rattle.vx_image.proofs.KeptTerms.{on_err_too}
+use Rattle.vx_base.proofs.Results.{on_err_too}
 use Rattle.vx_record.specs.Events.{enabled}
 use Rattle.vx_exec.specs.Taken.{TakesSome}
 use Rattle.vx_exec.specs.View.{Executive}

@@ -6,7 +6,7 @@ use Rattle.vx_tell.proofs.Told.{refused_output, told_of_system, told_output}
 use Rattle.vx_simulate.proofs.by_seed.simulate.Goals as goal
 
 pub returns-in-Ok-clause-told : goal.returns-in-Ok-clause-told
-returns-in-Ok-clause-told g c = told_of_system (IsSimText c.args.options) c.args.input.now c.in-Ok.system _ _ _ _ _ (rw c.as_slice.ensures at c.in-Ok.ensures.spelled) c.run.ensures.told
+returns-in-Ok-clause-told g c = told_of_system (IsSimText c.args.options) c.args.input.now c.in-Ok.system _ _ _ _ _ (rw c.as_slice.ensures at c.in-Ok.ensures.spelled.0) c.run.ensures.told
 
 pub returns-in-Err-clause-told : goal.returns-in-Err-clause-told
 returns-in-Err-clause-told g c =

@@ -1,7 +1,7 @@
 use Rattle.std.proofs.Common.{◌∙◌, map, arith}
 use Rattle.std.proofs.lemmas.List.{length-map}
 use Rattle.vx_image.proofs.KeptStmts.{stmts_kept, have_kept, stmts_and_one, have_and_one}
-use Rattle.vx_image.proofs.KeptTerms.{on_err_too}
+use Rattle.vx_base.proofs.Results.{on_err_too}
 use Rattle.vx_image.specs.Terms.{OfArg}
 use Rattle.vx_image.proofs.stmts.Stmts.push_args.Goals as goal
 

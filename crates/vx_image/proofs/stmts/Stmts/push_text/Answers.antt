@@ -1,6 +1,7 @@
 use Rattle.std.proofs.Common.{◌∙◌, ◌∷◌, [], refl}
 use Rattle.vx_image.proofs.KeptStmts.{stmts_kept, have_and_one}
-use Rattle.vx_image.proofs.KeptTerms.{begins_longer, on_err_too}
+use Rattle.vx_base.proofs.Results.{on_err_too}
+use Rattle.vx_image.proofs.KeptTerms.{begins_longer}
 use Rattle.vx_image.specs.Terms.{OfText}
 use Rattle.vx_image.proofs.stmts.Stmts.push_text.Goals as goal
 

@@ -1,5 +1,6 @@
 use Rattle.std.proofs.Common.{◌∙◌}
-use Rattle.vx_image.proofs.KeptTerms.{on_err_too, terms_kept, still_there}
+use Rattle.vx_base.proofs.Results.{on_err_too}
+use Rattle.vx_image.proofs.KeptTerms.{terms_kept, still_there}
 use Rattle.vx_image.proofs.terms.Terms.push_text.Goals as goal
 
 pub returns-in_err-packed-clause-err : goal.returns-in_err-packed-clause-err
