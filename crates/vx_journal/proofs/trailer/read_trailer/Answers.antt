@@ -5,7 +5,7 @@ use Rattle.vx_lines.specs.Cutting.{fed_len}
 use Rattle.vx_lines.proofs.Cutting.{len_some}
 use Rattle.vx_lines.specs.ReadRecords.{fed_lines}
 use Rattle.vx_journal.proofs.TrailerPart.{bad, begins, over, read_on}
-use Rattle.vx_journal.specs.TrailerLines.{ends_at, part_at, place_after, trailer_lines_from}
+use Rattle.vx_journal.specs.TrailerLines.{ends_at, place_after, trailer_lines_from}
 use Rattle.vx_journal.proofs.trailer.read_trailer.Goals as goal
 
 pub loop-at-init : goal.loop-at-init
