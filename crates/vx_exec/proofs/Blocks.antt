@@ -117,19 +117,10 @@ pub record IsSeeking (all now : List Event) (i left : ℕ) : Type 0 where
   pub passed : length all + left ≡ length now + i
 
 pub seek_past : (s : State) (b place : ℕ) (i left n after : ℕ) → place < length (block_of b s.procs) → n ≡ length (process_events s (pid (32 * b + 1 + place))) → left ≡ n + after → IsSeeking (events_in s b) (rest_in s b place) i left → IsSeeking (events_in s b) (rest_in s b (place + 1)) i after
-seek_past s b place i left n after within is passed so_far =
-    let here = process_events s (pid (32 * b + 1 + place)) in
-    let later = rest_in s b (place + 1) in
-    let now : rest_in s b place ≡ here ++ later = rest_now s b place within in
-    record {
-      found = sym (get_right here later left after (omega (arith, is, passed))) ∙ (ap (λ (es : List Event). slice_get es left) (sym now) ∙ so_far.found);
-      passed = omega (arith, ap (λ (es : List Event). length es) now, length-append here later, is, passed, so_far.passed);
-    }
+seek_past s b place i left n after within is passed so_far = grind (arith, rest_now, get_right, length-append)
 
 pub seek_here : (s : State) (b place : ℕ) (i left : ℕ) (e : Event) → place < length (block_of b s.procs) → option_to_list (Some e) ≡ process_events s (pid (32 * b + 1 + place)) → left ≡ 0 → IsSeeking (events_in s b) (rest_in s b place) i left → slice_get (events_in s b) i ≡ Some e
-seek_here s b place i left e within is none so_far =
-    let now : rest_in s b place ≡ e ∷ rest_in s b (place + 1) = rest_now s b place within ∙ ap (λ (es : List Event). es ++ rest_in s b (place + 1)) (sym is) in
-    sym (some_here (rest_in s b place) (rest_in s b (place + 1)) left e _ now none so_far.found)
+seek_here s b place i left e within is none so_far = grind (arith, rest_now, some_here)
 
 pub seek_end : (s : State) (b place : ℕ) (i left : ℕ) → length (block_of b s.procs) ≤ place → IsSeeking (events_in s b) (rest_in s b place) i left → i ≡ length (events_in s b) + left
 seek_end s b place i left past so_far = omega (arith, so_far.passed, ap (λ (es : List Event). length es) (rest_end s b place past))
@@ -176,9 +167,7 @@ pub block_opens : (s : State) (b : ℕ) (ys : List Event) (e : Event) (found : O
 block_opens s b ys e found has so_far = sym (first_opens (events_in s b) (from_block s (b + 1) ys) e (opens_from s (32 * b + 1) (block_of b s.procs)) has) ∙ (ap (find is_open) (sym (from_now s b ys)) ∙ so_far)
 
 pub block_closed : (s : State) (b : ℕ) (ys : List Event) (behind : ℕ) (found : Option Event) → 0 ≡ length (events_in s b) + behind → find is_open (from_block s b ys) ≡ found → find is_open (from_block s (b + 1) ys) ≡ found
-block_closed s b ys behind found is so_far =
-    let none : events_in s b ≡ [] = empty_of (events_in s b) (omega (arith, is)) in
-    rw (← so_far, from_now s b ys, none) refl
+block_closed s b ys behind found is so_far = grind (arith, empty_of, from_now)
 
 pub blocks_closed : (s : State) (b : ℕ) (ys : List Event) (found : Option Event) → length s.procs ≤ 32 * b → find is_open (from_block s b ys) ≡ found → find is_open ys ≡ found
 blocks_closed s b ys found past so_far = ap (find is_open) (sym (from_end s b ys past)) ∙ so_far

@@ -1,13 +1,12 @@
 -- What the services of the table and the events of a process do to the state: how many processes there are then, how many ids they
 -- open, and how much they tell.
-use Rattle.std.proofs.Common.{ℕ, ◌-◌, ◌≤◌, List, ◌∷◌, Bool, length, length-set, length-append, Option, Some, None, Result, Ok, ap, arith, nat_lt, [], ◌==◌, not, subst}
+use Rattle.std.proofs.Common.{ℕ, ◌-◌, ◌≤◌, List, ◌∷◌, Bool, length, length-set, length-append, Option, Some, None, Result, Ok, arith, [], ◌==◌, not, subst}
 use Rattle.std.proofs.lemmas.Bool.Decides.{nat_tests}
 use Rattle.vx_base.specs.Clusters.{Change}
 use Rattle.vx_base.specs.Pieces.{Timer, Mailbox, Queued}
 use Rattle.vx_base.specs.declared.call.Target.{Target}
 use Rattle.vx_base.specs.declared.cond.Cond.{Cond}
 use Rattle.vx_base.specs.declared.cond.Cond.TheVariants.{Normal}
-use Rattle.vx_base.specs.declared.effects.Cell.{Cell}
 use Rattle.vx_base.specs.declared.effects.Effect.{Effect}
 use Rattle.vx_base.specs.declared.frame.Frame.{Frame}
 use Rattle.vx_base.specs.declared.frame.FrameKind.{FrameKind}
@@ -26,18 +25,17 @@ use Rattle.vx_image.specs.Local.{advanced}
 use Rattle.vx_image.specs.declared.stop.Stop.{Stop}
 use Rattle.vx_image.specs.declared.stop.Stop.TheVariants as stop
 use Rattle.vx_record.specs.State.{Process, State, IsProcess, process_at, change, current, image_of}
-use Rattle.vx_record.specs.Parts.{Outcome, answered, at_tested, refused, commonly}
+use Rattle.vx_record.specs.Parts.{Outcome, answered, at_tested, commonly}
 use Rattle.vx_record.specs.Control.{creprc, process_test}
-use Rattle.vx_record.specs.Flags.{at_named, cell}
 use Rattle.vx_record.specs.Rundown.{cancel_handlers, exited, is_handler_of, without_frames, any_handler, deleted_by, leave_all, named_for_deletion, without_ast}
 use Rattle.vx_record.specs.Services.{place, with_number, asked, decl_place, number, routine_or_none, access_mode, service, service_of, text}
-use Rattle.vx_record.specs.Timers.{drop_timers, setimr_at, is_cancelled_timer, is_wake_for, unscheduled, setimr}
+use Rattle.vx_record.specs.Timers.{drop_timers, is_cancelled_timer, is_wake_for, unscheduled, setimr}
 use Rattle.vx_record.specs.Events.{delivered, moved_behind, moved_to, r0_of, reader, returned, returned_from, run, run_frame, run_on, served_call, started}
 use Rattle.vx_record.specs.Channels.{box_named, find_or_create, is_bad_box, new_box}
 use Rattle.vx_record.specs.declared.served.Served.{Served}
 use Rattle.vx_record.proofs.Lists.{either}
-use Rattle.vx_clusters.proofs.Few.{associate_few, dissociate_few, mark_few}
-use Rattle.vx_ctl.proofs.Common.{associates, dissociates, marks}
+use Rattle.vx_clusters.proofs.Few.{associate_few, dissociate_few}
+use Rattle.vx_ctl.proofs.Common.{associates, dissociates}
 use Rattle.vx_io.proofs.Changed.{process_there}
 use Rattle.vx_exec.proofs.Deepest.{at_most, deepest_set}
 use Rattle.vx_exec.proofs.Goes.{Goes, GoesBy, goes_stays, run_most, stays_changed, stays_goes, top_few}
@@ -82,11 +80,7 @@ tested_goes p s go r g = grind arith
 
 -- a timer is set
 timer_goes : (p : Pid) (s : State) (efn delta : ℕ) (tag : Option Entry) (reqid : ℕ) → GoesBy p s (setimr s p efn delta tag reqid)
-timer_goes p s efn delta tag reqid = either (GoesBy p s) (nat_lt 127 efn) _ _ (grind arith) (named (cell s p efn))
-  where
-    named : (o : Option Cell) → GoesBy p s (at_named (refused s) (setimr_at s p efn delta tag reqid) o)
-    named (Some c) = grind (arith, length-set {A = Process})
-    named o = grind arith
+timer_goes p s efn delta tag reqid = grind (arith, either, length-set)
 
 -- a mailbox is made, or assigned
 box_goes : (p : Pid) (s : State) (t : Target) (mode : Mode) (box : Mailbox) (o : Option ℕ) → GoesBy p s (with_number p t (find_or_create s p mode box o))
@@ -97,9 +91,7 @@ service_goes p s a AscEfc =
     let pr = process_at s p in
     subst (GoesBy p s) (associates s p (number a.a0) (text a.a1) (number a.a2)) (common_goes p s _ (associate_few s.common p pr.group (number a.a0) (text a.a1) (not (number a.a2 == 0)) pr.privs.prmceb))
 service_goes p s a DacEfc = subst (GoesBy p s) (dissociates s p (number a.a0)) (common_goes p s _ (omega (arith, dissociate_few s.common p (number a.a0))))
-service_goes p s a DlcEfc =
-    let pr = process_at s p in
-    subst (GoesBy p s) (marks s p (text a.a0)) (common_goes p s _ (omega (arith, mark_few s.common pr.group (text a.a0) pr.privs.prmceb)))
+service_goes p s a DlcEfc = grind arith
 service_goes p s a CanTim = dropped_goes p s (is_cancelled_timer p (number a.a0) (outer (access_mode a.a1) (current s p)))
 service_goes p s a CanWak = tested_goes p s (unscheduled s) (process_test s p (number a.a0)) (λ q. dropped_goes p s (is_wake_for q))
 service_goes p s a SetImr = timer_goes p s (number a.a0) (number a.a1) (routine_or_none s p a.a2 (number a.a3)) (number a.a3)
@@ -135,11 +127,7 @@ returned_goes p s (f ∷ fs) = by f.kind
 
 -- behind a change of the process that leaves no more to tell
 goes_after : (p : Pid) (s u : State) (f : Process → Process) (told : List Effect) → IsProcess s p → length (f (process_at s p)).frames ≤ length (process_at s p).frames → length (f (process_at s p)).handlers ≤ length (process_at s p).handlers → Goes (run_most (change s p f) p) (change s p f) u told → Goes (run_most s p) s u told
-goes_after p s u f told made few handlers h =
-    let at = process_there s p f made in
-    let deep = deepest_set s.procs (p.0 - 1) (f (process_at s p)) (omega (arith, few, handlers)) in
-    let most : run_most (change s p f) p ≤ run_most s p = omega (arith, few, handlers, deep, ap (λ (pr : Process). length pr.frames) at, ap (λ (pr : Process). length pr.handlers) at) in
-    stays_goes (run_most (change s p f) p) _ (stays_changed s p f) most h
+goes_after p s u f told made few handlers h = grind (arith, process_there, deepest_set, run_most, stays_goes, stays_changed)
 
 run_on_goes : (p : Pid) (t : State) (n : ℕ) (x : Stop) → IsProcess t p → GoesBy p t (run_on t p n x)
 run_on_goes p t n (stop.Call c) made =

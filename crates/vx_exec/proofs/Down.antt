@@ -3,7 +3,7 @@
 -- ends it, or else at last the handlers and the wakes for the process are dropped.
 use Rattle.std.proofs.Common.{◌≡◌, ℕ, ◌+◌, ◌≤◌, List, ◌∷◌, length, Option, Some, None, ◌*◌, arith, [], sym, subst, suc}
 use Rattle.std.specs.List.{filter, find}
-use Rattle.std.proofs.Math.Nat.{mul-le-mul_left, mul-le-mul_right, suc-mul}
+use Rattle.std.proofs.Math.Nat.{mul-le-mul_left, suc-mul}
 use Rattle.vx_base.specs.Pieces.{Handler, Channel, Queued}
 use Rattle.vx_base.specs.declared.mode.Mode.{Mode}
 use Rattle.vx_base.specs.declared.number.Pid.{Pid}
@@ -135,11 +135,7 @@ rundown_most s p = 4 * (length (process_at s p).asts + 11 * length s.requests + 
 
 -- so many modes, of four at most
 few_modes : (s : State) (p : Pid) (n : ℕ) → n ≤ 4 → n * heavy s p n ≤ 4 * (load s p + 4 * length s.requests)
-few_modes s p n few =
-    let lighter : heavy s p n ≤ load s p + 4 * length s.requests = let less_each = mul-le-mul_right (length s.requests) few in omega (arith, less_each) in
-    let a = mul-le-mul_left n lighter in
-    let b = mul-le-mul_right (load s p + 4 * length s.requests) few in
-    omega (arith, a, b)
+few_modes s p n few = grind arith
 
 rundown_from_goes : (p : Pid) (s : State) (ph : Phase) → IsProcess s p → (let o = rundown_from p ph s in Goes (rundown_most s p) s o.after o.effects)
 rundown_from_goes p s (phase.Handlers m) made =

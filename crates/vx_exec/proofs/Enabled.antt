@@ -14,7 +14,7 @@ use Rattle.vx_base.specs.declared.number.UnitNo.{UnitNo}
 use Rattle.vx_base.specs.declared.record.Event.{Event}
 use Rattle.vx_base.specs.declared.record.Event.TheVariants as event
 use Rattle.vx_frames.specs.Frames.{top_of}
-use Rattle.vx_record.specs.State.{Process, State, IsProcess, process_at, no_unit, nobody, pid}
+use Rattle.vx_record.specs.State.{Process, State, IsProcess, process_at, no_unit, pid}
 use Rattle.vx_record.specs.Events.{enabled, process_events, processes_from, tick_events, unit_events, units_from}
 use Rattle.vx_record.specs.Runs.{next_seed, picked}
 use Rattle.vx_record.specs.Sound.{WaitStands, WaitsStand}
@@ -41,8 +41,7 @@ process_abled s p made = grind arith
 
 processes_abled : (s : State) (n : ℕ) (prs : List Process) → 1 ≤ n → n + length prs ≡ 1 + length s.procs → AllByRecursion (IsAbled s) (processes_from s n prs)
 processes_abled s n [] above e = tt
-processes_abled s n (pr ∷ prs) above e =
-    all_append (IsAbled s) (process_events s (pid n)) (processes_from s (n + 1) prs) (process_abled s (pid n) (record { above = above; within = omega arith })) (processes_abled s (n + 1) prs (omega arith) (omega arith))
+processes_abled s n (pr ∷ prs) above e = let rest = processes_abled s (n + 1) prs (omega arith) (omega arith) in grind (arith, all_append, process_abled)
 
 tick_abled : (s : State) (ts : List Timer) → length ts ≤ length s.timers → AllByRecursion (IsAbled s) (tick_events ts)
 tick_abled s ts few = grind arith
@@ -60,9 +59,7 @@ abbrev later : State → List Event
 later s = units_from s 0 s.units ++ tick_events s.timers
 
 pub all_abled : (s : State) → AllByRecursion (IsAbled s) (enabled s)
-all_abled s =
-    all_append (IsAbled s) (processes_from s 1 s.procs) (later s) (processes_abled s 1 s.procs (omega arith) refl)
-    (all_append (IsAbled s) (units_from s 0 s.units) (tick_events s.timers) (units_abled s 0 s.units (omega arith)) (tick_abled s s.timers (omega arith)))
+all_abled s = grind (arith, all_append, processes_abled, units_abled, tick_abled)
 
 pub abled_of : (s : State) (e : Event) → Contains (enabled s) e → IsAbled s e
 abled_of s e there = subst (IsAbled s) there.2 (all_at (IsAbled s) (enabled s) there.0 e (all_abled s) there.1)
@@ -134,8 +131,7 @@ unit_enabled s u e there is =
     in_right (processes_from s 1 s.procs) (later s) e (in_left (units_from s 0 s.units) (tick_events s.timers) e (in_units s 0 s.units u e (omega arith) (omega (arith, there)) is))
 
 pub tick_enabled : (s : State) → 0 < length s.timers → Contains (enabled s) event.Tick
-tick_enabled s some =
-    in_right (processes_from s 1 s.procs) (later s) event.Tick (in_right (units_from s 0 s.units) (tick_events s.timers) event.Tick (in_tick s.timers some))
+tick_enabled s some = grind (arith, in_right, in_tick)
 
 -- The test of one event.
 
@@ -166,18 +162,13 @@ pub units_now : (s : State) (place : ℕ) → place < length s.units → units_f
 units_now s place within = ap (λ (us : List DeviceUnit). units_from s place us) (drop_more s.units place no_unit within)
 
 pub procs_step : (s : State) (place : ℕ) → place < length s.procs → drop place s.procs ≡ process_at s (pid (place + 1)) ∷ drop (place + 1) s.procs
-procs_step s place within =
-    let here : place + 1 - 1 ≡ place = omega arith in
-    drop_more s.procs place nobody within ∙ ap (λ (i : ℕ). slice_index_or s.procs i nobody ∷ drop (place + 1) s.procs) (sym here)
+procs_step s place within = grind (arith, drop_more)
 
 -- The wait of the top frame.
 
 pub top_fits : (fs : List Frame) (f : Frame) (w : Wait) → WaitsStand fs → top_of fs ≡ Some f → f.wait ≡ Some w → WaitStands w
 top_fits [] f w fits top waits = absurd (cc)
-top_fits (g ∷ fs) f w fits top waits =
-    let same : g ≡ f = cc in
-    let its : g.wait ≡ Some w = ap (λ (x : Frame). x.wait) same ∙ waits in
-    rw its at fits.0
+top_fits (g ∷ fs) f w fits top waits = grind arith
 
 -- Picks.
 
@@ -239,6 +230,4 @@ pub no_open_unit : (s : State) (ys : List Event) (place : ℕ) (found : Option E
 no_open_unit s ys place found within is so_far = rw (← so_far, no_unit_event s ys place within is) refl
 
 pub past_open_units : (s : State) (place : ℕ) (found : Option Event) → length s.units ≤ place → find is_open (later_units s place (tick_events s.timers)) ≡ found → slice_get (tick_events s.timers) 0 ≡ found
-past_open_units s place found past so_far =
-    let first : slice_get (tick_events s.timers) 0 ≡ find is_open (tick_events s.timers) = grind arith in
-    first ∙ (ap (λ (us : List DeviceUnit). find is_open (units_from s place us ++ tick_events s.timers)) (sym (drop_of_length-le s.units past)) ∙ so_far)
+past_open_units s place found past so_far = grind (arith, drop_of_length-le)

@@ -88,9 +88,7 @@ pub ends_before : {s : State} {x y : Part} (m n : ℕ) → Ends m s x → Goes n
 ends_before m n a b = let h = stays_goes n n a.stays (omega arith) b in grind (arith, length-append {A = Effect})
 
 pub ends_behind : {s : State} {x y : Part} (m n : ℕ) → Goes m s x.after x.effects → Ends n x.after y → Goes (m + n) s y.after (x.effects ++ y.effects)
-ends_behind {s} {x} {y} m n a b =
-    let services : (v : UnitNo) → (unit_at y.after v).services ≤ (unit_at s v).services + 1 = λ v. omega (arith, ap (λ (us : List DeviceUnit). (slice_index_or us v.0 no_unit).services) b.stays.units, a.services v) in
-    grind (arith, length-append {A = Effect})
+ends_behind {s} {x} {y} m n a b = grind (arith, length-append)
 
 -- timers and handlers end
 pub timers_fall : (p : Pid) (test : Timer → Bool) (s : State) → Falls p 0 (length s.timers) s (drop_timers test s)

@@ -52,9 +52,7 @@ goes_more m n more h = grind arith
 
 -- behind what stays
 pub stays_goes : {s t u : State} {told : List Effect} (m n : ℕ) → Stays s t → m ≤ n → Goes m t u told → Goes n s u told
-stays_goes {s} {t} {u} {told} m n a more b =
-    let services : (v : UnitNo) → (unit_at u v).services ≤ (unit_at s v).services + 1 = λ v. omega (arith, ap (λ (us : List DeviceUnit). (slice_index_or us v.0 no_unit).services) a.units, b.services v) in
-    grind arith
+stays_goes {s} {t} {u} {told} m n a more b = grind arith
 
 pub top_few : (f : Frame → Frame) (fs : List Frame) → length (with_top f fs) ≤ length fs
 top_few f fs = grind arith

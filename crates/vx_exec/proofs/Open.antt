@@ -21,19 +21,13 @@ alike_at : (s : State) (p q : Pid) (f : Process → Process) → IsAlike (proces
 alike_at s p q f alike = at_set IsAlike (λ x. record { decl = refl; channels = refl }) s.procs (p.0 - 1) (q.0 - 1) (f (process_at s p)) nobody alike
 
 base_changed : (s : State) (p : Pid) (f : Process → Process) → IsAlike (process_at s p) (f (process_at s p)) → Base (ground s) (ground (change s p f))
-base_changed s p f alike =
-    let decl : (q : Pid) → (process_at (change s p f) q).decl ≡ (process_at s q).decl = λ q. (alike_at s p q f alike).decl in
-    grind (arith, length-set {A = Process})
+base_changed s p f alike = grind (arith, alike_at, length-set)
 
 rooted_changed : (g h : Ground) (p : Pid) (n : ℕ) (mode : Mode) (d : Device) → (process_of h p).channels ≡ (process_of g p).channels → IsRooted g p n mode d → IsRooted h p n mode d
 rooted_changed g h p n mode d same r = grind arith
 
 request_changed : (s : State) (p : Pid) (f : Process → Process) → IsAlike (process_at s p) (f (process_at s p)) → (r : Request) → RequestStands (ground s) r → RequestStands (ground (change s p f)) r
-request_changed s p f alike r stands =
-    let g = ground s in
-    let h = ground (change s p f) in
-    let same = (alike_at s p r.req.p f alike).channels in
-    request_moves g h (base_changed s p f alike) r (λ d. device_moves g h refl (λ b x. x) r.req.device d) (λ x. rooted_changed g h r.req.p r.req.chan r.req.chan_mode r.req.device same x) stands
+request_changed s p f alike r stands = grind (arith, alike_at, request_moves, base_changed, device_moves, rooted_changed)
 
 pub open_changed : (s : State) (p : Pid) (f : Process → Process) → (f (process_at s p)).decl ≡ (process_at s p).decl → (f (process_at s p)).channels ≡ (process_at s p).channels → AreOpen s p → AreOpen (change s p f) p
 open_changed s p f decl channels was =

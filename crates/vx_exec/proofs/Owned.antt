@@ -3,7 +3,6 @@ use Rattle.std.proofs.Common.{◌≡◌, ℕ, zero, suc, ◌+◌, ◌*◌, ◌<�
 use Rattle.std.specs.List.{AllByRecursion}
 use Rattle.vx_base.specs.Flags.{one}
 use Rattle.vx_base.specs.Lists.{tally}
-use Rattle.vx_base.specs.Pieces.{Queued}
 use Rattle.vx_base.specs.declared.effects.Cell.{Cell}
 use Rattle.vx_base.specs.declared.effects.Cell.TheVariants.{Local}
 use Rattle.vx_base.specs.declared.frame.Frame.{Frame}
@@ -11,10 +10,9 @@ use Rattle.vx_base.specs.declared.frame.Wait.{Wait}
 use Rattle.vx_base.specs.declared.number.Pid.{Pid}
 use Rattle.vx_base.specs.declared.record.Event.TheVariants as event
 use Rattle.vx_record.specs.State.{Process, State, pid, process_at}
-use Rattle.vx_record.specs.Asts.{deliverable_ast}
-use Rattle.vx_record.specs.Events.{ast_or_run, can_run, can_run_down, is_satisfied, process_events, processes_from}
+use Rattle.vx_record.specs.Events.{can_run, can_run_down, is_satisfied, process_events, processes_from}
 use Rattle.vx_record.specs.Flags.{cell, wait_condition, where_named}
-use Rattle.vx_procs.specs.Own.{AreOwn, ast_or_own, block_of, has_own, is_own, own_event, own_run, own_wait, own_wait_if}
+use Rattle.vx_procs.specs.Own.{AreOwn, block_of, has_own, is_own, own_event, own_run, own_wait, own_wait_if}
 use Rattle.vx_exec.specs.Blocks.{events_in}
 use Rattle.vx_exec.proofs.Enabled.{empty_of, procs_step}
 
@@ -34,16 +32,8 @@ run_told : (s : State) (p : Pid) (fs : List Frame) (b : Bool) → own_run (proce
 run_told s p [] b e = grind arith
 run_told s p (f ∷ fs) b e = let same = satisfied_told s p f.wait b e in grind arith
 
-ast_told : (s : State) (p : Pid) (o : Option Queued) (b : Bool) → ast_or_own (process_at s p) o ≡ Some b → length (ast_or_run s p o) ≡ one b
-ast_told s p None b e = run_told s p (process_at s p).frames b e
-ast_told s p o b e = grind arith
-
 pub own_told : (s : State) (p : Pid) (b : Bool) → own_event (process_at s p) ≡ Some b → length (process_events s p) ≡ one b
-own_told s p b e = either_told (process_at s p).suspended e
-  where
-    either_told : (t : Bool) → (if t then Some false else ast_or_own (process_at s p) (deliverable_ast s p)) ≡ Some b → length (if t then [] else ast_or_run s p (deliverable_ast s p)) ≡ one b
-    either_told true is = grind arith
-    either_told false is = ast_told s p (deliverable_ast s p) b is
+own_told s p b e = grind arith
 
 -- known to have one
 pub one_known : (s : State) (p : Pid) → own_event (process_at s p) ≡ Some true → 1 ≡ length (process_events s p)

@@ -1,9 +1,9 @@
 -- What an event relies on, once room was made; and what the executive keeps.
-use Rattle.std.proofs.Common.{◌≡◌, ℕ, ◌+◌, ◌<◌, ◌≤◌, List, [], ◌∷◌, Bool, true, ◌&&◌, nat_lt, nat_le, length, map, Option, Some, None, IsTrue, Contains, refl, ap, sym, subst, arith}
+use Rattle.std.proofs.Common.{◌≡◌, ℕ, ◌+◌, ◌<◌, ◌≤◌, List, [], ◌∷◌, Bool, true, ◌&&◌, nat_lt, nat_le, length, map, Some, None, IsTrue, Contains, refl, sym, subst, arith}
 use Rattle.std.specs.List.{AllByRecursion}
 use Rattle.std.proofs.lemmas.Bool.{and_parts, leb-true, ltb-true}
 use Rattle.std.proofs.lemmas.Bool.Decides.{nat_tests}
-use Rattle.vx_base.specs.Pieces.{DeviceUnit, Request}
+use Rattle.vx_base.specs.Pieces.{DeviceUnit}
 use Rattle.vx_base.specs.Queues.{front, in_service}
 use Rattle.vx_base.specs.declared.number.Pid.{Pid}
 use Rattle.vx_base.specs.declared.record.Event.{Event}
@@ -15,7 +15,7 @@ use Rattle.vx_image.specs.declared.image.Image.{Image}
 use Rattle.vx_image.specs.declared.system.System.{System}
 use Rattle.vx_image.specs.declared.unit.UnitDecl.{UnitDecl}
 use Rattle.vx_record.specs.Asts.{deliverable_ast}
-use Rattle.vx_record.specs.Events.{beg, enabled, step}
+use Rattle.vx_record.specs.Events.{enabled, step}
 use Rattle.vx_record.specs.Runs.{are_deleted, born_from, end_of, end_with, first}
 use Rattle.vx_record.specs.State.{State, IsProcess, decl_of, image_of, process_at, no_image, no_decl, no_unit}
 use Rattle.vx_record.proofs.Changes.{stands_at}
@@ -69,11 +69,7 @@ next_of k p limit taken effects going made begun =
     grind arith
 
 leaving_of : (k : Kernel) (p : Pid) (limit taken effects : ℕ) → IsGoing k.state limit taken → IsIdle k.state p → HasBegun k (Some p) effects → IsLeaving k p
-leaving_of k p limit taken effects going owner begun =
-    let whole = going.whole in
-    let stands = stands_at k.state p whole.sound owner.made in
-    let image = decl_image k.state p whole.formed stands.decl in
-    search
+leaving_of k p limit taken effects going owner begun = grind (arith, stands_at, decl_image)
 
 pub ready_for : (k : Kernel) (e : Event) (limit taken : ℕ) → IsGoing k.state limit taken → HasOwner k.state e → IsHomeFor k e → IsRoomMade k e → IsReadyFor k e
 ready_for k (event.Run p) limit taken going made home room = next_of k p limit taken room.effects going made room.begun
@@ -81,9 +77,7 @@ ready_for k (event.Ast p) limit taken going made home room = next_of k p limit t
 ready_for k (event.Rdn p) limit taken going owner home room = leaving_of k p limit taken room.effects going owner room.begun
 ready_for k event.Tick limit taken going made home room = record { order = going.whole.sound.timer_ids; counted = room.begun.time }
 ready_for k (event.Beg u) limit taken going waits home begun = record { prepared = begun.0; requests = requests_of k.state going.whole }
-ready_for k (event.Don u) limit taken going serves home begun =
-    let few = going.services u in
-    record { serves = serves; requests = requests_of k.state going.whole; count = omega (arith, few, going.within, going.limited); home = home }
+ready_for k (event.Don u) limit taken going serves home begun = grind arith
 
 -- Each step.
 
@@ -99,13 +93,8 @@ step_goes k (event.Don u) whole serves begun = don_goes k.state u (in_service u 
 told_room : (k : Kernel) (e : Event) → IsWhole k.state → HasOwner k.state e → IsRoomMade k e → HasRoomFor k e → Fits k (step k.state e).effects
 told_room k e whole owner made room = let goes = step_goes k e whole owner made in omega (arith, goes.few, room.enough, room.begun.room)
 
-begs_nothing : (s : State) (o : Option Request) → (beg s o).effects ≡ []
-begs_nothing s o = grind arith
-
 pub step_open : (k : Kernel) (e : Event) → IsWhole k.state → HasOwner k.state e → IsRoomMade k e → IsOpen k e
-step_open k (event.Beg u) whole owner begun =
-    let none = begs_nothing k.state (front u k.state.requests) in
-    (begun.1, omega (arith, ap length begun.1, ap length none))
+step_open k (event.Beg u) whole owner begun = grind arith
 step_open k (event.Don u) whole owner begun = tt
 step_open k e whole owner room = (room.begun.empty, told_room k e whole owner room room)
 

@@ -1,10 +1,9 @@
 -- What the parts of an event come to, in the machine's words.
-use Rattle.std.proofs.Common.{◌≡◌, ℕ, ◌-◌, ◌≤◌, List, [], ◌∷◌, cond, ◌&&◌, nat_lt, nat_le, length, length-set, slice_index_or, IsTrue, Option, Some, None, refl, sym, ap, subst, ◌∙◌, arith}
-use Rattle.std.proofs.lemmas.Bool.{and_parts, eqb-true, leb-true}
-use Rattle.std.specs.List.{find, list_all}
-use Rattle.vx_base.specs.Modes.{rank, reaches}
-use Rattle.vx_base.specs.Pieces.{Enables, Handler, Queued, is_enabled_in}
-use Rattle.vx_base.specs.Queues.{deliverable, first_of_mode, is_free, is_of_mode, may_start, or_else}
+use Rattle.std.proofs.Common.{◌≡◌, ℕ, ◌-◌, ◌≤◌, List, [], ◌∷◌, cond, length, length-set, slice_index_or, IsTrue, Option, Some, None, refl, sym, ap, subst, ◌∙◌, arith}
+use Rattle.std.proofs.lemmas.Bool.{and_parts, eqb-true}
+use Rattle.vx_base.specs.Modes.{reaches}
+use Rattle.vx_base.specs.Pieces.{Enables, Handler, Queued}
+use Rattle.vx_base.specs.Queues.{deliverable, first_of_mode, or_else}
 use Rattle.vx_base.specs.declared.call.Args.{Args}
 use Rattle.vx_base.specs.declared.call.Call.{Call}
 use Rattle.vx_base.specs.declared.cond.Cond.{Cond}
@@ -15,7 +14,7 @@ use Rattle.vx_base.specs.declared.number.Pid.{Pid}
 use Rattle.vx_base.specs.declared.routine.Entry.{Entry}
 use Rattle.vx_frames.specs.Frames.{top_of}
 use Rattle.vx_image.specs.Storage.{Storage}
-use Rattle.vx_image.specs.WellFormed.{IsImage, are_distinct, falls_nowhere, is_stmt, label_names, label_places}
+use Rattle.vx_image.specs.WellFormed.{IsImage}
 use Rattle.vx_image.specs.declared.image.Image.{Image}
 use Rattle.vx_image.specs.declared.stop.Stop.{Stop}
 use Rattle.vx_image.specs.declared.stop.Stop.TheVariants as stop
@@ -76,11 +75,7 @@ called_room p c o k room = let same : (called p c o).effects ≡ o.effects = gri
 -- Local statements, and what they stop at.
 
 few_stmts : (image : Image) → IsImage image → length image.stmts ≤ 10000
-few_stmts image is =
-    let places = list_all (λ place. nat_le place (length image.stmts)) (label_places image) in
-    let rest = list_all (is_stmt is.0 image) image.stmts in
-    let labels = and_parts (nat_lt (length image.labels) 4294967296) (nat_le (length image.stmts) 10000 && (are_distinct (label_names image) && (falls_nowhere 0 (label_places image) && (places && rest)))) is.1 in
-    leb-true (length image.stmts) 10000 (and_parts (nat_le (length image.stmts) 10000) (are_distinct (label_names image) && (falls_nowhere 0 (label_places image) && (places && rest))) labels.1).0
+few_stmts image is = grind arith
 
 stands_from : (s : State) (p : Pid) (fs : List Frame) → IsStopAt (image_of s p) (advanced_from (image_of s p) p (process_at s p).store fs).place (advanced_from (image_of s p) p (process_at s p).store fs).stop
 stands_from s p fs = grind (arith, advanced_stands)
@@ -96,10 +91,7 @@ call_stands image n (stop.Call c) few h fits = (omega (arith, few, h), fits.args
 call_stands image n x few h fits = tt
 
 pub advanced_call : (k : Kernel) (p : Pid) (n : ℕ) (x : Stop) → IsSet k p → n ≡ (advanced_at k.state p).place → x ≡ (advanced_at k.state p).stop → IsCallAt n x
-advanced_call k p n x set place stops =
-    let s = k.state in
-    let a = advanced_at s p in
-    rw (place, stops) (call_stands (image_of s p) a.place a.stop (few_stmts (image_of s p) set.ready.formed) (stands_from s p (process_at s p).frames) (fits_from s p (process_at s p).frames set.ready.formed))
+advanced_call k p n x set place stops = grind (arith, call_stands, few_stmts, stands_from, fits_from)
 
 -- What an event relies on, as its process changes.
 
@@ -141,9 +133,7 @@ set_moved k l p store place set there =
     set_changed k l p (moved_to store place) set there refl refl refl (record { frames = top_few _ (process_at k.state p).frames; asts = omega arith })
 
 pub call_made : (k l : Kernel) (p : Pid) (c : Call) (s : Served) → IsSet k p → Does (service k.state p c) s k l → IsProcess l.state p
-call_made k l p c s set did =
-    let goes = call_goes p k.state c in
-    subst (λ (x : Kernel). IsProcess x.state p) (sym did.leaves) (record { above = set.ready.made.above; within = omega (arith, set.ready.made.within, goes.grows) })
+call_made k l p c s set did = grind (arith, call_goes)
 
 -- The top frame goes on, where it waits for nothing.
 
@@ -179,13 +169,7 @@ set_taken k l p set there =
 -- it is in a mode that is not further out than that of the process
 
 of_mode : (enables : Enables) (now : Mode) (active : Option Mode) (asts : List Queued) (m : Mode) (q : Queued) → first_of_mode enables now active asts m ≡ Some q → IsTrue (reaches now q.mode)
-of_mode enables now active asts m q =
-    either_by (λ (o : Option Queued). o ≡ Some q → IsTrue (reaches now q.mode)) (may_start enables now active m) (find (is_of_mode m) asts) None
-    (λ starts found.
-    let reached = (and_parts (reaches now m) (is_free active m) (and_parts (is_enabled_in enables m) (reaches now m && is_free active m) starts).1).0 in
-    let same : rank q.mode ≡ rank m = eqb-true (rank q.mode) (rank m) (find_passes (is_of_mode m) asts q found) in
-    rw same reached)
-    (λ not none. cc)
+of_mode enables now active asts m q = grind (arith, either_by, and_parts, eqb-true, find_passes)
 
 reached_by : (enables : Enables) (now : Mode) (active : Option Mode) (asts : List Queued) (q : Queued) → deliverable enables now active asts ≡ Some q → IsTrue (reaches now q.mode)
 reached_by enables now active asts q e = either_of _ _ (of KernelMode) (either_of _ _ (of Exec) (either_of _ _ (of Super) (of User))) e
@@ -204,8 +188,4 @@ inward_of : (s : State) (p : Pid) (q : Queued) → deliverable_ast s p ≡ Some 
 inward_of s p q e = let at = reached_at (process_at s p) (process_at s p).frames q in grind arith
 
 pub inward_taken : (k l : Kernel) (p : Pid) (q : Queued) → IsProcess k.state p → Some q ≡ deliverable_ast k.state p → l ≡ changed k p (without_started (deliverable_ast k.state p)) → IsTrue (reaches (current l.state p) q.mode)
-inward_taken k l p q made is there =
-    let s = k.state in
-    let o = deliverable_ast s p in
-    let same : current l.state p ≡ current s p = ap (λ (x : Kernel). current x.state p) there ∙ (ap (λ (pr : Process). top_mode pr.frames) (process_there s p (without_started o) made) ∙ ap top_mode (same_frames o (process_at s p))) in
-    subst (λ (m : Mode). IsTrue (reaches m q.mode)) (sym same) (inward_of s p q (sym is))
+inward_taken k l p q made is there = grind (arith, process_there, same_frames, inward_of)

@@ -8,10 +8,10 @@ use Rattle.vx_base.specs.declared.record.Rec.{Rec}
 use Rattle.vx_image.specs.declared.system.System.{System}
 use Rattle.vx_record.specs.State.{State}
 use Rattle.vx_record.specs.Events.{enabled, step}
-use Rattle.vx_record.specs.Runs.{AreSteps, IsStep, after, after_from, are_deleted, choose, chosen, chosen_from, end_of, end_with, first, next_seed, pick, picked, record_of}
+use Rattle.vx_record.specs.Runs.{AreSteps, IsStep, after_from, are_deleted, choose, chosen_from, end_of, end_with, first, next_seed, pick, picked, record_of}
 use Rattle.vx_exec.specs.Picks.{moved_seed, picked_event}
 use Rattle.vx_exec.specs.Taken.{EndsRun, IsChosenRun, TakesRun}
-use Rattle.vx_exec.specs.View.{Executive, Plan, after_step, plan}
+use Rattle.vx_exec.specs.View.{Executive, after_step, plan}
 
 pub steps_more : (s : State) (rs : List Rec) (r : Rec) → AreSteps s rs → IsStep (after_from s rs) r → AreSteps s (rs ++ r ∷ [])
 steps_more s [] r h k = (k, tt)
@@ -49,17 +49,8 @@ going_below limit taken s h = goes_below limit taken (are_deleted s) (enabled s)
 
 -- The chosen run, a record at a time.
 
-chosen_of : (n : ℕ) (s : State) (x : ℕ) (es : List Event) (e : Event) → enabled s ≡ es → Some e ≡ picked_event x es → chosen_from (suc n) s x ≡ record_of s e ∷ chosen_from n (step s e).after (moved_seed x es)
-chosen_of n s x [] e is picks = absurd (cc)
-chosen_of n s x (f ∷ es) e is picks =
-    let same : pick x f es ≡ e = cc in
-    let on : State → ℕ → Event → List Rec = λ t y e. record_of t e ∷ chosen_from n (step t e).after y in
-    ap (λ l. choose s x l on) is ∙ ap (λ (e : Event). record_of s e ∷ chosen_from n (step s e).after (next_seed x)) same
-
 chosen_step : (limit taken : ℕ) (s : State) (x : ℕ) (e : Event) → taken < limit → Some e ≡ picked_event x (enabled s) → chosen_from (limit - taken) s x ≡ record_of s e ∷ chosen_from (limit - (taken + 1)) (step s e).after (moved_seed x (enabled s))
-chosen_step limit taken s x e below picks =
-    let left : limit - taken ≡ suc (limit - (taken + 1)) = omega arith in
-    rw left (chosen_of (limit - (taken + 1)) s x (enabled s) e refl picks)
+chosen_step limit taken s x e below picks = grind arith
 
 none_left : (n : ℕ) (s : State) (x : ℕ) → enabled s ≡ [] → chosen_from n s x ≡ []
 none_left zero s x none = refl
@@ -67,10 +58,7 @@ none_left (suc n) s x none = ap (λ l. choose s x l (λ t y e. record_of t e ∷
 
 chosen_ended : (limit taken : ℕ) (s : State) (x : ℕ) (es : List Event) (end : End) → enabled s ≡ es → Some end ≡ end_with limit taken (are_deleted s) es → chosen_from (limit - taken) s x ≡ []
 chosen_ended limit taken s x [] end is ended = none_left (limit - taken) s x is
-chosen_ended limit taken s x (e ∷ es) end is ended =
-    let reached : limit ≤ taken = grind (arith, nat_tests, ended) in
-    let none : limit - taken ≡ zero = omega arith in
-    rw none refl
+chosen_ended limit taken s x (e ∷ es) end is ended = grind arith
 
 few_of : (n : ℕ) (s : State) (x : ℕ) (es : List Event) → ((e : Event) → length (chosen_from n (step s e).after (next_seed x)) ≤ n) → length (choose s x es (λ t y e. record_of t e ∷ chosen_from n (step t e).after y)) ≤ suc n
 few_of n s x [] rest = omega arith
@@ -91,46 +79,13 @@ pub begun : (e : Executive) (seed : ℕ) → Taking e e seed seed []
 begun e seed = record { takes = record { steps = tt; now = refl; counted = omega arith; planned = refl }; chosen = refl }
 
 pub taken_more : (before now later : Executive) (seed x y : ℕ) (recs : List Rec) (r : Rec) (e : Event) → Taking before now seed x recs → None ≡ end_of now.limit now.taken now.state → Some e ≡ picked_event x (enabled now.state) → y ≡ moved_seed x (enabled now.state) → r ≡ record_of now.state e → later ≡ after_step now e → plan later ≡ plan now → Taking before later seed y (recs ++ r ∷ [])
-taken_more before now later seed x y recs r e so_far going picks moves is becomes planned =
-    let takes = so_far.takes in
-    let s = now.state in
-    let below : now.taken < now.limit = goes_below now.limit now.taken (are_deleted s) (enabled s) going in
-    let step_of : IsStep s r = is_step s e r (picked_there x (enabled s) e picks) is in
-    let rest = chosen_step now.limit now.taken s x e below picks in
-    let on : Executive → ℕ → Rec → List Rec = λ e y r. (recs ++ r ∷ []) ++ chosen_from (e.limit - e.taken) e.state y in
-    let next : Executive = after_step now e in
-    record {
-      takes = record {
-        steps = steps_more before.state recs r takes.steps (subst (λ (t : State). IsStep t r) takes.now step_of);
-        now = ap (λ (x : Executive). x.state) becomes ∙ (ap (λ (t : State). (step t e).after) takes.now ∙ (ap (λ (f : Event). (step (after_from before.state recs) f).after) (ap (λ (q : Rec). q.event) (sym is)) ∙ sym (after_more before.state recs r)));
-        counted = omega (arith, ap (λ (x : Executive). x.taken) becomes, takes.counted, length-append recs (r ∷ []));
-        planned = planned ∙ takes.planned;
-      };
-      chosen = ap (λ (e : Executive). on e y r) becomes ∙ (ap (λ (z : ℕ). on next z r) moves ∙ (ap (λ (q : Rec). on next (moved_seed x (enabled s)) q) is ∙ (append_assoc recs (record_of s e ∷ []) (chosen_from (now.limit - (now.taken + 1)) (step s e).after (moved_seed x (enabled s))) ∙ (ap (λ rs. recs ++ rs) (sym rest) ∙ so_far.chosen))));
-    }
+taken_more before now later seed x y recs r e so_far going picks moves is becomes planned = grind (arith, goes_below, is_step, picked_there, chosen_step, steps_more, after_more, length-append, append_assoc)
 
 pub ended_run : (before now : Executive) (seed next : ℕ) (recs : List Rec) (end : End) → Taking before now seed next recs → Some end ≡ end_of now.limit now.taken now.state → EndsRun before now seed recs end
-ended_run before now seed next recs end so_far ended = record {
-  takes = so_far.takes;
-  chosen = sym (append-nil recs) ∙ (ap (λ rs. recs ++ rs) (sym (chosen_ended now.limit now.taken now.state next (enabled now.state) end refl ended)) ∙ so_far.chosen);
-  ended = sym ended;
-}
+ended_run before now seed next recs end so_far ended = grind (arith, append-nil, chosen_ended)
 
 abbrev opened : System → ℕ → Executive
 opened system limit = record { state = first system; limit = limit; taken = 0 }
 
 pub chosen_run : (system : System) (seed limit : ℕ) (before exec : Executive) (recs : List Rec) (end : End) → limit ≤ 100000 → before ≡ opened system limit → EndsRun before exec seed recs end → IsChosenRun system seed limit exec recs end
-chosen_run system seed limit before exec recs end within opens ran =
-    let run : EndsRun (opened system limit) exec seed recs end = subst (λ (e : Executive). EndsRun e exec seed recs end) opens ran in
-    let whole : limit - 0 ≡ limit = omega arith in
-    let picks : recs ≡ chosen system seed limit = run.chosen ∙ ap (λ (n : ℕ). chosen_from n (first system) seed) whole in
-    let counted : exec.taken ≡ length recs = omega (arith, run.takes.counted) in
-    let limited : exec.limit ≡ limit = ap (λ (p : Plan). p.limit) run.takes.planned in
-    record {
-      run = record { few = omega (arith, ap length picks, chosen_few limit (first system) seed); steps = run.takes.steps };
-      chosen = picks;
-      now = run.takes.now;
-      counted = counted;
-      limited = limited;
-      ended = ap (λ (n : ℕ). end_of n (length recs) (after system recs)) (sym limited) ∙ (ap (λ (n : ℕ). end_of exec.limit n (after system recs)) (sym counted) ∙ (ap (λ (s : State). end_of exec.limit exec.taken s) (sym run.takes.now) ∙ run.ended));
-    }
+chosen_run system seed limit before exec recs end within opens ran = grind (arith, chosen_few)
