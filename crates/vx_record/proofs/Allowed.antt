@@ -1,17 +1,16 @@
 -- What is enabled: events of processes that are there, and rundowns of processes that have no frame.
-use Rattle.std.proofs.Common.{◌≡◌, ℕ, ◌+◌, ◌≤◌, List, [], ◌∷◌, ◌++◌, true, length, Option, Some, None, Contains, refl, arith, subst}
+use Rattle.std.proofs.Common.{◌≡◌, ℕ, ◌+◌, ◌≤◌, List, [], ◌∷◌, true, length, Option, Some, None, Contains, refl, arith}
 use Rattle.std.specs.List.{AllByRecursion}
-use Rattle.vx_base.specs.Pieces.{Queued, Request, DeviceUnit, Timer}
-use Rattle.vx_base.specs.Queues.{front, in_service}
+use Rattle.vx_base.specs.Pieces.{Request, DeviceUnit, Timer}
+use Rattle.vx_base.specs.Queues.{front}
 use Rattle.vx_base.specs.declared.frame.Frame.{Frame}
 use Rattle.vx_base.specs.declared.number.Pid.{Pid}
 use Rattle.vx_base.specs.declared.number.UnitNo.{UnitNo}
 use Rattle.vx_base.specs.declared.record.Event.{Event}
 use Rattle.vx_base.specs.declared.record.Event.TheVariants as event
-use Rattle.vx_record.specs.Asts.{deliverable_ast}
-use Rattle.vx_record.specs.Events.{can_run, can_run_down, run_events, ast_or_run, process_events, processes_from, beg_event, don_or_beg, unit_events, units_from, tick_events, enabled}
-use Rattle.vx_record.specs.State.{Process, State, IsProcess, process_at, pid}
-use Rattle.vx_record.proofs.Lists.{either, either_by, all_append, all_at}
+use Rattle.vx_record.specs.Events.{can_run_down, process_events, processes_from, beg_event, don_or_beg, units_from, tick_events, enabled}
+use Rattle.vx_record.specs.State.{Process, State, IsProcess, process_at}
+use Rattle.vx_record.proofs.Lists.{all_append, all_at}
 use Rattle.vx_record.proofs.Steps.{IsThere}
 
 abbrev pub Allowed : State → Event → Type 0
@@ -26,21 +25,12 @@ no_frames : (s : State) (p : Pid) (frames : List Frame) → can_run_down s p fra
 no_frames s p [] e = refl
 no_frames s p (f ∷ fs) e = cc
 
-run_allowed : (s : State) (p : Pid) → IsProcess s p → AllByRecursion (Allowed s) (run_events s p)
-run_allowed s p m =
-    let P = AllByRecursion (Allowed s) in
-    either P (can_run s p (process_at s p).frames) _ _ (m, tt)
-    (either_by P (can_run_down s p (process_at s p).frames) _ _ (λ e. ((m, no_frames s p (process_at s p).frames e), tt)) (λ e. tt))
-
 process_allowed : (s : State) (p : Pid) → IsProcess s p → AllByRecursion (Allowed s) (process_events s p)
-process_allowed s p m =
-    either (AllByRecursion (Allowed s)) (process_at s p).suspended _ _ tt
-    (elim (deliverable_ast s p) as (λ (o : Option Queued). AllByRecursion (Allowed s) (ast_or_run s p o)) [ None ↦ run_allowed s p m | Some q ↦ (m, tt) ])
+process_allowed s p m = grind arith
 
 processes_allowed : (s : State) (n : ℕ) (prs : List Process) → 1 ≤ n → n + length prs ≡ 1 + length s.procs → AllByRecursion (Allowed s) (processes_from s n prs)
 processes_allowed s n [] above e = tt
-processes_allowed s n (pr ∷ prs) above e =
-    all_append (Allowed s) (process_events s (pid n)) (processes_from s (n + 1) prs) (process_allowed s (pid n) (record { above = above; within = omega arith })) (processes_allowed s (n + 1) prs (omega arith) (omega arith))
+processes_allowed s n (pr ∷ prs) above e = let rest = processes_allowed s (n + 1) prs (omega arith) (omega arith) in grind (arith, all_append, process_allowed)
 
 don_allowed : (s : State) (u : UnitNo) (o : Option Request) → AllByRecursion (Allowed s) (don_or_beg s u o)
 don_allowed s u None = elim (front u s.requests) as (λ (o : Option Request). AllByRecursion (Allowed s) (beg_event u o)) [ None ↦ tt | Some r ↦ (tt, tt) ]
@@ -48,20 +38,14 @@ don_allowed s u (Some r) = (tt, tt)
 
 units_allowed : (s : State) (n : ℕ) (us : List DeviceUnit) → AllByRecursion (Allowed s) (units_from s n us)
 units_allowed s n [] = tt
-units_allowed s n (u ∷ us) =
-    let v : UnitNo = record { 0 = n } in
-    all_append (Allowed s) (unit_events s v) (units_from s (n + 1) us) (don_allowed s v (in_service v s.requests)) (units_allowed s (n + 1) us)
+units_allowed s n (u ∷ us) = let rest = units_allowed s (n + 1) us in grind (arith, all_append, don_allowed)
 
 ticks_allowed : (s : State) (ts : List Timer) → AllByRecursion (Allowed s) (tick_events ts)
 ticks_allowed s [] = tt
 ticks_allowed s (t ∷ ts) = (tt, tt)
 
 pub enabled_allowed : (s : State) (e : Event) → Contains (enabled s) e → Allowed s e
-enabled_allowed s e c =
-    let all =
-    all_append (Allowed s) (processes_from s 1 s.procs) (units_from s 0 s.units ++ tick_events s.timers) (processes_allowed s 1 s.procs (omega arith) refl)
-    (all_append (Allowed s) (units_from s 0 s.units) (tick_events s.timers) (units_allowed s 0 s.units) (ticks_allowed s s.timers)) in
-    subst (Allowed s) c.2 (all_at (Allowed s) (enabled s) c.0 e all c.1)
+enabled_allowed s e c = grind (arith, all_append, processes_allowed, units_allowed, ticks_allowed, all_at)
 
 -- the process of an event is there
 allowed_there : (s : State) (e : Event) → Allowed s e → IsThere s e

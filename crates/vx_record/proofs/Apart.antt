@@ -1,5 +1,5 @@
 -- What services share, as sequences of moves: flags, clusters, ends of requests, mailboxes, and requests.
-use Rattle.std.proofs.Common.{◌≡◌, ℕ, ◌%◌, List, [], ◌∷◌, Bool, true, false, cond, not, ◌==◌, ◌&&◌, nat_lt, Option, Some, None, Result, Ok, Err, is_some, refl, ◌∙◌, ◌+◌, ◌≤◌, ◌++◌, IfSome, sym, ap, arith, subst, get_or}
+use Rattle.std.proofs.Common.{◌≡◌, ℕ, List, [], ◌∷◌, Bool, true, false, cond, not, ◌==◌, ◌&&◌, nat_lt, Option, Some, None, Result, Ok, Err, is_some, refl, ◌∙◌, ◌+◌, ◌≤◌, ◌++◌, IfSome, ap, arith, subst, get_or}
 use Rattle.std.specs.List.{filter, find, list_any, AllByRecursion}
 use Rattle.vx_base.specs.Pieces.{Channel, Request, Promised, Attention, Status, cleared, Association, Cluster}
 use Rattle.vx_base.specs.declared.cond.Cond.{Cond}
@@ -19,16 +19,16 @@ use Rattle.vx_base.specs.declared.routine.Entry.{Entry}
 use Rattle.vx_record.specs.State.{State, process_at, change, current, Process, IsProcess, limits_of, no_decl}
 use Rattle.vx_record.specs.Parts.{Part, Outcome, nothing, each, part_if, and_then, followed_by}
 use Rattle.vx_record.specs.Charges.{moved_bytes, request_need, exceeds, ast_need, is_direct, is_attention, charge}
-use Rattle.vx_record.specs.Flags.{cell, flag_part, flag_where_named, at_named, at_flag, refused_wait, wait_condition, awaited_at, awaited, waits_on, common_cell, with_wait, with_local_flag, with_cell}
+use Rattle.vx_record.specs.Flags.{cell, flag_part, flag_where_named, at_named, at_flag, refused_wait, wait_condition, awaited_at, awaited, waits_on, with_wait, with_local_flag, with_cell}
 use Rattle.vx_record.specs.Finish.{Ending, ending, is_read, fin_part, buf_part, status_of, iosb_part, done_flag_part, done_ast_part, finish, finish_found, this_request, with_stored_status}
 use Rattle.vx_record.specs.Mailboxes.{mailbox_at, is_waiting_func, waits_at, mput_part, mget_part, message_of, read_ending, write_ending, received, write_done, is_attention_at, fire_attention, call_attention, store_message, hand_over, write_box, take_message, read_box, is_answered_now, attend, this_attention}
 use Rattle.vx_record.specs.Channels.{channel_test}
 use Rattle.vx_record.specs.Cancel.{is_attention_on, drop_attention}
-use Rattle.vx_record.specs.Requests.{is_bad, has_function, is_too_long, is_full, device_test, on_channel, on_cell, attention_set, Asked, request_test, new_request, opened_request, cleared_part, begun_on, transfer, new_attention, attention_opened, done_at_once, attention_on, asked_of, accepted, qio_tested, qiow_tested, promised}
-use Rattle.vx_record.proofs.Lists.{either, either_by, all_weaker, all_both, all_append, all_filter, all_find, find_passes, all_from, ordered_more}
+use Rattle.vx_record.specs.Requests.{is_bad, device_test, on_channel, on_cell, attention_set, Asked, request_test, new_request, opened_request, cleared_part, begun_on, transfer, new_attention, attention_opened, done_at_once, attention_on, asked_of, accepted, qio_tested, qiow_tested}
+use Rattle.vx_record.proofs.Lists.{either, either_by, all_weaker, all_both, all_filter, all_find, find_passes, all_from, ordered_more}
 use Rattle.std.proofs.lemmas.Bool.{eq-eqb, eqb-true, ltb-true}
 use Rattle.std.specs.Prelude.{option_map}
-use Rattle.vx_base.specs.Clusters.{Common as Clusters, Change, stands, followed, joined, parted, swept_at, swept, dissociated_at, dissociated, has_already, made_where_new, associated, marked_at, is_used, is_user, is_association, is_cluster, cluster_number}
+use Rattle.vx_base.specs.Clusters.{Common as Clusters, Change, dissociated, associated, marked_at, is_used, is_user, is_association}
 use Rattle.vx_base.specs.Lists.{less}
 use Rattle.vx_base.specs.declared.effects.Effect.{Effect}
 use Rattle.vx_base.specs.declared.effects.Effect.TheVariants as effect
@@ -130,10 +130,7 @@ used_by p k (x ∷ xs) a e =
     grind arith
 
 pub cell_made : (s : State) (p : Pid) (efn : ℕ) → IsProcess s p → IfSome (cell s p efn) (IsCellMade s)
-cell_made s p efn m =
-    let o = find (is_association p (cluster_number efn)) s.common.associations in
-    either_by (λ (o : Option Cell). IfSome o (IsCellMade s)) (nat_lt efn 64) (Some (Local p efn)) (common_cell (efn % 32) o) (λ t. (m, ltb-true efn 64 t))
-    (λ f. (elim o as (λ (x : Option Association). find (is_association p (cluster_number efn)) s.common.associations ≡ x → IfSome (common_cell (efn % 32) x) (IsCellMade s)) [ None ↦ λ is. tt | Some a ↦ λ is. used_by p (cluster_number efn) s.common.associations a is ]) refl)
+cell_made s p efn m = grind (arith, either_by, ltb-true, used_by)
 
 pub named_flag : {refs : Bool} (s : State) (l : Option Loose) (o : Option Cell) (on : Bool) → IfSome o (IsCellMade s) → IsAt 2 l → IsSetWhere l on → MovesBy refs s l (flag_where_named s o on).effects (flag_where_named s o on).after (passed 3 l)
 named_flag s l None on k at set_on = skip s l 3 (at_more 2 3 l (omega arith) at)
@@ -161,29 +158,11 @@ Only c = AllByRecursion (λ x. is_clusters x ≡ true) c.effects
 only_either : (b : Bool) (x y : Change) → Only x → Only y → Only (cond b x y)
 only_either b x y h k = either Only b x y h k
 
-only_then : (a : Change) (f : Clusters → Change) → Only a → Only (f a.after) → Only (followed a f)
-only_then a f h k = all_append (λ (x : Effect). is_clusters x ≡ true) a.effects (f a.after).effects h k
-
-swept_only : (c : Clusters) (g : ℕ) (n : List ℕ) → Only (swept c g n)
-swept_only c g n =
-    only_either (is_used c g n) _ _ tt
-    (elim (find (is_cluster g n) c.clusters) as (λ (o : Option Cluster). Only (swept_at c o)) [ None ↦ tt | Some cl ↦ only_either (cl.permanent && not cl.marked) _ _ tt (refl, tt) ])
-
 pub dissociated_only : (c : Clusters) (p : Pid) (k : ℕ) → Only (dissociated c p k)
-dissociated_only c p k =
-    elim (find (is_association p k) c.associations) as (λ (o : Option Association). Only (dissociated_at c p k o)) [
-      | None ↦ tt
-      | Some a ↦ only_then (parted c p k) (λ d. swept d a.group a.name) (refl, tt) (swept_only (parted c p k).after a.group a.name)
-    ]
-
-made_only : (c : Clusters) (g : ℕ) (n : List ℕ) (perm : Bool) → Only (made_where_new c g n perm)
-made_only c g n perm = only_either (stands c g n) _ _ tt (refl, tt)
+dissociated_only c p k = grind arith
 
 pub associated_only : (c : Clusters) (p : Pid) (k g : ℕ) (n : List ℕ) (perm : Bool) → Only (associated c p k g n perm)
-associated_only c p k g n perm =
-    let a = followed (dissociated c p k) (λ d. made_where_new d g n perm) in
-    only_either (has_already g n (find (is_association p k) c.associations)) _ _ tt
-    (only_then a (λ e. joined e p k g n) (only_then (dissociated c p k) (λ d. made_where_new d g n perm) (dissociated_only c p k) (made_only (dissociated c p k).after g n perm)) (refl, tt))
+associated_only c p k g n perm = grind arith
 
 pub marked_at_only : (c : Clusters) (o : Option Cluster) → Only (marked_at c o)
 marked_at_only c None = tt
@@ -219,9 +198,7 @@ finish_moves {refs} s r e has h =
     part_then s p None l3 None four q here fourth (λ k. done_ast_moves four.after r r.ast k.made)
 
 id_is : (s : State) (id : Id) (r : Request) → find (this_request id) s.requests ≡ Some r → HasRequest s r
-id_is s id r e =
-    let same : r.req.id ≡ id = ap (λ (n : ℕ). let i : Id = record { 0 = n } in i) (eqb-true r.req.id.0 id.0 (find_passes (this_request id) s.requests r e)) in
-    subst (λ (i : Id). find (this_request i) s.requests ≡ Some r) (sym same) e
+id_is s id r e = grind (arith, eqb-true, find_passes)
 
 write_done_moves : {refs : Bool} (s : State) (m : Msg) → Base s → PartBy refs s (write_done s m)
 write_done_moves {refs} s m h =
@@ -302,11 +279,7 @@ abbrev pub HasRoom : State → Pid → Asked → Channel → Type 0
 HasRoom s p q ch = exceeds s p (request_need s ch.device q.func (is_some q.ast) q.len) ≡ false
 
 new_is : (s : State) (p : Pid) (q : Asked) (ch : Channel) → IsProcess s p → is_attention q.func ≡ false → HasRoom s p q ch → IsNew s p (mode_of_ast (current s p) q.ast) (new_request s p q ch)
-new_is s p q ch m plain room =
-    let mode : mode_of_ast (current s p) q.ast ≡ option_map (λ a. a.mode) (promised (current s p) q.ast) = grind arith in
-    let some : is_some (promised (current s p) q.ast) ≡ is_some q.ast = grind arith in
-    let free : exceeds s p (request_need s ch.device q.func (is_some (promised (current s p) q.ast)) q.len) ≡ false = rw some room in
-    search
+new_is s p q ch m plain room = grind arith
 
 pub opened_request_moves : {refs : Bool} (s : State) (p : Pid) (q : Asked) (ch : Channel) → IsProcess s p → is_attention q.func ≡ false → HasRoom s p q ch → Answers refs s (RequestStands (ground s) (new_request s p q ch)) → PartBy refs s (opened_request s p q ch)
 opened_request_moves {refs} s p q ch m plain room ok =
@@ -383,11 +356,7 @@ pub room_as : (s t : State) (p : Pid) (need : Need) → IsChargedAs s t p → ex
 room_as s t p need h room = ap (λ (c : Need). not (is_within (together c need) (limits_of t p))) h.1 ∙ (ap (λ (l : Need). not (is_within (together (charge s p) need) l)) h.2 ∙ room)
 
 request_room_as : (s t : State) (p : Pid) (q : Asked) (ch : Channel) → IsChargedAs s t p → HasRoom s p q ch → HasRoom t p q ch
-request_room_as s t p q ch h room = rw (same_need ch.device) (room_as s t p (request_need s ch.device q.func (is_some q.ast) q.len) h room)
-  where
-    same_need : (d : Device) → request_need t d q.func (is_some q.ast) q.len ≡ request_need s d q.func (is_some q.ast) q.len
-    same_need (device.Unit u) = rw h.0 refl
-    same_need (device.Mailbox b) = refl
+request_room_as s t p q ch h room = grind arith
 
 pub attention_room : (s : State) (p : Pid) (q : Asked) (ch : Channel) → is_attention q.func ≡ true → HasRoom s p q ch → exceeds s p (ast_need (is_some q.ast)) ≡ false
 attention_room s p q ch is room = rw is at room
@@ -398,10 +367,7 @@ cleared_moves s p q c k h =
     part_then s p None None None one (λ (x : State). iosb_part x p q.iosb cleared) h (flag s None c false k tt tt) (λ j. status_moves one.after p q.iosb cleared j.made)
 
 cleared_room : (s : State) (p : Pid) (q : Asked) (c : Cell) (ch : Channel) → HasRoom s p q ch → HasRoom (cleared_part s p q c).after p q ch
-cleared_room s p q c ch room =
-    let u = (flag_part s c false).after in
-    let t = (cleared_part s p q c).after in
-    request_room_as s t p q ch (both_charged_as s u t p (cell_charged_as s p c false) (status_charged_as u p p q.iosb cleared)) room
+cleared_room s p q c ch room = grind (arith, request_room_as, both_charged_as, cell_charged_as, status_charged_as)
 
 accepted_moves : {refs : Bool} (s : State) (p : Pid) (q : Asked) (c : Cell) (ch : Channel) → IsCellMade s c → HasRoom s p q ch → (refs ≡ true → IsFit s p q ch) → Here s p → PartBy refs s (accepted s p q c ch)
 accepted_moves {refs} s p q c ch k room fit h =
@@ -424,9 +390,7 @@ CellOf s p q (Ok to) = IsCellMade s to.0 × HasRoom s p q to.1
 on_channel_cell : (s : State) (p : Pid) (q : Asked) (c : Cell) (r : Result Channel Cond) → IsCellMade s c → CellOf s p q (on_channel (device_test s p q c) r)
 unfolding CellOf
 on_channel_cell s p q c (Err x) k = tt
-on_channel_cell s p q c (Ok ch) k =
-    let P = CellOf s p q in
-    either P (not (has_function ch.device q.func)) _ _ tt (either P (is_too_long s ch.device q) _ _ tt (either P (is_full s ch.device q) _ _ tt (either_by P (exceeds s p (request_need s ch.device q.func (is_some q.ast) q.len)) _ _ (λ e. tt) (λ e. (k, e)))))
+on_channel_cell s p q c (Ok ch) k = grind arith
 
 pub tested_cell : (s : State) (p : Pid) (q : Asked) → IsProcess s p → CellOf s p q (request_test s p q)
 unfolding CellOf
@@ -452,13 +416,9 @@ cleared_after s p q to is h = cleared_moves s p q to.0 (subst (CellOf s p q) is 
 
 pub accepted_after : {refs : Bool} (s : State) (p : Pid) (q : Asked) (to : Cell × Channel) → request_test s p q ≡ Ok to → (refs ≡ true → IsFit s p q to.1) → Here s p → PartBy refs s (accepted s p q to.0 to.1)
 unfolding CellOf
-accepted_after s p q to is fit h =
-    let k : CellOf s p q (Ok to) = subst (CellOf s p q) is (tested_cell s p q h.made) in
-    accepted_moves s p q to.0 to.1 k.0 k.1 fit h
+accepted_after s p q to is fit h = grind (arith, CellOf, tested_cell, accepted_moves)
 
 -- there is room for it when its flag and its status block are cleared
 pub room_after : (s : State) (p : Pid) (q : Asked) (to : Cell × Channel) → request_test s p q ≡ Ok to → IsProcess s p → HasRoom (cleared_part s p q to.0).after p q to.1
 unfolding CellOf
-room_after s p q to is made =
-    let k : CellOf s p q (Ok to) = subst (CellOf s p q) is (tested_cell s p q made) in
-    cleared_room s p q to.0 to.1 k.1
+room_after s p q to is made = grind (arith, CellOf, tested_cell, cleared_room)

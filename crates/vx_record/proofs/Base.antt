@@ -45,11 +45,7 @@ alarm_more s t (OfWake target repeat) h m = made_more s t target h m
 
 -- lists in order, whose owners were there in a state with as many processes or fewer
 based : (s t : State) → length s.procs ≤ length t.procs → AreOrdered request_id 0 t.next t.requests → AreOrdered timer_id 0 t.next t.timers → AreOrdered attention_id 0 t.next t.attention → AllByRecursion (λ r. IsProcess s r.req.p) t.requests → AllByRecursion (λ x. IsProcess s x.p × IsAlarmMade s x.what) t.timers → AllByRecursion (λ a. IsProcess s a.p) t.attention → Kept s t
-based s t more r ti a rs ts ats =
-    let owners = all_weaker (λ (x : Request). IsProcess s x.req.p) (λ (x : Request). IsProcess t x.req.p) (λ x k. made_more s t x.req.p more k) t.requests rs in
-    let timers = all_weaker (λ (x : Timer). IsProcess s x.p × IsAlarmMade s x.what) (λ (x : Timer). IsProcess t x.p × IsAlarmMade t x.what) (λ x k. (made_more s t x.p more k.0, alarm_more s t x.what more k.1)) t.timers ts in
-    let entries = all_weaker (λ (x : Attention). IsProcess s x.p) (λ (x : Attention). IsProcess t x.p) (λ x k. made_more s t x.p more k) t.attention ats in
-    record { base = record { requests = r; timers = ti; attention = a; request_owners = owners; timer_owners = timers; attention_owners = entries }; more = more }
+based s t more r ti a rs ts ats = grind (arith, all_weaker, made_more, alarm_more)
 
 base_of : (s t : State) → length s.procs ≤ length t.procs → t.next ≡ s.next → t.requests ≡ s.requests → t.timers ≡ s.timers → t.attention ≡ s.attention → Base s → Kept s t
 base_of s t more next r ti a h = based s t more (rw (next, r) h.requests) (rw (next, ti) h.timers) (rw (next, a) h.attention) (rw r h.request_owners) (rw ti h.timer_owners) (rw a h.attention_owners)
@@ -83,9 +79,7 @@ timers_less : (s : State) (p : Timer → Bool) → Base s → Base (record s { t
 timers_less s p h = timers_of s (less p s.timers) (ordered_less timer_id p 0 s.next s.timers h.timers) (all_less (λ (t : Timer). IsProcess s t.p × IsAlarmMade s t.what) p s.timers h.timer_owners) h
 
 timers_amend : (s : State) (p : Timer → Bool) (n : ℕ) → Base s → Base (record s { timers = amend p (due_again n) s.timers })
-timers_amend s p n h =
-    timers_of s (amend p (due_again n) s.timers) (ordered_amend timer_id p (due_again n) (λ t. refl) 0 s.next s.timers h.timers)
-    (all_amend (λ (t : Timer). IsProcess s t.p × IsAlarmMade s t.what) p (due_again n) (λ t k. k) s.timers h.timer_owners) h
+timers_amend s p n h = grind (arith, timers_of, ordered_amend, all_amend)
 
 wake_of : (s : State) (t : Timer) (n : ℕ) → Base s → Kept s (after_wake s t n)
 wake_of s t n h = either (Kept s) (n == 0) _ _ (record { base = timers_less s (this_timer t.id) h; more = omega arith }) (record { base = timers_amend s (this_timer t.id) n h; more = omega arith })
@@ -97,9 +91,7 @@ requests_of : (s : State) (rs : List Request) → AreOrdered request_id 0 s.next
 requests_of s rs o k h = (based s (record s { requests = rs }) (all_procs s) o h.timers h.attention k h.timer_owners h.attention_owners).base
 
 pub amended_base : (s : State) (p : Request → Bool) (f : Request → Request) → ((r : Request) → (f r).req ≡ r.req) → Base s → Base (record s { requests = amend p f s.requests })
-amended_base s p f same h =
-    requests_of s (amend p f s.requests) (ordered_amend request_id p f (λ y. rw (same y) refl) 0 s.next s.requests h.requests)
-    (all_amend (λ (r : Request). IsProcess s r.req.p) p f (λ y k. rw (same y) k) s.requests h.request_owners) h
+amended_base s p f same h = grind (arith, requests_of, ordered_amend, all_amend)
 
 more_request : (s : State) (p : Pid) (mode : Option Mode) (r : Request) → IsNew s p mode r → Base s → Base (with_request (past_id s) r)
 more_request s p mode r n h =

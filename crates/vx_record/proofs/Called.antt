@@ -40,10 +40,7 @@ odd_ones : (a b c d e r : Bool) → (a && (b && (c && (d && (e && r))))) ≡ tru
 odd_ones a b c d e r h = grind arith
 
 pub labels_of : (image : Image) (a : Args) → list_all (has_its_label image) (args_list a) ≡ true → Labels image a
-labels_of image a h =
-    let p = has_its_label image in
-    let k = odd_ones (p a.a0) (p a.a1) (p a.a2) (p a.a3) (p a.a4) _ h in
-    record { first = k.0; third = k.1.0; fifth = k.1.1 }
+labels_of image a h = grind (arith, odd_ones)
 
 pub record IsCalled (s : State) (p : Pid) (a : Args) (v : Service) : Type 0 where
   pub args : are_args (params_of v) (args_list a) ≡ true

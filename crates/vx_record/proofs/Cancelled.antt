@@ -1,5 +1,5 @@
 -- Channels, cancelling and timers, as sequences of moves, and what is left on a channel that was cancelled.
-use Rattle.std.proofs.Common.{◌≡◌, ℕ, List, [], ◌∷◌, Bool, true, false, not, ◌==◌, ◌&&◌, length, Option, Some, None, Result, Ok, Err, is_some, position, is_none, refl, ◌∙◌, ◌+◌, ◌≤◌, IfSome, sym, ap, arith, subst, ◌<◌, ◌≢◌}
+use Rattle.std.proofs.Common.{◌≡◌, ℕ, List, [], ◌∷◌, Bool, true, false, not, ◌&&◌, length, Option, Some, None, Result, Ok, Err, is_some, position, is_none, refl, ◌∙◌, ◌+◌, ◌≤◌, IfSome, sym, ap, arith, subst, ◌<◌, ◌≢◌}
 use Rattle.std.specs.List.{filter, find, list_any, AllByRecursion}
 use Rattle.vx_base.specs.Modes.{outer}
 use Rattle.vx_base.specs.Pieces.{Channel, Request, Timer, Alarm, OfTimer, OfWake, Attention, Mailbox}
@@ -17,7 +17,7 @@ use Rattle.vx_record.specs.Charges.{exceeds, ast_need, timer_need}
 use Rattle.vx_record.specs.Flags.{cell, flag_part, flag_where_named}
 use Rattle.vx_record.specs.Finish.{Ending, ending, finish, this_request}
 use Rattle.vx_record.specs.Mailboxes.{mailbox_at, this_message, mcut_part, this_attention}
-use Rattle.vx_record.specs.Channels.{box_named, with_channel, free_channel_of, assign_at, assign_to, is_bad_box, new_box, make_box, make_box_in, find_or_create, crembx, marked_box, delmbx_on, is_assigned, goes_unused, box_gone, swept_device, swept_box, free_channel, box_number, box_made, is_box_of}
+use Rattle.vx_record.specs.Channels.{box_named, with_channel, free_channel_of, assign_at, assign_to, is_bad_box, new_box, make_box, make_box_in, find_or_create, crembx, delmbx_on, swept_device, swept_box, free_channel, box_number, box_made, is_box_of}
 use Rattle.vx_record.specs.Cancel.{mark_part, withdraw, cancelled_request, cancel_request, is_request_on, is_attention_on, drop_attention, cancel_channel, with_abort}
 use Rattle.vx_record.specs.Control.{with_wake}
 use Rattle.vx_record.specs.Timers.{drop_timer, drop_timers, setimr_at, setimr, scheduled, que_timer, fired, fire, is_due, at_time, next_time, tick, mode_of_ast, this_timer, due_again, after_wake, new_timer, new_wake, timer_set}
@@ -75,15 +75,11 @@ crembx_moves s p name perm maxmsg bufquo mode = outcome_either s (is_bad_box s n
 
 pub delmbx_moves : {refs : Bool} (s : State) (p : Pid) (d : Device) → OutcomeBy refs s (delmbx_on s p d)
 delmbx_moves s p (device.Unit u) = none s None
-delmbx_moves s p (device.Mailbox b) =
-    let box = mailbox_at s b in
-    outcome_either s (box.permanent && not (process_at s p).privs.prmmbx) _ _ (none s None) (moves_if s None box.permanent (marked_box s b) (box_marked s b _))
+delmbx_moves s p (device.Mailbox b) = grind (arith, outcome_either, none, moves_if, box_marked)
 
 swept_device_moves : {refs : Bool} (s : State) (d : Device) → PartBy refs s (swept_device s d)
 swept_device_moves s (device.Unit u) = none s None
-swept_device_moves s (device.Mailbox b) =
-    let test = not (is_assigned s b) && goes_unused (mailbox_at s b) in
-    part_by s None None test (box_gone s b) (nothing s) (λ e. box_ends s b (λ refers h. not_holds (is_assigned s b) (and_parts (not (is_assigned s b)) (goes_unused (mailbox_at s b)) e).0)) (none s None)
+swept_device_moves s (device.Mailbox b) = grind (arith, part_by, box_ends, not_holds, and_parts, none)
 
 swept_moves : {refs : Bool} (s : State) (o : Option Channel) → PartBy refs s (swept_box s o)
 swept_moves s None = none s None
@@ -190,10 +186,7 @@ covered_after s p n high t ts k o =
     (removed request_id t.req.id.0 0 high s.requests o))))
 
 cancel_ordered : (s : State) (high : ℕ) (t : Request) → AreOrdered request_id 0 high s.requests → AreOrdered request_id 0 high (cancel_request s t).after.requests
-cancel_ordered s high t o =
-    let P = λ (x : Part). AreOrdered request_id 0 high x.after.requests in
-    either P t.served _ (cancelled_request s t) (either P (not t.marked) (mark_part s t) (nothing s) (ordered_amend request_id (this_request t.req.id) with_abort (λ x. refl) 0 high s.requests o) o)
-    (rw (cancelled_requests s t) (ordered_less request_id (this_request t.req.id) 0 high s.requests o))
+cancel_ordered s high t o = grind (arith, either, ordered_amend, cancelled_requests, ordered_less)
 
 each_cancel_served : (s : State) (p : Pid) (n high : ℕ) (todo : List Request) → AllByRecursion (Covered p n todo) s.requests → AreOrdered request_id 0 high s.requests → AllByRecursion (λ r. is_waiting p n r ≡ false) (each cancel_request todo s).after.requests
 each_cancel_served s p n high [] c o = all_weaker (Covered p n []) (λ r. is_waiting p n r ≡ false) (none_to_do (is_waiting p n) takes) s.requests c
@@ -328,9 +321,7 @@ fired_timers s t efn reqid mode tag = grind arith
 
 still_timed : (s : State) (x : Timer) (a : Alarm) (y : Timer) → timer_id x + 1 ≤ timer_id y → HasTimer s y → HasTimer (fired s x a).after y
 still_timed s x (OfTimer efn reqid mode tag) y h e = rw (fired_timers s x efn reqid mode tag) (timers_less s x y h e)
-still_timed s x (OfWake target repeat) y h e =
-    let apart = λ (z : Timer). other_id z.id.0 x.id.0 y.id.0 (λ same. omega arith) in
-    either (λ (a : State). find (this_timer y.id) a.timers ≡ Some y) (repeat == 0) _ _ (timers_less s x y h e) (find_amend (this_timer x.id) (this_timer y.id) (due_again repeat) s.timers y apart apart e)
+still_timed s x (OfWake target repeat) y h e = grind (arith, other_id, either, timers_less, find_amend)
 
 pub tick_moves : {refs : Bool} (s : State) → Base s → PartBy refs s (tick s)
 tick_moves {refs} s h =

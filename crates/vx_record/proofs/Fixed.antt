@@ -36,17 +36,15 @@ use Rattle.vx_record.specs.State.{State, process_at, change, unit_at, no_unit}
 use Rattle.vx_record.specs.Parts.{Part, Outcome, nothing, each, part_if}
 use Rattle.vx_record.specs.Flags.{awaited}
 use Rattle.vx_record.specs.Asts.{deliverable_ast}
-use Rattle.vx_record.specs.Finish.{Ending, ending, finish, finish_found, this_request}
-use Rattle.vx_record.specs.Mailboxes.{is_waiting_func, mget_part, read_ending, write_ending, received, write_done, is_attention_at, fire_attention, call_attention, hand_over, take_message}
+use Rattle.vx_record.specs.Finish.{Ending, ending, finish}
+use Rattle.vx_record.specs.Mailboxes.{is_waiting_func, mget_part, read_ending, received, write_done, is_attention_at, fire_attention, call_attention, hand_over, take_message}
 use Rattle.vx_record.specs.Channels.{free_channel}
-use Rattle.vx_record.specs.Cancel.{mark_part, withdraw, cancelled_request, cancel_request, is_request_on, is_attention_on, drop_attention, cancel_channel}
+use Rattle.vx_record.specs.Cancel.{mark_part, withdraw, cancelled_request, cancel_request, cancel_channel}
 use Rattle.vx_record.specs.Requests.{Asked, begun_on, attention_on, accepted, qio_tested, qiow_tested, unit_ending, with_unit}
 use Rattle.vx_record.specs.Timers.{drop_timer, drop_timers, is_wake_for, fire, is_due, at_time, next_time}
-use Rattle.vx_record.specs.Rundown.{leave_frame, leave_all, exited, without_frames, is_handler_of, drop_handler, drop_handlers, any_handler, cancel_handlers, named_for_deletion, deleted_by, cancel_one, free_one, is_timer_in, is_wake_by, cancel_modes, drop_ast, is_ast_reached, release, drop_all_handlers, is_busy, drain, cancelled_in, run_handlers, handling, run_down, inner_modes, rundown_from, without_ast}
+use Rattle.vx_record.specs.Rundown.{leave_frame, exited, without_frames, is_handler_of, drop_handler, drop_handlers, any_handler, cancel_handlers, deleted_by, cancel_modes, release, drop_all_handlers, is_busy, drain, cancelled_in, run_handlers, handling, run_down, inner_modes, rundown_from, without_ast}
 use Rattle.vx_record.specs.Services.{number, service_of, service}
-use Rattle.vx_record.specs.Events.{returned, served_call, moved_behind, run_on, run, started, delivered, don, step}
-use Rattle.vx_record.specs.declared.served.Served.{Served}
-use Rattle.vx_base.specs.Channels.{channels_of}
+use Rattle.vx_record.specs.Events.{returned, run_on, run, started, delivered, don, step}
 
 -- the system and the units
 abbrev pub fixed : State → System × List DeviceUnit
@@ -71,11 +69,7 @@ finish_kept : (s : State) (r : Request) (e : Ending) → fixed (finish s r e).af
 finish_kept s r e = grind arith
 
 write_done_kept : (s : State) (m : Msg) → fixed (write_done s m).after ≡ fixed s
-write_done_kept s m = found (find (this_request m.id) s.requests)
-  where
-    found : (o : Option Request) → fixed (finish_found s o (write_ending m)).after ≡ fixed s
-    found None = refl
-    found (Some r) = finish_kept s r (write_ending m)
+write_done_kept s m = grind arith
 
 received_kept : (s : State) (b : BoxNo) (m : Msg) (r : Request) → fixed (received s b m r).after ≡ fixed s
 received_kept s b m r = finish_kept (mget_part s b m r.req.id).after r (read_ending r.req m m.body)
@@ -90,9 +84,7 @@ take_message_kept : (s : State) (b : BoxNo) (r : Request) (ms : List Msg) → fi
 take_message_kept s b r [] =
     let e = ending EndOfFile 0 0 [] in
     call_attention_kept (part_if (not (is_waiting_func r.req.func)) (finish s r e) s).after b ReadAttn ∙ parts s (not (is_waiting_func r.req.func)) (finish s r e) (nothing s) (finish_kept s r e) refl
-take_message_kept s b r (m ∷ ms) =
-    let a = (received s b m r).after in
-    parts a m.held (write_done a m) (nothing a) (write_done_kept a m) refl ∙ received_kept s b m r
+take_message_kept s b r (m ∷ ms) = grind (arith, parts, write_done_kept, received_kept)
 
 -- Requests.
 
@@ -130,10 +122,7 @@ cancel_request_kept s r =
     (finish_kept (withdraw s r r.req.device).after r (ending Cancelled 0 0 []) ∙ withdraw_kept s r r.req.device)
 
 cancel_channel_kept : (s : State) (p : Pid) (n : ℕ) → fixed (cancel_channel s p n).after ≡ fixed s
-cancel_channel_kept s p n =
-    let todo = filter (is_request_on p n) s.requests in
-    let a = (each cancel_request todo s).after in
-    each_kept drop_attention (λ t x. refl) (filter (is_attention_on p n) a.attention) a ∙ each_kept cancel_request cancel_request_kept todo s
+cancel_channel_kept s p n = grind (arith, each_kept, cancel_request_kept)
 
 -- Processes, timers, exit handlers.
 
@@ -156,10 +145,7 @@ cancel_handlers_kept : (s : State) (p : Pid) (o : Option Entry) → fixed (cance
 cancel_handlers_kept s p o = grind (arith, drop_handlers_kept)
 
 deleted_by_kept : (s : State) (q : Pid) → fixed (deleted_by s q).after ≡ fixed s
-deleted_by_kept s q =
-    let a = change s q named_for_deletion in
-    let frames = (process_at s q).frames in
-    drop_handlers_kept (leave_all frames a).after q any_handler ∙ each_kept leave_frame leave_frame_kept frames a
+deleted_by_kept s q = grind (arith, drop_handlers_kept, each_kept, leave_frame_kept)
 
 -- Services.
 
@@ -173,17 +159,10 @@ service_keeps_system s p c = service_of_kept s p c.args c.service
 -- Rundown.
 
 release_kept : (s : State) (p : Pid) (m : Mode) → fixed (release s p m).after ≡ fixed s
-release_kept s p m =
-    let ns = channels_of m (process_at s p).channels in
-    let a = (each (free_one p) ns s).after in
-    each_kept (drop_ast p) (λ t q. refl) (filter (is_ast_reached m) (process_at a p).asts) a ∙ each_kept (free_one p) (λ t n. free_channel_kept t p n) ns s
+release_kept s p m = grind (arith, each_kept, free_channel_kept)
 
 cancel_modes_kept : (s : State) (p : Pid) (m : Mode) → fixed (cancel_modes s p m).after ≡ fixed s
-cancel_modes_kept s p m =
-    let ns = channels_of m (process_at s p).channels in
-    let a = (each (cancel_one p) ns s).after in
-    let b = (drop_timers (is_timer_in p m) a).after in
-    drop_timers_kept b (is_wake_by p) ∙ (drop_timers_kept a (is_timer_in p m) ∙ each_kept (cancel_one p) (λ t n. cancel_channel_kept t p n) ns s)
+cancel_modes_kept s p m = grind (arith, drop_timers_kept, each_kept, cancel_channel_kept)
 
 drain_kept : (s : State) (p : Pid) (m : Mode) (next : State → Outcome Answer) → ((t : State) → fixed (next t).after ≡ fixed t) → fixed (drain p m next s).after ≡ fixed s
 drain_kept s p m next k = both s (is_busy s p m) _ _ refl (k (release s p m).after ∙ release_kept s p m)
@@ -207,12 +186,7 @@ returned_kept : (s : State) (p : Pid) (frames : List Frame) → fixed (returned 
 returned_kept s p frames = grind (arith, exited_kept)
 
 run_on_kept : (s : State) (p : Pid) (at : ℕ) (x : Stop) → fixed (run_on s p at x).after ≡ fixed s
-run_on_kept s p at (stop.Call c) =
-    let t = change s p (moved_behind at) in
-    served (service t p c) (service t p c).answer ∙ service_keeps_system t p c
-  where
-    served : (o : Outcome Served) (answer : Served) → fixed (served_call p c o answer).after ≡ fixed o.after
-    served o answer = grind arith
+run_on_kept s p at (stop.Call c) = grind (arith, service_keeps_system)
 run_on_kept s p at stop.Local = refl
 run_on_kept s p at x = returned_kept s p (process_at s p).frames
 
@@ -259,19 +233,11 @@ other_unit s u v o k = grind (arith, get_or-set_other {A = DeviceUnit})
 
 -- a unit stays as it is by an event that does not end its service
 pub step_keeps_unit : (s : State) (e : Event) (v : UnitNo) → Spares e v → unit_at (step s e).after v ≡ unit_at s v
-step_keeps_unit s e v k = ap (λ (x : System × List DeviceUnit). slice_index_or x.1 v.0 no_unit) (step_kept s e) ∙ same e k
-  where
-    same : (e : Event) → Spares e v → slice_index_or (units_after s e) v.0 no_unit ≡ unit_at s v
-    same (event.Don u) k = other_unit s u v (in_service u s.requests) k
-    same e k = refl
+step_keeps_unit s e v k = grind (arith, step_kept, other_unit)
 
 -- how many units there are stays
 pub step_keeps_count : (s : State) (e : Event) → length (step s e).after.units ≡ length s.units
-step_keeps_count s e = ap (λ (x : System × List DeviceUnit). length x.1) (step_kept s e) ∙ same e
-  where
-    same : (e : Event) → length (units_after s e) ≡ length s.units
-    same (event.Don u) = grind (arith, length-set {A = DeviceUnit})
-    same e = refl
+step_keeps_count s e = grind (arith, step_kept, length-set)
 
 pub step_keeps_system : (s : State) (e : Event) → (step s e).after.system ≡ s.system
 step_keeps_system s e = ap (λ (x : System × List DeviceUnit). x.0) (step_kept s e)

@@ -2,7 +2,7 @@
 use Rattle.std.proofs.Common.{◌≡◌, ℕ, zero, suc, ◌+◌, ◌-◌, ◌<◌, ◌≤◌, List, [], ◌∷◌, true, false, ◌==◌, ◌&&◌, nat_le, length, Option, Some, None, get_or, set, refl, sym, ap, ◌∙◌, arith, subst, get_or-set_same}
 use Rattle.std.proofs.Math.ListN.{length-set}
 use Rattle.std.proofs.lemmas.Bool.{and_parts, and_from, eqb-true, le-leb}
-use Rattle.std.specs.List.{AllByRecursion, filter}
+use Rattle.std.specs.List.{AllByRecursion}
 use Rattle.vx_base.specs.Channels.{channel_at, is_reached, reached_from, channels_of}
 use Rattle.vx_base.specs.Modes.{reaches}
 use Rattle.vx_base.specs.Pieces.{Channel, Attention, Queued}
@@ -17,7 +17,7 @@ use Rattle.vx_record.specs.Parts.{each}
 use Rattle.vx_record.specs.Charges.{is_same}
 use Rattle.vx_record.specs.Channels.{with_channel, swept_box, free_channel}
 use Rattle.vx_record.specs.Cancel.{is_request_on, is_attention_on}
-use Rattle.vx_record.specs.Rundown.{in_phase, keeps_busy, free_one, drop_ast, is_ast_reached, release, without_ast}
+use Rattle.vx_record.specs.Rundown.{in_phase, keeps_busy, free_one, drop_ast, release, without_ast}
 use Rattle.vx_record.specs.Sound.{ground, process_of, IsRooted, RequestStands, is_drained, AttentionStands}
 use Rattle.vx_record.proofs.Firm.{IsFirm}
 use Rattle.vx_record.proofs.Lists.{either_by, all_weaker, all_both, false_from, apart_bools}
@@ -80,18 +80,12 @@ pub record IsFreeing (s : State) (p : Pid) (m : Mode) (ns : List ℕ) : Type 0 w
 
 pub freeing_first : (s : State) (p : Pid) (m : Mode) → IsProcess s p → IsReleased s p m → IsFreeing s p m (channels_of m (process_at s p).channels)
 unfolding IsFreed
-freeing_first s p m made k =
-    let rows = (process_at s p).channels in
-    let all = all_weaker (λ n. (1 ≤ n) × (n < 1 + length rows) × (is_reached m (get_or rows (n - 1) None) ≡ true)) (IsFreed s p m) (λ n e. (e.0, omega (arith, e.1), row_reached m (channel_at rows n) e.2)) (channels_of m rows) (reached_rows 1 m rows) in
-    record { made = made; released = k; rows = all }
+freeing_first s p m made k = grind (arith, all_weaker, get_or, IsFreed, row_reached, reached_rows)
 
 -- what is on a channel that the mode reaches is of that mode or an outer one
 row_of : (s : State) (p q : Pid) (m : Mode) (n k : ℕ) (ch : Channel) → RowReached m (channel_at (process_at s p).channels n) → channel_at (process_of (ground s) q).channels k ≡ Some ch → (is_same q p && (k == n)) ≡ true → reaches ch.mode m ≡ true
 unfolding RowReached
-row_of s p q m n k ch row c e =
-    let parts = and_parts (is_same q p) (k == n) e in
-    let its : channel_at (process_of (ground s) q).channels k ≡ channel_at (process_at s p).channels n = ap (λ (i : ℕ). channel_at (get_or s.procs (i - 1) nobody).channels k) (eqb-true q.0 p.0 parts.0) ∙ ap (λ (i : ℕ). channel_at (process_at s p).channels i) (eqb-true k n parts.1) in
-    subst (RowReached m) (sym its ∙ c) row
+row_of s p q m n k ch row c e = grind arith
 
 clear_request : (s : State) (p : Pid) (m : Mode) (n : ℕ) (q : Pid) (k : ℕ) (mode : Mode) (d : Device) → RowReached m (channel_at (process_at s p).channels n) → IsRooted (ground s) q k mode d → (is_same q p && reaches mode m) ≡ false → (is_on_box d && (is_same q p && (k == n))) ≡ true → ⊥
 clear_request s p m n q k mode (device.Unit u) row c idle e = cc
@@ -150,9 +144,7 @@ each_drop_frames p [] s e = e
 each_drop_frames p (q ∷ qs) s e = each_drop_frames p qs (drop_ast p s q).after (field_same (λ (pr : Process). pr.frames) (without_ast q.id) s p p refl ∙ e)
 
 pub released_frames : (s : State) (p : Pid) (m : Mode) → (process_at s p).frames ≡ [] → (process_at (release s p m).after p).frames ≡ []
-released_frames s p m e =
-    let a = (each (free_one p) (channels_of m (process_at s p).channels) s).after in
-    each_drop_frames p (filter (is_ast_reached m) (process_at a p).asts) a (each_free_frames p (channels_of m (process_at s p).channels) s e)
+released_frames s p m e = grind (arith, each_drop_frames, each_free_frames)
 
 pub phase_at : (s : State) (p : Pid) (ph : Phase) → IsProcess s p → (process_at (change s p (in_phase ph)) p).phase ≡ ph
 phase_at s p ph made = ap (λ (x : Process). x.phase) (get_or-set_same s.procs (p.0 - 1) (in_phase ph (process_at s p)) nobody (omega (arith, made.above, made.within)))

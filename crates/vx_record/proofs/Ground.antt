@@ -1,10 +1,10 @@
 -- From one state to another: what was referred to is still there, so the facts on references still hold.
-use Rattle.std.proofs.Common.{◌≡◌, ℕ, zero, suc, ◌+◌, ◌-◌, ◌≤◌, List, [], ◌∷◌, false, length, Option, Some, None, IfSome, get_or, set, refl, ◌∙◌, arith}
+use Rattle.std.proofs.Common.{◌≡◌, ℕ, zero, suc, ◌+◌, ◌-◌, ◌≤◌, List, [], ◌∷◌, false, length, Option, Some, None, IfSome, get_or, set, refl, arith}
 use Rattle.std.proofs.Math.ListN.{length-set}
 use Rattle.std.specs.List.{AllByRecursion}
 use Rattle.vx_base.specs.Channels.{channel_at}
 use Rattle.vx_base.specs.Clusters.{Common}
-use Rattle.vx_base.specs.Pieces.{Channel, Request, Promised, Timer, Alarm, OfTimer, OfWake, Attention, Association, Mailbox, DeviceUnit, Queued, Handler}
+use Rattle.vx_base.specs.Pieces.{Channel, Request, Timer, Alarm, OfTimer, OfWake, Attention, Association, Mailbox, DeviceUnit}
 use Rattle.vx_base.specs.declared.mode.Mode.{Mode}
 use Rattle.vx_base.specs.declared.number.BoxNo.{BoxNo}
 use Rattle.vx_base.specs.declared.number.Pid.{Pid}
@@ -42,9 +42,7 @@ pub keeps_all : (g : Ground) → Keeps g g
 keeps_all g = search arith
 
 pub keeps_more : (g h i : Ground) → Keeps g h → Keeps h i → Keeps g i
-keeps_more g h i a b =
-    let decl = λ (p : Pid) (m : IsMade g p). b.base.decl p (made_keeps g h a p m) ∙ a.base.decl p m in
-    search (arith, b.base.system ∙ a.base.system, b.base.units ∙ a.base.units, made_keeps g h a, decl, a.channel, b.channel, a.box, b.box, a.going, b.going)
+keeps_more g h i a b = grind arith
 
 -- Facts.
 
@@ -71,18 +69,11 @@ row_moves g h e k (Some ch) c = device_moves g h e k ch.device c
 pub has_channel_keeps : (g h : Ground) → Keeps g h → (p : Pid) (n : ℕ) (b : BoxNo) (mode : Mode) → IsMade g p → HasChannel g p n b mode → HasChannel h p n b mode
 has_channel_keeps g h k p n b mode m c = record { number = c.number; row = k.channel p n _ m c.row }
 
-pub rooted_keeps : (g h : Ground) → Keeps g h → (p : Pid) (n : ℕ) (mode : Mode) (d : Device) → IsMade g p → IsRooted g p n mode d → IsRooted h p n mode d
-rooted_keeps g h k p n mode (device.Unit u) m r = tt
-rooted_keeps g h k p n mode (device.Mailbox b) m r = has_channel_keeps g h k p n b mode m r
-
 pub request_moves : (g h : Ground) → Base g h → (r : Request) → (DeviceStands g r.req.device → DeviceStands h r.req.device) → (IsRooted g r.req.p r.req.chan r.req.chan_mode r.req.device → IsRooted h r.req.p r.req.chan r.req.chan_mode r.req.device) → RequestStands g r → RequestStands h r
-request_moves g h k r d c f =
-    let routine = some_weaker (λ (ast : Promised). IsRoutineOf g r.req.p ast.tag) (λ ast. IsRoutineOf h r.req.p ast.tag) (λ ast e. routine_of_moves g h k r.req.p ast.tag f.made e) r.ast f.routine in
-    search made_base
+request_moves g h k r d c f = grind arith
 
 pub request_keeps : (g h : Ground) → Keeps g h → (r : Request) → RequestStands g r → RequestStands h r
-request_keeps g h k r f =
-    request_moves g h k.base r (device_moves g h k.base.units k.box r.req.device) (rooted_keeps g h k r.req.p r.req.chan r.req.chan_mode r.req.device f.made) f
+request_keeps g h k r f = grind arith
 
 pub alarm_moves : (g h : Ground) → Base g h → (p : Pid) (a : Alarm) → IsMade g p → AlarmStands g p a → AlarmStands h p a
 alarm_moves g h k p (OfTimer efn reqid mode tag) m f = some_weaker (IsRoutineOf g p) (IsRoutineOf h p) (λ t e. routine_of_moves g h k p t m e) tag f
@@ -98,11 +89,7 @@ pub attention_keeps : (g h : Ground) → Keeps g h → (a : Attention) → Atten
 attention_keeps g h k a f = attention_moves g h k.base a f (k.box a.box f.stands) (has_channel_keeps g h k a.p a.chan a.box f.channel_mode f.made f.channel) (k.going a.p f.channel_mode f.made f.going)
 
 pub process_moves : (g h : Ground) → h.system ≡ g.system → h.units ≡ g.units → ((b : BoxNo) → BoxStands g b → BoxStands h b) → (pr : Process) → ProcessStands g pr → ProcessStands h pr
-process_moves g h e u k pr f =
-    let channels = all_weaker (ChannelStands g) (ChannelStands h) (row_moves g h u k) pr.channels f.channels in
-    let asts = all_weaker (λ (q : Queued). IsRoutine g.system pr.decl q.tag) (λ q. IsRoutine h.system pr.decl q.tag) (λ q r. routine_moves g.system h.system pr.decl pr.decl q.tag e refl r) pr.asts f.asts in
-    let handlers = all_weaker (λ (q : Handler). IsRoutine g.system pr.decl q.tag) (λ q. IsRoutine h.system pr.decl q.tag) (λ q r. routine_moves g.system h.system pr.decl pr.decl q.tag e refl r) pr.handlers f.handlers in
-    search e
+process_moves g h e u k pr f = grind (arith, all_weaker, row_moves, routine_moves)
 
 pub association_moves : (n m : ℕ) (c : Common) → n ≤ m → (a : Association) → AssociationStands n c a → AssociationStands m c a
 association_moves n m c k a f = record { made = record { above = f.made.above; within = omega (arith, f.made.within) }; stands = f.stands }
@@ -122,11 +109,7 @@ still_then {s} {t} {u} a b = record { sound = b.sound; keeps = keeps_more (groun
 -- other processes, mailboxes and units
 -- where what requests and attention entries refer to is shown of each
 pub rebuilt : (s : State) (procs : List Process) (boxes : List (Option Mailbox)) (units : List DeviceUnit) → length units ≡ length s.units → Base (ground s) (ground (record s { procs = procs; boxes = boxes; units = units })) → AllByRecursion (ProcessStands (ground (record s { procs = procs; boxes = boxes; units = units }))) procs → AllByRecursion (RequestStands (ground (record s { procs = procs; boxes = boxes; units = units }))) s.requests → AllByRecursion (AttentionStands (ground (record s { procs = procs; boxes = boxes; units = units }))) s.attention → IsFirm s → IsFirm (record s { procs = procs; boxes = boxes; units = units })
-rebuilt s procs boxes units e b f r a h =
-    let to = ground (record s { procs = procs; boxes = boxes; units = units }) in
-    let associations = all_weaker (AssociationStands (length s.procs) s.common) (AssociationStands (length procs) s.common) (association_moves (length s.procs) (length procs) s.common b.more) s.common.associations h.associations in
-    let timers = all_weaker (TimerStands (ground s)) (TimerStands to) (timer_moves (ground s) to b) s.timers h.timers in
-    search (e ∙ h.units)
+rebuilt s procs boxes units e b f r a h = grind (arith, all_weaker, association_moves, timer_moves)
 
 pub moved : (s : State) (procs : List Process) (boxes : List (Option Mailbox)) (units : List DeviceUnit) → length units ≡ length s.units → Keeps (ground s) (ground (record s { procs = procs; boxes = boxes; units = units })) → AllByRecursion (ProcessStands (ground (record s { procs = procs; boxes = boxes; units = units }))) procs → IsFirm s → IsFirm (record s { procs = procs; boxes = boxes; units = units })
 moved s procs boxes units e k f h = rebuilt s procs boxes units e k.base f (all_weaker _ _ (request_keeps _ _ k) s.requests h.requests) (all_weaker _ _ (attention_keeps _ _ k) s.attention h.attention) h

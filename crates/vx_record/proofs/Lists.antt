@@ -122,8 +122,7 @@ ordered_more key low high (y ∷ ys) x e h = (h.0, ordered_more key (key y + 1) 
 -- all ids are from low on
 pub all_from : {A : Type 0} (key : A → ℕ) (low high : ℕ) (xs : List A) → AreOrdered key low high xs → AllByRecursion (λ x. low ≤ key x) xs
 all_from key low high [] h = tt
-all_from key low high (x ∷ xs) h =
-    (h.0, all_weaker (λ y. key x + 1 ≤ key y) (λ y. low ≤ key y) (λ y k. omega (arith, k, h.0)) xs (all_from key (key x + 1) high xs h.1))
+all_from key low high (x ∷ xs) h = let rest = all_from key (key x + 1) high xs h.1 in grind (arith, all_weaker)
 
 -- without the item of an id nothing has that id
 pub removed : {A : Type 0} (key : A → ℕ) (id : ℕ) (low high : ℕ) (xs : List A) → AreOrdered key low high xs → AllByRecursion (λ x. key x ≢ id) (less (λ x. key x == id) xs)

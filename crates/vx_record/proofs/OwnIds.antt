@@ -23,7 +23,7 @@ use Rattle.vx_image.specs.declared.decl.ProcDecl.{ProcDecl}
 use Rattle.vx_image.specs.declared.system.System.{System}
 use Rattle.vx_record.specs.Requests.{begun, taken_up}
 use Rattle.vx_record.specs.Runs.{born_from, first}
-use Rattle.vx_record.specs.Timers.{this_timer, due_again, after_wake}
+use Rattle.vx_record.specs.Timers.{this_timer, after_wake}
 use Rattle.vx_record.proofs.Lists.{either}
 use Rattle.vx_record.proofs.Moves.{Loose, passed, loosed, loosed_timer, MovesBy, both, quiet, newly, open_ast, open_force, que, end_asts, open_handler, end_handlers, enter, open_request, fin, mark, open_attention, attention_fires, end_attention, open_timer, open_wake, timer_fires, end_timer}
 
@@ -132,10 +132,7 @@ same_id : {A : Type 0} (key : A → ℕ) (x : A) (n id : ℕ) → key x ≡ n �
 same_id key x n id e = rw e refl
 
 wake_fewer : (s : State) (t : Timer) (n : ℕ) → Fewer s None (after_wake s t n) None
-wake_fewer s t n =
-    either (λ (x : State). Fewer s None x None) (n == 0) _ _
-    (record { next = refl; few = λ id. let e = tally_less (λ (x : Timer). timer_id x == id) (this_timer t.id) s.timers in omega (arith, e) })
-    (record { next = refl; few = λ id. let e = tally_amend (λ (x : Timer). timer_id x == id) (this_timer t.id) (due_again n) (λ x. refl) s.timers in omega (arith, e) })
+wake_fewer s t n = grind (arith, either, tally_less, tally_amend)
 
 -- what moves come to that open nothing and end nothing
 ruleset fewer = (still_fewer, put_fewer, passed_fewer, cell_fewer, drop_handler_fewer, wake_fewer)

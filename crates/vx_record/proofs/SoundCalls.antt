@@ -1,8 +1,8 @@
 -- A call that a well formed image makes names labels of the image, also with its arguments computed.
-use Rattle.std.proofs.Common.{◌≡◌, ℕ, zero, suc, ◌<◌, List, [], ◌∷◌, Bool, true, ◌&&◌, nat_lt, length, map, Option, Some, None, IfSome, position, unwrap_or, bytes_eq, slice_get, refl, arith}
-use Rattle.std.proofs.lemmas.Bool.{and_parts, and_from, ltb-true}
-use Rattle.std.specs.List.{AllByRecursion, list_all, list_any, position_or_len}
-use Rattle.vx_base.specs.Services.{is_of_kind, kind_of, is_unused, are_args, args_list, is_call, params_of}
+use Rattle.std.proofs.Common.{◌≡◌, ℕ, zero, suc, ◌<◌, List, [], ◌∷◌, Bool, true, length, map, Option, Some, None, IfSome, position, unwrap_or, bytes_eq, slice_get, refl, arith}
+use Rattle.std.proofs.lemmas.Bool.{and_parts, and_from}
+use Rattle.std.specs.List.{AllByRecursion, list_all, list_any}
+use Rattle.vx_base.specs.Services.{is_of_kind, kind_of, is_unused, are_args, args_list, params_of}
 use Rattle.vx_base.specs.declared.call.Arg.{Arg}
 use Rattle.vx_base.specs.declared.call.Arg.TheVariants as arg
 use Rattle.vx_base.specs.declared.call.Call.{Call}
@@ -11,7 +11,7 @@ use Rattle.vx_base.specs.declared.service.Kind.TheVariants as kind
 use Rattle.vx_base.specs.declared.service.Param.{Param}
 use Rattle.vx_image.specs.Local.{Reader, Moved, computed_arg, computed, stop_at, go_on, local_at, run_local, advanced}
 use Rattle.vx_image.specs.Storage.{Storage}
-use Rattle.vx_image.specs.WellFormed.{is_among, label_names, has_its_label, has_its_decl, is_call_of, is_stmt, is_image}
+use Rattle.vx_image.specs.WellFormed.{is_among, label_names, has_its_label, is_call_of, is_stmt, is_image}
 use Rattle.vx_image.specs.declared.stop.Stop.{Stop}
 use Rattle.vx_image.specs.declared.stop.Stop.TheVariants as stop
 use Rattle.vx_image.specs.declared.image.Image.{Image}
@@ -20,7 +20,6 @@ use Rattle.vx_image.specs.declared.stmt.Stmt.{Stmt}
 use Rattle.vx_image.specs.declared.stmt.Stmt.TheVariants as stmt
 use Rattle.vx_record.specs.Sound.{FitsImage}
 use Rattle.vx_record.specs.Services.{label, label_place, or_start}
-use Rattle.vx_record.proofs.Lists.{either_by}
 
 pub all_from_list : {A : Type 0} (p : A → Bool) (xs : List A) → list_all p xs ≡ true → AllByRecursion (λ x. p x ≡ true) xs
 all_from_list p [] h = tt
@@ -33,8 +32,7 @@ all_map p f k (x ∷ xs) h = let parts = and_parts (p x) (list_all p xs) h in an
 -- A place that is looked up in a list that has items.
 
 pub placed : {A : Type 0} (p : A → Bool) (xs : List A) → 0 < length xs → unwrap_or (position p xs) 0 < length xs
-placed p xs k =
-    either_by (λ (o : Option ℕ). unwrap_or o 0 < length xs) (nat_lt (position_or_len p xs) (length xs)) _ _ (λ e. ltb-true (position_or_len p xs) (length xs) e) (λ e. k)
+placed p xs k = grind arith
 
 some_item : {A B : Type 0} (p : B → Bool) (f : A → B) (xs : List A) → list_any p (map f xs) ≡ true → 0 < length xs
 some_item p f [] h = cc
@@ -75,9 +73,7 @@ computed_args who store (p ∷ ps) [] h = h
 computed_args who store (p ∷ ps) (a ∷ more) h = let rest = computed_args who store ps more in let one = computed_kind (kind_of p) who store a in grind arith
 
 fits_of : (names : List (List ℕ)) (image : Image) (c : Call) → is_call_of names image c ≡ true → FitsImage image c
-fits_of names image c h =
-    let parts = and_parts (is_call c) (list_all (has_its_label image) (args_list c.args) && has_its_decl names c.service c.args.a1) h in
-    record { args = parts.0; labels = (and_parts (list_all (has_its_label image) (args_list c.args)) (has_its_decl names c.service c.args.a1) parts.1).0 }
+fits_of names image c h = grind (arith, and_parts)
 
 computed_fits : (image : Image) (who : Reader) (store : Storage) (c : Call) → FitsImage image c → FitsImage image (computed who store c)
 computed_fits image who store c f = record { args = computed_args who store (params_of c.service) (args_list c.args) f.args; labels = all_map (has_its_label image) (computed_arg who store) (computed_label image who store) (args_list c.args) f.labels }

@@ -41,8 +41,7 @@ abbrev pub CommonStands : ℕ → Common → Type 0
 CommonStands n c = AllByRecursion (AssociationStands n c) c.associations
 
 clusters_move : (n : ℕ) (c : Common) (clusters : List Cluster) → ((a : Association) → list_any (is_cluster a.group a.name) c.clusters ≡ true → list_any (is_cluster a.group a.name) clusters ≡ true) → CommonStands n c → CommonStands n (record c { clusters = clusters })
-clusters_move n c clusters f h =
-    all_weaker (AssociationStands n c) (AssociationStands n (record c { clusters = clusters })) (λ a k. record { made = k.made; stands = f a k.stands }) c.associations h
+clusters_move n c clusters f h = grind (arith, all_weaker)
 
 is_itself : (group : ℕ) (name : List ℕ) → (group == group && bytes_eq name name) ≡ true
 is_itself group name = and_from (group == group) (bytes_eq name name) (eq-eqb group group refl) ((bytes_eq-Decides name name).1 refl)
@@ -51,11 +50,7 @@ both_names : (g h : ℕ) (x y : List ℕ) → (g == h && bytes_eq x y) ≡ true 
 both_names g h x y e = let parts = and_parts (g == h) (bytes_eq x y) e in (eqb-true g h parts.0, (bytes_eq-Decides x y).0 parts.1)
 
 apart : (a : Association) (group : ℕ) (name : List ℕ) → is_user group name a ≡ false → (cl : Cluster) → is_cluster group name cl ≡ true → is_cluster a.group a.name cl ≡ true → ⊥
-apart a group name none cl here there =
-    let one = both_names cl.group group cl.name name here in
-    let two = both_names cl.group a.group cl.name a.name there in
-    let itself = is_itself group name in
-    cc
+apart a group name none cl here there = grind (arith, both_names, is_itself)
 
 gone_stands : (n : ℕ) (c : Common) (group : ℕ) (name : List ℕ) → is_used c group name ≡ false → CommonStands n c → CommonStands n (gone c group name).after
 gone_stands n c group name none h =
@@ -73,9 +68,7 @@ swept_stands : (n : ℕ) (c : Common) (group : ℕ) (name : List ℕ) → Common
 swept_stands n c group name h = either_by (λ (d : Change). CommonStands n d.after) (is_used c group name) _ _ (λ e. h) (λ none. swept_at_stands n c group name (find (is_cluster group name) c.clusters) refl none h)
 
 parted_stands : (n : ℕ) (c : Common) (p : Pid) (k : ℕ) → CommonStands n c → CommonStands n (parted c p k).after
-parted_stands n c p k h =
-    all_weaker (AssociationStands n c) (AssociationStands n (parted c p k).after) (λ a e. record { made = e.made; stands = e.stands }) (less (is_association p k) c.associations)
-    (all_less (AssociationStands n c) (is_association p k) c.associations h)
+parted_stands n c p k h = grind (arith, all_weaker, all_less)
 
 pub dissociated_stands : (n : ℕ) (c : Common) (p : Pid) (k : ℕ) → CommonStands n c → CommonStands n (dissociated c p k).after
 dissociated_stands n c p k h =
@@ -88,9 +81,7 @@ made_where_new_stands n c group name permanent h =
     (λ e. (clusters_move n c (made c group name permanent).after.clusters (λ a k. any_append (is_cluster a.group a.name) c.clusters _ k) h, any_last (is_cluster group name) c.clusters _ (is_itself group name)))
 
 joined_stands : (n : ℕ) (c : Common) (p : Pid) (k group : ℕ) (name : List ℕ) → IsWithin n p → stands c group name ≡ true → CommonStands n c → CommonStands n (joined c p k group name).after
-joined_stands n c p k group name m e h =
-    let P = AssociationStands n (joined c p k group name).after in
-    all_append P c.associations _ (all_weaker (AssociationStands n c) P (λ a i. record { made = i.made; stands = i.stands }) c.associations h) (record { made = m; stands = e }, tt)
+joined_stands n c p k group name m e h = grind (arith, all_append, all_weaker)
 
 pub associated_stands : (n : ℕ) (c : Common) (p : Pid) (k group : ℕ) (name : List ℕ) (permanent : Bool) → IsWithin n p → CommonStands n c → CommonStands n (associated c p k group name permanent).after
 associated_stands n c p k group name permanent m h =

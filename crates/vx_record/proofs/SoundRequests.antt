@@ -1,15 +1,14 @@
 -- References stand after the services on requests, and after what units do.
-use Rattle.std.proofs.Common.{◌≡◌, ℕ, ◌-◌, List, [], ◌∷◌, ◌++◌, Bool, true, false, not, Option, Some, None, Ok, IfSome, refl, ap, arith, subst, ◌∙◌, ◌==◌}
+use Rattle.std.proofs.Common.{◌≡◌, ℕ, ◌-◌, List, [], ◌∷◌, Bool, true, false, Option, Some, None, Ok, IfSome, refl, ap, arith, subst, ◌∙◌, ◌==◌}
 use Rattle.std.proofs.Math.ListN.{length-set}
-use Rattle.std.proofs.lemmas.Bool.{and_parts, eqb-true}
+use Rattle.std.proofs.lemmas.Bool.{eqb-true}
 use Rattle.std.specs.List.{AllByRecursion, find}
 use Rattle.vx_base.specs.Channels.{is_channel_number, channel_at}
 use Rattle.vx_base.specs.Lists.{amend}
 use Rattle.vx_base.specs.Pieces.{Channel, Request, Promised, Attention, DeviceUnit}
-use Rattle.vx_base.specs.Queues.{is_unit, is_on, waits_for}
+use Rattle.vx_base.specs.Queues.{is_unit, waits_for}
 use Rattle.vx_base.specs.declared.effects.Cell.{Cell}
 use Rattle.vx_base.specs.declared.mode.Mode.{Mode}
-use Rattle.vx_base.specs.declared.number.Id.{Id}
 use Rattle.vx_base.specs.declared.number.Pid.{Pid}
 use Rattle.vx_base.specs.declared.number.UnitNo.{UnitNo}
 use Rattle.vx_base.specs.declared.request.Device.{Device}
@@ -20,7 +19,7 @@ use Rattle.vx_record.specs.Flags.{cell}
 use Rattle.vx_record.specs.Finish.{this_request}
 use Rattle.vx_record.specs.Channels.{usable_in, channel_test}
 use Rattle.vx_record.specs.Requests.{with_attention, Asked, is_bad, device_test, on_cell, request_test, promised, with_request, taken_up, begun, with_unit}
-use Rattle.vx_record.specs.Sound.{Ground, ground, process_of, IsRoutineOf, DeviceStands, ChannelStands, IsRooted, MayBeServed, RequestStands, AttentionStands, AreOrdered, request_id, attention_id}
+use Rattle.vx_record.specs.Sound.{Ground, ground, process_of, IsRoutineOf, DeviceStands, ChannelStands, IsRooted, MayBeServed, RequestStands, AttentionStands, AreOrdered, request_id}
 use Rattle.vx_record.proofs.Finds.{all_found}
 use Rattle.vx_record.proofs.Firm.{IsFirm}
 use Rattle.vx_record.proofs.Lists.{either_by, all_weaker, all_append, all_find, ordered_more, ordered_amend, all_get, find_passes}
@@ -54,18 +53,12 @@ promised_stands g p mode None h = tt
 promised_stands g p mode (Some tag) h = h
 
 pub with_request_still : (s : State) (r : Request) → r.req.id ≡ next_id s → RequestStands (ground s) r → IsFirm s → Still s (with_request (past_id s) r)
-with_request_still s r e k h =
-    still_then (past_id_still s h)
-    (requests_still (past_id s) (s.requests ++ r ∷ []) (all_append (RequestStands (ground s)) s.requests (r ∷ []) h.requests (k, tt))
-    (ordered_more request_id 0 s.next s.requests r (ap (λ (i : Id). i.0) e) h.request_ids) (past_id_still s h).sound)
+with_request_still s r e k h = grind (arith, still_then, past_id_still, requests_still, all_append, ordered_more)
 
 -- Attention.
 
 pub with_attention_still : (s : State) (a : Attention) → a.id ≡ next_id s → AttentionStands (ground s) a → IsFirm s → Still s (with_attention (past_id s) a)
-with_attention_still s a e k h =
-    still_then (past_id_still s h)
-    (attention_still (past_id s) (s.attention ++ a ∷ []) (all_append (AttentionStands (ground s)) s.attention (a ∷ []) h.attention (k, tt))
-    (ordered_more attention_id 0 s.next s.attention a (ap (λ (i : Id). i.0) e) h.attention_ids) (past_id_still s h).sound)
+with_attention_still s a e k h = grind (arith, still_then, past_id_still, attention_still, all_append, ordered_more)
 
 -- The tests.
 
@@ -84,9 +77,7 @@ unit_keeps : (s : State) (u : UnitNo) (unit : DeviceUnit) → Keeps (ground s) (
 unit_keeps s u unit = search (arith, length-set s.units u.0 unit)
 
 pub with_unit_still : (s : State) (u : UnitNo) (unit : DeviceUnit) → IsFirm s → Still s (with_unit s u unit)
-with_unit_still s u unit h =
-    let k = unit_keeps s u unit in
-    record { keeps = k; sound = moved s s.procs s.boxes (with_unit s u unit).units k.base.units k (all_weaker _ _ (process_moves (ground s) _ refl k.base.units k.box) s.procs h.procs) h }
+with_unit_still s u unit h = grind (arith, unit_keeps, moved, all_weaker, process_moves)
 
 -- all that has the id of what was found passes too
 same_id : (w : Request → Bool) (low high : ℕ) (xs : List Request) (r : Request) → AreOrdered request_id low high xs → find w xs ≡ Some r → AllByRecursion (λ x. request_id x ≡ request_id r → w x ≡ true) xs
@@ -106,9 +97,7 @@ served_unit u (device.Unit v) e = tt
 served_unit u (device.Mailbox b) e = cc
 
 taken_up_stands : (g : Ground) (u : UnitNo) (r : Request) → waits_for u r ≡ true → RequestStands g r → RequestStands g (taken_up r)
-taken_up_stands g u r e k =
-    let served = served_unit u r.req.device (and_parts (is_on u r) (not r.served) e).0 in
-    search
+taken_up_stands g u r e k = grind arith
 
 pub begun_sound : (s : State) (u : UnitNo) (r : Request) → find (waits_for u) s.requests ≡ Some r → IsFirm s → IsFirm (begun s r)
 begun_sound s u r e h =

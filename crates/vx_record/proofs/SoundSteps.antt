@@ -2,7 +2,7 @@
 use Rattle.std.proofs.Common.{◌≡◌, ℕ, ◌+◌, List, [], ◌∷◌, true, length, Option, Some, None, Contains, refl, sym, ◌∙◌, arith, subst}
 use Rattle.std.proofs.lemmas.List.{length-map}
 use Rattle.std.specs.List.{AllByRecursion}
-use Rattle.vx_base.specs.Pieces.{Queued, Request, Timer, Alarm, OfTimer, OfWake, Attention}
+use Rattle.vx_base.specs.Pieces.{Queued, Request}
 use Rattle.vx_base.specs.Queues.{front}
 use Rattle.vx_base.specs.declared.call.Call.{Call}
 use Rattle.vx_base.specs.declared.frame.Frame.{Frame}
@@ -18,12 +18,12 @@ use Rattle.vx_image.specs.Units.{first_unit}
 use Rattle.vx_record.specs.Parts.{Outcome}
 use Rattle.vx_base.specs.declared.record.Answer.{Answer}
 use Rattle.vx_record.specs.Rundown.{without_ast}
-use Rattle.vx_record.specs.Sound.{TimerStands, AttentionStands, AlarmStands, ground, RequestStands, ProcessStands, IsSound, FitsImage}
+use Rattle.vx_record.specs.Sound.{ground, ProcessStands, IsSound, FitsImage}
 use Rattle.vx_record.proofs.Steps.{service_moves, started_moves, step_moves}
 use Rattle.vx_record.proofs.Base.{Base}
 use Rattle.vx_record.proofs.Called.{called}
 use Rattle.vx_record.proofs.Fits.{field_same}
-use Rattle.vx_record.proofs.Moves.{IsAlarmMade, OutcomeBy}
+use Rattle.vx_record.proofs.Moves.{OutcomeBy}
 use Rattle.vx_record.specs.Requests.{begun}
 use Rattle.vx_record.proofs.Firm.{firm, sound_of}
 use Rattle.vx_record.proofs.OwnIds.{moves_own, own_of, owned, started_own, begun_own, first_own}
@@ -44,20 +44,10 @@ use Rattle.vx_record.proofs.Fixed.{step_keeps_system}
 
 -- ids rise, and owners are there, where references stand
 sound_base : (s : State) → IsSound s → Base s
-sound_base s h =
-    let owners = all_weaker (RequestStands (ground s)) (λ (r : Request). IsProcess s r.req.p) (λ r k. k.made) s.requests h.requests in
-    let timers = all_weaker (TimerStands (ground s)) (λ (t : Timer). IsProcess s t.p × IsAlarmMade s t.what) (λ t k. (k.made, alarm_made t.p t.what k.alarm)) s.timers h.timers in
-    let entries = all_weaker (AttentionStands (ground s)) (λ (a : Attention). IsProcess s a.p) (λ a k. k.made) s.attention h.attention in
-    search
-  where
-    alarm_made : (p : Pid) (a : Alarm) → AlarmStands (ground s) p a → IsAlarmMade s a
-    alarm_made p (OfTimer efn reqid mode tag) k = tt
-    alarm_made p (OfWake target repeat) k = k
+sound_base s h = grind (arith, all_weaker)
 
 moved_sound : {A : Type 0} (s : State) (o : Outcome A) → OutcomeBy true s o → IsSound s → IsSound o.after
-moved_sound s o k h =
-    sound_of o.after (moves_stand s None o.effects o.after None k (record { sound = firm s h; loose = tt })).sound
-    (owned o.after (moves_own s None o.effects o.after None k (own_of s h.own_ids)))
+moved_sound s o k h = grind (arith, sound_of, moves_stand, firm, owned, moves_own, own_of)
 
 pub service_sound : (s : State) (p : Pid) (c : Call) → FitsImage (image_of s p) c → IsProcess s p → HasFrame s p → IsSound s → IsSound (service s p c).after
 service_sound s p c k m f h = moved_sound s (service s p c) (service_moves s p c (record { base = sound_base s h; made = m }) (λ e. called s p c k f)) h

@@ -34,12 +34,12 @@ use Rattle.vx_image.specs.Local.{Advanced, advanced}
 use Rattle.vx_image.specs.declared.stop.Stop.{Stop}
 use Rattle.vx_image.specs.declared.stop.Stop.TheVariants as stop
 use Rattle.vx_record.specs.State.{State, process_at, change, current, image_of, unit_at, Process, IsProcess, next_id, past_id, no_decl, HasFrame, top_mode}
-use Rattle.vx_record.specs.Parts.{Part, Outcome, nothing, each, refused, refused_value, part_of, and_then, followed_by}
+use Rattle.vx_record.specs.Parts.{Part, Outcome, nothing, each, refused, part_of, and_then, followed_by}
 use Rattle.vx_record.specs.Charges.{exceeds, ast_need}
-use Rattle.vx_record.specs.Flags.{cell, flag_where_named, put_flag_at, readef_at, readef, wait_condition, is_common, wants_prmceb, with_wait, with_local_flag}
+use Rattle.vx_record.specs.Flags.{cell, flag_where_named, put_flag_at, wait_condition, is_common, wants_prmceb, with_wait, with_local_flag}
 use Rattle.vx_record.specs.Asts.{is_inside, declared_ast, charged_ast, with_frame, with_queued}
 use Rattle.vx_record.specs.Finish.{Ending, ending, is_read, fin_part, buf_part, status_of, iosb_part, done_flag_part, done_ast_part, finish, with_stored_status, with_stored_bytes}
-use Rattle.vx_record.specs.Channels.{channel_test, box_named, device_named, assign, crembx, delmbx_at, free_channel, unit_named}
+use Rattle.vx_record.specs.Channels.{channel_test, crembx, delmbx_at, free_channel}
 use Rattle.vx_record.specs.Cancel.{mark_part, withdraw, cancelled_request, cancel_request, is_request_on, is_attention_on, drop_attention, cancel_channel, cancel_at, dassgn_at}
 use Rattle.vx_record.specs.Requests.{request_test, unit_ending, with_unit}
 use Rattle.vx_record.specs.Control.{process_test, changed_process, with_wake, with_suspension, forced, creprc, exit_ast}
@@ -168,9 +168,7 @@ declared_place s p name m = record { made = m; first = first_named s.system.decl
 service_of_moves : {refs : Bool} (s : State) (p : Pid) (a : Args) (v : Service) → Here s p → (refs ≡ true → IsCalled s p a v) → OutcomeBy refs s (service_of s p a v)
 service_of_moves s p a SetEf h fits = at_flag_moves s p (number a.a0) (refused s) (put_flag_at s true) h.made (λ c. none s None) (λ c k. flag s None c true k tt tt)
 service_of_moves s p a ClrEf h fits = at_flag_moves s p (number a.a0) (refused s) (put_flag_at s false) h.made (λ c. none s None) (λ c k. flag s None c false k tt tt)
-service_of_moves s p a ReadEf h fits =
-    let o = readef s p (number a.a0) in
-    valued_at_moves s p (place a.a1) (part_of o) o.answer (at_flag_moves s p (number a.a0) (refused_value s) (readef_at s) h.made (λ c. none s None) (λ c k. none s None))
+service_of_moves s p a ReadEf h fits = grind (arith, valued_at_moves, at_flag_moves, none)
 service_of_moves s p a WaitFr h fits = waits_moves s p (number a.a0) (wait.Flags (number a.a0) (2 ^ (number a.a0 % 32)) false) h.made (λ e. tt)
 service_of_moves s p a WflOr h fits = waits_moves s p (number a.a0) (wait.Flags (number a.a0) (number a.a1) false) h.made (λ e. tt)
 service_of_moves s p a WflAnd h fits = waits_moves s p (number a.a0) (wait.Flags (number a.a0) (number a.a1) true) h.made (λ e. tt)
@@ -202,9 +200,7 @@ service_of_moves s p a DelPrc h fits = at_tested_moves s (deleted_by s) (process
 service_of_moves s p a Exit h fits = exited_moves s p (number a.a0)
 service_of_moves s p a DclExh h fits = outcome_either s (is_kernel (current s p)) _ _ (none s None) (open_handler s p (routine s p a.a0 0) h.made (λ e i. handler_routine s p a (fits e)))
 service_of_moves s p a CanExh h fits = outcome_either s (is_kernel (current s p)) _ _ (none s None) (cancel_handlers_moves s p (routine_or_none s p a.a0 0) h.made)
-service_of_moves s p a Assign h fits =
-    let o = assign s p (text a.a1) (access_mode a.a2) in
-    numbered_at_moves s p (place a.a0) (part_of o) o.answer (assign_to_moves s p (outer (access_mode a.a2) (current s p)) (device_named s (text a.a1)) (λ e i. named_stands s (text a.a1) (unit_named s (text a.a1)) (box_named s (text a.a1)) refl refl i))
+service_of_moves s p a Assign h fits = grind (arith, numbered_at_moves, assign_to_moves, named_stands)
 service_of_moves {refs} s p a Dassgn h fits =
     let n = number a.a0 in
     let one = cancel_channel s p n in
