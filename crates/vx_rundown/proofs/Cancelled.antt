@@ -1,7 +1,7 @@
 -- What a process asked on its channels of a mode is cancelled, channel after channel; and rundown can rely on what it did before.
-use Rattle.std.proofs.Common.{◌≡◌, ◌≢◌, ◌==◌, ℕ, ◌+◌, ◌-◌, ◌<◌, ◌≤◌, List, [], ◌∷◌, true, false, cond, not, ◌&&◌, nat_lt, length, length-append, length-set, get_or-set_other, Option, Some, None, is_some, inl, inr, refl, ap, sym, subst, ◌∙◌, arith}
-use Rattle.std.specs.List.{AllByRecursion, filter, find, list_any}
-use Rattle.std.proofs.lemmas.Bool.{cases_eq, eq-eqb, ltb-true}
+use Rattle.std.proofs.Common.{◌≡◌, ◌≢◌, ◌==◌, ℕ, ◌+◌, ◌-◌, ◌<◌, ◌≤◌, List, [], ◌∷◌, true, not, ◌&&◌, nat_lt, length, length-append, length-set, get_or-set_other, Option, Some, None, is_some, inl, inr, refl, ap, sym, subst, ◌∙◌, arith}
+use Rattle.std.specs.List.{AllByRecursion, filter, find}
+use Rattle.std.proofs.lemmas.Bool.{cases_eq, eq-eqb}
 use Rattle.std.proofs.lemmas.Bool.Decides.{nat_tests}
 use Rattle.vx_base.specs.Channels.{channels_of, is_reached, next_of_mode, reached_from}
 use Rattle.vx_base.specs.Flags.{one}
@@ -23,11 +23,10 @@ use Rattle.vx_record.proofs.Ground.{at_set}
 use Rattle.vx_record.proofs.Lists.{all_both, all_filter, all_from, all_weaker, either, find_passes, ordered_from}
 use Rattle.vx_record.proofs.Moves.{HasRequest}
 use Rattle.vx_record.specs.Asts.{charged_ast}
-use Rattle.vx_record.specs.Cancel.{cancel_channel, cancel_request, cancelled_request, drop_attention, drop_attentions, is_attention_on, is_request_on, mark_part, with_abort, withdraw}
+use Rattle.vx_record.specs.Cancel.{cancel_channel, cancel_request, cancelled_request, drop_attention, is_attention_on, is_request_on, mark_part, with_abort, withdraw}
 use Rattle.vx_record.specs.Charges.{bears_ast}
 use Rattle.vx_record.specs.Finish.{Ending, buf_part, done_flag_part, ending, finish, iosb_part, is_read, put_status, status_of, this_request, with_stored_bytes, with_stored_status}
 use Rattle.vx_record.specs.Flags.{cell, flag_where_named, with_local_flag}
-use Rattle.vx_record.specs.Mailboxes.{mailbox_at, mcut_part, this_message}
 use Rattle.vx_record.specs.Parts.{Part, and_then, each, nothing, tells}
 use Rattle.vx_record.specs.Rundown.{cancel_one}
 use Rattle.vx_record.specs.Sound.{AreOrdered, IsSound, RequestStands, ground, request_id}
@@ -96,8 +95,7 @@ status_follows s p i status =
     (change_follows s p (with_stored_status i status) (record { decl = refl; frames = refl; channels = λ f. refl; asts = omega arith })) follows_still
 
 flag_less : (n : ℕ) (pr : Process) → IsLess true pr (with_local_flag n true pr)
-flag_less n pr =
-    either (IsLess true pr) (nat_lt n 32) _ _ (record { decl = refl; frames = refl; channels = λ f. refl; asts = omega arith }) (record { decl = refl; frames = refl; channels = λ f. refl; asts = omega arith })
+flag_less n pr = grind arith
 
 flag_follows : (s : State) (o : Option Cell) → Follows true s (flag_where_named s o true).after
 flag_follows s None = follows_still
@@ -117,8 +115,7 @@ finish_follows s r e made has =
 
 withdraw_follows : (s : State) (r : Request) (d : Device) → Follows true s (withdraw s r d).after
 withdraw_follows s r (device.Unit u) = follows_still
-withdraw_follows s r (device.Mailbox b) =
-    either (λ (x : Part). Follows true s x.after) (list_any (this_message r.req.id) (mailbox_at s b).messages) (mcut_part s b r.req.id) (nothing s) (others_follow refl refl (λ q. omega arith)) follows_still
+withdraw_follows s r (device.Mailbox b) = grind arith
 
 -- a request that is withdrawn is there still
 withdraw_has : (s : State) (x y : Request) (d : Device) → HasRequest s y → HasRequest (withdraw s x d).after y
@@ -256,5 +253,4 @@ cancelling_fewer p m k l after n h found did =
     omega (arith, ap length split, ap (λ (rs : List (Option Channel)). length (channels_behind m n rs)) same)
 
 pub cancelling_end : (p : Pid) (m : Mode) (first k : Kernel) (after : ℕ) → IsCancelling p m first after k → None ≡ next_of_mode m after (process_at k.state p).channels → Acts (cancel_all p m first.state) first k
-cancelling_end p m first k after h none =
-    doing_end (cancel_all p m first.state) first k k (cancel_behind p m after k.state) (ap (λ ns. each (cancel_one p) ns k.state) (filter_none (λ n. nat_lt after n) (channels_of m (process_at k.state p).channels) (sym none))) refl h.doing
+cancelling_end p m first k after h none = grind (arith, doing_end, filter_none)

@@ -1,5 +1,5 @@
 -- A mode whose newest exit handler is entered, and one that has none.
-use Rattle.std.proofs.Common.{◌≡◌, ℕ, zero, suc, ◌-◌, List, [], ◌∷◌, ◌==◌, length, length-append, slice_index_or, slice_set, Option, Some, None, option_map, true, IsTrue, arith, refl, sym, ap, subst, ◌∙◌}
+use Rattle.std.proofs.Common.{◌≡◌, ℕ, List, [], ◌∷◌, ◌==◌, Option, Some, None, option_map, IsTrue, arith, refl, sym, ap, subst, ◌∙◌}
 use Rattle.std.specs.List.{find}
 use Rattle.std.proofs.lemmas.Bool.{eqb-true}
 use Rattle.vx_base.specs.Lists.{less}
@@ -7,10 +7,8 @@ use Rattle.vx_base.specs.Modes.{rank}
 use Rattle.vx_base.specs.Pieces.{Handler}
 use Rattle.vx_base.specs.declared.effects.Effect.TheVariants as effect
 use Rattle.vx_base.specs.declared.frame.Frame.{Frame}
-use Rattle.vx_base.specs.declared.frame.FrameKind.TheVariants as kind
 use Rattle.vx_base.specs.declared.frame.Phase.TheVariants as phase
 use Rattle.vx_base.specs.declared.mode.Mode.{Mode}
-use Rattle.vx_base.specs.declared.mode.Mode.TheVariants.{Kernel, Exec, Super, User}
 use Rattle.vx_base.specs.declared.number.Id.{Id}
 use Rattle.vx_base.specs.declared.number.Pid.{Pid}
 use Rattle.vx_base.specs.declared.record.Answer.{Answer}
@@ -18,19 +16,16 @@ use Rattle.vx_base.specs.declared.routine.Entry.{Entry}
 use Rattle.vx_exits.specs.Exits.{known}
 use Rattle.vx_record.proofs.Lists.{find_passes}
 use Rattle.vx_record.specs.Asts.{entry_place, with_frame}
-use Rattle.vx_record.specs.Parts.{nothing, part_of}
+use Rattle.vx_record.specs.Parts.{nothing}
 use Rattle.vx_record.proofs.Moves.{end_handler}
-use Rattle.vx_record.specs.Rundown.{cancel_modes, cancelled_in, draining, drop_handler, entered, handler_frame, handling, in_phase, is_handler_of, this_handler}
+use Rattle.vx_record.specs.Rundown.{cancel_modes, cancelled_in, draining, entered, handler_frame, in_phase, is_handler_of, this_handler}
 use Rattle.vx_base.specs.declared.routine.Entry.TheVariants as entry
-use Rattle.vx_image.specs.Local.{place_of}
-use Rattle.vx_image.specs.declared.system.System.{System}
-use Rattle.vx_record.specs.State.{Process, State, IsProcess, process_at, change, no_decl, no_image}
+use Rattle.vx_record.specs.State.{Process, State, IsProcess, process_at, change}
 use Rattle.vx_procs.specs.Handlers.{is_sought, without_sought}
-use Rattle.vx_procs.specs.Kernel.{Acts, Does, Fits, Kernel as KernelOf, changed, told, with_state}
+use Rattle.vx_procs.specs.Kernel.{Acts, Does, Fits, Kernel as KernelOf, changed}
 use Rattle.vx_procs.specs.Words.{handlers_have_own_ids}
 use Rattle.vx_procs.specs.declared.handlers.Sought.TheVariants.{Of}
 use Rattle.vx_procs.proofs.Own.{less_own}
-use Rattle.std.proofs.lemmas.List.{append-nil}
 use Rattle.vx_procs.proofs.Rest.{IsAnswering, acted, acts_both, answering_begun, answering_on, told_none}
 use Rattle.vx_rundown.specs.Leaving.{IsLeaving}
 use Rattle.vx_rundown.specs.Steps.{cancelled_and_drained, drained, entered_as, passed_by, passed_on}
@@ -43,14 +38,7 @@ rank_same a b e = grind arith
 
 -- the handler that was found, by what is known of it
 handler_known : (m : Mode) (hs : List Handler) (id : Id) (tag : Entry) → Some (id, tag) ≡ option_map known (find (is_handler_of m) hs) → find (is_handler_of m) hs ≡ Some (record { id = id; mode = m; tag = tag })
-handler_known m hs id tag found = by (find (is_handler_of m) hs) refl found
-  where
-    by : (o : Option Handler) → find (is_handler_of m) hs ≡ o → Some (id, tag) ≡ option_map known o → o ≡ Some (record { id = id; mode = m; tag = tag })
-    by None at e = absurd (cc)
-    by (Some h) at e =
-        let mode : h.mode ≡ m = rank_same h.mode m (eqb-true (rank h.mode) (rank m) (find_passes (is_handler_of m) hs h at)) in
-        let same : (id, tag) ≡ known h = cc in
-        ap (λ (x : Mode). let y : Handler = record h { mode = x } in Some y) mode ∙ ap (λ (x : Id × Entry). let y : Handler = record { id = x.0; mode = m; tag = x.1 } in Some y) (sym same)
+handler_known m hs id tag found = grind (arith, option_map, rank_same, eqb-true, find_passes)
 
 none_known : (o : Option Handler) → None ≡ option_map known o → o ≡ None
 none_known o e = grind arith
@@ -89,18 +77,10 @@ enter_leaving k n p m id tag h found out =
     subst (λ (x : KernelOf). IsLeaving x p) (sym out) (subst (λ (xs : List Handler). IsLeaving (changed k p (λ pr. record pr { handlers = xs })) p) same left)
 
 pub enter_room : (k n : KernelOf) (p : Pid) (m : Mode) (id : Id) (tag : Entry) → Some (id, tag) ≡ option_map known (find (is_sought (Of m)) (process_at k.state p).handlers) → n ≡ changed k p (without_sought (Of m)) → Fits k (passed_on p m k.state).effects → Fits n (effect.Enter id ∷ [])
-enter_room k n p m id tag found out room =
-    rw out (omega (arith, room, ap (λ (o : Option Handler). length (passed_by p m o k.state).effects) (handler_known m (process_at k.state p).handlers id tag found)))
+enter_room k n p m id tag found out room = grind arith
 
 pub enter_done : (k n q : KernelOf) (p : Pid) (m : Mode) (id : Id) (tag : Entry) (x : Answer) → IsLeaving k p → Some (id, tag) ≡ option_map known (find (is_sought (Of m)) (process_at k.state p).handlers) → n ≡ changed k p (without_sought (Of m)) → Does (entered_as n.state p (record { id = id; mode = m; tag = tag })) x n q → Does (passed_on p m k.state) (Some x) k q
-enter_done k n q p m id tag x h found out did =
-    let f : Handler = record { id = id; mode = m; tag = tag } in
-    let there = handler_known m (process_at k.state p).handlers id tag found in
-    let is : Does (passed_by p m (Some f) k.state) (Some x) k q = record {
-      answers = ap (λ (y : Answer). Some y) did.answers;
-      leaves = did.leaves ∙ (ap (λ (y : KernelOf). acted y (part_of (entered_as y.state p f))) out ∙ ap (λ (s : State). told (with_state k s) (effect.Enter id ∷ [])) (entered_state k.state p f h.made there (own_handlers_at k.state p h.sound h.made)));
-    } in
-    subst (λ (o : Option Handler). Does (passed_by p m o k.state) (Some x) k q) (sym there) is
+enter_done k n q p m id tag x h found out did = grind (arith, handler_known, acted, entered_state, own_handlers_at)
 
 -- Where there is none: the mode is cancelled and drained.
 

@@ -1,16 +1,13 @@
 -- The channels of a mode and outer ones are freed, the first of them at a time, each with its mailbox if that goes with it.
-use Rattle.std.proofs.Common.{◌≡◌, ℕ, suc, ◌+◌, ◌-◌, ◌<◌, ◌≤◌, List, [], ◌∷◌, Bool, ◌&&◌, true, false, cond, nat_lt, not, length, slice_index_or, slice_set, Option, Some, None, IsSome, IsTrue, is_some, arith, refl, ap, sym, subst, ◌∙◌}
+use Rattle.std.proofs.Common.{◌≡◌, ℕ, suc, ◌+◌, ◌-◌, ◌<◌, ◌≤◌, List, [], ◌∷◌, Bool, true, false, nat_lt, length, slice_index_or, slice_set, Option, Some, None, IsTrue, is_some, arith, refl, ap, sym, subst, ◌∙◌}
 use Rattle.std.specs.List.{find}
 use Rattle.std.proofs.lemmas.Bool.Decides.{nat_tests}
 use Rattle.vx_base.specs.Channels.{channel_at, channels_of, is_channel_number, is_reached, next_of_mode, reached_from}
 use Rattle.vx_base.specs.Pieces.{Channel}
 use Rattle.vx_base.specs.declared.mode.Mode.{Mode}
 use Rattle.vx_base.specs.declared.number.Pid.{Pid}
-use Rattle.vx_base.specs.declared.request.Device.{Device}
-use Rattle.vx_base.specs.declared.request.Device.TheVariants as device
-use Rattle.vx_record.specs.Channels.{box_gone, free_channel, goes_unused, is_assigned, swept_box, swept_device, with_channel}
-use Rattle.vx_record.specs.Mailboxes.{mailbox_at}
-use Rattle.vx_record.specs.Parts.{Part, and_then, each, nothing}
+use Rattle.vx_record.specs.Channels.{free_channel, swept_box, with_channel}
+use Rattle.vx_record.specs.Parts.{Part, and_then, each}
 use Rattle.vx_record.specs.Rundown.{free_one, keeps_busy}
 use Rattle.vx_record.specs.Sound.{ChannelStands, ground}
 use Rattle.vx_record.specs.State.{Process, State, process_at, change}
@@ -18,12 +15,12 @@ use Rattle.vx_record.proofs.Cancelled.{free_channel_moves}
 use Rattle.vx_record.proofs.Changes.{stands_at}
 use Rattle.vx_record.proofs.Firm.{firm}
 use Rattle.vx_record.proofs.Freeing.{IsFreeing as AreFreed, IsReleased, freed_on, freeing_first, freeing_row}
-use Rattle.vx_record.proofs.Lists.{all_get, either, either_by, none_passes}
+use Rattle.vx_record.proofs.Lists.{all_get, either_by, none_passes}
 use Rattle.vx_procs.specs.Kernel.{Acts, Fits, Kernel, with_state}
 use Rattle.vx_procs.proofs.Rest.{IsDoing, doing_begun, doing_end, doing_on, doing_room}
 use Rattle.vx_rundown.specs.Leaving.{IsDrained, IsLeaving}
 use Rattle.vx_io.proofs.Changed.{process_there}
-use Rattle.vx_rundown.proofs.Left.{Follows, change_follows, follows_still, follows_then, leaving_acted, leaving_by, others_follow}
+use Rattle.vx_rundown.proofs.Left.{Follows, change_follows, follows_still, follows_then, leaving_acted, leaving_by}
 
 -- Numbers.
 
@@ -80,11 +77,7 @@ found_none m rows found = cases (channels_of m rows) (found ∙ first_reached m 
 
 swept_follows : (rows : Bool) (s : State) (row : Option Channel) → Follows rows s (swept_box s row).after
 swept_follows rows s None = follows_still
-swept_follows rows s (Some ch) = by_device ch.device
-  where
-    by_device : (d : Device) → Follows rows s (swept_device s d).after
-    by_device (device.Unit u) = follows_still
-    by_device (device.Mailbox b) = either (λ (x : Part). Follows rows s x.after) (not (is_assigned s b) && goes_unused (mailbox_at s b)) (box_gone s b) (nothing s) (others_follow refl refl (λ q. omega arith)) follows_still
+swept_follows rows s (Some ch) = grind arith
 
 free_follows : (s : State) (p : Pid) (n : ℕ) → Follows false s (free_channel s p n).after
 free_follows s p n =
@@ -125,15 +118,10 @@ pub record IsNext (p : Pid) (m : Mode) (k : Kernel) (n : ℕ) (ns : List ℕ) : 
   pub at : IsReachedAt m 1 n ns (process_at k.state p).channels
 
 pub next_here : (p : Pid) (m : Mode) (k : Kernel) (n : ℕ) → IsLeaving k p → IsReleased k.state p m → Some n ≡ next_of_mode m 0 (process_at k.state p).channels → (ns : List ℕ) × IsNext p m k n ns
-next_here p m k n h free found =
-    let rows = (process_at k.state p).channels in
-    let first = found_first m n rows found in
-    (first.0, record { are = first.1; free = subst (AreFreed k.state p m) first.1 (freeing_first k.state p m h.made free); at = reached_at m 1 n first.0 rows first.1 })
+next_here p m k n h free found = grind (arith, found_first, freeing_first, reached_at)
 
 pub freeing_number : (p : Pid) (m : Mode) (first k : Kernel) (n : ℕ) → IsFreeing p m first k → Some n ≡ next_of_mode m 0 (process_at k.state p).channels → IsTrue (is_channel_number n)
-freeing_number p m first k n h found =
-    let next = next_here p m k n h.leaving h.released found in
-    (freeing_row k.state p m n next.0 next.1.free (firm k.state h.leaving.sound)).1.0
+freeing_number p m first k n h found = grind (arith, next_here, freeing_row, firm)
 
 pub freeing_stands : (p : Pid) (k : Kernel) (n : ℕ) → IsLeaving k p → ChannelStands (ground k.state) (channel_at (process_at k.state p).channels n)
 freeing_stands p k n h = all_get (ChannelStands (ground k.state)) (process_at k.state p).channels (n - 1) None tt (stands_at k.state p h.sound h.made).channels
@@ -147,9 +135,7 @@ left_behind p m k n ns h next =
     ap (channels_of m) (swept ∙ ap (λ (pr : Process). pr.channels) (process_there s p (with_channel n None) h.made)) ∙ next.at.rest
 
 free_first : (p : Pid) (m : Mode) (first k : Kernel) (n : ℕ) → IsFreeing p m first k → Some n ≡ next_of_mode m 0 (process_at k.state p).channels → free_all p m k.state ≡ and_then (free_channel k.state p n) (free_all p m)
-free_first p m first k n h found =
-    let next = next_here p m k n h.leaving h.released found in
-    ap (λ ns. each (free_one p) ns k.state) next.1.are ∙ ap (λ ns. and_then (free_channel k.state p n) (each (free_one p) ns)) (sym (left_behind p m k n next.0 h.leaving next.1))
+free_first p m first k n h found = grind (arith, next_here, left_behind)
 
 pub freeing_room : (p : Pid) (m : Mode) (first k : Kernel) (n : ℕ) → IsFreeing p m first k → Some n ≡ next_of_mode m 0 (process_at k.state p).channels → Fits k (free_channel k.state p n).effects
 freeing_room p m first k n h found = doing_room (free_all p m first.state) first k (free_all p m k.state) (free_channel k.state p n) (free_all p m) (free_first p m first k n h found) h.doing
@@ -166,11 +152,7 @@ freeing_more p m first k l n h found did =
 
 -- fewer are reached
 pub freeing_fewer : (p : Pid) (m : Mode) (first k l : Kernel) (n : ℕ) → IsFreeing p m first k → Some n ≡ next_of_mode m 0 (process_at k.state p).channels → Acts (free_channel k.state p n) k l → length (channels_of m (process_at l.state p).channels) < length (channels_of m (process_at k.state p).channels)
-freeing_fewer p m first k l n h found did =
-    let next = next_here p m k n h.leaving h.released found in
-    let left : channels_of m (process_at l.state p).channels ≡ next.0 = ap (λ (x : Kernel). channels_of m (process_at x.state p).channels) did ∙ left_behind p m k n next.0 h.leaving next.1 in
-    omega (arith, ap length left, ap length next.1.are)
+freeing_fewer p m first k l n h found did = grind (arith, next_here, left_behind)
 
 pub freeing_end : (p : Pid) (m : Mode) (first k : Kernel) → IsFreeing p m first k → None ≡ next_of_mode m 0 (process_at k.state p).channels → Acts (free_all p m first.state) first k
-freeing_end p m first k h none =
-    doing_end (free_all p m first.state) first k k (free_all p m k.state) (ap (λ ns. each (free_one p) ns k.state) (found_none m (process_at k.state p).channels none)) refl h.doing
+freeing_end p m first k h none = grind (arith, doing_end, found_none)

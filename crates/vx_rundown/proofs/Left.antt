@@ -1,15 +1,13 @@
 -- What rundown relies on stays, as its process changes, and the timers, the attention entries, the mailboxes and the common clusters.
-use Rattle.std.proofs.Common.{◌≡◌, ◌<◌, ◌≤◌, ℕ, ◌-◌, List, [], ◌∷◌, Bool, true, Option, None, length, length-set, slice_index_or, refl, ap, sym, subst, ◌∙◌, arith}
+use Rattle.std.proofs.Common.{◌≡◌, ◌≤◌, ℕ, ◌-◌, List, [], ◌∷◌, Bool, true, None, length, length-set, refl, arith}
 use Rattle.std.specs.List.{filter}
-use Rattle.vx_base.specs.Clusters.{Common, dissociated}
-use Rattle.vx_base.specs.Pieces.{Attention, Handler, Mailbox, Queued, Timer}
+use Rattle.vx_base.specs.Clusters.{dissociated}
+use Rattle.vx_base.specs.Pieces.{Attention, Handler, Queued, Timer}
 use Rattle.vx_base.specs.declared.effects.Effect.{Effect}
-use Rattle.vx_base.specs.declared.frame.Frame.{Frame}
 use Rattle.vx_base.specs.declared.frame.Phase.{Phase}
 use Rattle.vx_base.specs.declared.frame.Phase.TheVariants as phase
 use Rattle.vx_base.specs.declared.mode.Mode.{Mode}
 use Rattle.vx_base.specs.declared.number.Pid.{Pid}
-use Rattle.vx_image.specs.declared.system.System.{System}
 use Rattle.vx_record.proofs.Apart.{dissociated_only}
 use Rattle.vx_record.proofs.Cancelled.{drop_timers_moves}
 use Rattle.vx_record.proofs.Fits.{field_same}
@@ -22,9 +20,9 @@ use Rattle.vx_record.specs.Charges.{charged_timer, is_attention_of}
 use Rattle.vx_record.specs.Mailboxes.{this_attention}
 use Rattle.vx_record.specs.Parts.{Part, each}
 use Rattle.vx_record.specs.Rundown.{drop_ast, drop_asts, drop_handler, drop_handlers, in_phase, is_ast_reached, part_with, without_ast, without_handler}
-use Rattle.vx_record.specs.State.{Process, State, IsProcess, change, no_decl, nobody, process_at}
+use Rattle.vx_record.specs.State.{Process, State, IsProcess, change, nobody, process_at}
 use Rattle.vx_record.specs.Timers.{drop_timer, drop_timers, this_timer}
-use Rattle.vx_procs.specs.Kernel.{Acts, Kernel, changed, told, with_state}
+use Rattle.vx_procs.specs.Kernel.{Acts, Kernel, changed, with_state}
 use Rattle.vx_procs.specs.Ready.{owed}
 use Rattle.vx_procs.proofs.Firsts.{less_few, tally_few}
 use Rattle.vx_rundown.specs.Leaving.{IsLeaving}
@@ -45,22 +43,13 @@ made_then h made = record { above = made.above; within = omega (arith, made.with
 
 -- the processes are as they were
 pub others_follow : {rows : Bool} {s t : State} → t.system ≡ s.system → t.procs ≡ s.procs → ((q : Pid) → owed t q ≤ owed s q) → Follows rows s t
-others_follow system same owes =
-    let at : (q : Pid) → slice_index_or _ (q.0 - 1) nobody ≡ slice_index_or _ (q.0 - 1) nobody = λ q. ap (λ ps. slice_index_or ps (q.0 - 1) nobody) same in
-    record { system = system; many = ap length same; decl = λ q. ap (λ pr. pr.decl) (at q); frames = λ q. ap (λ pr. pr.frames) (at q); channels = λ e q. ap (λ pr. pr.channels) (at q); owed = λ q made. owes q }
+others_follow system same owes = grind arith
 
 pub follows_still : {rows : Bool} {s : State} → Follows rows s s
 follows_still = others_follow refl refl (λ q. omega arith)
 
 pub follows_then : {rows : Bool} {s t u : State} → Follows rows s t → Follows rows t u → Follows rows s u
-follows_then a b = record {
-  system = b.system ∙ a.system;
-  many = b.many ∙ a.many;
-  decl = λ q. b.decl q ∙ a.decl q;
-  frames = λ q. b.frames q ∙ a.frames q;
-  channels = λ e q. b.channels e q ∙ a.channels e q;
-  owed = λ q made. let first = a.owed q made in let second = b.owed q (made_then a made) in omega (arith, first, second);
-}
+follows_then a b = grind arith
 
 pub each_follows : {A : Type 0} {rows : Bool} (f : State → A → Part) → ((s : State) (x : A) → Follows rows s (f s x).after) → (xs : List A) (s : State) → Follows rows s (each f xs s).after
 each_follows f one [] s = follows_still
@@ -87,29 +76,11 @@ change_follows s p f h = record {
 
 -- What rundown relies on, after moves of the machine.
 pub leaving_by : {rows : Bool} {k : Kernel} {p : Pid} {es : List Effect} {t : State} → MovesBy true k.state None es t None → Follows rows k.state t → IsLeaving k p → IsLeaving (with_state k t) p
-leaving_by {rows} {k} {p} {es} {t} moves f h = record {
-  made = made_then f h.made;
-  declared = rw f.system (rw (f.decl p) h.declared);
-  image = rw f.system (rw (f.decl p) h.image);
-  idle = f.frames p ∙ h.idle;
-  sound = sound_moved k.state t es moves h.sound;
-  spares = λ q m.
-      let was : IsProcess k.state q = record { above = m.above; within = omega (arith, m.within, f.many) } in
-      let has = h.spares q was in
-      let few = f.owed q was in
-      record { frame = omega (arith, has.frame, ap (λ (fs : List Frame). length fs) (f.frames q)); ast = omega (arith, has.ast, few) };
-}
+leaving_by {rows} {k} {p} {es} {t} moves f h = grind (arith, made_then, sound_moved)
 
 -- the state after a part, whatever it told
 pub leaving_acted : (k : Kernel) {l : Kernel} {p : Pid} (part : Part) → Acts part k l → IsLeaving (with_state k part.after) p → IsLeaving l p
-leaving_acted k part did h = rw did (record {
-  made = h.made;
-  declared = h.declared;
-  image = h.image;
-  idle = h.idle;
-  sound = h.sound;
-  spares = λ q m. let has = h.spares q m in record { frame = has.frame; ast = has.ast };
-})
+leaving_acted k part did h = grind arith
 
 -- In another phase.
 

@@ -1,25 +1,21 @@
 -- Rundown mode by mode.
-use Rattle.std.proofs.Common.{◌≡◌, ◌≤◌, List, ◌∷◌, ◌++◌, true, false, cond, length, length-append, Option, Some, None, ap, sym, subst, ◌∙◌, refl, arith}
+use Rattle.std.proofs.Common.{◌≡◌, ◌≤◌, List, ◌∷◌, ◌++◌, true, length, length-append, Option, Some, None, ap, sym, subst, ◌∙◌, refl, arith}
 use Rattle.std.specs.List.{find}
 use Rattle.std.proofs.lemmas.List.{append_assoc}
-use Rattle.vx_base.specs.Channels.{channels_of}
 use Rattle.vx_base.specs.Pieces.{Handler}
-use Rattle.vx_base.specs.declared.effects.Effect.{Effect}
 use Rattle.vx_base.specs.declared.frame.Phase.{Phase}
 use Rattle.vx_base.specs.declared.frame.Phase.TheVariants as phase
 use Rattle.vx_base.specs.declared.mode.Mode.{Mode}
-use Rattle.vx_base.specs.declared.mode.Mode.TheVariants.{Kernel, Exec, Super, User}
 use Rattle.vx_base.specs.declared.number.Pid.{Pid}
 use Rattle.vx_base.specs.declared.record.Answer.{Answer}
 use Rattle.vx_base.specs.declared.record.Answer.TheVariants as answer
 use Rattle.vx_record.specs.Parts.{Outcome, Part, and_then, answered, followed_by, nothing, part_of}
-use Rattle.vx_record.specs.Rundown.{cancel_modes, cancelled_in, drain, drop_asts, handling, in_phase, inner_modes, is_busy, is_handler_of, is_timer_in, is_wake_by, part_with, release, run_down, run_handlers, rundown, rundown_from}
+use Rattle.vx_record.specs.Rundown.{cancel_modes, cancelled_in, drain, drop_asts, handling, in_phase, inner_modes, is_busy, is_handler_of, part_with, release, run_down, run_handlers, rundown, rundown_from}
 use Rattle.vx_record.specs.State.{IsProcess, Process, State, process_at}
 use Rattle.vx_record.proofs.Freeing.{phase_at}
 use Rattle.vx_record.proofs.Lists.{either_by}
 use Rattle.vx_record.proofs.Steps.{cancelled_in_moves}
 use Rattle.vx_record.specs.Sound.{IsSound}
-use Rattle.vx_record.specs.Timers.{drop_timers}
 use Rattle.vx_procs.specs.Kernel.{Acts, Does, Fits, Kernel as KernelOf, changed, with_state}
 use Rattle.vx_procs.proofs.Rest.{IsAnswering, acts_both, answering_begun, answering_end, answering_on, room_first, room_second}
 use Rattle.vx_io.proofs.Changed.{process_there}
@@ -40,10 +36,7 @@ three_parts k a f g room =
 -- Cancelling: the channels, the timers, the wakes.
 
 cancel_follows : (p : Pid) (m : Mode) (s : State) → IsSound s → Follows true s (cancel_modes s p m).after
-cancel_follows p m s sound =
-    let c = (cancel_all p m s).after in
-    let t = (drop_timers (is_timer_in p m) c).after in
-    follows_then (follows_then (cancels_follow p (channels_of m (process_at s p).channels) s sound) (timers_follow (is_timer_in p m) c)) (timers_follow (is_wake_by p) t)
+cancel_follows p m s sound = grind (arith, cancel_all, follows_then, cancels_follow, timers_follow)
 
 pub cancel_made : (p : Pid) (m : Mode) (k : KernelOf) → IsLeaving k p → IsProcess (cancel_modes k.state p m).after p
 cancel_made p m k h = made_then (cancel_follows p m k.state h.sound) h.made
@@ -63,16 +56,11 @@ leaving_release p m k drained h =
 -- A mode is drained, and passed.
 
 pub drain_is : (s : State) (p : Pid) (m : Mode) (next : State → Outcome Answer) → drain p m next s ≡ then_on (drained p m s) next
-drain_is s p m next =
-    elim (is_busy s p m) as (λ b. cond b (answered answer.Busy (nothing s)) (followed_by (release s p m) next) ≡ then_on (cond b (answered (Some answer.Busy) (nothing s)) (answered None (release s p m))) next) [ true ↦ refl | false ↦ refl ]
+drain_is s p m next = grind arith
 
 -- a part, and what a mode comes to behind it
 after_part : (a : Part) (f : State → Outcome (Option Answer)) (next : State → Outcome Answer) → followed_by a (λ s. then_on (f s) next) ≡ then_on (followed_by a f) next
-after_part a f next = by (f a.after).answer
-  where
-    by : (o : Option Answer) → followed_by a (λ s. then_by o (part_of (f a.after)) next) ≡ then_by o (part_of (followed_by a f)) next
-    by None = let b = f a.after in ap (λ (es : List Effect). let x : Outcome Answer = record { answer = (next b.after).answer; effects = es; after = (next b.after).after } in x) (sym (append_assoc a.effects b.effects (next b.after).effects))
-    by (Some x) = refl
+after_part a f next = grind (arith, append_assoc)
 
 pub mode_is : (s : State) (p : Pid) (m : Mode) (ms : List Mode) → IsProcess s p → run_down p (m ∷ ms) s ≡ then_on (passed p m s) (run_down p ms)
 mode_is s p m ms made =
@@ -88,11 +76,7 @@ mode_is s p m ms made =
 -- what comes before the next mode is told first
 
 pub then_few : (o : Outcome (Option Answer)) (next : State → Outcome Answer) → length o.effects ≤ length (then_on o next).effects
-then_few o next = by o.answer
-  where
-    by : (x : Option Answer) → length o.effects ≤ length (then_by x (part_of o) next).effects
-    by None = omega (arith, length-append o.effects (next o.after).effects)
-    by (Some x) = omega arith
+then_few o next = grind (arith, length-append)
 
 -- where a mode answers, that is the answer
 pub then_ends : (o : Outcome (Option Answer)) (next : State → Outcome Answer) (x : Answer) (k l : KernelOf) → Does o (Some x) k l → Does (then_on o next) x k l
@@ -148,8 +132,7 @@ pub pass_room : {p : Pid} {m : Mode} {whole : Outcome Answer} {first k : KernelO
 pass_room {p} {m} {whole} {first} {k} h = omega (arith, h.rest.doing.room, ap (λ (o : Outcome Answer). length o.effects) (mode_is k.state p m (inner_modes m) h.leaving.made), then_few (passed p m k.state) (run_down p (inner_modes m)))
 
 pub pass_ends : {p : Pid} {m : Mode} {x : Answer} {whole : Outcome Answer} {first k l : KernelOf} → IsRunning p whole first (m ∷ inner_modes m) k → Does (passed p m k.state) (Some x) k l → Does whole x first l
-pass_ends {p} {m} {x} {whole} {first} {k} {l} h did =
-    answering_end whole first k l (run_down p (m ∷ inner_modes m) k.state) x h.rest (subst (λ (o : Outcome Answer). Does o x k l) (sym (mode_is k.state p m (inner_modes m) h.leaving.made)) (then_ends (passed p m k.state) (run_down p (inner_modes m)) x k l did))
+pass_ends {p} {m} {x} {whole} {first} {k} {l} h did = grind (arith, answering_end, mode_is, then_ends)
 
 -- a mode that goes on to the next
 goes_on : (p : Pid) (m : Mode) (o : Outcome (Option Answer)) (whole rest : Outcome Answer) (first k l : KernelOf) → IsAnswering whole first rest k → rest ≡ then_on o (run_down p (inner_modes m)) → Does o None k l → IsLeaving l p → IsRunning p whole first (modes_from (next_inner m)) l

@@ -1,5 +1,5 @@
 -- Things of a process that end, the first of them at a time: its queued ASTs, and its exit handlers.
-use Rattle.std.proofs.Common.{◌≡◌, ◌==◌, ◌-◌, ◌<◌, List, [], ◌∷◌, Bool, length, arith, IsTrue, Option, Some, None, option_map, refl, ap, sym, subst, ◌∙◌}
+use Rattle.std.proofs.Common.{◌≡◌, ◌==◌, ◌<◌, List, [], ◌∷◌, Bool, length, arith, IsTrue, Option, Some, None, option_map, refl, ap, sym, subst, ◌∙◌}
 use Rattle.std.specs.List.{filter, find}
 use Rattle.std.proofs.lemmas.List.{set-get_or}
 use Rattle.vx_base.specs.Lists.{less}
@@ -8,13 +8,12 @@ use Rattle.vx_base.specs.Pieces.{Handler, Queued}
 use Rattle.vx_base.specs.declared.effects.Effect.TheVariants as effect
 use Rattle.vx_base.specs.declared.number.Id.{Id}
 use Rattle.vx_base.specs.declared.number.Pid.{Pid}
-use Rattle.vx_base.specs.declared.cond.Cond.{Cond}
 use Rattle.vx_base.specs.declared.cond.Cond.TheVariants.{Normal, NoHandler}
 use Rattle.vx_base.specs.declared.mode.Mode.{Mode}
 use Rattle.vx_base.specs.declared.routine.Entry.{Entry}
-use Rattle.vx_record.specs.Parts.{Outcome, Part, answered, tells, and_then, each}
+use Rattle.vx_record.specs.Parts.{Part, tells, and_then, each}
 use Rattle.vx_record.specs.Rundown.{cancel_found, drop_handler, is_handler_with}
-use Rattle.vx_record.specs.State.{Process, State, IsProcess, process_at, change, nobody}
+use Rattle.vx_record.specs.State.{Process, State, IsProcess, process_at, change}
 use Rattle.vx_procs.specs.Kernel.{Acts, Does, Fits, Kernel, changed, told, with_state}
 use Rattle.vx_procs.specs.Words.{handlers_have_own_ids, have_own}
 use Rattle.vx_procs.proofs.Booked.{length-less}
@@ -73,10 +72,7 @@ drop_first sh p test s x made own found =
     split ∙ (ap (λ u. more u (filter test (less test xs))) here ∙ ap (more t) left)
 
 pub drop_room : {A : Type 0} (sh : Shelf A) (p : Pid) (test : A → Bool) (first k l : Kernel) (id : Id) → IsDropping sh p test first k → Some id ≡ option_map sh.id (find test (sh.get (process_at k.state p))) → l ≡ changed k p (without sh test) → Fits l (effect.Drop id ∷ [])
-drop_room sh p test first k l id h given there =
-    let found = found_id sh.id (find test (sh.get (process_at k.state p))) id given in
-    let room = doing_room (drop_all sh p test first.state) first k (drop_all sh p test k.state) (tells (effect.Drop (sh.id found.0)) (change k.state p (without sh test))) (drop_all sh p test) (drop_first sh p test k.state found.0 h.made h.own found.1.0) h.doing in
-    rw there room
+drop_room sh p test first k l id h given there = grind (arith, found_id, doing_room, drop_first)
 
 pub drop_more : {A : Type 0} (sh : Shelf A) (p : Pid) (test : A → Bool) (first k l n : Kernel) (id : Id) → IsDropping sh p test first k → Some id ≡ option_map sh.id (find test (sh.get (process_at k.state p))) → l ≡ changed k p (without sh test) → n ≡ told l (effect.Drop id ∷ []) → IsDropping sh p test first n
 drop_more sh p test first k l n id h given there tells_it =
@@ -90,30 +86,19 @@ drop_more sh p test first k l n id h given there tells_it =
     }
 
 pub drop_fewer : {A : Type 0} (sh : Shelf A) (p : Pid) (test : A → Bool) (k l : Kernel) (id : Id) → IsProcess k.state p → Some id ≡ option_map sh.id (find test (sh.get (process_at k.state p))) → l ≡ changed k p (without sh test) → length (sh.get (process_at l.state p)) < length (sh.get (process_at k.state p))
-drop_fewer sh p test k l id made given there =
-    let found = found_id sh.id (find test (sh.get (process_at k.state p))) id given in
-    let fewer = length-less test (sh.get (process_at k.state p)) found.0 found.1.0 in
-    let at = ap length (there_got sh p test k.state made) in
-    rw there (omega (arith, fewer, at))
+drop_fewer sh p test k l id made given there = grind (arith, found_id, length-less, there_got)
 
 -- nothing is taken out where none is found
 still : {A : Type 0} (sh : Shelf A) (p : Pid) (test : A → Bool) (s : State) → find test (sh.get (process_at s p)) ≡ None → change s p (without sh test) ≡ s
-still sh p test s none =
-    let same : without sh test (process_at s p) ≡ process_at s p = ap (λ xs. sh.put xs (process_at s p)) (less_none test (sh.get (process_at s p)) none) ∙ sh.same (process_at s p) in
-    ap (λ (pr : Process). change s p (λ _. pr)) same ∙ ap (λ (ps : List Process). record s { procs = ps }) (set-get_or s.procs (p.0 - 1) nobody)
+still sh p test s none = grind (arith, less_none, set-get_or)
 
 pub drop_end : {A : Type 0} (sh : Shelf A) (p : Pid) (test : A → Bool) (first k l : Kernel) → IsDropping sh p test first k → None ≡ option_map sh.id (find test (sh.get (process_at k.state p))) → l ≡ changed k p (without sh test) → Acts (drop_all sh p test first.state) first l
-drop_end sh p test first k l h given there =
-    let none = found_none sh.id (find test (sh.get (process_at k.state p))) given in
-    doing_end (drop_all sh p test first.state) first k l (drop_all sh p test k.state) (ap (λ xs. each (drop_one sh p) xs k.state) (filter_none test (sh.get (process_at k.state p)) none)) (there ∙ ap (with_state k) (still sh p test k.state none)) h.doing
+drop_end sh p test first k l h given there = grind (arith, found_none, doing_end, filter_none, still)
 
 -- $CANEXH of one.
 
 pub cancel_room : (p : Pid) (m : Mode) (tag : Entry) (k l : Kernel) (id : Id) → Some id ≡ option_map (λ h. h.id) (find (is_handler_with m tag) (process_at k.state p).handlers) → l ≡ changed k p (without handlers (is_handler_with m tag)) → Fits k (cancel_found k.state p (find (is_handler_with m tag) (process_at k.state p).handlers)).effects → Fits l (effect.Drop id ∷ [])
-cancel_room p m tag k l id given there room =
-    let o = find (is_handler_with m tag) (process_at k.state p).handlers in
-    let found = found_id (λ (h : Handler). h.id) o id given in
-    rw there (omega (arith, room, ap (λ (x : Option Handler). length (cancel_found k.state p x).effects) found.1.0))
+cancel_room p m tag k l id given there room = grind arith
 
 pub cancel_done : (p : Pid) (m : Mode) (tag : Entry) (k l n : Kernel) (id : Id) → IsTrue (handlers_have_own_ids (process_at k.state p).handlers) → Some id ≡ option_map (λ h. h.id) (find (is_handler_with m tag) (process_at k.state p).handlers) → l ≡ changed k p (without handlers (is_handler_with m tag)) → n ≡ told l (effect.Drop id ∷ []) → Does (cancel_found k.state p (find (is_handler_with m tag) (process_at k.state p).handlers)) Normal k n
 cancel_done p m tag k l n id own given there tells_it =
@@ -124,7 +109,4 @@ cancel_done p m tag k l n id own given there tells_it =
     subst (λ (x : Option Handler). Does (cancel_found k.state p x) Normal k n) (sym found.1.0) (record { answers = refl; leaves = acts })
 
 pub cancel_none : (p : Pid) (m : Mode) (tag : Entry) (k l : Kernel) → None ≡ option_map (λ h. h.id) (find (is_handler_with m tag) (process_at k.state p).handlers) → l ≡ k → Does (cancel_found k.state p (find (is_handler_with m tag) (process_at k.state p).handlers)) NoHandler k l
-cancel_none p m tag k l given kept =
-    let o = find (is_handler_with m tag) (process_at k.state p).handlers in
-    let none = found_none (λ (h : Handler). h.id) o given in
-    subst (λ (x : Option Handler). Does (cancel_found k.state p x) NoHandler k l) (sym none) (record { answers = refl; leaves = kept ∙ told_none k })
+cancel_none p m tag k l given kept = grind (arith, found_none, told_none)

@@ -1,16 +1,16 @@
 -- What of a process follows from a state whose references stand: no two of its queued ASTs have one id, and no two of its exit handlers.
-use Rattle.std.proofs.Common.{◌≡◌, ℕ, zero, suc, ◌-◌, ◌<◌, ◌≤◌, List, [], ◌∷◌, ◌==◌, not, true, false, IsTrue, None, length, slice_index_or, inl, inr, refl, sym, arith}
+use Rattle.std.proofs.Common.{◌≡◌, ℕ, zero, suc, ◌-◌, ◌<◌, ◌≤◌, List, [], ◌∷◌, ◌==◌, not, true, false, IsTrue, None, length, slice_index_or, refl, arith}
 use Rattle.std.specs.List.{list_any}
 use Rattle.std.proofs.lemmas.Bool.{and_from, eq-eqb}
 use Rattle.std.proofs.lemmas.Bool.Decides.{nat_tests}
 use Rattle.vx_base.specs.Flags.{one}
 use Rattle.vx_base.specs.Lists.{tally}
-use Rattle.vx_base.specs.Pieces.{Alarm, Attention, Handler, OfTimer, OfWake, Queued, Request, Timer}
+use Rattle.vx_base.specs.Pieces.{Alarm, Handler, OfTimer, OfWake, Queued}
 use Rattle.vx_base.specs.declared.effects.Effect.{Effect}
 use Rattle.vx_base.specs.declared.number.Id.{Id}
 use Rattle.vx_base.specs.declared.number.Pid.{Pid}
 use Rattle.vx_record.specs.Parts.{total}
-use Rattle.vx_record.specs.Sound.{AlarmStands, AttentionStands, IsSound, RequestStands, TimerStands, ground, process_bears}
+use Rattle.vx_record.specs.Sound.{AlarmStands, IsSound, ground, process_bears}
 use Rattle.vx_record.specs.State.{State, IsProcess, nobody, process_at}
 use Rattle.vx_record.proofs.Base.{Base}
 use Rattle.vx_record.proofs.Firm.{firm, sound_of}
@@ -62,15 +62,7 @@ alarm_made s p (OfTimer efn reqid mode tag) h = tt
 alarm_made s p (OfWake target repeat) h = h
 
 pub base_of : (s : State) → IsSound s → Base s
-base_of s h = record {
-  requests = h.request_ids;
-  timers = h.timer_ids;
-  attention = h.attention_ids;
-  request_owners = all_weaker (RequestStands (ground s)) (λ (r : Request). IsProcess s r.req.p) (λ r k. k.made) s.requests h.requests;
-  timer_owners = all_weaker (TimerStands (ground s)) (λ (t : Timer). IsProcess s t.p × IsAlarmMade s t.what) (λ t k. (k.made, alarm_made s t.p t.what k.alarm)) s.timers h.timers;
-  attention_owners = all_weaker (AttentionStands (ground s)) (λ (a : Attention). IsProcess s a.p) (λ a k. k.made) s.attention h.attention;
-}
+base_of s h = grind (arith, all_weaker, alarm_made)
 
 pub sound_moved : (s t : State) (es : List Effect) → MovesBy true s None es t None → IsSound s → IsSound t
-sound_moved s t es moves h =
-    sound_of t (moves_stand s None es t None moves (record { sound = firm s h; loose = tt })).sound (owned t (moves_own s None es t None moves (own_of s h.own_ids)))
+sound_moved s t es moves h = grind (arith, sound_of, moves_stand, firm, owned, moves_own, own_of)
