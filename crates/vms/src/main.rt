@@ -1,13 +1,13 @@
 //! The program `vms`, a hosted executive with asynchronous services in the manner of OpenVMS.
 //!
-//! `main` hands standard input, standard output, the words, and a gate that does nothing to `vms_call` of `vx_call`, whose contract
+//! `main` hands standard input, standard output, the words, and a gate that does nothing to `vms_call` of `vx_commands`, whose contract
 //! says all that the program may answer and write.
 #![tactic(auto)]
 
 use std::env;
 use std::process::ExitCode;
 use vx_base::NoMemory;
-use vx_call::vms_call;
+use vx_commands::vms_call;
 use vx_carrier::NoGate;
 use vx_host::{StdSink, StdSource, words_of};
 use vx_tell::tell_no_memory;

@@ -9,11 +9,11 @@ use Rattle.vx_gen.specs.Generated.{generated}
 use Rattle.vx_laws.proofs.Whole.{every_run_lawful}
 use Rattle.vx_picks.specs.Picked.{picked}
 use Rattle.vx_record.specs.Runs.{chosen}
-use Rattle.vx_report.specs.Reported.{IsReported, judged, refused, short as short_of_report, status_of}
+use Rattle.vx_commands.specs.Reported.{IsReported, judged, refused, short as short_of_report, status_of}
 use Rattle.vx_simulate.specs.Followed.{followed, lacks}
 use Rattle.vx_simulate.specs.Simulated.{cut, ran}
 use Rattle.vx_simulate.specs.Summed.{full_run, short, summed}
-use Rattle.vx_survey.specs.Explored.{cut as cut_short, told}
+use Rattle.vx_commands.specs.Explored.{cut as cut_short, told}
 use Rattle.vx_tell.specs.Code.{status_of_end}
 use Rattle.vx_tell.specs.Scripts.{out_of_memory, no_script, of_system}
 use Rattle.vx_tell.specs.Told.{Told, broken, whole}

@@ -1,2 +1,6 @@
-pub mod Top
+pub mod Carried
+pub mod Explored
+pub mod Reported
 pub mod Shown
+pub mod Threads
+pub mod Top

@@ -13,11 +13,11 @@ use Rattle.vx_journal.specs.declared.journal.Journal.{Journal}
 use Rattle.vx_laws.specs.Laws.{KeepLaws}
 use Rattle.vx_picks.specs.Picked.{picked}
 use Rattle.vx_record.specs.Runs.{IsRun, chosen}
-use Rattle.vx_report.specs.Reported.{IsReported, IsReportText}
+use Rattle.vx_commands.specs.Reported.{IsReported, IsReportText}
 use Rattle.vx_simulate.specs.Followed.{IsFollowText, LacksPlace}
 use Rattle.vx_simulate.specs.Simulated.{IsSimText}
 use Rattle.vx_simulate.specs.Summed.{IsGenText, full_run}
-use Rattle.vx_survey.specs.Explored.{IsExploreText}
+use Rattle.vx_commands.specs.Explored.{IsExploreText}
 use Rattle.vx_tell.specs.Lines.{usage}
 use Rattle.vx_tell.specs.Scripts.{OfScript}
 use Rattle.vx_tell.specs.Unread.{IsUnread}

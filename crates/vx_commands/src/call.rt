@@ -9,9 +9,9 @@ use crate::show::show;
 use std::alloc::Global;
 use vx_base::{Bytes, NoMemory};
 use vx_host::{Sink, Source, read_all};
-use vx_report::judge;
+use crate::judging::judge;
 use vx_simulate::{follow, simulate, summarize};
-use vx_survey::explore;
+use crate::survey::explore;
 use vx_tell::{MOST_INPUT, Status, tell, tell_no_memory, tell_unread};
 use vx_words::{Command, command_of, size_of};
 

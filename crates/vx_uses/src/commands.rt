@@ -6,7 +6,7 @@ use std::sync::Wait;
 use std::test::*;
 use std::thread::Threads;
 use vx_base::{Bytes, NoMemory};
-use vx_call::vms_call;
+use vx_commands::vms_call;
 use vx_host::{MemSink, MemSource};
 use vx_tell::Status;
 
