@@ -1,5 +1,5 @@
 -- An attention entry is set: its part, step after step.
-use Rattle.std.proofs.Common.{◌≡◌, ℕ, List, [], ◌∷◌, ◌++◌, true, ◌==◌, Option, Some, refl, ap, ◌∙◌}
+use Rattle.std.proofs.Common.{◌≡◌, ℕ, List, [], ◌∷◌, ◌++◌, true, ◌==◌, Option, Some, refl, ap, subst, sym, ◌∙◌}
 use Rattle.std.specs.List.{find}
 use Rattle.vx_base.specs.Pieces.{Attention}
 use Rattle.vx_base.specs.declared.number.Id.{Id}
@@ -12,8 +12,8 @@ use Rattle.vx_record.specs.Requests.{Asked, attention_opened, attention_set, don
 use Rattle.vx_record.specs.Sound.{AreOrdered, attention_id}
 use Rattle.vx_record.specs.State.{State}
 use Rattle.vx_record.proofs.Apart.{flag_attention, iosb_attention}
-use Rattle.vx_procs.specs.Kernel.{Acts, Kernel}
-use Rattle.vx_procs.proofs.Rest.{acted, acts_both}
+use Rattle.vx_procs.specs.Kernel.{Acts, Fits, Kernel}
+use Rattle.vx_procs.proofs.Rest.{acted, acts_both, room_first, room_second}
 use Rattle.vx_io.specs.Boxes.{attend_by, fire_found, is_answered}
 use Rattle.vx_io.proofs.Opening.{last_found}
 
@@ -55,3 +55,21 @@ set_as k l m n o p q a id is next order did then last ends =
     let same = attend_same k n a id is next order (entries_there k l m n p q a did then last) in
     acts_both k m o (first_half k.state p q a) (attending p q a) (half_done k l m p q a did then)
     (acts_both m n o (flagging p q m.state) (λ d. attend d a) last (ends ∙ ap (acted n) same))
+
+-- there is room for each part where there is room for the whole
+pub opened_fits : (k : Kernel) (p : Pid) (q : Asked) (a : Attention) → Fits k (attention_set k.state p q a).effects → Fits k (attention_opened k.state p q a).effects
+opened_fits k p q a room = room_first k (attention_opened k.state p q a) (filling p q) (room_first k (first_half k.state p q a) (attending p q a) room)
+
+pub filled_fits : (k l : Kernel) (p : Pid) (q : Asked) (a : Attention) → Acts (attention_opened k.state p q a) k l → Fits k (attention_set k.state p q a).effects → Fits l (filling p q l.state).effects
+filled_fits k l p q a did room = room_second k l (attention_opened k.state p q a) (filling p q) did (room_first k (first_half k.state p q a) (attending p q a) room)
+
+behind_half : (k l m : Kernel) (p : Pid) (q : Asked) (a : Attention) → Acts (attention_opened k.state p q a) k l → Acts (filling p q l.state) l m → Fits k (attention_set k.state p q a).effects → Fits m (attending p q a m.state).effects
+behind_half k l m p q a did then room = room_second k m (first_half k.state p q a) (attending p q a) (half_done k l m p q a did then) room
+
+pub flagged_fits : (k l m : Kernel) (p : Pid) (q : Asked) (a : Attention) → Acts (attention_opened k.state p q a) k l → Acts (filling p q l.state) l m → Fits k (attention_set k.state p q a).effects → Fits m (flagging p q m.state).effects
+flagged_fits k l m p q a did then room = room_first m (flagging p q m.state) (λ d. attend d a) (behind_half k l m p q a did then room)
+
+pub attended_fits : (k l m n : Kernel) (p : Pid) (q : Asked) (a : Attention) (id : Id) → id ≡ a.id → a.id.0 ≡ k.state.next → AreOrdered attention_id 0 k.state.next k.state.attention → Acts (attention_opened k.state p q a) k l → Acts (filling p q l.state) l m → Acts (flagging p q m.state) m n → Fits k (attention_set k.state p q a).effects → Fits n (attend_by n.state a.box a.func id).effects
+attended_fits k l m n p q a id is next order did then last room =
+    subst (λ (x : Part). Fits n x.effects) (sym (attend_same k n a id is next order (entries_there k l m n p q a did then last)))
+    (room_second m n (flagging p q m.state) (λ d. attend d a) last (behind_half k l m p q a did then room))
