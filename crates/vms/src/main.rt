@@ -7,8 +7,8 @@
 use std::env;
 use std::process::ExitCode;
 use vx_base::NoMemory;
-use vx_commands::vms_call;
 use vx_carrier::NoGate;
+use vx_commands::vms_call;
 use vx_host::{StdSink, StdSource, words_of};
 use vx_tell::tell_no_memory;
 

@@ -5,13 +5,13 @@ ghost use Rattle.vx_commands.specs.Top.{IsAnswer, IsLawful};
 ghost use Rattle.vx_tell.specs.Told.{Told};
 ghost use Rattle.vx_words.specs.Words.{size_of};
 
+use crate::judging::judge;
 use crate::show::show;
+use crate::survey::explore;
 use std::alloc::Global;
 use vx_base::{Bytes, NoMemory};
 use vx_host::{Sink, Source, read_all};
-use crate::judging::judge;
 use vx_simulate::{follow, simulate, summarize};
-use crate::survey::explore;
 use vx_tell::{MOST_INPUT, Status, tell, tell_no_memory, tell_unread};
 use vx_words::{Command, command_of, size_of};
 

@@ -4,14 +4,14 @@ ghost use Rattle.std.specs.Prelude.{◌≡◌, ◌⊎◌, ◌≤◌};
 ghost use Rattle.vx_commands.specs.Threads.{AllLawful, IsProgramAnswer};
 ghost use Rattle.vx_tell.specs.Told.{Told};
 
+use crate::call::quiet_call;
+use crate::threads::run_input;
 use std::alloc::Global;
 use std::sync::Wait;
 use std::thread::Threads;
 use vx_base::Bytes;
 use vx_carrier::Gate;
-use crate::call::quiet_call;
 use vx_host::{Sink, Source, read_all};
-use crate::threads::run_input;
 use vx_tell::{MOST_INPUT, Status, tell_unread};
 use vx_words::crew_of;
 
