@@ -7,7 +7,7 @@ use Rattle.vx_commands.specs.Shown.{shown}
 use Rattle.vx_commands.specs.Top.{IsAnswer, IsLawful, ReadsInput, explored_are_lawful, followed_is_lawful, no_run, of_input, of_size, of_unread, of_words, place_is_missing, read_is_bad, read_is_lawful, run_is_lawful, summed_is_lawful}
 use Rattle.vx_gen.specs.Generated.{generated}
 use Rattle.vx_laws.proofs.Whole.{every_run_lawful}
-use Rattle.vx_picks.specs.Picked.{picked}
+use Rattle.vx_record.specs.Picked.{picked}
 use Rattle.vx_record.specs.Runs.{chosen}
 use Rattle.vx_commands.specs.Reported.{IsReported, judged, refused, short as short_of_report, status_of}
 use Rattle.vx_simulate.specs.Followed.{followed, lacks}

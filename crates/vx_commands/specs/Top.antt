@@ -11,7 +11,7 @@ use Rattle.vx_image.specs.declared.system.System.{System}
 use Rattle.vx_journal.specs.ReadJournal.{IsJournal}
 use Rattle.vx_journal.specs.declared.journal.Journal.{Journal}
 use Rattle.vx_laws.specs.Laws.{KeepLaws}
-use Rattle.vx_picks.specs.Picked.{picked}
+use Rattle.vx_record.specs.Picked.{picked}
 use Rattle.vx_record.specs.Runs.{IsRun, chosen}
 use Rattle.vx_commands.specs.Reported.{IsReported, IsReportText}
 use Rattle.vx_simulate.specs.Followed.{IsFollowText, LacksPlace}

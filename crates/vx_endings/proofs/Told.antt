@@ -18,7 +18,7 @@ use Rattle.vx_endings.specs.declared.ending.RunEnding.{RunEnding}
 use Rattle.vx_endings.specs.Endings.{ending_at, endings, is_same, trailer_text}
 use Rattle.vx_endings.specs.EndsSo.{EndsSo, IsWitnessed}
 use Rattle.vx_endings.specs.Interleavings.{after_event, after_place, all_runs, event_count, runs_from}
-use Rattle.vx_picks.specs.Picked.{picked_from}
+use Rattle.vx_record.specs.Picked.{picked_from}
 use Rattle.vx_endings.specs.Same.{same_is_equal}
 use Rattle.vx_endings.proofs.Chosen.{IsChosen, all_chosen}
 use Rattle.vx_endings.proofs.Rows.{all_shortest, all_summary, contains_first, contains_shortest, contains_summary}

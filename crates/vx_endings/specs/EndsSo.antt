@@ -6,7 +6,7 @@ use Rattle.vx_record.specs.Runs.{IsRun, after, end_after}
 use Rattle.vx_explore.specs.declared.found.Found.{Found}
 use Rattle.vx_endings.specs.declared.ending.RunEnding.{RunEnding}
 use Rattle.vx_endings.specs.Endings.{trailer_text}
-use Rattle.vx_picks.specs.Picked.{picked}
+use Rattle.vx_record.specs.Picked.{picked}
 
 -- the records are a run of the system, at most as many as the limit, and the run has ended so
 pub record EndsSo (system : System) (limit : ℕ) (recs : List Rec) (ending : RunEnding) : Type 0 where

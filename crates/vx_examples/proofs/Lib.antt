@@ -42,6 +42,7 @@ pub mod RunMessages
 pub mod RunNoFlags
 pub mod RunNoHandler
 pub mod RunNoPrivilege
+pub mod RunPlaces
 pub mod RunProducer
 pub mod RunProducerSeeded
 pub mod RunR0AtEnd

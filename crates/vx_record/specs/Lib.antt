@@ -8,6 +8,7 @@ pub mod Finish
 pub mod Flags
 pub mod Mailboxes
 pub mod Parts
+pub mod Picked
 pub mod Requests
 pub mod Rundown
 pub mod Runs

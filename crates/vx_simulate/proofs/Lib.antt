@@ -1,4 +1,5 @@
 pub mod ChosenRuns
 pub mod Simulated
+pub mod Following
 pub mod Picking
 pub mod Summing

@@ -6,7 +6,7 @@ use Rattle.vx_exec.specs.View.{Executive}
 use Rattle.vx_image.specs.declared.system.System.{System}
 use Rattle.vx_journal.specs.Transcript.{trailer_lines, transcript}
 use Rattle.vx_lines.specs.Records.{records_lines}
-use Rattle.vx_picks.specs.Followed.{IsPickedRun}
+use Rattle.vx_simulate.specs.Picking.{IsPickedRun}
 use Rattle.vx_record.specs.Runs.{IsRun, end_after}
 use Rattle.vx_script.specs.Script.{ended_lines, script}
 use Rattle.vx_simulate.specs.Followed.{IsPickedText}

@@ -3,7 +3,7 @@ use Rattle.std.specs.Prelude.{◌≡◌, ℕ, List, [], ◌∷◌, ◌++◌, cod
 use Rattle.vx_base.specs.declared.record.End.{End}
 use Rattle.vx_image.specs.declared.system.System.{System}
 use Rattle.vx_journal.specs.Transcript.{transcript}
-use Rattle.vx_picks.specs.Picked.{IsMissing, picked}
+use Rattle.vx_record.specs.Picked.{IsMissing, picked}
 use Rattle.vx_record.specs.Runs.{IsRun, end_after}
 use Rattle.vx_tell.specs.Code.{status_of_end}
 use Rattle.vx_tell.specs.declared.status.Status.{Status}

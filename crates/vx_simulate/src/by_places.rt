@@ -2,17 +2,17 @@
 
 ghost use Rattle.std.specs.Prelude.{◌≡◌, ◌<◌, ◌≤◌, IfErr, IfOk, length};
 ghost use Rattle.vx_image.specs.WellFormed.{IsWellFormed};
-ghost use Rattle.vx_picks.specs.Followed.{tells_missing};
+ghost use Rattle.vx_simulate.specs.Picking.{tells_missing};
 ghost use Rattle.vx_simulate.specs.Followed.{IsFollowText, IsPickedText, pick_line};
 ghost use Rattle.vx_tell.specs.Scripts.{OfScript};
 ghost use Rattle.vx_tell.specs.Told.{IsOutputOf, Told};
 
+use crate::picking::{PickFail, run_picks};
 use std::alloc::Global;
 use vx_base::{Bytes, End, NoMemory, Scripted};
 use vx_grammar::read_script;
 use vx_host::Sink;
 use vx_image::System;
-use vx_picks::{PickFail, run_picks};
 use vx_script::print_script;
 use vx_tell::{Output, Status, refusal, tell_output};
 use vx_text::print_num;

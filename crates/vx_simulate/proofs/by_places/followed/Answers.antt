@@ -1,5 +1,5 @@
 use Rattle.std.proofs.Common.{subst}
-use Rattle.vx_picks.specs.Followed.{tells_missing}
+use Rattle.vx_simulate.specs.Picking.{tells_missing}
 use Rattle.vx_simulate.specs.Followed.{followed, lacks}
 use Rattle.vx_simulate.proofs.by_places.followed.Goals as goal
 

@@ -1,7 +1,7 @@
 //! A list of places, read from the front.
 
 ghost use Rattle.std.specs.Prelude.{◌≡◌};
-ghost use Rattle.vx_picks.specs.Picked as spec;
+ghost use Rattle.vx_record.specs.Picked as spec;
 
 /// The place of the next record: behind the last place the first.
 pub fn next_place(places: &[u32]) -> u32
