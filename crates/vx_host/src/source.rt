@@ -70,10 +70,8 @@ pub fn read_all<S: Source>(alloc: Global, source: &mut S, max: u32) -> Result<By
     ensures all { IfOk result (λ bytes. TakesAll max (S.left source.old) (S.left source.new) bytes) }
     ensures too_long { IsErrOf result ReadFail.TooLong →
         Takes (max + 1) (S.left source.old) (S.left source.new) }
-    ensures within { IsErrOf result ReadFail.Fault →
-        TakesAtMost max (S.left source.old) (S.left source.new) }
     ensures fault { IsErrOf result ReadFail.Fault →
-        Rose (S.faults source.old) (S.faults source.new) }
+        TakesAtMost max (S.left source.old) (S.left source.new) × Rose (S.faults source.old) (S.faults source.new) }
     ensures later { S.faults source.old ≤ S.faults source.new }
 {
     let mut bytes = Bytes::new(alloc);

@@ -35,12 +35,12 @@ told_output Q (Ok output) faults faults_after held held_after answer is none tol
 told_output Q (Err want) faults faults_after held held_after answer is none told = told_only Q status.NoMemory no_memory faults faults_after held held_after answer none told
 
 -- the line that tells why an input was not read whole
-pub told_unread : (left left_after : Option (List ℕ)) (faults faults_after counted counted_after : ℕ) (held held_after : Option (List ℕ)) (answer : Status) (why : ReadFail) → (why ≡ read.Fault → TakesAtMost 67108864 left left_after) → (why ≡ read.Fault → Rose faults faults_after) → (why ≡ read.TooLong → Takes 67108865 left left_after) → Told (Only (unread_status why) (unread_line why)) counted counted_after held held_after answer → Told (IsUnread left left_after faults faults_after) counted counted_after held held_after answer
-told_unread left left_after faults faults_after counted counted_after held held_after answer read.Fault within rose long told =
-    told_only (IsUnread left left_after faults faults_after) status.ReadFault read_fault counted counted_after held held_after answer (failed (within refl) (rose refl)) told
-told_unread left left_after faults faults_after counted counted_after held held_after answer read.TooLong within rose long told =
+pub told_unread : (left left_after : Option (List ℕ)) (faults faults_after counted counted_after : ℕ) (held held_after : Option (List ℕ)) (answer : Status) (why : ReadFail) → (why ≡ read.Fault → TakesAtMost 67108864 left left_after × Rose faults faults_after) → (why ≡ read.TooLong → Takes 67108865 left left_after) → Told (Only (unread_status why) (unread_line why)) counted counted_after held held_after answer → Told (IsUnread left left_after faults faults_after) counted counted_after held held_after answer
+told_unread left left_after faults faults_after counted counted_after held held_after answer read.Fault failing long told =
+    told_only (IsUnread left left_after faults faults_after) status.ReadFault read_fault counted counted_after held held_after answer (failed (failing refl).0 (failing refl).1) told
+told_unread left left_after faults faults_after counted counted_after held held_after answer read.TooLong failing long told =
     told_only (IsUnread left left_after faults faults_after) status.TooLong too_long counted counted_after held held_after answer (overflowed (long refl)) told
-told_unread left left_after faults faults_after counted counted_after held held_after answer read.NoMemory within rose long told =
+told_unread left left_after faults faults_after counted counted_after held held_after answer read.NoMemory failing long told =
     told_only (IsUnread left left_after faults faults_after) status.NoMemory no_memory counted counted_after held held_after answer short told
 
 -- What a command comes to that takes a script.

@@ -43,4 +43,4 @@ returns-in-Ok-read_all-clause-told g c =
 pub returns-clause-told : goal.returns-clause-told
 returns-clause-told g c =
     told_not_read c.args.words.now c.in-Some.command _ _ _ _ _ _ _ _ _ (asks c.args.words.now _ c.in-Some.command c.in-Ok.ensures.command c.in-Some.is)
-    (told_unread _ _ _ _ _ _ _ _ _ c.in-Err.fail (λ is. c.in-Err.ensures.within (rw is refl)) (λ is. c.in-Err.ensures.fault (rw is refl)) (λ is. c.in-Err.ensures.too_long (rw is refl)) c.tell_unread.ensures.told)
+    (told_unread _ _ _ _ _ _ _ _ _ c.in-Err.fail (λ is. c.in-Err.ensures.fault (rw is refl)) (λ is. c.in-Err.ensures.too_long (rw is refl)) c.tell_unread.ensures.told)

@@ -13,11 +13,11 @@ returns-in-Ok-clause-lawful g c = λ e. carried_is_lawful (told_lawful c.args.wo
 pub returns-in-Err-clause-told : goal.returns-in-Err-clause-told
 returns-in-Err-clause-told g c =
     told_not_read c.args.words.now c.in-Some.crew _ _ _ _ _ _ _ _ _ (sym c.crew_of.ensures.crew ∙ c.in-Some.is)
-    (told_unread _ _ _ _ _ _ _ _ _ c.in-Err.fail (λ is. c.in-Err.ensures.within (rw is refl)) (λ is. c.in-Err.ensures.fault (rw is refl)) (λ is. c.in-Err.ensures.too_long (rw is refl)) c.tell_unread.ensures.told)
+    (told_unread _ _ _ _ _ _ _ _ _ c.in-Err.fail (λ is. c.in-Err.ensures.fault (rw is refl)) (λ is. c.in-Err.ensures.too_long (rw is refl)) c.tell_unread.ensures.told)
 
 pub returns-in-Err-clause-lawful : goal.returns-in-Err-clause-lawful
 returns-in-Err-clause-lawful g c = λ e.
-    absurd (never_unread _ _ _ _ _ _ _ _ _ (told_unread _ _ _ _ _ _ _ _ _ c.in-Err.fail (λ is. c.in-Err.ensures.within (rw is refl)) (λ is. c.in-Err.ensures.fault (rw is refl)) (λ is. c.in-Err.ensures.too_long (rw is refl)) c.tell_unread.ensures.told) e)
+    absurd (never_unread _ _ _ _ _ _ _ _ _ (told_unread _ _ _ _ _ _ _ _ _ c.in-Err.fail (λ is. c.in-Err.ensures.fault (rw is refl)) (λ is. c.in-Err.ensures.too_long (rw is refl)) c.tell_unread.ensures.told) e)
 
 pub returns-in_default-clause-told : goal.returns-in_default-clause-told
 returns-in_default-clause-told g c = told_quiet c.args.words.now _ _ _ _ _ _ _ _ _ (sym c.crew_of.ensures.crew ∙ c.in_default.is) c.quiet_call.ensures.told
