@@ -9,6 +9,7 @@ pub mod Flags
 pub mod Leaving
 pub mod Mailboxes
 pub mod Picks
+pub mod Places
 pub mod Requests
 pub mod RunAllOfNoFlags
 pub mod RunAstInAst
@@ -42,7 +43,6 @@ pub mod RunMessages
 pub mod RunNoFlags
 pub mod RunNoHandler
 pub mod RunNoPrivilege
-pub mod RunPlaces
 pub mod RunProducer
 pub mod RunProducerSeeded
 pub mod RunR0AtEnd

@@ -1,4 +1,4 @@
--- Two processes whose image ends at once, and runs of them that a list of places chooses.
+-- Two processes whose image ends at once, and the runs of them that lists of places choose.
 use Rattle.std.specs.Prelude.{◌≡◌, refl, List, [], ◌∷◌, codes, Some}
 use Rattle.vx_base.specs.declared.record.End.TheVariants as end
 use Rattle.vx_examples.specs.Script.{declared, ends, gone, is_gone}
