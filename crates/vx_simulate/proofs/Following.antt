@@ -15,8 +15,8 @@ use Rattle.vx_exec.specs.View.{Executive, Plan, after_step, plan}
 use Rattle.vx_exec.proofs.Runs.{after_more, going_below, steps_more}
 use Rattle.vx_simulate.specs.Picking.{EndsPicked, Follows, IsPickedRun, StopsBefore, stops_at, tells_missing}
 use Rattle.vx_record.specs.Picked.{IsMissing, follow, next_place, picked, picked_from, places_after}
-use Rattle.vx_simulate.specs.declared.picking.PickFail.{PickFail}
-use Rattle.vx_simulate.specs.declared.picking.PickFail.TheVariants.{Missing, NoMemory}
+use Rattle.vx_simulate.specs.declared.schedule.PickFail.{PickFail}
+use Rattle.vx_simulate.specs.declared.schedule.PickFail.TheVariants.{Missing, NoMemory}
 
 -- what stands at a place is there
 pub placed_there : (es : List Event) (i : ℕ) (e : Event) → Some e ≡ slice_get es i → Contains es e

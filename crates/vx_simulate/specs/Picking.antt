@@ -8,8 +8,8 @@ use Rattle.vx_image.specs.declared.system.System.{System}
 use Rattle.vx_record.specs.Events.{enabled}
 use Rattle.vx_record.specs.Runs.{IsRun, after, end_after, end_of}
 use Rattle.vx_record.specs.Picked.{IsMissing, picked, picked_from}
-use Rattle.vx_simulate.specs.declared.picking.PickFail.{PickFail}
-use Rattle.vx_simulate.specs.declared.picking.PickFail.TheVariants.{Missing, NoMemory}
+use Rattle.vx_simulate.specs.declared.schedule.PickFail.{PickFail}
+use Rattle.vx_simulate.specs.declared.schedule.PickFail.TheVariants.{Missing, NoMemory}
 
 -- The executive took the records that the places choose, as many as the limit leaves.
 pub record Follows (before after : Executive) (places : List ℕ) (recs : List Rec) : Type 0 where

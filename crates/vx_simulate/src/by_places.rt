@@ -7,7 +7,7 @@ ghost use Rattle.vx_simulate.specs.Followed.{IsFollowText, IsPickedText, pick_li
 ghost use Rattle.vx_tell.specs.Scripts.{OfScript};
 ghost use Rattle.vx_tell.specs.Told.{IsOutputOf, Told};
 
-use crate::picking::{PickFail, run_picks};
+use crate::schedule::{PickFail, run_picks};
 use std::alloc::Global;
 use vx_base::{Bytes, End, NoMemory, Scripted};
 use vx_grammar::read_script;

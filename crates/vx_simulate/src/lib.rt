@@ -7,11 +7,11 @@
 
 mod by_places;
 mod by_seed;
-mod picking;
 mod places;
+mod schedule;
 mod summary;
 
 pub use by_places::follow;
 pub use by_seed::simulate;
-pub use picking::{PickFail, run_picks};
+pub use schedule::{PickFail, run_picks};
 pub use summary::summarize;

@@ -4,7 +4,7 @@ ghost use Rattle.std.specs.Prelude.{◌≡◌, ◌<◌, ◌≤◌, ◌+◌, IfEr
 ghost use Rattle.vx_image.specs.WellFormed.{IsWellFormed};
 ghost use Rattle.vx_record.specs.Events.{enabled};
 ghost use Rattle.vx_simulate.specs.Picking.{EndsPicked, IsPickedRun, stops_at, tells_missing};
-ghost use Rattle.vx_simulate.specs.declared.picking.PickFail.TheVariants as fail;
+ghost use Rattle.vx_simulate.specs.declared.schedule.PickFail.TheVariants as fail;
 
 use crate::places::{next_place, places_after};
 use std::alloc::Global;

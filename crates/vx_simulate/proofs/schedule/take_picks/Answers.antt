@@ -2,7 +2,7 @@ use Rattle.std.proofs.Common.{List, sym, subst}
 use Rattle.vx_base.specs.declared.record.Rec.{Rec}
 use Rattle.vx_simulate.proofs.Following.{Following, ended_run, followed_more, left_falls, placed_there}
 use Rattle.vx_record.specs.Events.{enabled}
-use Rattle.vx_simulate.proofs.picking.take_picks.Goals as goal
+use Rattle.vx_simulate.proofs.schedule.take_picks.Goals as goal
 
 pub returns-in-Some-clause-done : goal.returns-in-Some-clause-done
 returns-in-Some-clause-done g c = ended_run c.args.exec.now c.steps.exec c.args.places.now c.steps.left.now c.steps.recs c.in-Some.end c.steps.invariant c.in-Some.ensures

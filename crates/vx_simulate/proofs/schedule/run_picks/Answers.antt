@@ -1,5 +1,5 @@
 use Rattle.vx_simulate.proofs.Following.{fail_told, picked_run}
-use Rattle.vx_simulate.proofs.picking.run_picks.Goals as goal
+use Rattle.vx_simulate.proofs.schedule.run_picks.Goals as goal
 
 pub returns-in-Err-clause-missing : goal.returns-in-Err-clause-missing
 returns-in-Err-clause-missing g c = fail_told c.args.system c.args.places.now c.args.limit c.in_ok-exec.exec c.take_picks.new.exec c.in-Err.fail c.in_ok-exec.ensures c.in-Err.ensures.missing

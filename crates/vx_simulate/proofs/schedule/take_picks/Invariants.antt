@@ -1,6 +1,6 @@
 use Rattle.std.proofs.Common.{◌-◌}
 use Rattle.vx_simulate.proofs.Following.{Following}
-use Rattle.vx_simulate.proofs.picking.take_picks.Given as goal
+use Rattle.vx_simulate.proofs.schedule.take_picks.Given as goal
 
 abbrev pub invariant-steps : goal.invariant-steps
 invariant-steps g l = Following l.fn.exec l.exec l.fn.places l.left l.recs
