@@ -6,6 +6,7 @@ ghost use Rattle.std.specs.Prelude.{decimal, ◌≡◌, ◌++◌, ◌∷◌, ◌
 ghost use Rattle.vx_draw.specs.Columns as spec;
 
 use crate::deed::print_deed;
+use crate::ending::Ending;
 use crate::front::{behind, front, sound_part, wrong_record};
 use crate::heading::{process_heading, process_names};
 use std::alloc::Global;
@@ -16,6 +17,13 @@ use vx_text::print_num;
 const STEM: &[u8] = b"|                       ";
 
 const BLANKS: &[u8] = b"                        ";
+
+/// The text of the columns behind a line, and how many of them are processes'.
+#[derive(Drop)]
+struct Rule<'a> {
+    text: &'a [u8],
+    processes: usize,
+}
 
 // Appends a heading in 24 places.
 #[tactic(auto, unfolding(crate::specs::Columns::heading_cell))]
@@ -97,7 +105,7 @@ fn add_stems<T>(items: &[T], out: &mut Bytes) -> Result<(), NoMemory>
 
 // The columns behind a line of text.
 #[tactic(auto, unfolding(crate::specs::Columns::rule))]
-fn rule(alloc: Global, names: &[Name], units: &[UnitDecl]) -> Result<Bytes, NoMemory>
+fn rule_text(alloc: Global, names: &[Name], units: &[UnitDecl]) -> Result<Bytes, NoMemory>
     ensures { IfOk result (λ rule. rule ≡ spec.rule names.now units.now) }
 {
     let mut rule = Bytes::new(alloc);
@@ -131,51 +139,49 @@ fn print_number(alloc: Global, n: u64, out: &mut Bytes) -> Result<(), NoMemory>
 // Appends what a record did, in the column of who acted.
 fn print_cells(
     alloc: Global,
-    rule: &[u8],
-    processes: usize,
+    rule: &Rule<'_>,
     mark: &[u8],
     rec: &Rec,
     out: &mut Bytes,
 ) -> Result<(), NoMemory>
-    ensures { OnOk result (out.new ≡ out.old ++ spec.cells rule.now processes mark.now rec.now) }
+    ensures { OnOk result (out.new ≡ out.old ++ spec.cells rule.now.text.now rule.now.processes mark.now rec.now) }
 {
+    let indent = indent_of(rule.processes, rec.event);
     let mut cells = Bytes::new(alloc);
-    cells.push_all(front(rule, indent_of(processes, rec.event)))?;
+    cells.push_all(front(rule.text, indent))?;
     cells.push_all(mark)?;
     print_deed(alloc, rec, &mut cells)?;
-    out.push_all(front(cells.as_slice(), rule.len() as u128 + 24))
+    out.push_all(front(cells.as_slice(), rule.text.len() as u128 + 24))
 }
 
 // Appends the line of record n.
 #[tactic(auto, unfolding(crate::specs::Columns::line))]
 fn print_line(
     alloc: Global,
-    rule: &[u8],
-    processes: usize,
+    rule: &Rule<'_>,
     mark: &[u8],
     n: u64,
     rec: &Rec,
     out: &mut Bytes,
 ) -> Result<(), NoMemory>
-    ensures { OnOk result (out.new ≡ out.old ++ spec.line rule.now processes mark.now n rec.now) }
+    ensures { OnOk result (out.new ≡ out.old ++ spec.line rule.now.text.now rule.now.processes mark.now n rec.now) }
 {
     print_number(alloc, n, out)?;
-    print_cells(alloc, rule, processes, mark, rec, out)?;
+    print_cells(alloc, rule, mark, rec, out)?;
     out.push_all(b"\n")
 }
 
 // Appends the lines of records, numbered from 1.
 fn print_lines(
     alloc: Global,
-    rule: &[u8],
-    processes: usize,
+    rule: &Rule<'_>,
     recs: &[Rec],
     out: &mut Bytes,
 ) -> Result<(), NoMemory>
-    ensures { OnOk result (out.new ≡ out.old ++ spec.lines rule.now processes 1 recs.now) }
+    ensures { OnOk result (out.new ≡ out.old ++ spec.lines rule.now.text.now rule.now.processes 1 recs.now) }
 {
     for (i, rec) in recs.iter().enumerate() {
-        print_line(alloc, rule, processes, b"", i as u64 + 1, rec, out)?;
+        print_line(alloc, rule, b"", i as u64 + 1, rec, out)?;
     }
     Ok(())
 }
@@ -184,22 +190,21 @@ fn print_lines(
 #[tactic(auto, unfolding(crate::specs::Columns::ending))]
 fn print_ending(
     alloc: Global,
-    rule: &[u8],
-    processes: usize,
-    n: Option<u32>,
-    wrong: Option<&Rec>,
-    trailer: &[u8],
+    rule: &Rule<'_>,
+    ending: &Ending<'_>,
     out: &mut Bytes,
 ) -> Result<(), NoMemory>
-    ensures { OnOk result (out.new ≡ out.old ++ spec.ending rule.now processes n (option_map (λ rec. rec.now) wrong.entry) trailer.now) }
+    ensures { OnOk result (out.new ≡ out.old
+        ++ spec.ending rule.now.text.now rule.now.processes ending.now.wrong
+        (option_map (λ rec. rec.now) ending.now.rec) ending.now.trailer.now) }
 {
-    match (n, wrong) {
-        (None, _) => out.push_all(trailer),
+    match (ending.wrong, ending.rec) {
+        (None, _) => out.push_all(ending.trailer),
         (Some(_), None) => {
             out.push_all(b"?? \n")?;
-            out.push_all(trailer)
+            out.push_all(ending.trailer)
         }
-        (Some(n), Some(rec)) => print_line(alloc, rule, processes, b"?? ", u64::from(n), rec, out),
+        (Some(n), Some(rec)) => print_line(alloc, rule, b"?? ", u64::from(n), rec, out),
     }
 }
 
@@ -209,18 +214,21 @@ fn print_named(
     names: &[Name],
     units: &[UnitDecl],
     recs: &[Rec],
-    n: Option<u32>,
-    wrong: Option<&Rec>,
-    trailer: &[u8],
+    ending: &Ending<'_>,
     out: &mut Bytes,
 ) -> Result<(), NoMemory>
     ensures { OnOk result (out.new ≡ out.old
-        ++ spec.with_names names.now units.now recs.now n (option_map (λ rec. rec.now) wrong.entry) trailer.now) }
+        ++ spec.with_names names.now units.now recs.now ending.now.wrong
+        (option_map (λ rec. rec.now) ending.now.rec) ending.now.trailer.now) }
 {
     print_heading_line(alloc, names, units, out)?;
-    let rule = rule(alloc, names, units)?;
-    print_lines(alloc, rule.as_slice(), names.len(), recs, out)?;
-    print_ending(alloc, rule.as_slice(), names.len(), n, wrong, trailer, out)
+    let text = rule_text(alloc, names, units)?;
+    let rule = Rule {
+        text: text.as_slice(),
+        processes: names.len(),
+    };
+    print_lines(alloc, &rule, recs, out)?;
+    print_ending(alloc, &rule, ending, out)
 }
 
 /// Appends a transcript as columns of text: a line of headings, a line a record, and the trailer as it is. `wrong` is the
@@ -239,15 +247,10 @@ pub fn print_columns(
     let sound = sound_part(wrong, recs);
     let names = process_names(alloc, system, sound)?;
     let units = system.units.as_slice();
-    let first_wrong = wrong_record(wrong, recs);
-    print_named(
-        alloc,
-        names.as_slice(),
-        units,
-        sound,
+    let ending = Ending {
         wrong,
-        first_wrong,
+        rec: wrong_record(wrong, recs),
         trailer,
-        out,
-    )
+    };
+    print_named(alloc, names.as_slice(), units, sound, &ending, out)
 }

@@ -7,6 +7,7 @@
 mod boxes;
 mod columns;
 mod deed;
+mod ending;
 mod frames;
 mod front;
 mod heading;
@@ -16,7 +17,9 @@ mod moves;
 mod picture;
 mod places;
 mod rows;
+mod scene;
 mod shapes;
+mod spot;
 mod style;
 mod trails;
 

@@ -8,11 +8,13 @@ ghost use Rattle.vx_lines.specs.Records.{id_text};
 ghost use Rattle.vx_draw.specs.Moves.{is_success, named_by, actor};
 ghost use Rattle.vx_draw.specs.Marks as spec;
 
-use crate::boxes::{Boxes, box_place};
+use crate::boxes::box_place;
 use crate::deed::print_deed;
 use crate::moves::{actor, is_success, named_by};
 use crate::places::{Places, box_x, process_x};
-use crate::shapes::{base, print_figure, print_label, print_stroke, top};
+use crate::scene::Scene;
+use crate::shapes::{Point, base, print_figure, print_label, print_stroke, top};
+use crate::spot::Spot;
 use std::alloc::Global;
 use std::slice::from_ref;
 use vx_base::{
@@ -90,36 +92,26 @@ fn flag_mark(places: Places, k: u64, cell: &Cell, bit: bool) -> Mark
     }
 }
 
-fn box_mark(
-    places: Places,
-    boxes: &Boxes,
-    name: &Name,
-    shift: u64,
-    figure: Figure,
-    filled: bool,
-) -> Mark
+fn box_mark(scene: &Scene<'_>, name: &Name, shift: u64, figure: Figure, filled: bool) -> Mark
     requires { shift < 100 }
-    ensures { result ≡ spec.box_mark places boxes.now name.now shift figure filled }
+    ensures { result ≡ spec.box_mark scene.now.places scene.now.boxes.now name.now shift figure filled }
 {
-    shared_mark(
-        box_x(places, box_place(boxes, *name)) + shift,
-        figure,
-        filled,
-    )
+    let x = box_x(scene.places, box_place(scene.boxes, *name));
+    shared_mark(x + shift, figure, filled)
 }
 
 // The mark of the k-th effect of a record, if it has one.
-fn mark_of(places: Places, boxes: &Boxes, k: u64, effect: &Effect) -> Option<Mark>
-    ensures { result ≡ spec.mark_of places boxes.now k effect.now }
+fn mark_of(scene: &Scene<'_>, k: u64, effect: &Effect) -> Option<Mark>
+    ensures { result ≡ spec.mark_of scene.now.places scene.now.boxes.now k effect.now }
 {
     match effect {
-        Effect::Flag { cell, bit } => Some(flag_mark(places, k, cell, *bit)),
-        Effect::MPut { name, .. } => Some(box_mark(places, boxes, name, 6, Figure::Down, true)),
-        Effect::MGet { name, .. } => Some(box_mark(places, boxes, name, 60, Figure::Up, false)),
-        Effect::MCut { name, .. } => Some(box_mark(places, boxes, name, 60, Figure::Cross, false)),
-        Effect::Mbx { name, bit } => Some(box_mark(places, boxes, name, 6, Figure::Diamond, *bit)),
+        Effect::Flag { cell, bit } => Some(flag_mark(scene.places, k, cell, *bit)),
+        Effect::MPut { name, .. } => Some(box_mark(scene, name, 6, Figure::Down, true)),
+        Effect::MGet { name, .. } => Some(box_mark(scene, name, 60, Figure::Up, false)),
+        Effect::MCut { name, .. } => Some(box_mark(scene, name, 60, Figure::Cross, false)),
+        Effect::Mbx { name, bit } => Some(box_mark(scene, name, 6, Figure::Diamond, *bit)),
         Effect::Cef { bit, .. } => Some(shared_mark(
-            u64::from(places.clusters),
+            u64::from(scene.places.clusters),
             Figure::Diamond,
             *bit,
         )),
@@ -195,42 +187,46 @@ fn print_effect_label(alloc: Global, effect: &Effect, out: &mut Bytes) -> Result
 }
 
 // Appends a line from who acted to a mark in another column.
-fn print_tie(alloc: Global, n: u64, from: u128, mark: Mark, out: &mut Bytes) -> Result<(), NoMemory>
-    ensures { OnOk result (out.new ≡ out.old ++ spec.tie n from mark) }
+fn print_tie(alloc: Global, spot: Spot, mark: Mark, out: &mut Bytes) -> Result<(), NoMemory>
+    ensures { OnOk result (out.new ≡ out.old ++ spec.tie spot.row spot.x mark) }
 {
-    if mark.owner == from {
+    if mark.owner == spot.x {
         Ok(())
     } else {
-        let y = base(n) + 4;
-        print_stroke(alloc, b"tie", from, y, u128::from(mark.x), y, out)
+        let y = base(spot.row) + 4;
+        let from = Point { x: spot.x, y };
+        let to = Point {
+            x: u128::from(mark.x),
+            y,
+        };
+        print_stroke(alloc, b"tie", from, to, out)
     }
 }
 
-// Appends a mark in row n.
+// Appends a mark of what a record did.
 #[tactic(auto, unfolding(crate::specs::Marks::mark_text))]
 fn print_mark(
     alloc: Global,
-    n: u64,
-    from: u128,
+    spot: Spot,
     mark: Mark,
     beside: &[u8],
     title: &[u8],
     out: &mut Bytes,
 ) -> Result<(), NoMemory>
-    ensures { OnOk result (out.new ≡ out.old ++ spec.mark_text n from mark beside.now title.now) }
+    ensures { OnOk result (out.new ≡ out.old ++ spec.mark_text spot.row spot.x mark beside.now title.now) }
 {
-    print_tie(alloc, n, from, mark, out)?;
+    print_tie(alloc, spot, mark, out)?;
+    let corner = Point {
+        x: u128::from(mark.x),
+        y: top(spot.row) + 5,
+    };
     let shape = figure_shape(mark.figure);
-    print_figure(
-        alloc,
-        fill_class(mark.filled),
-        u128::from(mark.x),
-        top(n) + 5,
-        shape,
-        title,
-        out,
-    )?;
-    print_label(alloc, b"m", u128::from(mark.x) + 11, base(n), beside, out)
+    print_figure(alloc, fill_class(mark.filled), corner, shape, title, out)?;
+    let right = Point {
+        x: u128::from(mark.x) + 11,
+        y: base(spot.row),
+    };
+    print_label(alloc, b"m", right, beside, out)
 }
 
 fn effect_label(alloc: Global, effect: &Effect) -> Result<Bytes, NoMemory>
@@ -251,89 +247,64 @@ fn effect_title(alloc: Global, effect: &Effect) -> Result<Bytes, NoMemory>
 
 fn print_marked(
     alloc: Global,
-    n: u64,
-    from: u128,
+    spot: Spot,
     mark: Option<Mark>,
     effect: &Effect,
     out: &mut Bytes,
 ) -> Result<(), NoMemory>
-    ensures { OnOk result (out.new ≡ out.old ++ spec.marked_text n from mark effect.now) }
+    ensures { OnOk result (out.new ≡ out.old ++ spec.marked_text spot.row spot.x mark effect.now) }
 {
     let Some(mark) = mark else {
         return Ok(());
     };
     let beside = effect_label(alloc, effect)?;
     let title = effect_title(alloc, effect)?;
-    print_mark(
-        alloc,
-        n,
-        from,
-        mark,
-        beside.as_slice(),
-        title.as_slice(),
-        out,
-    )
+    print_mark(alloc, spot, mark, beside.as_slice(), title.as_slice(), out)
 }
 
-/// Appends the mark of the k-th effect of the record in row n, of what the one at `from` did, if it has one.
+/// Appends the mark of the k-th effect of the record at a spot, if it has one.
 #[tactic(auto, unfolding(crate::specs::Marks::effect_marks))]
 pub fn print_effect_marks(
     alloc: Global,
-    places: Places,
-    boxes: &Boxes,
-    n: u64,
-    from: u128,
+    scene: &Scene<'_>,
+    spot: Spot,
     k: u64,
     effect: &Effect,
     out: &mut Bytes,
 ) -> Result<(), NoMemory>
-    ensures { OnOk result (out.new ≡ out.old ++ spec.effect_marks places boxes.now n from k effect.now) }
+    ensures { OnOk result (out.new ≡ out.old
+        ++ spec.effect_marks scene.now.places scene.now.boxes.now spot.row spot.x k effect.now) }
 {
-    print_marked(
-        alloc,
-        n,
-        from,
-        mark_of(places, boxes, k, effect),
-        effect,
-        out,
-    )
+    print_marked(alloc, spot, mark_of(scene, k, effect), effect, out)
 }
 
 fn print_reached(
     alloc: Global,
-    n: u64,
-    from: u128,
+    spot: Spot,
     mark: Option<Mark>,
     rec: &Rec,
     out: &mut Bytes,
 ) -> Result<(), NoMemory>
-    ensures { OnOk result (out.new ≡ out.old ++ spec.reached_text n from mark rec.now) }
+    ensures { OnOk result (out.new ≡ out.old ++ spec.reached_text spot.row spot.x mark rec.now) }
 {
     let Some(mark) = mark else {
         return Ok(());
     };
     let mut title = Bytes::new(alloc);
     print_deed(alloc, rec, &mut title)?;
-    print_mark(alloc, n, from, mark, b"", title.as_slice(), out)
+    print_mark(alloc, spot, mark, b"", title.as_slice(), out)
 }
 
-/// Appends the mark of the service of the record in row n, if it reaches another process.
+/// Appends the mark of the service of the record at a spot, if it reaches another process.
 #[tactic(auto, unfolding(crate::specs::Marks::answer_marks))]
 pub fn print_answer_marks(
     alloc: Global,
-    n: u64,
-    from: u128,
+    spot: Spot,
     rec: &Rec,
     out: &mut Bytes,
 ) -> Result<(), NoMemory>
-    ensures { OnOk result (out.new ≡ out.old ++ spec.answer_marks n from rec.now) }
+    ensures { OnOk result (out.new ≡ out.old ++ spec.answer_marks spot.row spot.x rec.now) }
 {
-    print_reached(
-        alloc,
-        n,
-        from,
-        answer_mark(rec.event, &rec.answer),
-        rec,
-        out,
-    )
+    let mark = answer_mark(rec.event, &rec.answer);
+    print_reached(alloc, spot, mark, rec, out)
 }

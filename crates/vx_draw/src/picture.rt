@@ -2,28 +2,55 @@
 //!
 //! Each function appends its text. If memory runs out, it may have appended the start of it.
 
-ghost use Rattle.std.specs.Prelude.{◌≡◌, ◌+◌, ◌*◌, ◌∷◌, ◌++◌, ◌==◌, ◌<◌, ◌^◌, decimal, flat_map, OnOk, IfOk, option_map};
-ghost use Rattle.vx_draw.specs.Places.{process_x, box_x};
+ghost use Rattle.std.specs.Prelude.{◌≡◌, ◌+◌, ◌*◌, ◌∷◌, ◌++◌, ◌==◌, ◌<◌, ◌^◌, decimal, flat_map, OnOk, IfOk, length, option_map};
+ghost use Rattle.vx_draw.specs.Headings.{has_clusters};
+ghost use Rattle.vx_draw.specs.Places.{process_x, box_x, columns_of};
 ghost use Rattle.vx_draw.specs.Rows.{rows_text};
 ghost use Rattle.vx_draw.specs.Picture as spec;
 
 use crate::boxes::{BoxName, Boxes, boxes_of};
 use crate::deed::print_deed;
+use crate::ending::Ending;
 use crate::frames::Stacks;
 use crate::front::{behind, sound_part, wrong_record};
 use crate::heading::{has_clusters, process_heading, process_names};
 use crate::moves::runs_from;
 use crate::places::{Places, anchor, column_x, columns_of};
 use crate::rows::{Canvas, print_number_label, print_rows};
+use crate::scene::Scene;
 use crate::shapes::{
-    base, bottom, print_attribute, print_coordinate, print_escaped_byte, print_label, print_stroke,
-    top,
+    Point, base, bottom, print_attribute, print_coordinate, print_escaped_byte, print_label,
+    print_stroke, top,
 };
 use crate::style::{HEAD, STYLE};
 use crate::trails::Trails;
 use std::alloc::Global;
 use vx_base::{Bytes, Name, NoMemory, Rec};
 use vx_image::{ProcDecl, System, UnitDecl};
+
+/// What a picture is of: a system, the names of its processes and of its mailboxes, and the records that are drawn.
+#[derive(Drop)]
+struct Subject<'a> {
+    system: &'a System,
+    names: &'a [Name],
+    boxes: &'a Boxes,
+    recs: &'a [Rec],
+}
+
+impl Subject<'_> {
+    // Where its columns begin.
+    fn places(&self) -> Places
+        ensures { result ≡ columns_of (length self.now.names.now) (length self.now.system.now.units)
+            (length self.now.boxes.now) (has_clusters self.now.recs.now) }
+    {
+        columns_of(
+            self.names.len(),
+            self.system.units.as_slice().len(),
+            self.boxes.len(),
+            has_clusters(self.recs),
+        )
+    }
+}
 
 // Appends a heading at x, and its column down to a height.
 #[tactic(auto, unfolding(crate::specs::Picture::heading))]
@@ -37,8 +64,10 @@ fn print_heading(
     requires { x < 2 ^ 100 }
     ensures { OnOk result (out.new ≡ out.old ++ spec.heading x until text.now) }
 {
-    print_stroke(alloc, b"rule", x, 40, x, until, out)?;
-    print_label(alloc, b"h", x + 4, 32, text, out)
+    let from = Point { x, y: 40 };
+    let to = Point { x, y: until };
+    print_stroke(alloc, b"rule", from, to, out)?;
+    print_label(alloc, b"h", Point { x: x + 4, y: 32 }, text, out)
 }
 
 // Appends the heading of process n.
@@ -137,21 +166,20 @@ fn print_last_heading(
 #[tactic(auto, unfolding(crate::specs::Picture::headings))]
 fn print_headings(
     alloc: Global,
+    subject: &Subject<'_>,
     places: Places,
     until: u128,
-    names: &[Name],
-    units: &[UnitDecl],
-    boxes: &[BoxName],
-    clusters: bool,
     out: &mut Bytes,
 ) -> Result<(), NoMemory>
     ensures { OnOk result (out.new ≡ out.old
-        ++ spec.headings places until names.now units.now boxes.now clusters) }
+        ++ spec.headings places until subject.now.names.now subject.now.system.now.units
+        subject.now.boxes.now (has_clusters subject.now.recs.now)) }
 {
-    print_process_headings(alloc, until, names, out)?;
+    let units = subject.system.units.as_slice();
+    print_process_headings(alloc, until, subject.names, out)?;
     print_unit_headings(alloc, places, until, units, out)?;
-    print_box_headings(alloc, places, until, boxes, out)?;
-    print_last_heading(alloc, places, until, clusters, out)
+    print_box_headings(alloc, places, until, subject.boxes.as_slice(), out)?;
+    print_last_heading(alloc, places, until, has_clusters(subject.recs), out)
 }
 
 // Adds the frames of the processes that are there from the start.
@@ -267,15 +295,12 @@ fn print_wrong_row(
     ensures { OnOk result (out.new ≡ out.old ++ spec.wrong_row places n rec.now) }
 {
     let text = wrong_text(alloc, rec)?;
+    let at = Point {
+        x: anchor(places, rec.event) + 6,
+        y: base(n),
+    };
     print_number_label(alloc, n, out)?;
-    print_label(
-        alloc,
-        b"wrong",
-        anchor(places, rec.event) + 6,
-        base(n),
-        text.as_slice(),
-        out,
-    )
+    print_label(alloc, b"wrong", at, text.as_slice(), out)
 }
 
 // Appends what stands below the rows, of which there are n.
@@ -284,19 +309,22 @@ fn print_below(
     alloc: Global,
     places: Places,
     n: u64,
-    wrong: Option<u32>,
-    rec: Option<&Rec>,
-    trailer: &[u8],
+    ending: &Ending<'_>,
     out: &mut Bytes,
 ) -> Result<(), NoMemory>
     requires { n < 2 ^ 63 }
-    ensures { OnOk result (out.new ≡ out.old ++ spec.below places n wrong (option_map (λ rec. rec.now) rec.entry) trailer.now) }
+    ensures { OnOk result (out.new ≡ out.old
+        ++ spec.below places n ending.now.wrong (option_map (λ rec. rec.now) ending.now.rec) ending.now.trailer.now) }
 {
-    match (wrong, rec) {
-        (None, _) => print_trailer(alloc, n, trailer, out),
+    match (ending.wrong, ending.rec) {
+        (None, _) => print_trailer(alloc, n, ending.trailer, out),
         (Some(_), None) => {
-            print_label(alloc, b"wrong", 8, base(n + 1), b"?? ", out)?;
-            print_trailer(alloc, n + 1, trailer, out)
+            let at = Point {
+                x: 8,
+                y: base(n + 1),
+            };
+            print_label(alloc, b"wrong", at, b"?? ", out)?;
+            print_trailer(alloc, n + 1, ending.trailer, out)
         }
         (Some(_), Some(rec)) => print_wrong_row(alloc, places, n + 1, rec, out),
     }
@@ -326,85 +354,60 @@ fn print_start(alloc: Global, width: u128, height: u128, out: &mut Bytes) -> Res
 // Appends the rows of records, on a canvas of its own.
 fn print_canvas(
     alloc: Global,
+    subject: &Subject<'_>,
     places: Places,
-    boxes: &Boxes,
-    decls: &[ProcDecl],
-    names: &[Name],
-    recs: &[Rec],
     out: &mut Bytes,
 ) -> Result<(), NoMemory>
     ensures { OnOk result (out.new ≡ out.old
-        ++ rows_text places boxes.now decls.now 1 recs.now (spec.first_canvas decls.now names.now)) }
+        ++ rows_text places subject.now.boxes.now subject.now.system.now.decls 1 subject.now.recs.now
+        (spec.first_canvas subject.now.system.now.decls subject.now.names.now)) }
 {
-    let mut canvas = first_canvas(alloc, decls, names)?;
-    print_rows(alloc, places, boxes, decls, recs, &mut canvas, out)
+    let scene = Scene {
+        places,
+        boxes: subject.boxes,
+        decls: subject.system.decls.as_slice(),
+    };
+    let mut canvas = first_canvas(alloc, scene.decls, subject.names)?;
+    print_rows(alloc, &scene, subject.recs, &mut canvas, out)
 }
 
 // Appends a picture, with what stands below the rows.
 fn print_all(
     alloc: Global,
+    subject: &Subject<'_>,
     places: Places,
-    names: &[Name],
-    boxes: &Boxes,
-    system: &System,
-    recs: &[Rec],
     until: u128,
     below: &[u8],
     out: &mut Bytes,
 ) -> Result<(), NoMemory>
     ensures { OnOk result (out.new ≡ out.old
-        ++ spec.with_names places until names.now boxes.now system.now recs.now below.now) }
+        ++ spec.with_names places until subject.now.names.now subject.now.boxes.now subject.now.system.now
+        subject.now.recs.now below.now) }
 {
-    let decls = system.decls.as_slice();
-    let units = system.units.as_slice();
     print_start(alloc, u128::from(places.end), until, out)?;
-    print_headings(
-        alloc,
-        places,
-        until,
-        names,
-        units,
-        boxes.as_slice(),
-        has_clusters(recs),
-        out,
-    )?;
-    print_canvas(alloc, places, boxes, decls, names, recs, out)?;
+    print_headings(alloc, subject, places, until, out)?;
+    print_canvas(alloc, subject, places, out)?;
     out.push_all(below)?;
     out.push_all(b"</svg>\n")
 }
 
-// Appends a picture with these names of processes and of mailboxes.
+// Appends the picture of a subject.
 fn print_named(
     alloc: Global,
-    names: &[Name],
-    boxes: &Boxes,
-    system: &System,
-    recs: &[Rec],
-    trailer: &[u8],
-    wrong: Option<u32>,
-    wrong_rec: Option<&Rec>,
+    subject: &Subject<'_>,
+    ending: &Ending<'_>,
     out: &mut Bytes,
 ) -> Result<(), NoMemory>
     ensures { OnOk result (out.new ≡ out.old
-        ++ spec.named_picture names.now boxes.now system.now recs.now trailer.now wrong (option_map (λ rec. rec.now) wrong_rec.entry)) }
+        ++ spec.named_picture subject.now.names.now subject.now.boxes.now subject.now.system.now subject.now.recs.now
+        ending.now.trailer.now ending.now.wrong (option_map (λ rec. rec.now) ending.now.rec)) }
 {
-    let units = system.units.as_slice().len();
-    let places = columns_of(names.len(), units, boxes.len(), has_clusters(recs));
-    let rows = recs.len() as u64;
+    let places = subject.places();
+    let rows = subject.recs.len() as u64;
     let mut below = Bytes::new(alloc);
-    print_below(alloc, places, rows, wrong, wrong_rec, trailer, &mut below)?;
-    let until = height(rows, trailer);
-    print_all(
-        alloc,
-        places,
-        names,
-        boxes,
-        system,
-        recs,
-        until,
-        below.as_slice(),
-        out,
-    )
+    print_below(alloc, places, rows, ending, &mut below)?;
+    let until = height(rows, ending.trailer);
+    print_all(alloc, subject, places, until, below.as_slice(), out)
 }
 
 /// Appends a transcript as a picture in SVG. `wrong` is the number of the first record that is not the machine's, if one is
@@ -422,16 +425,16 @@ pub fn print_picture(
     let sound = sound_part(wrong, recs);
     let names = process_names(alloc, system, sound)?;
     let boxes = boxes_of(alloc, sound)?;
-    let wrong_rec = wrong_record(wrong, recs);
-    print_named(
-        alloc,
-        names.as_slice(),
-        &boxes,
+    let subject = Subject {
         system,
-        sound,
-        trailer,
+        names: names.as_slice(),
+        boxes: &boxes,
+        recs: sound,
+    };
+    let ending = Ending {
         wrong,
-        wrong_rec,
-        out,
-    )
+        rec: wrong_record(wrong, recs),
+        trailer,
+    };
+    print_named(alloc, &subject, &ending, out)
 }

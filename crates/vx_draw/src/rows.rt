@@ -7,19 +7,19 @@ ghost use Rattle.vx_draw.specs.Frames.{open_bars};
 ghost use Rattle.vx_draw.specs.Shapes.{bottom};
 ghost use Rattle.vx_draw.specs.Rows as spec;
 
-use crate::boxes::Boxes;
 use crate::deed::print_deed;
 use crate::frames::Stacks;
 use crate::marks::{print_answer_marks, print_effect_marks};
 use crate::moves::{
     answer_move, answer_tale, effect_move, effect_mover, effect_tale, is_refused, mover,
 };
-use crate::places::{Places, anchor};
-use crate::shapes::{base, bottom, middle, print_label, print_titled};
+use crate::places::anchor;
+use crate::scene::Scene;
+use crate::shapes::{Point, base, bottom, print_label, print_titled};
+use crate::spot::Spot;
 use crate::trails::Trails;
 use std::alloc::Global;
 use vx_base::{Answer, Bytes, Effect, Event, NoMemory, Rec};
-use vx_image::ProcDecl;
 use vx_lines::print_effects;
 use vx_text::print_num;
 
@@ -28,6 +28,14 @@ use vx_text::print_num;
 pub struct Canvas {
     pub stacks: Stacks,
     pub trails: Trails,
+}
+
+/// The event of a record, and an effect of it with its number there, from 0.
+#[derive(Drop)]
+struct Act<'a> {
+    event: Event,
+    k: u64,
+    effect: &'a Effect,
 }
 
 fn said_text(alloc: Global, rec: &Rec) -> Result<Bytes, NoMemory>
@@ -64,24 +72,20 @@ fn said_class(answer: &Answer) -> &'static [u8]
     }
 }
 
-// Appends the text of the record in row n, of who stands at x.
+// Appends the text of the record at a spot.
 #[tactic(auto, unfolding(crate::specs::Rows::said))]
-fn print_said(alloc: Global, n: u64, x: u128, rec: &Rec, out: &mut Bytes) -> Result<(), NoMemory>
-    requires { x < 2 ^ 100 }
-    ensures { OnOk result (out.new ≡ out.old ++ spec.said n x rec.now) }
+fn print_said(alloc: Global, spot: Spot, rec: &Rec, out: &mut Bytes) -> Result<(), NoMemory>
+    requires { spot.x < 2 ^ 100 }
+    ensures { OnOk result (out.new ≡ out.old ++ spec.said spot.row spot.x rec.now) }
 {
     let text = said_text(alloc, rec)?;
     let title = said_title(alloc, rec)?;
     let class = said_class(&rec.answer);
-    print_titled(
-        alloc,
-        class,
-        x + 6,
-        base(n),
-        text.as_slice(),
-        title.as_slice(),
-        out,
-    )
+    let at = Point {
+        x: spot.x + 6,
+        y: base(spot.row),
+    };
+    print_titled(alloc, class, at, text.as_slice(), title.as_slice(), out)
 }
 
 /// Appends the number of row n.
@@ -91,7 +95,8 @@ pub fn print_number_label(alloc: Global, n: u64, out: &mut Bytes) -> Result<(), 
 {
     let mut digits = Bytes::new(alloc);
     print_num(alloc, &mut digits, n)?;
-    print_label(alloc, b"n", 44, base(n), digits.as_slice(), out)
+    let at = Point { x: 44, y: base(n) };
+    print_label(alloc, b"n", at, digits.as_slice(), out)
 }
 
 fn trail_class(event: Event) -> &'static [u8]
@@ -103,140 +108,120 @@ fn trail_class(event: Event) -> &'static [u8]
     }
 }
 
-// Appends what the answer of the record in row n draws.
+// Appends what the answer of the record at a spot draws.
 #[tactic(auto, unfolding(crate::specs::Rows::answer_text, crate::specs::Rows::after_answer))]
 fn print_answer(
     alloc: Global,
-    n: u64,
-    x: u128,
+    spot: Spot,
     rec: &Rec,
     canvas: &mut Canvas,
     out: &mut Bytes,
 ) -> Result<(), NoMemory>
-    ensures text { OnOk result (out.new ≡ out.old ++ spec.answer_text n x rec.now canvas.old) }
-    ensures canvas { OnOk result (canvas.new ≡ spec.after_answer n x rec.now canvas.old) }
+    ensures text { OnOk result (out.new ≡ out.old ++ spec.answer_text spot.row spot.x rec.now canvas.old) }
+    ensures canvas { OnOk result (canvas.new ≡ spec.after_answer spot.row spot.x rec.now canvas.old) }
 {
-    let step = answer_move(n, &canvas.trails, &rec.answer);
+    let step = answer_move(spot.row, &canvas.trails, &rec.answer);
     canvas
         .stacks
         .make(alloc, mover(rec.event, &rec.answer), step, out)?;
     let tale = answer_tale(&rec.answer);
     canvas
         .trails
-        .tell(alloc, trail_class(rec.event), x, middle(n), tale, out)
+        .tell(alloc, trail_class(rec.event), spot.middle(), tale, out)
 }
 
-// Appends what the k-th effect of the record in row n draws, by the one at x.
+// Appends what an effect of the record at a spot draws.
 #[tactic(auto, unfolding(crate::specs::Rows::effect_text, crate::specs::Rows::after_effect))]
 fn print_effect(
     alloc: Global,
-    places: Places,
-    boxes: &Boxes,
-    decls: &[ProcDecl],
-    n: u64,
-    x: u128,
-    event: Event,
-    k: u64,
-    effect: &Effect,
+    scene: &Scene<'_>,
+    spot: Spot,
+    act: &Act<'_>,
     canvas: &mut Canvas,
     out: &mut Bytes,
 ) -> Result<(), NoMemory>
     ensures text { OnOk result (out.new ≡ out.old
-        ++ spec.effect_text places boxes.now decls.now n x event k effect.now canvas.old) }
+        ++ spec.effect_text scene.now.places scene.now.boxes.now scene.now.decls.now spot.row spot.x
+        act.now.event act.now.k act.now.effect.now canvas.old) }
     ensures canvas { OnOk result (canvas.new
-        ≡ spec.after_effect decls.now n x event effect.now canvas.old) }
+        ≡ spec.after_effect scene.now.decls.now spot.row spot.x act.now.event act.now.effect.now canvas.old) }
 {
-    let step = effect_move(n, decls, &canvas.trails, effect);
-    canvas
-        .stacks
-        .make(alloc, effect_mover(event, effect), step, out)?;
-    let tale = effect_tale(effect);
+    let step = effect_move(spot.row, scene.decls, &canvas.trails, act.effect);
+    let mover = effect_mover(act.event, act.effect);
+    canvas.stacks.make(alloc, mover, step, out)?;
+    let tale = effect_tale(act.effect);
     canvas
         .trails
-        .tell(alloc, b"request", x, middle(n), tale, out)?;
-    print_effect_marks(alloc, places, boxes, n, x, k, effect, out)
+        .tell(alloc, b"request", spot.middle(), tale, out)?;
+    print_effect_marks(alloc, scene, spot, act.k, act.effect, out)
 }
 
-// Appends what the effects of the record in row n draw, by the one at x.
+// Appends what the effects of the record at a spot draw.
 fn print_row_effects(
     alloc: Global,
-    places: Places,
-    boxes: &Boxes,
-    decls: &[ProcDecl],
-    n: u64,
-    x: u128,
-    event: Event,
-    effects: &[Effect],
-    canvas: &mut Canvas,
-    out: &mut Bytes,
-) -> Result<(), NoMemory>
-    ensures text { OnOk result (out.new ≡ out.old
-        ++ spec.effects_text places boxes.now decls.now n x event 0 effects.now canvas.old) }
-    ensures canvas { OnOk result (canvas.new
-        ≡ spec.after_effects decls.now n x event effects.now canvas.old) }
-{
-    for (k, effect) in effects.iter().enumerate() {
-        print_effect(
-            alloc, places, boxes, decls, n, x, event, k as u64, effect, canvas, out,
-        )?;
-    }
-    Ok(())
-}
-
-// Appends the row n of a record, by the one at x.
-#[tactic(auto, unfolding(crate::specs::Rows::row_text, crate::specs::Rows::after_row))]
-fn print_row(
-    alloc: Global,
-    places: Places,
-    boxes: &Boxes,
-    decls: &[ProcDecl],
-    n: u64,
-    x: u128,
+    scene: &Scene<'_>,
+    spot: Spot,
     rec: &Rec,
     canvas: &mut Canvas,
     out: &mut Bytes,
 ) -> Result<(), NoMemory>
-    requires { x < 2 ^ 100 }
     ensures text { OnOk result (out.new ≡ out.old
-        ++ spec.row_text places boxes.now decls.now n x rec.now canvas.old) }
-    ensures canvas { OnOk result (canvas.new ≡ spec.after_row decls.now n x rec.now canvas.old) }
+        ++ spec.effects_text scene.now.places scene.now.boxes.now scene.now.decls.now spot.row spot.x
+        rec.now.event 0 rec.now.effects canvas.old) }
+    ensures canvas { OnOk result (canvas.new
+        ≡ spec.after_effects scene.now.decls.now spot.row spot.x rec.now.event rec.now.effects canvas.old) }
 {
-    print_number_label(alloc, n, out)?;
-    print_answer(alloc, n, x, rec, canvas, out)?;
-    print_answer_marks(alloc, n, x, rec, out)?;
-    let effects = rec.effects.as_slice();
-    print_row_effects(
-        alloc, places, boxes, decls, n, x, rec.event, effects, canvas, out,
-    )?;
-    print_said(alloc, n, x, rec, out)
+    for (k, effect) in rec.effects.as_slice().iter().enumerate() {
+        let act = Act {
+            event: rec.event,
+            k: k as u64,
+            effect,
+        };
+        print_effect(alloc, scene, spot, &act, canvas, out)?;
+    }
+    Ok(())
+}
+
+// Appends the row of the record at a spot.
+#[tactic(auto, unfolding(crate::specs::Rows::row_text, crate::specs::Rows::after_row))]
+fn print_row(
+    alloc: Global,
+    scene: &Scene<'_>,
+    spot: Spot,
+    rec: &Rec,
+    canvas: &mut Canvas,
+    out: &mut Bytes,
+) -> Result<(), NoMemory>
+    requires { spot.x < 2 ^ 100 }
+    ensures text { OnOk result (out.new ≡ out.old
+        ++ spec.row_text scene.now.places scene.now.boxes.now scene.now.decls.now spot.row spot.x rec.now canvas.old) }
+    ensures canvas { OnOk result (canvas.new
+        ≡ spec.after_row scene.now.decls.now spot.row spot.x rec.now canvas.old) }
+{
+    print_number_label(alloc, spot.row, out)?;
+    print_answer(alloc, spot, rec, canvas, out)?;
+    print_answer_marks(alloc, spot, rec, out)?;
+    print_row_effects(alloc, scene, spot, rec, canvas, out)?;
+    print_said(alloc, spot, rec, out)
 }
 
 // Appends the rows of records, numbered from 1.
 fn print_recs(
     alloc: Global,
-    places: Places,
-    boxes: &Boxes,
-    decls: &[ProcDecl],
+    scene: &Scene<'_>,
     recs: &[Rec],
     canvas: &mut Canvas,
     out: &mut Bytes,
 ) -> Result<(), NoMemory>
     ensures { OnOk result (out.new ++ open_bars 1 (bottom (1 + length recs.now)) canvas.new.stacks
-        ≡ out.old ++ spec.rows_text places boxes.now decls.now 1 recs.now canvas.old) }
+        ≡ out.old ++ spec.rows_text scene.now.places scene.now.boxes.now scene.now.decls.now 1 recs.now canvas.old) }
 {
     for (i, rec) in recs.iter().enumerate() {
-        let x = anchor(places, rec.event);
-        print_row(
-            alloc,
-            places,
-            boxes,
-            decls,
-            i as u64 + 1,
-            x,
-            rec,
-            canvas,
-            out,
-        )?;
+        let spot = Spot {
+            row: i as u64 + 1,
+            x: anchor(scene.places, rec.event),
+        };
+        print_row(alloc, scene, spot, rec, canvas, out)?;
     }
     Ok(())
 }
@@ -244,16 +229,14 @@ fn print_recs(
 /// Appends the rows of records, numbered from 1, and behind them the bars of what is open still.
 pub fn print_rows(
     alloc: Global,
-    places: Places,
-    boxes: &Boxes,
-    decls: &[ProcDecl],
+    scene: &Scene<'_>,
     recs: &[Rec],
     canvas: &mut Canvas,
     out: &mut Bytes,
 ) -> Result<(), NoMemory>
     ensures { OnOk result (out.new ≡ out.old
-        ++ spec.rows_text places boxes.now decls.now 1 recs.now canvas.old) }
+        ++ spec.rows_text scene.now.places scene.now.boxes.now scene.now.decls.now 1 recs.now canvas.old) }
 {
-    print_recs(alloc, places, boxes, decls, recs, canvas, out)?;
+    print_recs(alloc, scene, recs, canvas, out)?;
     canvas.stacks.end(alloc, bottom(1 + recs.len() as u64), out)
 }

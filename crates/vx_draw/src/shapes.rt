@@ -8,6 +8,13 @@ ghost use Rattle.vx_draw.specs.Shapes as spec;
 use std::alloc::Global;
 use vx_base::{Bytes, NoMemory};
 
+/// A point, by how far right and how far down it is, in units of which a row has 18.
+#[derive(Clone, Copy)]
+pub struct Point {
+    pub x: u128,
+    pub y: u128,
+}
+
 /// Where row n begins.
 pub fn top(n: u64) -> u128
     ensures value { result ≡ spec.top n }
@@ -90,12 +97,12 @@ pub fn print_attribute(alloc: Global, name: &[u8], n: u128, out: &mut Bytes) -> 
 
 // Appends a point.
 #[tactic(auto, unfolding(crate::specs::Shapes::point))]
-fn print_point(alloc: Global, x: u128, y: u128, out: &mut Bytes) -> Result<(), NoMemory>
-    ensures { OnOk result (out.new ≡ out.old ++ spec.point x y) }
+fn print_point(alloc: Global, at: Point, out: &mut Bytes) -> Result<(), NoMemory>
+    ensures { OnOk result (out.new ≡ out.old ++ spec.point at.x at.y) }
 {
-    print_coordinate(alloc, x, out)?;
+    print_coordinate(alloc, at.x, out)?;
     out.push_all(b" ")?;
-    print_coordinate(alloc, y, out)
+    print_coordinate(alloc, at.y, out)
 }
 
 /// Appends a bar of a class, from one height to another.
@@ -120,19 +127,13 @@ pub fn print_bar(
 
 // Appends the start of a path of a class at a point.
 #[tactic(auto, unfolding(crate::specs::Shapes::path_start))]
-fn print_path_start(
-    alloc: Global,
-    class: &[u8],
-    x: u128,
-    y: u128,
-    out: &mut Bytes,
-) -> Result<(), NoMemory>
-    ensures { OnOk result (out.new ≡ out.old ++ spec.path_start class.now x y) }
+fn print_path_start(alloc: Global, class: &[u8], at: Point, out: &mut Bytes) -> Result<(), NoMemory>
+    ensures { OnOk result (out.new ≡ out.old ++ spec.path_start class.now at.x at.y) }
 {
     out.push_all(b"<path class=\"")?;
     out.push_all(class)?;
     out.push_all(b"\" d=\"M")?;
-    print_point(alloc, x, y, out)
+    print_point(alloc, at, out)
 }
 
 /// Appends a line of a class, from one point to another.
@@ -140,35 +141,27 @@ fn print_path_start(
 pub fn print_stroke(
     alloc: Global,
     class: &[u8],
-    x: u128,
-    y: u128,
-    to_x: u128,
-    to_y: u128,
+    from: Point,
+    to: Point,
     out: &mut Bytes,
 ) -> Result<(), NoMemory>
-    ensures { OnOk result (out.new ≡ out.old ++ spec.stroke class.now x y to_x to_y) }
+    ensures { OnOk result (out.new ≡ out.old ++ spec.stroke class.now from.x from.y to.x to.y) }
 {
-    print_path_start(alloc, class, x, y, out)?;
+    print_path_start(alloc, class, from, out)?;
     out.push_all(b"L")?;
-    print_point(alloc, to_x, to_y, out)?;
+    print_point(alloc, to, out)?;
     out.push_all(b"\"/>\n")
 }
 
 // Appends the start of a text of a class at a point.
 #[tactic(auto, unfolding(crate::specs::Shapes::text_start))]
-fn print_text_start(
-    alloc: Global,
-    class: &[u8],
-    x: u128,
-    y: u128,
-    out: &mut Bytes,
-) -> Result<(), NoMemory>
-    ensures { OnOk result (out.new ≡ out.old ++ spec.text_start class.now x y) }
+fn print_text_start(alloc: Global, class: &[u8], at: Point, out: &mut Bytes) -> Result<(), NoMemory>
+    ensures { OnOk result (out.new ≡ out.old ++ spec.text_start class.now at.x at.y) }
 {
     out.push_all(b"<text class=\"")?;
     out.push_all(class)?;
-    print_attribute(alloc, b"\" x=\"", x, out)?;
-    print_attribute(alloc, b" y=\"", y, out)?;
+    print_attribute(alloc, b"\" x=\"", at.x, out)?;
+    print_attribute(alloc, b" y=\"", at.y, out)?;
     out.push_all(b">")
 }
 
@@ -177,14 +170,13 @@ fn print_text_start(
 pub fn print_label(
     alloc: Global,
     class: &[u8],
-    x: u128,
-    y: u128,
+    at: Point,
     text: &[u8],
     out: &mut Bytes,
 ) -> Result<(), NoMemory>
-    ensures { OnOk result (out.new ≡ out.old ++ spec.label class.now x y text.now) }
+    ensures { OnOk result (out.new ≡ out.old ++ spec.label class.now at.x at.y text.now) }
 {
-    print_text_start(alloc, class, x, y, out)?;
+    print_text_start(alloc, class, at, out)?;
     print_escaped(text, out)?;
     out.push_all(b"</text>\n")
 }
@@ -204,15 +196,14 @@ fn print_title(text: &[u8], out: &mut Bytes) -> Result<(), NoMemory>
 pub fn print_titled(
     alloc: Global,
     class: &[u8],
-    x: u128,
-    y: u128,
+    at: Point,
     text: &[u8],
     shown: &[u8],
     out: &mut Bytes,
 ) -> Result<(), NoMemory>
-    ensures { OnOk result (out.new ≡ out.old ++ spec.titled class.now x y text.now shown.now) }
+    ensures { OnOk result (out.new ≡ out.old ++ spec.titled class.now at.x at.y text.now shown.now) }
 {
-    print_text_start(alloc, class, x, y, out)?;
+    print_text_start(alloc, class, at, out)?;
     print_escaped(text, out)?;
     print_title(shown, out)?;
     out.push_all(b"</text>\n")
@@ -223,15 +214,14 @@ pub fn print_titled(
 pub fn print_figure(
     alloc: Global,
     class: &[u8],
-    x: u128,
-    y: u128,
+    at: Point,
     shape: &[u8],
     shown: &[u8],
     out: &mut Bytes,
 ) -> Result<(), NoMemory>
-    ensures { OnOk result (out.new ≡ out.old ++ spec.figure class.now x y shape.now shown.now) }
+    ensures { OnOk result (out.new ≡ out.old ++ spec.figure class.now at.x at.y shape.now shown.now) }
 {
-    print_path_start(alloc, class, x, y, out)?;
+    print_path_start(alloc, class, at, out)?;
     out.push_all(shape)?;
     out.push_all(b"\">")?;
     print_title(shown, out)?;

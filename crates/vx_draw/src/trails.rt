@@ -3,7 +3,7 @@
 ghost use Rattle.std.specs.Prelude.{◌≡◌, ◌++◌, [], OnOk};
 ghost use Rattle.vx_draw.specs.Trails as spec;
 
-use crate::shapes::print_stroke;
+use crate::shapes::{Point, print_stroke};
 use std::alloc::Global;
 use std::marker::Model;
 use vx_base::{Bytes, Id, Mode, NoMemory};
@@ -47,15 +47,18 @@ impl Model for Trails {
 fn print_line_on(
     alloc: Global,
     class: &[u8],
-    x: u128,
-    y: u128,
+    at: Point,
     trail: Trail,
     out: &mut Bytes,
 ) -> Result<(), NoMemory>
-    ensures { OnOk result (out.new ≡ out.old ++ spec.line_on class.now x y trail) }
+    ensures { OnOk result (out.new ≡ out.old ++ spec.line_on class.now at.x at.y trail) }
 {
-    if trail.y < y {
-        print_stroke(alloc, class, trail.x, trail.y, x, y, out)
+    if trail.y < at.y {
+        let from = Point {
+            x: trail.x,
+            y: trail.y,
+        };
+        print_stroke(alloc, class, from, at, out)
     } else {
         Ok(())
     }
@@ -87,11 +90,16 @@ impl Trails {
     }
 
     // Begins the trail of an id, if it is the next.
-    fn open(&mut self, x: u128, y: u128, id: Id, mode: Mode, forces: bool) -> Result<(), NoMemory>
-        ensures { OnOk result (self.new ≡ spec.opened x y id mode forces self.old) }
+    fn open(&mut self, at: Point, id: Id, mode: Mode, forces: bool) -> Result<(), NoMemory>
+        ensures { OnOk result (self.new ≡ spec.opened at.x at.y id mode forces self.old) }
     {
         if id.0.saturating_sub(1) as usize == self.items.len() {
-            self.items.push(Trail { x, y, mode, forces })?;
+            self.items.push(Trail {
+                x: at.x,
+                y: at.y,
+                mode,
+                forces,
+            })?;
         }
         Ok(())
     }
@@ -101,19 +109,22 @@ impl Trails {
         &mut self,
         alloc: Global,
         class: &[u8],
-        x: u128,
-        y: u128,
+        at: Point,
         id: Id,
         out: &mut Bytes,
     ) -> Result<(), NoMemory>
-        ensures text { OnOk result (out.new ≡ out.old ++ spec.followed_text class.now x y id self.old) }
-        ensures trails { OnOk result (self.new ≡ spec.followed x y id self.old) }
+        ensures text { OnOk result (out.new ≡ out.old ++ spec.followed_text class.now at.x at.y id self.old) }
+        ensures trails { OnOk result (self.new ≡ spec.followed at.x at.y id self.old) }
     {
         let i = id.0.saturating_sub(1) as usize;
         if i < self.items.len() {
             let trail = self.items[i];
-            self.items[i] = Trail { x, y, ..trail };
-            print_line_on(alloc, class, x, y, trail, out)
+            self.items[i] = Trail {
+                x: at.x,
+                y: at.y,
+                ..trail
+            };
+            print_line_on(alloc, class, at, trail, out)
         } else {
             Ok(())
         }
@@ -124,18 +135,17 @@ impl Trails {
         &mut self,
         alloc: Global,
         class: &[u8],
-        x: u128,
-        y: u128,
+        at: Point,
         tale: Tale,
         out: &mut Bytes,
     ) -> Result<(), NoMemory>
-        ensures text { OnOk result (out.new ≡ out.old ++ spec.tale_text class.now x y tale self.old) }
-        ensures trails { OnOk result (self.new ≡ spec.told x y tale self.old) }
+        ensures text { OnOk result (out.new ≡ out.old ++ spec.tale_text class.now at.x at.y tale self.old) }
+        ensures trails { OnOk result (self.new ≡ spec.told at.x at.y tale self.old) }
     {
         match tale {
             Tale::Nothing => Ok(()),
-            Tale::Opened(id, mode, forces) => self.open(x, y, id, mode, forces),
-            Tale::Again(id) => self.follow(alloc, class, x, y, id, out),
+            Tale::Opened(id, mode, forces) => self.open(at, id, mode, forces),
+            Tale::Again(id) => self.follow(alloc, class, at, id, out),
         }
     }
 }
