@@ -1,5 +1,5 @@
 -- Two processes whose image ends at once, and the runs of them that lists of places choose.
-use Rattle.std.specs.Prelude.{◌≡◌, refl, List, [], ◌∷◌, codes, Some}
+use Rattle.std.specs.Prelude.{◌≡◌, refl, [], ◌∷◌, codes, Some}
 use Rattle.vx_base.specs.declared.record.End.TheVariants as end
 use Rattle.vx_examples.specs.Script.{declared, ends, gone, is_gone}
 use Rattle.vx_image.specs.declared.system.System.{System}

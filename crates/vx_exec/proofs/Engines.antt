@@ -11,6 +11,7 @@ use Rattle.vx_procs.proofs.Inside.{stand_here}
 use Rattle.vx_exec.specs.Engines.{IsHomeFor, leasing, stands_prepared}
 use Rattle.vx_exec.specs.Leases.{AreIn, IsInFor, Leasing, leasing_after, stand_at, stands_after, with_stand as lent}
 use Rattle.vx_exec.specs.Ready.{opened_for}
+use Rattle.vx_exec.specs.View.{is_don}
 use Rattle.vx_exec.specs.declared.engine.Engine.{Engine}
 
 -- a unit was prepared: its contents are home
@@ -65,9 +66,9 @@ in_for e event.Tick h = tt
 in_for e (event.Beg u) h = tt
 in_for e (event.Don u) h = h u
 
-pub in_after : {R A E : Type 0} (e f : Engine R) (ev : Event) (r : Result A E) → OnOk r (leasing f ≡ leasing_after (leasing e) ev) → OnErr r (leasing f ≡ leasing e) → AreIn (leasing e) → AreIn (leasing f)
+pub in_after : {R A E : Type 0} (e f : Engine R) (ev : Event) (r : Result A E) → OnOk r (leasing f ≡ leasing_after (leasing e) ev) → OnErr r ((is_don ev ≡ false) × (leasing f ≡ leasing e)) → AreIn (leasing e) → AreIn (leasing f)
 in_after e f ev (Ok x) ok err h = subst AreIn (sym ok) (still_in ev (leasing e) h)
-in_after e f ev (Err x) ok err h = subst AreIn (sym err) h
+in_after e f ev (Err x) ok err h = subst AreIn (sym err.1) h
 
 -- An executive that lends.
 
@@ -100,9 +101,9 @@ stood_lending limit taken k n l u stand view there after =
     ∙ ap (λ (x : Leasing). lent x u stand) view)
 
 -- a unit was taken out
-pub taken_out : {A : Type 0} (o : Option A) (limit taken : ℕ) (k n : Kernel) (l : Leasing) (u : UnitNo) → lending limit taken k ≡ l → OnSome o (n ≡ with_stand k u Out) → OnSome o (IsSome (ending_for k u)) → OnSome o (lending limit taken n ≡ lent l u Out)
-taken_out None limit taken k n l u view after there = tt
-taken_out (Some x) limit taken k n l u view after there = stood_lending limit taken k n l u Out view there after
+pub taken_out : {A : Type 0} (o : Option A) (limit taken : ℕ) (k n : Kernel) (l : Leasing) (u : UnitNo) → lending limit taken k ≡ l → OnSome o (IsSome (ending_for k u) × (n ≡ with_stand k u Out)) → OnSome o (lending limit taken n ≡ lent l u Out)
+taken_out None limit taken k n l u view after = tt
+taken_out (Some x) limit taken k n l u view after = stood_lending limit taken k n l u Out view after.0 after.1
 
 -- a unit came back that was out
 pub given_back : (limit taken : ℕ) (k n : Kernel) (l : Leasing) (u : UnitNo) → lending limit taken k ≡ l → stand_at l u ≡ Out → n ≡ with_stand k u Back → lending limit taken n ≡ lent l u Back

@@ -1,6 +1,6 @@
 //! What both kinds of executive are made of: the one whose units may be out, and the one that never has a unit out.
 
-ghost use Rattle.std.specs.Prelude.{◌≡◌, Contains, IfOk, IsOk, IsTrue, None, OnErr, OnOk};
+ghost use Rattle.std.specs.Prelude.{◌≡◌, Contains, IfOk, None, OnErr, OnOk, false};
 ghost use Rattle.vx_record.specs.Events.{enabled, step};
 ghost use Rattle.vx_record.specs.Runs.{end_of, record_of};
 ghost use Rattle.vx_exec.specs.Engines.{IsHomeFor, IsOn, leasing};
@@ -39,8 +39,7 @@ impl<R: Routine> Engine<R> {
         ensures answer { IfOk result (λ answer. answer ≡ (step self.old.core.state event).answer) }
         ensures told { OnOk result (self.new.core.log.items ≡ (step self.old.core.state event).effects) }
         ensures after { OnOk result (leasing self.new ≡ leasing_after (leasing self.old) event) }
-        ensures err { OnErr result (leasing self.new ≡ leasing self.old) }
-        ensures don_never_fails { IsTrue (is_don event) → IsOk result }
+        ensures err { OnErr result ((is_don event ≡ false) × (leasing self.new ≡ leasing self.old)) }
         ensures plan { plan (leasing self.new).exec ≡ plan (leasing self.old).exec }
     {
         make_rooms(self.alloc, &mut self.rooms, event)?;
@@ -60,8 +59,7 @@ impl<R: Routine> Engine<R> {
         ensures on { IsOn self.new }
         ensures rec { IfOk result (λ rec. rec ≡ record_of self.old.core.state event) }
         ensures after { OnOk result (leasing self.new ≡ leasing_after (leasing self.old) event) }
-        ensures err { OnErr result (leasing self.new ≡ leasing self.old) }
-        ensures don_never_fails { IsTrue (is_don event) → IsOk result }
+        ensures err { OnErr result ((is_don event ≡ false) × (leasing self.new ≡ leasing self.old)) }
         ensures plan { plan (leasing self.new).exec ≡ plan (leasing self.old).exec }
     {
         let answer = self.take(event)?;

@@ -1,6 +1,6 @@
 //! The executive.
 
-ghost use Rattle.std.specs.Prelude.{◌≡◌, ◌<◌, ◌≤◌, ◌↔◌, Contains, IfOk, IsOk, IsTrue, None, OnErr, OnOk, length, slice_get};
+ghost use Rattle.std.specs.Prelude.{◌≡◌, ◌<◌, ◌≤◌, ◌↔◌, Contains, IfOk, IsTrue, None, OnErr, OnOk, false, length, slice_get};
 ghost use Rattle.vx_image.specs.WellFormed.{IsWellFormed};
 ghost use Rattle.vx_record.specs.State.{IsProcess, decl_of, process_at, unit_at};
 ghost use Rattle.vx_units.specs.Units.{outputs_of};
@@ -180,8 +180,7 @@ impl<R: Routine> Exec<R> {
         requires going { end_of self.old.limit self.old.taken self.old.state ≡ None }
         ensures rec { IfOk result (λ rec. rec ≡ record_of self.old.state event) }
         ensures after { OnOk result (self.new ≡ after_step self.old event) }
-        ensures err { OnErr result (self.new ≡ self.old) }
-        ensures don_never_fails { IsTrue (is_don event) → IsOk result }
+        ensures err { OnErr result ((is_don event ≡ false) × (self.new ≡ self.old)) }
         ensures plan { plan self.new ≡ plan self.old }
     {
         self.engine.step(event)
@@ -193,8 +192,7 @@ impl<R: Routine> Exec<R> {
         requires enabled { Contains (enabled self.old.state) event }
         requires going { end_of self.old.limit self.old.taken self.old.state ≡ None }
         ensures after { OnOk result (self.new ≡ after_step self.old event) }
-        ensures err { OnErr result (self.new ≡ self.old) }
-        ensures don_never_fails { IsTrue (is_don event) → IsOk result }
+        ensures err { OnErr result ((is_don event ≡ false) × (self.new ≡ self.old)) }
         ensures plan { plan self.new ≡ plan self.old }
     {
         self.engine.take(event)?;

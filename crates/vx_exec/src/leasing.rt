@@ -1,6 +1,6 @@
 //! An executive whose units may be out to be served.
 
-ghost use Rattle.std.specs.Prelude.{◌≡◌, ◌≤◌, ◌↔◌, Contains, IfNone, IfOk, IfSome, IsOk, IsTrue, None, OnErr, OnOk, OnSome, length};
+ghost use Rattle.std.specs.Prelude.{◌≡◌, ◌≤◌, ◌↔◌, Contains, IfNone, IfOk, IfSome, IsTrue, None, OnErr, OnOk, OnSome, false, length};
 ghost use Rattle.vx_record.specs.Events.{enabled};
 ghost use Rattle.vx_record.specs.Runs.{end_of, record_of};
 ghost use Rattle.vx_units.specs.Leases.{Back, Out};
@@ -90,8 +90,7 @@ impl<R: Routine> LeasingExec<R> {
         requires home { IsInFor self.old event }
         ensures rec { IfOk result (λ rec. rec ≡ record_of self.old.exec.state event) }
         ensures after { OnOk result (self.new ≡ leasing_after self.old event) }
-        ensures err { OnErr result (self.new ≡ self.old) }
-        ensures don_never_fails { IsTrue (is_don event) → IsOk result }
+        ensures err { OnErr result ((is_don event ≡ false) × (self.new ≡ self.old)) }
         ensures plan { plan self.new.exec ≡ plan self.old.exec }
     {
         self.engine.step(event)

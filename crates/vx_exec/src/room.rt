@@ -1,6 +1,6 @@
 //! Room for one event, which is made before it.
 
-ghost use Rattle.std.specs.Prelude.{◌≡◌, ◌≤◌, IfSome, IsOk, IsSome, IsTrue, OnErr, OnOk, slice_set};
+ghost use Rattle.std.specs.Prelude.{◌≡◌, ◌≤◌, IfSome, IsSome, OnErr, OnOk, false, slice_set};
 ghost use Rattle.vx_base.specs.Queues.{front};
 ghost use Rattle.vx_units.specs.Leases.{Home};
 ghost use Rattle.vx_procs.specs.Kernel.{stands};
@@ -69,7 +69,7 @@ fn prepare<R: Routine>(core: &mut Core<R>, u: UnitNo) -> Result<(), NoMemory>
 /// Makes spare room for the bytes of a request before a process runs, and for no other event.
 pub(crate) fn make_rooms(alloc: Global, rooms: &mut Rooms, event: Event) -> Result<(), NoMemory>
     ensures made { OnOk result (HasRooms event rooms.new) }
-    ensures don_never_fails { IsTrue (is_don event) → IsOk result }
+    ensures err { OnErr result (is_don event ≡ false) }
 {
     match event {
         Event::Run(_) => rooms.fill(alloc),
@@ -84,8 +84,7 @@ pub(crate) fn make_room<R: Routine>(core: &mut Core<R>, event: Event) -> Result<
     ensures same { core.new.state ≡ core.old.state }
     ensures made { OnOk result (IsRoomMade core.new event) }
     ensures home { OnOk result (stands core.new ≡ stands_prepared event (stands core.old)) }
-    ensures stay { OnErr result (stands core.new ≡ stands core.old) }
-    ensures don_never_fails { IsTrue (is_don event) → IsOk result }
+    ensures stay { OnErr result ((is_don event ≡ false) × (stands core.new ≡ stands core.old)) }
 {
     match event {
         Event::Run(_) => make_spares(core, event),

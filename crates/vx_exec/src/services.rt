@@ -24,7 +24,7 @@ use vx_ctl::{
     wflor,
 };
 use vx_image::{Image, Label, ProcDecl};
-use vx_io::{Asking, Rooms, assign, cancel, crembx, dassgn, delmbx, qio, qiow, synch};
+use vx_io::{Asking, NewBox, Rooms, assign, cancel, crembx, dassgn, delmbx, qio, qiow, synch};
 use vx_procs::Core;
 use vx_record::Served;
 use vx_rundown::{canexh, dclexh, delprc, exit};
@@ -266,21 +266,12 @@ fn assign_named<R: Routine>(core: &mut Core<R>, p: Pid, args: &Args) -> Served
 }
 
 // $CREMBX of a mailbox of a name, in a mode: a variable takes the number of the channel.
-fn create_box<R: Routine>(
-    core: &mut Core<R>,
-    p: Pid,
-    name: Name,
-    perm: u32,
-    maxmsg: u32,
-    bufquo: u32,
-    mode: Mode,
-    v: Target,
-) -> Served
+fn create_box<R: Routine>(core: &mut Core<R>, p: Pid, ask: NewBox, mode: Mode, v: Target) -> Served
     requires set { IsSet core.old p }
-    requires room { Fits core.old (with_number p v (crembx core.old.state p name perm maxmsg bufquo mode)).effects }
-    ensures { Does (with_number p v (crembx core.old.state p name perm maxmsg bufquo mode)) result core.old core.new }
+    requires room { Fits core.old (with_number p v (crembx core.old.state p ask.name ask.perm ask.maxmsg ask.bufquo mode)).effects }
+    ensures { Does (with_number p v (crembx core.old.state p ask.name ask.perm ask.maxmsg ask.bufquo mode)) result core.old core.new }
 {
-    match crembx(core, p, name, perm, maxmsg, bufquo, mode) {
+    match crembx(core, p, ask, mode) {
         Ok(n) => {
             core.tell(Effect::Var { p, v, n });
             core.set_variable(p, v, n);
@@ -297,12 +288,13 @@ fn create_box_named<R: Routine>(core: &mut Core<R>, p: Pid, args: &Args) -> Serv
     requires room { Fits core.old (service_of core.old.state p args.now Service.CreMbx).effects }
     ensures { Does (service_of core.old.state p args.now Service.CreMbx) result core.old core.new }
 {
-    let name = name_of(&args.a1);
-    let perm = number(&args.a2);
-    let maxmsg = number(&args.a3);
-    let bufquo = number(&args.a4);
-    let mode = access_mode(&args.a5);
-    create_box(core, p, name, perm, maxmsg, bufquo, mode, place(&args.a0))
+    let ask = NewBox {
+        name: name_of(&args.a1),
+        perm: number(&args.a2),
+        maxmsg: number(&args.a3),
+        bufquo: number(&args.a4),
+    };
+    create_box(core, p, ask, access_mode(&args.a5), place(&args.a0))
 }
 
 // What the arguments of a request ask, but for its AST.

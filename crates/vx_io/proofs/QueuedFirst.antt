@@ -1,5 +1,5 @@
 -- A request finishes alike whether its AST is queued last, as the machine has it, or first, as the code does.
-use Rattle.std.proofs.Common.{◌≡◌, ℕ, ◌-◌, ◌%◌, List, [], ◌++◌, Bool, true, false, cond, not, ◌&&◌, ◌==◌, nat_lt, slice_set, Option, Some, None, is_some, refl, ap, sym, ◌∙◌, arith}
+use Rattle.std.proofs.Common.{◌≡◌, ℕ, ◌-◌, ◌%◌, List, [], ◌++◌, Bool, true, false, cond, not, ◌&&◌, ◌==◌, nat_lt, slice_set, Option, Some, None, is_some, refl, ap, sym, ◌∙◌}
 use Rattle.std.specs.List.{find}
 use Rattle.vx_base.specs.Clusters.{cluster_number, is_association}
 use Rattle.vx_base.specs.Pieces.{Association, Promised, Queued, Request, Status}

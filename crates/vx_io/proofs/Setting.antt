@@ -1,5 +1,5 @@
 -- An attention entry is set: its part, step after step.
-use Rattle.std.proofs.Common.{◌≡◌, ℕ, List, [], ◌∷◌, ◌++◌, true, ◌==◌, Option, Some, refl, ap, subst, sym, ◌∙◌}
+use Rattle.std.proofs.Common.{◌≡◌, List, [], ◌∷◌, ◌++◌, true, ◌==◌, Option, Some, ap, subst, sym, ◌∙◌}
 use Rattle.std.specs.List.{find}
 use Rattle.vx_base.specs.Pieces.{Attention}
 use Rattle.vx_base.specs.declared.number.Id.{Id}

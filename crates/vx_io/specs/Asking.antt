@@ -1,7 +1,7 @@
 -- What calls on channels and requests are asked, what they answer, and what they rely on.
 use Rattle.std.specs.Prelude.{◌≡◌, ℕ, ◌+◌, ◌<◌, ◌≤◌, Bool, true, false, IsTrue, Option, Result, Ok, Err, if◌then◌else◌, length}
 use Rattle.std.specs.List.{AllByRecursion}
-use Rattle.vx_base.specs.Pieces.{Channel}
+use Rattle.vx_base.specs.Pieces.{Channel, Mailbox}
 use Rattle.vx_base.specs.declared.cond.Cond.{Cond}
 use Rattle.vx_base.specs.declared.effects.Cell.{Cell}
 use Rattle.vx_base.specs.declared.effects.Effect.{Effect}
@@ -13,6 +13,7 @@ use Rattle.vx_base.specs.declared.number.Pid.{Pid}
 use Rattle.vx_base.specs.declared.request.Device.{Device}
 use Rattle.vx_base.specs.declared.request.Func.{Func}
 use Rattle.vx_base.specs.declared.routine.Entry.{Entry}
+use Rattle.vx_record.specs.Channels.{new_box}
 use Rattle.vx_record.specs.Charges.{exceeds, is_attention, is_direct, moved_bytes, request_need}
 use Rattle.vx_record.specs.Requests.{Asked, has_function}
 use Rattle.vx_record.specs.Sound.{AreOrdered, ChannelStands, DeviceStands, attention_id, ground}
@@ -27,10 +28,15 @@ use Rattle.vx_io.specs.Finishing.{AreRequests}
 use Rattle.vx_io.specs.Steady.{AreSteady}
 use Rattle.vx_io.specs.declared.asking.Asking.{Asking}
 use Rattle.vx_io.specs.declared.asking.Granted.{Granted}
+use Rattle.vx_io.specs.declared.mailboxes.NewBox.{NewBox}
 
 -- what a request asks, with the tag of its AST if it has one
 abbrev pub asked : Asking → Option Entry → Asked
 asked q ast = record { efn = q.efn; chan = q.chan; func = q.func; iosb = q.iosb; ast = ast; buf = q.buf; len = q.len; blk = q.blk }
+
+-- the mailbox that is asked for, as it is when it is new
+abbrev pub box_asked : NewBox → Mailbox
+box_asked q = new_box q.name q.perm q.maxmsg q.bufquo
 
 -- what a service that may wait answers, refused or not
 abbrev pub served_of : {R : Type 0} → Result Served (Refused R) → Served

@@ -21,7 +21,7 @@ mod service;
 pub use asking::Asking;
 pub use cancelling::{cancel, cancel_channel, dassgn};
 pub use channels::{assign, free_channel};
-pub use mailboxes::{crembx, delmbx};
+pub use mailboxes::{NewBox, crembx, delmbx};
 pub use requests::{qio, qiow, synch};
 pub use rooms::Rooms;
 pub use service::{begin, done};

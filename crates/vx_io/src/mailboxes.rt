@@ -2,17 +2,27 @@
 
 ghost use Rattle.std.specs.Prelude.{◌≡◌, ◌<◌, ◌||◌, ◌&&◌, None};
 ghost use Rattle.vx_base.specs.declared.request.Device.TheVariants.{Mailbox};
-ghost use Rattle.vx_record.specs.Channels.{box_named, crembx, create_box, delete_box, delmbx, find_or_create, free_channel_of, goes_unused, is_bad_box, make_box, new_box, swept_device};
+ghost use Rattle.vx_record.specs.Channels.{box_named, crembx, create_box, delete_box, delmbx, find_or_create, free_channel_of, goes_unused, is_bad_box, make_box, swept_device};
 ghost use Rattle.vx_record.specs.Mailboxes.{mailbox_at};
 ghost use Rattle.vx_record.specs.Sound.{BoxStands, ground};
 ghost use Rattle.vx_record.specs.State.{IsProcess, box_at};
 ghost use Rattle.vx_procs.specs.Kernel.{Acts, Does, Fits};
 ghost use Rattle.vx_procs.specs.Ready.{HasMessageRooms};
-ghost use Rattle.vx_io.specs.Asking.{AreOpen};
+ghost use Rattle.vx_io.specs.Asking.{AreOpen, box_asked};
 
 use crate::asking::device_channel;
 use vx_base::{BoxNo, Cond, Device, Effect, Mode, Name, Pid, Routine, outer_of};
 use vx_procs::Core;
+
+/// The mailbox that $CREMBX asks for: its name, and, if there is none of that name, whether it is permanent (0 for a temporary one), the
+/// most bytes of a message, and how many bytes it holds.
+#[derive(Clone, Copy, Debug)]
+pub struct NewBox {
+    pub name: Name,
+    pub perm: u32,
+    pub maxmsg: u32,
+    pub bufquo: u32,
+}
 
 // Whether a mailbox goes when no channel is assigned to it: it is temporary, or marked for deletion.
 fn goes_unused<R: Routine>(core: &Core<R>, b: BoxNo) -> bool
@@ -49,48 +59,40 @@ fn make_box<R: Routine>(
     p: Pid,
     mode: Mode,
     b: BoxNo,
-    name: Name,
-    perm: u32,
-    maxmsg: u32,
-    bufquo: u32,
+    ask: NewBox,
 ) -> Result<u32, Cond>
     requires made { IsProcess core.old.state p }
     requires within { b.0 < 64 }
     requires free { box_at core.old.state b ≡ None }
     requires messages { HasMessageRooms core.old }
-    requires room { Fits core.old (make_box core.old.state p mode (new_box name perm maxmsg bufquo) b.0 (free_channel_of core.old.state p)).effects }
-    ensures { Does (make_box core.old.state p mode (new_box name perm maxmsg bufquo) b.0 (free_channel_of core.old.state p)) result core.old core.new }
+    requires room { Fits core.old (make_box core.old.state p mode (box_asked ask) b.0 (free_channel_of core.old.state p)).effects }
+    ensures { Does (make_box core.old.state p mode (box_asked ask) b.0 (free_channel_of core.old.state p)) result core.old core.new }
 {
     let n = match core.assign(p, Device::Mailbox(b), mode) {
         Ok(n) => n,
         Err(cond) => return Err(cond),
     };
-    core.make_box(b, name, perm != 0, maxmsg, bufquo);
-    core.tell(Effect::Mbx { name, bit: true });
+    core.make_box(b, ask.name, ask.perm != 0, ask.maxmsg, ask.bufquo);
+    core.tell(Effect::Mbx {
+        name: ask.name,
+        bit: true,
+    });
     Ok(n)
 }
 
 // Makes a mailbox that is not there yet, with a channel to it: NOPRIV where it is permanent and the caller may not, NOSLOT where there
 // are 64, NOIOCHAN where no channel is free.
-fn create_box<R: Routine>(
-    core: &mut Core<R>,
-    p: Pid,
-    mode: Mode,
-    name: Name,
-    perm: u32,
-    maxmsg: u32,
-    bufquo: u32,
-) -> Result<u32, Cond>
+fn create_box<R: Routine>(core: &mut Core<R>, p: Pid, mode: Mode, ask: NewBox) -> Result<u32, Cond>
     requires made { IsProcess core.old.state p }
     requires messages { HasMessageRooms core.old }
-    requires room { Fits core.old (create_box core.old.state p mode (new_box name perm maxmsg bufquo)).effects }
-    ensures { Does (create_box core.old.state p mode (new_box name perm maxmsg bufquo)) result core.old core.new }
+    requires room { Fits core.old (create_box core.old.state p mode (box_asked ask)).effects }
+    ensures { Does (create_box core.old.state p mode (box_asked ask)) result core.old core.new }
 {
-    if perm != 0 && !core.privs(p).prmmbx {
+    if ask.perm != 0 && !core.privs(p).prmmbx {
         return Err(Cond::NoPriv);
     }
     match core.free_box() {
-        Some(b) => make_box(core, p, mode, b, name, perm, maxmsg, bufquo),
+        Some(b) => make_box(core, p, mode, b, ask),
         None => Err(Cond::NoSlot),
     }
 }
@@ -101,19 +103,16 @@ fn find_or_create<R: Routine>(
     core: &mut Core<R>,
     p: Pid,
     mode: Mode,
-    name: Name,
-    perm: u32,
-    maxmsg: u32,
-    bufquo: u32,
+    ask: NewBox,
 ) -> Result<u32, Cond>
     requires made { IsProcess core.old.state p }
     requires messages { HasMessageRooms core.old }
-    requires room { Fits core.old (find_or_create core.old.state p mode (new_box name perm maxmsg bufquo) (box_named core.old.state name)).effects }
-    ensures { Does (find_or_create core.old.state p mode (new_box name perm maxmsg bufquo) (box_named core.old.state name)) result core.old core.new }
+    requires room { Fits core.old (find_or_create core.old.state p mode (box_asked ask) (box_named core.old.state ask.name)).effects }
+    ensures { Does (find_or_create core.old.state p mode (box_asked ask) (box_named core.old.state ask.name)) result core.old core.new }
 {
-    match core.box_named(name.text()) {
+    match core.box_named(ask.name.text()) {
         Some(b) => core.assign(p, Device::Mailbox(b), mode),
-        None => create_box(core, p, mode, name, perm, maxmsg, bufquo),
+        None => create_box(core, p, mode, ask),
     }
 }
 
@@ -121,25 +120,17 @@ fn find_or_create<R: Routine>(
 /// is made if there is none, and gives the channel's number. BADPARAM where a unit has the name or a number is out of its range; of a
 /// new mailbox NOPRIV where it is permanent and the caller may not make one, and NOSLOT where there are 64; NOIOCHAN where no channel
 /// is free. Takes no memory.
-pub fn crembx<R: Routine>(
-    core: &mut Core<R>,
-    p: Pid,
-    name: Name,
-    perm: u32,
-    maxmsg: u32,
-    bufquo: u32,
-    mode: Mode,
-) -> Result<u32, Cond>
+pub fn crembx<R: Routine>(core: &mut Core<R>, p: Pid, ask: NewBox, mode: Mode) -> Result<u32, Cond>
     requires made { IsProcess core.old.state p }
     requires messages { HasMessageRooms core.old }
-    requires room { Fits core.old (crembx core.old.state p name perm maxmsg bufquo mode).effects }
-    ensures { Does (crembx core.old.state p name perm maxmsg bufquo mode) result core.old core.new }
+    requires room { Fits core.old (crembx core.old.state p ask.name ask.perm ask.maxmsg ask.bufquo mode).effects }
+    ensures { Does (crembx core.old.state p ask.name ask.perm ask.maxmsg ask.bufquo mode) result core.old core.new }
 {
-    if is_bad_box(core, name.text(), maxmsg, bufquo) {
+    if is_bad_box(core, ask.name.text(), ask.maxmsg, ask.bufquo) {
         return Err(Cond::BadParam);
     }
     let mode = outer_of(mode, core.current_mode(p));
-    find_or_create(core, p, mode, name, perm, maxmsg, bufquo)
+    find_or_create(core, p, mode, ask)
 }
 
 // Marks a permanent mailbox for deletion: NOPRIV where the caller may not. A temporary one goes by itself.

@@ -1,5 +1,5 @@
 -- What the reading of a script, and then of what stands behind it, answers of a text.
-use Rattle.std.proofs.Common.{◌≡◌, ℕ, List, Result, Ok, Err, IfOk, sym, subst}
+use Rattle.std.proofs.Common.{◌≡◌, ℕ, List, Result, Ok, Err, sym, subst}
 use Rattle.vx_image.specs.WellFormed.{IsWellFormed}
 use Rattle.vx_image.specs.declared.system.System.{System}
 use Rattle.vx_grammar.specs.FirstFault.{Tells}
@@ -9,17 +9,20 @@ use Rattle.vx_script.specs.declared.fault.ScriptFail.{ScriptFail}
 use Rattle.vx_script.specs.declared.fault.ScriptFail.TheVariants as script_fail
 use Rattle.vx_script.specs.declared.fault.ScriptFault.{ScriptFault}
 use Rattle.vx_journal.proofs.JournalText.{whole_text}
-use Rattle.vx_journal.specs.ReadJournal.{FailsScript, IsJournal, ReadsJournal, failure_of, journal_of, script_part}
+use Rattle.vx_journal.specs.ReadJournal.{FailsScript, ReadsJournal, TellsText, failure_of, journal_of, script_part}
 use Rattle.vx_journal.specs.declared.journal.Journal.{Journal}
 use Rattle.vx_journal.specs.declared.journal.JournalFail.{JournalFail}
+use Rattle.vx_journal.specs.declared.journal.JournalFail.TheVariants as fail
 
 -- Where the script part, which is this text, says a system.
 
-pub is_read : (text part : List ℕ) (system : System) (r : Result Journal JournalFail) → part ≡ script_part text → Spells part system → IsWellFormed system → ReadsJournal r (journal_of system text) → IfOk r (λ j. IsJournal text j × IsWellFormed j.system)
+pub is_read : (text part : List ℕ) (system : System) (r : Result Journal JournalFail) → part ≡ script_part text → Spells part system → IsWellFormed system → ReadsJournal r (journal_of system text) → TellsText text r
 is_read text part system (Ok j) same says formed reads =
     let kept : system ≡ j.system = sym (whole_text system text j reads).0 in
     (record { says = subst (λ s. Spells (script_part text) s) kept (subst (λ z. Spells z system) same says); reads = subst (λ (s : System). journal_of s text ≡ Ok j) kept reads }, subst IsWellFormed kept formed)
-is_read text part system (Err e) same says formed reads = tt
+is_read text part system (Err (fail.Form line)) same says formed reads = record { system = system; says = subst (λ z. Spells z system) same says; bad = reads }
+is_read text part system (Err (fail.Script fault)) same says formed reads = absurd reads
+is_read text part system (Err fail.NoMemory) same says formed reads = tt
 
 pub is_only : (text part : List ℕ) (system : System) (r : Result Journal JournalFail) → part ≡ script_part text → ((s : System) → Spells part s → ReadsScript (Ok system) (Ok s)) → ReadsJournal r (journal_of system text) → (s : System) → Spells (script_part text) s → ReadsJournal r (journal_of s text)
 is_only text part system r same only reads s says =

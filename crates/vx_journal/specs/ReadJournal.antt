@@ -1,6 +1,7 @@
 -- How a transcript is read back: the script part, the rest of the canonical script's lines, the records and the trailer.
 use Rattle.std.specs.Prelude.{◌≡◌, ℕ, ◌+◌, ◌==◌, Bool, List, [], ◌∷◌, ◌++◌, length, take, drop, codes, nat_eq, if◌then◌else◌, Result, Ok, Err}
 use Rattle.std.specs.List.{starts_with}
+use Rattle.vx_image.specs.WellFormed.{IsWellFormed}
 use Rattle.vx_image.specs.declared.system.System.{System}
 use Rattle.vx_lines.specs.ReadRecords.{fed_lines, read_records}
 use Rattle.vx_lines.specs.Records.{ended_lines, records_lines}
@@ -123,6 +124,11 @@ FailsScript fault (Err fail.NoMemory) = Unit {0}
 pub record TellsWhatIsThere (text : List ℕ) (result : Result Journal JournalFail) : Type 0 where
   pub journal : (s : System) → Spells (script_part text) s → ReadsJournal result (journal_of s text)
   pub fault : (fault : ScriptFault) → Tells (script_part text) fault → FailsScript fault result
+
+-- what a result tells of the text: the journal that it is, of a well formed system, or why it is none
+abbrev pub TellsText : List ℕ → Result Journal JournalFail → Type 0
+TellsText text (Ok j) = IsJournal text j × IsWellFormed j.system
+TellsText text (Err e) = TellsFailure text e
 
 -- what the failure of a result tells of the text
 abbrev pub TellsIfFailed : {A : Type 0} → List ℕ → Result A JournalFail → Type 0

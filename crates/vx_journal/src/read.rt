@@ -140,8 +140,7 @@ fn read_behind(alloc: Global, system: System, text: &[u8]) -> Result<Journal, Jo
 pub fn read_journal(alloc: Global, text: &[u8]) -> Result<Journal, JournalFail>
     requires { length text.now < 4294967295 }
     // What is read is what the text says, and the failure is the text's, unless memory runs out.
-    ensures journal { IfOk result (λ j. spec.IsJournal text.now j × IsWellFormed j.system) }
-    ensures failure { spec.TellsIfFailed text.now result }
+    ensures told { spec.TellsText text.now result }
     ensures only { spec.TellsWhatIsThere text.now result }
     // The text of a journal that has a spelling is read as the journal.
     ensures back { (j : JournalOf) → IsSpelledJournal j → text.now ≡ spec.journal_text j → spec.ReadsJournal result (Ok j) }

@@ -36,10 +36,6 @@ pub on_some : {A P Q : Type 0} (o : Option A) → (P → Q) → OnSome o P → O
 on_some None f h = tt
 on_some (Some x) f h = f h
 
-pub any_some : {A P : Type 0} (o : Option A) → P → OnSome o P
-any_some None p = tt
-any_some (Some x) p = p
-
 pub if_some : {A : Type 0} (P Q : A → Type 0) (o : Option A) → ((x : A) → P x → Q x) → IfSome o P → IfSome o Q
 if_some P Q None f h = tt
 if_some P Q (Some x) f h = f x h

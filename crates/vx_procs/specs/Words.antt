@@ -1,5 +1,5 @@
 -- Words on one process: its declaration and image, its local statements, the ASTs that its frames leave.
-use Rattle.std.specs.Prelude.{ℕ, ◌+◌, ◌<◌, nat_le, List, [], ◌∷◌, ◌++◌, Bool, true, false, ◌&&◌, ◌==◌, not, if◌then◌else◌, Option, Some, None, is_some, option_map, length, slice_index_or, ⊤}
+use Rattle.std.specs.Prelude.{ℕ, ◌+◌, ◌<◌, nat_le, List, [], ◌∷◌, ◌++◌, Bool, true, false, ◌&&◌, ◌==◌, not, if◌then◌else◌, Option, Some, None, is_some, option_map, length, ⊤}
 use Rattle.std.specs.List.{list_any}
 use Rattle.vx_base.specs.Lists.{amend, less}
 use Rattle.vx_base.specs.Pieces.{Handler, Queued, Timer, Alarm, OfTimer, OfWake}
@@ -17,7 +17,6 @@ use Rattle.vx_image.specs.Storage.{Storage}
 use Rattle.vx_image.specs.declared.decl.ProcDecl.{ProcDecl}
 use Rattle.vx_image.specs.declared.image.Image.{Image}
 use Rattle.vx_image.specs.declared.stop.Stop.TheVariants as stop
-use Rattle.vx_image.specs.declared.system.System.{System}
 use Rattle.vx_record.specs.State.{Process, State, IsWithin, process_at, change, decl_of, image_of, top_mode}
 use Rattle.vx_record.specs.Control.{created, held_by_both}
 use Rattle.vx_base.specs.Modes.{outer}

@@ -51,8 +51,7 @@ impl<R: Routine> Core<R> {
     pub fn lease(&mut self, u: UnitNo) -> Option<UnitLease>
         requires { (unit_at self.old.state u).services < 4294967295 }
         ensures lease { IfSome result (IsLeaseOf self.old u) }
-        ensures out { OnSome result (self.new ≡ with_stand self.old u Out) }
-        ensures asked { OnSome result (IsSome (ending_for self.old u)) }
+        ensures out { OnSome result (IsSome (ending_for self.old u) × (self.new ≡ with_stand self.old u Out)) }
         ensures kept { IfNone result (self.new ≡ self.old) }
         ensures none { IfNone result (IsToLease self.old u → ⊥) }
     {

@@ -38,7 +38,6 @@ use Rattle.vx_base.specs.declared.request.Func.TheVariants.{ReadAttn, WrtAttn}
 use Rattle.vx_base.specs.declared.request.Msg.{Msg}
 use Rattle.vx_base.specs.declared.request.Req.{Req}
 use Rattle.vx_base.specs.declared.routine.Entry.{Entry}
-use Rattle.vx_base.specs.declared.routine.Entry.TheVariants as entry
 use Rattle.vx_record.proofs.Lists.{all_append, either}
 use Rattle.vx_record.specs.Asts.{changed_mode, cmexec, cmkrnl, dclast, declared_ast, is_inside, open_part}
 use Rattle.vx_record.specs.Cancel.{drop_attentions, is_attention_on, is_request_on, mark_part, cancel_channel, cancel_request, cancelled_request, drop_attention, withdraw, cancel, cancel_at, dassgn, dassgn_at}

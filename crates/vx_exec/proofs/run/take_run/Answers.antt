@@ -28,7 +28,7 @@ steps-preserved g c =
 
 pub returns-in_err-step-in-Some-pick-clause-err : goal.returns-in_err-step-in-Some-pick-clause-err
 returns-in_err-step-in-Some-pick-clause-err g c =
-    rw c.in_err-step-in-Some-pick.ensures.err (on_err_too {P = TakesSome c.args.exec.now c.steps.exec} c.from_residual.result (c.steps.recs, c.steps.invariant.takes))
+    rw c.in_err-step-in-Some-pick.ensures.err.1 (on_err_too {P = TakesSome c.args.exec.now c.steps.exec} c.from_residual.result (c.steps.recs, c.steps.invariant.takes))
 
 pub returns-in_err-push-in-Some-pick-clause-err : goal.returns-in_err-push-in-Some-pick-clause-err
 returns-in_err-push-in-Some-pick-clause-err g c =

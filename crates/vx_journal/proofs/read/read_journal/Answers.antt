@@ -4,8 +4,8 @@ use Rattle.vx_journal.proofs.RunBack.{run_back}
 use Rattle.vx_journal.proofs.Answered.{is_only, is_read, no_fault, script_faults, script_only}
 use Rattle.vx_journal.proofs.read.read_journal.Goals as goal
 
-pub returns-in-Ok-clause-journal : goal.returns-in-Ok-clause-journal
-returns-in-Ok-clause-journal c =
+pub returns-in-Ok-clause-told : goal.returns-in-Ok-clause-told
+returns-in-Ok-clause-told c =
     let part = ap (λ (n : ℕ). take n c.args.text.now) c.script_len-len.ensures.len in
     is_read c.args.text.now _ c.in-Ok.system c.read_behind.result part c.in-Ok.ensures.spelled.0 c.in-Ok.ensures.spelled.1 c.read_behind.ensures.read
 

@@ -1,5 +1,3 @@
-use Rattle.std.proofs.Common.{subst}
-use Rattle.vx_base.specs.declared.mode.Mode.{Mode}
 use Rattle.vx_record.specs.Rundown.{run_down}
 use Rattle.vx_procs.proofs.Rest.{answering_begun}
 use Rattle.vx_rundown.specs.Steps.{modes_from}

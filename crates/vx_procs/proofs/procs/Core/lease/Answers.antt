@@ -1,6 +1,6 @@
 use Rattle.std.proofs.Common.{◌<◌, arith, subst, sym}
 use Rattle.vx_base.specs.Pieces.{DeviceUnit}
-use Rattle.vx_procs.proofs.Leased.{any_some, busy_id, ending_made, held_asked_same, if_none, if_some, lease_of, not_to_lease, on_some, unit_stayed, unit_stood}
+use Rattle.vx_procs.proofs.Leased.{busy_id, ending_made, held_asked_same, if_none, if_some, lease_of, not_to_lease, on_some, unit_stayed, unit_stood}
 use Rattle.vx_procs.proofs.Requested.{seen_unit}
 use Rattle.vx_procs.specs.Leases.{IsLeaseOf}
 use Rattle.vx_procs.specs.Units.{IsTakenOf}
@@ -27,13 +27,9 @@ returns-in-Some-clause-lease g c =
 
 pub returns-in-Some-clause-out : goal.returns-in-Some-clause-out
 returns-in-Some-clause-out g c =
-    let busy = (busy_id c.self.inside c.args.u _ c.self.invariant c.in-Some.ensures).1 in
-    on_some c.lease.result (λ after. unit_stood c.self.inside c.args.self.now c.args.u c.index_mut.result.now c.lease.new.self Out c.self.view_is busy.within c.index_mut.ensures.value after) c.lease.ensures.out
-
-pub returns-in-Some-clause-asked : goal.returns-in-Some-clause-asked
-returns-in-Some-clause-asked g c =
     let busy = busy_id c.self.inside c.args.u _ c.self.invariant c.in-Some.ensures in
-    any_some c.lease.result (ending_made c.self.inside c.args.self.now c.args.u busy.0 c.self.view_is busy.1)
+    let asked = ending_made c.self.inside c.args.self.now c.args.u busy.0 c.self.view_is busy.1 in
+    on_some c.lease.result (λ after. (asked, unit_stood c.self.inside c.args.self.now c.args.u c.index_mut.result.now c.lease.new.self Out c.self.view_is busy.1.within c.index_mut.ensures.value after)) c.lease.ensures.out
 
 pub returns-in-Some-clause-kept : goal.returns-in-Some-clause-kept
 returns-in-Some-clause-kept g c = if_none c.lease.result (λ same. unit_stayed c.self.inside c.args.self.now c.args.u c.index_mut.result.now c.lease.new.self c.self.view_is c.index_mut.ensures.value same) c.lease.ensures.kept
