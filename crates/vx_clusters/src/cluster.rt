@@ -8,6 +8,14 @@ use std::marker::Model;
 use vx_base::{Duplicate, Name, NoMemory, Same};
 use vx_flags::Flags;
 
+/// The cluster that $ASCEFC asks for: its group and its name, and whether it is permanent if it is made.
+#[derive(Clone, Copy, Debug)]
+pub struct NewCluster {
+    pub group: u32,
+    pub name: Name,
+    pub permanent: bool,
+}
+
 /// A common event flag cluster, which contracts see as the plain `Cluster` of `vx_base`.
 #[derive(Drop)]
 pub(crate) struct FlagCluster {
@@ -28,13 +36,13 @@ impl Model for FlagCluster {
 
 impl FlagCluster {
     /// All flags clear.
-    pub(crate) fn new(group: u32, name: Name, permanent: bool) -> FlagCluster
-        ensures { result ≡ record { group = group; name = name; permanent = permanent; marked = false; flags = 0 } }
+    pub(crate) fn new(ask: NewCluster) -> FlagCluster
+        ensures { result ≡ record { group = ask.group; name = ask.name; permanent = ask.permanent; marked = false; flags = 0 } }
     {
         FlagCluster {
-            group,
-            name,
-            permanent,
+            group: ask.group,
+            name: ask.name,
+            permanent: ask.permanent,
             marked: false,
             flags: Flags::new(),
         }

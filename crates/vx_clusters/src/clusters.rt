@@ -10,6 +10,7 @@ ghost use Rattle.vx_clusters.specs.Clusters.{Does, associate, dissociate, mark};
 ghost use Rattle.vx_clusters.specs.Clusters.{none, is_common, resolved, cluster_at, with_flag_at};
 ghost use Rattle.vx_clusters.specs.Sound.{IsSound};
 
+use crate::cluster::NewCluster;
 use crate::fail::AscFail;
 use crate::snapshot::ClustersSnapshot;
 use crate::table::Table;
@@ -65,30 +66,29 @@ impl Clusters {
         })
     }
 
-    /// A process has the cluster of its group and this name as the cluster of a flag from 64 to 127, in place of what it
-    /// had there; the cluster is made where it is new ($ASCEFC). `may` is the privilege PRMCEB. IllEfc where the flag is
+    /// A process has the cluster that it asks for as the cluster of a flag from 64 to 127, in place of what it had there;
+    /// the cluster is made where it is new ($ASCEFC). `may` is the privilege PRMCEB. IllEfc where the flag is
     /// not from 64 to 127; NoPriv where a permanent cluster would be made without the privilege. Takes no memory.
     pub fn associate(
         &mut self,
         p: Pid,
-        group: u32,
         efn: u32,
-        name: Name,
-        perm: bool,
+        ask: NewCluster,
         may: bool,
         log: &mut Effects,
     ) -> Result<(), AscFail>
         requires cluster_room { length self.old.common.clusters < self.old.cluster_capacity }
         requires association_room { length self.old.common.associations < self.old.association_capacity }
-        requires log { HasRoom log.old (length (associate self.old.common p group efn name perm may).effects) }
-        ensures answer { result ≡ answer (associate_refusal self.old.common group efn name perm may) }
-        ensures does { Does (associate self.old.common p group efn name perm may) self.old self.new log.old log.new }
+        requires log { HasRoom log.old (length (associate self.old.common p ask.group efn ask.name ask.permanent may).effects) }
+        ensures answer { result ≡ answer (associate_refusal self.old.common ask.group efn ask.name ask.permanent may) }
+        ensures does { Does (associate self.old.common p ask.group efn ask.name ask.permanent may) self.old self.new log.old log.new }
     {
         let k = cluster_number(efn).ok_or(AscFail::IllEfc)?;
-        if perm && !may && !self.table.stands(group, name) {
+        let (group, name, permanent) = (ask.group, ask.name, ask.permanent);
+        if permanent && !may && !self.table.stands(group, name) {
             return Err(AscFail::NoPriv);
         }
-        self.table.associate(p, k, group, name, perm, log);
+        self.table.associate(p, k, ask, log);
         Ok(())
     }
 

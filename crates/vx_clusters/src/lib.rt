@@ -14,6 +14,7 @@ mod fail;
 mod snapshot;
 mod table;
 
+pub use cluster::NewCluster;
 pub use clusters::Clusters;
 pub use fail::AscFail;
 pub use snapshot::ClustersSnapshot;

@@ -13,7 +13,7 @@ ghost use Rattle.vx_base.specs.Roomy.{with_items};
 ghost use Rattle.vx_clusters.specs.Clusters.{Does, none, with_clusters, cluster_at, with_flag_at};
 
 use crate::association::Association;
-use crate::cluster::FlagCluster;
+use crate::cluster::{FlagCluster, NewCluster};
 use crate::snapshot::TableSnapshot;
 use std::alloc::Global;
 use std::marker::Model;
@@ -199,15 +199,16 @@ impl Table {
     }
 
     /// A cluster is made where it does not stand.
-    fn make_where_new(&mut self, group: u32, name: Name, permanent: bool, log: &mut Effects)
+    fn make_where_new(&mut self, ask: NewCluster, log: &mut Effects)
         requires room { length self.old.common.clusters < self.old.cluster_capacity }
-        requires log { HasRoom log.old (length (made_where_new self.old.common group name permanent).effects) }
-        ensures { Does (made_where_new self.old.common group name permanent) self.old self.new log.old log.new }
+        requires log { HasRoom log.old (length (made_where_new self.old.common ask.group ask.name ask.permanent).effects) }
+        ensures { Does (made_where_new self.old.common ask.group ask.name ask.permanent) self.old self.new log.old log.new }
     {
+        let (group, name) = (ask.group, ask.name);
         if self.stands(group, name) {
             return;
         }
-        self.clusters.put(FlagCluster::new(group, name, permanent));
+        self.clusters.put(FlagCluster::new(ask));
         log.add(Effect::Cef {
             group,
             name,
@@ -240,25 +241,18 @@ impl Table {
     }
 
     /// A process has a cluster as its cluster k, in place of what it had there.
-    pub(crate) fn associate(
-        &mut self,
-        p: Pid,
-        k: u32,
-        group: u32,
-        name: Name,
-        permanent: bool,
-        log: &mut Effects,
-    )
+    pub(crate) fn associate(&mut self, p: Pid, k: u32, ask: NewCluster, log: &mut Effects)
         requires cluster_room { length self.old.common.clusters < self.old.cluster_capacity }
         requires association_room { length self.old.common.associations < self.old.association_capacity }
-        requires log { HasRoom log.old (length (associated self.old.common p k group name permanent).effects) }
-        ensures { Does (associated self.old.common p k group name permanent) self.old self.new log.old log.new }
+        requires log { HasRoom log.old (length (associated self.old.common p k ask.group ask.name ask.permanent).effects) }
+        ensures { Does (associated self.old.common p k ask.group ask.name ask.permanent) self.old self.new log.old log.new }
     {
+        let (group, name) = (ask.group, ask.name);
         if self.has_already(p, k, group, name) {
             return;
         }
         self.dissociate(p, k, log);
-        self.make_where_new(group, name, permanent, log);
+        self.make_where_new(ask, log);
         self.join(p, k, group, name, log);
     }
 

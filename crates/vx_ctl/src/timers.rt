@@ -13,7 +13,7 @@ use crate::flags::put_cell;
 use crate::refused::Refused;
 use vx_base::{Cond, Effect, Mode, Opened, Pid, Routine, outer_of};
 use vx_procs::{Core, drop_timers, timer_need};
-use vx_timers::Which;
+use vx_timers::{What, Which};
 
 /// The mode of an AST, if there is one.
 pub fn mode_of_ast<R: Routine>(mode: Mode, routine: &Option<R>) -> Option<Mode>
@@ -52,7 +52,13 @@ fn open_timer<R: Routine>(
         mode: mode_of_ast(mode, &routine),
         n: 0,
     });
-    core.add_timer(p, id, delta, efn, reqid, mode, routine);
+    let what = What::Timer {
+        efn,
+        reqid,
+        mode,
+        routine,
+    };
+    core.add_timer(p, id, delta, what);
 }
 
 /// $SETIMR: clears an event flag, and sets a timer so many ticks ahead, with an AST or without: ILLEFC and UNASEFC as $CLREF

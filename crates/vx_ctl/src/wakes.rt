@@ -9,7 +9,7 @@ ghost use Rattle.vx_procs.specs.Ready.{IsReady};
 use crate::control::process_test;
 use vx_base::{Cond, Effect, Opened, Pid, Routine};
 use vx_procs::{Core, ast_need, drop_timers};
-use vx_timers::Which;
+use vx_timers::{What, Which};
 
 // $SCHDWK, where the process test is passed.
 fn schedule<R: Routine>(core: &mut Core<R>, p: Pid, q: Pid, delta: u32, repeat: u32) -> Cond
@@ -29,7 +29,7 @@ fn schedule<R: Routine>(core: &mut Core<R>, p: Pid, q: Pid, delta: u32, repeat: 
         mode: None,
         n: repeat,
     });
-    core.add_wake(p, id, delta, q, repeat);
+    core.add_timer(p, id, delta, What::Wake { target: q, repeat });
     Cond::Normal
 }
 

@@ -17,6 +17,7 @@ ghost use Rattle.vx_io.specs.Boxes.{attend_by, fire_found, is_answered};
 use crate::asking::Asking;
 use crate::finish::{fill_status, set_flag};
 use vx_base::{BoxNo, Cond, Effect, Func, Id, Opened, Pid, Routine};
+use vx_mailbox::AttentionEntry;
 use vx_procs::Core;
 
 fn tell_fired<R: Routine>(core: &mut Core<R>, id: Id)
@@ -91,7 +92,7 @@ fn open<R: Routine>(core: &mut Core<R>, p: Pid, ask: &Asking, b: BoxNo, routine:
         mode: Some(mode),
         n: 0,
     });
-    core.add_attention(id, p, ask.chan, b, ask.func, mode, routine);
+    core.add_attention(AttentionEntry::new(id, p, ask.chan, b, ask.func, mode, routine));
     id
 }
 

@@ -28,7 +28,8 @@ impl<R: Routine> Model for AttentionEntry<R> {
 }
 
 impl<R: Routine> AttentionEntry<R> {
-    pub(crate) fn new(
+    /// The entry of a process on its channel to a mailbox: by which function it asks, and the mode and the routine of its AST.
+    pub fn new(
         id: Id,
         p: Pid,
         chan: u32,

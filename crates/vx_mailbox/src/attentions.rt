@@ -9,7 +9,7 @@ ghost use Rattle.vx_record.specs.Mailboxes.{is_attention_at, this_attention};
 use crate::attention::AttentionEntry;
 use std::alloc::Global;
 use std::marker::Model;
-use vx_base::{BoxNo, Func, Id, Mode, NoMemory, Pid, Reserved, Routine, at_place};
+use vx_base::{BoxNo, Func, Id, NoMemory, Pid, Reserved, Routine, at_place};
 use vx_same::{ReservedSnapshot, same_items};
 
 /// The attention entries of all processes, in the order that they were added in.
@@ -120,12 +120,11 @@ impl<R: Routine> Attentions<R> {
     }
 
     /// Adds an entry behind the others. Takes no memory.
-    pub fn add(&mut self, id: Id, p: Pid, chan: u32, b: BoxNo, func: Func, mode: Mode, routine: R)
+    pub fn add(&mut self, entry: AttentionEntry<R>)
         requires { length self.old.items < self.old.capacity }
-        ensures { self.new ≡ record self.old { items = self.old.items ++ record { id = id; p = p; chan = chan; box = b; func = func; mode = mode; tag = R.tagged routine } ∷ [] } }
+        ensures { self.new ≡ record self.old { items = self.old.items ++ entry ∷ [] } }
     {
-        self.entries
-            .put(AttentionEntry::new(id, p, chan, b, func, mode, routine));
+        self.entries.put(entry);
     }
 
     /// The first entry that asks at a mailbox by a function. None exactly where there is none.

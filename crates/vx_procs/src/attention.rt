@@ -13,7 +13,8 @@ ghost use Rattle.vx_procs.specs.Ready.{HasSpares};
 
 use crate::process::ast_need;
 use crate::procs::Core;
-use vx_base::{BoxNo, Func, Id, Mode, Pid, Routine};
+use vx_base::{BoxNo, Func, Id, Pid, Routine};
+use vx_mailbox::AttentionEntry;
 
 impl<R: Routine> Core<R> {
     /// How many attention entries there are.
@@ -38,24 +39,16 @@ impl<R: Routine> Core<R> {
     }
 
     /// Opens an attention entry ($QIO) with a place for its AST, and charges its process an AST. Takes no memory.
-    pub fn add_attention(
-        &mut self,
-        id: Id,
-        p: Pid,
-        chan: u32,
-        b: BoxNo,
-        func: Func,
-        mode: Mode,
-        routine: R,
-    )
-        requires made { IsProcess self.old.state p }
+    pub fn add_attention(&mut self, entry: AttentionEntry<R>)
+        requires made { IsProcess self.old.state entry.p }
         requires spares { HasSpares self.old }
         requires room { length self.old.state.attention + 1 ≤ self.old.attention }
-        requires within { exceeds self.old.state p (ast_need true) ≡ false }
-        ensures { self.new ≡ with_state self.old (with_attention self.old.state (record { id = id; p = p; chan = chan; box = b; func = func; mode = mode; tag = R.tagged routine })) }
+        requires within { exceeds self.old.state entry.p (ast_need true) ≡ false }
+        ensures { self.new ≡ with_state self.old (with_attention self.old.state entry) }
     {
+        let p = entry.p();
         self.procs.at_mut(p).charge(ast_need(true));
-        self.attention.add(id, p, chan, b, func, mode, routine);
+        self.attention.add(entry);
         self.short = Some(p);
     }
 

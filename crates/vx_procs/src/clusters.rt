@@ -12,7 +12,7 @@ ghost use Rattle.vx_procs.specs.Kernel.{Acts, Fits, changed, with_state};
 
 use crate::procs::Core;
 use vx_base::{Cell, Name, Pid, Routine};
-use vx_clusters::{AscFail, Clusters};
+use vx_clusters::{AscFail, Clusters, NewCluster};
 
 // The place of an event flag among the 32 of its cluster.
 fn place_in(cell: &Cell) -> u32
@@ -144,8 +144,12 @@ impl<R: Routine> Core<R> {
         ensures acts { Acts (association_part self.old.state p efn name permanent) self.old self.new }
     {
         let (group, may) = (self.group(p), self.privs(p).prmceb);
-        self.clusters
-            .associate(p, group, efn, name, permanent, may, &mut self.log)
+        let ask = NewCluster {
+            group,
+            name,
+            permanent,
+        };
+        self.clusters.associate(p, efn, ask, may, &mut self.log)
     }
 
     /// A process has no cluster any more as the cluster of a flag from 64 to 127 ($DACEFC). Takes no memory.

@@ -8,9 +8,9 @@ ghost use Rattle.vx_record.specs.State.{IsProcess};
 ghost use Rattle.vx_record.specs.Charges.{ast_need, exceeds, timer_need};
 ghost use Rattle.vx_record.specs.Sound.{AreOrdered, timer_id};
 ghost use Rattle.vx_record.specs.Timers.{at_time, drop_timers, is_due, next_time, with_timer};
-ghost use Rattle.vx_timers.specs.Seen.{passes};
+ghost use Rattle.vx_timers.specs.Seen.{alarm_of, passes};
 ghost use Rattle.vx_procs.specs.Kernel.{Acts, Fits, with_state};
-ghost use Rattle.vx_procs.specs.Held.{IsOwn};
+ghost use Rattle.vx_procs.specs.Held.{IsOwn, IsTargetMade};
 ghost use Rattle.vx_procs.specs.Ready.{HasSpares, IsMoment};
 ghost use Rattle.vx_procs.specs.Words.{alarm_need, due_entry, fired_ast, IsWoken, moved_on, put_off_first, without_timer};
 
@@ -61,47 +61,19 @@ impl<R: Routine> Core<R> {
         self.short = Some(p);
     }
 
-    /// Sets a timer so many ticks ahead ($SETIMR) with a place for its AST, and charges its process. Takes no memory.
-    pub fn add_timer(
-        &mut self,
-        p: Pid,
-        id: Id,
-        delta: u32,
-        efn: u32,
-        reqid: u32,
-        mode: Mode,
-        routine: Option<R>,
-    )
+    /// Sets a timer ($SETIMR) or schedules a wake ($SCHDWK) so many ticks ahead, with a place for its AST, and charges the process
+    /// that asks for it. Takes no memory.
+    pub fn add_timer(&mut self, p: Pid, id: Id, delta: u32, what: What<R>)
         requires made { IsProcess self.old.state p }
+        requires target { IsTargetMade (length self.old.state.procs) (alarm_of R.tagged what) }
         requires time { self.old.state.time < 2 ^ 63 }
         requires spares { HasSpares self.old }
         requires room { length self.old.state.timers + 1 ≤ self.old.timers }
-        requires within { exceeds self.old.state p (timer_need (is_some routine)) ≡ false }
-        ensures { self.new ≡ with_state self.old (with_timer self.old.state (record { id = id; p = p; due = self.old.state.time + delta; what = OfTimer efn reqid mode (option_map R.tagged routine) })) }
+        requires within { exceeds self.old.state p (alarm_need (alarm_of R.tagged what)) ≡ false }
+        ensures { self.new ≡ with_state self.old (with_timer self.old.state (record { id = id; p = p; due = self.old.state.time + delta; what = alarm_of R.tagged what })) }
     {
-        let what = What::Timer {
-            efn,
-            reqid,
-            mode,
-            routine,
-        };
         let due = self.time() + delta as u64;
         self.add(Due::new(id, p, due, what));
-    }
-
-    /// Schedules a wake of a process so many ticks ahead ($SCHDWK), and again after so many where these are not 0, and charges the
-    /// process that asks for it. Takes no memory.
-    pub fn add_wake(&mut self, p: Pid, id: Id, delta: u32, target: Pid, repeat: u32)
-        requires made { IsProcess self.old.state p }
-        requires target { IsProcess self.old.state target }
-        requires time { self.old.state.time < 2 ^ 63 }
-        requires spares { HasSpares self.old }
-        requires room { length self.old.state.timers + 1 ≤ self.old.timers }
-        requires within { exceeds self.old.state p (ast_need true) ≡ false }
-        ensures { self.new ≡ with_state self.old (with_timer self.old.state (record { id = id; p = p; due = self.old.state.time + delta; what = OfWake target repeat })) }
-    {
-        let due = self.time() + delta as u64;
-        self.add(Due::new(id, p, due, What::Wake { target, repeat }));
     }
 
     /// The first entry that is due by then: its id, its process, and what it does.

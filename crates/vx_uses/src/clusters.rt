@@ -2,7 +2,7 @@
 
 use std::test::*;
 use vx_base::{Effects, Name, NoMemory, Pid};
-use vx_clusters::Clusters;
+use vx_clusters::{Clusters, NewCluster};
 
 // A process of group 9 associates the cluster C for flags 64 to 95.
 #[tactic(auto, using(vx_clusters::proofs::Few::associate_few))]
@@ -14,7 +14,12 @@ fn associate(
 ) -> Result<bool, NoMemory> {
     clusters.reserve()?;
     log.reserve(4)?;
-    Ok(clusters.associate(p, 9, 64, name, false, true, log).is_ok())
+    let ask = NewCluster {
+        group: 9,
+        name,
+        permanent: false,
+    };
+    Ok(clusters.associate(p, 64, ask, true, log).is_ok())
 }
 
 #[test]

@@ -2,7 +2,7 @@
 
 use std::test::*;
 use vx_base::{Body, BoxNo, Entry, Func, Id, Mode, Msg, Name, Pid, Routine, Scripted};
-use vx_mailbox::{Attentions, Boxes};
+use vx_mailbox::{AttentionEntry, Attentions, Boxes};
 
 #[test]
 fn a_message_is_stored_and_taken(rt: HostRuntime) -> Result<(), Fail> {
@@ -34,7 +34,7 @@ fn an_entry_is_found_and_taken(rt: HostRuntime) -> Result<(), Fail> {
     let mut attention: Attentions<Scripted> = Attentions::new(rt.alloc());
     attention.reserve().ok().ok_or("memory")?;
     let routine = Scripted::scripted(Entry::Label(0, 1));
-    attention.add(
+    attention.add(AttentionEntry::new(
         Id(1),
         Pid(1),
         2,
@@ -42,7 +42,7 @@ fn an_entry_is_found_and_taken(rt: HostRuntime) -> Result<(), Fail> {
         Func::WrtAttn,
         Mode::User,
         routine,
-    );
+    ));
     let id = attention
         .first_at(BoxNo(0), Func::WrtAttn)
         .ok_or("an entry")?;

@@ -1,13 +1,12 @@
 -- The places of a list are read if each of its parts is a place.
-use Rattle.std.proofs.Common.{◌≡◌, ℕ, List, [], ◌∷◌, Bool, true, false, ◌&&◌, if◌then◌else◌, Option, Some, None, Result, Ok, Err, map, option_map, refl, sym, ap, ◌∙◌}
+use Rattle.std.proofs.Common.{◌≡◌, ℕ, List, [], ◌∷◌, Bool, true, false, ◌&&◌, if◌then◌else◌, Option, Some, None, Result, Ok, Err, map, option_map, unwrap_or, refl, sym, ap, ◌∙◌}
 use Rattle.std.specs.List.{list_all, slice_split}
 use Rattle.std.specs.Option.{IsSome, is_some}
 use Rattle.std.specs.Result.{IfErr}
 use Rattle.vx_words.specs.Listing.{is_place, place_of}
 use Rattle.vx_words.specs.Places.{all_of, is_comma, place_in, places_in}
-use Rattle.vx_words.specs.Words.{or}
 
-one_more : (o : Option ℕ) (ns : List (Option ℕ)) (there : Bool) (ms : List ℕ) → all_of ns ≡ (if there then Some ms else None) → all_of (o ∷ ns) ≡ (if is_some o && there then Some (or 0 o ∷ ms) else None)
+one_more : (o : Option ℕ) (ns : List (Option ℕ)) (there : Bool) (ms : List ℕ) → all_of ns ≡ (if there then Some ms else None) → all_of (o ∷ ns) ≡ (if is_some o && there then Some (unwrap_or o 0 ∷ ms) else None)
 one_more None ns there ms h = refl
 one_more (Some n) ns true ms h = ap (option_map (λ ks. n ∷ ks)) h
 one_more (Some n) ns false ms h = ap (option_map (λ ks. n ∷ ks)) h

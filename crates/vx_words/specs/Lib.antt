@@ -1,4 +1,5 @@
 pub mod Words
+pub mod Options
 pub mod Places
 pub mod Listing
 pub mod Crew

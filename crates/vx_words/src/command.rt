@@ -1,14 +1,14 @@
 //! What the words ask for.
 
 ghost use Rattle.std.specs.Prelude.{◌≡◌, ◌≤◌, IfErr, IfOk, IfSome, IsSome};
-ghost use Rattle.vx_lines.specs.Numbers as numbers;
+ghost use Rattle.vx_words.specs.Options.{IsIn};
 ghost use Rattle.vx_words.specs.Words as spec;
 
+use crate::options::{Numbered, number_in, numbers_in};
 use crate::picks::{Picks, picks_in};
 use crate::scope::{Scope, scope_in};
 use std::alloc::Global;
 use vx_base::{Bytes, NoMemory};
-use vx_lines::number_up_to;
 
 /// The options of `sim`: the seed of the schedule, and how many records a run may have, 1 to 100,000.
 #[derive(Clone, Copy)]
@@ -43,102 +43,43 @@ pub enum Report {
     Columns,
 }
 
-/// The options that the words name; None for one that they leave out.
-#[derive(Clone, Copy)]
-pub struct Given {
-    pub seed: Option<u64>,
-    pub limit: Option<u32>,
-}
-
-const NOTHING_GIVEN: Given = Given {
-    seed: None,
-    limit: None,
-};
-
 /// The most records that a run may have.
 const MOST_RECORDS: u64 = 100_000;
 
 /// The most producers that a generated system may have.
 const MOST_PRODUCERS: u64 = 200;
 
-fn with_seed(given: Given, word: &[u8]) -> Option<Given>
-    requires { spec.IsLimit given.limit }
-    ensures given { result ≡ spec.with_seed given word.now }
-    ensures limited { IfSome result (λ g. spec.IsLimit g.limit) }
-{
-    if given.seed.is_some() {
-        return None;
-    }
-    let seed = number_up_to(18_446_744_073_709_551_615, word)?;
-    Some(Given {
-        seed: Some(seed),
-        limit: given.limit,
-    })
-}
-
 /// How many records a run may have, if the word says it.
-pub fn limit_in(word: &[u8]) -> Option<u32>
+pub(crate) fn limit_in(word: &[u8]) -> Option<u32>
     ensures value { result ≡ spec.limit_in word.now }
     ensures above { IfSome result (λ n. 1 ≤ n) }
     ensures within { IfSome result (λ n. n ≤ 100000) }
 {
-    let n = number_up_to(MOST_RECORDS, word)?;
-    if n == 0 { None } else { Some(n as u32) }
+    let limit = number_in(1, MOST_RECORDS, word)?;
+    Some(limit as u32)
 }
 
-fn with_limit(given: Given, word: &[u8]) -> Option<Given>
-    ensures given { result ≡ spec.with_limit given word.now }
-    ensures limited { IfSome result (λ g. spec.IsLimit g.limit) }
+/// `--limit N`: how many records a run may have, and how many if it is not given.
+pub(crate) fn limit_option(usual: u64) -> Numbered<'static>
+    requires { IsIn 1 100000 usual }
+    ensures { result ≡ spec.limit_option usual }
 {
-    if given.limit.is_some() {
-        return None;
-    }
-    let limit = limit_in(word)?;
-    Some(Given {
-        seed: given.seed,
-        limit: Some(limit),
+    Numbered::new(b"--limit".as_slice(), 1, MOST_RECORDS, usual)
+}
+
+// The options of `sim`.
+fn options_in(words: &[Bytes]) -> Option<Options>
+    ensures options { result ≡ spec.options_in words.now }
+    ensures above { IfSome result (λ options. 1 ≤ options.limit) }
+    ensures within { IfSome result (λ options. options.limit ≤ 100000) }
+{
+    let seed = Numbered::new(b"--seed".as_slice(), 0, u64::MAX, 0);
+    let limit = limit_option(10_000);
+    let (seed, limit) = numbers_in(&seed, &limit, words)?;
+    Some(Options {
+        seed,
+        limit: limit as u32,
     })
-}
-
-fn with_option(given: Given, name: &[u8], word: &[u8]) -> Option<Given>
-    requires { spec.IsLimit given.limit }
-    ensures given { result ≡ spec.with_option given name.now word.now }
-    ensures limited { IfSome result (λ g. spec.IsLimit g.limit) }
-{
-    if name == b"--seed".as_slice() {
-        with_seed(given, word)
-    } else if name == b"--limit".as_slice() {
-        with_limit(given, word)
-    } else {
-        None
-    }
-}
-
-fn options_in(words: &[Bytes]) -> Option<Given>
-    ensures given { result ≡ spec.options_in words.now }
-    ensures limited { IfSome result (λ g. spec.IsLimit g.limit) }
-{
-    match words {
-        [] => Some(NOTHING_GIVEN),
-        [name, word] => with_option(NOTHING_GIVEN, name.as_slice(), word.as_slice()),
-        [first, word, second, other] => {
-            let given = with_option(NOTHING_GIVEN, first.as_slice(), word.as_slice())?;
-            with_option(given, second.as_slice(), other.as_slice())
-        }
-        _ => None,
-    }
-}
-
-fn options_of(given: Given) -> Options
-    requires { spec.IsLimit given.limit }
-    ensures options { result ≡ spec.options_of given }
-    ensures above { 1 ≤ result.limit }
-    ensures within { result.limit ≤ 100000 }
-{
-    Options {
-        seed: given.seed.unwrap_or(0),
-        limit: given.limit.unwrap_or(10_000),
-    }
 }
 
 fn report_in(words: &[Bytes]) -> Option<Report>
@@ -178,12 +119,12 @@ fn other_command(word: &[u8], rest: &[Bytes]) -> Option<Command>
 }
 
 fn size_in(word: &[u8]) -> Option<u32>
-    ensures value { result ≡ spec.above_zero (numbers.number_up_to 200 word.now) }
+    ensures value { result ≡ spec.size_in word.now }
     ensures above { IfSome result (λ n. 1 ≤ n) }
     ensures within { IfSome result (λ n. n ≤ 200) }
 {
-    let n = number_up_to(MOST_PRODUCERS, word)?;
-    if n == 0 { None } else { Some(n as u32) }
+    let size = number_in(1, MOST_PRODUCERS, word)?;
+    Some(size as u32)
 }
 
 // `sim` with the words behind it.
@@ -192,8 +133,8 @@ fn sim_in(alloc: Global, words: &[Bytes]) -> Result<Option<Command>, NoMemory>
     ensures limited { IfOk result (λ command. IfSome command spec.HasLimit) }
     ensures no_memory { IfErr result (λ e. IsSome (spec.sim_in words.now)) }
 {
-    if let Some(given) = options_in(words) {
-        return Ok(Some(Command::Sim(options_of(given))));
+    if let Some(options) = options_in(words) {
+        return Ok(Some(Command::Sim(options)));
     }
     match picks_in(alloc, words)? {
         Some(picks) => Ok(Some(Command::Follow(picks))),

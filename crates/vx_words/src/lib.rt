@@ -1,12 +1,13 @@
 //! What the words behind the program's name ask for.
 //!
 //! `command_of` reads the words of a command that reads its input, `size_of` those of `gen`, and `crew_of` those of `run`. Words that
-//! are none of these are no command's. The definitions that the contracts name stand in `specs/Words.antt`, `Places.antt` and
-//! `Crew.antt`.
+//! are none of these are no command's. The definitions that the contracts name stand in `specs/Words.antt`, `Options.antt`,
+//! `Places.antt` and `Crew.antt`.
 #![tactic(auto)]
 
 mod command;
 mod crew;
+mod options;
 mod picks;
 mod places;
 mod scope;
