@@ -25,7 +25,7 @@ fn tell_endings(alloc: Global, system: System, scope: Scope) -> Result<Output, N
 {
     let answer = endings(alloc, system, scope.limit, scope.states)?;
     let mut text = Bytes::new(alloc);
-    print_answer(alloc, &answer, scope.limit, scope.states, &mut text)?;
+    print_answer(&answer, scope.limit, scope.states, &mut text)?;
     match answer {
         Answer::Told(rows) => Ok(Output {
             status: Status::from(worst_end(rows.as_slice())),

@@ -31,7 +31,7 @@ pub fn verdict_line(alloc: Global, verdict: Verdict) -> Result<Bytes, NoMemory>
     text.push_all(b"check ")?;
     text.push_all(word)?;
     text.push_all(b" ")?;
-    print_num(alloc, &mut text, u64::from(n))?;
+    print_num(&mut text, u64::from(n))?;
     text.push_all(b"\n")?;
     Ok(text)
 }

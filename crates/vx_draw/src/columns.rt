@@ -131,7 +131,7 @@ fn print_number(alloc: Global, n: u64, out: &mut Bytes) -> Result<(), NoMemory>
     ensures { OnOk result (out.new ≡ out.old ++ spec.number_cell n) }
 {
     let mut digits = Bytes::new(alloc);
-    print_num(alloc, &mut digits, n)?;
+    print_num(&mut digits, n)?;
     out.push_all(digits.as_slice())?;
     out.push_all(behind(b"        ", digits.len()))
 }
@@ -150,7 +150,7 @@ fn print_cells(
     let mut cells = Bytes::new(alloc);
     cells.push_all(front(rule.text, indent))?;
     cells.push_all(mark)?;
-    print_deed(alloc, rec, &mut cells)?;
+    print_deed(rec, &mut cells)?;
     out.push_all(front(cells.as_slice(), rule.text.len() as u128 + 24))
 }
 

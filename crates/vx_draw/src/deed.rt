@@ -3,7 +3,6 @@
 ghost use Rattle.std.specs.Prelude.{◌≡◌, ◌++◌, OnOk};
 ghost use Rattle.vx_draw.specs.Columns.{deed_text, event_word};
 
-use std::alloc::Global;
 use vx_base::{Bytes, Event, NoMemory, Rec};
 use vx_lines::print_answer;
 
@@ -21,9 +20,9 @@ fn event_word(event: Event) -> &'static [u8]
 }
 
 /// Appends what a record did: its event, but for who acted, and its answer.
-pub fn print_deed(alloc: Global, rec: &Rec, out: &mut Bytes) -> Result<(), NoMemory>
+pub fn print_deed(rec: &Rec, out: &mut Bytes) -> Result<(), NoMemory>
     ensures { OnOk result (out.new ≡ out.old ++ deed_text rec.now) }
 {
     out.push_all(event_word(rec.event))?;
-    print_answer(alloc, &rec.answer, out)
+    print_answer(&rec.answer, out)
 }

@@ -69,7 +69,7 @@ pub fn process_heading(alloc: Global, n: u64, name: &Name) -> Result<Bytes, NoMe
     ensures { IfOk result (λ text. text ≡ decimal n ++ 32 ∷ name.now) }
 {
     let mut text = Bytes::new(alloc);
-    print_num(alloc, &mut text, n)?;
+    print_num(&mut text, n)?;
     text.push_all(b" ")?;
     text.push_all(name.text())?;
     Ok(text)

@@ -152,35 +152,35 @@ fn answer_mark(event: Event, answer: &Answer) -> Option<Mark>
     }
 }
 
-fn print_id(alloc: Global, id: Id, out: &mut Bytes) -> Result<(), NoMemory>
+fn print_id(id: Id, out: &mut Bytes) -> Result<(), NoMemory>
     ensures { OnOk result (out.new ≡ out.old ++ id_text id) }
 {
     out.push_all(b"#")?;
-    print_num(alloc, out, u64::from(id.0))
+    print_num(out, u64::from(id.0))
 }
 
-fn print_cell_label(alloc: Global, cell: &Cell, out: &mut Bytes) -> Result<(), NoMemory>
+fn print_cell_label(cell: &Cell, out: &mut Bytes) -> Result<(), NoMemory>
     ensures { OnOk result (out.new ≡ out.old ++ spec.cell_label cell.now) }
 {
     match cell {
-        Cell::Local(_, efn) => print_num(alloc, out, u64::from(*efn)),
+        Cell::Local(_, efn) => print_num(out, u64::from(*efn)),
         Cell::Common(_, name, n) => {
             out.push_all(name.text())?;
             out.push_all(b":")?;
-            print_num(alloc, out, u64::from(*n))
+            print_num(out, u64::from(*n))
         }
     }
 }
 
 // Appends what stands beside the mark of an effect.
-fn print_effect_label(alloc: Global, effect: &Effect, out: &mut Bytes) -> Result<(), NoMemory>
+fn print_effect_label(effect: &Effect, out: &mut Bytes) -> Result<(), NoMemory>
     ensures { OnOk result (out.new ≡ out.old ++ spec.effect_label effect.now) }
 {
     match effect {
-        Effect::Flag { cell, bit: _ } => print_cell_label(alloc, cell, out),
-        Effect::MPut { id, .. } => print_id(alloc, *id, out),
-        Effect::MGet { w, .. } => print_id(alloc, *w, out),
-        Effect::MCut { name: _, w } => print_id(alloc, *w, out),
+        Effect::Flag { cell, bit: _ } => print_cell_label(cell, out),
+        Effect::MPut { id, .. } => print_id(*id, out),
+        Effect::MGet { w, .. } => print_id(*w, out),
+        Effect::MCut { name: _, w } => print_id(*w, out),
         Effect::Cef { name, .. } => out.push_all(name.text()),
         _ => Ok(()),
     }
@@ -233,7 +233,7 @@ fn effect_label(alloc: Global, effect: &Effect) -> Result<Bytes, NoMemory>
     ensures { IfOk result (λ label. label ≡ spec.effect_label effect.now) }
 {
     let mut label = Bytes::new(alloc);
-    print_effect_label(alloc, effect, &mut label)?;
+    print_effect_label(effect, &mut label)?;
     Ok(label)
 }
 
@@ -291,7 +291,7 @@ fn print_reached(
         return Ok(());
     };
     let mut title = Bytes::new(alloc);
-    print_deed(alloc, rec, &mut title)?;
+    print_deed(rec, &mut title)?;
     print_mark(alloc, spot, mark, b"", title.as_slice(), out)
 }
 

@@ -279,7 +279,7 @@ fn wrong_text(alloc: Global, rec: &Rec) -> Result<Bytes, NoMemory>
 {
     let mut text = Bytes::new(alloc);
     text.push_all(b"?? ")?;
-    print_deed(alloc, rec, &mut text)?;
+    print_deed(rec, &mut text)?;
     Ok(text)
 }
 

@@ -43,7 +43,7 @@ fn said_text(alloc: Global, rec: &Rec) -> Result<Bytes, NoMemory>
 {
     let mut text = Bytes::new(alloc);
     text.push_all(if is_refused(&rec.answer) { b"! " } else { b"" })?;
-    print_deed(alloc, rec, &mut text)?;
+    print_deed(rec, &mut text)?;
     Ok(text)
 }
 
@@ -51,7 +51,7 @@ fn said_title(alloc: Global, rec: &Rec) -> Result<Bytes, NoMemory>
     ensures { IfOk result (λ title. title ≡ spec.said_title rec.now) }
 {
     let mut title = Bytes::new(alloc);
-    print_deed(alloc, rec, &mut title)?;
+    print_deed(rec, &mut title)?;
     title.push_all(b"\n")?;
     print_effects(alloc, rec.effects.as_slice(), &mut title)?;
     Ok(title)
@@ -94,7 +94,7 @@ pub fn print_number_label(alloc: Global, n: u64, out: &mut Bytes) -> Result<(), 
     ensures { OnOk result (out.new ≡ out.old ++ spec.number_label n) }
 {
     let mut digits = Bytes::new(alloc);
-    print_num(alloc, &mut digits, n)?;
+    print_num(&mut digits, n)?;
     let at = Point { x: 44, y: base(n) };
     print_label(alloc, b"n", at, digits.as_slice(), out)
 }

@@ -100,7 +100,7 @@ fn sender_name(alloc: Global, i: u32) -> Result<Name, NoMemory>
 {
     let mut text = Bytes::new(alloc);
     text.push_all(b"P")?;
-    print_num(alloc, &mut text, u64::from(i))?;
+    print_num(&mut text, u64::from(i))?;
     Ok(name(text.as_slice()))
 }
 

@@ -26,7 +26,6 @@ fn standing_word(standing: Standing) -> &'static [u8]
 
 /// Appends the line `PROCESS` of a process that stands so.
 pub fn print_standing(
-    alloc: Global,
     p: Pid,
     name: Name,
     standing: Standing,
@@ -36,10 +35,10 @@ pub fn print_standing(
     ensures { OnOk result (out.new ≡ out.old ++ (standing_line p.0 name standing code ++ 10 ∷ [])) }
 {
     out.push_all(b"PROCESS")?;
-    print_spaced_num(alloc, p.0, out)?;
+    print_spaced_num(p.0, out)?;
     print_spaced(name.text(), out)?;
     print_spaced(standing_word(standing), out)?;
-    print_spaced_num(alloc, code, out)?;
+    print_spaced_num(code, out)?;
     out.push_all(b"\n")
 }
 
@@ -71,11 +70,11 @@ pub fn print_output(
 }
 
 /// Appends the line `$END`.
-pub fn print_end(alloc: Global, end: End, taken: u32, out: &mut Bytes) -> Result<(), NoMemory>
+pub fn print_end(end: End, taken: u32, out: &mut Bytes) -> Result<(), NoMemory>
     ensures { OnOk result (out.new ≡ out.old ++ (end_line end taken ++ 10 ∷ [])) }
 {
     out.push_all(b"$END")?;
     print_spaced(end_word(end), out)?;
-    print_spaced_num(alloc, taken, out)?;
+    print_spaced_num(taken, out)?;
     out.push_all(b"\n")
 }

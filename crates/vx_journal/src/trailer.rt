@@ -125,12 +125,12 @@ fn print_line(
 {
     match line {
         TrailerLine::Process(p, name, standing, code) => {
-            print_standing(alloc, *p, *name, *standing, *code, out)
+            print_standing(*p, *name, *standing, *code, out)
         }
         TrailerLine::Output(unit, bytes) => {
             print_output(alloc, unit_name(units, *unit), bytes.as_slice(), out)
         }
-        TrailerLine::End(end, n) => print_end(alloc, *end, *n, out),
+        TrailerLine::End(end, n) => print_end(*end, *n, out),
     }
 }
 

@@ -19,64 +19,59 @@ pub fn print_spaced(text: &[u8], out: &mut Bytes) -> Result<(), NoMemory>
 }
 
 /// Appends a space and a number.
-pub fn print_spaced_num(alloc: Global, n: u32, out: &mut Bytes) -> Result<(), NoMemory>
+pub fn print_spaced_num(n: u32, out: &mut Bytes) -> Result<(), NoMemory>
     ensures { OnOk result (out.new ≡ out.old ++ 32 ∷ decimal n) }
 {
     out.push_all(b" ")?;
-    print_num(alloc, out, u64::from(n))
+    print_num(out, u64::from(n))
 }
 
 /// Appends an id.
-pub fn print_id(alloc: Global, id: Id, out: &mut Bytes) -> Result<(), NoMemory>
+pub fn print_id(id: Id, out: &mut Bytes) -> Result<(), NoMemory>
     ensures { OnOk result (out.new ≡ out.old ++ id_text id) }
 {
     out.push_all(b"#")?;
-    print_num(alloc, out, u64::from(id.0))
+    print_num(out, u64::from(id.0))
 }
 
 /// Appends a space and an id.
-pub fn print_spaced_id(alloc: Global, id: Id, out: &mut Bytes) -> Result<(), NoMemory>
+pub fn print_spaced_id(id: Id, out: &mut Bytes) -> Result<(), NoMemory>
     ensures { OnOk result (out.new ≡ out.old ++ 32 ∷ id_text id) }
 {
     out.push_all(b" ")?;
-    print_id(alloc, id, out)
+    print_id(id, out)
 }
 
 /// Appends a space, and 1 or 0.
-pub fn print_spaced_bit(alloc: Global, bit: bool, out: &mut Bytes) -> Result<(), NoMemory>
+pub fn print_spaced_bit(bit: bool, out: &mut Bytes) -> Result<(), NoMemory>
     ensures { OnOk result (out.new ≡ out.old ++ 32 ∷ bit_text bit) }
 {
-    print_spaced_num(alloc, u32::from(bit), out)
+    print_spaced_num(u32::from(bit), out)
 }
 
 /// Appends the group of a common cluster, a colon and its name.
-pub fn print_cluster(
-    alloc: Global,
-    group: u32,
-    name: &Name,
-    out: &mut Bytes,
-) -> Result<(), NoMemory>
+pub fn print_cluster(group: u32, name: &Name, out: &mut Bytes) -> Result<(), NoMemory>
     ensures { OnOk result (out.new ≡ out.old ++ cluster_text group name.now) }
 {
-    print_num(alloc, out, u64::from(group))?;
+    print_num(out, u64::from(group))?;
     out.push_all(b":")?;
     out.push_all(name.text())
 }
 
 /// Appends an event flag.
-pub fn print_cell(alloc: Global, cell: &Cell, out: &mut Bytes) -> Result<(), NoMemory>
+pub fn print_cell(cell: &Cell, out: &mut Bytes) -> Result<(), NoMemory>
     ensures { OnOk result (out.new ≡ out.old ++ cell_text cell.now) }
 {
     match cell {
         Cell::Local(p, efn) => {
-            print_num(alloc, out, u64::from(p.0))?;
+            print_num(out, u64::from(p.0))?;
             out.push_all(b":")?;
-            print_num(alloc, out, u64::from(*efn))
+            print_num(out, u64::from(*efn))
         }
         Cell::Common(group, name, n) => {
-            print_cluster(alloc, *group, name, out)?;
+            print_cluster(*group, name, out)?;
             out.push_all(b":")?;
-            print_num(alloc, out, u64::from(*n))
+            print_num(out, u64::from(*n))
         }
     }
 }
@@ -128,33 +123,29 @@ pub fn print_body(alloc: Global, body: &Body, out: &mut Bytes) -> Result<(), NoM
 }
 
 /// Appends a common cluster, or `-` for none.
-pub fn print_joined(
-    alloc: Global,
-    cluster: &Option<(u32, Name)>,
-    out: &mut Bytes,
-) -> Result<(), NoMemory>
+pub fn print_joined(cluster: &Option<(u32, Name)>, out: &mut Bytes) -> Result<(), NoMemory>
     ensures { OnOk result (out.new ≡ out.old ++ joined_text cluster.now) }
 {
     match cluster {
         None => out.push_all(b"-"),
-        Some((group, name)) => print_cluster(alloc, *group, name, out),
+        Some((group, name)) => print_cluster(*group, name, out),
     }
 }
 
 /// Appends what begins with an id: a word and the id.
-pub fn print_of_id(alloc: Global, word: &[u8], id: Id, out: &mut Bytes) -> Result<(), NoMemory>
+pub fn print_of_id(word: &[u8], id: Id, out: &mut Bytes) -> Result<(), NoMemory>
     ensures { OnOk result (out.new ≡ out.old ++ spaced (word.now ∷ id_text id ∷ [])) }
 {
     print_spaced(word, out)?;
-    print_spaced_id(alloc, id, out)
+    print_spaced_id(id, out)
 }
 
 /// Appends what begins with a process: a word and its number.
-pub fn print_of_pid(alloc: Global, word: &[u8], p: Pid, out: &mut Bytes) -> Result<(), NoMemory>
+pub fn print_of_pid(word: &[u8], p: Pid, out: &mut Bytes) -> Result<(), NoMemory>
     ensures { OnOk result (out.new ≡ out.old ++ spaced (word.now ∷ decimal p.0 ∷ [])) }
 {
     print_spaced(word, out)?;
-    print_spaced_num(alloc, p.0, out)
+    print_spaced_num(p.0, out)
 }
 
 /// Appends what begins with a name: a word and the name.

@@ -258,7 +258,7 @@ fn if_head(
     ensures { IfOk result (λ read. read ≡ spec.if_head units.now n line.now rec) }
 {
     let mut text = Bytes::new(alloc);
-    print_head(alloc, units, n, &rec, &mut text)?;
+    print_head(units, n, &rec, &mut text)?;
     if text.as_slice() == line {
         Ok(Some(rec))
     } else {

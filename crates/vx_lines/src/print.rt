@@ -11,7 +11,7 @@ use crate::effect_parts::{print_id, print_of_pid, print_spaced};
 use std::alloc::Global;
 use vx_base::{Answer, Bytes, Call, Event, NoMemory, Rec, UnitNo};
 use vx_image::UnitDecl;
-use vx_table::call_text;
+use vx_table::append_call;
 use vx_text::print_num;
 
 /// The name of a unit; empty if there is no such unit.
@@ -38,18 +38,13 @@ fn print_of_unit(
 }
 
 // Appends a space and an event; a unit's by its name.
-fn print_event(
-    alloc: Global,
-    units: &[UnitDecl],
-    event: Event,
-    out: &mut Bytes,
-) -> Result<(), NoMemory>
+fn print_event(units: &[UnitDecl], event: Event, out: &mut Bytes) -> Result<(), NoMemory>
     ensures { OnOk result (out.new ≡ out.old ++ 32 ∷ event_text units.now event) }
 {
     match event {
-        Event::Run(p) => print_of_pid(alloc, b"RUN", p, out),
-        Event::Ast(p) => print_of_pid(alloc, b"AST", p, out),
-        Event::Rdn(p) => print_of_pid(alloc, b"RDN", p, out),
+        Event::Run(p) => print_of_pid(b"RUN", p, out),
+        Event::Ast(p) => print_of_pid(b"AST", p, out),
+        Event::Rdn(p) => print_of_pid(b"RDN", p, out),
         Event::Beg(u) => print_of_unit(b"BEG", units, u, out),
         Event::Don(u) => print_of_unit(b"DON", units, u, out),
         Event::Tick => out.push_all(b" TICK"),
@@ -57,21 +52,20 @@ fn print_event(
 }
 
 // Appends a call, a space and a word.
-fn print_called(alloc: Global, call: &Call, word: &[u8], out: &mut Bytes) -> Result<(), NoMemory>
+fn print_called(call: &Call, word: &[u8], out: &mut Bytes) -> Result<(), NoMemory>
     ensures { OnOk result (out.new ≡ out.old ++ call_text call.now ++ 32 ∷ word.now) }
 {
-    let text = call_text(alloc, call)?;
-    out.push_all(text.as_slice())?;
+    append_call(call, out)?;
     print_spaced(word, out)
 }
 
 /// Appends an answer.
-pub fn print_answer(alloc: Global, answer: &Answer, out: &mut Bytes) -> Result<(), NoMemory>
+pub fn print_answer(answer: &Answer, out: &mut Bytes) -> Result<(), NoMemory>
     ensures { OnOk result (out.new ≡ out.old ++ answer_text answer.now) }
 {
     match answer {
-        Answer::Service(call, cond) => print_called(alloc, call, cond.name().as_bytes(), out),
-        Answer::Wait(call) => print_called(alloc, call, b"WAIT", out),
+        Answer::Service(call, cond) => print_called(call, cond.name().as_bytes(), out),
+        Answer::Wait(call) => print_called(call, b"WAIT", out),
         Answer::Resume(cond) => {
             out.push_all(b"RESUME")?;
             print_spaced(cond.name().as_bytes(), out)
@@ -82,25 +76,19 @@ pub fn print_answer(alloc: Global, answer: &Answer, out: &mut Bytes) -> Result<(
         Answer::Handler => out.push_all(b"HANDLER"),
         Answer::Busy => out.push_all(b"BUSY"),
         Answer::Gone => out.push_all(b"GONE"),
-        Answer::Ast(id) | Answer::Unit(id) => print_id(alloc, *id, out),
-        Answer::Time(ticks) => print_num(alloc, out, *ticks),
+        Answer::Ast(id) | Answer::Unit(id) => print_id(*id, out),
+        Answer::Time(ticks) => print_num(out, *ticks),
     }
 }
 
 /// Appends the head of record n, on its line.
-pub fn print_head(
-    alloc: Global,
-    units: &[UnitDecl],
-    n: u64,
-    rec: &Rec,
-    out: &mut Bytes,
-) -> Result<(), NoMemory>
+pub fn print_head(units: &[UnitDecl], n: u64, rec: &Rec, out: &mut Bytes) -> Result<(), NoMemory>
     ensures { OnOk result (out.new ≡ out.old ++ (head_line units.now n rec.now ++ 10 ∷ [])) }
 {
-    print_num(alloc, out, n)?;
-    print_event(alloc, units, rec.event, out)?;
+    print_num(out, n)?;
+    print_event(units, rec.event, out)?;
     out.push_all(b" ")?;
-    print_answer(alloc, &rec.answer, out)?;
+    print_answer(&rec.answer, out)?;
     out.push_all(b"\n")
 }
 
@@ -114,7 +102,7 @@ pub fn print_record(
 ) -> Result<(), NoMemory>
     ensures { OnOk result (out.new ≡ out.old ++ ended_lines (record_lines units.now n rec.now)) }
 {
-    print_head(alloc, units, n, rec, out)?;
+    print_head(units, n, rec, out)?;
     print_effects(alloc, rec.effects.as_slice(), out)
 }
 

@@ -20,11 +20,11 @@ fn image_name(images: &[Image], place: u32) -> &[u8]
 }
 
 /// Appends a key, and its number.
-fn print_key(alloc: Global, key: &[u8], n: u32, out: &mut Bytes) -> Result<(), NoMemory>
+fn print_key(key: &[u8], n: u32, out: &mut Bytes) -> Result<(), NoMemory>
     ensures { OnOk result (out.new ≡ out.old ++ key.now ++ decimal n) }
 {
     out.push_all(key)?;
-    print_num(alloc, out, u64::from(n))
+    print_num(out, u64::from(n))
 }
 
 /// Appends a privilege's name behind a plus, where it is held.
@@ -75,25 +75,25 @@ fn print_names(images: &[Image], decl: &ProcDecl, out: &mut Bytes) -> Result<(),
 
 /// Appends the keys of the identification code and the mode.
 #[tactic(auto, unfolding(crate::specs::Script::rights_keys))]
-fn print_rights(alloc: Global, decl: &ProcDecl, out: &mut Bytes) -> Result<(), NoMemory>
+fn print_rights(decl: &ProcDecl, out: &mut Bytes) -> Result<(), NoMemory>
     ensures { OnOk result (out.new ≡ out.old ++ rights_keys decl.now) }
 {
-    print_key(alloc, b" UIC=", decl.group, out)?;
-    print_key(alloc, b":", decl.member, out)?;
+    print_key(b" UIC=", decl.group, out)?;
+    print_key(b":", decl.member, out)?;
     out.push_all(b" MODE=")?;
     out.push_all(mode_name(decl.mode))
 }
 
 /// Appends the keys of the quota limits.
 #[tactic(auto, unfolding(crate::specs::Script::limits_keys))]
-fn print_limits(alloc: Global, limits: Need, out: &mut Bytes) -> Result<(), NoMemory>
+fn print_limits(limits: Need, out: &mut Bytes) -> Result<(), NoMemory>
     ensures { OnOk result (out.new ≡ out.old ++ limits_keys limits) }
 {
-    print_key(alloc, b" ASTLM=", limits.ast, out)?;
-    print_key(alloc, b" BIOLM=", limits.bio, out)?;
-    print_key(alloc, b" DIOLM=", limits.dio, out)?;
-    print_key(alloc, b" BYTLM=", limits.byt, out)?;
-    print_key(alloc, b" TQELM=", limits.tqe, out)
+    print_key(b" ASTLM=", limits.ast, out)?;
+    print_key(b" BIOLM=", limits.bio, out)?;
+    print_key(b" DIOLM=", limits.dio, out)?;
+    print_key(b" BYTLM=", limits.byt, out)?;
+    print_key(b" TQELM=", limits.tqe, out)
 }
 
 /// Appends the keys of the privileges and the start.
@@ -103,7 +103,7 @@ fn print_start(alloc: Global, decl: &ProcDecl, out: &mut Bytes) -> Result<(), No
 {
     out.push_all(b" PRIV=")?;
     print_privs(alloc, decl.privs, out)?;
-    print_key(alloc, b" START=", u32::from(decl.start), out)
+    print_key(b" START=", u32::from(decl.start), out)
 }
 
 /// Appends a process declaration's line, with all its keys.
@@ -117,8 +117,8 @@ pub fn print_process(
     ensures { OnOk result (out.new ≡ out.old ++ (decl_line images.now decl.now ++ 10 ∷ [])) }
 {
     print_names(images, decl, out)?;
-    print_rights(alloc, decl, out)?;
-    print_limits(alloc, decl.limits, out)?;
+    print_rights(decl, out)?;
+    print_limits(decl.limits, out)?;
     print_start(alloc, decl, out)?;
     out.push_all(b"\n")
 }

@@ -6,13 +6,13 @@ ghost use Rattle.vx_script.specs.Script.{spaced};
 ghost use Rattle.vx_script.specs.Statements.{rel_name, field_name};
 ghost use Rattle.vx_image.specs.Stmts.{meant};
 ghost use Rattle.vx_image.specs.declared.stmt.Stmt.TheVariants as stmt;
-ghost use Rattle.vx_table.specs.Spelling.{operand_text};
+ghost use Rattle.vx_table.specs.Spelling.{call_text, operand_text};
 
 use crate::print_word::{print_number, print_place, print_text, print_value, print_word};
 use std::alloc::Global;
-use vx_base::{Bytes, NoMemory, Operand, Target};
+use vx_base::{Bytes, Call, NoMemory, Operand, Target};
 use vx_image::{Field, Label, Rel, StmtRef};
-use vx_table::call_text;
+use vx_table::append_call;
 
 fn rel_name(rel: Rel) -> &'static [u8]
     ensures { result.now ≡ rel_name rel }
@@ -46,14 +46,14 @@ fn label_name(labels: &[Label], place: u32) -> &[u8]
 }
 
 // LET, a target, = and a value.
-fn print_let(alloc: Global, target: Target, value: Operand, out: &mut Bytes) -> Result<(), NoMemory>
+fn print_let(target: Target, value: Operand, out: &mut Bytes) -> Result<(), NoMemory>
     ensures { OnOk result (out.new ≡ out.old
         ++ spaced (spec.let_words target value)) }
 {
     print_word(b"LET", out)?;
     print_place(target, out)?;
     print_word(b"=", out)?;
-    print_value(alloc, value, out)
+    print_value(value, out)
 }
 
 // GOTO and a label.
@@ -66,7 +66,6 @@ fn print_goto(labels: &[Label], place: u32, out: &mut Bytes) -> Result<(), NoMem
 
 // LET, a target, =, a value, a sign and a value.
 fn print_sum(
-    alloc: Global,
     target: Target,
     x: Operand,
     sign: &[u8],
@@ -76,14 +75,13 @@ fn print_sum(
     ensures { OnOk result (out.new ≡ out.old
         ++ spaced (spec.let_words target x ++ sign.now ∷ operand_text y ∷ [])) }
 {
-    print_let(alloc, target, x, out)?;
+    print_let(target, x, out)?;
     print_word(sign, out)?;
-    print_value(alloc, y, out)
+    print_value(y, out)
 }
 
 // IF, two values with how they compare, GOTO and a label.
 fn print_if(
-    alloc: Global,
     labels: &[Label],
     x: Operand,
     rel: Rel,
@@ -94,9 +92,9 @@ fn print_if(
     ensures { OnOk result (out.new ≡ out.old ++ spaced (spec.stmt_words labels.now (stmt.If x rel y place))) }
 {
     print_word(b"IF", out)?;
-    print_value(alloc, x, out)?;
+    print_value(x, out)?;
     print_word(rel_name(rel), out)?;
-    print_value(alloc, y, out)?;
+    print_value(y, out)?;
     print_goto(labels, place, out)
 }
 
@@ -105,40 +103,36 @@ fn print_put(alloc: Global, buffer: u8, bytes: &[u8], out: &mut Bytes) -> Result
     ensures { OnOk result (out.new ≡ out.old ++ spaced (spec.stmt_words [] (stmt.Put buffer bytes.now))) }
 {
     print_word(b"PUT", out)?;
-    print_number(alloc, u32::from(buffer), out)?;
+    print_number(u32::from(buffer), out)?;
     print_text(alloc, bytes, out)
 }
 
 // BYTE, a target, a buffer and a value.
-fn print_byte(
-    alloc: Global,
-    target: Target,
-    buffer: u8,
-    x: Operand,
-    out: &mut Bytes,
-) -> Result<(), NoMemory>
+fn print_byte(target: Target, buffer: u8, x: Operand, out: &mut Bytes) -> Result<(), NoMemory>
     ensures { OnOk result (out.new ≡ out.old ++ spaced (spec.stmt_words [] (stmt.Byte target buffer x))) }
 {
     print_word(b"BYTE", out)?;
     print_place(target, out)?;
-    print_number(alloc, u32::from(buffer), out)?;
-    print_value(alloc, x, out)
+    print_number(u32::from(buffer), out)?;
+    print_value(x, out)
 }
 
 // IOSB, a target, the number of a status block and a field of it.
-fn print_iosb(
-    alloc: Global,
-    target: Target,
-    block: u8,
-    field: Field,
-    out: &mut Bytes,
-) -> Result<(), NoMemory>
+fn print_iosb(target: Target, block: u8, field: Field, out: &mut Bytes) -> Result<(), NoMemory>
     ensures { OnOk result (out.new ≡ out.old ++ spaced (spec.stmt_words [] (stmt.Iosb target block field))) }
 {
     print_word(b"IOSB", out)?;
     print_place(target, out)?;
-    print_number(alloc, u32::from(block), out)?;
+    print_number(u32::from(block), out)?;
     print_word(field_name(field), out)
+}
+
+// Appends a call behind a space.
+fn print_call(call: &Call, out: &mut Bytes) -> Result<(), NoMemory>
+    ensures { OnOk result (out.new ≡ out.old ++ 32 ∷ call_text call.now) }
+{
+    out.push_all(b" ")?;
+    append_call(call, out)
 }
 
 // The words of a statement, each behind a space.
@@ -151,16 +145,16 @@ fn print_words(
     ensures { OnOk result (out.new ≡ out.old ++ spaced (spec.stmt_words labels.now (meant stmt.now))) }
 {
     match stmt {
-        StmtRef::Let(t, x) => print_let(alloc, *t, *x, out),
-        StmtRef::Add(t, x, y) => print_sum(alloc, *t, *x, b"+", *y, out),
-        StmtRef::Sub(t, x, y) => print_sum(alloc, *t, *x, b"-", *y, out),
+        StmtRef::Let(t, x) => print_let(*t, *x, out),
+        StmtRef::Add(t, x, y) => print_sum(*t, *x, b"+", *y, out),
+        StmtRef::Sub(t, x, y) => print_sum(*t, *x, b"-", *y, out),
         StmtRef::Goto(k) => print_goto(labels, *k, out),
-        StmtRef::If(x, r, y, k) => print_if(alloc, labels, *x, *r, *y, *k, out),
+        StmtRef::If(x, r, y, k) => print_if(labels, *x, *r, *y, *k, out),
         StmtRef::Put(b, bytes) => print_put(alloc, *b, bytes, out),
-        StmtRef::Byte(t, b, x) => print_byte(alloc, *t, *b, *x, out),
-        StmtRef::Iosb(t, i, f) => print_iosb(alloc, *t, *i, *f, out),
+        StmtRef::Byte(t, b, x) => print_byte(*t, *b, *x, out),
+        StmtRef::Iosb(t, i, f) => print_iosb(*t, *i, *f, out),
         StmtRef::Return => print_word(b"RETURN", out),
-        StmtRef::Service(call) => print_word(call_text(alloc, &call.call())?.as_slice(), out),
+        StmtRef::Service(call) => print_call(&call.call(), out),
     }
 }
 

@@ -9,22 +9,22 @@ use std::alloc::Global;
 use vx_base::{Bytes, Name, NoMemory};
 use vx_image::UnitDecl;
 
-fn print_kind(alloc: Global, blocks: u32, out: &mut Bytes) -> Result<(), NoMemory>
+fn print_kind(blocks: u32, out: &mut Bytes) -> Result<(), NoMemory>
     ensures { OnOk result (out.new ≡ out.old ++ spaced (spec.kind_words blocks)) }
 {
     if blocks == 0 {
         return print_word(b"LINE", out);
     }
     print_word(b"BLOCK", out)?;
-    print_number(alloc, blocks, out)
+    print_number(blocks, out)
 }
 
-fn print_head(alloc: Global, unit: &UnitDecl, out: &mut Bytes) -> Result<(), NoMemory>
+fn print_head(unit: &UnitDecl, out: &mut Bytes) -> Result<(), NoMemory>
     ensures { OnOk result (out.new ≡ out.old ++ (spec.unit_line unit.now ++ 10 ∷ [])) }
 {
     out.push_all(b"UNIT")?;
     print_word(unit.name.text(), out)?;
-    print_kind(alloc, unit.blocks, out)?;
+    print_kind(unit.blocks, out)?;
     out.push_all(b"\n")
 }
 
@@ -51,20 +51,20 @@ fn print_inputs(
     Ok(())
 }
 
-fn print_fault(alloc: Global, name: &Name, n: u32, out: &mut Bytes) -> Result<(), NoMemory>
+fn print_fault(name: &Name, n: u32, out: &mut Bytes) -> Result<(), NoMemory>
     ensures { OnOk result (out.new ≡ out.old ++ (spec.fault_line name.now n ++ 10 ∷ [])) }
 {
     out.push_all(b"FAULT")?;
     print_word(name.text(), out)?;
-    print_number(alloc, n, out)?;
+    print_number(n, out)?;
     out.push_all(b"\n")
 }
 
-fn print_faults(alloc: Global, name: &Name, faults: &[u32], out: &mut Bytes) -> Result<(), NoMemory>
+fn print_faults(name: &Name, faults: &[u32], out: &mut Bytes) -> Result<(), NoMemory>
     ensures { OnOk result (out.new ≡ out.old ++ ended_lines (map (spec.fault_line name.now) faults.now)) }
 {
     for n in faults {
-        print_fault(alloc, name, *n, out)?;
+        print_fault(name, *n, out)?;
     }
     Ok(())
 }
@@ -73,7 +73,7 @@ fn print_faults(alloc: Global, name: &Name, faults: &[u32], out: &mut Bytes) -> 
 pub fn print_unit(alloc: Global, unit: &UnitDecl, out: &mut Bytes) -> Result<(), NoMemory>
     ensures { OnOk result (out.new ≡ out.old ++ ended_lines (spec.unit_lines unit.now)) }
 {
-    print_head(alloc, unit, out)?;
+    print_head(unit, out)?;
     print_inputs(alloc, &unit.name, unit.inputs.as_slice(), out)?;
-    print_faults(alloc, &unit.name, unit.faults.as_slice(), out)
+    print_faults(&unit.name, unit.faults.as_slice(), out)
 }

@@ -18,11 +18,11 @@ pub fn print_word(word: &[u8], out: &mut Bytes) -> Result<(), NoMemory>
 }
 
 /// Appends a number behind a space.
-pub fn print_number(alloc: Global, n: u32, out: &mut Bytes) -> Result<(), NoMemory>
+pub fn print_number(n: u32, out: &mut Bytes) -> Result<(), NoMemory>
     ensures { OnOk result (out.new ≡ out.old ++ 32 ∷ decimal n) }
 {
     out.push_all(b" ")?;
-    print_num(alloc, out, u64::from(n))
+    print_num(out, u64::from(n))
 }
 
 /// Appends a quoted text behind a space.
@@ -34,11 +34,11 @@ pub fn print_text(alloc: Global, bytes: &[u8], out: &mut Bytes) -> Result<(), No
 }
 
 /// Appends a value behind a space.
-pub fn print_value(alloc: Global, value: Operand, out: &mut Bytes) -> Result<(), NoMemory>
+pub fn print_value(value: Operand, out: &mut Bytes) -> Result<(), NoMemory>
     ensures { OnOk result (out.new ≡ out.old ++ 32 ∷ operand_text value) }
 {
     out.push_all(b" ")?;
-    print_operand(alloc, value, out)
+    print_operand(value, out)
 }
 
 /// Appends a target behind a space.

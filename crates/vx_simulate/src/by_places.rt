@@ -25,9 +25,9 @@ fn pick_line(alloc: Global, number: u32, count: u32) -> Result<Bytes, NoMemory>
 {
     let mut text = Bytes::new(alloc);
     text.push_all(b"vms: pick ")?;
-    print_num(alloc, &mut text, u64::from(number))?;
+    print_num(&mut text, u64::from(number))?;
     text.push_all(b" of ")?;
-    print_num(alloc, &mut text, u64::from(count))?;
+    print_num(&mut text, u64::from(count))?;
     text.push_all(b"\n")?;
     Ok(text)
 }

@@ -48,25 +48,25 @@ fn tally_run(exec: &mut Exec<Scripted>, seed: u64) -> Result<(Tally, End), NoMem
 }
 
 /// Appends a word and a number, on their line.
-fn print_count(alloc: Global, word: &[u8], n: u64, out: &mut Bytes) -> Result<(), NoMemory>
+fn print_count(word: &[u8], n: u64, out: &mut Bytes) -> Result<(), NoMemory>
     ensures { OnOk result (out.new ≡ out.old ++ (count_line word.now n ++ 10 ∷ [])) }
 {
     out.push_all(word)?;
     out.push_all(b" ")?;
-    print_num(alloc, out, n)?;
+    print_num(out, n)?;
     out.push_all(b"\n")
 }
 
 /// Appends the summary of a run.
-fn print_summary(alloc: Global, tally: &Tally, end: End, out: &mut Bytes) -> Result<(), NoMemory>
+fn print_summary(tally: &Tally, end: End, out: &mut Bytes) -> Result<(), NoMemory>
     ensures { OnOk result (out.new ≡ out.old ++ summary tally.now end) }
 {
-    print_count(alloc, b"records", u64::from(tally.records), out)?;
-    print_count(alloc, b"requests", u64::from(tally.requests), out)?;
-    print_count(alloc, b"finished", u64::from(tally.finished), out)?;
-    print_count(alloc, b"asts", u64::from(tally.asts), out)?;
-    print_count(alloc, b"time", tally.time, out)?;
-    print_end(alloc, end, tally.records, out)
+    print_count(b"records", u64::from(tally.records), out)?;
+    print_count(b"requests", u64::from(tally.requests), out)?;
+    print_count(b"finished", u64::from(tally.finished), out)?;
+    print_count(b"asts", u64::from(tally.asts), out)?;
+    print_count(b"time", tally.time, out)?;
+    print_end(end, tally.records, out)
 }
 
 /// Takes the run that the seed chooses: its summary, and how it ended.
@@ -81,7 +81,7 @@ fn sum_run(
 {
     let (tally, end) = tally_run(exec, options.seed)?;
     let mut text = Bytes::new(alloc);
-    print_summary(alloc, &tally, end, &mut text)?;
+    print_summary(&tally, end, &mut text)?;
     Ok((text, end))
 }
 

@@ -3,8 +3,8 @@
 //! The services are those of the "OpenVMS System Services Reference Manual". A row of the table has a service and its
 //! arguments in order: the kind of each, and what stands for it where it is left out, if it may be. `service_table`
 //! gives the table, `read_call` reads a call from the tokens of a line, and `print_call` writes one canonically, so
-//! that it reads back as the same call (`specs/Spelling.antt`, `specs/Reading.antt`). `call_text` gives the text of any
-//! call, and `mode_name`, `print_operand` and `print_target` spell its parts.
+//! that it reads back as the same call (`specs/Spelling.antt`, `specs/Reading.antt`). `append_call` writes any call, and
+//! `mode_name`, `print_operand` and `print_target` spell its parts.
 #![tactic(auto)]
 
 mod arg;
@@ -16,6 +16,6 @@ mod table;
 
 pub use arg::{mode_word, operand_of, target_word};
 pub use fail::CallFail;
-pub use print::{call_text, mode_name, print_operand, print_target};
+pub use print::{append_call, mode_name, print_operand, print_target};
 pub use table::{ServiceTable, service_table};
 pub use vx_base::Kind;

@@ -47,12 +47,12 @@ fn print_cond(cond: vx_base::Cond, out: &mut Bytes) -> Result<(), NoMemory>
 }
 
 /// Appends a value: a number in decimal, a condition, a variable's letter, or `R0`, `PID`, `PRM`.
-pub fn print_operand(alloc: Global, operand: Operand, out: &mut Bytes) -> Result<(), NoMemory>
+pub fn print_operand(operand: Operand, out: &mut Bytes) -> Result<(), NoMemory>
     ensures text { OnOk result (out.new ≡ out.old ++ spec.operand_text operand) }
     ensures held { IsHeldOperand operand }
 {
     match operand {
-        Operand::Num(n) => print_num(alloc, out, u64::from(n)),
+        Operand::Num(n) => print_num(out, u64::from(n)),
         Operand::Cond(cond) => print_cond(cond, out),
         Operand::Var(letter) => out.push_all(&[letter]),
         Operand::R0 => out.push_all(b"R0"),
@@ -83,12 +83,12 @@ fn print_label(label: Option<Name>, out: &mut Bytes) -> Result<(), NoMemory>
 }
 
 /// Appends an argument in the spelling of its kind, and nothing for one that is unused.
-fn print_arg(alloc: Global, arg: &Arg, out: &mut Bytes) -> Result<(), NoMemory>
+fn print_arg(arg: &Arg, out: &mut Bytes) -> Result<(), NoMemory>
     ensures text { OnOk result (out.new ≡ out.old ++ spec.arg_text arg.now) }
     ensures held { IsHeld arg.now }
 {
     match *arg {
-        Arg::Value(operand) => print_operand(alloc, operand, out),
+        Arg::Value(operand) => print_operand(operand, out),
         Arg::Target(target) => print_target(target, out),
         Arg::Mode(mode) => out.push_all(mode_name(mode)),
         Arg::Name(name) => out.push_all(name.text()),
@@ -106,7 +106,7 @@ fn is_unused(arg: &Arg) -> bool
 }
 
 /// Appends the arguments up to the first unused one, with a space before the first and a comma before each other.
-fn print_args(alloc: Global, args: &[Arg], out: &mut Bytes) -> Result<(), NoMemory>
+fn print_args(args: &[Arg], out: &mut Bytes) -> Result<(), NoMemory>
     ensures text { OnOk result (out.new ≡ out.old ++ spec.args_text 32 args.now) }
     ensures held { OnOk result (AreHeld args.now) }
 {
@@ -116,7 +116,7 @@ fn print_args(alloc: Global, args: &[Arg], out: &mut Bytes) -> Result<(), NoMemo
             return Ok(());
         }
         out.push_all(&[before])?;
-        print_arg(alloc, arg, out)?;
+        print_arg(arg, out)?;
         before = b',';
     }
     Ok(())
@@ -131,15 +131,23 @@ fn args_list(args: &Args) -> [Arg; 9]
     ]
 }
 
-/// The canonical text of a call: `$` and its service's name, and all its arguments behind a space, between commas.
-/// Takes memory, and refuses nothing else.
-pub fn call_text(alloc: Global, call: &Call) -> Result<Bytes, NoMemory>
+/// Appends the canonical text of a call: `$` and its service's name, and all its arguments behind a space, between commas. If
+/// memory runs out, it may have appended the start of it.
+pub fn append_call(call: &Call, out: &mut Bytes) -> Result<(), NoMemory>
+    ensures text { OnOk result (out.new ≡ out.old ++ spec.call_text call.now) }
+    ensures held { OnOk result (AreHeld (args_list call.now.args)) }
+{
+    out.push_all(b"$")?;
+    out.push_all(service_name(call.service).as_bytes())?;
+    print_args(&args_list(&call.args), out)
+}
+
+/// The canonical text of a call. Takes memory, and refuses nothing else.
+pub(crate) fn call_text(alloc: Global, call: &Call) -> Result<Bytes, NoMemory>
     ensures text { IfOk result (λ text. text ≡ spec.call_text call.now) }
     ensures held { OnOk result (AreHeld (args_list call.now.args)) }
 {
     let mut text = Bytes::new(alloc);
-    text.push_all(b"$")?;
-    text.push_all(service_name(call.service).as_bytes())?;
-    print_args(alloc, &args_list(&call.args), &mut text)?;
+    append_call(call, &mut text)?;
     Ok(text)
 }

@@ -35,7 +35,7 @@ pub fn fault_line(alloc: Global, fault: ScriptFault) -> Result<Bytes, NoMemory>
 {
     let mut text = Bytes::new(alloc);
     text.push_all(b"vms: line ")?;
-    print_num(alloc, &mut text, u64::from(fault.line))?;
+    print_num(&mut text, u64::from(fault.line))?;
     text.push_all(b" ")?;
     text.push_all(kind_word(fault.kind))?;
     text.push_all(b"\n")?;
@@ -48,7 +48,7 @@ pub fn form_line(alloc: Global, line: u32) -> Result<Bytes, NoMemory>
 {
     let mut text = Bytes::new(alloc);
     text.push_all(b"vms: line ")?;
-    print_num(alloc, &mut text, u64::from(line))?;
+    print_num(&mut text, u64::from(line))?;
     text.push_all(b" FORM\n")?;
     Ok(text)
 }

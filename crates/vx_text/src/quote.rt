@@ -5,16 +5,17 @@ ghost use Rattle.vx_text.specs.Quote as spec;
 
 use crate::bytes::is_plain;
 use crate::quoted::quoted_text;
+use itoa::Buffer;
 use std::alloc::Global;
 use vx_base::{Bytes, NoMemory};
 
 /// Appends a number in decimal, or changes nothing.
-pub fn print_num(alloc: Global, out: &mut Bytes, n: u64) -> Result<(), NoMemory>
+pub fn print_num(out: &mut Bytes, n: u64) -> Result<(), NoMemory>
     ensures ok { OnOk result (out.new ≡ out.old ++ decimal n) }
     ensures err { OnErr result (out.new ≡ out.old) }
 {
-    let digits = format!(in alloc; "{n}")?;
-    out.push_all(digits.as_bytes())
+    let mut digits = Buffer::new();
+    out.push_all(digits.format(n).as_bytes())
 }
 
 fn hex_digit(n: u8) -> u8

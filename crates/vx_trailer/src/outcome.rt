@@ -16,33 +16,23 @@ use vx_journal::{print_output, print_standing};
 use vx_lines::unit_name;
 
 // Appends the PROCESS line of p.
-fn print_process(
-    alloc: Global,
-    exec: &Exec<Scripted>,
-    p: Pid,
-    out: &mut Bytes,
-) -> Result<(), NoMemory>
+fn print_process(exec: &Exec<Scripted>, p: Pid, out: &mut Bytes) -> Result<(), NoMemory>
     requires { IsProcess exec.now.state p }
     ensures { OnOk result (out.new ≡ out.old
         ++ (process_line exec.now.state.system p.0 (process_at exec.now.state p) ++ 10 ∷ [])) }
 {
     let (name, standing, code) = exec.standing(p);
-    print_standing(alloc, p, name, standing, code, out)
+    print_standing(p, name, standing, code, out)
 }
 
 // Appends the PROCESS lines.
-fn print_processes(
-    alloc: Global,
-    exec: &Exec<Scripted>,
-    lead: &[u8],
-    out: &mut Bytes,
-) -> Result<(), NoMemory>
+fn print_processes(exec: &Exec<Scripted>, lead: &[u8], out: &mut Bytes) -> Result<(), NoMemory>
     ensures { OnOk result (out.new ≡ out.old
         ++ led_lines lead.now (process_lines exec.now.state.system 1 exec.now.state.procs)) }
 {
     for n in 0..exec.process_count() {
         out.push_all(lead)?;
-        print_process(alloc, exec, Pid(n + 1), out)?;
+        print_process(exec, Pid(n + 1), out)?;
     }
     Ok(())
 }
@@ -107,6 +97,6 @@ pub fn print_outcome(
 ) -> Result<(), NoMemory>
     ensures { OnOk result (out.new ≡ out.old ++ outcome_text lead.now exec.now.state) }
 {
-    print_processes(alloc, exec, lead, out)?;
+    print_processes(exec, lead, out)?;
     print_units(alloc, exec, lead, out)
 }

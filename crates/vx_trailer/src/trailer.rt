@@ -21,5 +21,5 @@ pub fn print_trailer(
         ++ ended_lines (trailer_lines exec.now.state end exec.now.taken)) }
 {
     print_outcome(alloc, exec, b"", out)?;
-    print_end(alloc, end, exec.taken(), out)
+    print_end(end, exec.taken(), out)
 }

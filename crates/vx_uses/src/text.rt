@@ -21,7 +21,7 @@ fn tokens_stand_at_their_places(rt: HostRuntime) -> Result<(), Fail> {
 #[test]
 fn numbers_and_quotes_have_one_spelling(rt: HostRuntime) -> Result<(), Fail> {
     let mut text = Bytes::new(rt.alloc());
-    print_num(rt.alloc(), &mut text, 18_446_744_073_709_551_615)
+    print_num(&mut text, 18_446_744_073_709_551_615)
         .ok()
         .ok_or("memory")?;
     print_quote(rt.alloc(), &mut text, b"A~ \"\\\n\xff")
