@@ -92,7 +92,6 @@ fn further_in(mode: Mode, other: Mode) -> Mode
 // Appends the bar of a frame on so many others.
 #[tactic(auto, unfolding(crate::specs::Frames::bar_on))]
 fn print_bar_on(
-    alloc: Global,
     x: u128,
     below: usize,
     bar: Bar,
@@ -102,7 +101,7 @@ fn print_bar_on(
     requires { x < 2 ^ 100 }
     ensures { OnOk result (out.new ≡ out.old ++ spec.bar_on x below bar until) }
 {
-    print_bar(alloc, bar_class(bar), lane(x, below), bar.since, until, out)
+    print_bar(bar_class(bar), lane(x, below), bar.since, until, out)
 }
 
 impl Stack {
@@ -129,14 +128,7 @@ impl Stack {
     }
 
     // The top frame begins to wait, or goes on.
-    fn turn(
-        &mut self,
-        alloc: Global,
-        x: u128,
-        at: u128,
-        waits: bool,
-        out: &mut Bytes,
-    ) -> Result<(), NoMemory>
+    fn turn(&mut self, x: u128, at: u128, waits: bool, out: &mut Bytes) -> Result<(), NoMemory>
         requires { x < 2 ^ 100 }
         ensures text { OnOk result (out.new ≡ out.old ++ spec.top_bar x at self.old) }
         ensures frames { OnOk result (self.new ≡ spec.turned at waits self.old) }
@@ -144,7 +136,7 @@ impl Stack {
         let Some(bar) = self.pop() else {
             return Ok(());
         };
-        print_bar_on(alloc, x, self.items.len(), bar, at, out)?;
+        print_bar_on(x, self.items.len(), bar, at, out)?;
         self.push(Bar {
             mode: bar.mode,
             since: at,
@@ -153,31 +145,25 @@ impl Stack {
     }
 
     // The top frame ends.
-    fn leave(&mut self, alloc: Global, x: u128, at: u128, out: &mut Bytes) -> Result<(), NoMemory>
+    fn leave(&mut self, x: u128, at: u128, out: &mut Bytes) -> Result<(), NoMemory>
         requires { x < 2 ^ 100 }
         ensures text { OnOk result (out.new ≡ out.old ++ spec.top_bar x at self.old) }
         ensures frames { OnOk result (self.new ≡ spec.below_top self.old) }
     {
         match self.pop() {
-            Some(bar) => print_bar_on(alloc, x, self.items.len(), bar, at, out),
+            Some(bar) => print_bar_on(x, self.items.len(), bar, at, out),
             None => Ok(()),
         }
     }
 
     // All frames end.
-    fn leave_all(
-        &mut self,
-        alloc: Global,
-        x: u128,
-        at: u128,
-        out: &mut Bytes,
-    ) -> Result<(), NoMemory>
+    fn leave_all(&mut self, x: u128, at: u128, out: &mut Bytes) -> Result<(), NoMemory>
         requires { x < 2 ^ 100 }
         ensures text { OnOk result (out.new ≡ out.old ++ spec.bars x at self.old) }
         ensures frames { OnOk result (self.new ≡ []) }
     {
         while let Some(bar) = self.pop() {
-            print_bar_on(alloc, x, self.items.len(), bar, at, out)?;
+            print_bar_on(x, self.items.len(), bar, at, out)?;
         }
         Ok(())
     }
@@ -198,16 +184,16 @@ impl Stack {
     }
 
     // Makes a move.
-    fn make(&mut self, alloc: Global, x: u128, step: Move, out: &mut Bytes) -> Result<(), NoMemory>
+    fn make(&mut self, x: u128, step: Move, out: &mut Bytes) -> Result<(), NoMemory>
         requires { x < 2 ^ 100 }
         ensures text { OnOk result (out.new ≡ out.old ++ spec.move_text x step self.old) }
         ensures frames { OnOk result (self.new ≡ spec.moved step self.old) }
     {
         match step {
             Move::Stay => Ok(()),
-            Move::Turn { at, waits } => self.turn(alloc, x, at, waits, out),
-            Move::Leave(at) => self.leave(alloc, x, at, out),
-            Move::LeaveAll(at) => self.leave_all(alloc, x, at, out),
+            Move::Turn { at, waits } => self.turn(x, at, waits, out),
+            Move::Leave(at) => self.leave(x, at, out),
+            Move::LeaveAll(at) => self.leave_all(x, at, out),
             Move::Enter(bar) => self.push(bar),
             Move::Inward(mode, at) => self.go_inward(mode, at),
         }
@@ -265,30 +251,24 @@ impl Stacks {
     }
 
     /// Appends what a move of a process draws, and makes the move.
-    pub fn make(
-        &mut self,
-        alloc: Global,
-        p: Pid,
-        step: Move,
-        out: &mut Bytes,
-    ) -> Result<(), NoMemory>
+    pub fn make(&mut self, p: Pid, step: Move, out: &mut Bytes) -> Result<(), NoMemory>
         ensures text { OnOk result (out.new ≡ out.old ++ spec.process_move_text p step self.old) }
         ensures frames { OnOk result (self.new ≡ spec.process_moved p step self.old) }
     {
         let i = p.0.saturating_sub(1) as usize;
         if i < self.items.len() {
-            self.items[i].make(alloc, u128::from(process_x(p)), step, out)
+            self.items[i].make(u128::from(process_x(p)), step, out)
         } else {
             Ok(())
         }
     }
     /// Ends all frames at a height, and appends their bars.
     #[tactic(auto, using(crate::proofs::Behind::drop_behind))]
-    pub fn end(&mut self, alloc: Global, until: u128, out: &mut Bytes) -> Result<(), NoMemory>
+    pub fn end(&mut self, until: u128, out: &mut Bytes) -> Result<(), NoMemory>
         ensures { OnOk result (out.new ≡ out.old ++ spec.open_bars 1 until self.old) }
     {
         for i in 0..self.items.len() {
-            self.items[i].leave_all(alloc, column_x(i as u64 + 1), until, out)?;
+            self.items[i].leave_all(column_x(i as u64 + 1), until, out)?;
         }
         Ok(())
     }

@@ -187,7 +187,7 @@ fn print_effect_label(effect: &Effect, out: &mut Bytes) -> Result<(), NoMemory>
 }
 
 // Appends a line from who acted to a mark in another column.
-fn print_tie(alloc: Global, spot: Spot, mark: Mark, out: &mut Bytes) -> Result<(), NoMemory>
+fn print_tie(spot: Spot, mark: Mark, out: &mut Bytes) -> Result<(), NoMemory>
     ensures { OnOk result (out.new ≡ out.old ++ spec.tie spot.row spot.x mark) }
 {
     if mark.owner == spot.x {
@@ -199,14 +199,13 @@ fn print_tie(alloc: Global, spot: Spot, mark: Mark, out: &mut Bytes) -> Result<(
             x: u128::from(mark.x),
             y,
         };
-        print_stroke(alloc, b"tie", from, to, out)
+        print_stroke(b"tie", from, to, out)
     }
 }
 
 // Appends a mark of what a record did.
 #[tactic(auto, unfolding(crate::specs::Marks::mark_text))]
 fn print_mark(
-    alloc: Global,
     spot: Spot,
     mark: Mark,
     beside: &[u8],
@@ -215,18 +214,18 @@ fn print_mark(
 ) -> Result<(), NoMemory>
     ensures { OnOk result (out.new ≡ out.old ++ spec.mark_text spot.row spot.x mark beside.now title.now) }
 {
-    print_tie(alloc, spot, mark, out)?;
+    print_tie(spot, mark, out)?;
     let corner = Point {
         x: u128::from(mark.x),
         y: top(spot.row) + 5,
     };
     let shape = figure_shape(mark.figure);
-    print_figure(alloc, fill_class(mark.filled), corner, shape, title, out)?;
+    print_figure(fill_class(mark.filled), corner, shape, title, out)?;
     let right = Point {
         x: u128::from(mark.x) + 11,
         y: base(spot.row),
     };
-    print_label(alloc, b"m", right, beside, out)
+    print_label(b"m", right, beside, out)
 }
 
 fn effect_label(alloc: Global, effect: &Effect) -> Result<Bytes, NoMemory>
@@ -259,7 +258,7 @@ fn print_marked(
     };
     let beside = effect_label(alloc, effect)?;
     let title = effect_title(alloc, effect)?;
-    print_mark(alloc, spot, mark, beside.as_slice(), title.as_slice(), out)
+    print_mark(spot, mark, beside.as_slice(), title.as_slice(), out)
 }
 
 /// Appends the mark of the k-th effect of the record at a spot, if it has one.
@@ -292,7 +291,7 @@ fn print_reached(
     };
     let mut title = Bytes::new(alloc);
     print_deed(rec, &mut title)?;
-    print_mark(alloc, spot, mark, b"", title.as_slice(), out)
+    print_mark(spot, mark, b"", title.as_slice(), out)
 }
 
 /// Appends the mark of the service of the record at a spot, if it reaches another process.

@@ -54,20 +54,14 @@ impl Subject<'_> {
 
 // Appends a heading at x, and its column down to a height.
 #[tactic(auto, unfolding(crate::specs::Picture::heading))]
-fn print_heading(
-    alloc: Global,
-    x: u128,
-    until: u128,
-    text: &[u8],
-    out: &mut Bytes,
-) -> Result<(), NoMemory>
+fn print_heading(x: u128, until: u128, text: &[u8], out: &mut Bytes) -> Result<(), NoMemory>
     requires { x < 2 ^ 100 }
     ensures { OnOk result (out.new ≡ out.old ++ spec.heading x until text.now) }
 {
     let from = Point { x, y: 40 };
     let to = Point { x, y: until };
-    print_stroke(alloc, b"rule", from, to, out)?;
-    print_label(alloc, b"h", Point { x: x + 4, y: 32 }, text, out)
+    print_stroke(b"rule", from, to, out)?;
+    print_label(b"h", Point { x: x + 4, y: 32 }, text, out)
 }
 
 // Appends the heading of process n.
@@ -81,7 +75,7 @@ fn print_process_heading(
     ensures { OnOk result (out.new ≡ out.old ++ spec.heading (process_x n) until (decimal n ++ 32 ∷ name.now)) }
 {
     let text = process_heading(alloc, n, name)?;
-    print_heading(alloc, column_x(n), until, text.as_slice(), out)
+    print_heading(column_x(n), until, text.as_slice(), out)
 }
 
 // Appends the headings of the processes.
@@ -117,7 +111,6 @@ fn wide_box_x(places: Places, i: usize) -> u128
 
 // Appends the headings of the units.
 fn print_unit_headings(
-    alloc: Global,
     places: Places,
     until: u128,
     units: &[UnitDecl],
@@ -126,14 +119,13 @@ fn print_unit_headings(
     ensures { OnOk result (out.new ≡ out.old ++ spec.unit_headings places until 0 units.now) }
 {
     for (i, unit) in units.iter().enumerate() {
-        print_heading(alloc, unit_x(places, i), until, unit.name.text(), out)?;
+        print_heading(unit_x(places, i), until, unit.name.text(), out)?;
     }
     Ok(())
 }
 
 // Appends the headings of the mailboxes.
 fn print_box_headings(
-    alloc: Global,
     places: Places,
     until: u128,
     boxes: &[BoxName],
@@ -142,7 +134,7 @@ fn print_box_headings(
     ensures { OnOk result (out.new ≡ out.old ++ spec.box_headings places until 0 boxes.now) }
 {
     for (i, name) in boxes.iter().enumerate() {
-        print_heading(alloc, wide_box_x(places, i), until, name.text(), out)?;
+        print_heading(wide_box_x(places, i), until, name.text(), out)?;
     }
     Ok(())
 }
@@ -150,7 +142,6 @@ fn print_box_headings(
 // Appends the heading of the last column.
 #[tactic(auto, unfolding(crate::specs::Picture::last_heading))]
 fn print_last_heading(
-    alloc: Global,
     places: Places,
     until: u128,
     clusters: bool,
@@ -159,7 +150,7 @@ fn print_last_heading(
     ensures { OnOk result (out.new ≡ out.old ++ spec.last_heading places until clusters) }
 {
     let text: &[u8] = if clusters { b"clusters" } else { b"" };
-    print_heading(alloc, u128::from(places.clusters), until, text, out)
+    print_heading(u128::from(places.clusters), until, text, out)
 }
 
 // Appends the headings of all columns.
@@ -177,9 +168,9 @@ fn print_headings(
 {
     let units = subject.system.units.as_slice();
     print_process_headings(alloc, until, subject.names, out)?;
-    print_unit_headings(alloc, places, until, units, out)?;
-    print_box_headings(alloc, places, until, subject.boxes.as_slice(), out)?;
-    print_last_heading(alloc, places, until, has_clusters(subject.recs), out)
+    print_unit_headings(places, until, units, out)?;
+    print_box_headings(places, until, subject.boxes.as_slice(), out)?;
+    print_last_heading(places, until, has_clusters(subject.recs), out)
 }
 
 // Adds the frames of the processes that are there from the start.
@@ -263,11 +254,11 @@ fn first_line() -> &'static [u8]
 
 // Appends the trailer below row n.
 #[tactic(auto, unfolding(crate::specs::Picture::trailer_text))]
-fn print_trailer(alloc: Global, n: u64, trailer: &[u8], out: &mut Bytes) -> Result<(), NoMemory>
+fn print_trailer(n: u64, trailer: &[u8], out: &mut Bytes) -> Result<(), NoMemory>
     ensures { OnOk result (out.new ≡ out.old ++ spec.trailer_text n trailer.now) }
 {
     out.push_all(trailer_open())?;
-    print_coordinate(alloc, bottom(n), out)?;
+    print_coordinate(bottom(n), out)?;
     out.push_all(first_line())?;
     print_trailer_bytes(trailer, out)?;
     out.push_all(b"</tspan></text>\n")
@@ -300,7 +291,7 @@ fn print_wrong_row(
         y: base(n),
     };
     print_number_label(alloc, n, out)?;
-    print_label(alloc, b"wrong", at, text.as_slice(), out)
+    print_label(b"wrong", at, text.as_slice(), out)
 }
 
 // Appends what stands below the rows, of which there are n.
@@ -317,14 +308,14 @@ fn print_below(
         ++ spec.below places n ending.now.wrong (option_map (λ rec. rec.now) ending.now.rec) ending.now.trailer.now) }
 {
     match (ending.wrong, ending.rec) {
-        (None, _) => print_trailer(alloc, n, ending.trailer, out),
+        (None, _) => print_trailer(n, ending.trailer, out),
         (Some(_), None) => {
             let at = Point {
                 x: 8,
                 y: base(n + 1),
             };
-            print_label(alloc, b"wrong", at, b"?? ", out)?;
-            print_trailer(alloc, n + 1, ending.trailer, out)
+            print_label(b"wrong", at, b"?? ", out)?;
+            print_trailer(n + 1, ending.trailer, out)
         }
         (Some(_), Some(rec)) => print_wrong_row(alloc, places, n + 1, rec, out),
     }
@@ -341,12 +332,12 @@ fn height(n: u64, trailer: &[u8]) -> u128
 
 // Appends the start.
 #[tactic(auto, unfolding(crate::specs::Picture::start))]
-fn print_start(alloc: Global, width: u128, height: u128, out: &mut Bytes) -> Result<(), NoMemory>
+fn print_start(width: u128, height: u128, out: &mut Bytes) -> Result<(), NoMemory>
     ensures { OnOk result (out.new ≡ out.old ++ spec.start width height) }
 {
     out.push_all(HEAD)?;
-    print_attribute(alloc, b" width=\"", width, out)?;
-    print_attribute(alloc, b" height=\"", height, out)?;
+    print_attribute(b" width=\"", width, out)?;
+    print_attribute(b" height=\"", height, out)?;
     out.push_all(b">\n")?;
     out.push_all(STYLE)
 }
@@ -384,7 +375,7 @@ fn print_all(
         ++ spec.with_names places until subject.now.names.now subject.now.boxes.now subject.now.system.now
         subject.now.recs.now below.now) }
 {
-    print_start(alloc, u128::from(places.end), until, out)?;
+    print_start(u128::from(places.end), until, out)?;
     print_headings(alloc, subject, places, until, out)?;
     print_canvas(alloc, subject, places, out)?;
     out.push_all(below)?;

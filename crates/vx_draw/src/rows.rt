@@ -85,7 +85,7 @@ fn print_said(alloc: Global, spot: Spot, rec: &Rec, out: &mut Bytes) -> Result<(
         x: spot.x + 6,
         y: base(spot.row),
     };
-    print_titled(alloc, class, at, text.as_slice(), title.as_slice(), out)
+    print_titled(class, at, text.as_slice(), title.as_slice(), out)
 }
 
 /// Appends the number of row n.
@@ -96,7 +96,7 @@ pub fn print_number_label(alloc: Global, n: u64, out: &mut Bytes) -> Result<(), 
     let mut digits = Bytes::new(alloc);
     print_num(&mut digits, n)?;
     let at = Point { x: 44, y: base(n) };
-    print_label(alloc, b"n", at, digits.as_slice(), out)
+    print_label(b"n", at, digits.as_slice(), out)
 }
 
 fn trail_class(event: Event) -> &'static [u8]
@@ -110,24 +110,18 @@ fn trail_class(event: Event) -> &'static [u8]
 
 // Appends what the answer of the record at a spot draws.
 #[tactic(auto, unfolding(crate::specs::Rows::answer_text, crate::specs::Rows::after_answer))]
-fn print_answer(
-    alloc: Global,
-    spot: Spot,
-    rec: &Rec,
-    canvas: &mut Canvas,
-    out: &mut Bytes,
-) -> Result<(), NoMemory>
+fn print_answer(spot: Spot, rec: &Rec, canvas: &mut Canvas, out: &mut Bytes) -> Result<(), NoMemory>
     ensures text { OnOk result (out.new ≡ out.old ++ spec.answer_text spot.row spot.x rec.now canvas.old) }
     ensures canvas { OnOk result (canvas.new ≡ spec.after_answer spot.row spot.x rec.now canvas.old) }
 {
     let step = answer_move(spot.row, &canvas.trails, &rec.answer);
     canvas
         .stacks
-        .make(alloc, mover(rec.event, &rec.answer), step, out)?;
+        .make(mover(rec.event, &rec.answer), step, out)?;
     let tale = answer_tale(&rec.answer);
     canvas
         .trails
-        .tell(alloc, trail_class(rec.event), spot.middle(), tale, out)
+        .tell(trail_class(rec.event), spot.middle(), tale, out)
 }
 
 // Appends what an effect of the record at a spot draws.
@@ -148,11 +142,9 @@ fn print_effect(
 {
     let step = effect_move(spot.row, scene.decls, &canvas.trails, act.effect);
     let mover = effect_mover(act.event, act.effect);
-    canvas.stacks.make(alloc, mover, step, out)?;
+    canvas.stacks.make(mover, step, out)?;
     let tale = effect_tale(act.effect);
-    canvas
-        .trails
-        .tell(alloc, b"request", spot.middle(), tale, out)?;
+    canvas.trails.tell(b"request", spot.middle(), tale, out)?;
     print_effect_marks(alloc, scene, spot, act.k, act.effect, out)
 }
 
@@ -199,7 +191,7 @@ fn print_row(
         ≡ spec.after_row scene.now.decls.now spot.row spot.x rec.now canvas.old) }
 {
     print_number_label(alloc, spot.row, out)?;
-    print_answer(alloc, spot, rec, canvas, out)?;
+    print_answer(spot, rec, canvas, out)?;
     print_answer_marks(alloc, spot, rec, out)?;
     print_row_effects(alloc, scene, spot, rec, canvas, out)?;
     print_said(alloc, spot, rec, out)
@@ -238,5 +230,5 @@ pub fn print_rows(
         ++ spec.rows_text scene.now.places scene.now.boxes.now scene.now.decls.now 1 recs.now canvas.old) }
 {
     print_recs(alloc, scene, recs, canvas, out)?;
-    canvas.stacks.end(alloc, bottom(1 + recs.len() as u64), out)
+    canvas.stacks.end(bottom(1 + recs.len() as u64), out)
 }

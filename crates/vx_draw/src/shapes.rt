@@ -5,7 +5,7 @@
 ghost use Rattle.std.specs.Prelude.{◌≡◌, ◌<◌, ◌^◌, ◌++◌, OnOk, decimal};
 ghost use Rattle.vx_draw.specs.Shapes as spec;
 
-use std::alloc::Global;
+use itoa::Buffer;
 use vx_base::{Bytes, NoMemory};
 
 /// A point, by how far right and how far down it is, in units of which a row has 18.
@@ -78,37 +78,36 @@ pub fn print_escaped(text: &[u8], out: &mut Bytes) -> Result<(), NoMemory>
 }
 
 /// Appends a number.
-pub fn print_coordinate(alloc: Global, n: u128, out: &mut Bytes) -> Result<(), NoMemory>
+pub fn print_coordinate(n: u128, out: &mut Bytes) -> Result<(), NoMemory>
     ensures { OnOk result (out.new ≡ out.old ++ decimal n) }
 {
-    let digits = format!(in alloc; "{n}")?;
-    out.push_all(digits.as_bytes())
+    let mut digits = Buffer::new();
+    out.push_all(digits.format(n).as_bytes())
 }
 
 /// Appends an attribute, behind the end of the one before.
 #[tactic(auto, unfolding(crate::specs::Shapes::attribute))]
-pub fn print_attribute(alloc: Global, name: &[u8], n: u128, out: &mut Bytes) -> Result<(), NoMemory>
+pub fn print_attribute(name: &[u8], n: u128, out: &mut Bytes) -> Result<(), NoMemory>
     ensures { OnOk result (out.new ≡ out.old ++ spec.attribute name.now n) }
 {
     out.push_all(name)?;
-    print_coordinate(alloc, n, out)?;
+    print_coordinate(n, out)?;
     out.push_all(b"\"")
 }
 
 // Appends a point.
 #[tactic(auto, unfolding(crate::specs::Shapes::point))]
-fn print_point(alloc: Global, at: Point, out: &mut Bytes) -> Result<(), NoMemory>
+fn print_point(at: Point, out: &mut Bytes) -> Result<(), NoMemory>
     ensures { OnOk result (out.new ≡ out.old ++ spec.point at.x at.y) }
 {
-    print_coordinate(alloc, at.x, out)?;
+    print_coordinate(at.x, out)?;
     out.push_all(b" ")?;
-    print_coordinate(alloc, at.y, out)
+    print_coordinate(at.y, out)
 }
 
 /// Appends a bar of a class, from one height to another.
 #[tactic(auto, unfolding(crate::specs::Shapes::bar))]
 pub fn print_bar(
-    alloc: Global,
     class: &[u8],
     x: u128,
     from: u128,
@@ -119,64 +118,52 @@ pub fn print_bar(
 {
     out.push_all(b"<rect class=\"")?;
     out.push_all(class)?;
-    print_attribute(alloc, b"\" width=\"9\" x=\"", x, out)?;
-    print_attribute(alloc, b" y=\"", from, out)?;
-    print_attribute(alloc, b" height=\"", until.saturating_sub(from), out)?;
+    print_attribute(b"\" width=\"9\" x=\"", x, out)?;
+    print_attribute(b" y=\"", from, out)?;
+    print_attribute(b" height=\"", until.saturating_sub(from), out)?;
     out.push_all(b"/>\n")
 }
 
 // Appends the start of a path of a class at a point.
 #[tactic(auto, unfolding(crate::specs::Shapes::path_start))]
-fn print_path_start(alloc: Global, class: &[u8], at: Point, out: &mut Bytes) -> Result<(), NoMemory>
+fn print_path_start(class: &[u8], at: Point, out: &mut Bytes) -> Result<(), NoMemory>
     ensures { OnOk result (out.new ≡ out.old ++ spec.path_start class.now at.x at.y) }
 {
     out.push_all(b"<path class=\"")?;
     out.push_all(class)?;
     out.push_all(b"\" d=\"M")?;
-    print_point(alloc, at, out)
+    print_point(at, out)
 }
 
 /// Appends a line of a class, from one point to another.
 #[tactic(auto, unfolding(crate::specs::Shapes::stroke))]
-pub fn print_stroke(
-    alloc: Global,
-    class: &[u8],
-    from: Point,
-    to: Point,
-    out: &mut Bytes,
-) -> Result<(), NoMemory>
+pub fn print_stroke(class: &[u8], from: Point, to: Point, out: &mut Bytes) -> Result<(), NoMemory>
     ensures { OnOk result (out.new ≡ out.old ++ spec.stroke class.now from.x from.y to.x to.y) }
 {
-    print_path_start(alloc, class, from, out)?;
+    print_path_start(class, from, out)?;
     out.push_all(b"L")?;
-    print_point(alloc, to, out)?;
+    print_point(to, out)?;
     out.push_all(b"\"/>\n")
 }
 
 // Appends the start of a text of a class at a point.
 #[tactic(auto, unfolding(crate::specs::Shapes::text_start))]
-fn print_text_start(alloc: Global, class: &[u8], at: Point, out: &mut Bytes) -> Result<(), NoMemory>
+fn print_text_start(class: &[u8], at: Point, out: &mut Bytes) -> Result<(), NoMemory>
     ensures { OnOk result (out.new ≡ out.old ++ spec.text_start class.now at.x at.y) }
 {
     out.push_all(b"<text class=\"")?;
     out.push_all(class)?;
-    print_attribute(alloc, b"\" x=\"", at.x, out)?;
-    print_attribute(alloc, b" y=\"", at.y, out)?;
+    print_attribute(b"\" x=\"", at.x, out)?;
+    print_attribute(b" y=\"", at.y, out)?;
     out.push_all(b">")
 }
 
 /// Appends a text of a class at a point.
 #[tactic(auto, unfolding(crate::specs::Shapes::label))]
-pub fn print_label(
-    alloc: Global,
-    class: &[u8],
-    at: Point,
-    text: &[u8],
-    out: &mut Bytes,
-) -> Result<(), NoMemory>
+pub fn print_label(class: &[u8], at: Point, text: &[u8], out: &mut Bytes) -> Result<(), NoMemory>
     ensures { OnOk result (out.new ≡ out.old ++ spec.label class.now at.x at.y text.now) }
 {
-    print_text_start(alloc, class, at, out)?;
+    print_text_start(class, at, out)?;
     print_escaped(text, out)?;
     out.push_all(b"</text>\n")
 }
@@ -194,7 +181,6 @@ fn print_title(text: &[u8], out: &mut Bytes) -> Result<(), NoMemory>
 /// Appends a text of a class at a point, which shows another to a pointer.
 #[tactic(auto, unfolding(crate::specs::Shapes::titled))]
 pub fn print_titled(
-    alloc: Global,
     class: &[u8],
     at: Point,
     text: &[u8],
@@ -203,7 +189,7 @@ pub fn print_titled(
 ) -> Result<(), NoMemory>
     ensures { OnOk result (out.new ≡ out.old ++ spec.titled class.now at.x at.y text.now shown.now) }
 {
-    print_text_start(alloc, class, at, out)?;
+    print_text_start(class, at, out)?;
     print_escaped(text, out)?;
     print_title(shown, out)?;
     out.push_all(b"</text>\n")
@@ -212,7 +198,6 @@ pub fn print_titled(
 /// Appends a figure of a class, drawn from a point on, which shows a text to a pointer.
 #[tactic(auto, unfolding(crate::specs::Shapes::figure))]
 pub fn print_figure(
-    alloc: Global,
     class: &[u8],
     at: Point,
     shape: &[u8],
@@ -221,7 +206,7 @@ pub fn print_figure(
 ) -> Result<(), NoMemory>
     ensures { OnOk result (out.new ≡ out.old ++ spec.figure class.now at.x at.y shape.now shown.now) }
 {
-    print_path_start(alloc, class, at, out)?;
+    print_path_start(class, at, out)?;
     out.push_all(shape)?;
     out.push_all(b"\">")?;
     print_title(shown, out)?;

@@ -44,13 +44,7 @@ impl Model for Trails {
 }
 
 // Appends the line that continues a trail, unless it has come no further down.
-fn print_line_on(
-    alloc: Global,
-    class: &[u8],
-    at: Point,
-    trail: Trail,
-    out: &mut Bytes,
-) -> Result<(), NoMemory>
+fn print_line_on(class: &[u8], at: Point, trail: Trail, out: &mut Bytes) -> Result<(), NoMemory>
     ensures { OnOk result (out.new ≡ out.old ++ spec.line_on class.now at.x at.y trail) }
 {
     if trail.y < at.y {
@@ -58,7 +52,7 @@ fn print_line_on(
             x: trail.x,
             y: trail.y,
         };
-        print_stroke(alloc, class, from, at, out)
+        print_stroke(class, from, at, out)
     } else {
         Ok(())
     }
@@ -105,14 +99,7 @@ impl Trails {
     }
 
     // Continues the trail of an id, if it has one.
-    fn follow(
-        &mut self,
-        alloc: Global,
-        class: &[u8],
-        at: Point,
-        id: Id,
-        out: &mut Bytes,
-    ) -> Result<(), NoMemory>
+    fn follow(&mut self, class: &[u8], at: Point, id: Id, out: &mut Bytes) -> Result<(), NoMemory>
         ensures text { OnOk result (out.new ≡ out.old ++ spec.followed_text class.now at.x at.y id self.old) }
         ensures trails { OnOk result (self.new ≡ spec.followed at.x at.y id self.old) }
     {
@@ -124,7 +111,7 @@ impl Trails {
                 y: at.y,
                 ..trail
             };
-            print_line_on(alloc, class, at, trail, out)
+            print_line_on(class, at, trail, out)
         } else {
             Ok(())
         }
@@ -133,7 +120,6 @@ impl Trails {
     /// Appends the line to the point where something is told, of a class, and goes on from there.
     pub fn tell(
         &mut self,
-        alloc: Global,
         class: &[u8],
         at: Point,
         tale: Tale,
@@ -145,7 +131,7 @@ impl Trails {
         match tale {
             Tale::Nothing => Ok(()),
             Tale::Opened(id, mode, forces) => self.open(at, id, mode, forces),
-            Tale::Again(id) => self.follow(alloc, class, at, id, out),
+            Tale::Again(id) => self.follow(class, at, id, out),
         }
     }
 }
