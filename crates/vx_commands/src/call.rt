@@ -9,7 +9,7 @@ use crate::judging::judge;
 use crate::show::show;
 use crate::survey::explore;
 use std::alloc::Global;
-use vx_base::{Bytes, NoMemory};
+use vx_base::Bytes;
 use vx_host::{Sink, Source, read_all};
 use vx_simulate::{follow, simulate, summarize};
 use vx_tell::{MOST_INPUT, Status, tell, tell_no_memory, tell_unread};

@@ -26,6 +26,7 @@ use Rattle.vx_script.specs.declared.draft.DraftLine.{DraftLine}
 use Rattle.vx_script.specs.declared.fault.FaultKind.{FaultKind}
 use Rattle.vx_script.specs.declared.keys.Key.{Key}
 use Rattle.vx_script.specs.declared.keys.Key.TheVariants as key
+use Rattle.vx_script.specs.declared.keys.Limit.TheVariants as limit
 use Rattle.vx_script.specs.declared.lines.DeclLine.{DeclLine}
 use Rattle.vx_script.specs.declared.lines.FaultLine.{FaultLine}
 use Rattle.vx_script.specs.declared.lines.InputLine.{InputLine}
@@ -469,7 +470,7 @@ read_on : (s : System) (line next : ℕ) (parts more : Parts) (ts : List (List T
 read_on s line next parts more ts tss item items r e adds = record { all = r.all; fed = e ∙ r.fed; adds = adds; known = r.known }
 
 no_key_has : (k : Key) → has no_keys k ≡ false
-no_key_has key.Uic = refl
+no_key_has (key.Limit limit.Ast) = refl
 no_key_has _ = refl
 
 pub none_has : (ks : List Key) → list_any (has no_keys) ks ≡ false

@@ -14,19 +14,21 @@ use Rattle.vx_table.specs.Reading.{mode_word}
 use Rattle.vx_table.specs.Spelling.{mode_name}
 use Rattle.vx_script.specs.Results.{◌>>=◌, given}
 use Rattle.vx_script.specs.Fields.{is_word, begins_with_sign, sign_at, number_at}
-use Rattle.vx_script.specs.Keys.{privilege_name, holds, granted, no_privs, privs_from, privs_of, privs_at, uic_at, mode_in, mode_at, limit_at, start_at, key_name, all_keys, key_word, key_in, once, with_uic, with_mode, with_ast, with_bio, with_dio, with_byt, with_tqe, with_privs, with_start, with_key, taken_key, keys_from, or, first_uic, limits_of}
+use Rattle.vx_script.specs.Keys.{privilege_name, holds, granted, no_privs, privs_from, privs_of, privs_at, uic_at, mode_in, mode_at, limit_at, start_at, key_name, all_keys, key_word, key_in, once, limit_in, with_limit_in, with_uic, with_mode, with_limit, with_privs, with_start, with_key, taken_key, keys_from, or, first_uic, limits_of}
 use Rattle.vx_script.specs.declared.fault.FaultKind.{FaultKind}
 use Rattle.vx_script.specs.declared.fault.FaultKind.TheVariants as kind
 use Rattle.vx_script.specs.declared.keys.Key.{Key}
 use Rattle.vx_script.specs.declared.keys.Key.TheVariants as key
 use Rattle.vx_script.specs.declared.keys.Keys.{Keys}
+use Rattle.vx_script.specs.declared.keys.Limit.{Limit}
+use Rattle.vx_script.specs.declared.keys.Limit.TheVariants as limit
 use Rattle.vx_script.specs.declared.keys.TakenKey.{TakenKey}
 use Rattle.vx_script.specs.declared.keys.Uic.{Uic}
 use Rattle.vx_script.specs.declared.privileges.Privilege.{Privilege}
 use Rattle.vx_script.specs.declared.privileges.Privilege.TheVariants as privilege
 use Rattle.vx_script.specs.declared.privileges.TakenPrivs.{TakenPrivs}
 use Rattle.vx_script.proofs.Taking.{keys_behind}
-use Rattle.vx_grammar.specs.Grammar.{Between, Privileges, one_name, and_name, Setting, uic_is, mode_is, astlm_is, biolm_is, diolm_is, bytlm_is, tqelm_is, no_priv_is, priv_is, start_is, Settings, no_settings, and_setting, colon, equals, plus}
+use Rattle.vx_grammar.specs.Grammar.{Between, Privileges, one_name, and_name, Setting, uic_is, mode_is, limit_is, limited, no_priv_is, priv_is, start_is, Settings, no_settings, and_setting, colon, equals, plus}
 use Rattle.vx_grammar.proofs.Fields.{bind_ok, given_ok, found_name, sign_found, word_token, number_found, choice_found}
 use Rattle.vx_grammar.proofs.Once.{OneMore, AreNew, and_new, first_new, rest_new}
 use Rattle.vx_grammar.proofs.PrivilegeNames.{names_read, names_stand}
@@ -35,11 +37,7 @@ use Rattle.vx_grammar.proofs.PrivilegeNames.{names_read, names_stand}
 abbrev pub has : Keys → Key → Bool
 has keys key.Uic = is_some keys.uic
 has keys key.Mode = is_some keys.mode
-has keys key.AstLm = is_some keys.ast
-has keys key.BioLm = is_some keys.bio
-has keys key.DioLm = is_some keys.dio
-has keys key.BytLm = is_some keys.byt
-has keys key.TqeLm = is_some keys.tqe
+has keys (key.Limit l) = is_some (limit_in keys l)
 has keys key.Priv = is_some keys.privs
 has keys key.Start = is_some keys.start
 
@@ -73,25 +71,17 @@ has_mode : (keys : Keys) (x : Mode) (k : Key) → has (record keys { mode = Some
 has_mode keys x key.Mode = refl
 has_mode keys x _ = refl
 
-has_ast : (keys : Keys) (x : ℕ) (k : Key) → has (record keys { ast = Some x }) k ≡ (bytes_eq (key_name key.AstLm) (key_name k) || has keys k)
-has_ast keys x key.AstLm = refl
-has_ast keys x _ = refl
-
-has_bio : (keys : Keys) (x : ℕ) (k : Key) → has (record keys { bio = Some x }) k ≡ (bytes_eq (key_name key.BioLm) (key_name k) || has keys k)
-has_bio keys x key.BioLm = refl
-has_bio keys x _ = refl
-
-has_dio : (keys : Keys) (x : ℕ) (k : Key) → has (record keys { dio = Some x }) k ≡ (bytes_eq (key_name key.DioLm) (key_name k) || has keys k)
-has_dio keys x key.DioLm = refl
-has_dio keys x _ = refl
-
-has_byt : (keys : Keys) (x : ℕ) (k : Key) → has (record keys { byt = Some x }) k ≡ (bytes_eq (key_name key.BytLm) (key_name k) || has keys k)
-has_byt keys x key.BytLm = refl
-has_byt keys x _ = refl
-
-has_tqe : (keys : Keys) (x : ℕ) (k : Key) → has (record keys { tqe = Some x }) k ≡ (bytes_eq (key_name key.TqeLm) (key_name k) || has keys k)
-has_tqe keys x key.TqeLm = refl
-has_tqe keys x _ = refl
+has_limit : (keys : Keys) (l : Limit) (x : ℕ) (k : Key) → has (with_limit_in keys l x) k ≡ (bytes_eq (key_name (key.Limit l)) (key_name k) || has keys k)
+has_limit keys limit.Ast x (key.Limit limit.Ast) = refl
+has_limit keys limit.Ast x _ = refl
+has_limit keys limit.Bio x (key.Limit limit.Bio) = refl
+has_limit keys limit.Bio x _ = refl
+has_limit keys limit.Dio x (key.Limit limit.Dio) = refl
+has_limit keys limit.Dio x _ = refl
+has_limit keys limit.Byt x (key.Limit limit.Byt) = refl
+has_limit keys limit.Byt x _ = refl
+has_limit keys limit.Tqe x (key.Limit limit.Tqe) = refl
+has_limit keys limit.Tqe x _ = refl
 
 has_privs : (keys : Keys) (x : Privs) (k : Key) → has (record keys { privs = Some x }) k ≡ (bytes_eq (key_name key.Priv) (key_name k) || has keys k)
 has_privs keys x key.Priv = refl
@@ -174,45 +164,21 @@ none_held (_ ∷ ps) = none_held ps
 dropped_one : (used : ℕ) (t : Tok) (ts rest : List Tok) → drop used ts ≡ rest → drop (used + 1) (t ∷ ts) ≡ rest
 dropped_one used t ts rest h = rw add-one h
 
-ast_takes : (keys : Keys) (n : ℕ) (rest : List Tok) → Between 0 1000000 n → is_some keys.ast ≡ false
-    → with_ast keys (equals ∷ tok.Num n ∷ rest) ≡ Ok (record { keys = record keys { ast = Some n }; used = 2 })
+limit_takes : (keys : Keys) (l : Limit) (n : ℕ) (rest : List Tok) → Between 0 1000000 n → is_some (limit_in keys l) ≡ false
+    → with_limit keys l (equals ∷ tok.Num n ∷ rest) ≡ Ok (record { keys = with_limit_in keys l n; used = 2 })
 unfolding limit_at
-ast_takes keys n rest h new =
+limit_takes keys l n rest h new =
     let a : nat_le 0 n ≡ true = le-leb _ _ h.0 in
     let b : nat_le n 1000000 ≡ true = le-leb _ _ h.1 in
-    rw (absent keys.ast new, a, b) refl
+    rw (absent (limit_in keys l) new, a, b) refl
 
-bio_takes : (keys : Keys) (n : ℕ) (rest : List Tok) → Between 0 1000000 n → is_some keys.bio ≡ false
-    → with_bio keys (equals ∷ tok.Num n ∷ rest) ≡ Ok (record { keys = record keys { bio = Some n }; used = 2 })
-unfolding limit_at
-bio_takes keys n rest h new =
-    let a : nat_le 0 n ≡ true = le-leb _ _ h.0 in
-    let b : nat_le n 1000000 ≡ true = le-leb _ _ h.1 in
-    rw (absent keys.bio new, a, b) refl
-
-dio_takes : (keys : Keys) (n : ℕ) (rest : List Tok) → Between 0 1000000 n → is_some keys.dio ≡ false
-    → with_dio keys (equals ∷ tok.Num n ∷ rest) ≡ Ok (record { keys = record keys { dio = Some n }; used = 2 })
-unfolding limit_at
-dio_takes keys n rest h new =
-    let a : nat_le 0 n ≡ true = le-leb _ _ h.0 in
-    let b : nat_le n 1000000 ≡ true = le-leb _ _ h.1 in
-    rw (absent keys.dio new, a, b) refl
-
-byt_takes : (keys : Keys) (n : ℕ) (rest : List Tok) → Between 0 1000000 n → is_some keys.byt ≡ false
-    → with_byt keys (equals ∷ tok.Num n ∷ rest) ≡ Ok (record { keys = record keys { byt = Some n }; used = 2 })
-unfolding limit_at
-byt_takes keys n rest h new =
-    let a : nat_le 0 n ≡ true = le-leb _ _ h.0 in
-    let b : nat_le n 1000000 ≡ true = le-leb _ _ h.1 in
-    rw (absent keys.byt new, a, b) refl
-
-tqe_takes : (keys : Keys) (n : ℕ) (rest : List Tok) → Between 0 1000000 n → is_some keys.tqe ≡ false
-    → with_tqe keys (equals ∷ tok.Num n ∷ rest) ≡ Ok (record { keys = record keys { tqe = Some n }; used = 2 })
-unfolding limit_at
-tqe_takes keys n rest h new =
-    let a : nat_le 0 n ≡ true = le-leb _ _ h.0 in
-    let b : nat_le n 1000000 ≡ true = le-leb _ _ h.1 in
-    rw (absent keys.tqe new, a, b) refl
+limit_sets : (name : List ℕ) (image : ℕ) (keys : Keys) (l : Limit) (n : ℕ)
+    → decl_with name image (with_limit_in keys l n) ≡ record (decl_with name image keys) { limits = limited (limits_of keys) l n }
+limit_sets name image keys limit.Ast n = refl
+limit_sets name image keys limit.Bio n = refl
+limit_sets name image keys limit.Dio n = refl
+limit_sets name image keys limit.Byt n = refl
+limit_sets name image keys limit.Tqe n = refl
 
 -- what is spelled as a key's value is read so
 pub setting_takes : (k : Key) (value : List Tok) (set : ProcDecl → ProcDecl) → Setting k value set → (keys : Keys) (rest : List Tok) → has keys k ≡ false → begins_with_sign 43 rest ≡ false
@@ -232,40 +198,12 @@ setting_takes _ _ _ (mode_is m) keys rest new ends = record {
   behind = refl;
   is_set = record { new = new; sets = λ name image. refl; one = record { each = has_mode keys m } };
 }
-setting_takes _ _ _ (astlm_is n h) keys rest new ends = record {
-  more = record keys { ast = Some n };
+setting_takes _ _ _ (limit_is l n h) keys rest new ends = record {
+  more = with_limit_in keys l n;
   used = 2;
-  read = ast_takes keys n rest h new;
+  read = limit_takes keys l n rest h new;
   behind = refl;
-  is_set = record { new = new; sets = λ name image. refl; one = record { each = has_ast keys n } };
-}
-setting_takes _ _ _ (biolm_is n h) keys rest new ends = record {
-  more = record keys { bio = Some n };
-  used = 2;
-  read = bio_takes keys n rest h new;
-  behind = refl;
-  is_set = record { new = new; sets = λ name image. refl; one = record { each = has_bio keys n } };
-}
-setting_takes _ _ _ (diolm_is n h) keys rest new ends = record {
-  more = record keys { dio = Some n };
-  used = 2;
-  read = dio_takes keys n rest h new;
-  behind = refl;
-  is_set = record { new = new; sets = λ name image. refl; one = record { each = has_dio keys n } };
-}
-setting_takes _ _ _ (bytlm_is n h) keys rest new ends = record {
-  more = record keys { byt = Some n };
-  used = 2;
-  read = byt_takes keys n rest h new;
-  behind = refl;
-  is_set = record { new = new; sets = λ name image. refl; one = record { each = has_byt keys n } };
-}
-setting_takes _ _ _ (tqelm_is n h) keys rest new ends = record {
-  more = record keys { tqe = Some n };
-  used = 2;
-  read = tqe_takes keys n rest h new;
-  behind = refl;
-  is_set = record { new = new; sets = λ name image. refl; one = record { each = has_tqe keys n } };
+  is_set = record { new = new; sets = λ name image. limit_sets name image keys l n; one = record { each = has_limit keys l n } };
 }
 setting_takes _ _ _ no_priv_is keys rest new ends = record {
   more = record keys { privs = Some no_privs };
@@ -295,11 +233,11 @@ setting_takes _ _ _ (start_is n h) keys rest new ends = record {
 key_back : (k : Key) → key_word (key_name k) ≡ Some k
 key_back key.Uic = refl
 key_back key.Mode = refl
-key_back key.AstLm = refl
-key_back key.BioLm = refl
-key_back key.DioLm = refl
-key_back key.BytLm = refl
-key_back key.TqeLm = refl
+key_back (key.Limit limit.Ast) = refl
+key_back (key.Limit limit.Bio) = refl
+key_back (key.Limit limit.Dio) = refl
+key_back (key.Limit limit.Byt) = refl
+key_back (key.Limit limit.Tqe) = refl
 key_back key.Priv = refl
 key_back key.Start = refl
 
@@ -479,69 +417,17 @@ mode_key keys tokens taken h =
       is_set = record { new = absent_is keys.mode o.0 o.1; sets = λ name image. refl; one = record { each = has_mode keys m.0 } };
     })
 
-ast_key : (keys : Keys) (tokens : List Tok) (taken : TakenKey) → with_ast keys tokens ≡ Ok taken → Stands keys key.AstLm tokens taken
-ast_key keys tokens taken h =
-    let o = bind_ok (once keys.ast) _ taken h in
+limit_key : (keys : Keys) (l : Limit) (tokens : List Tok) (taken : TakenKey) → with_limit keys l tokens ≡ Ok taken → Stands keys (key.Limit l) tokens taken
+limit_key keys l tokens taken h =
+    let o = bind_ok (once (limit_in keys l)) _ taken h in
     let n = bind_ok (limit_at tokens) _ taken o.2 in
     let s = limit_stands tokens n.0 n.1 in
-    stands_as keys key.AstLm tokens (record keys { ast = Some n.0 }) 2 taken n.2 (record {
+    stands_as keys (key.Limit l) tokens (with_limit_in keys l n.0) 2 taken n.2 (record {
       value = tok.Num n.0 ∷ [];
-      set = λ d. record d { limits = record d.limits { ast = n.0 } };
-      is = astlm_is n.0 s.1;
+      set = λ d. record d { limits = limited d.limits l n.0 };
+      is = limit_is l n.0 s.1;
       split = s.0;
-      is_set = record { new = absent_is keys.ast o.0 o.1; sets = λ name image. refl; one = record { each = has_ast keys n.0 } };
-    })
-
-bio_key : (keys : Keys) (tokens : List Tok) (taken : TakenKey) → with_bio keys tokens ≡ Ok taken → Stands keys key.BioLm tokens taken
-bio_key keys tokens taken h =
-    let o = bind_ok (once keys.bio) _ taken h in
-    let n = bind_ok (limit_at tokens) _ taken o.2 in
-    let s = limit_stands tokens n.0 n.1 in
-    stands_as keys key.BioLm tokens (record keys { bio = Some n.0 }) 2 taken n.2 (record {
-      value = tok.Num n.0 ∷ [];
-      set = λ d. record d { limits = record d.limits { bio = n.0 } };
-      is = biolm_is n.0 s.1;
-      split = s.0;
-      is_set = record { new = absent_is keys.bio o.0 o.1; sets = λ name image. refl; one = record { each = has_bio keys n.0 } };
-    })
-
-dio_key : (keys : Keys) (tokens : List Tok) (taken : TakenKey) → with_dio keys tokens ≡ Ok taken → Stands keys key.DioLm tokens taken
-dio_key keys tokens taken h =
-    let o = bind_ok (once keys.dio) _ taken h in
-    let n = bind_ok (limit_at tokens) _ taken o.2 in
-    let s = limit_stands tokens n.0 n.1 in
-    stands_as keys key.DioLm tokens (record keys { dio = Some n.0 }) 2 taken n.2 (record {
-      value = tok.Num n.0 ∷ [];
-      set = λ d. record d { limits = record d.limits { dio = n.0 } };
-      is = diolm_is n.0 s.1;
-      split = s.0;
-      is_set = record { new = absent_is keys.dio o.0 o.1; sets = λ name image. refl; one = record { each = has_dio keys n.0 } };
-    })
-
-byt_key : (keys : Keys) (tokens : List Tok) (taken : TakenKey) → with_byt keys tokens ≡ Ok taken → Stands keys key.BytLm tokens taken
-byt_key keys tokens taken h =
-    let o = bind_ok (once keys.byt) _ taken h in
-    let n = bind_ok (limit_at tokens) _ taken o.2 in
-    let s = limit_stands tokens n.0 n.1 in
-    stands_as keys key.BytLm tokens (record keys { byt = Some n.0 }) 2 taken n.2 (record {
-      value = tok.Num n.0 ∷ [];
-      set = λ d. record d { limits = record d.limits { byt = n.0 } };
-      is = bytlm_is n.0 s.1;
-      split = s.0;
-      is_set = record { new = absent_is keys.byt o.0 o.1; sets = λ name image. refl; one = record { each = has_byt keys n.0 } };
-    })
-
-tqe_key : (keys : Keys) (tokens : List Tok) (taken : TakenKey) → with_tqe keys tokens ≡ Ok taken → Stands keys key.TqeLm tokens taken
-tqe_key keys tokens taken h =
-    let o = bind_ok (once keys.tqe) _ taken h in
-    let n = bind_ok (limit_at tokens) _ taken o.2 in
-    let s = limit_stands tokens n.0 n.1 in
-    stands_as keys key.TqeLm tokens (record keys { tqe = Some n.0 }) 2 taken n.2 (record {
-      value = tok.Num n.0 ∷ [];
-      set = λ d. record d { limits = record d.limits { tqe = n.0 } };
-      is = tqelm_is n.0 s.1;
-      split = s.0;
-      is_set = record { new = absent_is keys.tqe o.0 o.1; sets = λ name image. refl; one = record { each = has_tqe keys n.0 } };
+      is_set = record { new = absent_is (limit_in keys l) o.0 o.1; sets = λ name image. limit_sets name image keys l n.0; one = record { each = has_limit keys l n.0 } };
     })
 
 privs_key : (keys : Keys) (tokens : List Tok) (taken : TakenKey) → with_privs keys tokens ≡ Ok taken → Stands keys key.Priv tokens taken
@@ -574,11 +460,7 @@ pub key_stands : (keys : Keys) (k : Key) (tokens : List Tok) (taken : TakenKey) 
 unfolding with_key
 key_stands keys key.Uic tokens taken h = uic_key keys tokens taken h
 key_stands keys key.Mode tokens taken h = mode_key keys tokens taken h
-key_stands keys key.AstLm tokens taken h = ast_key keys tokens taken h
-key_stands keys key.BioLm tokens taken h = bio_key keys tokens taken h
-key_stands keys key.DioLm tokens taken h = dio_key keys tokens taken h
-key_stands keys key.BytLm tokens taken h = byt_key keys tokens taken h
-key_stands keys key.TqeLm tokens taken h = tqe_key keys tokens taken h
+key_stands keys (key.Limit l) tokens taken h = limit_key keys l tokens taken h
 key_stands keys key.Priv tokens taken h = privs_key keys tokens taken h
 key_stands keys key.Start tokens taken h = start_key keys tokens taken h
 

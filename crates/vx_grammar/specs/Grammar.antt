@@ -8,6 +8,7 @@ use Rattle.vx_base.specs.declared.call.Operand.{Operand}
 use Rattle.vx_base.specs.declared.call.Target.{Target}
 use Rattle.vx_base.specs.declared.mode.Mode.{Mode}
 use Rattle.vx_base.specs.declared.mode.Mode.TheVariants.{User}
+use Rattle.vx_base.specs.declared.quota.Need.{Need}
 use Rattle.vx_base.specs.declared.service.Kind.{Kind}
 use Rattle.vx_base.specs.declared.service.Param.{Param}
 use Rattle.vx_base.specs.declared.service.Param.TheVariants.{Optional}
@@ -34,6 +35,8 @@ use Rattle.vx_script.specs.Statements.{rel_name, field_name}
 use Rattle.vx_script.specs.Places.{label_place, is_line_unit, rising, image_place}
 use Rattle.vx_script.specs.declared.keys.Key.{Key}
 use Rattle.vx_script.specs.declared.keys.Key.TheVariants as key
+use Rattle.vx_script.specs.declared.keys.Limit.{Limit}
+use Rattle.vx_script.specs.declared.keys.Limit.TheVariants as limit
 use Rattle.vx_script.specs.declared.privileges.Privilege.{Privilege}
 
 abbrev pub colon : Tok
@@ -155,16 +158,20 @@ pub data Privileges : List Tok → List Privilege → Type 0 where
   and_name : (p : Privilege) (tokens : List Tok) (ps : List Privilege) → Privileges tokens ps
       → Privileges (Word (privilege_name p) ∷ plus ∷ tokens) (p ∷ ps)
 
+-- limits of which one is n
+abbrev pub limited : Need → Limit → ℕ → Need
+limited limits limit.Ast n = record limits { ast = n }
+limited limits limit.Bio n = record limits { bio = n }
+limited limits limit.Dio n = record limits { dio = n }
+limited limits limit.Byt n = record limits { byt = n }
+limited limits limit.Tqe n = record limits { tqe = n }
+
 -- The value of a key, and what the key changes in the process declaration.
 pub data Setting : Key → List Tok → (ProcDecl → ProcDecl) → Type 0 where
   uic_is : (group member : ℕ) → Between 1 16382 group → Between 0 65534 member
       → Setting key.Uic (Num group ∷ colon ∷ Num member ∷ []) (λ d. record d { group = group; member = member })
   mode_is : (m : Mode) → Setting key.Mode (Word (mode_name m) ∷ []) (λ d. record d { mode = m })
-  astlm_is : (n : ℕ) → Between 0 1000000 n → Setting key.AstLm (Num n ∷ []) (λ d. record d { limits = record d.limits { ast = n } })
-  biolm_is : (n : ℕ) → Between 0 1000000 n → Setting key.BioLm (Num n ∷ []) (λ d. record d { limits = record d.limits { bio = n } })
-  diolm_is : (n : ℕ) → Between 0 1000000 n → Setting key.DioLm (Num n ∷ []) (λ d. record d { limits = record d.limits { dio = n } })
-  bytlm_is : (n : ℕ) → Between 0 1000000 n → Setting key.BytLm (Num n ∷ []) (λ d. record d { limits = record d.limits { byt = n } })
-  tqelm_is : (n : ℕ) → Between 0 1000000 n → Setting key.TqeLm (Num n ∷ []) (λ d. record d { limits = record d.limits { tqe = n } })
+  limit_is : (l : Limit) (n : ℕ) → Between 0 1000000 n → Setting (key.Limit l) (Num n ∷ []) (λ d. record d { limits = limited d.limits l n })
   no_priv_is : Setting key.Priv (Word (codes "NONE") ∷ []) (λ d. record d { privs = no_privs })
   priv_is : (tokens : List Tok) (ps : List Privilege) → Privileges tokens ps → IsTrue (are_distinct (map privilege_name ps))
       → Setting key.Priv tokens (λ d. record d { privs = fold granted no_privs ps })

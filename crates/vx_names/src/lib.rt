@@ -5,7 +5,6 @@
 //! one name the first is found. Units, images and labels have their names here.
 #![tactic(auto)]
 
-mod key;
 mod named;
 mod numbered;
 mod register;

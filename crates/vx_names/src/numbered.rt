@@ -3,13 +3,19 @@
 ghost use Rattle.std.specs.Prelude.{◌≡◌, ◌∷◌, ◌++◌, ◌&&◌, ◌==◌, [], OnOk, OnErr, bytes_eq, length};
 ghost use Rattle.std.specs.List.{list_any};
 
-use crate::key::{NameKey, NumberedKey};
 use crate::named::Numbered;
 use indexmap::IndexSet;
 use std::alloc::Global;
 use std::hash::{BuildHasherDefault, DefaultHasher};
 use std::marker::Model;
 use vx_base::{Name, NoMemory};
+
+/// A name and a number, by which a thing is found.
+#[derive(Clone, Copy, PartialEq, Eq, Hash)]
+struct NumberedKey {
+    name: Name,
+    number: u32,
+}
 
 /// Things in order, found by their names and numbers. Contracts see their list.
 #[derive(Drop)]
@@ -46,11 +52,7 @@ impl<T: Numbered> NumberedRegister<T> {
     pub fn has(&self, name: Name, number: u32) -> bool
         ensures { result ≡ list_any (λ item. bytes_eq name (T.name_of item) && (number == T.number_of item)) self.now }
     {
-        let key = NumberedKey {
-            name: NameKey(name),
-            number,
-        };
-        self.keys.contains(&key)
+        self.keys.contains(&NumberedKey { name, number })
     }
 
     /// Adds a thing at the end, or changes nothing.
@@ -60,7 +62,7 @@ impl<T: Numbered> NumberedRegister<T> {
     {
         self.items.reserve(1)?;
         self.keys.insert(NumberedKey {
-            name: NameKey(item.name()),
+            name: item.name(),
             number: item.number(),
         })?;
         match self.items.push(item) {

@@ -4,7 +4,6 @@ ghost use Rattle.std.specs.Prelude.{◌≡◌, ◌∷◌, ◌++◌, [], Some, No
 ghost use Rattle.std.specs.Option.{option_or};
 ghost use Rattle.indexmap.specs.IndexMap.{get};
 
-use crate::key::NameKey;
 use crate::named::Named;
 use indexmap::IndexMap;
 use std::alloc::Global;
@@ -15,7 +14,7 @@ use vx_base::{Name, NoMemory};
 /// The last place that a name can have.
 const LAST_PLACE: usize = 4_294_967_295;
 
-type Places = IndexMap<NameKey, u32, BuildHasherDefault<DefaultHasher>>;
+type Places = IndexMap<Name, u32, BuildHasherDefault<DefaultHasher>>;
 
 /// Things in order, found by their names. Contracts see their list.
 #[derive(Drop)]
@@ -37,14 +36,14 @@ impl<T: Named> Model for Register<T> {
 
 // Notes where a name stands. A name that has a place keeps it.
 #[tactic(auto, using(crate::proofs::Pushed::noted))]
-fn note(places: &mut Places, key: NameKey, place: u32) -> Result<(), NoMemory>
-    ensures ok { OnOk result ((k : _) → get bytes_eq places.new k ≡ option_or (get bytes_eq places.old k) (if bytes_eq k key then Some place else None)) }
+fn note(places: &mut Places, name: Name, place: u32) -> Result<(), NoMemory>
+    ensures ok { OnOk result ((k : _) → get bytes_eq places.new k ≡ option_or (get bytes_eq places.old k) (if bytes_eq k name then Some place else None)) }
     ensures err { OnErr result (places.new.entries ≡ places.old.entries) }
 {
-    if places.contains_key(&key) {
+    if places.contains_key(&name) {
         return Ok(());
     }
-    places.insert(key, place)?;
+    places.insert(name, place)?;
     Ok(())
 }
 
@@ -63,7 +62,7 @@ impl<T: Named> Register<T> {
     pub fn place(&self, name: Name) -> Option<u32>
         ensures { result ≡ position (λ item. bytes_eq name (T.name_of item)) self.now }
     {
-        self.places.get(&NameKey(name)).copied()
+        self.places.get(&name).copied()
     }
 
     /// Adds a thing at the end, or changes nothing. There is no memory for more than 2^32.
@@ -76,7 +75,7 @@ impl<T: Named> Register<T> {
             return Err(NoMemory);
         }
         self.items.reserve(1)?;
-        note(&mut self.places, NameKey(item.name()), place as u32)?;
+        note(&mut self.places, item.name(), place as u32)?;
         match self.items.push(item) {
             Ok(()) => Ok(()),
             Err(_) => unreachable!(),

@@ -18,7 +18,7 @@ ghost use Rattle.vx_procs.specs.Kernel.{Acts, Fits, changed, with_state};
 ghost use Rattle.vx_procs.specs.Ready.{HasSpares};
 ghost use Rattle.vx_procs.specs.Words.{advanced_at, frames_deleted, have_own_ids, moved_as, without_reached, without_started, HasDecl, HasImage};
 
-use crate::frames::{leave_all, place_top, wait_at_top};
+use crate::frames::{place_top, wait_at_top};
 use crate::procs::Core;
 use crate::reads::image_in;
 use vx_ast::Delivery;

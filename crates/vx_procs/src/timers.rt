@@ -1,11 +1,10 @@
 //! Timers and scheduled wakes.
 
-ghost use Rattle.std.specs.Prelude.{◌≡◌, ◌+◌, ◌<◌, ◌≤◌, ◌^◌, false, true, IfSome, Option, is_some, length, option_map};
+ghost use Rattle.std.specs.Prelude.{◌≡◌, ◌+◌, ◌<◌, ◌≤◌, ◌^◌, false, IfSome, Option, length, option_map};
 ghost use Rattle.std.specs.List.{find, AllByRecursion};
-ghost use Rattle.vx_base.specs.Pieces.{OfTimer, OfWake};
 ghost use Rattle.vx_base.specs.Queues.{least_due};
 ghost use Rattle.vx_record.specs.State.{IsProcess};
-ghost use Rattle.vx_record.specs.Charges.{ast_need, exceeds, timer_need};
+ghost use Rattle.vx_record.specs.Charges.{exceeds};
 ghost use Rattle.vx_record.specs.Sound.{AreOrdered, timer_id};
 ghost use Rattle.vx_record.specs.Timers.{at_time, drop_timers, is_due, next_time, with_timer};
 ghost use Rattle.vx_timers.specs.Seen.{alarm_of, passes};
@@ -16,7 +15,7 @@ ghost use Rattle.vx_procs.specs.Words.{alarm_need, due_entry, fired_ast, IsWoken
 
 use crate::process::due_need;
 use crate::procs::Core;
-use vx_base::{Effect, Id, Mode, Pid, Routine};
+use vx_base::{Effect, Id, Pid, Routine};
 use vx_timers::{Due, Falls, What, Which};
 
 impl<R: Routine> Core<R> {

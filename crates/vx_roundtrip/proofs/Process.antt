@@ -18,10 +18,12 @@ use Rattle.vx_text.proofs.Leading.{first-cons}
 use Rattle.vx_table.specs.Reading.{mode_word}
 use Rattle.vx_table.specs.Spelling.{mode_name}
 use Rattle.vx_script.specs.Declarations as read
-use Rattle.vx_script.specs.Keys.{keys_from, with_key, uic_at, mode_at, limit_at, privs_at, start_at, once, no_keys}
+use Rattle.vx_script.specs.Keys.{keys_from, with_key, uic_at, mode_at, limit_at, privs_at, start_at, limit_name, limit_in, with_limit_in, once, no_keys}
 use Rattle.vx_script.specs.Reading.{outside, between_images}
 use Rattle.vx_script.specs.Script as script
 use Rattle.vx_script.specs.declared.keys.Keys.{Keys}
+use Rattle.vx_script.specs.declared.keys.Limit.{Limit}
+use Rattle.vx_script.specs.declared.keys.Limit.TheVariants as limit
 use Rattle.vx_script.specs.declared.lines.DeclLine.{DeclLine}
 use Rattle.vx_script.specs.declared.parts.Parts.{Parts}
 use Rattle.vx_text.proofs.Runs.{and_parts}
@@ -153,25 +155,13 @@ mode_key : (keys : Keys) (m : Mode) (rest : List Tok) → once keys.mode ≡ Ok 
 unfolding keys_from with_key mode_at
 mode_key keys m rest o = rw (o, mode_back m) refl
 
-ast_key : (keys : Keys) (n : ℕ) (rest : List Tok) → once keys.ast ≡ Ok tt → nat_le n 1000000 ≡ true → keys_from 0 keys (tok.Word (codes "ASTLM") ∷ tok.Sign 61 ∷ tok.Num n ∷ rest) ≡ keys_from 0 (record keys { ast = Some n }) rest
+limit_key : (l : Limit) (keys : Keys) (n : ℕ) (rest : List Tok) → once (limit_in keys l) ≡ Ok tt → nat_le n 1000000 ≡ true → keys_from 0 keys (tok.Word (limit_name l) ∷ tok.Sign 61 ∷ tok.Num n ∷ rest) ≡ keys_from 0 (with_limit_in keys l n) rest
 unfolding keys_from with_key limit_at
-ast_key keys n rest o h = rw (o, low_zero n, h) refl
-
-bio_key : (keys : Keys) (n : ℕ) (rest : List Tok) → once keys.bio ≡ Ok tt → nat_le n 1000000 ≡ true → keys_from 0 keys (tok.Word (codes "BIOLM") ∷ tok.Sign 61 ∷ tok.Num n ∷ rest) ≡ keys_from 0 (record keys { bio = Some n }) rest
-unfolding keys_from with_key limit_at
-bio_key keys n rest o h = rw (o, low_zero n, h) refl
-
-dio_key : (keys : Keys) (n : ℕ) (rest : List Tok) → once keys.dio ≡ Ok tt → nat_le n 1000000 ≡ true → keys_from 0 keys (tok.Word (codes "DIOLM") ∷ tok.Sign 61 ∷ tok.Num n ∷ rest) ≡ keys_from 0 (record keys { dio = Some n }) rest
-unfolding keys_from with_key limit_at
-dio_key keys n rest o h = rw (o, low_zero n, h) refl
-
-byt_key : (keys : Keys) (n : ℕ) (rest : List Tok) → once keys.byt ≡ Ok tt → nat_le n 1000000 ≡ true → keys_from 0 keys (tok.Word (codes "BYTLM") ∷ tok.Sign 61 ∷ tok.Num n ∷ rest) ≡ keys_from 0 (record keys { byt = Some n }) rest
-unfolding keys_from with_key limit_at
-byt_key keys n rest o h = rw (o, low_zero n, h) refl
-
-tqe_key : (keys : Keys) (n : ℕ) (rest : List Tok) → once keys.tqe ≡ Ok tt → nat_le n 1000000 ≡ true → keys_from 0 keys (tok.Word (codes "TQELM") ∷ tok.Sign 61 ∷ tok.Num n ∷ rest) ≡ keys_from 0 (record keys { tqe = Some n }) rest
-unfolding keys_from with_key limit_at
-tqe_key keys n rest o h = rw (o, low_zero n, h) refl
+limit_key limit.Ast keys n rest o h = rw (o, low_zero n, h) refl
+limit_key limit.Bio keys n rest o h = rw (o, low_zero n, h) refl
+limit_key limit.Dio keys n rest o h = rw (o, low_zero n, h) refl
+limit_key limit.Byt keys n rest o h = rw (o, low_zero n, h) refl
+limit_key limit.Tqe keys n rest o h = rw (o, low_zero n, h) refl
 
 privs_taken : (keys : Keys) (p : Privs) (rest : List Tok) → once keys.privs ≡ Ok tt → keys_from 0 keys (tok.Word (codes "PRIV") ∷ tok.Sign 61 ∷ (names_toks (script.held_names p) ++ tok.Word (codes "START") ∷ rest)) ≡ keys_from (count (names_toks (script.held_names p)) + 1) (record keys { privs = Some p }) (tok.Sign 61 ∷ (names_toks (script.held_names p) ++ tok.Word (codes "START") ∷ rest))
 unfolding keys_from with_key
@@ -244,11 +234,11 @@ keys_back d r =
     let toks = names_toks (script.held_names d.privs) in
     uic_key no_keys d.group d.member _ refl r.low r.high r.member
     ∙ mode_key _ d.mode rest refl
-    ∙ ast_key _ d.limits.ast _ refl r.ast
-    ∙ bio_key _ d.limits.bio _ refl r.bio
-    ∙ dio_key _ d.limits.dio _ refl r.dio
-    ∙ byt_key _ d.limits.byt _ refl r.byt
-    ∙ tqe_key _ d.limits.tqe _ refl r.tqe
+    ∙ limit_key limit.Ast _ d.limits.ast _ refl r.ast
+    ∙ limit_key limit.Bio _ d.limits.bio _ refl r.bio
+    ∙ limit_key limit.Dio _ d.limits.dio _ refl r.dio
+    ∙ limit_key limit.Byt _ d.limits.byt _ refl r.byt
+    ∙ limit_key limit.Tqe _ d.limits.tqe _ refl r.tqe
     ∙ privs_taken _ d.privs _ refl
     ∙ skip_sign toks (start_toks d) _
     ∙ start_by _ d.start refl

@@ -6,11 +6,13 @@ use Rattle.vx_image.specs.WellFormed.{are_limits}
 use Rattle.vx_text.specs.declared.token.Tok.{Tok}
 use Rattle.vx_script.specs.Results.{given}
 use Rattle.vx_script.specs.Fields.{sign_at, number_at}
-use Rattle.vx_script.specs.Keys.{uic_at, mode_at, limit_at, privs_at, start_at, key_in, no_keys, once, with_uic, with_mode, with_ast, with_bio, with_dio, with_byt, with_tqe, with_privs, with_start, with_key, taken_key, keys_from, or, first_uic, limits_of}
+use Rattle.vx_script.specs.Keys.{uic_at, mode_at, limit_at, privs_at, start_at, key_in, no_keys, once, limit_in, with_limit_in, with_uic, with_mode, with_limit, with_privs, with_start, with_key, taken_key, keys_from, or, first_uic, limits_of}
 use Rattle.vx_script.specs.declared.fault.FaultKind.TheVariants as kind
 use Rattle.vx_script.specs.declared.keys.Key.{Key}
 use Rattle.vx_script.specs.declared.keys.Key.TheVariants as key
 use Rattle.vx_script.specs.declared.keys.Keys.{Keys}
+use Rattle.vx_script.specs.declared.keys.Limit.{Limit}
+use Rattle.vx_script.specs.declared.keys.Limit.TheVariants as limit
 use Rattle.vx_script.specs.declared.keys.TakenKey.{TakenKey}
 use Rattle.vx_script.specs.declared.keys.Uic.{Uic}
 use Rattle.vx_script.proofs.Chains.{after, after_by}
@@ -83,35 +85,18 @@ with_mode_is keys tokens h =
     after (mode_at tokens) _ IsTaken λ mode _.
     record { uic = h.uic; ast = h.ast; bio = h.bio; dio = h.dio; byt = h.byt; tqe = h.tqe }
 
-with_ast_is : (keys : Keys) (tokens : List Tok) → AreKeys keys → IfOk (with_ast keys tokens) IsTaken
-with_ast_is keys tokens h =
-    after (once keys.ast) _ IsTaken λ _ _.
-    after_by (limit_at tokens) _ IsLimit IsTaken (limit_is tokens) λ n k.
-    record { uic = h.uic; ast = k; bio = h.bio; dio = h.dio; byt = h.byt; tqe = h.tqe }
+limited_is : (keys : Keys) (l : Limit) (n : ℕ) → AreKeys keys → IsLimit n → AreKeys (with_limit_in keys l n)
+limited_is keys limit.Ast n h k = record { uic = h.uic; ast = k; bio = h.bio; dio = h.dio; byt = h.byt; tqe = h.tqe }
+limited_is keys limit.Bio n h k = record { uic = h.uic; ast = h.ast; bio = k; dio = h.dio; byt = h.byt; tqe = h.tqe }
+limited_is keys limit.Dio n h k = record { uic = h.uic; ast = h.ast; bio = h.bio; dio = k; byt = h.byt; tqe = h.tqe }
+limited_is keys limit.Byt n h k = record { uic = h.uic; ast = h.ast; bio = h.bio; dio = h.dio; byt = k; tqe = h.tqe }
+limited_is keys limit.Tqe n h k = record { uic = h.uic; ast = h.ast; bio = h.bio; dio = h.dio; byt = h.byt; tqe = k }
 
-with_bio_is : (keys : Keys) (tokens : List Tok) → AreKeys keys → IfOk (with_bio keys tokens) IsTaken
-with_bio_is keys tokens h =
-    after (once keys.bio) _ IsTaken λ _ _.
+with_limit_is : (keys : Keys) (l : Limit) (tokens : List Tok) → AreKeys keys → IfOk (with_limit keys l tokens) IsTaken
+with_limit_is keys l tokens h =
+    after (once (limit_in keys l)) _ IsTaken λ _ _.
     after_by (limit_at tokens) _ IsLimit IsTaken (limit_is tokens) λ n k.
-    record { uic = h.uic; ast = h.ast; bio = k; dio = h.dio; byt = h.byt; tqe = h.tqe }
-
-with_dio_is : (keys : Keys) (tokens : List Tok) → AreKeys keys → IfOk (with_dio keys tokens) IsTaken
-with_dio_is keys tokens h =
-    after (once keys.dio) _ IsTaken λ _ _.
-    after_by (limit_at tokens) _ IsLimit IsTaken (limit_is tokens) λ n k.
-    record { uic = h.uic; ast = h.ast; bio = h.bio; dio = k; byt = h.byt; tqe = h.tqe }
-
-with_byt_is : (keys : Keys) (tokens : List Tok) → AreKeys keys → IfOk (with_byt keys tokens) IsTaken
-with_byt_is keys tokens h =
-    after (once keys.byt) _ IsTaken λ _ _.
-    after_by (limit_at tokens) _ IsLimit IsTaken (limit_is tokens) λ n k.
-    record { uic = h.uic; ast = h.ast; bio = h.bio; dio = h.dio; byt = k; tqe = h.tqe }
-
-with_tqe_is : (keys : Keys) (tokens : List Tok) → AreKeys keys → IfOk (with_tqe keys tokens) IsTaken
-with_tqe_is keys tokens h =
-    after (once keys.tqe) _ IsTaken λ _ _.
-    after_by (limit_at tokens) _ IsLimit IsTaken (limit_is tokens) λ n k.
-    record { uic = h.uic; ast = h.ast; bio = h.bio; dio = h.dio; byt = h.byt; tqe = k }
+    limited_is keys l n h k
 
 with_privs_is : (keys : Keys) (tokens : List Tok) → AreKeys keys → IfOk (with_privs keys tokens) IsTaken
 with_privs_is keys tokens h =
@@ -129,11 +114,7 @@ with_key_is : (keys : Keys) (k : Key) (tokens : List Tok) → AreKeys keys → I
 unfolding with_key
 with_key_is keys key.Uic tokens h = with_uic_is keys tokens h
 with_key_is keys key.Mode tokens h = with_mode_is keys tokens h
-with_key_is keys key.AstLm tokens h = with_ast_is keys tokens h
-with_key_is keys key.BioLm tokens h = with_bio_is keys tokens h
-with_key_is keys key.DioLm tokens h = with_dio_is keys tokens h
-with_key_is keys key.BytLm tokens h = with_byt_is keys tokens h
-with_key_is keys key.TqeLm tokens h = with_tqe_is keys tokens h
+with_key_is keys (key.Limit l) tokens h = with_limit_is keys l tokens h
 with_key_is keys key.Priv tokens h = with_privs_is keys tokens h
 with_key_is keys key.Start tokens h = with_start_is keys tokens h
 

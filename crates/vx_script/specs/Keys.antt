@@ -14,6 +14,8 @@ use Rattle.vx_script.specs.declared.fault.FaultKind.TheVariants as kind
 use Rattle.vx_script.specs.declared.keys.Key.{Key}
 use Rattle.vx_script.specs.declared.keys.Key.TheVariants as key
 use Rattle.vx_script.specs.declared.keys.Keys.{Keys}
+use Rattle.vx_script.specs.declared.keys.Limit.{Limit}
+use Rattle.vx_script.specs.declared.keys.Limit.TheVariants as limit
 use Rattle.vx_script.specs.declared.keys.TakenKey.{TakenKey}
 use Rattle.vx_script.specs.declared.keys.Uic.{Uic}
 use Rattle.vx_script.specs.declared.privileges.Privilege.{Privilege}
@@ -115,19 +117,22 @@ start_at tokens = sign_at 61 tokens >>= λ _. number_at 0 1 (drop 1 tokens) >>= 
 
 -- Keys: each once, in any order.
 
+abbrev pub limit_name : Limit → List ℕ
+limit_name limit.Ast = codes "ASTLM"
+limit_name limit.Bio = codes "BIOLM"
+limit_name limit.Dio = codes "DIOLM"
+limit_name limit.Byt = codes "BYTLM"
+limit_name limit.Tqe = codes "TQELM"
+
 abbrev pub key_name : Key → List ℕ
 key_name key.Uic = codes "UIC"
 key_name key.Mode = codes "MODE"
-key_name key.AstLm = codes "ASTLM"
-key_name key.BioLm = codes "BIOLM"
-key_name key.DioLm = codes "DIOLM"
-key_name key.BytLm = codes "BYTLM"
-key_name key.TqeLm = codes "TQELM"
+key_name (key.Limit l) = limit_name l
 key_name key.Priv = codes "PRIV"
 key_name key.Start = codes "START"
 
 abbrev pub all_keys : List Key
-all_keys = key.Uic ∷ key.Mode ∷ key.AstLm ∷ key.BioLm ∷ key.DioLm ∷ key.BytLm ∷ key.TqeLm ∷ key.Priv ∷ key.Start ∷ []
+all_keys = key.Uic ∷ key.Mode ∷ key.Limit limit.Ast ∷ key.Limit limit.Bio ∷ key.Limit limit.Dio ∷ key.Limit limit.Byt ∷ key.Limit limit.Tqe ∷ key.Priv ∷ key.Start ∷ []
 
 abbrev pub key_word : List ℕ → Option Key
 key_word word = find (λ k. bytes_eq word (key_name k)) all_keys
@@ -139,6 +144,21 @@ key_in _ = None
 -- no key stands
 abbrev pub no_keys : Keys
 no_keys = record { uic = None; mode = None; ast = None; bio = None; dio = None; byt = None; tqe = None; privs = None; start = None }
+
+-- the limit that stands
+abbrev pub limit_in : Keys → Limit → Option ℕ
+limit_in keys limit.Ast = keys.ast
+limit_in keys limit.Bio = keys.bio
+limit_in keys limit.Dio = keys.dio
+limit_in keys limit.Byt = keys.byt
+limit_in keys limit.Tqe = keys.tqe
+
+abbrev pub with_limit_in : Keys → Limit → ℕ → Keys
+with_limit_in keys limit.Ast n = record keys { ast = Some n }
+with_limit_in keys limit.Bio n = record keys { bio = Some n }
+with_limit_in keys limit.Dio n = record keys { dio = Some n }
+with_limit_in keys limit.Byt n = record keys { byt = Some n }
+with_limit_in keys limit.Tqe n = record keys { tqe = Some n }
 
 abbrev pub once : {A : Type 0} → Option A → Result (Unit {0}) FaultKind
 once None = Ok tt
@@ -152,20 +172,8 @@ with_uic keys tokens = once keys.uic >>= λ _. uic_at tokens >>= λ uic. Ok (rec
 abbrev pub with_mode : Keys → List Tok → Result TakenKey FaultKind
 with_mode keys tokens = once keys.mode >>= λ _. mode_at tokens >>= λ mode. Ok (record { keys = record keys { mode = Some mode }; used = 2 })
 
-abbrev pub with_ast : Keys → List Tok → Result TakenKey FaultKind
-with_ast keys tokens = once keys.ast >>= λ _. limit_at tokens >>= λ n. Ok (record { keys = record keys { ast = Some n }; used = 2 })
-
-abbrev pub with_bio : Keys → List Tok → Result TakenKey FaultKind
-with_bio keys tokens = once keys.bio >>= λ _. limit_at tokens >>= λ n. Ok (record { keys = record keys { bio = Some n }; used = 2 })
-
-abbrev pub with_dio : Keys → List Tok → Result TakenKey FaultKind
-with_dio keys tokens = once keys.dio >>= λ _. limit_at tokens >>= λ n. Ok (record { keys = record keys { dio = Some n }; used = 2 })
-
-abbrev pub with_byt : Keys → List Tok → Result TakenKey FaultKind
-with_byt keys tokens = once keys.byt >>= λ _. limit_at tokens >>= λ n. Ok (record { keys = record keys { byt = Some n }; used = 2 })
-
-abbrev pub with_tqe : Keys → List Tok → Result TakenKey FaultKind
-with_tqe keys tokens = once keys.tqe >>= λ _. limit_at tokens >>= λ n. Ok (record { keys = record keys { tqe = Some n }; used = 2 })
+abbrev pub with_limit : Keys → Limit → List Tok → Result TakenKey FaultKind
+with_limit keys l tokens = once (limit_in keys l) >>= λ _. limit_at tokens >>= λ n. Ok (record { keys = with_limit_in keys l n; used = 2 })
 
 abbrev pub with_privs : Keys → List Tok → Result TakenKey FaultKind
 with_privs keys tokens = once keys.privs >>= λ _. privs_at tokens >>= λ taken. Ok (record { keys = record keys { privs = Some taken.privs }; used = taken.used + 1 })
@@ -176,11 +184,7 @@ with_start keys tokens = once keys.start >>= λ _. start_at tokens >>= λ start.
 unfoldable pub with_key : Keys → Key → List Tok → Result TakenKey FaultKind
 with_key keys key.Uic tokens = with_uic keys tokens
 with_key keys key.Mode tokens = with_mode keys tokens
-with_key keys key.AstLm tokens = with_ast keys tokens
-with_key keys key.BioLm tokens = with_bio keys tokens
-with_key keys key.DioLm tokens = with_dio keys tokens
-with_key keys key.BytLm tokens = with_byt keys tokens
-with_key keys key.TqeLm tokens = with_tqe keys tokens
+with_key keys (key.Limit l) tokens = with_limit keys l tokens
 with_key keys key.Priv tokens = with_privs keys tokens
 with_key keys key.Start tokens = with_start keys tokens
 

@@ -11,16 +11,22 @@ use vx_base::{Mode, Privs};
 use vx_table::mode_word;
 use vx_text::{Tok, Token};
 
+/// A quota limit.
+#[derive(Clone, Copy)]
+pub enum Limit {
+    Ast,
+    Bio,
+    Dio,
+    Byt,
+    Tqe,
+}
+
 /// A key.
 #[derive(Clone, Copy)]
 pub enum Key {
     Uic,
     Mode,
-    AstLm,
-    BioLm,
-    DioLm,
-    BytLm,
-    TqeLm,
+    Limit(Limit),
     Priv,
     Start,
 }
@@ -74,15 +80,15 @@ fn key_word(word: &[u8]) -> Option<Key>
     } else if word == b"MODE".as_slice() {
         Some(Key::Mode)
     } else if word == b"ASTLM".as_slice() {
-        Some(Key::AstLm)
+        Some(Key::Limit(Limit::Ast))
     } else if word == b"BIOLM".as_slice() {
-        Some(Key::BioLm)
+        Some(Key::Limit(Limit::Bio))
     } else if word == b"DIOLM".as_slice() {
-        Some(Key::DioLm)
+        Some(Key::Limit(Limit::Dio))
     } else if word == b"BYTLM".as_slice() {
-        Some(Key::BytLm)
+        Some(Key::Limit(Limit::Byt))
     } else if word == b"TQELM".as_slice() {
-        Some(Key::TqeLm)
+        Some(Key::Limit(Limit::Tqe))
     } else if word == b"PRIV".as_slice() {
         Some(Key::Priv)
     } else if word == b"START".as_slice() {
@@ -193,63 +199,38 @@ fn with_mode(keys: Keys, tokens: &[Token]) -> Result<TakenKey, FaultKind>
     Ok(TakenKey { keys, used: 2 })
 }
 
-fn with_ast(keys: Keys, tokens: &[Token]) -> Result<TakenKey, FaultKind>
-    ensures { result ≡ spec.with_ast keys (toks tokens.now) }
+// The limit that stands.
+fn limit_in(keys: Keys, limit: Limit) -> Option<u32>
+    ensures { result ≡ spec.limit_in keys limit }
 {
-    once(keys.ast)?;
-    let n = limit_at(tokens)?;
-    let keys = Keys {
-        ast: Some(n),
-        ..keys
-    };
-    Ok(TakenKey { keys, used: 2 })
+    match limit {
+        Limit::Ast => keys.ast,
+        Limit::Bio => keys.bio,
+        Limit::Dio => keys.dio,
+        Limit::Byt => keys.byt,
+        Limit::Tqe => keys.tqe,
+    }
 }
 
-fn with_bio(keys: Keys, tokens: &[Token]) -> Result<TakenKey, FaultKind>
-    ensures { result ≡ spec.with_bio keys (toks tokens.now) }
+fn with_limit_in(keys: Keys, limit: Limit, n: u32) -> Keys
+    ensures { result ≡ spec.with_limit_in keys limit n }
 {
-    once(keys.bio)?;
-    let n = limit_at(tokens)?;
-    let keys = Keys {
-        bio: Some(n),
-        ..keys
-    };
-    Ok(TakenKey { keys, used: 2 })
+    let value = Some(n);
+    match limit {
+        Limit::Ast => Keys { ast: value, ..keys },
+        Limit::Bio => Keys { bio: value, ..keys },
+        Limit::Dio => Keys { dio: value, ..keys },
+        Limit::Byt => Keys { byt: value, ..keys },
+        Limit::Tqe => Keys { tqe: value, ..keys },
+    }
 }
 
-fn with_dio(keys: Keys, tokens: &[Token]) -> Result<TakenKey, FaultKind>
-    ensures { result ≡ spec.with_dio keys (toks tokens.now) }
+fn with_limit(keys: Keys, limit: Limit, tokens: &[Token]) -> Result<TakenKey, FaultKind>
+    ensures { result ≡ spec.with_limit keys limit (toks tokens.now) }
 {
-    once(keys.dio)?;
+    once(limit_in(keys, limit))?;
     let n = limit_at(tokens)?;
-    let keys = Keys {
-        dio: Some(n),
-        ..keys
-    };
-    Ok(TakenKey { keys, used: 2 })
-}
-
-fn with_byt(keys: Keys, tokens: &[Token]) -> Result<TakenKey, FaultKind>
-    ensures { result ≡ spec.with_byt keys (toks tokens.now) }
-{
-    once(keys.byt)?;
-    let n = limit_at(tokens)?;
-    let keys = Keys {
-        byt: Some(n),
-        ..keys
-    };
-    Ok(TakenKey { keys, used: 2 })
-}
-
-fn with_tqe(keys: Keys, tokens: &[Token]) -> Result<TakenKey, FaultKind>
-    ensures { result ≡ spec.with_tqe keys (toks tokens.now) }
-{
-    once(keys.tqe)?;
-    let n = limit_at(tokens)?;
-    let keys = Keys {
-        tqe: Some(n),
-        ..keys
-    };
+    let keys = with_limit_in(keys, limit, n);
     Ok(TakenKey { keys, used: 2 })
 }
 
@@ -288,11 +269,7 @@ fn with_key(keys: Keys, key: Key, tokens: &[Token]) -> Result<TakenKey, FaultKin
     match key {
         Key::Uic => with_uic(keys, tokens),
         Key::Mode => with_mode(keys, tokens),
-        Key::AstLm => with_ast(keys, tokens),
-        Key::BioLm => with_bio(keys, tokens),
-        Key::DioLm => with_dio(keys, tokens),
-        Key::BytLm => with_byt(keys, tokens),
-        Key::TqeLm => with_tqe(keys, tokens),
+        Key::Limit(limit) => with_limit(keys, limit, tokens),
         Key::Priv => with_privs(keys, tokens),
         Key::Start => with_start(keys, tokens),
     }

@@ -9,7 +9,7 @@ use crate::bytes::{
     alphanumeric_len, capitals, decimal_of, hex_len, hex_of, is_digit, is_letter, is_sign,
     service_len, to_upper, word_len,
 };
-use crate::quoted::{Text, quoted_text};
+use crate::quoted::quoted_text;
 use crate::token::{LexFail, Tok};
 use std::alloc::Global;
 use vx_base::{Cond, Name, NoMemory};

@@ -12,11 +12,12 @@ pub record Numbered : Type 0 where
 abbrev pub IsIn : ℕ → ℕ → ℕ → Type 0
 IsIn least most n = (least ≤ n) × (n ≤ most)
 
--- the number that a word is, from the least to the most
+-- a number, if it is not below the least
 abbrev pub at_least : ℕ → Option ℕ → Option ℕ
 at_least least None = None
 at_least least (Some n) = if nat_le least n then Some n else None
 
+-- the number that a word is, from the least to the most
 abbrev pub number_in : ℕ → ℕ → List ℕ → Option ℕ
 number_in least most word = at_least least (number_up_to most word)
 
