@@ -1,33 +1,13 @@
 -- What a test finds in a list, and what a change of the item found leaves.
-use Rattle.std.proofs.Common.{◌≡◌, List, [], ◌∷◌, Bool, true, false, cond, ◌||◌, Some, None, refl}
-use Rattle.std.specs.List.{AllByRecursion, find, list_any}
+use Rattle.std.proofs.Common.{◌≡◌, List, [], ◌∷◌, Bool, true, false, cond, Some, None, refl}
+use Rattle.std.specs.List.{AllByRecursion, find}
 use Rattle.vx_base.specs.Lists.{amend}
-
-one : {A : Type 0} (x y : A) → Some x ≡ Some y → x ≡ y
-one x y e = cc
-
--- where nothing is found, nothing passes
-pub none_found : {A : Type 0} (p : A → Bool) (xs : List A) → find p xs ≡ None → AllByRecursion (λ x. p x ≡ false) xs
-none_found {A} p [] e = tt
-none_found {A} p (x ∷ xs) e = at (p x) refl e (none_found p xs)
-  where
-    at : (b : Bool) → p x ≡ b → cond b (Some x) (find p xs) ≡ None → (find p xs ≡ None → AllByRecursion (λ y. p y ≡ false) xs) → AllByRecursion (λ y. p y ≡ false) (x ∷ xs)
-    at true t f k = absurd (let never : Some x ≡ None = f in cc)
-    at false t f k = (t, k f)
+use Rattle.std.proofs.lemmas.Option.{same_Some}
 
 -- where nothing passes, nothing is found
 pub not_found : {A : Type 0} (p : A → Bool) (xs : List A) → AllByRecursion (λ x. p x ≡ false) xs → find p xs ≡ None
 not_found p [] h = refl
 not_found p (x ∷ xs) h = rw h.0 (not_found p xs h.1)
-
--- where something is found, something passes
-pub found_any : {A : Type 0} (p : A → Bool) (xs : List A) (y : A) → find p xs ≡ Some y → list_any p xs ≡ true
-found_any {A} p [] y e = absurd (let never : None ≡ Some y = e in cc)
-found_any {A} p (x ∷ xs) y e = at (p x) e (found_any p xs y)
-  where
-    at : (b : Bool) → cond b (Some x) (find p xs) ≡ Some y → (find p xs ≡ Some y → list_any p xs ≡ true) → (b || list_any p xs) ≡ true
-    at true f k = refl
-    at false f k = k f
 
 -- what is found and changed is found again
 pub amended_found : {A : Type 0} (p : A → Bool) (f : A → A) (xs : List A) (y : A) → find p xs ≡ Some y → p (f y) ≡ true → find p (amend p f xs) ≡ Some (f y)
@@ -35,7 +15,7 @@ amended_found {A} p f [] y e k = absurd (let never : None ≡ Some y = e in cc)
 amended_found {A} p f (x ∷ xs) y e k = at (p x) refl e (λ g. amended_found p f xs y g k)
   where
     at : (b : Bool) → p x ≡ b → cond b (Some x) (find p xs) ≡ Some y → (find p xs ≡ Some y → find p (amend p f xs) ≡ Some (f y)) → find p (cond b (f x ∷ xs) (x ∷ amend p f xs)) ≡ Some (f y)
-    at true t g m = rw (one x y g) (rw k refl)
+    at true t g m = rw (same_Some x y g) (rw k refl)
     at false t g m = rw t (m g)
 
 -- what holds of all, and of what is found and changed, holds of all then
@@ -44,7 +24,7 @@ amended_holds {A} P p f [] y e k h = tt
 amended_holds {A} P p f (x ∷ xs) y e k h = at (p x) e (λ g. amended_holds P p f xs y g k h.1)
   where
     at : (b : Bool) → cond b (Some x) (find p xs) ≡ Some y → (find p xs ≡ Some y → AllByRecursion P (amend p f xs)) → AllByRecursion P (cond b (f x ∷ xs) (x ∷ amend p f xs))
-    at true g m = (rw (one x y g) k, h.1)
+    at true g m = (rw (same_Some x y g) k, h.1)
     at false g m = (h.0, m g)
 
 -- where nothing passes, what is changed so that it passes is found
@@ -53,5 +33,5 @@ amended_first {A} q p f [] y e k h = absurd (let never : None ≡ Some y = e in 
 amended_first {A} q p f (x ∷ xs) y e k h = at (p x) e (λ g. amended_first q p f xs y g k h.1)
   where
     at : (b : Bool) → cond b (Some x) (find p xs) ≡ Some y → (find p xs ≡ Some y → find q (amend p f xs) ≡ Some (f y)) → find q (cond b (f x ∷ xs) (x ∷ amend p f xs)) ≡ Some (f y)
-    at true g m = rw (one x y g) (rw k refl)
+    at true g m = rw (same_Some x y g) (rw k refl)
     at false g m = rw h.0 (m g)

@@ -20,6 +20,8 @@ use Rattle.vx_exec.proofs.Enabled.{unit_iff}
 use Rattle.vx_exec.proofs.Runs.{after_more, going_below, steps_more}
 use Rattle.vx_carrier.specs.Desk.{Desk, HasRun, IsGoing, advanced}
 use Rattle.vx_carrier.specs.Turns.{end}
+use Rattle.vx_procs.proofs.Booked.{one_few}
+use Rattle.vx_base.proofs.First.{found_passes}
 
 -- Events that are enabled.
 
@@ -30,14 +32,6 @@ found_there p (x ∷ es) e f = at (p x) f (found_there p es e)
     at : (b : Bool) → cond b (Some x) (find p es) ≡ Some e → (find p es ≡ Some e → Contains es e) → Contains (x ∷ es) e
     at true g k = (0, omega arith, (let same : x ≡ e = cc in same))
     at false g k = let h = k g in (suc h.0, omega (arith, h.1), h.2)
-
-found_passes : (p : Event → Bool) (es : List Event) (e : Event) → find p es ≡ Some e → p e ≡ true
-found_passes p [] e f = absurd (let never : None ≡ Some e = f in cc)
-found_passes p (x ∷ es) e f = at (p x) refl f (found_passes p es e)
-  where
-    at : (b : Bool) → p x ≡ b → cond b (Some x) (find p es) ≡ Some e → (find p es ≡ Some e → p e ≡ true) → p e ≡ true
-    at true t g k = (let same : x ≡ e = cc in rw (← same) t)
-    at false t g k = k g
 
 pub open_enabled : (s : State) (e : Event) → first_open s ≡ Some e → Contains (enabled s) e
 open_enabled s e f = found_there (λ x. not (is_don x)) (enabled s) e f
@@ -102,13 +96,9 @@ home_set ks u = at ks u.0
     at (x ∷ xs) zero = refl
     at (x ∷ xs) (suc i) = at xs i
 
-one_most : (b : Bool) → one b ≤ 1
-one_most true = omega arith
-one_most false = omega arith
-
 pub tally_most : (ks : List Stand) → tally is_out ks ≤ length ks
 tally_most [] = omega arith
-tally_most (k ∷ ks) = let a = tally_most ks in let b = one_most (is_out k) in omega (arith, a, b)
+tally_most (k ∷ ks) = let a = tally_most ks in let b = one_few (is_out k) in omega (arith, a, b)
 
 -- one that is out no more
 pub tally_less : (ks : List Stand) (i : ℕ) (k : Stand) → is_out k ≡ false → tally is_out (slice_set ks i k) ≤ tally is_out ks

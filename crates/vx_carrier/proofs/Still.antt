@@ -1,7 +1,7 @@
 -- A unit holds what it held at a BEG, and the request is the one that was taken up, for as long as that request is outstanding.
 use Rattle.std.proofs.Common.{◌≡◌, ◌≢◌, ◌⊎◌, inl, inr, ℕ, ◌+◌, ◌≤◌, List, [], ◌∷◌, Bool, true, false, cond, ◌==◌, ◌&&◌, not, Option, Some, None, is_some, option_map, refl, sym, ap, ◌∙◌, subst, arith}
 use Rattle.std.specs.List.{AllByRecursion, find, list_any}
-use Rattle.std.proofs.lemmas.Bool.{and_parts, eq-eqb, eqb-true}
+use Rattle.std.proofs.lemmas.Bool.{and_parts, eq-eqb, eqb-true, false_from_ne_true}
 use Rattle.vx_base.specs.Lists.{less}
 use Rattle.vx_base.specs.Pieces.{DeviceUnit, Queued, Request}
 use Rattle.vx_base.specs.Queues.{front, in_service, is_on, is_served_by, is_unit, waits_for}
@@ -24,17 +24,16 @@ use Rattle.vx_record.specs.State.{State, change, unit_at}
 use Rattle.vx_record.proofs.Apart.{requests_found}
 use Rattle.vx_record.proofs.Base.{Base}
 use Rattle.vx_record.proofs.Cancelled.{finish_requests}
-use Rattle.vx_record.proofs.Lists.{all_both, all_find, all_weaker, find_passes, none_passes, removed}
+use Rattle.vx_record.proofs.Lists.{all_both, all_find, all_weaker, none_passes, removed, found_any, none_found}
 use Rattle.vx_record.proofs.Along.{beg_base, step_base}
 use Rattle.vx_record.proofs.Moves.{HasRequest}
 use Rattle.vx_record.proofs.Steps.{IsThere, is_headed}
 use Rattle.vx_record.proofs.Told.{started_moves, step_moves}
 use Rattle.vx_carrier.proofs.Lasting.{HoldOfAll, Lasts, moves_hold}
-use Rattle.vx_carrier.proofs.Listed.{amended_first, amended_found, amended_holds, found_any, none_found, not_found}
+use Rattle.vx_carrier.proofs.Listed.{amended_first, amended_found, amended_holds, not_found}
 use Rattle.vx_record.proofs.Fixed.{Spares, step_keeps_unit}
-
-one : {A : Type 0} (x y : A) → Some x ≡ Some y → x ≡ y
-one x y e = cc
+use Rattle.vx_base.proofs.First.{found_passes}
+use Rattle.std.proofs.lemmas.Option.{same_Some}
 
 -- What lasts, along an event that is no BEG.
 
@@ -118,11 +117,7 @@ BeginsNone (event.Beg v) u = v.0 ≢ u.0
 BeginsNone e u = Unit {0}
 
 front_on : (s : State) (v : UnitNo) (r : Request) → front v s.requests ≡ Some r → is_on v r ≡ true
-front_on s v r e = waits_on v r (find_passes (waits_for v) s.requests r (front_waits v s.requests r e).1)
-
-not_true : (b : Bool) → (b ≡ true → ⊥) → b ≡ false
-not_true true h = absurd (h refl)
-not_true false h = refl
+front_on s v r e = waits_on v r (found_passes (waits_for v) s.requests r (front_waits v s.requests r e).1)
 
 idle_step : (u : UnitNo) (s : State) (e : Event) → BeginsNone e u → IsThere s e → Base s → HoldOfAll 0 (IsIdleAt u) s → HoldOfAll 0 (IsIdleAt u) (step s e).after
 idle_step u s (event.Run p) k m b h = step_holds 0 (IsIdleAt u) (idle_lasts u) s (event.Run p) refl m b h
@@ -130,7 +125,7 @@ idle_step u s (event.Ast p) k m b h = step_holds 0 (IsIdleAt u) (idle_lasts u) s
 idle_step u s (event.Rdn p) k m b h = step_holds 0 (IsIdleAt u) (idle_lasts u) s (event.Rdn p) refl m b h
 idle_step u s (event.Beg v) k m b h =
     beg_holds 0 (IsIdleAt u) s v b
-    (λ r e i. not_true (is_served_by u (taken_up r)) (λ on. k (same_unit_no u v r.req.device (served_on u (taken_up r) on) (front_on s v r e)))) h
+    (λ r e i. false_from_ne_true (is_served_by u (taken_up r)) (λ on. k (same_unit_no u v r.req.device (served_on u (taken_up r) on) (front_on s v r e)))) h
 idle_step u s (event.Don v) k m b h = step_holds 0 (IsIdleAt u) (idle_lasts u) s (event.Don v) refl m b h
 idle_step u s event.Tick k m b h = step_holds 0 (IsIdleAt u) (idle_lasts u) s event.Tick refl m b h
 
@@ -208,7 +203,7 @@ don_ends u r0 held s b h = at (in_service u s.requests) refl
     at None e = absurd (let never : false ≡ true = sym (ap is_some e) ∙ h.serves in cc)
     at (Some r) e =
         let here : IsOnly u r0 r = all_find (IsOnly u r0) (is_served_by u) s.requests r h.only e in
-        let same : request_id r ≡ r0.id.0 = here.alone (find_passes (is_served_by u) s.requests r e) in
+        let same : request_id r ≡ r0.id.0 = here.alone (found_passes (is_served_by u) s.requests r e) in
         let x = settled (unit_at s u) r.req in
         let gone : AllByRecursion (IsOther r.req.id.0) (less (this_request r.req.id) s.requests) = removed request_id r.req.id.0 0 s.next s.requests b.requests in
         subst (λ (n : ℕ). AllByRecursion (IsOther n) (don s u (Some r)).after.requests) same
@@ -291,7 +286,7 @@ below high (x ∷ xs) low h = let k = below high xs (request_id x + 1) h.1 in (o
 same_found : (s : State) (r x : Request) → find (this_request r.req.id) s.requests ≡ Some r → HasRequest s x → request_id x ≡ request_id r → x ≡ r
 same_found s r x at has e =
     let are : x.req.id ≡ r.req.id = ap (λ (n : ℕ). record { 0 = n }) e in
-    one x r (sym has ∙ ap (λ (i : Id). find (this_request i) s.requests) are ∙ at)
+    same_Some x r (sym has ∙ ap (λ (i : Id). find (this_request i) s.requests) are ∙ at)
 
 -- at its BEG the front request is the only one that the unit serves
 pub begun_at : (s : State) (u : UnitNo) (r : Request) → Base s → front u s.requests ≡ Some r → HasBegun u r.req (unit_at s u) (step s (event.Beg u)).after
@@ -340,12 +335,12 @@ begun_serves s u r b e =
 none_left : (u : UnitNo) (r0 : Req) (t : State) (o : Option Request) → in_service u t.requests ≡ o → AllByRecursion (IsOnly u r0) t.requests → AllByRecursion (IsOther r0.id.0) t.requests → is_some o ≡ true → ⊥
 none_left u r0 t None e only gone some = (let never : false ≡ true = some in cc)
 none_left u r0 t (Some r) e only gone some =
-    all_find (IsOther r0.id.0) (is_served_by u) t.requests r gone e ((all_find (IsOnly u r0) (is_served_by u) t.requests r only e).alone (find_passes (is_served_by u) t.requests r e))
+    all_find (IsOther r0.id.0) (is_served_by u) t.requests r gone e ((all_find (IsOnly u r0) (is_served_by u) t.requests r only e).alone (found_passes (is_served_by u) t.requests r e))
 
 gone_asked : (r0 : Req) (u : UnitNo) (s : State) (o : Option Request) → in_service u s.requests ≡ o → AllByRecursion (IsOther r0.id.0) s.requests → option_map (λ (r : Request). r.req.id) o ≡ Some r0.id → ⊥
 gone_asked r0 u s None e gone asked = (let never : None ≡ Some r0.id = asked in cc)
 gone_asked r0 u s (Some r) e gone asked =
-    let same : r.req.id ≡ r0.id = one r.req.id r0.id asked in
+    let same : r.req.id ≡ r0.id = same_Some r.req.id r0.id asked in
     all_find (IsOther r0.id.0) (is_served_by u) s.requests r gone e (ap (λ (i : Id). i.0) same)
 
 pub none_serves : (u : UnitNo) (r0 : Req) (held : DeviceUnit) (s : State) (v : UnitNo) → v.0 ≡ u.0 → HasBegun u r0 held s → option_map (λ (r : Request). r.req.id) (in_service u s.requests) ≡ Some r0.id → is_some (in_service v (step s (event.Don u)).after.requests) ≡ true → ⊥

@@ -1,7 +1,6 @@
 -- The journal of a run that has ended is judged as it has ended.
-use Rattle.std.proofs.Common.{◌≡◌, ℕ, zero, suc, ◌≤◌, nat_le, Bool, true, false, cond, List, [], ◌∷◌, length, bytes_eq, Some, None, refl, sym, ap, subst, ◌∙◌, arith}
+use Rattle.std.proofs.Common.{◌≡◌, ℕ, zero, suc, ◌≤◌, nat_le, Bool, true, false, cond, List, [], ◌∷◌, length, Some, None, refl, sym, ap, subst, ◌∙◌, arith}
 use Rattle.std.proofs.lemmas.Bool.{leb-true, le-leb}
-use Rattle.std.proofs.lemmas.Slice.Eq.{bytes_eq-Decides}
 use Rattle.vx_base.specs.declared.record.End.{End}
 use Rattle.vx_base.specs.declared.record.End.TheVariants.{Limit}
 use Rattle.vx_base.specs.declared.record.Event.{Event}
@@ -16,6 +15,7 @@ use Rattle.vx_journal.specs.RunJournal.{run_journal}
 use Rattle.vx_journal.specs.Transcript.{trailer_lines}
 use Rattle.vx_check.specs.Laws.{RunJudged, TranscriptJudged}
 use Rattle.vx_check.specs.Verdict.{of_run, ended_verdict, limit_for, trailer_verdict}
+use Rattle.vx_lines.proofs.EffectsBack.{bytes_same}
 
 -- how a run has ended by its limit is how it has by its number of records
 
@@ -37,16 +37,13 @@ by_events : (limit n : ℕ) (deleted : Bool) (es : List Event) (end : End) → 1
 by_events limit n deleted [] end above h = h
 by_events limit n deleted (e ∷ es) end above h = at_limit limit n end above h
 
-same_bytes : (bytes : List ℕ) → bytes_eq bytes bytes ≡ true
-same_bytes bytes = (bytes_eq-Decides bytes bytes).1 refl
-
 pub run_judged : RunJudged
 run_judged system recs limit end run above h =
     let s : State = after system recs in
     let n : ℕ = length recs in
     let trailer : List ℕ = ended_lines (trailer_lines s end n) in
     let ended : end_after system recs (limit_for n) ≡ Some end = by_events limit n (are_deleted s) (enabled s) end above h in
-    let own : trailer_verdict s n trailer (Some end) ≡ ended_verdict end n = rw (same_bytes trailer) refl in
+    let own : trailer_verdict s n trailer (Some end) ≡ ended_verdict end n = rw (bytes_same trailer) refl in
     of_run run (sym (ap (trailer_verdict s n trailer) ended ∙ own))
 
 pub transcript_judged : TranscriptJudged

@@ -1,7 +1,7 @@
 -- Entries that fire: one after another, as the machine has them and as the code takes them.
 use Rattle.std.proofs.Common.{◌≡◌, ℕ, ◌+◌, ◌<◌, ◌≤◌, ◌-◌, List, [], ◌∷◌, ◌++◌, Bool, true, false, cond, ◌==◌, length, length-set, Option, Some, None, is_some, refl, ap, sym, subst, ◌∙◌, arith}
 use Rattle.std.specs.List.{AllByRecursion, filter, find}
-use Rattle.std.proofs.lemmas.Bool.{eqb-false, leb-true}
+use Rattle.std.proofs.lemmas.Bool.{eqb-false, leb-true, false_from_ne_true}
 use Rattle.vx_base.specs.Lists.{amend, less}
 use Rattle.vx_base.specs.Pieces.{Queued, Timer, Alarm, OfTimer, OfWake}
 use Rattle.vx_base.specs.declared.effects.Cell.{Cell}
@@ -17,7 +17,7 @@ use Rattle.vx_record.specs.Flags.{cell, flag_where_named}
 use Rattle.vx_record.specs.Parts.{Part, and_then, each, nothing, tells}
 use Rattle.vx_record.specs.Sound.{AreOrdered, timer_id}
 use Rattle.vx_record.specs.Timers.{after_wake, due_again, fire, fired, is_due, que_timer, this_timer}
-use Rattle.vx_record.proofs.Lists.{all_amend, all_less, either, either_by, false_from, ordered_amend, ordered_less}
+use Rattle.vx_record.proofs.Lists.{all_amend, all_less, either, either_by, ordered_amend, ordered_less}
 use Rattle.vx_timers.specs.Seen.{falls_of}
 use Rattle.vx_timers.specs.declared.due.Falls.{Falls}
 use Rattle.vx_timers.specs.declared.due.Falls.TheVariants as falls
@@ -134,7 +134,7 @@ later_filter now n some (x ∷ xs) h =
     let f = due_again n in
     elim (is_due now x) as (λ b. filter test (cond b (f x ∷ xs) (x ∷ amend test f xs)) ≡ filter test (cond b xs (x ∷ less test xs))) [
       | true ↦
-          let isnt : is_due now (f x) ≡ false = false_from (is_due now (f x)) (λ due. let le = leb-true (x.due + n) now due in let above = eqb-false n 0 some in omega (arith, le, h.0, above)) in
+          let isnt : is_due now (f x) ≡ false = false_from_ne_true (is_due now (f x)) (λ due. let le = leb-true (x.due + n) now due in let above = eqb-false n 0 some in omega (arith, le, h.0, above)) in
           ap (λ b. cond b (f x ∷ filter test xs) (filter test xs)) isnt
       | false ↦ ap (λ zs. cond (is_due now x) (x ∷ zs) zs) (later_filter now n some xs h.1)
     ]

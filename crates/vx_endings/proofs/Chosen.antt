@@ -11,7 +11,7 @@ use Rattle.vx_record.specs.State.{State}
 use Rattle.vx_explore.specs.Runs.{Run, no_steps, step_before}
 use Rattle.vx_endings.specs.Interleavings.{after_event, after_place, event_count, runs_from}
 use Rattle.vx_record.specs.Picked.{follow, picked_from}
-use Rattle.vx_endings.proofs.Rows.{all_append}
+use Rattle.vx_record.proofs.Lists.{all_append}
 
 -- the records that the run's places choose are those of a run of the machine that stops where the run does
 pub record IsChosen (n : ℕ) (s : State) (r : Run State) : Type 0 where

@@ -19,12 +19,10 @@ use Rattle.vx_endings.specs.Explored.{after_in, enabled_in, ending_in, open_coun
 use Rattle.vx_endings.specs.Interleavings.{IsTooWide, after_place, event_count}
 use Rattle.vx_endings.proofs.Summed.{seen-shortest_first, seen-summary}
 use Rattle.vx_endings.proofs.Viewed.{IsViewed, crowded_behind, crowded_seen, seen-runs}
+use Rattle.vx_exec.proofs.Runs.{opened}
 
 abbrev state_of : Executive → State
 state_of x = x.state
-
-abbrev pub opened : System → ℕ → Executive
-opened system limit = record { state = first system; limit = limit; taken = 0 }
 
 -- the limit leaves n records more
 abbrev HasLeft : ℕ → Executive → Type 0

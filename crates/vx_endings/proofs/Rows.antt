@@ -1,11 +1,12 @@
 -- The rows of a summary are those of its runs: each run has a row, and each row is of a run.
-use Rattle.std.proofs.Common.{◌≡◌, ℕ, zero, suc, ◌<◌, ◌≤◌, List, [], ◌∷◌, ◌++◌, length, Bool, true, false, cond, refl, sym, ap, subst, ◌∙◌, map, arith, inl, inr, ◌⊎◌, slice_index_or, Contains, eq-eqb}
+use Rattle.std.proofs.Common.{◌≡◌, ℕ, zero, suc, ◌<◌, ◌≤◌, List, [], ◌∷◌, length, Bool, true, false, cond, refl, sym, ap, subst, ◌∙◌, map, arith, inl, inr, ◌⊎◌, slice_index_or, Contains, eq-eqb}
 use Rattle.std.specs.Prelude.{◌==◌, filter}
 use Rattle.std.specs.List.{AllByRecursion, list_any}
 use Rattle.std.proofs.lemmas.Bool.{or_cases, cases_eq}
 use Rattle.std.proofs.lemmas.List.Elements.{Contains-append_left, Contains-append_right}
 use Rattle.vx_explore.specs.declared.found.Found.{Found}
 use Rattle.vx_explore.specs.Runs.{Run, firsts, of_length, row_of, shortest_first, summary}
+use Rattle.vx_record.proofs.Lists.{all_append, all_filter}
 
 -- Lists.
 
@@ -22,18 +23,6 @@ contains_filter test (y ∷ xs) x passes (suc k) within here = at (test y) (cont
   where
     at : (b : Bool) → Contains (filter test xs) x → Contains (cond b (y ∷ filter test xs) (filter test xs)) x
     at true rest = contains_more y (filter test xs) x rest
-    at false rest = rest
-
-pub all_append : {A : Type 0} (P : A → Type 0) (xs ys : List A) → AllByRecursion P xs → AllByRecursion P ys → AllByRecursion P (xs ++ ys)
-all_append P [] ys a b = b
-all_append P (x ∷ xs) ys a b = (a.0, all_append P xs ys a.1 b)
-
-all_filter : {A : Type 0} (P : A → Type 0) (test : A → Bool) (xs : List A) → AllByRecursion P xs → AllByRecursion P (filter test xs)
-all_filter P test [] a = tt
-all_filter P test (x ∷ xs) a = at (test x) (all_filter P test xs a.1)
-  where
-    at : (b : Bool) → AllByRecursion P (filter test xs) → AllByRecursion P (cond b (x ∷ filter test xs) (filter test xs))
-    at true rest = (a.0, rest)
     at false rest = rest
 
 -- Runs, the shortest first.

@@ -13,8 +13,9 @@ use Rattle.vx_endings.specs.Endings.{ending_at, endings, is_same}
 use Rattle.vx_endings.specs.EndsSo.{EndsSo}
 use Rattle.vx_endings.specs.Interleavings.{all_runs}
 use Rattle.vx_endings.specs.Same.{same_as_itself}
-use Rattle.vx_endings.proofs.Rows.{all_append, all_rows, contains_first, contains_more}
-use Rattle.vx_endings.proofs.Told.{all_imply, run_of}
+use Rattle.vx_endings.proofs.Rows.{all_rows, contains_first, contains_more}
+use Rattle.vx_endings.proofs.Told.{run_of}
+use Rattle.vx_record.proofs.Lists.{all_weaker, all_append}
 
 module _ {S : Type 0} where
   -- each run is as short as those behind it
@@ -27,7 +28,7 @@ module _ {S : Type 0} where
   rises_append n [] ts below above a b = b
   rises_append n (r ∷ rs) ts below above a b = (
     all_append (λ t. length r.picks ≤ length t.picks) rs ts a.0
-        (all_imply (λ t. n ≤ length t.picks) (λ t. length r.picks ≤ length t.picks) (λ t h. let few = below.0 in omega arith) ts above),
+        (all_weaker (λ t. n ≤ length t.picks) (λ t. length r.picks ≤ length t.picks) (λ t h. let few = below.0 in omega arith) ts above),
     rises_append n rs ts below.1 above a.1 b,
   )
 
@@ -43,22 +44,22 @@ module _ {S : Type 0} where
   rises_equal : (k : ℕ) (rs : List (Run S)) → AllByRecursion (λ r. length r.picks ≡ k) rs → Rises rs
   rises_equal k [] a = tt
   rises_equal k (r ∷ rs) a = (
-    all_imply (λ t. length t.picks ≡ k) (λ t. length r.picks ≤ length t.picks) (λ t h. let here = a.0 in omega arith) rs a.1,
+    all_weaker (λ t. length t.picks ≡ k) (λ t. length r.picks ≤ length t.picks) (λ t h. let here = a.0 in omega arith) rs a.1,
     rises_equal k rs a.1,
   )
 
   all_short : (n : ℕ) (rs : List (Run S)) → AllByRecursion (λ r. length r.picks ≤ n) (shortest_first n rs)
-  all_short zero rs = all_imply (λ r. length r.picks ≡ 0) (λ r. length r.picks ≤ 0) (λ r h. omega arith) (of_length 0 rs) (all_of_length 0 rs)
+  all_short zero rs = all_weaker (λ r. length r.picks ≡ 0) (λ r. length r.picks ≤ 0) (λ r h. omega arith) (of_length 0 rs) (all_of_length 0 rs)
   all_short (suc n) rs =
       all_append (λ r. length r.picks ≤ suc n) (shortest_first n rs) (of_length (suc n) rs)
-      (all_imply (λ r. length r.picks ≤ n) (λ r. length r.picks ≤ suc n) (λ r h. omega arith) (shortest_first n rs) (all_short n rs))
-      (all_imply (λ r. length r.picks ≡ suc n) (λ r. length r.picks ≤ suc n) (λ r h. omega arith) (of_length (suc n) rs) (all_of_length (suc n) rs))
+      (all_weaker (λ r. length r.picks ≤ n) (λ r. length r.picks ≤ suc n) (λ r h. omega arith) (shortest_first n rs) (all_short n rs))
+      (all_weaker (λ r. length r.picks ≡ suc n) (λ r. length r.picks ≤ suc n) (λ r h. omega arith) (of_length (suc n) rs) (all_of_length (suc n) rs))
 
   rises_shortest : (n : ℕ) (rs : List (Run S)) → Rises (shortest_first n rs)
   rises_shortest zero rs = rises_equal 0 (of_length 0 rs) (all_of_length 0 rs)
   rises_shortest (suc n) rs =
       rises_append n (shortest_first n rs) (of_length (suc n) rs) (all_short n rs)
-      (all_imply (λ r. length r.picks ≡ suc n) (λ r. n ≤ length r.picks) (λ r h. omega arith) (of_length (suc n) rs) (all_of_length (suc n) rs))
+      (all_weaker (λ r. length r.picks ≡ suc n) (λ r. n ≤ length r.picks) (λ r h. omega arith) (of_length (suc n) rs) (all_of_length (suc n) rs))
       (rises_shortest n rs) (rises_equal (suc n) (of_length (suc n) rs) (all_of_length (suc n) rs))
 
 -- Lists.
@@ -70,7 +71,7 @@ all_at P (y ∷ xs) x (suc k) a within here = all_at P xs x k a.1 (omega arith) 
 
 all_contained : {A : Type 0} (xs : List A) → AllByRecursion (Contains xs) xs
 all_contained [] = tt
-all_contained (x ∷ xs) = (contains_first x xs, all_imply (Contains xs) (Contains (x ∷ xs)) (λ y h. contains_more x xs y h) xs (all_contained xs))
+all_contained (x ∷ xs) = (contains_first x xs, all_weaker (Contains xs) (Contains (x ∷ xs)) (λ y h. contains_more x xs y h) xs (all_contained xs))
 
 first_or_more : {A : Type 0} (y : A) (xs : List A) (x : A) (k : ℕ) → k < length (y ∷ xs) → slice_index_or (y ∷ xs) k x ≡ x → (y ≡ x) ⊎ Contains xs x
 first_or_more y xs x zero within here = inl here
@@ -123,20 +124,20 @@ module _ {S E : Type 0} (ending_of : S → E) (same : E → E → Bool) (itself 
           → (AllByRecursion (IsSeenOr seen rs) all → AllByRecursion (IsLeast all) (firsts ending_of same seen rs))
           → (AllByRecursion (IsSeenOr (ending_of r.last ∷ seen) rs) all → AllByRecursion (IsLeast all) (firsts ending_of same (ending_of r.last ∷ seen) rs))
           → AllByRecursion (IsLeast all) (cond b (firsts ending_of same seen rs) (r ∷ firsts ending_of same (ending_of r.last ∷ seen) rs))
-      at true old rest more = rest (all_imply (IsSeenOr seen (r ∷ rs)) (IsSeenOr seen rs) (still old) all known)
+      at true old rest more = rest (all_weaker (IsSeenOr seen (r ∷ rs)) (IsSeenOr seen rs) (still old) all known)
       at false new rest more = (
-        all_imply (IsSeenOr seen (r ∷ rs)) (λ t. ending_of t.last ≡ ending_of r.last → length r.picks ≤ length t.picks) (here new) all known,
-        more (all_imply (IsSeenOr seen (r ∷ rs)) (IsSeenOr (ending_of r.last ∷ seen) rs) now all known),
+        all_weaker (IsSeenOr seen (r ∷ rs)) (λ t. ending_of t.last ≡ ending_of r.last → length r.picks ≤ length t.picks) (here new) all known,
+        more (all_weaker (IsSeenOr seen (r ∷ rs)) (IsSeenOr (ending_of r.last ∷ seen) rs) now all known),
       )
 
   pub least_first : (all : List (Run S)) → Rises all → AllByRecursion (IsLeast all) (firsts ending_of same [] all)
-  least_first all rises = least all [] all rises (all_imply (Contains all) (IsSeenOr [] all) (λ t h. inr h) all (all_contained all))
+  least_first all rises = least all [] all rises (all_weaker (Contains all) (IsSeenOr [] all) (λ t h. inr h) all (all_contained all))
 
 pub no_shorter_run : (system : System) (limit : ℕ)
     → AllByRecursion (λ row. (recs : List Rec) → EndsSo system limit recs row.what → length row.picks ≤ length recs) (endings system limit)
 no_shorter_run system limit =
     all_rows ending_at is_same Q all (firsts ending_at is_same [] all)
-    (all_imply (IsLeast ending_at is_same same_as_itself all) (λ r. Q (row_of ending_at is_same all r)) shorter (firsts ending_at is_same [] all)
+    (all_weaker (IsLeast ending_at is_same same_as_itself all) (λ r. Q (row_of ending_at is_same all r)) shorter (firsts ending_at is_same [] all)
     (least_first ending_at is_same same_as_itself all (rises_shortest limit (all_runs system limit))))
   where
     all : List (Run State)

@@ -23,6 +23,7 @@ use Rattle.vx_endings.specs.Same.{same_is_equal}
 use Rattle.vx_endings.proofs.Chosen.{IsChosen, all_chosen}
 use Rattle.vx_endings.proofs.Rows.{all_shortest, all_summary, contains_first, contains_shortest, contains_summary}
 use Rattle.vx_endings.proofs.Stopped.{ended_at, none_enabled, stopped_at}
+use Rattle.vx_record.proofs.Lists.{all_weaker}
 
 contains_map : {A B : Type 0} (f : A → B) (xs : List A) (x : A) → Contains xs x → Contains (map f xs) (f x)
 contains_map f xs x h = (h.0, rw (length-map xs f) h.1, get_or-map f xs h.0 x (f x) h.1 ∙ ap f h.2)
@@ -105,10 +106,6 @@ every_run_told system limit recs ending e =
 
 -- Each row is a run's.
 
-pub all_imply : {A : Type 0} (P Q : A → Type 0) → ((x : A) → P x → Q x) → (xs : List A) → AllByRecursion P xs → AllByRecursion Q xs
-all_imply P Q f [] a = tt
-all_imply P Q f (x ∷ xs) a = (f x a.0, all_imply P Q f xs a.1)
-
 witnessed : (system : System) (limit : ℕ) (all : List (Run State)) (r : Run State) → limit ≤ 100000 → IsChosen limit (first system) r → IsWitnessed system limit (row_of ending_at is_same all r)
 witnessed system limit all r few c = record {
   ends = record {
@@ -130,5 +127,5 @@ pub every_row_witnessed : (system : System) (limit : ℕ) → limit ≤ 100000 �
 every_row_witnessed system limit few =
     let all = shortest_first limit (all_runs system limit) in
     all_summary ending_at is_same (IsWitnessed system limit) all
-    (all_imply (IsChosen limit (first system)) (λ r. IsWitnessed system limit (row_of ending_at is_same all r)) (λ r c. witnessed system limit all r few c) all
+    (all_weaker (IsChosen limit (first system)) (λ r. IsWitnessed system limit (row_of ending_at is_same all r)) (λ r c. witnessed system limit all r few c) all
     (all_shortest (IsChosen limit (first system)) limit (all_runs system limit) (all_chosen limit (first system))))

@@ -6,8 +6,7 @@ use Rattle.vx_base.specs.declared.mode.Mode.TheVariants as mode
 use Rattle.vx_base.specs.declared.record.End.TheVariants as end
 use Rattle.vx_base.specs.declared.record.Rec.{Rec}
 use Rattle.vx_base.specs.declared.service.Service.TheVariants as service
-use Rattle.vx_examples.specs.Along.{exit_codes}
-use Rattle.vx_examples.specs.Along.{outputs}
+use Rattle.vx_examples.specs.Along.{exit_codes, outputs}
 use Rattle.vx_examples.specs.Script.{value, variable, named, routine, in_mode, call, calls, no_privs, declared, runs, returns, is_gone, puts, gone, held_in}
 use Rattle.vx_image.specs.declared.image.Image.{Image}
 use Rattle.vx_image.specs.declared.stmt.Stmt.TheVariants as stmt

@@ -1,6 +1,5 @@
 -- $DELPRC: the victim is run down, waiting for the request in service, and its queued ASTs are dropped.
-use Rattle.std.specs.Prelude.{IsTrue}
-use Rattle.std.specs.Prelude.{◌≡◌, refl, List, [], ◌∷◌, true, false, codes, Some, None}
+use Rattle.std.specs.Prelude.{IsTrue, ◌≡◌, refl, List, [], ◌∷◌, true, false, codes, Some, None}
 use Rattle.vx_base.specs.declared.cond.Cond.TheVariants as cond
 use Rattle.vx_base.specs.declared.effects.Opened.TheVariants as opened
 use Rattle.vx_base.specs.declared.mode.Mode.TheVariants as mode
@@ -10,9 +9,7 @@ use Rattle.vx_base.specs.declared.record.Event.{Event}
 use Rattle.vx_base.specs.declared.record.Rec.{Rec}
 use Rattle.vx_base.specs.declared.request.Func.TheVariants as func
 use Rattle.vx_base.specs.declared.service.Service.TheVariants as service
-use Rattle.vx_examples.specs.Along.{along, are_enabled}
-use Rattle.vx_examples.specs.Along.{exit_codes}
-use Rattle.vx_examples.specs.Along.{outputs}
+use Rattle.vx_examples.specs.Along.{along, are_enabled, exit_codes, outputs}
 use Rattle.vx_examples.specs.Script.{process, unit, value, variable, named, routine, no_routine, in_mode, call, calls, declared, runs, waits, is_busy, is_gone, begins, is_done, opens, fin, mark, que, drops, flag, status, cleared_status, puts, enb, gone, held_in, request}
 use Rattle.vx_image.specs.declared.image.Image.{Image}
 use Rattle.vx_image.specs.declared.stmt.Stmt.TheVariants as stmt

@@ -7,8 +7,7 @@ use Rattle.vx_base.specs.declared.record.End.TheVariants as end
 use Rattle.vx_base.specs.declared.record.Rec.{Rec}
 use Rattle.vx_base.specs.declared.request.Func.TheVariants as func
 use Rattle.vx_base.specs.declared.service.Service.TheVariants as service
-use Rattle.vx_examples.specs.Along.{exit_codes}
-use Rattle.vx_examples.specs.Along.{outputs}
+use Rattle.vx_examples.specs.Along.{exit_codes, outputs}
 use Rattle.vx_examples.specs.Script.{value, variable, named, no_routine, in_mode, call, calls, declared, runs, waits, resumes, is_gone, begins, is_done, opens, fin, flag, status, cleared_status, bytes_put, puts, gone, held_in, request}
 use Rattle.vx_image.specs.declared.image.Image.{Image}
 use Rattle.vx_image.specs.declared.system.System.{System}

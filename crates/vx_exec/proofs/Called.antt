@@ -38,9 +38,10 @@ use Rattle.vx_clusters.proofs.Few.{associate_few, dissociate_few}
 use Rattle.vx_ctl.proofs.Common.{associates, dissociates}
 use Rattle.vx_io.proofs.Changed.{process_there}
 use Rattle.vx_exec.proofs.Deepest.{at_most, deepest_set}
-use Rattle.vx_exec.proofs.Goes.{Goes, GoesBy, goes_stays, run_most, stays_changed, stays_goes, top_few}
+use Rattle.vx_exec.proofs.Goes.{Goes, GoesBy, goes_stays, run_most, stays_changed, stays_goes}
 use Rattle.vx_exec.proofs.Ends.{Ends, ends_goes, falls_then, frames_fall, handlers_fall, timers_fall}
 use Rattle.vx_exec.proofs.Asks.{cancel_goes, dassgn_goes, qio_goes, qiow_goes}
+use Rattle.vx_procs.proofs.Quiet.{top_few}
 
 -- a process leaves its frames, and exits
 exited_ends : (p : Pid) (s : State) (code : ℕ) → Ends (length (process_at s p).frames) s (exited s p code)

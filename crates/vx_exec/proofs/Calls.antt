@@ -1,5 +1,5 @@
 -- The services that local statements stop at stand at places of the image.
-use Rattle.std.proofs.Common.{◌≡◌, ℕ, zero, suc, ◌<◌, List, [], ◌∷◌, length, IsTrue, Option, Some, None, slice_get, refl, arith}
+use Rattle.std.proofs.Common.{◌≡◌, ℕ, zero, suc, ◌<◌, length, IsTrue, Option, Some, None, slice_get, refl}
 use Rattle.std.proofs.lemmas.Bool.{and_parts}
 use Rattle.vx_base.specs.Services.{are_args, args_list, is_of_kind, params_of}
 use Rattle.vx_base.specs.declared.call.Args.{Args}
@@ -12,6 +12,7 @@ use Rattle.vx_image.specs.declared.stmt.Stmt.{Stmt}
 use Rattle.vx_image.specs.declared.stmt.Stmt.TheVariants as stmt
 use Rattle.vx_image.specs.declared.stop.Stop.{Stop}
 use Rattle.vx_image.specs.declared.stop.Stop.TheVariants as stop
+use Rattle.std.proofs.lemmas.Option.{slice_get_within}
 
 -- the statement of a service at which local statements stop is the image's
 abbrev pub IsStopAt : Image → ℕ → Stop → Type 0
@@ -20,14 +21,9 @@ IsStopAt image place stop.Return = Unit {0}
 IsStopAt image place stop.End = Unit {0}
 IsStopAt image place stop.Local = Unit {0}
 
-get_within : {A : Type 0} (xs : List A) (i : ℕ) (x : A) → slice_get xs i ≡ Some x → i < length xs
-get_within [] i x e = absurd (cc)
-get_within (y ∷ ys) zero x e = omega arith
-get_within (y ∷ ys) (suc i) x e = let rest = get_within ys i x e in omega arith
-
 stop_stands : (image : Image) (who : Reader) (store : Storage) (place : ℕ) (o : Option Stmt) → slice_get image.stmts place ≡ o → IsStopAt image place (stop_at who store o)
 stop_stands image who store place None at = tt
-stop_stands image who store place (Some (stmt.Service c)) at = get_within image.stmts place (stmt.Service c) at
+stop_stands image who store place (Some (stmt.Service c)) at = slice_get_within image.stmts place (stmt.Service c) at
 stop_stands image who store place (Some stmt.Return) at = tt
 stop_stands image who store place (Some (stmt.Let t x)) at = tt
 stop_stands image who store place (Some (stmt.Add t x y)) at = tt

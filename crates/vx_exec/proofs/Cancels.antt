@@ -18,8 +18,9 @@ use Rattle.vx_record.specs.Finish.{ending, this_request}
 use Rattle.vx_record.specs.Cancel.{cancel_channel, cancel_request, drop_attention, is_attention_on, is_request_on, mark_part, with_abort, withdraw}
 use Rattle.vx_record.specs.Channels.{free_channel, swept_box, with_channel}
 use Rattle.vx_record.proofs.Lists.{either}
-use Rattle.vx_procs.proofs.Firsts.{less_few, tally_few}
+use Rattle.vx_procs.proofs.Firsts.{less_few}
 use Rattle.vx_exec.proofs.Ends.{Ends, Falls, changed_falls, each_falls, ends_more, falls_more, falls_then, finish_falls, still_falls}
+use Rattle.vx_record.proofs.OwnIds.{tally_less}
 
 mark_falls : (p : Pid) (s : State) (r : Request) → Falls p 1 6 s (mark_part s r)
 mark_falls p s r = let on = λ (c : ℕ). amend_few (is_request_on p c) (this_request r.req.id) with_abort (λ x. refl) s.requests in grind (arith, amend_length {A = Request})
@@ -42,7 +43,7 @@ request_falls p s r =
 
 -- attention entries end
 drop_falls : (p : Pid) (s : State) (a : Attention) → Falls p 0 1 s (drop_attention s a)
-drop_falls p s a = grind (arith, less_few {A = Attention}, tally_few {A = Attention})
+drop_falls p s a = grind (arith, less_few {A = Attention}, tally_less {A = Attention})
 
 filter_tally : {A : Type 0} (test : A → Bool) (xs : List A) → length (filter test xs) ≤ tally test xs
 filter_tally test [] = omega arith

@@ -24,8 +24,9 @@ use Rattle.vx_record.specs.Requests.{unit_ending, with_unit}
 use Rattle.vx_record.specs.Cancel.{is_attention_on, is_request_on}
 use Rattle.vx_record.proofs.Lists.{either}
 use Rattle.vx_record.proofs.Ground.{at_set}
-use Rattle.vx_procs.proofs.Firsts.{less_few, tally_few}
+use Rattle.vx_procs.proofs.Firsts.{less_few}
 use Rattle.vx_exec.proofs.Goes.{Goes, Stays, filter_few, goes_stays, stays_goes}
+use Rattle.vx_record.proofs.OwnIds.{tally_less}
 
 -- a part stays, leaves no more attention entries, and tells so many effects at most
 pub record Ends (bound : ℕ) (s : State) (part : Part) : Type 0 where
@@ -116,7 +117,7 @@ frames_fall p s f h =
 -- A request finishes.
 
 fin_falls : (p : Pid) (s : State) (r : Request) (e : Ending) → Falls p 0 1 s (fin_part s r.req.id e.0.cond)
-fin_falls p s r e = grind (arith, less_few {A = Request}, tally_few {A = Request})
+fin_falls p s r e = grind (arith, less_few {A = Request}, tally_less {A = Request})
 
 buf_falls : (p : Pid) (s : State) (r : Req) (e : Ending) → Falls p 0 1 s (buf_part s r e)
 buf_falls p s r e = either (Falls p 0 1 s) (is_read r.func && nat_lt 0 e.0.count) _ _ (changed_falls p r.p 0 s (with_stored_bytes r.buf e.0.bytes) _ (grind arith)) (still_falls p 0 1 s)

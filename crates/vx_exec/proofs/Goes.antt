@@ -3,10 +3,9 @@ use Rattle.std.proofs.Common.{◌≡◌, ℕ, ◌+◌, ◌≤◌, List, ◌∷�
 use Rattle.std.specs.List.{filter}
 use Rattle.vx_base.specs.Pieces.{DeviceUnit}
 use Rattle.vx_base.specs.declared.effects.Effect.{Effect}
-use Rattle.vx_base.specs.declared.frame.Frame.{Frame}
 use Rattle.vx_base.specs.declared.number.Pid.{Pid}
 use Rattle.vx_base.specs.declared.number.UnitNo.{UnitNo}
-use Rattle.vx_record.specs.State.{Process, State, process_at, change, no_unit, unit_at, with_top}
+use Rattle.vx_record.specs.State.{Process, State, process_at, change, no_unit, unit_at}
 use Rattle.vx_record.specs.Parts.{Outcome}
 use Rattle.vx_procs.specs.Words.{deepest}
 
@@ -53,6 +52,3 @@ goes_more m n more h = grind arith
 -- behind what stays
 pub stays_goes : {s t u : State} {told : List Effect} (m n : ℕ) → Stays s t → m ≤ n → Goes m t u told → Goes n s u told
 stays_goes {s} {t} {u} {told} m n a more b = grind arith
-
-pub top_few : (f : Frame → Frame) (fs : List Frame) → length (with_top f fs) ≤ length fs
-top_few f fs = grind arith

@@ -28,13 +28,12 @@ use Rattle.vx_record.specs.Services.{asked, at_once, number, routine_or_none, se
 use Rattle.vx_record.specs.Timers.{setimr}
 use Rattle.vx_record.specs.declared.served.Served.{Served}
 use Rattle.vx_record.specs.declared.served.Served.TheVariants.{Answered}
-use Rattle.vx_record.proofs.Lists.{either_by, find_passes}
+use Rattle.vx_record.proofs.Lists.{either_by}
 use Rattle.vx_record.proofs.SoundCalls.{StopFits, advanced_fits}
 use Rattle.vx_record.proofs.Ground.{at_set}
 use Rattle.vx_procs.specs.Kernel.{Does, DoesQuietly, Fits, Kernel, changed, told, with_state}
 use Rattle.vx_procs.specs.Words.{advanced_at, advanced_from, handlers_have_own_ids, without_started}
 use Rattle.vx_procs.specs.Ready.{HasSpares}
-use Rattle.vx_procs.proofs.Rest as rest
 use Rattle.vx_io.proofs.Changed.{made_still, process_there}
 use Rattle.vx_base.specs.declared.service.Service.TheVariants.{Qio}
 use Rattle.vx_io.specs.Asking.{asked as given}
@@ -44,11 +43,11 @@ use Rattle.vx_exec.specs.Ready.{IsCallAt, IsSet}
 use Rattle.vx_exec.proofs.Calls.{IsStopAt, advanced_stands}
 use Rattle.vx_procs.proofs.Firsts.{less_few}
 use Rattle.vx_exec.proofs.Called.{call_goes}
-use Rattle.vx_exec.proofs.Goes.{top_few}
 use Rattle.vx_exec.proofs.Open.{open_changed}
-
-pub told_none : (k : Kernel) → k ≡ told k []
-told_none k = rest.told_none k
+use Rattle.vx_base.proofs.First.{found_passes}
+use Rattle.vx_procs.proofs.Ops.{started_decl}
+use Rattle.vx_procs.proofs.Quiet.{top_few}
+pub use Rattle.vx_procs.proofs.Rest.{told_none}
 
 pub quietly : {A : Type 0} (o : Outcome A) (a : A) (k l : Kernel) → DoesQuietly o a k l → Does o a k l
 quietly o a k l h = record { answers = h.answers; leaves = h.leaves ∙ (told_none (with_state k o.after) ∙ ap (λ es. told (with_state k o.after) es) (sym h.quiet)) }
@@ -148,9 +147,6 @@ goes_at s p f top none = goes_from s p (process_at s p).frames f top none
 same_frames : (o : Option Queued) (pr : Process) → (without_started o pr).frames ≡ pr.frames
 same_frames o pr = grind arith
 
-same_decl : (o : Option Queued) (pr : Process) → (without_started o pr).decl ≡ pr.decl
-same_decl o pr = grind arith
-
 fewer_asts : (o : Option Queued) (pr : Process) → length (without_started o pr).asts ≤ length pr.asts
 fewer_asts o pr = grind (arith, less_few {A = Queued})
 
@@ -164,12 +160,12 @@ pub set_taken : (k l : Kernel) (p : Pid) → IsSet k p → l ≡ changed k p (wi
 set_taken k l p set there =
     let o = deliverable_ast k.state p in
     let pr = process_at k.state p in
-    set_changed k l p (without_started o) set there (same_handlers o pr) (same_decl o pr) (same_channels o pr) (record { frames = omega (arith, ap length (same_frames o pr)); asts = fewer_asts o pr })
+    set_changed k l p (without_started o) set there (same_handlers o pr) (started_decl o pr) (same_channels o pr) (record { frames = omega (arith, ap length (same_frames o pr)); asts = fewer_asts o pr })
 
 -- it is in a mode that is not further out than that of the process
 
 of_mode : (enables : Enables) (now : Mode) (active : Option Mode) (asts : List Queued) (m : Mode) (q : Queued) → first_of_mode enables now active asts m ≡ Some q → IsTrue (reaches now q.mode)
-of_mode enables now active asts m q = grind (arith, either_by, and_parts, eqb-true, find_passes)
+of_mode enables now active asts m q = grind (arith, either_by, and_parts, eqb-true, found_passes)
 
 reached_by : (enables : Enables) (now : Mode) (active : Option Mode) (asts : List Queued) (q : Queued) → deliverable enables now active asts ≡ Some q → IsTrue (reaches now q.mode)
 reached_by enables now active asts q e = either_of _ _ (of KernelMode) (either_of _ _ (of Exec) (either_of _ _ (of Super) (of User))) e

@@ -22,11 +22,11 @@ after_more s [] r = refl
 after_more s (x ∷ rs) r = after_more (step s x.event).after rs r
 
 -- a record of the machine is a step
-is_step : (s : State) (e : Event) (r : Rec) → Contains (enabled s) e → r ≡ record_of s e → IsStep s r
+pub is_step : (s : State) (e : Event) (r : Rec) → Contains (enabled s) e → r ≡ record_of s e → IsStep s r
 is_step s e r there is = subst (IsStep s) (sym is) (record { enabled = there; answer = refl; effects = refl })
 
 -- the default does not matter within a list
-get_default : {A : Type 0} (xs : List A) (i : ℕ) (d e : A) → i < length xs → slice_index_or xs i d ≡ slice_index_or xs i e
+pub get_default : {A : Type 0} (xs : List A) (i : ℕ) (d e : A) → i < length xs → slice_index_or xs i d ≡ slice_index_or xs i e
 get_default [] i d e within = absurd (omega arith)
 get_default (x ∷ xs) zero d e within = refl
 get_default (x ∷ xs) (suc i) d e within = get_default xs i d e (omega arith)
@@ -84,7 +84,7 @@ taken_more before now later seed x y recs r e so_far going picks moves is become
 pub ended_run : (before now : Executive) (seed next : ℕ) (recs : List Rec) (end : End) → Taking before now seed next recs → Some end ≡ end_of now.limit now.taken now.state → EndsRun before now seed recs end
 ended_run before now seed next recs end so_far ended = grind (arith, append-nil, chosen_ended)
 
-abbrev opened : System → ℕ → Executive
+abbrev pub opened : System → ℕ → Executive
 opened system limit = record { state = first system; limit = limit; taken = 0 }
 
 pub chosen_run : (system : System) (seed limit : ℕ) (before exec : Executive) (recs : List Rec) (end : End) → limit ≤ 100000 → before ≡ opened system limit → EndsRun before exec seed recs end → IsChosenRun system seed limit exec recs end

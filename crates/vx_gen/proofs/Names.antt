@@ -1,9 +1,9 @@
 -- The names of the generated processes: each is a name, and no two are the same.
-use Rattle.std.proofs.Common.{◌≡◌, ℕ, ◌+◌, ◌/◌, ◌%◌, ◌<◌, ◌≤◌, ◌^◌, ◌&&◌, not, Bool, true, false, zero, suc, List, [], ◌∷◌, ◌++◌, length, drop, map, codes, bytes_eq, nat_le, nat_lt, slice_index, refl, ap, arith, length-append}
+use Rattle.std.proofs.Common.{◌≡◌, ℕ, ◌+◌, ◌/◌, ◌%◌, ◌<◌, ◌≤◌, ◌^◌, ◌&&◌, not, true, false, zero, suc, List, [], ◌∷◌, ◌++◌, length, drop, map, codes, bytes_eq, nat_le, nat_lt, slice_index, refl, ap, arith, length-append}
 use Rattle.std.specs.List.{list_all, range_with_len}
 use Rattle.std.specs.Prelude.{IsTrue, decimal}
 use Rattle.std.proofs.lemmas.Fmt.{decimal_by_steps, decimal_injective}
-use Rattle.std.proofs.lemmas.Bool.{le-leb, lt-ltb, and_from, and_parts, or_from, not_from_false}
+use Rattle.std.proofs.lemmas.Bool.{le-leb, lt-ltb, and_from, and_parts, or_from, not_from_false, false_from_ne_true}
 use Rattle.std.proofs.lemmas.Bool.Decides.{nat_tests}
 use Rattle.std.proofs.lemmas.List.FromFn.{map-range_with_len_more}
 use Rattle.std.proofs.lemmas.Slice.Eq.{bytes_eq-Decides}
@@ -58,12 +58,8 @@ senders_more n = map-range_with_len_more sender 1 n (1 + n) refl
 
 -- No two are the same.
 
-is_false : (b : Bool) → (b ≡ true → ⊥) → b ≡ false
-is_false true h = absurd (h refl)
-is_false false h = refl
-
 apart : (i j : ℕ) → i < j → j < 2 ^ 64 → bytes_eq (sender i).name (sender j).name ≡ false
-apart i j below h = is_false (bytes_eq (sender i).name (sender j).name) (λ same.
+apart i j below h = false_from_ne_true (bytes_eq (sender i).name (sender j).name) (λ same.
     let digits : decimal i ≡ decimal j = ap (drop 1) ((bytes_eq-Decides (sender i).name (sender j).name).0 same) in
     let equal = decimal_injective i j (omega (arith, below, h)) h digits in
     omega (arith, below, equal))

@@ -16,7 +16,6 @@ use Rattle.vx_base.specs.declared.service.Kind.TheVariants as kind
 use Rattle.vx_base.specs.declared.service.Param.{Param}
 use Rattle.vx_base.specs.declared.service.Param.TheVariants.{Required, Optional}
 use Rattle.vx_base.specs.declared.service.Service.{Service}
-use Rattle.vx_base.specs.declared.service.Service.TheVariants.{SetEf}
 use Rattle.vx_base.specs.Services.{service_name, service_rows, service_row, all_services, params_of, args_of, is_of_kind, is_operand, is_target, kind_of}
 use Rattle.vx_text.specs.declared.token.Tok.{Tok}
 use Rattle.vx_text.specs.declared.token.Tok.TheVariants as tok
@@ -24,7 +23,7 @@ use Rattle.vx_text.proofs.Runs.{by_test}
 use Rattle.vx_table.specs.declared.fail.CallFail.{CallFail}
 use Rattle.vx_table.specs.Reading.{operand_word, target_word, mode_word, func_word, word_arg, token_arg, arg_or, default_of, read_arg, is_comma, onto_first, cut, pieces, and_args, read_args, as_args, call_with, read_row, read_named, read_call}
 use Rattle.vx_table.specs.Spelling.{mode_name, func_name, arg_token, comma}
-use Rattle.vx_table.proofs.Back.{no_comma, kind_used, token_back}
+use Rattle.vx_table.proofs.Back.{no_comma, kind_used, token_back, named_back}
 use Rattle.vx_table.proofs.Calls.{IsOperandOr, IsTargetOr, operand_is, target_is}
 use Rattle.vx_grammar.specs.Grammar.{Argument, stands, left_out, Arguments, no_params, by_piece, with_no_piece, between_commas}
 use Rattle.vx_grammar.proofs.Fields.{name_is, found_name, operand_name, target_name}
@@ -94,16 +93,11 @@ joined_read _ _ _ (by_piece p params piece ps a args h more) k =
     as_cut k p params (between_commas (piece ∷ ps)) ∙ ap (read_args k (p ∷ params)) (cut_again params ps args more piece (whole_piece p piece a h))
     ∙ arguments_read (p ∷ params) (piece ∷ ps) (a ∷ args) (by_piece p params piece ps a args h more) k
 
--- a service is found by its name
-named : (s : Service) (args : List Tok) → read_named service_rows (service_name s) args ≡ read_row (service_row s) args
-named SetEf args = refl
-named _ args = refl
-
 -- what is spelled as a call is read as the call
 pub call_read : (c : Call) (ps : List (List Tok)) (args : List Arg) → Arguments (params_of c.service) ps args → c.args ≡ args_of args
     → read_call service_rows (tok.Service (service_name c.service) ∷ between_commas ps) ≡ Ok c
 call_read c ps args h e =
-    named c.service (between_commas ps) ∙ ap (λ (r : Result (List Arg) CallFail). call_with c.service (as_args r)) (joined_read (params_of c.service) ps args h 1)
+    named_back c.service (between_commas ps) ∙ ap (λ (r : Result (List Arg) CallFail). call_with c.service (as_args r)) (joined_read (params_of c.service) ps args h 1)
     ∙ ap (λ (a : Args). Ok (record { service = c.service; args = a })) (sym e)
 
 -- Arguments, spelled.

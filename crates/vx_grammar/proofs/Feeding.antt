@@ -73,11 +73,11 @@ pub taken : (line : ℕ) (r : Reading) (l : List ℕ) (ts : List Tok) (s : Readi
 unfolding take_line
 taken line r l ts s h k = ap (λ (x : Result (List Tok) FaultKind). x >>= accepted line r) (back_kinds (lex l) ts h) ∙ k
 
-lines_end : (line : ℕ) (all : Parts) → read_lines line (between_images all) [] ≡ resolve all
+pub lines_end : (line : ℕ) (all : Parts) → read_lines line (between_images all) [] ≡ resolve all
 unfolding read_lines
 lines_end line all = refl
 
-line_read : (line : ℕ) (r s : Reading) (l : List ℕ) (ls : List (List ℕ)) → take_line line r l ≡ Ok s → read_lines line r (l ∷ ls) ≡ read_lines (line + 1) s ls
+pub line_read : (line : ℕ) (r s : Reading) (l : List ℕ) (ls : List (List ℕ)) → take_line line r l ≡ Ok s → read_lines line r (l ∷ ls) ≡ read_lines (line + 1) s ls
 unfolding read_lines
 line_read line r s l ls h = rw h refl
 

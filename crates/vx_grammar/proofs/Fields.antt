@@ -1,5 +1,5 @@
 -- What a field that was read says of the tokens.
-use Rattle.std.proofs.Common.{◌≡◌, ℕ, ◌+◌, ◌≤◌, ◌==◌, ◌&&◌, Bool, true, false, cond, nat_le, List, [], ◌∷◌, length, drop, find, codes, Option, Some, None, Result, Ok, Err, option_map, slice_index, bytes_eq, refl, sym, subst, ap, ◌∙◌, arith}
+use Rattle.std.proofs.Common.{◌≡◌, ℕ, ◌+◌, ◌≤◌, ◌==◌, ◌&&◌, Bool, true, false, nat_le, List, [], ◌∷◌, length, drop, find, codes, Option, Some, None, Result, Ok, Err, option_map, slice_index, bytes_eq, refl, sym, subst, ap, ◌∙◌, arith}
 use Rattle.std.proofs.lemmas.Bool.{and_parts, leb-true, eqb-true}
 use Rattle.std.proofs.lemmas.List.{drop-drop}
 use Rattle.std.proofs.lemmas.Slice.Eq.{bytes_eq-Decides}
@@ -18,6 +18,7 @@ use Rattle.vx_script.specs.Fields.{first_of, end_at, is_word, is_sign, when, sig
 use Rattle.vx_script.specs.declared.fault.FaultKind.{FaultKind}
 use Rattle.vx_script.specs.declared.fault.FaultKind.TheVariants as kind
 use Rattle.vx_grammar.specs.Grammar.{Between}
+use Rattle.vx_base.proofs.First.{found_passes}
 
 -- Chains and tests.
 
@@ -40,17 +41,8 @@ same_name a = (bytes_eq-Decides a a).1 refl
 pub name_is : (a b : List ℕ) → bytes_eq a b ≡ true → a ≡ b
 name_is a b h = (bytes_eq-Decides a b).0 h
 
-found_by : {A : Type 0} (p : A → Bool) (y : A) (xs : List A) (x : A) (t : Bool) → p y ≡ t → cond t (Some y) (find p xs) ≡ Some x → (find p xs ≡ Some x → p x ≡ true) → p x ≡ true
-found_by p y xs x true e h more = ap p (let k : x ≡ y = cc in k) ∙ e
-found_by p y xs x false e h more = more h
-
--- what is found passes
-pub found_is : {A : Type 0} (p : A → Bool) (xs : List A) (x : A) → find p xs ≡ Some x → p x ≡ true
-found_is p [] x h = absurd (cc)
-found_is p (y ∷ ys) x h = found_by p y ys x (p y) refl h (found_is p ys x)
-
 pub found_name : {A : Type 0} (name : A → List ℕ) (xs : List A) (word : List ℕ) (x : A) → find (λ a. bytes_eq word (name a)) xs ≡ Some x → word ≡ name x
-found_name name xs word x h = name_is word (name x) (found_is (λ a. bytes_eq word (name a)) xs x h)
+found_name name xs word x h = name_is word (name x) (found_passes (λ a. bytes_eq word (name a)) xs x h)
 
 -- Tokens at a place.
 
@@ -79,16 +71,13 @@ end_is k tokens u h = end_by k tokens (drop k tokens) u refl h
 
 -- Which token it is.
 
-sign_in : (s : ℕ) (t : Tok) → is_sign s t ≡ true → t ≡ tok.Sign s
-sign_in s (tok.Sign r) h = ap tok.Sign (eqb-true r s h)
-sign_in s (tok.Word w) h = absurd (cc)
-sign_in s (tok.Num n) h = absurd (cc)
-sign_in s (tok.Cond c) h = absurd (cc)
-sign_in s (tok.Service n) h = absurd (cc)
-sign_in s (tok.Quote b) h = absurd (cc)
-
 pub sign_token : (s : ℕ) (t : Tok) → is_sign s t ≡ true → t ≡ tok.Sign s
-sign_token s t h = sign_in s t h
+sign_token s (tok.Sign r) h = ap tok.Sign (eqb-true r s h)
+sign_token s (tok.Word w) h = absurd (cc)
+sign_token s (tok.Num n) h = absurd (cc)
+sign_token s (tok.Cond c) h = absurd (cc)
+sign_token s (tok.Service n) h = absurd (cc)
+sign_token s (tok.Quote b) h = absurd (cc)
 
 pub word_token : (text : List ℕ) (t : Tok) → is_word text t ≡ true → t ≡ tok.Word text
 word_token text (tok.Word w) h = ap tok.Word (name_is w text h)
@@ -198,7 +187,7 @@ by_token k tokens t u a e = a ∙ ap (λ v. v ∷ drop (k + 1) tokens) e
 pub sign_found : (k s : ℕ) (tokens : List Tok) (u : Unit {0}) → sign_at s (drop k tokens) ≡ Ok u → At k tokens (tok.Sign s)
 sign_found k s tokens u h =
     let b = bind_ok (first_of (drop k tokens)) _ u h in
-    by_token k tokens b.0 (tok.Sign s) (first_at k tokens b.0 b.1) (sign_in s b.0 (when_ok _ _ u b.2))
+    by_token k tokens b.0 (tok.Sign s) (first_at k tokens b.0 b.1) (sign_token s b.0 (when_ok _ _ u b.2))
 
 pub word_found : (k : ℕ) (text : List ℕ) (tokens : List Tok) (u : Unit {0}) → word_at text (drop k tokens) ≡ Ok u → At k tokens (tok.Word text)
 word_found k text tokens u h =

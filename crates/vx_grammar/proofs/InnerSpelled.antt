@@ -1,7 +1,7 @@
 -- What is read of lines is what the grammar says, from the last line back to the first.
 use Rattle.std.proofs.Common.{◌≡◌, ℕ, ◌+◌, ◌&&◌, not, Bool, true, cond, nat_le, List, [], ◌∷◌, ◌++◌, length, drop, map, flat_map, find, codes, Option, Some, None, Result, Ok, Err, bytes_eq, refl, sym, subst, ap, ◌∙◌, append-nil, length-append}
 use Rattle.std.specs.List.{list_all}
-use Rattle.std.proofs.lemmas.Bool.{and_parts, and_from, leb-true}
+use Rattle.std.proofs.lemmas.Bool.{and_parts, and_from, leb-true, not-true}
 use Rattle.vx_image.specs.declared.image.Image.{Image}
 use Rattle.vx_image.specs.declared.stmt.Stmt.{Stmt}
 use Rattle.vx_image.specs.declared.system.System.{System}
@@ -22,7 +22,7 @@ use Rattle.vx_script.specs.declared.draft.DraftLine.{DraftLine}
 use Rattle.vx_script.specs.declared.fault.FaultKind.{FaultKind}
 use Rattle.vx_script.specs.declared.parts.Parts.{Parts}
 use Rattle.vx_script.specs.declared.parts.Reading.{Reading}
-use Rattle.vx_script.proofs.Appended.{not_out, all_both, unfound, none_from}
+use Rattle.vx_script.proofs.Appended.{all_both, unfound, none_from}
 use Rattle.vx_script.proofs.EndedImages.{is_formed}
 use Rattle.vx_grammar.specs.Grammar.{Said, Names, Does, Statement, BodyLine, empty_line, statement_line, label_line, labelled_line, Body, no_lines, and_line, stmts_in, labels_in, ImageOf, Item, OfUnit, OfInput, OfFault, OfImage, OfProcess, Line, Lines, none_left, an_empty_line, a_line, an_image, image_in, colon}
 use Rattle.vx_grammar.proofs.Fields.{bind_ok, name_is, end_is, sign_token}
@@ -30,6 +30,7 @@ use Rattle.vx_grammar.proofs.Statements.{stmt_spelled}
 use Rattle.vx_grammar.proofs.SaidSoFar.{pushed, map_pushed, Extends, nothing_added, and_unit, and_input, and_fault, and_decl, bare_unit, unit_added, input_added, fault_added, decl_added, image_added, Known, known_unit, known_input, known_fault, known_decl, known_image, all_front}
 use Rattle.vx_grammar.proofs.Feeding.{feeds}
 use Rattle.vx_grammar.proofs.OuterSpelled.{unit_spelled, input_spelled, fault_spelled, image_spelled, process_spelled}
+use Rattle.vx_grammar.proofs.LinesBack.{with_draft}
 
 -- what the system is to have
 pub record Sound (s : System) (all : Parts) : Type 0 where
@@ -72,9 +73,6 @@ pub record Inner (s : System) (all parts : Parts) (image : DraftImage) (tss : Li
 
 -- The lines of an image.
 
-abbrev with_draft : ℕ → DraftImage → Draft → DraftImage
-with_draft line image d = record image { lines = image.lines ++ record { line = line; draft = d } ∷ [] }
-
 becomes_stmt : (s : System) (line : ℕ) (image last : DraftImage) (d : Draft) (said : List Said) → Becomes s (with_draft line image d) last said → Becomes s image last (Does (settled last.labels d) ∷ said)
 becomes_stmt s line image last d said b =
     let one : DraftLine = record { line = line; draft = d } in
@@ -92,7 +90,7 @@ stmt_fine s line image last t ts d said b h =
     let one : DraftLine = record { line = line; draft = d } in
     let f = (all_front (is_fine s last) image.lines one b.fine).1 in
     let p = and_parts (not (names_no_label last.labels one)) (is_stmt (decl_names s) (image_of last) (settle last one)) f in
-    stmt_spelled (decl_names s) (image_of last) t ts d h (not_out (names_no_label last.labels one) p.0) p.1
+    stmt_spelled (decl_names s) (image_of last) t ts d h (not-true (names_no_label last.labels one) p.0) p.1
 
 becomes_label : (s : System) (image last : DraftImage) (name : List ℕ) (said : List Said) → Becomes s (with_label image name) last said → Becomes s image last (Names name ∷ said)
 becomes_label s image last name said b = record {

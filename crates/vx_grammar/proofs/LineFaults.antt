@@ -1,5 +1,5 @@
 -- The fault of a line is that with which the reader refuses it.
-use Rattle.std.proofs.Common.{◌≡◌, ℕ, not, Bool, true, false, cond, List, [], ◌∷◌, length, drop, map, codes, ◌||◌, ◌&&◌, ◌==◌, Option, Some, None, is_some, Result, Ok, Err, bytes_eq, refl, sym, ap, ◌∙◌}
+use Rattle.std.proofs.Common.{◌≡◌, ℕ, not, Bool, true, false, cond, List, [], ◌∷◌, length, drop, map, codes, ◌||◌, ◌==◌, Option, Some, None, is_some, Result, Ok, Err, bytes_eq, refl, sym, ap, ◌∙◌}
 use Rattle.std.specs.List.{list_any}
 use Rattle.vx_image.specs.declared.image.Image.{Image}
 use Rattle.vx_image.specs.declared.image.Label.{Label}
@@ -27,6 +27,7 @@ use Rattle.vx_script.proofs.Places.{any_map, has_place}
 use Rattle.vx_grammar.specs.LineFault.{Verdict, new_among, unit_fault, input_fault, number_fault, image_fault, process_fault, outer_fault, outside_fault, statement_fault, word_fault, inside_fault, fault_at, line_fault}
 use Rattle.vx_grammar.proofs.LinesFit.{open_of, declared_by, declared}
 use Rattle.vx_grammar.proofs.SaidSoFar.{fault_key}
+use Rattle.vx_grammar.proofs.LinesBack.{both_ways}
 
 -- what a reading refuses, without what it gives
 abbrev pub verdict : {A : Type 0} → Result A FaultKind → Verdict
@@ -79,12 +80,6 @@ input_same line ts =
     goes (name_at ts) _ _ λ unit.
     goes (text_at (drop 1 ts)) _ _ λ text.
     last (end_at (drop 2 ts)) _
-
-both_ways : (a b : Bool) → a && b ≡ b && a
-both_ways true true = refl
-both_ways true false = refl
-both_ways false true = refl
-both_ways false false = refl
 
 same_faults : (unit : List ℕ) (n : ℕ) (fs : List FaultLine) → list_any (is_fault_of unit n) fs ≡ is_among (n ∷ unit) (map fault_key fs)
 same_faults unit n [] = refl

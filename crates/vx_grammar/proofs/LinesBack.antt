@@ -1,8 +1,8 @@
 -- Lines that are spelled are read.
 use Rattle.std.proofs.Common.{◌≡◌, ℕ, ◌+◌, ◌≤◌, ◌==◌, ◌&&◌, not, Bool, true, false, cond, nat_le, nat_lt, List, [], ◌∷◌, ◌++◌, length, map, flat_map, find, codes, Option, Some, None, is_some, position, Result, Ok, bytes_eq, refl, sym, subst, ap, ◌∙◌, arith, append-nil, append_assoc, length-append}
 use Rattle.std.specs.List.{list_all, list_any}
-use Rattle.std.proofs.lemmas.Bool.{and_parts, and_from, or_parts, or_from, not_from_false, le-leb, lt-ltb}
-use Rattle.std.proofs.lemmas.List.{map-append}
+use Rattle.std.proofs.lemmas.Bool.{and_parts, and_from, or_parts, or_from, not_from_false, le-leb, lt-ltb, not-true}
+use Rattle.std.proofs.lemmas.List.{map-append, map_push}
 use Rattle.std.proofs.lemmas.List.Folds.{list_all-append, list_any-append}
 use Rattle.vx_image.specs.declared.image.Image.{Image}
 use Rattle.vx_image.specs.declared.image.Label.{Label}
@@ -32,7 +32,7 @@ use Rattle.vx_script.specs.declared.lines.FaultLine.{FaultLine}
 use Rattle.vx_script.specs.declared.lines.InputLine.{InputLine}
 use Rattle.vx_script.specs.declared.parts.Parts.{Parts}
 use Rattle.vx_script.specs.declared.parts.Reading.{Reading}
-use Rattle.vx_script.proofs.Appended.{not_out, map_push, all_push, same_back, as_many}
+use Rattle.vx_script.proofs.Appended.{all_push, same_back, as_many}
 use Rattle.vx_script.proofs.EndedImages.{is_known}
 use Rattle.vx_script.proofs.Places.{any_map, has_place}
 use Rattle.vx_grammar.specs.Grammar.{Between, Said, Names, Does, BodyLine, empty_line, statement_line, label_line, labelled_line, Body, no_lines, and_line, stmts_in, labels_in, ImageOf, plain_decl, Item, OfUnit, OfInput, OfFault, OfImage, OfProcess, Line, a_line_unit, a_block_unit, an_input, a_fault, a_process, Lines, none_left, an_empty_line, a_line, an_image, fault_in, colon}
@@ -45,7 +45,7 @@ use Rattle.vx_grammar.proofs.Feeding.{feeds}
 
 -- in neither of two lists
 absent_both : (x : List ℕ) (xs ys : List (List ℕ)) → not (is_among x (xs ++ ys)) ≡ true → (is_among x xs ≡ false) × (is_among x ys ≡ false)
-absent_both x xs ys h = or_parts (is_among x xs) (is_among x ys) (sym (list_any-append (bytes_eq x) xs ys) ∙ not_out (is_among x (xs ++ ys)) h)
+absent_both x xs ys h = or_parts (is_among x xs) (is_among x ys) (sym (list_any-append (bytes_eq x) xs ys) ∙ not-true (is_among x (xs ++ ys)) h)
 
 -- a name differs from those before it
 pub here_new : (xs : List (List ℕ)) (n : List ℕ) (ys : List (List ℕ)) → are_distinct (xs ++ n ∷ ys) ≡ true → is_among n xs ≡ false
@@ -370,7 +370,7 @@ an_input_read line parts unit text h =
     let few : nat_le (length text) 2048 ≡ true = le-leb _ _ h in
     rw few refl
 
-both_ways : (a b : Bool) → a && b ≡ b && a
+pub both_ways : (a b : Bool) → a && b ≡ b && a
 both_ways true true = refl
 both_ways true false = refl
 both_ways false true = refl
@@ -416,7 +416,7 @@ image_same image i n l s =
     ∙ ap (λ (x : List Label). record { name = i.name; labels = x; stmts = map (λ d. settled image.labels d.draft) image.lines }) l
     ∙ ap (λ (x : List Stmt). record { name = i.name; labels = i.labels; stmts = x }) stmts
 
-none_by : {A : Type 0} (p : A → Bool) (x : A) (xs : List A) (t : Bool) → not t ≡ true → find p xs ≡ None → cond t (Some x) (find p xs) ≡ None
+pub none_by : {A : Type 0} (p : A → Bool) (x : A) (xs : List A) (t : Bool) → not t ≡ true → find p xs ≡ None → cond t (Some x) (find p xs) ≡ None
 none_by p x xs true h more = absurd (cc)
 none_by p x xs false h more = more
 

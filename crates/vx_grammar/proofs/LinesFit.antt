@@ -1,7 +1,7 @@
 -- A line is read exactly where a production fits it behind the lines before it.
-use Rattle.std.proofs.Common.{◌≡◌, ℕ, ◌+◌, ◌<◌, ◌==◌, ◌&&◌, ◌||◌, Bool, true, false, cond, nat_le, nat_lt, List, [], ◌∷◌, ◌++◌, length, drop, map, flat_map, fold, codes, Option, Some, None, is_some, Result, Ok, Err, bytes_eq, refl, sym, subst, ap, ◌∙◌, arith, append-nil, length-append}
+use Rattle.std.proofs.Common.{◌≡◌, ℕ, ◌+◌, ◌<◌, ◌==◌, ◌&&◌, Bool, true, false, cond, nat_le, nat_lt, List, [], ◌∷◌, ◌++◌, length, drop, map, flat_map, fold, codes, Option, Some, None, is_some, Result, Ok, Err, bytes_eq, refl, sym, subst, ap, ◌∙◌, arith, append-nil, length-append}
 use Rattle.std.specs.List.{AllByRecursion}
-use Rattle.std.proofs.lemmas.Bool.{leb-true, lt-ltb, ltb-true}
+use Rattle.std.proofs.lemmas.Bool.{leb-true, lt-ltb, ltb-true, or_left}
 use Rattle.vx_image.specs.declared.decl.ProcDecl.{ProcDecl}
 use Rattle.vx_image.specs.declared.image.Image.{Image}
 use Rattle.vx_image.specs.declared.image.Label.{Label}
@@ -28,7 +28,7 @@ use Rattle.vx_script.specs.declared.lines.FaultLine.{FaultLine}
 use Rattle.vx_script.specs.declared.lines.InputLine.{InputLine}
 use Rattle.vx_script.specs.declared.parts.Parts.{Parts}
 use Rattle.vx_script.specs.declared.parts.Reading.{Reading}
-use Rattle.vx_script.proofs.Appended.{map_push, as_many}
+use Rattle.vx_script.proofs.Appended.{as_many}
 use Rattle.vx_script.proofs.KeptParts.{AreParts, IsRead}
 use Rattle.vx_script.proofs.OpenImages.{IsOpen}
 use Rattle.vx_script.proofs.Places.{has_place}
@@ -44,6 +44,7 @@ use Rattle.vx_grammar.proofs.LinesBack.{here_new, no_place, with_draft, stmt_tak
 use Rattle.vx_grammar.proofs.Looking.{faults_differ}
 use Rattle.vx_grammar.proofs.OuterSpelled.{unit_spelled, input_spelled, fault_spelled, image_spelled, process_spelled}
 use Rattle.vx_grammar.proofs.Somewhere.{some_statement}
+use Rattle.std.proofs.lemmas.List.{map_push}
 
 -- what was read declares this
 
@@ -253,10 +254,6 @@ pushed_room most name xs x h =
 
 abbrev bare : System
 bare = record { units = []; images = []; decls = [] }
-
-or_left : (a b : Bool) → a ≡ true → a || b ≡ true
-or_left true b h = refl
-or_left false b h = absurd (cc)
 
 abbrev FitsTo : Parts → Option DraftImage → List Tok → Reading → Type 0
 FitsTo parts current ts r = Fits (declared_by parts current) ts (declared r)

@@ -16,14 +16,15 @@ use Rattle.vx_script.specs.declared.lines.DeclLine.{DeclLine}
 use Rattle.vx_script.specs.declared.lines.FaultLine.{FaultLine}
 use Rattle.vx_script.specs.declared.lines.InputLine.{InputLine}
 use Rattle.vx_script.specs.declared.parts.Parts.{Parts}
-use Rattle.vx_script.proofs.Appended.{unfound, none_from, not_out}
+use Rattle.vx_script.proofs.Appended.{unfound, none_from}
 use Rattle.vx_script.proofs.EndedImages.{is_known, neither}
 use Rattle.vx_script.proofs.FaultLines.{are_apart}
 use Rattle.vx_script.proofs.Places.{any_map, has_place}
-use Rattle.std.proofs.lemmas.Bool.{and_parts, and_from, or_parts, or_from, not_from_false}
+use Rattle.std.proofs.lemmas.Bool.{and_parts, and_from, or_parts, or_from, not_from_false, not-true}
 use Rattle.vx_grammar.specs.Grammar.{Item, OfUnit, OfInput, OfFault, OfImage, OfProcess, unit_in, input_of, number_of, image_in, decl_in, system_of}
 use Rattle.vx_grammar.proofs.SaidSoFar.{fault_key, plain_unit, Extends, Known, has_image, has_line_unit, has_unit}
-use Rattle.vx_grammar.proofs.LinesBack.{none_found}
+use Rattle.vx_grammar.proofs.LinesBack.{none_found, both_ways}
+use Rattle.vx_script.proofs.ResolvedSystem.{map_twice}
 
 -- Names, as the second pass looks for them.
 
@@ -34,10 +35,6 @@ not_none (Some k) = refl
 twice_not : (b : Bool) → not (not b) ≡ b
 twice_not true = refl
 twice_not false = refl
-
-map_twice : {A B C : Type 0} (f : A → B) (g : B → C) (xs : List A) → map g (map f xs) ≡ map (λ x. g (f x)) xs
-map_twice f g [] = refl
-map_twice f g (x ∷ xs) = ap (λ ys. g (f x) ∷ ys) (map_twice f g xs)
 
 -- a name has a place where it is among the names
 placed_among : {A : Type 0} (name : A → List ℕ) (n : List ℕ) (xs : List A) → is_some (position (λ x. bytes_eq n (name x)) xs) ≡ is_among n (map name xs)
@@ -128,12 +125,6 @@ same_system s all items images e =
 
 -- Faults.
 
-both_ways : (a b : Bool) → a && b ≡ b && a
-both_ways true true = refl
-both_ways true false = refl
-both_ways false true = refl
-both_ways false false = refl
-
 fault_among : (unit : List ℕ) (n : ℕ) (fs : List FaultLine) → list_any (is_fault_of unit n) fs ≡ false → is_among (n ∷ unit) (map fault_key fs) ≡ false
 fault_among unit n [] h = refl
 fault_among unit n (f ∷ fs) h =
@@ -146,4 +137,4 @@ faults_differ [] h = refl
 faults_differ (f ∷ fs) h =
     let p = and_parts (not (list_any (is_fault_of f.unit f.number) fs)) (are_apart fs) h in
     and_from (not (is_among (fault_key f) (map fault_key fs))) (are_distinct (map fault_key fs))
-    (not_from_false (is_among (fault_key f) (map fault_key fs)) (fault_among f.unit f.number fs (not_out (list_any (is_fault_of f.unit f.number) fs) p.0))) (faults_differ fs p.1)
+    (not_from_false (is_among (fault_key f) (map fault_key fs)) (fault_among f.unit f.number fs (not-true (list_any (is_fault_of f.unit f.number) fs) p.0))) (faults_differ fs p.1)

@@ -1,9 +1,8 @@
 -- What stands once: of names that differ, none is among those that stand already.
 use Rattle.std.proofs.Common.{◌≡◌, ℕ, ◌||◌, not, Bool, true, false, List, [], ◌∷◌, map, bytes_eq, refl, sym, ◌∙◌}
 use Rattle.std.specs.List.{list_any}
-use Rattle.std.proofs.lemmas.Bool.{and_parts, and_from, or_parts, or_from, not_from_false}
+use Rattle.std.proofs.lemmas.Bool.{and_parts, and_from, or_parts, or_from, not_from_false, not-true}
 use Rattle.vx_image.specs.WellFormed.{is_among, are_distinct}
-use Rattle.vx_script.proofs.Appended.{not_out}
 
 -- one more stands
 pub record OneMore {A : Type 0} (name : A → List ℕ) (stands more : A → Bool) (x : A) : Type 0 where
@@ -48,6 +47,6 @@ pub rest_new : {A : Type 0} (name : A → List ℕ) (stands more : A → Bool) (
 rest_new name stands more x xs one h =
     let p = and_parts (not (is_among (name x) (map name xs))) (are_distinct (map name xs)) h.apart in
     record {
-      none = still_none name stands more x one xs (not_out (is_among (name x) (map name xs)) p.0) (or_parts (stands x) (list_any stands xs) h.none).1;
+      none = still_none name stands more x one xs (not-true (is_among (name x) (map name xs)) p.0) (or_parts (stands x) (list_any stands xs) h.none).1;
       apart = p.1;
     }

@@ -10,7 +10,6 @@ use Rattle.vx_image.specs.declared.decl.ProcDecl.{ProcDecl}
 use Rattle.vx_text.specs.declared.token.Tok.{Tok}
 use Rattle.vx_text.specs.declared.token.Tok.TheVariants as tok
 use Rattle.vx_text.proofs.Runs.{by_test}
-use Rattle.vx_table.specs.Reading.{mode_word}
 use Rattle.vx_table.specs.Spelling.{mode_name}
 use Rattle.vx_script.specs.Results.{◌>>=◌, given}
 use Rattle.vx_script.specs.Fields.{is_word, begins_with_sign, sign_at, number_at}
@@ -32,6 +31,7 @@ use Rattle.vx_grammar.specs.Grammar.{Between, Privileges, one_name, and_name, Se
 use Rattle.vx_grammar.proofs.Fields.{bind_ok, given_ok, found_name, sign_found, word_token, number_found, choice_found}
 use Rattle.vx_grammar.proofs.Once.{OneMore, AreNew, and_new, first_new, rest_new}
 use Rattle.vx_grammar.proofs.PrivilegeNames.{names_read, names_stand}
+use Rattle.vx_table.proofs.Back.{mode_back}
 
 -- a key stands already
 abbrev pub has : Keys → Key → Bool
@@ -65,10 +65,12 @@ pub record IsSet (k : Key) (set : ProcDecl → ProcDecl) (keys more : Keys) : Ty
 
 has_uic : (keys : Keys) (x : Uic) (k : Key) → has (record keys { uic = Some x }) k ≡ (bytes_eq (key_name key.Uic) (key_name k) || has keys k)
 has_uic keys x key.Uic = refl
+has_uic keys x (key.Limit limit.Ast) = refl
 has_uic keys x _ = refl
 
 has_mode : (keys : Keys) (x : Mode) (k : Key) → has (record keys { mode = Some x }) k ≡ (bytes_eq (key_name key.Mode) (key_name k) || has keys k)
 has_mode keys x key.Mode = refl
+has_mode keys x (key.Limit limit.Ast) = refl
 has_mode keys x _ = refl
 
 has_limit : (keys : Keys) (l : Limit) (x : ℕ) (k : Key) → has (with_limit_in keys l x) k ≡ (bytes_eq (key_name (key.Limit l)) (key_name k) || has keys k)
@@ -85,10 +87,12 @@ has_limit keys limit.Tqe x _ = refl
 
 has_privs : (keys : Keys) (x : Privs) (k : Key) → has (record keys { privs = Some x }) k ≡ (bytes_eq (key_name key.Priv) (key_name k) || has keys k)
 has_privs keys x key.Priv = refl
+has_privs keys x (key.Limit limit.Ast) = refl
 has_privs keys x _ = refl
 
 has_start : (keys : Keys) (x : Bool) (k : Key) → has (record keys { start = Some x }) k ≡ (bytes_eq (key_name key.Start) (key_name k) || has keys k)
 has_start keys x key.Start = refl
+has_start keys x (key.Limit limit.Ast) = refl
 has_start keys x _ = refl
 
 -- Spelled, and so read.
@@ -104,12 +108,6 @@ pub record Takes (keys : Keys) (k : Key) (set : ProcDecl → ProcDecl) (value re
 absent : {A : Type 0} (o : Option A) → is_some o ≡ false → once o ≡ Ok tt
 absent None h = refl
 absent (Some x) h = absurd (cc)
-
-mode_back : (m : Mode) → mode_word (mode_name m) ≡ Some m
-mode_back Kernel = refl
-mode_back Exec = refl
-mode_back Super = refl
-mode_back User = refl
 
 uic_takes : (keys : Keys) (g m : ℕ) (rest : List Tok) → Between 1 16382 g → Between 0 65534 m → is_some keys.uic ≡ false
     → with_uic keys (equals ∷ tok.Num g ∷ colon ∷ tok.Num m ∷ rest) ≡ Ok (record { keys = record keys { uic = Some (record { group = g; member = m }) }; used = 4 })

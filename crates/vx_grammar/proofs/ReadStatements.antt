@@ -40,7 +40,7 @@ use Rattle.vx_grammar.proofs.Calls.{call_read}
 
 -- The words of a statement, read back.
 
-operand_back : (x : Operand) → is_operand x ≡ true → operand_of (operand_token x) ≡ Some x
+pub operand_back : (x : Operand) → is_operand x ≡ true → operand_of (operand_token x) ≡ Some x
 operand_back (operand.Num n) h = refl
 operand_back (operand.Cond c) h = refl
 operand_back (operand.Var v) h = rw h refl
@@ -48,15 +48,15 @@ operand_back operand.R0 h = refl
 operand_back operand.Pid h = refl
 operand_back operand.Prm h = refl
 
-target_back : (t : Target) → is_target t ≡ true → target_in (target_token t) ≡ Ok t
+pub target_back : (t : Target) → is_target t ≡ true → target_in (target_token t) ≡ Ok t
 target_back (target.Var v) h = rw h refl
 target_back target.R0 h = refl
 
-target_no_colon : (t : Target) → is_sign 58 (target_token t) ≡ false
+pub target_no_colon : (t : Target) → is_sign 58 (target_token t) ≡ false
 target_no_colon (target.Var v) = refl
 target_no_colon target.R0 = refl
 
-operand_no_colon : (x : Operand) → is_sign 58 (operand_token x) ≡ false
+pub operand_no_colon : (x : Operand) → is_sign 58 (operand_token x) ≡ false
 operand_no_colon (operand.Num n) = refl
 operand_no_colon (operand.Cond c) = refl
 operand_no_colon (operand.Var v) = refl
@@ -64,28 +64,28 @@ operand_no_colon operand.R0 = refl
 operand_no_colon operand.Pid = refl
 operand_no_colon operand.Prm = refl
 
-rel_back : (r : Rel) → rel_word (rel_name r) ≡ Some r
+pub rel_back : (r : Rel) → rel_word (rel_name r) ≡ Some r
 rel_back rel.Eq = refl
 rel_back rel.Ne = refl
 rel_back rel.Lt = refl
 rel_back rel.Ge = refl
 
-field_back : (f : Field) → field_word (field_name f) ≡ Some f
+pub field_back : (f : Field) → field_word (field_name f) ≡ Some f
 field_back field.Status = refl
 field_back field.Count = refl
 field_back field.Info = refl
 
-abbrev let_toks : Target → Operand → List Tok → List Tok
+abbrev pub let_toks : Target → Operand → List Tok → List Tok
 let_toks t x toks = target_token t ∷ tok.Sign 61 ∷ operand_token x ∷ toks
 
-let_back : (t : Target) (x : Operand) (toks : List Tok) → is_target t ≡ true → is_operand x ≡ true → local_stmt (codes "LET") (let_toks t x toks) ≡ let_rest t x toks
+pub let_back : (t : Target) (x : Operand) (toks : List Tok) → is_target t ≡ true → is_operand x ≡ true → local_stmt (codes "LET") (let_toks t x toks) ≡ let_rest t x toks
 unfolding local_stmt let_stmt
 let_back t x toks h k = rw (target_back t h, operand_back x k) refl
 
-add_back : (t : Target) (x y : Operand) → is_operand y ≡ true → let_rest t x (tok.Sign 43 ∷ operand_token y ∷ []) ≡ Ok (draft.Plain (stmt.Add t x y))
+pub add_back : (t : Target) (x y : Operand) → is_operand y ≡ true → let_rest t x (tok.Sign 43 ∷ operand_token y ∷ []) ≡ Ok (draft.Plain (stmt.Add t x y))
 add_back t x y h = rw (operand_back y h) refl
 
-sub_back : (t : Target) (x y : Operand) → is_operand y ≡ true → let_rest t x (tok.Sign 45 ∷ operand_token y ∷ []) ≡ Ok (draft.Plain (stmt.Sub t x y))
+pub sub_back : (t : Target) (x y : Operand) → is_operand y ≡ true → let_rest t x (tok.Sign 45 ∷ operand_token y ∷ []) ≡ Ok (draft.Plain (stmt.Sub t x y))
 sub_back t x y h = rw (operand_back y h) refl
 
 goto_back : (name : List ℕ) → local_stmt (codes "GOTO") (tok.Word name ∷ []) ≡ Ok (draft.Goto name)
@@ -121,7 +121,7 @@ iosb_back t i f h k =
     let high : nat_le i 32 ≡ true = le-leb _ _ k.1 in
     rw (target_back t h, low, high, field_back f) refl
 
-return_back : local_stmt (codes "RETURN") [] ≡ Ok (draft.Plain stmt.Return)
+pub return_back : local_stmt (codes "RETURN") [] ≡ Ok (draft.Plain stmt.Return)
 unfolding local_stmt return_stmt
 return_back = refl
 
@@ -147,7 +147,7 @@ there name labels k h = ap (λ (o : Option ℕ). not (is_some o)) h
 
 -- The labels and the process declaration of a call.
 
-label_there : (image : Image) (a : Arg) → has_its_label image a ≡ true → arg_names_none image.labels a ≡ false
+pub label_there : (image : Image) (a : Arg) → has_its_label image a ≡ true → arg_names_none image.labels a ≡ false
 label_there image (arg.Label (Some name)) h =
     let p = λ (l : Label). bytes_eq name l.name in
     ap not (has_place p image.labels ∙ sym (any_map (bytes_eq name) (λ (l : Label). l.name) image.labels) ∙ h)

@@ -15,9 +15,10 @@ use Rattle.vx_script.specs.declared.lines.DeclLine.{DeclLine}
 use Rattle.vx_script.specs.declared.lines.FaultLine.{FaultLine}
 use Rattle.vx_script.specs.declared.lines.InputLine.{InputLine}
 use Rattle.vx_script.specs.declared.parts.Parts.{Parts}
-use Rattle.vx_script.proofs.Appended.{map_push, all_both, all_push}
+use Rattle.vx_script.proofs.Appended.{all_both, all_push}
 use Rattle.vx_script.proofs.EndedImages.{is_known, neither}
 use Rattle.vx_grammar.specs.Grammar.{Item, OfUnit, OfInput, OfFault, OfImage, OfProcess, input_of, number_of, image_in, decl_in, fault_in}
+use Rattle.std.proofs.lemmas.List.{map_push}
 
 -- Lists with one more at the end.
 

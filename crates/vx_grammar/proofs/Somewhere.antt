@@ -1,7 +1,7 @@
 -- What is read as a statement is spelled as one of some image, which has the labels that it names.
 use Rattle.std.proofs.Common.{◌≡◌, ℕ, ◌||◌, not, Bool, true, false, nat_lt, List, [], ◌∷◌, ◌++◌, map, Some, None, Ok, bytes_eq, refl, ap, ◌∙◌}
 use Rattle.std.specs.List.{list_all}
-use Rattle.std.proofs.lemmas.Bool.{and_parts, and_from}
+use Rattle.std.proofs.lemmas.Bool.{and_parts, and_from, or_right, or_left}
 use Rattle.std.proofs.lemmas.Result.{IfOk-at_ok}
 use Rattle.std.proofs.lemmas.List.Folds.{list_any-append}
 use Rattle.vx_base.specs.declared.call.Arg.{Arg}
@@ -16,7 +16,6 @@ use Rattle.vx_image.specs.declared.stmt.Stmt.{Stmt}
 use Rattle.vx_image.specs.declared.stmt.Stmt.TheVariants as stmt
 use Rattle.vx_image.specs.WellFormed.{is_among, has_its_label, has_its_decl, is_stmt, label_names}
 use Rattle.vx_text.specs.declared.token.Tok.{Tok}
-use Rattle.vx_text.proofs.Runs.{or_true}
 use Rattle.vx_script.specs.Resolving.{is_label, place_or_zero, settled, draft_names_none}
 use Rattle.vx_script.specs.Places.{label_place}
 use Rattle.vx_script.specs.Statements.{stmt_of}
@@ -74,7 +73,7 @@ among_both name xs ys = ap (is_among name) (names_both xs ys) ∙ list_any-appen
 
 -- labels in front of others change nothing
 still_has : (xs ys : List Label) (a : Arg) → has_its_label (with_labels ys) a ≡ true → has_its_label (with_labels (xs ++ ys)) a ≡ true
-still_has xs ys (arg.Label (Some name)) h = among_both name xs ys ∙ or_true (is_among name (label_names (with_labels xs))) (is_among name (label_names (with_labels ys))) h
+still_has xs ys (arg.Label (Some name)) h = among_both name xs ys ∙ or_right (is_among name (label_names (with_labels xs))) (is_among name (label_names (with_labels ys))) h
 still_has xs ys (arg.Label None) h = refl
 still_has xs ys (arg.Value x) h = refl
 still_has xs ys _ h = refl
@@ -84,10 +83,6 @@ all_still_have xs ys [] h = refl
 all_still_have xs ys (a ∷ args) h =
     let p = and_parts (has_its_label (with_labels ys) a) (list_all (has_its_label (with_labels ys)) args) h in
     and_from (has_its_label (with_labels (xs ++ ys)) a) (list_all (has_its_label (with_labels (xs ++ ys))) args) (still_has xs ys a p.0) (all_still_have xs ys args p.1)
-
-or_left : (a b : Bool) → a ≡ true → a || b ≡ true
-or_left true b h = refl
-or_left false b h = absurd (cc)
 
 first_has : (a : Arg) (ys : List Label) → has_its_label (with_labels (label_in a ++ ys)) a ≡ true
 first_has (arg.Label (Some name)) ys = or_left (bytes_eq name name) (is_among name (label_names (with_labels ys))) (same_name name)

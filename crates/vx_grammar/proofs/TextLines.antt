@@ -1,10 +1,10 @@
 -- The lines of a text are those that the reader cuts.
 use Rattle.std.proofs.Common.{◌≡◌, ◌≢◌, ℕ, ◌==◌, ◌&&◌, not, Bool, true, false, cond, List, [], ◌∷◌, ◌++◌, refl, sym, subst, ap, ◌∙◌}
 use Rattle.std.specs.List.{list_all}
-use Rattle.std.proofs.lemmas.Bool.{and_parts, and_from, not_from_false, eqb-true, eq-eqb}
+use Rattle.std.proofs.lemmas.Bool.{and_parts, and_from, not_from_false, eqb-true, eq-eqb, not-true}
 use Rattle.vx_script.specs.Lines.{onto_first, begins_with, lines_of}
-use Rattle.vx_script.proofs.Appended.{not_out}
 use Rattle.vx_grammar.specs.Grammar.{IsFeedless, IsLines, no_text, last_line, fed_line, returned_line}
+use Rattle.vx_text.proofs.Runs.{and_false}
 
 abbrev no_feed : ℕ → Bool
 no_feed b = not (b == 10)
@@ -14,7 +14,7 @@ cut_byte : (b : ℕ) (bytes : List ℕ) → lines_of (b ∷ bytes) ≡ cond (b =
 unfolding lines_of
 cut_byte b bytes = refl
 
-cut_nothing : lines_of [] ≡ []
+pub cut_nothing : lines_of [] ≡ []
 unfolding lines_of
 cut_nothing = refl
 
@@ -28,16 +28,12 @@ feed_cut bytes = cut_byte 10 bytes
 return_cut : (bytes : List ℕ) → lines_of (13 ∷ 10 ∷ bytes) ≡ [] ∷ lines_of bytes
 return_cut bytes = cut_byte 13 (10 ∷ bytes) ∙ feed_cut bytes
 
-and_false : (a : Bool) → a && false ≡ false
-and_false true = refl
-and_false false = refl
-
 -- a line goes on behind a byte
 goes_on : (b c : ℕ) (bytes : List ℕ) → (b == 10) ≡ false → (c == 10) ≡ false → lines_of (b ∷ c ∷ bytes) ≡ onto_first b (lines_of (c ∷ bytes))
 goes_on b c bytes h k = kept b (c ∷ bytes) h (ap (λ t. (b == 13) && t) k ∙ and_false (b == 13))
 
 front_of : (b : ℕ) (line : List ℕ) → IsFeedless (b ∷ line) → ((b == 10) ≡ false) × IsFeedless line
-front_of b line h = let p = and_parts (no_feed b) (list_all no_feed line) h in (not_out (b == 10) p.0, p.1)
+front_of b line h = let p = and_parts (no_feed b) (list_all no_feed line) h in (not-true (b == 10) p.0, p.1)
 
 is_return : (b : ℕ) (t : Bool) → (b == 13) ≡ t → ((front : List ℕ) → b ∷ [] ≢ front ++ 13 ∷ []) → t ≡ false
 is_return b true e h = absurd (h [] (ap (λ (c : ℕ). c ∷ []) (eqb-true b 13 e)))

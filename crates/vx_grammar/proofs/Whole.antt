@@ -7,7 +7,7 @@ use Rattle.vx_image.specs.declared.system.System.{System}
 use Rattle.vx_image.specs.declared.unit.UnitDecl.{UnitDecl}
 use Rattle.vx_image.specs.WellFormed.{are_distinct}
 use Rattle.vx_script.specs.Lines.{lines_of}
-use Rattle.vx_script.specs.Reading.{nothing_read, read_lines, read_script}
+use Rattle.vx_script.specs.Reading.{nothing_read, read_script}
 use Rattle.vx_script.specs.Resolving.{first_unknown, resolved}
 use Rattle.vx_script.specs.Resolving as resolving
 use Rattle.vx_script.specs.declared.fault.ScriptFault.{ScriptFault}
@@ -16,20 +16,16 @@ use Rattle.vx_script.proofs.Accepted.{accepted}
 use Rattle.vx_script.proofs.Appended.{as_many}
 use Rattle.vx_script.proofs.KeptParts.{nothing_kept}
 use Rattle.vx_script.proofs.ResolvedSystem.{IsFormed}
-use Rattle.vx_grammar.specs.Grammar.{Item, OfUnit, OfInput, OfFault, OfImage, OfProcess, unit_in, image_in, decl_in, Spells}
-use Rattle.vx_grammar.specs.Grammar.{tokens_of}
+use Rattle.vx_grammar.specs.Grammar.{Item, OfUnit, OfInput, OfFault, OfImage, OfProcess, unit_in, image_in, decl_in, Spells, tokens_of}
 use Rattle.vx_grammar.proofs.Feeding.{Fed, fed, fed_back}
 use Rattle.vx_grammar.proofs.InnerSpelled.{Outer, back}
 use Rattle.vx_grammar.proofs.LinesBack.{Room, Rooms, unit_name_in, image_name_in, decl_name_in, lines_read}
 use Rattle.vx_grammar.proofs.Looking.{all_known, known_all, same_system, faults_differ}
 use Rattle.vx_grammar.proofs.SaidSoFar.{Known}
 use Rattle.vx_grammar.proofs.TextLines.{lines_cut, cut_lines}
+use Rattle.vx_grammar.proofs.FirstFaults.{starts}
 
 -- Read, and so spelled.
-
-starts : (text : List ℕ) → read_script text ≡ read_lines 1 nothing_read (lines_of text)
-unfolding read_script
-starts text = refl
 
 resolved_by : (all : Parts) (unknown : Option ℕ) (s : System) → resolved all unknown ≡ Ok s → (unknown ≡ None) × (resolving.system_of all ≡ s)
 resolved_by all None s h = (refl, (let e : resolving.system_of all ≡ s = cc in e))

@@ -158,7 +158,7 @@ pub data Privileges : List Tok → List Privilege → Type 0 where
   and_name : (p : Privilege) (tokens : List Tok) (ps : List Privilege) → Privileges tokens ps
       → Privileges (Word (privilege_name p) ∷ plus ∷ tokens) (p ∷ ps)
 
--- limits of which one is n
+-- limits, one of which becomes n
 abbrev pub limited : Need → Limit → ℕ → Need
 limited limits limit.Ast n = record limits { ast = n }
 limited limits limit.Bio n = record limits { bio = n }

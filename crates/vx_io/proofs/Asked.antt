@@ -14,12 +14,9 @@ use Rattle.vx_record.specs.Flags.{cell}
 use Rattle.vx_record.specs.Requests.{Asked, device_test, is_bad, on_cell, on_channel, request_test}
 use Rattle.vx_record.specs.Sound.{ChannelStands, DeviceStands, Ground, ground}
 use Rattle.vx_record.specs.State.{State, current, process_at}
-use Rattle.std.proofs.lemmas.Bool.{leb-false, leb-true, lt-ltb, ltb-true}
-use Rattle.vx_record.proofs.Lists.{all_get, false_from}
-
-pub mapped_some : {A B : Type 0} (f : A → B) (o : Option A) → is_some (option_map f o) ≡ is_some o
-mapped_some f None = refl
-mapped_some f (Some x) = refl
+use Rattle.std.proofs.lemmas.Bool.{leb-false, leb-true, lt-ltb, ltb-true, false_from_ne_true}
+use Rattle.vx_record.proofs.Lists.{all_get}
+pub use Rattle.vx_record.proofs.Lists.{mapped_some}
 
 pub mapped_none : {A B : Type 0} (f : A → B) (o : Option A) → is_none (option_map f o) ≡ is_none o
 mapped_none f None = refl
@@ -61,7 +58,7 @@ some_waits f p (x ∷ xs) = elim (p x) as (λ b. is_some (option_map f (cond b (
 pub not_within : (a b : ℕ) → not (nat_le a b) ≡ nat_lt b a
 not_within a b =
     elim (nat_le a b) as (λ x. nat_le a b ≡ x → not x ≡ nat_lt b a) [
-      | true ↦ λ within. let e = leb-true a b within in sym (false_from (nat_lt b a) (λ above. let f = ltb-true b a above in omega (arith, e, f)))
+      | true ↦ λ within. let e = leb-true a b within in sym (false_from_ne_true (nat_lt b a) (λ above. let f = ltb-true b a above in omega (arith, e, f)))
       | false ↦ λ beyond. let e = leb-false a b beyond in sym (lt-ltb b a (omega (arith, e)))
     ] refl
 
@@ -69,6 +66,6 @@ not_within a b =
 pub tested : (s : State) (p : Pid) (q : Asked) (c : Cell) (ch : Channel) → is_bad q ≡ false → q.efn ≤ 127 → cell s p q.efn ≡ Some c → channel_test s p q.chan ≡ Ok ch → request_test s p q ≡ device_test s p q c ch
 tested s p q c ch good flag named chan =
     ap (λ (b : Bool). if b then Err BadParam else (if nat_lt 127 q.efn then Err IllEfc else on_cell s p q (cell s p q.efn))) good
-    ∙ (ap (λ (b : Bool). if b then Err IllEfc else on_cell s p q (cell s p q.efn)) (false_from (nat_lt 127 q.efn) (λ above. let e = ltb-true 127 q.efn above in omega (arith, flag, e)))
+    ∙ (ap (λ (b : Bool). if b then Err IllEfc else on_cell s p q (cell s p q.efn)) (false_from_ne_true (nat_lt 127 q.efn) (λ above. let e = ltb-true 127 q.efn above in omega (arith, flag, e)))
     ∙ (ap (on_cell s p q) named
     ∙ ap (on_channel (device_test s p q c)) chan))

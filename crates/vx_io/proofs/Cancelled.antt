@@ -1,7 +1,7 @@
 -- The requests of a channel, cancelled one after another.
 use Rattle.std.proofs.Common.{◌≡◌, ◌<◌, ℕ, List, [], ◌∷◌, ◌++◌, Bool, true, false, cond, not, ◌&&◌, length, Option, Some, None, option_map, refl, ap, sym, subst, ◌∙◌, arith}
 use Rattle.std.specs.List.{AllByRecursion, filter, find}
-use Rattle.std.proofs.lemmas.Bool.{and_parts}
+use Rattle.std.proofs.lemmas.Bool.{and_parts, not-true, not-false}
 use Rattle.vx_base.specs.Lists.{amend, less}
 use Rattle.vx_base.specs.Pieces.{Request}
 use Rattle.vx_base.specs.declared.cond.Cond.TheVariants.{Cancel}
@@ -12,8 +12,8 @@ use Rattle.vx_record.specs.Cancel.{cancel_request, cancelled_request, is_request
 use Rattle.vx_record.specs.Finish.{ending, this_request}
 use Rattle.vx_record.specs.Parts.{Part, and_then, each, nothing, part_if}
 use Rattle.vx_record.specs.Sound.{AreOrdered, DeviceStands, ground, request_id}
-use Rattle.vx_record.proofs.Cancelled.{finish_requests, withdraw_requests}
-use Rattle.vx_record.proofs.Lists.{all_amend, all_find, all_less, all_weaker, either, either_by, find_passes, not_fails, not_holds, ordered_amend}
+use Rattle.vx_record.proofs.Cancelled.{cancelled_requests}
+use Rattle.vx_record.proofs.Lists.{all_amend, all_find, all_less, all_weaker, either, either_by, ordered_amend}
 use Rattle.vx_reqs.specs.Requests.{is_to_cancel}
 use Rattle.vx_procs.specs.Kernel.{Acts, Fits, Kernel}
 use Rattle.vx_procs.proofs.Ended.{found_id, found_none}
@@ -23,15 +23,13 @@ use Rattle.vx_io.specs.Cancelling.{AreCancellable, IsToCancel, cancel_found, can
 use Rattle.vx_io.specs.Steady.{AreSteady, IsFit}
 use Rattle.vx_io.proofs.Kept.{device_kept, finish_kept, kept_then, request_kept, withdrawn_kept}
 use Rattle.vx_io.proofs.Steady.{steady_in, steady_less}
+use Rattle.vx_base.proofs.First.{found_passes}
 
 -- what is still to be done on a channel
 abbrev pub cancel_rest : Pid → ℕ → State → Part
 cancel_rest p chan s = each cancel_request (filter (is_to_cancel p chan) s.requests) s
 
 -- Ids rise still.
-
-cancelled_requests : (s : State) (r : Request) → (cancelled_request s r).after.requests ≡ less (this_request r.req.id) s.requests
-cancelled_requests s r = finish_requests (withdraw s r r.req.device).after r (ending Cancel 0 0 []) ∙ ap (less (this_request r.req.id)) (withdraw_requests s r r.req.device)
 
 -- what is done can go on
 
@@ -81,7 +79,7 @@ all_to_cancel p chan (r ∷ rs) s =
       | true ↦
           either_by (λ (xs : List Request). and_then a (each cancel_request on) ≡ each cancel_request xs s) (not (r.served && r.marked)) (r ∷ left) left
           (λ going. ap (before a) (all_to_cancel p chan rs a.after))
-          (λ done. ap (λ (x : Part). and_then x (each cancel_request on)) (spent s r (not_fails (r.served && r.marked) done)) ∙ all_to_cancel p chan rs s)
+          (λ done. ap (λ (x : Part). and_then x (each cancel_request on)) (spent s r (not-false (r.served && r.marked) done)) ∙ all_to_cancel p chan rs s)
       | false ↦ all_to_cancel p chan rs s
     ]
 
@@ -108,7 +106,7 @@ marked_out p chan r served =
     never false = refl
 
 is_going : (p : Pid) (chan : ℕ) (r : Request) → is_to_cancel p chan r ≡ true → (r.served && r.marked) ≡ false
-is_going p chan r e = not_holds (r.served && r.marked) (and_parts (is_request_on p chan r) (not (r.served && r.marked)) e).1
+is_going p chan r e = not-true (r.served && r.marked) (and_parts (is_request_on p chan r) (not (r.served && r.marked)) e).1
 
 unmarked : (served marked : Bool) → (served && marked) ≡ false → served ≡ true → marked ≡ false
 unmarked true marked e is = e
@@ -125,7 +123,7 @@ waiting_part s r waits = ap (λ b. cond b (part_if (not r.marked) (mark_part s r
 left_after : (p : Pid) (chan : ℕ) (s : State) (r : Request) → AreOrdered request_id 0 s.next s.requests → find (is_to_cancel p chan) s.requests ≡ Some r → filter (is_to_cancel p chan) (cancel_request s r).after.requests ≡ filter (is_to_cancel p chan) (less (is_to_cancel p chan) s.requests)
 left_after p chan s r order found =
     let test = is_to_cancel p chan in
-    let going = is_going p chan r (find_passes test s.requests r found) in
+    let going = is_going p chan r (found_passes test s.requests r found) in
     elim r.served as (λ b. r.served ≡ b → filter test (cancel_request s r).after.requests ≡ filter test (less test s.requests)) [
       | true ↦ λ served.
           let marked = ap (λ (x : Part). x.after.requests) (served_part s r served going) ∙ amend_like request_id test with_abort 0 s.next s.requests r order found in
@@ -175,7 +173,7 @@ cancelling_next p chan first k id h given =
       found = x.by_id;
       device = all_find (IsOnDevice k.state) (is_to_cancel p chan) k.state.requests x.r h.going.devices x.found;
       steady = h.going.steady;
-      going = is_going p chan x.r (find_passes (is_to_cancel p chan) k.state.requests x.r x.found);
+      going = is_going p chan x.r (found_passes (is_to_cancel p chan) k.state.requests x.r x.found);
     }
 
 pub cancelling_room : (p : Pid) (chan : ℕ) (first k : Kernel) (id : Id) → IsCancelling p chan first k → Some id ≡ option_map (λ r. r.req.id) (find (is_to_cancel p chan) k.state.requests) → Fits k (cancel_found k.state (find (this_request id) k.state.requests)).effects

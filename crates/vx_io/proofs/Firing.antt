@@ -12,7 +12,7 @@ use Rattle.vx_record.specs.Cancel.{drop_attention}
 use Rattle.vx_record.specs.Mailboxes.{fire_attention, this_attention}
 use Rattle.vx_record.specs.Parts.{Part, and_then, each, tells}
 use Rattle.vx_record.specs.Sound.{AreOrdered, attention_id}
-use Rattle.vx_record.proofs.Lists.{find_passes, ordered_less}
+use Rattle.vx_record.proofs.Lists.{ordered_less}
 use Rattle.vx_procs.specs.Attention.{fired_attention, fired_attention_if, without_attention}
 use Rattle.vx_procs.specs.Kernel.{Acts, Fits, Kernel, told, with_state}
 use Rattle.vx_procs.proofs.Booked.{length-less}
@@ -20,6 +20,7 @@ use Rattle.vx_procs.proofs.Ended.{found_id, found_none}
 use Rattle.vx_procs.proofs.Firsts.{filter_found, filter_none, find_same, less_same}
 use Rattle.vx_procs.proofs.Rest.{IsDoing, acted, doing_begun, doing_end, doing_on, doing_room}
 use Rattle.vx_io.specs.Boxes.{fire_found}
+use Rattle.vx_base.proofs.First.{found_passes}
 
 -- What is done with entries, where each goes as it is done.
 
@@ -153,7 +154,7 @@ fired_done k l n id b given there after tells_both = from (find (this_attention 
     from : (o : Option Attention) → find (this_attention id) k.state.attention ≡ o → is_some o ≡ true → l ≡ with_state k (fired_attention_if k.state o) → n ≡ acted k (fire_found k.state o)
     from None found f to = absurd (cc)
     from (Some a) found f to =
-        let is : id ≡ a.id = sym (ap (λ i. let y : Id = record { 0 = i } in y) (eqb-true a.id.0 id.0 (find_passes (this_attention id) k.state.attention a found))) in
+        let is : id ≡ a.id = sym (ap (λ i. let y : Id = record { 0 = i } in y) (eqb-true a.id.0 id.0 (found_passes (this_attention id) k.state.attention a found))) in
         tells_both
         ∙ (ap (λ (y : Kernel). told y (fired_effects id)) to
         ∙ ap (λ (i : Id). told (with_state k (fired_attention k.state a)) (fired_effects i)) is)

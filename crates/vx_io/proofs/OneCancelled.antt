@@ -1,5 +1,5 @@
 -- One request that is cancelled: it is marked, or it is withdrawn and finishes.
-use Rattle.std.proofs.Common.{◌≡◌, List, [], ◌∷◌, ◌++◌, Bool, true, false, ◌||◌, Option, Some, None, option_map, refl, ap, sym, subst, ◌∙◌}
+use Rattle.std.proofs.Common.{◌≡◌, [], ◌++◌, Bool, true, false, Option, Some, None, option_map, refl, ap, sym, subst, ◌∙◌}
 use Rattle.std.specs.List.{find, list_any}
 use Rattle.std.proofs.lemmas.Bool.{eqb-true}
 use Rattle.vx_base.specs.Pieces.{Request}
@@ -14,25 +14,22 @@ use Rattle.vx_record.specs.Cancel.{mark_part, withdraw}
 use Rattle.vx_record.specs.Finish.{Ending, ending, finish_found, finish_id, this_request}
 use Rattle.vx_record.specs.Parts.{Part, and_then, tells}
 use Rattle.vx_record.proofs.Cancelled.{withdraw_requests}
-use Rattle.vx_record.proofs.Lists.{either_by, find_passes}
+use Rattle.vx_record.proofs.Lists.{found_any}
 use Rattle.vx_reqs.specs.Requests.{is_found}
 use Rattle.vx_procs.specs.Kernel.{Acts, Fits, Kernel}
 use Rattle.vx_procs.specs.Requests.{to_abort}
 use Rattle.vx_procs.proofs.Rest.{acted}
 use Rattle.vx_io.specs.Cancelling.{IsToCancel, cancel_found, end_by, withdraw_by, withdraw_found}
 use Rattle.vx_io.proofs.Cancelled.{served_part, waiting_part}
+use Rattle.vx_base.proofs.First.{found_passes}
 
 found_under : (s : State) (id : Id) (r : Request) → find (this_request id) s.requests ≡ Some r → r.req.id ≡ id
-found_under s id r found = ap (λ n. let y : Id = record { 0 = n } in y) (eqb-true r.req.id.0 id.0 (find_passes (this_request id) s.requests r found))
+found_under s id r found = ap (λ n. let y : Id = record { 0 = n } in y) (eqb-true r.req.id.0 id.0 (found_passes (this_request id) s.requests r found))
 
 -- it is in service
 
-find_any : {A : Type 0} (p : A → Bool) (xs : List A) (x : A) → find p xs ≡ Some x → list_any p xs ≡ true
-find_any p [] x e = absurd (cc)
-find_any p (y ∷ ys) x e = either_by (λ (o : Option _). o ≡ Some x → (p y || list_any p ys) ≡ true) (p y) (Some y) (find p ys) (λ t found. rw t refl) (λ f found. rw f (find_any p ys x found)) e
-
 pub is_there : (s : State) (id : Id) → IsToCancel s id → list_any (this_request id) s.requests ≡ true
-is_there s id x = find_any (this_request id) s.requests x.r x.found
+is_there s id x = found_any (this_request id) s.requests x.r x.found
 
 pub is_serving : (s : State) (id : Id) (x : IsToCancel s id) (b : Bool) → b ≡ is_found (λ r. r.served) (find (this_request id) s.requests) → x.r.served ≡ b
 is_serving s id x b e = sym (e ∙ ap (is_found (λ (r : Request). r.served)) x.found)

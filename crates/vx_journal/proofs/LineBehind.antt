@@ -4,9 +4,7 @@ use Rattle.std.proofs.Math.Seq.{drop-cons}
 use Rattle.std.proofs.lemmas.List.{drop_all}
 use Rattle.std.proofs.lemmas.Bool.Decides.{nat_tests}
 use Rattle.vx_journal.specs.ReadJournal.{line_behind, next_line}
-
-nat_same : (b : ℕ) → (b == b) ≡ true
-nat_same b = grind (arith, nat_tests)
+use Rattle.vx_lines.proofs.EffectsBack.{nat_same}
 
 pub same_byte : (line b : ℕ) (front text : List ℕ) → line_behind line (b ∷ front) (b ∷ text) ≡ line_behind (next_line line b) front text
 unfolding line_behind

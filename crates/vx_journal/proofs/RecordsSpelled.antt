@@ -21,17 +21,14 @@ use Rattle.vx_lines.specs.Records.{effect_line, ended_lines, head_line, record_l
 use Rattle.vx_lines.specs.Words.{◌>>=◌, first_word, second_word, third_word}
 use Rattle.vx_lines.specs.declared.read.Reading.{Reading}
 use Rattle.vx_lines.specs.declared.read.Records.{Records}
+use Rattle.std.proofs.lemmas.Option.{cond_some}
 
 -- A line that is taken is the printed one.
-
-kept : {A : Type 0} (t : Bool) (x y : A) → cond t (Some x) None ≡ Some y → (t ≡ true) × (x ≡ y)
-kept true x y h = (refl, cc)
-kept false x y h = absurd (cc)
 
 effect_by : (line : List ℕ) (o : Option Effect) (f : Effect) → (o >>= if_spelled line) ≡ Some f → line ≡ effect_line f ++ 10 ∷ []
 effect_by line None f h = absurd (cc)
 effect_by line (Some e) f h =
-    let k = kept (bytes_eq (effect_line e ++ 10 ∷ []) line) e f h in
+    let k = cond_some (bytes_eq (effect_line e ++ 10 ∷ []) line) e f h in
     sym ((bytes_eq-Decides (effect_line e ++ 10 ∷ []) line).0 k.0) ∙ ap (λ z. effect_line z ++ 10 ∷ []) k.1
 
 effect_spelled : (line : List ℕ) (f : Effect) → read_effect line ≡ Some f → line ≡ effect_line f ++ 10 ∷ []
@@ -69,7 +66,7 @@ bare_head units line = either (bytes_eq (first_word line) (codes "RUN")) _ _ (be
 head_by : (units : List UnitDecl) (n : ℕ) (line : List ℕ) (o : Option Rec) (r : Rec) → IfSome o IsBare → (o >>= if_head units n line) ≡ Some r → (line ≡ head_line units n r ++ 10 ∷ []) × IsBare r
 head_by units n line None r bare h = absurd (cc)
 head_by units n line (Some q) r bare h =
-    let k = kept (bytes_eq (head_line units n q ++ 10 ∷ []) line) q r h in
+    let k = cond_some (bytes_eq (head_line units n q ++ 10 ∷ []) line) q r h in
     (sym ((bytes_eq-Decides (head_line units n q ++ 10 ∷ []) line).0 k.0) ∙ ap (λ z. head_line units n z ++ 10 ∷ []) k.1, subst IsBare k.1 bare)
 
 pub head_spelled : (units : List UnitDecl) (n : ℕ) (line : List ℕ) (r : Rec) → read_head units n line ≡ Some r → (line ≡ head_line units n r ++ 10 ∷ []) × IsBare r

@@ -11,7 +11,6 @@ use Rattle.vx_image.specs.declared.image.Label.{Label}
 use Rattle.vx_image.specs.declared.stmt.Stmt.{Stmt}
 use Rattle.vx_image.specs.declared.system.System.{System}
 use Rattle.vx_image.specs.declared.unit.UnitDecl.{UnitDecl}
-use Rattle.vx_text.proofs.Runs.{and_parts}
 use Rattle.vx_lines.specs.ReadEffect.{is_no_feed}
 use Rattle.vx_lines.specs.ReadRecords.{fed_lines}
 use Rattle.vx_lines.proofs.RecordsLaw.{fed_line, front_line}
@@ -23,6 +22,7 @@ use Rattle.vx_roundtrip.proofs.Words.{is_clean}
 use Rattle.vx_journal.specs.ReadJournal.{header, is_journal_line, len_before, line_behind, next_line, script_len, script_part}
 use Rattle.vx_journal.proofs.LineBehind.{same_byte}
 use Rattle.vx_journal.proofs.ScriptPart.{at_line, begins, past_line}
+use Rattle.std.proofs.lemmas.Bool.{and_parts}
 
 -- Lines that begin otherwise.
 

@@ -1,5 +1,5 @@
 -- Waits of one process change, and those of others stay.
-use Rattle.std.proofs.Common.{◌≡◌, ℕ, zero, suc, ◌+◌, ◌-◌, ◌<◌, Bool, true, false, cond, ◌&&◌, ◌==◌, List, [], ◌∷◌, Option, Some, None, map, refl, ap, ap₂, sym, ◌∙◌, arith, add-one, eq-eqb}
+use Rattle.std.proofs.Common.{◌≡◌, ℕ, zero, suc, ◌+◌, ◌-◌, ◌<◌, false, cond, ◌&&◌, ◌==◌, List, [], ◌∷◌, Option, Some, None, map, refl, ap, ap₂, sym, ◌∙◌, arith, add-one, eq-eqb}
 use Rattle.std.proofs.lemmas.Bool.{ne_eqb, eqb-true}
 use Rattle.std.specs.HashMap.{get}
 use Rattle.vx_base.specs.declared.call.Call.{Call}
@@ -14,6 +14,7 @@ use Rattle.vx_judge.specs.Asked.{asked, top_of}
 use Rattle.vx_judge.specs.Pairs.{pair_eq}
 use Rattle.vx_judge.specs.Waits.{waits_below, waits_in, count_in, wait_at}
 use Rattle.vx_judge.specs.declared.waits.Waits.{Waits}
+use Rattle.vx_judge.proofs.OpenIds.{by_cases}
 
 -- what stands above the lowest n is not among them
 same_below : (f g : ℕ → Option Wait) (n : ℕ) → ((i : ℕ) → i < n → g i ≡ f i) → waits_below g n ≡ waits_below f n
@@ -24,10 +25,6 @@ same_below f g (suc n) h = ap₂ (λ (w : Option Wait) ws. w ∷ ws) (h n (omega
 top_set : (f g : ℕ → Option Wait) (n : ℕ) (w : Option Wait) → ((i : ℕ) → g i ≡ cond (n == i) w (f i)) → waits_below g (suc n) ≡ w ∷ waits_below f n
 top_set f g n w h = ap₂ (λ (v : Option Wait) vs. v ∷ vs) (h n ∙ rw (eq-eqb n n refl) refl)
     (same_below f g n (λ i k. h i ∙ rw (ne_eqb n i (λ e. let never : ⊥ = omega (arith, k, e) in never)) refl))
-
-by_cases : {A : Type 0} (b : Bool) → (b ≡ true → A) → (b ≡ false → A) → A
-by_cases true f g = f refl
-by_cases false f g = g refl
 
 -- of one process, and of the others
 each : (old new : Waits) (p : Pid) (ws : List (Option Wait)) → waits_in new p ≡ ws → ((q : Pid) → is_same p q ≡ false → waits_in new q ≡ waits_in old q) →

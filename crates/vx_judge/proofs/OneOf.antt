@@ -14,10 +14,7 @@ use Rattle.vx_judge.specs.declared.owed.Owed.{Owed}
 use Rattle.vx_laws.specs.Items.{Calling}
 use Rattle.vx_record.specs.Services.{number}
 use Rattle.vx_judge.proofs.Passes.{list_any_reverse}
-
-either_by : {A : Type 0} (P : A → Type 0) (b : Bool) (x y : A) → (b ≡ true → P x) → (b ≡ false → P y) → P (cond b x y)
-either_by P true x y h k = h refl
-either_by P false x y h k = k refl
+use Rattle.vx_record.proofs.Lists.{either_by}
 
 is_one : (n : ℕ) → 1 < n → (n == 1) ≡ false
 is_one n h = ne_eqb n 1 (λ e. omega (arith, e, h))

@@ -9,29 +9,18 @@ use Rattle.vx_laws.specs.Items.{Item, Head, Did, is_id}
 use Rattle.vx_base.specs.declared.number.Pid.{Pid}
 use Rattle.vx_laws.specs.Lives.{Life, life, lives, lived, subject, is_about, highest, id_of, all_ids, is_open, is_handler}
 use Rattle.vx_laws.specs.RundownLaw.{is_left_of, is_of, is_later_handler}
-use Rattle.vx_judge.proofs.Charged.{either}
 use Rattle.vx_judge.specs.Lives.{kept, IsOf}
 use Rattle.vx_judge.specs.OpenIds.{HasOpen, has_open, is_open_in}
 use Rattle.vx_judge.specs.declared.lives.Lives.{Lives}
-
-abbrev pub is_opening : Item → Bool
-is_opening (Did (effect.Open id kind p mode n)) = true
-is_opening x = false
+use Rattle.vx_laws.proofs.Shares.{lived_none, still_none}
+use Rattle.vx_laws.proofs.Openings.{is_open_item}
+use Rattle.vx_laws.proofs.Bools.{both_left}
 
 pub by_cases : {A : Type 0} (b : Bool) → (b ≡ true → A) → (b ≡ false → A) → A
 by_cases true f g = f refl
 by_cases false f g = g refl
 
 -- An id above the highest was not opened.
-
-pub lived_none : (past : List Item) (x : Item) → is_opening x ≡ false → lived past x None ≡ None
-lived_none past (Did (effect.Open id kind p mode n)) e = absurd (let never : true ≡ false = e in cc)
-lived_none past (Head (event.Ast p) a) e = refl
-lived_none past (Head (event.Beg u) a) e = refl
-lived_none past x e = refl
-
-known_on : (x : Item) (past : List Item) (id : Id) → is_opening x ≡ false → life past id ≡ None → life (x ∷ past) id ≡ None
-known_on x past id o e = rw (e, lived_none past x o) (either (is_about (subject x) id) None)
 
 above_both : (b : Bool) (m i k : ℕ) → nat_lt m i ≡ b → cond b i m < k → (i < k) × (m < k)
 above_both true m i k e h = (h, let l : nat_lt m i ≡ true = e in omega (arith, h, ltb-true m i l))
@@ -43,7 +32,7 @@ known (Did (effect.Open i kind p mode n) ∷ past) id h =
     let both = above_both (nat_lt (highest past) i.0) (highest past) i.0 id.0 refl h in
     let below = both.0 in
     rw (ne_eqb i.0 id.0 (λ e. let never : ⊥ = omega (arith, below, e) in never)) (known past id both.1)
-known (x ∷ past) id h = known_on x past id refl (known past id h)
+known (x ∷ past) id h = still_none x past id refl (known past id h)
 
 -- What is open was open, or is opened.
 
@@ -59,7 +48,7 @@ or_body : (a b : Bool) → (a || false) ≡ true → (a || b) ≡ true
 or_body true b h = refl
 or_body false b h = absurd (let never : false ≡ true = h in cc)
 
-lives_open : (past : List Item) (x : Item) (l : Option Life) → is_opening x ≡ false → lives is_open (lived past x l) ≡ true → lives is_open l ≡ true
+lives_open : (past : List Item) (x : Item) (l : Option Life) → is_open_item x ≡ false → lives is_open (lived past x l) ≡ true → lives is_open l ≡ true
 lives_open past x None o h = absurd (let e : lives is_open (lived past x None) ≡ false = rw (lived_none past x o) refl in cc)
 lives_open past (Did (effect.Open id kind p mode n)) (Some l) o h = absurd (let never : true ≡ false = o in cc)
 lives_open past (Did (effect.Fin id c)) (Some l) o h = or_weaker l.body l.routine _ h
@@ -70,13 +59,13 @@ lives_open past (Head (event.Ast p) a) (Some l) o h = or_body l.body l.routine h
 lives_open past (Head (event.Beg u) a) (Some l) o h = h
 lives_open past x (Some l) o h = h
 
-was_open : (b : Bool) (past : List Item) (x : Item) (l : Option Life) → is_opening x ≡ false → lives is_open (cond b (lived past x l) l) ≡ true → lives is_open l ≡ true
+was_open : (b : Bool) (past : List Item) (x : Item) (l : Option Life) → is_open_item x ≡ false → lives is_open (cond b (lived past x l) l) ≡ true → lives is_open l ≡ true
 was_open true past x l o h = lives_open past x l o h
 was_open false past x l o h = h
 
 -- The list follows the past.
 
-pub open_on : (ids : List Id) (past : List Item) (x : Item) → is_opening x ≡ false → HasOpen ids past → HasOpen ids (x ∷ past)
+pub open_on : (ids : List Id) (past : List Item) (x : Item) → is_open_item x ≡ false → HasOpen ids past → HasOpen ids (x ∷ past)
 open_on ids past x o h = λ id e. h id (was_open (is_about (subject x) id) past x (life past id) o e)
 
 -- those alone that are open
@@ -184,19 +173,16 @@ all_of_open bad past ids has opened = bool_same _ _ every some
 
 -- What is left, and what is a later handler, is open.
 
-left_first : (b c : Bool) → (b && c) ≡ true → b ≡ true
-left_first b c h = (and_parts b c h).0
-
 pub left_is_open : (p : Pid) (l : Option Life) → lives (is_left_of p) l ≡ true → lives is_open l ≡ true
 left_is_open p None h = h
-left_is_open p (Some l) h = left_first (is_open l) (is_of p l) h
+left_is_open p (Some l) h = both_left (is_open l) (is_of p l) h
 
 pub later_is_open : (id : Id) (l : Life) (j : Id) (k : Option Life) → lives (is_later_handler id l j) k ≡ true → lives is_open k ≡ true
 later_is_open id l j None h = h
 later_is_open id l j (Some k) h =
     let more = (and_parts (nat_lt id.0 j.0) _ h).1 in
     let body = (and_parts (is_handler k.kind) _ more).1 in
-    or_open k.body k.routine (left_first k.body _ body)
+    or_open k.body k.routine (both_left k.body _ body)
   where
     or_open : (a b : Bool) → a ≡ true → (a || b) ≡ true
     or_open true b h = refl

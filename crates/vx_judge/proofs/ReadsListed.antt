@@ -1,6 +1,6 @@
 -- The lists of reads follow the past.
 use Rattle.std.proofs.Common.{◌≡◌, ℕ, Bool, true, false, cond, not, ◌&&◌, ◌||◌, nat_lt, List, [], ◌∷◌, ◌++◌, Option, Some, None, option_map, refl, sym, ap, ◌∙◌, bytes_eq}
-use Rattle.std.proofs.lemmas.Bool.{and_parts, eqb-true, eq-eqb, ltb-true, ltb-false}
+use Rattle.std.proofs.lemmas.Bool.{and_parts, eqb-true, eq-eqb, ltb-true, ltb-false, or_left}
 use Rattle.std.proofs.lemmas.List.Folds.{list_any-append}
 use Rattle.std.specs.Cmp.Lexicographic.{bytes_decides}
 use Rattle.std.specs.List.{list_any, filter}
@@ -15,7 +15,7 @@ use Rattle.vx_laws.specs.Items.{Item, Head, Did, is_id}
 use Rattle.vx_laws.specs.Lives.{Life, life, lives, lived, subject, is_about, highest, is_request, is_bare, new_life}
 use Rattle.vx_record.specs.Mailboxes.{is_waiting_func}
 use Rattle.vx_judge.proofs.Least.{least_is}
-use Rattle.vx_judge.proofs.OpenIds.{by_cases, is_opening, lived_none, known, filtered}
+use Rattle.vx_judge.proofs.OpenIds.{by_cases, known, filtered}
 use Rattle.vx_judge.specs.Lives.{kept, IsOf}
 use Rattle.vx_judge.specs.Readers.{HasReads, has_request, waits_in, least_of, counted_wait, box_of}
 use Rattle.vx_judge.specs.Requests.{asked_by, asked_in, asks_at, AreAsked}
@@ -23,6 +23,8 @@ use Rattle.vx_judge.specs.BoxLists.{listed}
 use Rattle.vx_judge.specs.declared.box_lists.BoxLists.{BoxLists}
 use Rattle.vx_judge.specs.declared.lives.Lives.{Lives}
 use Rattle.vx_judge.specs.declared.requests.Requests.{Requests}
+use Rattle.vx_laws.proofs.Shares.{lived_none}
+use Rattle.vx_laws.proofs.Openings.{is_open_item}
 
 -- By the tables a read waits as it does by the past.
 
@@ -41,7 +43,7 @@ body_before true true false r h = absurd (let never : false ≡ true = h in cc)
 body_before true false b r h = h
 body_before false a b r h = h
 
-lives_reads : (name : List ℕ) (past : List Item) (x : Item) (l : Option Life) → is_opening x ≡ false → lives (reads_at name) (lived past x l) ≡ true → lives (reads_at name) l ≡ true
+lives_reads : (name : List ℕ) (past : List Item) (x : Item) (l : Option Life) → is_open_item x ≡ false → lives (reads_at name) (lived past x l) ≡ true → lives (reads_at name) l ≡ true
 lives_reads name past x None o h = absurd (let e : lives (reads_at name) (lived past x None) ≡ false = rw (lived_none past x o) refl in cc)
 lives_reads name past (Did (effect.Open id kind p mode n)) (Some l) o h = absurd (let never : true ≡ false = o in cc)
 lives_reads name past (Did (effect.Fin id c)) (Some l) o h = body_before (is_request l.kind) l.body _ _ h
@@ -52,16 +54,16 @@ lives_reads name past (Head (event.Ast p) a) (Some l) o h = h
 lives_reads name past (Head (event.Beg u) a) (Some l) o h = h
 lives_reads name past x (Some l) o h = h
 
-was_reading : (b : Bool) (name : List ℕ) (past : List Item) (x : Item) (l : Option Life) → is_opening x ≡ false → lives (reads_at name) (cond b (lived past x l) l) ≡ true → lives (reads_at name) l ≡ true
+was_reading : (b : Bool) (name : List ℕ) (past : List Item) (x : Item) (l : Option Life) → is_open_item x ≡ false → lives (reads_at name) (cond b (lived past x l) l) ≡ true → lives (reads_at name) l ≡ true
 was_reading true name past x l o h = lives_reads name past x l o h
 was_reading false name past x l o h = h
 
-pub reads_on : (t : BoxLists Id) (past : List Item) (x : Item) → is_opening x ≡ false → HasReads t past → HasReads t (x ∷ past)
+pub reads_on : (t : BoxLists Id) (past : List Item) (x : Item) → is_open_item x ≡ false → HasReads t past → HasReads t (x ∷ past)
 reads_on t past x o h = λ name id e. h name id (was_reading (is_about (subject x) id) name past x (life past id) o e)
 
 -- What an id asks is changed by its OPEN alone.
 
-asked_where : (b : Bool) (past : List Item) (x : Item) (l : Option Life) → is_opening x ≡ false → option_map asked_by (cond b (lived past x l) l) ≡ option_map asked_by l
+asked_where : (b : Bool) (past : List Item) (x : Item) (l : Option Life) → is_open_item x ≡ false → option_map asked_by (cond b (lived past x l) l) ≡ option_map asked_by l
 asked_where false past x l o = refl
 asked_where true past x None o = rw (lived_none past x o) refl
 asked_where true past (Did (effect.Open id kind p mode n)) (Some l) o = absurd (let never : true ≡ false = o in cc)
@@ -69,7 +71,7 @@ asked_where true past (Head (event.Ast p) a) (Some l) o = refl
 asked_where true past (Head (event.Beg u) a) (Some l) o = refl
 asked_where true past x (Some l) o = refl
 
-pub asked_on : (t : Requests) (past : List Item) (x : Item) → is_opening x ≡ false → AreAsked t past → AreAsked t (x ∷ past)
+pub asked_on : (t : Requests) (past : List Item) (x : Item) → is_open_item x ≡ false → AreAsked t past → AreAsked t (x ∷ past)
 asked_on t past x o are = λ id. are id ∙ sym (asked_where (is_about (subject x) id) past x (life past id) o)
 
 -- Those that have ended go.
@@ -88,9 +90,6 @@ reads_left old new t u name past is are set h = λ other id e.
 any_last : (a b : Bool) → b ≡ true → (a || (b || false)) ≡ true
 any_last true b h = refl
 any_last false b h = rw h refl
-
-any_earlier : (a b : Bool) → a ≡ true → (a || b) ≡ true
-any_earlier a b h = rw h refl
 
 -- what is opened and waits at a box has it as its box
 opened_at : (kind : Opened) (bare : Bool) (a : Option (List ℕ)) (w : Bool) (name : List ℕ) → ((is_request kind && bare) && (is_at name a && w)) ≡ true → (cond (is_request kind && w) a None ≡ a) × (is_at name a ≡ true)
@@ -125,7 +124,7 @@ module _ (past : List Item) (i : Id) (kind : Opened) (p : Pid) (mode : Option Mo
       (λ apart.
       let before : lives (reads_at other) (life past id) ≡ true = rw apart at e in
       by_cases (bytes_eq name other)
-      (λ b. rw (set other, b) (list_any-append (is_id id) (listed old other) (i ∷ []) ∙ any_earlier (list_any (is_id id) (listed old other)) (is_id id i || false) (h other id before)))
+      (λ b. rw (set other, b) (list_any-append (is_id id) (listed old other) (i ∷ []) ∙ or_left (list_any (is_id id) (listed old other)) (is_id id i || false) (h other id before)))
       (λ b. rw (set other, b) (h other id before)))
 
   pub reads_unlisted : (t : BoxLists Id) → box_of kind (asked_by born) ≡ None → HasReads t past → HasReads t (here ∷ past)

@@ -1,5 +1,5 @@
 -- Requests are opened on mailboxes and units as the law of mailboxes asks, by $QIO and $QIOW.
-use Rattle.std.proofs.Common.{◌≡◌, ℕ, ◌+◌, List, [], ◌∷◌, ◌++◌, false, not, Option, Some, None, Result, Ok, Err, map, refl, sym, ap, ◌∙◌, subst, inl, inr, nat_lt, ◌≤◌, arith, true, IsTrue, is_some, append-nil, ◌||◌, Bool}
+use Rattle.std.proofs.Common.{◌≡◌, ℕ, ◌+◌, List, [], ◌∷◌, ◌++◌, false, not, Option, Some, None, Result, Ok, map, refl, sym, ap, ◌∙◌, subst, inl, inr, nat_lt, ◌≤◌, arith, true, IsTrue, is_some, append-nil, ◌||◌, Bool}
 use Rattle.std.proofs.lemmas.Bool.{eq-eqb, ne_eqb, leb-true, and_parts}
 use Rattle.std.specs.List.{list_any}
 use Rattle.vx_base.specs.Lists.{less}
@@ -19,14 +19,14 @@ use Rattle.vx_base.specs.declared.request.Device.{Device}
 use Rattle.vx_base.specs.declared.request.Func.{Func}
 use Rattle.vx_base.specs.declared.request.Msg.{Msg}
 use Rattle.vx_record.proofs.Lists.{either, either_by, all_append, apart_bools, ordered_more}
-use Rattle.vx_record.proofs.SoundRequests.{tested_channel}
+use Rattle.vx_record.proofs.SoundRequests.{tested_channel, on_cell_row}
 use Rattle.vx_record.specs.Channels.{channel_test}
-use Rattle.vx_record.specs.Charges.{is_direct, is_attention, request_need, exceeds}
+use Rattle.vx_record.specs.Charges.{is_direct, is_attention}
 use Rattle.vx_record.specs.Finish.{this_request, is_read}
 use Rattle.vx_record.specs.Flags.{cell}
 use Rattle.vx_record.specs.Mailboxes.{mailbox_at, is_box, is_waiting_func, waits_at, read_box, take_message, write_box, message_of}
 use Rattle.vx_record.specs.Parts.{Part, tells, and_then}
-use Rattle.vx_record.specs.Requests.{Asked, new_request, cleared_part, begun_on, transfer, attention_on, asked_of, accepted, request_test, is_bad, has_function, is_too_long, is_full, device_test, on_channel, on_cell, with_request}
+use Rattle.vx_record.specs.Requests.{Asked, new_request, cleared_part, begun_on, transfer, attention_on, asked_of, accepted, request_test, is_bad, with_request}
 use Rattle.vx_record.specs.Services.{number, function}
 use Rattle.vx_record.specs.Sound.{AreOrdered, MayBeServed, request_id}
 use Rattle.vx_record.specs.State.{State, next_id, past_id, box_at}
@@ -50,25 +50,6 @@ use Rattle.vx_laws.specs.Lives.{is_request, device_name, device_called}
 use Rattle.vx_laws.specs.MessageLaw.{reads_where_stored, takes_stored, is_taken_by}
 
 -- What a test accepted.
-
-on_channel_row : (go : Channel → Result (Cell × Channel) Cond) (r : Result Channel Cond) (to : Cell × Channel) → ((ch : Channel) → go ch ≡ Ok to → ch ≡ to.1) → on_channel go r ≡ Ok to → r ≡ Ok to.1
-on_channel_row go (Err c) to f e = absurd (let never : Err c ≡ Ok to = e in cc)
-on_channel_row go (Ok ch) to f e = ap (λ (x : Channel). Ok x) (f ch e)
-
-device_test_row : (s : State) (p : Pid) (q : Asked) (c : Cell) (ch : Channel) (to : Cell × Channel) → device_test s p q c ch ≡ Ok to → ch ≡ to.1
-device_test_row s p q c ch to =
-    let P = λ (r : Result (Cell × Channel) Cond). r ≡ Ok to → ch ≡ to.1 in
-    either P (not (has_function ch.device q.func)) _ _ (λ e. cc)
-    (either P (is_too_long s ch.device q) _ _ (λ e. cc)
-    (either P (is_full s ch.device q) _ _ (λ e. cc)
-    (either P (exceeds s p (request_need s ch.device q.func (is_some q.ast) q.len)) _ (Ok (c, ch)) (λ e. cc) (λ e. last (c, ch) to e))))
-  where
-    last : (a b : Cell × Channel) → ◌≡◌ {A = Result (Cell × Channel) Cond} (Ok a) (Ok b) → a.1 ≡ b.1
-    last a b e = let same : a ≡ b = cc in ap (λ (x : Cell × Channel). x.1) same
-
-on_cell_row : (s : State) (p : Pid) (q : Asked) (o : Option Cell) (to : Cell × Channel) → on_cell s p q o ≡ Ok to → channel_test s p q.chan ≡ Ok to.1
-on_cell_row s p q None to e = cc
-on_cell_row s p q (Some c) to e = on_channel_row (device_test s p q c) (channel_test s p q.chan) to (λ ch k. device_test_row s p q c ch to k) e
 
 request_test_row : (s : State) (p : Pid) (q : Asked) (to : Cell × Channel) → request_test s p q ≡ Ok to → channel_test s p q.chan ≡ Ok to.1
 request_test_row s p q to =

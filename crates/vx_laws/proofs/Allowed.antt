@@ -1,10 +1,10 @@
 -- What each service opens, and for whom; what else happens opens nothing.
-use Rattle.std.proofs.Common.{◌≡◌, ℕ, ◌%◌, ◌^◌, List, [], ◌∷◌, ◌++◌, Bool, true, false, cond, not, ◌&&◌, ◌||◌, ◌==◌, nat_lt, nat_le, length, Option, Some, None, Result, Ok, Err, position, is_none, refl}
+use Rattle.std.proofs.Common.{◌≡◌, ℕ, ◌%◌, ◌^◌, List, [], ◌∷◌, ◌++◌, Bool, true, false, cond, not, ◌&&◌, ◌||◌, ◌==◌, nat_lt, nat_le, length, Option, Some, None, Result, Ok, Err, position, is_none, refl, sym, ◌∙◌}
 use Rattle.std.specs.List.{AllByRecursion, filter, find, list_any}
 use Rattle.vx_base.specs.Channels.{channel_at, channels_of}
 use Rattle.vx_base.specs.Clusters.{Change, cluster_number, associated, dissociated, marked, is_cluster}
 use Rattle.vx_base.specs.Modes.{outer, is_kernel}
-use Rattle.vx_base.specs.Pieces.{Channel, Handler, Request, Promised, Timer, Alarm, OfTimer, OfWake, Attention, Mailbox}
+use Rattle.vx_base.specs.Pieces.{Channel, Handler, Request, Promised, Timer, Alarm, OfTimer, OfWake, Attention, Mailbox, cleared}
 use Rattle.vx_base.specs.declared.call.Args.{Args}
 use Rattle.vx_base.specs.declared.call.Target.{Target}
 use Rattle.vx_base.specs.declared.cond.Cond.{Cond}
@@ -29,34 +29,25 @@ use Rattle.vx_base.specs.declared.routine.Entry.{Entry}
 use Rattle.vx_base.specs.declared.service.Service.{Service}
 use Rattle.vx_base.specs.declared.service.Service.TheVariants.{SetEf, ClrEf, ReadEf, WaitFr, WflOr, WflAnd, AscEfc, DacEfc, DlcEfc, DclAst, SetAst, CmExec, CmKrnl, SetImr, CanTim, SchdWk, CanWak, Hiber, Wake, Suspnd, Resume, ForceX, CrePrc, DelPrc, Exit, DclExh, CanExh, Assign, Dassgn, CreMbx, DelMbx, Qio, QioW, Synch, Cancel, GetTim}
 use Rattle.vx_record.specs.State.{State, process_at, change, current}
-use Rattle.vx_record.specs.Parts.{Part, Outcome, nothing, each, refused, refused_value, at_tested, part_of}
-use Rattle.vx_record.specs.Flags.{cell, flag_where_named, at_named, at_flag, put_flag_at, readef_at, readef, refused_wait, wait_condition, awaited_at, waits_on, is_common, wants_prmceb}
+use Rattle.vx_record.specs.Parts.{Part, Outcome, nothing, each, refused, refused_value, at_tested, part_of, and_then}
+use Rattle.vx_record.specs.Flags.{cell, flag_where_named, at_named, at_flag, put_flag_at, readef_at, readef, refused_wait, wait_condition, awaited_at, waits_on, is_common, wants_prmceb, flag_part}
 use Rattle.vx_record.specs.Asts.{is_inside}
-use Rattle.vx_record.specs.Charges.{exceeds, ast_need, timer_need}
+use Rattle.vx_record.specs.Charges.{exceeds, ast_need, timer_need, is_direct, is_attention}
 use Rattle.vx_record.specs.Finish.{Ending, ending, is_read, fin_part, buf_part, status_of, iosb_part, done_flag_part, done_ast_part, finish, finish_found, this_request}
 use Rattle.vx_record.specs.Mailboxes.{mailbox_at, is_waiting_func, waits_at, this_message, mput_part, mget_part, mcut_part, read_ending, write_ending, received, write_done, is_attention_at, fire_attention, call_attention, store_message, hand_over, write_box, take_message, read_box, is_answered_now, attend, message_of}
 use Rattle.vx_record.specs.Channels.{channel_test, device_named, with_channel, free_channel_of, assign_at, assign_to, assign, is_bad_box, new_box, box_named, make_box, make_box_in, find_or_create, crembx, marked_box, delmbx_on, delmbx_at, is_assigned, goes_unused, box_gone, swept_device, swept_box, free_channel}
 use Rattle.vx_record.specs.Cancel.{mark_part, withdraw, cancelled_request, cancel_request, is_request_on, is_attention_on, drop_attention, cancel_channel, cancel_at, dassgn_at}
-use Rattle.vx_record.specs.Requests.{begun_on}
+use Rattle.vx_record.specs.Requests.{begun_on, Asked, new_request, cleared_part, transfer, new_attention, attention_opened, attention_set, attention_on, accepted, done_at_once, request_test, qio_tested, qiow_tested}
 use Rattle.vx_record.specs.Control.{process_test, changed_process, with_wake, with_suspension, forced, creprc}
 use Rattle.vx_record.specs.Timers.{drop_timer, drop_timers, setimr_at, scheduled, is_wake_for, unscheduled, que_timer, fired, fire, is_due, at_time, next_time, tick}
 use Rattle.vx_record.specs.Rundown.{leave_kind, leave_frame, leave_all, exited, is_handler_of, is_handler_with, drop_handler, drop_handlers, any_handler, cancel_found, cancel_handlers, named_for_deletion, deleted_by, cancel_one, free_one, is_timer_in, is_wake_by, cancel_modes, drop_ast, drop_asts, is_ast_reached, part_with, release}
-use Rattle.vx_record.specs.Services.{number, place, access_mode, text, routine_or_none, decl_place, valued_at, numbered_at, service_of}
-use Rattle.vx_record.proofs.Lists.{all_append, all_weaker}
+use Rattle.vx_record.specs.Services.{number, place, access_mode, text, routine_or_none, decl_place, valued_at, numbered_at, service_of, asked}
+use Rattle.vx_record.proofs.Lists.{all_append, all_weaker, either, either_by}
 use Rattle.vx_record.proofs.Moves.{is_clusters}
 use Rattle.vx_record.proofs.Apart.{associated_only, dissociated_only, marked_at_only}
-use Rattle.vx_base.specs.Pieces.{cleared}
 use Rattle.vx_base.specs.declared.effects.Opened.{Opened}
 use Rattle.vx_base.specs.declared.effects.Opened.TheVariants as opened
 use Rattle.vx_laws.specs.Lives.{is_wake}
-use Rattle.vx_record.specs.Charges.{is_direct, is_attention}
-use Rattle.vx_record.specs.Finish.{iosb_part}
-use Rattle.vx_record.specs.Flags.{flag_part}
-use Rattle.vx_record.specs.Parts.{and_then}
-use Rattle.vx_record.specs.Requests.{Asked, new_request, cleared_part, transfer, new_attention, attention_opened, attention_set, attention_on, accepted, done_at_once, request_test, qio_tested, qiow_tested}
-use Rattle.vx_record.specs.Services.{asked}
-use Rattle.vx_record.proofs.Lists.{either, either_by}
-use Rattle.std.proofs.Common.{sym, ◌∙◌}
 
 -- which openings a test allows, by kind and process
 abbrev pub Test : Type 0

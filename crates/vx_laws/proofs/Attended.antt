@@ -4,15 +4,12 @@ use Rattle.std.specs.List.{AllByRecursion}
 use Rattle.std.proofs.lemmas.Bool.{and_parts, leb-true}
 use Rattle.vx_base.specs.Channels.{channel_at}
 use Rattle.vx_base.specs.Modes.{outer}
-use Rattle.vx_base.specs.Pieces.{Queued, Channel, Request, Timer, Attention, Mailbox, cleared}
+use Rattle.vx_base.specs.Pieces.{Queued, Channel, Request, Attention, Mailbox, cleared}
 use Rattle.vx_base.specs.declared.call.Args.{Args}
 use Rattle.vx_base.specs.declared.call.Call.{Call}
 use Rattle.vx_base.specs.declared.cond.Cond.{Cond}
 use Rattle.vx_base.specs.declared.effects.Cell.{Cell}
-use Rattle.vx_base.specs.declared.effects.Cell.TheVariants.{Local}
 use Rattle.vx_base.specs.declared.effects.Effect.{Effect}
-use Rattle.vx_base.specs.declared.effects.Opened.{Opened}
-use Rattle.vx_base.specs.declared.effects.Opened.TheVariants as opened
 use Rattle.vx_base.specs.declared.frame.Frame.{Frame}
 use Rattle.vx_base.specs.declared.frame.Wait.{Wait}
 use Rattle.vx_base.specs.declared.frame.Wait.TheVariants as wait
@@ -26,30 +23,30 @@ use Rattle.vx_base.specs.declared.service.Service.TheVariants.{Assign, Dassgn, C
 use Rattle.vx_record.specs.Cancel.{cancel_channel, dassgn_at}
 use Rattle.vx_record.specs.Channels.{with_channel, channel_test, free_channel_of, assign_at, assign_to, assign, device_named, is_bad_box, new_box, box_named, box_made, box_number, make_box, make_box_in, find_or_create, crembx}
 use Rattle.vx_record.specs.Charges.{is_attention}
-use Rattle.vx_record.specs.Finish.{iosb_part}
-use Rattle.vx_record.specs.Flags.{cell, flag_part, flag_where_named, awaited_at, wait_condition}
+use Rattle.vx_record.specs.Finish.{iosb_part, finish}
+use Rattle.vx_record.specs.Flags.{cell, flag_part, flag_where_named, awaited_at, wait_condition, with_wait}
 use Rattle.vx_record.specs.Mailboxes.{this_attention, is_answered_now, fire_attention}
 use Rattle.vx_record.specs.Parts.{Part, Outcome, nothing, at_tested, part_of}
-use Rattle.vx_record.specs.Requests.{Asked, new_attention, attention_set, attention_opened, attention_on, transfer, accepted, done_at_once, request_test, qio_tested, qiow_tested, cleared_part}
+use Rattle.vx_record.specs.Requests.{Asked, new_attention, attention_set, attention_opened, attention_on, transfer, accepted, done_at_once, request_test, qio_tested, qiow_tested, cleared_part, begun, unit_ending, with_unit}
 use Rattle.vx_record.specs.Services.{number, place, access_mode, text, asked, numbered_at, service_of, with_variable}
-use Rattle.vx_record.specs.State.{Process, State, process_at, change, current, nobody}
+use Rattle.vx_record.specs.State.{Process, State, process_at, change, current, nobody, image_of, unit_at}
 use Rattle.vx_record.proofs.Apart.{Here, flag_attention, here_after, iosb_attention}
 use Rattle.vx_record.proofs.Base.{Base}
 use Rattle.vx_record.proofs.Cancelled.{cancel_channel_attention, cancel_channel_all}
-use Rattle.vx_record.proofs.SoundRequests.{request_test_row}
+use Rattle.vx_record.proofs.SoundRequests.{request_test_row, tested_channel}
 use Rattle.vx_record.proofs.Ground.{at_set}
 use Rattle.vx_record.proofs.Lists.{either, all_weaker, all_append, all_less}
-use Rattle.vx_record.proofs.Moves.{Moves, PartMoves}
+use Rattle.vx_record.proofs.Moves.{Moves, PartMoves, moved}
 use Rattle.vx_record.proofs.SoundChannels.{free_row}
-use Rattle.vx_record.proofs.SoundRequests.{tested_channel}
-use Rattle.vx_record.proofs.Told.{accepted_after, service_moves}
+use Rattle.vx_record.proofs.Told.{accepted_after, service_moves, started_moves, step_moves}
 use Rattle.vx_laws.specs.StatusLaw.{is_asked}
 use Rattle.vx_laws.proofs.Allowed.{Test, is_allowed, transferred_allowed}
-use Rattle.vx_laws.proofs.Aside.{row, changed, service_aside}
-use Rattle.vx_laws.proofs.Emptied.{AllSeated, Seated, IsOfLists, is_open_allowed, allowed_open, moves_held, seated_on, kept_rows}
-use Rattle.vx_laws.proofs.Leftover.{freed_seated}
-use Rattle.vx_laws.proofs.Phases.{service_keeps, cancel_channel_keeps}
-use Rattle.vx_laws.proofs.Plain.{Plain, is_plain, service_plain}
+use Rattle.vx_laws.proofs.Aside.{row, changed, service_aside, Aside, returned_aside, started_aside, tick_aside}
+use Rattle.vx_laws.proofs.Emptied.{AllSeated, Seated, IsOfLists, is_open_allowed, allowed_open, moves_held, seated_on, kept_rows, seat_rows}
+use Rattle.vx_laws.proofs.Leftover.{freed_seated, seated_change}
+use Rattle.vx_laws.proofs.Phases.{service_seats}
+use Rattle.vx_laws.proofs.Untouched.{service_plainly, cancel_channel_keeps, finish_keeps}
+use Rattle.vx_laws.proofs.Plain.{Plain, is_plain, service_plain, nil, finish_plain, tick_plain}
 use Rattle.vx_base.specs.Cond.{number_of}
 use Rattle.vx_base.specs.Queues.{front, in_service}
 use Rattle.vx_base.specs.Serving.{serve, settled}
@@ -59,23 +56,16 @@ use Rattle.vx_image.specs.Local.{advanced}
 use Rattle.vx_image.specs.declared.stop.Stop.{Stop}
 use Rattle.vx_image.specs.declared.stop.Stop.TheVariants as stop
 use Rattle.vx_record.specs.Asts.{deliverable_ast}
-use Rattle.vx_record.specs.Events.{moved_to, moved_behind, returned, served_call, run_on, reader, run_frame, run, resumed_with, uses_wake, with_r0, or_normal, started, delivered, beg, don, step}
-use Rattle.vx_record.specs.Flags.{with_wait}
-use Rattle.vx_record.specs.Finish.{finish}
-use Rattle.vx_record.specs.Requests.{begun, unit_ending, with_unit}
+use Rattle.vx_record.specs.Events.{moved_to, moved_behind, returned, served_call, run_on, reader, run_frame, run, resumed_with, with_r0, or_normal, started, delivered, beg, don, step}
 use Rattle.vx_record.specs.Rundown.{without_ast}
-use Rattle.vx_record.specs.State.{image_of, unit_at}
 use Rattle.vx_record.specs.declared.served.Served.{Served}
 use Rattle.vx_record.specs.declared.served.Served.TheVariants.{Answered, Waits}
 use Rattle.vx_record.proofs.Locals.{advanced_statuses}
-use Rattle.vx_record.proofs.Moves.{moved}
 use Rattle.vx_record.proofs.Steps.{IsThere, returned_moves}
-use Rattle.vx_record.proofs.Told.{started_moves, step_moves}
-use Rattle.vx_laws.proofs.Aside.{Aside, returned_aside, started_aside, tick_aside}
 use Rattle.vx_laws.proofs.Cleared.{returned_plain, started_plain}
-use Rattle.vx_laws.proofs.Phases.{finish_keeps}
-use Rattle.vx_laws.proofs.Plain.{nil, finish_plain, tick_plain}
 use Rattle.vx_laws.proofs.Rests.{is_rundown}
+use Rattle.vx_laws.proofs.Courses.{uses_channels, all_untimed, Untimed}
+use Rattle.vx_laws.specs.Agrees.{is_attending}
 
 -- Rows that are assigned stay.
 
@@ -136,28 +126,17 @@ service_grows s p a Assign e = numbered_grows s p (place a.a0) (part_of (assign 
 service_grows s p a CreMbx e =
     let o = crembx s p (text a.a1) (number a.a2) (number a.a3) (number a.a4) (access_mode a.a5) in
     numbered_grows s p (place a.a0) (part_of o) o.answer (or_grows s (is_bad_box s (text a.a1) (number a.a3) (number a.a4)) _ _ (λ q k c e. e) (create_grows s p (outer (access_mode a.a5) (current s p)) (new_box (text a.a1) (number a.a2) (number a.a3) (number a.a4)) (box_named s (text a.a1))))
-service_grows s p a DelMbx e = grows_same s (service_of s p a DelMbx).after (kept_rows s (service_of s p a DelMbx).after (service_keeps s p a DelMbx refl))
-service_grows s p a Qio e = grows_same s (service_of s p a Qio).after (kept_rows s (service_of s p a Qio).after (service_keeps s p a Qio refl))
-service_grows s p a QioW e = grows_same s (service_of s p a QioW).after (kept_rows s (service_of s p a QioW).after (service_keeps s p a QioW refl))
-service_grows s p a Cancel e = grows_same s (service_of s p a Cancel).after (kept_rows s (service_of s p a Cancel).after (service_keeps s p a Cancel refl))
+service_grows s p a DelMbx e = grows_same s (service_of s p a DelMbx).after (kept_rows s (service_of s p a DelMbx).after (service_plainly s p a DelMbx refl).keeps)
+service_grows s p a Qio e = grows_same s (service_of s p a Qio).after (kept_rows s (service_of s p a Qio).after (service_plainly s p a Qio refl).keeps)
+service_grows s p a QioW e = grows_same s (service_of s p a QioW).after (λ q n. seat_rows s (service_of s p a QioW).after q n ((service_seats s p a QioW refl).seats (q.0 - 1)))
+service_grows s p a Cancel e = grows_same s (service_of s p a Cancel).after (kept_rows s (service_of s p a Cancel).after (service_plainly s p a Cancel refl).keeps)
 service_grows s p a Dassgn e = absurd (let never : true ≡ false = e in cc)
 service_grows s p a v e = grows_same s (service_of s p a v).after (service_aside s p a v refl).rows
 
 -- Attention entries.
 
-abbrev Untimed : Timer → Type 0
-Untimed t = Unit {0}
-
-abbrev is_attn : Opened → Bool
-is_attn opened.Attn = true
-is_attn k = false
-
 abbrev no_attention : Test
-no_attention k p = not (is_attn k)
-
-all_untimed : (ts : List Timer) → AllByRecursion Untimed ts
-all_untimed [] = tt
-all_untimed (t ∷ ts) = (tt, all_untimed ts)
+no_attention k p = not (is_attending k)
 
 plain_open : (x : Effect) → is_plain x ≡ true → is_open_allowed (λ k p. not (is_asked k)) x ≡ true
 plain_open (Rattle.vx_base.specs.declared.effects.Effect.TheVariants.Open id k p mode n) e = e
@@ -254,11 +233,8 @@ service_seated s p a v here h =
 same_seated : (s t : State) → t.attention ≡ s.attention → ((q : Pid) (k : ℕ) → row t q k ≡ row s q k) → AllSeated s → AllSeated t
 same_seated s t e r h = subst (AllByRecursion (Seated t)) (sym e) (all_weaker (Seated s) (Seated t) (λ a k. seated_on s t a (r a.p a.chan) k) s.attention h)
 
-changed_seated : (s : State) (p : Pid) (f : Process → Process) → (f (process_at s p)).channels ≡ (process_at s p).channels → AllSeated s → AllSeated (change s p f)
-changed_seated s p f e h = same_seated s (change s p f) refl (changed s p f [] e tt).rows h
-
 served_seated : (s : State) (p : Pid) (c : Call) (o : Outcome Served) (x : Served) → AllSeated o.after → AllSeated (served_call p c o x).after
-served_seated s p c o (Answered y) h = changed_seated o.after p (with_r0 (number_of y)) refl h
+served_seated s p c o (Answered y) h = seated_change o.after p (with_r0 (number_of y)) refl h
 served_seated s p c o Waits h = h
 
 aside_seated : (s t : State) (es : List Effect) → Moves s None es t None → Plain es → Aside s es t → AllSeated s → AllSeated t
@@ -269,23 +245,18 @@ on_seated s p n (stop.Call c) here h =
     let t = change s p (moved_behind n) in
     let o = service_of t p c.args c.service in
     let first : Moves s None [] t None = moved s None p (process_at s p).store (n + 1) refl in
-    served_seated t p c o o.answer (service_seated t p c.args c.service (here_after s p None [] t None first here) (changed_seated s p (moved_behind n) refl h))
+    served_seated t p c o o.answer (service_seated t p c.args c.service (here_after s p None [] t None first here) (seated_change s p (moved_behind n) refl h))
 on_seated s p n stop.Return here h = let o = returned s p (process_at s p).frames in aside_seated s o.after o.effects (returned_moves s p (process_at s p).frames) (returned_plain s p (process_at s p).frames) (returned_aside s p (process_at s p).frames) h
 on_seated s p n stop.End here h = let o = returned s p (process_at s p).frames in aside_seated s o.after o.effects (returned_moves s p (process_at s p).frames) (returned_plain s p (process_at s p).frames) (returned_aside s p (process_at s p).frames) h
 on_seated s p n stop.Local here h = h
-
-uses_channels : (w : Wait) (x : Process) → (uses_wake w x).channels ≡ x.channels
-uses_channels (wait.Flags a b c) x = refl
-uses_channels (wait.Synch a b) x = refl
-uses_channels wait.Hiber x = refl
 
 frame_seated : (s : State) (p : Pid) (f : Frame) (o : Option Wait) → Here s p → AllSeated s → AllSeated (run_frame s p f o).after
 frame_seated s p f None here h =
     let a = advanced (image_of s p) (reader p f) (process_at s p).store f.pc in
     let t = change s p (moved_to a.store a.place) in
     let first : Moves s None [] t None = moved s None p a.store a.place (advanced_statuses (image_of s p) (reader p f) (process_at s p).store f.pc) in
-    on_seated t p a.place a.stop (here_after s p None [] t None first here) (changed_seated s p (moved_to a.store a.place) refl h)
-frame_seated s p f (Some w) here h = changed_seated s p (resumed_with w (or_normal (wait_condition s p w))) (uses_channels w (with_wait None (process_at s p))) h
+    on_seated t p a.place a.stop (here_after s p None [] t None first here) (seated_change s p (moved_to a.store a.place) refl h)
+frame_seated s p f (Some w) here h = seated_change s p (resumed_with w (or_normal (wait_condition s p w))) (uses_channels w (with_wait None (process_at s p))) h
 
 run_seated : (s : State) (p : Pid) (frames : List Frame) → Here s p → AllSeated s → AllSeated (run s p frames).after
 run_seated s p [] here h = h
@@ -296,7 +267,7 @@ delivered_seated s p None h = h
 delivered_seated s p (Some q) h =
     let t = change s p (without_ast q.id) in
     let b = started t p q q.tag in
-    aside_seated t b.after b.effects (started_moves t p q q.tag) (started_plain t p q q.tag) (started_aside t p q q.tag) (changed_seated s p (without_ast q.id) refl h)
+    aside_seated t b.after b.effects (started_moves t p q q.tag) (started_plain t p q q.tag) (started_aside t p q q.tag) (seated_change s p (without_ast q.id) refl h)
 
 beg_seated : (s : State) (o : Option Request) → AllSeated s → AllSeated (beg s o).after
 beg_seated s None h = h

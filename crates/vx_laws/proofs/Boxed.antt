@@ -31,6 +31,9 @@ use Rattle.vx_laws.specs.Agrees.{as_stored, box_stands, device_title}
 use Rattle.vx_laws.specs.Boxes.{stored}
 use Rattle.vx_laws.specs.Items.{Item, Head, Did, Calling, later, latest_call}
 use Rattle.vx_laws.specs.Lives.{Life, life, lived, subject, is_about, device_name, named_in, or_earlier}
+use Rattle.std.proofs.lemmas.Option.{same_Some}
+use Rattle.std.proofs.lemmas.List.Folds.{list_any_at}
+use Rattle.vx_laws.proofs.Calls.{IsElse}
 
 -- How an id was opened: by which process and call, and on which device.
 pub record Origin : Type 0 where
@@ -48,10 +51,6 @@ abbrev pub owner_of : List Item → Id → Option Pid
 owner_of past id = option_map (λ o. o.p) (origin_of past id)
 
 -- Items that do not open an id keep it.
-
-abbrev pub IsElse : Item → Id → Type 0
-IsElse (Did (effect.Open i k p mode n)) id = i.0 ≢ id.0
-IsElse x id = ⊤
 
 origin_lived : (x : Item) (past : List Item) (o : Option Life) (id : Id) → IsElse x id → is_about (subject x) id ≡ true → option_map origin (lived past x o) ≡ option_map origin o
 origin_lived (Did (effect.Open i k p mode n)) past o id e t = absurd (let never : true ≡ false = sym t ∙ ne_eqb i.0 id.0 e in cc)
@@ -293,15 +292,6 @@ any_kept p (x ∷ xs) (suc i) a d h = rw (any_kept p xs i a d h) refl
 abbrev pub name_of_box : Option Mailbox → List ℕ
 name_of_box o = (or_no_box o).name
 
-pub any_at : {A : Type 0} (p : A → Bool) (l : List A) (i : ℕ) (d : A) → i < length l → p (get_or l i d) ≡ true → list_any p l ≡ true
-any_at p [] i d k e = absurd (omega (arith, k))
-any_at p (x ∷ xs) zero d k e = rw e refl
-any_at p (x ∷ xs) (suc i) d k e = or_second (p x) (list_any p xs) (any_at p xs i d (omega (arith, k)) e)
-  where
-    or_second : (a b : Bool) → b ≡ true → (a || b) ≡ true
-    or_second true b h = refl
-    or_second false b h = h
-
 pub any_index : {A : Type 0} (p : A → Bool) (xs : List A) (d : A) → list_any p xs ≡ true → (i : ℕ) × (p (get_or xs i d) ≡ true)
 any_index p [] d e = absurd (let never : false ≡ true = e in cc)
 any_index p (x ∷ xs) d e = at (p x) refl (any_index p xs d) e
@@ -309,9 +299,6 @@ any_index p (x ∷ xs) d e = at (p x) refl (any_index p xs d) e
     at : (b : Bool) → p x ≡ b → (list_any p xs ≡ true → (i : ℕ) × (p (get_or xs i d) ≡ true)) → (b || list_any p xs) ≡ true → (i : ℕ) × (p (get_or (x ∷ xs) i d) ≡ true)
     at true is rest k = (zero, is)
     at false is rest k = let found = rest k in (suc found.0, found.1)
-
-some_same : {A : Type 0} (x y : A) → Some x ≡ Some y → x ≡ y
-some_same x y e = cc
 
 -- what stood where another mailbox was put
 pub was_there : (s : State) (b c : BoxNo) (o : Option Mailbox) (other : Mailbox) → c.0 ≢ b.0 → box_at (with_box s b o) c ≡ Some other → box_at s c ≡ Some other
@@ -330,7 +317,7 @@ restock s b box new past after is title origins devices here else bits ids write
   boxes = λ d other e. elim (cases_eq d.0 b.0) [ inl same ↦ at_here d other same e | inr apart ↦ at_other d other apart (was_there s b d (Some new) other apart e) ];
   others = λ name e.
       let none : list_any (is_box_of name) s.boxes ≡ false = sym (any_kept (is_box_of name) s.boxes b.0 (Some new) None (rw (is, title) refl)) ∙ e in
-      else name (λ same. let yes : list_any (is_box_of name) s.boxes ≡ true = any_at (is_box_of name) s.boxes b.0 None within (rw is ((bytes_eq-Decides box.name name).1 (sym same))) in cc) ∙ h.others name none;
+      else name (λ same. let yes : list_any (is_box_of name) s.boxes ≡ true = list_any_at (is_box_of name) s.boxes b.0 None within (rw is ((bytes_eq-Decides box.name name).1 (sym same))) in cc) ∙ h.others name none;
   stands = λ name. any_kept (is_box_of name) s.boxes b.0 (Some new) None (rw (is, title) refl) ∙ (h.stands name ∙ sym (bits name));
 }
   where
@@ -355,7 +342,7 @@ restock s b box new past after is title origins devices here else bits ids write
     k = h.boxes b box is
 
     named : (d : BoxNo) (other : Mailbox) → d.0 ≡ b.0 → box_at (with_box s b (Some new)) d ≡ Some other → new ≡ other
-    named d other same e = some_same (new) other (sym (put_there s b d (Some new) same within) ∙ e)
+    named d other same e = same_Some (new) other (sym (put_there s b d (Some new) same within) ∙ e)
 
     at_here : (d : BoxNo) (other : Mailbox) → d.0 ≡ b.0 → box_at (with_box s b (Some new)) d ≡ Some other → BoxIs (with_box s b (Some new)) after d other
     at_here d other same e = subst (BoxIs (with_box s b (Some new)) after d) (named d other same e) (record {

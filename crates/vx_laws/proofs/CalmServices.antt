@@ -1,8 +1,7 @@
 -- What services leave as it was, one after another: most turn no frames, and a few do.
-use Rattle.std.proofs.Common.{length-append, ◌<◌, ◌≢◌}
-use Rattle.std.proofs.Common.{◌≡◌, ℕ, ◌^◌, ◌%◌, List, [], ◌∷◌, Bool, true, false, cond, not, ◌==◌, ◌||◌, nat_lt, nat_le, length, Option, Some, None, Result, Ok, Err, refl}
+use Rattle.std.proofs.Common.{length-append, ◌<◌, ◌≢◌, ◌≡◌, ℕ, ◌^◌, ◌%◌, List, [], ◌∷◌, Bool, true, false, cond, not, ◌==◌, ◌||◌, nat_lt, nat_le, length, Option, Some, None, Result, Ok, Err, refl, ◌-◌, ◌≤◌, ◌++◌, ap, arith, subst, zero, suc, get_or}
 use Rattle.std.specs.List.{find}
-use Rattle.vx_base.specs.Modes.{outer, is_kernel}
+use Rattle.vx_base.specs.Modes.{outer, is_kernel, rank, inner}
 use Rattle.vx_base.specs.declared.call.Args.{Args}
 use Rattle.vx_base.specs.declared.call.Target.{Target}
 use Rattle.vx_base.specs.declared.cond.Cond.{Cond}
@@ -15,54 +14,37 @@ use Rattle.vx_base.specs.declared.number.Pid.{Pid}
 use Rattle.vx_base.specs.declared.routine.Entry.{Entry}
 use Rattle.vx_base.specs.declared.service.Service.{Service}
 use Rattle.vx_base.specs.declared.service.Service.TheVariants.{SetEf, ClrEf, ReadEf, WaitFr, WflOr, WflAnd, AscEfc, DacEfc, DlcEfc, DclAst, SetAst, CmExec, CmKrnl, SetImr, CanTim, SchdWk, CanWak, Hiber, Wake, Suspnd, Resume, ForceX, CrePrc, DelPrc, Exit, DclExh, CanExh, Assign, Dassgn, CreMbx, DelMbx, Qio, QioW, Synch, Cancel, GetTim}
-use Rattle.vx_record.specs.State.{State, process_at, change, current, image_of}
+use Rattle.vx_record.specs.State.{State, process_at, change, current, image_of, nobody, Process, IsProcess, next_id, past_id, top_mode, pid}
 use Rattle.vx_record.specs.Parts.{Part, Outcome, nothing, refused, refused_value, at_tested, part_of}
-use Rattle.vx_record.specs.Charges.{exceeds, ast_need}
+use Rattle.vx_record.specs.Charges.{exceeds, ast_need, is_same}
 use Rattle.vx_record.specs.Flags.{put_flag_at, readef_at, readef, is_common, wants_prmceb}
-use Rattle.vx_record.specs.Asts.{is_inside}
+use Rattle.vx_record.specs.Asts.{is_inside, declared_ast, charged_ast, with_frame, que_part, open_part, with_delivery, new_frame}
 use Rattle.vx_record.specs.Channels.{channel_test, device_named, assign, crembx, delmbx_at, free_channel}
 use Rattle.vx_record.specs.Cancel.{cancel_channel, cancel_at, dassgn_at}
 use Rattle.vx_record.specs.Requests.{request_test}
-use Rattle.vx_record.specs.Control.{process_test, changed_process, with_wake, with_suspension, forced, creprc}
-use Rattle.vx_record.specs.Timers.{is_cancelled_timer, scheduled, is_wake_for, unscheduled}
+use Rattle.vx_record.specs.Control.{process_test, changed_process, with_wake, with_suspension, forced, creprc, exists_for_control, may_control, named_process, exit_ast, created, new_part}
+use Rattle.vx_record.specs.Timers.{is_cancelled_timer, scheduled, is_wake_for, unscheduled, gettim}
 use Rattle.vx_record.specs.Rundown.{leave_kind, leave_all, exited, without_frames, drop_handlers, any_handler, named_for_deletion, deleted_by}
-use Rattle.vx_record.specs.Services.{number, place, access_mode, text, routine_or_none, decl_place, asked, valued_at, numbered_at, service_of}
+use Rattle.vx_record.specs.Services.{number, place, access_mode, text, routine_or_none, decl_place, asked, valued_at, numbered_at, service_of, var_part, valued, routine, with_variable, at_once, routine_at, label}
 use Rattle.vx_record.specs.declared.served.Served.{Served}
 use Rattle.vx_record.specs.declared.served.Served.TheVariants.{Answered, Waits}
-use Rattle.vx_record.proofs.Lists.{either}
-use Rattle.std.proofs.Common.{◌-◌, ◌≤◌, ◌++◌, ap, arith, subst, zero, suc, get_or}
-use Rattle.vx_record.specs.State.{nobody}
+use Rattle.vx_record.proofs.Lists.{either, all_append}
 use Rattle.std.proofs.lemmas.Bool.{eqb-true}
 use Rattle.std.specs.Prelude.{option_map}
-use Rattle.vx_base.specs.Clusters.{dissociated, associated, marked, is_cluster}
+use Rattle.vx_base.specs.Clusters.{dissociated, associated, marked, is_cluster, cluster_number}
 use Rattle.vx_base.specs.declared.effects.Effect.{Effect}
 use Rattle.vx_base.specs.declared.effects.Opened.TheVariants as opened
-use Rattle.vx_record.specs.State.{Process, IsProcess}
-use Rattle.vx_base.specs.Clusters.{cluster_number}
-use Rattle.vx_base.specs.declared.cond.Cond.TheVariants.{Normal}
-use Rattle.vx_base.specs.declared.mode.Mode.TheVariants.{User}
-use Rattle.vx_record.specs.State.{next_id, past_id}
-use Rattle.vx_record.specs.Asts.{declared_ast, charged_ast, with_frame}
-use Rattle.vx_record.specs.Control.{exists_for_control, may_control, named_process, exit_ast}
-use Rattle.vx_record.specs.Services.{var_part, valued, routine}
-use Rattle.vx_record.specs.Timers.{gettim}
-use Rattle.vx_record.proofs.Lists.{all_append}
-use Rattle.vx_record.specs.State.{top_mode, pid}
-use Rattle.vx_record.specs.Control.{created, new_part}
-use Rattle.vx_record.specs.Asts.{que_part, open_part, with_delivery, new_frame}
-use Rattle.vx_record.specs.Services.{with_variable, at_once, routine_at, label}
+use Rattle.vx_base.specs.declared.cond.Cond.TheVariants.{Normal, NonExpr, NoPriv}
+use Rattle.vx_base.specs.declared.mode.Mode.TheVariants.{User, Kernel, Exec, Super}
 use Rattle.vx_record.specs.Events.{without_top}
-use Rattle.vx_record.specs.Charges.{is_same}
-use Rattle.vx_base.specs.Modes.{rank, inner}
 use Rattle.vx_base.specs.declared.call.Arg.{Arg}
-use Rattle.vx_base.specs.declared.cond.Cond.TheVariants.{NonExpr, NoPriv}
-use Rattle.vx_base.specs.declared.mode.Mode.TheVariants.{Kernel, Exec, Super}
 use Rattle.vx_laws.specs.Agrees.{is_exit, IsEntry, is_main, entered_frames, AreEntries}
 use Rattle.vx_laws.specs.Frames.{Entry as Entered, Turn, Enters, Clears, Stays, below, after_turn, service_turn, turned_by}
 use Rattle.vx_laws.proofs.Stands.{field_at}
 use Rattle.vx_record.proofs.Apart.{associated_only, dissociated_only, marked_at_only}
 use Rattle.vx_record.proofs.Steps.{test_made}
 use Rattle.vx_laws.proofs.Calm.{AreFrames, AreTagged, Calmed, Fine, IsBare, OutcomeCalm, PartCalm, Tags, Turned, assign_to_calm, at_flag_calm, at_tested_calm, by_turn, calm_none, calm_or, calm_then, cancel_channel_calm, cancel_handlers_calm, change_calm, change_tags, clusters_calm, crembx_calm, delmbx_calm, drop_handlers_calm, drop_timers_calm, flag_calm, free_channel_calm, handler_calm, held_at, is_exit_entry, is_fine, lists_calm, plain_calm, qio_calm, qiow_calm, que_calm, same, scheduled_calm, setimr_calm, still_made, waited_calm, waits_calm}
+use Rattle.vx_laws.proofs.Bools.{either_same}
 
 -- Services that neither enter nor leave.
 
@@ -191,10 +173,6 @@ call_turn v c = Stays
 abbrev pub turning : Pid → Args → Service → Served → Turned
 turning p a v (Answered c) = by_turn (turned_by p a v) (call_turn v c)
 turning p a v Waits = by_turn p Stays
-
-either_same : {A : Type 0} (b : Bool) (x : A) → cond b x x ≡ x
-either_same true x = refl
-either_same false x = refl
 
 pub stays_calm : (b : Bool) (r : Pid) (s : State) (es : List Effect) (t : State) → Calmed b same s es t → Calmed b (by_turn r Stays) s es t
 stays_calm b r s es t h = record { effects = h.effects; tags = h.tags; frames = λ q l above k. rw (either_same (is_same r q) l) (h.frames q l above k); empties = h.empties; bares = h.bares }

@@ -1,6 +1,6 @@
 -- Completions: behind a FIN, and before the next, stand the status block and the flag that its call named, and no other. It is told
 -- from the end of a record backwards: what follows writes neither before its own first FIN.
-use Rattle.std.proofs.Common.{Bool, List, None, Option, Some, [], ap, append-nil, cond, false, map, nat_lt, not, refl, subst, sym, true, ℕ, ◌&&◌, ◌++◌, ◌==◌, ◌||◌, ◌∙◌, ◌∷◌, ◌≡◌}
+use Rattle.std.proofs.Common.{Bool, List, None, Option, Some, [], ap, append-nil, cond, false, map, nat_lt, not, refl, subst, sym, true, ℕ, ◌&&◌, ◌++◌, ◌==◌, ◌∙◌, ◌∷◌, ◌≡◌}
 use Rattle.std.proofs.lemmas.Bool.{and_from}
 use Rattle.std.proofs.lemmas.List.Elements.{filter-append}
 use Rattle.std.proofs.lemmas.List.Folds.{list_any-append}
@@ -31,6 +31,7 @@ use Rattle.vx_record.specs.Finish.{Ending, buf_part, done_ast_part, done_flag_pa
 use Rattle.vx_record.specs.Flags.{cell, flag_part, flag_where_named}
 use Rattle.vx_record.specs.Parts.{Part, and_then, each, nothing}
 use Rattle.vx_record.specs.State.{State}
+use Rattle.vx_laws.proofs.Bools.{or_false}
 
 -- no status block is written and no flag is set before the first FIN
 abbrev pub Still : List Effect → Type 0
@@ -56,18 +57,18 @@ pub record Ends (past : List Item) (es : List Effect) : Type 0 where
   pub unasked : Unasked es
   pub told : Told past es
 
-map_both : (es fs : List Effect) (more : List Item) → map Did (es ++ fs) ++ more ≡ map Did es ++ (map Did fs ++ more)
+pub map_both : (es fs : List Effect) (more : List Item) → map Did (es ++ fs) ++ more ≡ map Did es ++ (map Did fs ++ more)
 map_both [] fs more = refl
 map_both (e ∷ es) fs more = rw (map_both es fs more) refl
 
-left_more : (es : List Effect) (more : List Item) → effects_left (map Did es ++ more) ≡ es ++ effects_left more
-left_more [] more = refl
-left_more (x ∷ es) more = ap (λ (l : List Effect). x ∷ l) (left_more es more)
+pub effects_left_more : (es : List Effect) (more : List Item) → effects_left (map Did es ++ more) ≡ es ++ effects_left more
+effects_left_more [] more = refl
+effects_left_more (x ∷ es) more = ap (λ (l : List Effect). x ∷ l) (effects_left_more es more)
 
 pub told_both : (past : List Item) (es fs : List Effect) → Told past es → Told (later past (map Did es)) fs → Still fs → Told past (es ++ fs)
 told_both past es fs h k still more s g =
     subst (λ (l : List Item). at_each is_completion_told past l ≡ true) (sym (map_both es fs more))
-    (h (map Did fs ++ more) (subst Still (sym (left_more fs more)) (still_append fs (effects_left more) still s)) (k more s (subst (λ (q : List Item). at_each is_completion_told q more ≡ true) (later_both past es fs) g)))
+    (h (map Did fs ++ more) (subst Still (sym (effects_left_more fs more)) (still_append fs (effects_left more) still s)) (k more s (subst (λ (q : List Item). at_each is_completion_told q more ≡ true) (later_both past es fs) g)))
 
 pub ends_both : (past : List Item) (es fs : List Effect) → Ends past es → Ends (later past (map Did es)) fs → Ends past (es ++ fs)
 ends_both past es fs h k = record {
@@ -252,10 +253,6 @@ none_behind (x ∷ ys) h = let k = none_behind ys h in record { blocks = k.block
 filter_more : (of : Effect → Bool) (es zs : List Effect) → filter of zs ≡ [] → filter of (es ++ zs) ≡ filter of es
 filter_more of es zs e = filter-append of es zs ∙ rw e (append-nil (filter of es))
 
-or_false : (b : Bool) → (b || false) ≡ b
-or_false true = refl
-or_false false = refl
-
 any_more : (of : Effect → Bool) (es zs : List Effect) → list_any of zs ≡ false → list_any of (es ++ zs) ≡ list_any of es
 any_more of es zs e = list_any-append of es zs ∙ rw e (or_false (list_any of es))
 
@@ -294,7 +291,7 @@ finish_ends s r e past h k =
       told = subst (Told past) (sym (finish_is s r e))
           (λ more still g.
           let zs = to_next_fin (effects_left more) in
-          let next : to_next_fin (effects_left (map Did es ++ more)) ≡ es ++ zs = ap to_next_fin (left_more es more) ∙ others_next es (effects_left more) others in
+          let next : to_next_fin (effects_left (map Did es ++ more)) ≡ es ++ zs = ap to_next_fin (effects_left_more es more) ∙ others_next es (effects_left more) others in
           let first_right : is_completion_told past (Did x) (map Did es ++ more) ≡ true = rw next (fin_told s past r e zs h k (none_behind (effects_left more) still)) in
           and_from _ _ first_right (others_told (Did x ∷ past) es more others g));
     }

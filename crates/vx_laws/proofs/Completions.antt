@@ -35,7 +35,7 @@ use Rattle.vx_image.specs.declared.stop.Stop.{Stop}
 use Rattle.vx_image.specs.declared.system.System.{System}
 use Rattle.vx_laws.proofs.Answers.{every_run_enables_told}
 use Rattle.vx_record.proofs.Apart.{Here, cleared_after, here_after, opened_has}
-use Rattle.vx_laws.proofs.Asked.{calling_of, latest_headed, latest_over, opened_called, step_called}
+use Rattle.vx_laws.proofs.Asked.{calling_of, latest_headed, opened_called, step_called}
 use Rattle.vx_record.proofs.Base.{Base}
 use Rattle.vx_laws.proofs.Calls.{Called, Unasked, called_on, is_unasked, moves_called}
 use Rattle.vx_laws.proofs.Calm.{Fine, Tags, is_fine, moved_calm, tick_calm}
@@ -66,7 +66,7 @@ use Rattle.vx_record.specs.Channels.{channel_test, free_channel}
 use Rattle.vx_record.specs.Charges.{is_attention, is_direct}
 use Rattle.vx_record.specs.Events.{called, delivered, don, enabled, moved_behind, moved_to, reader, returned, returned_from, run, run_frame, run_on, served_call, step}
 use Rattle.vx_record.specs.Finish.{iosb_part, put_status, this_request}
-use Rattle.vx_record.specs.Flags.{awaited_at, cell, flag_part, flag_where_named, wait_condition}
+use Rattle.vx_record.specs.Flags.{cell, flag_part, flag_where_named, wait_condition}
 use Rattle.vx_record.specs.Mailboxes.{attend}
 use Rattle.vx_record.specs.Parts.{Outcome, Part, at_tested, nothing}
 use Rattle.vx_record.specs.Requests.{Asked, accepted, asked_of, attention_on, attention_opened, attention_set, begun_on, cleared_part, done_at_once, new_attention, new_request, opened_request, qio_tested, qiow_tested, request_test, transfer, unit_ending, with_unit}
@@ -78,6 +78,8 @@ use Rattle.vx_record.specs.declared.served.Served.TheVariants.{Answered, Waits}
 use Rattle.vx_record.specs.declared.served.Served.{Served}
 use Rattle.vx_record.proofs.Allowed.{enabled_there}
 use Rattle.vx_record.proofs.Along.{first_base}
+use Rattle.vx_laws.proofs.Moved.{awaited_none}
+use Rattle.vx_laws.proofs.Passing.{latest_over}
 
 abbrev RecordTold : List Item → Event → Outcome Answer → Type 0
 RecordTold past e o = (rs : List Rec) → at_each is_completion_told (later (Head e o.answer ∷ past) (map Did o.effects)) (flat rs) ≡ true → at_each is_completion_told (Head e o.answer ∷ past) (map Did o.effects ++ flat rs) ≡ true
@@ -171,10 +173,6 @@ accepted_told s p a v to x o past is here h k =
     (λ more still g. others_told one_past asks.effects more (attention_others u p q to.1.device q.ast) g)
     (transfer_told u p a v to.1 one_past x s at there.base holds_one called_one))
 
-waits_none : (u : State) (p : Pid) (w : Wait) (o : Option Cond) → (awaited_at u p w o).effects ≡ []
-waits_none u p w None = refl
-waits_none u p w (Some c) = refl
-
 -- Calls.
 
 served_told : (past : List Item) (p : Pid) (c : Call) (o : Outcome Served) (x : Served) → Told (headed p c o x past) o.effects → RecordTold past (event.Run p) (served_call p c o x)
@@ -210,7 +208,7 @@ call_told t past p a service.QioW here some tags h k = by_test (request_test t p
         let w = wait.Synch (number a.a0) (number a.a3) in
         let first_told = accepted_told t p a service.QioW to o.answer o past is here h k in
         served_told past p c o o.answer
-        (subst (λ (es : List Effect). Told (headed p c o o.answer past) (one_part.effects ++ es)) (sym (waits_none u p w (wait_condition u p w)))
+        (subst (λ (es : List Effect). Told (headed p c o o.answer past) (one_part.effects ++ es)) (sym (awaited_none u p w (wait_condition u p w)))
         (subst (Told (headed p c o o.answer past)) (sym (append-nil one_part.effects)) first_told))
 call_told t past p a service.Cancel here some tags h k =
     tested_told t past p (record { service = service.Cancel; args = a }) (cancel_at t p (number a.a0)) (channel_test t p (number a.a0)) (λ ch now r. (channel_ends t p (number a.a0) now r).told) h k

@@ -1,7 +1,7 @@
 -- What drains keeps its course: a process that drains a mode has no frame, and events of others spare what it has.
 use Rattle.std.proofs.Common.{◌≡◌, ◌≢◌, ◌∙◌, ℕ, ◌-◌, ◌≤◌, List, [], ◌∷◌, Bool, true, false, not, ◌||◌, Option, Some, None, refl, sym, ap, subst, arith}
 use Rattle.std.specs.List.{AllByRecursion}
-use Rattle.std.proofs.lemmas.Bool.{eqb-true, eq-eqb}
+use Rattle.std.proofs.lemmas.Bool.{eqb-true, eq-eqb, or_right, not-true}
 use Rattle.vx_base.specs.Channels.{is_reached}
 use Rattle.vx_base.specs.Pieces.{Queued, Request, Timer, Attention}
 use Rattle.vx_base.specs.Queues.{front, in_service}
@@ -10,8 +10,6 @@ use Rattle.vx_base.specs.Cond.{number_of}
 use Rattle.vx_base.specs.declared.call.Args.{Args}
 use Rattle.vx_base.specs.declared.call.Call.{Call}
 use Rattle.vx_base.specs.declared.effects.Effect.{Effect}
-use Rattle.vx_base.specs.declared.effects.Opened.{Opened}
-use Rattle.vx_base.specs.declared.effects.Opened.TheVariants as opened
 use Rattle.vx_base.specs.declared.frame.Frame.{Frame}
 use Rattle.vx_base.specs.declared.frame.Wait.{Wait}
 use Rattle.vx_base.specs.declared.frame.Wait.TheVariants as wait
@@ -47,13 +45,10 @@ use Rattle.vx_laws.proofs.Allowed.{Test, is_allowed, Allowed, MayOpen, nil, serv
 use Rattle.vx_laws.proofs.Aside.{row, changed, service_aside, returned_aside, started_aside, tick_aside}
 use Rattle.vx_laws.proofs.Emptied.{IsOfLists, AreHeld, Unreached, is_open_allowed, allowed_open, moves_held, kept_rows, seat_rows}
 use Rattle.vx_laws.proofs.Leftover.{Ended}
-use Rattle.vx_laws.proofs.Phases.{finish_keeps, service_keeps, assign_shifts, crembx_service_shifts, dassgn_shifts}
+use Rattle.vx_laws.proofs.Phases.{service_seats}
+use Rattle.vx_laws.proofs.Untouched.{finish_keeps, service_plainly, assign_shifts, crembx_service_shifts, dassgn_shifts}
 use Rattle.vx_laws.proofs.Rests.{IsAwake, is_rundown, started_allowed, returned_allowed}
-
--- what others may open: a forced exit for anybody, and whatever for a process that is not q
-abbrev pub is_force : Opened → Bool
-is_force opened.Force = true
-is_force k = false
+use Rattle.vx_laws.specs.Lives.{is_force}
 
 abbrev pub of_others : Pid → Test
 of_others q k p = is_force k || not (is_same p q)
@@ -75,19 +70,15 @@ spares_then q s t u h k = record { held = λ P Q i x. k.held P Q i (h.held P Q i
 spares_change : (q : Pid) (s : State) (p : Pid) (f : Process → Process) → (f (process_at s p)).channels ≡ (process_at s p).channels → Spares q s (change s p f)
 spares_change q s p f e = record { held = λ P Q i h. h; rows = λ n. (changed s p f [] e tt).rows q n }
 
-abbrev Untimed : Timer → Type 0
+abbrev pub Untimed : Timer → Type 0
 Untimed t = Unit {0}
 
 abbrev Unasked : Attention → Type 0
 Unasked a = Unit {0}
 
-all_untimed : (ts : List Timer) → AllByRecursion Untimed ts
+pub all_untimed : (ts : List Timer) → AllByRecursion Untimed ts
 all_untimed [] = tt
 all_untimed (t ∷ ts) = (tt, all_untimed ts)
-
-not_q : (b : Bool) → not b ≡ true → b ≡ false
-not_q false e = refl
-not_q true e = absurd (let never : false ≡ true = e in cc)
 
 all_unasked : (xs : List Attention) → AllByRecursion Unasked xs
 all_unasked [] = tt
@@ -98,15 +89,11 @@ ended_on q m s t h e = record {
   attention =
       all_weaker (Unreached q m s) (Unreached q m t)
       (λ a k y. let is : a.p ≡ q = ap (λ (n : ℕ). let x : Pid = record { 0 = n } in x) (eqb-true a.p.0 q.0 y) in ap (is_reached m) (subst (λ (r : Pid). row t r a.chan ≡ row s r a.chan) (sym is) (h.rows a.chan)) ∙ k y) t.attention
-      (h.held Untimed (Unreached q m s) (record { due = λ n x k. tt; timer = λ x k. tt; wake = λ x k. tt; attention = λ a k y. let never : true ≡ false = sym y ∙ not_q (is_same a.p q) k in cc }) (all_untimed s.timers, e.attention)).1;
-  timers = λ is. (h.held (λ x. is_same x.p q ≡ false) Unasked (record { due = λ n x k. k; timer = λ x k. not_q (is_same x.p q) k; wake = λ x k. not_q (is_same x.p q) k; attention = λ a k. tt }) (e.timers is, all_unasked s.attention)).0;
+      (h.held Untimed (Unreached q m s) (record { due = λ n x k. tt; timer = λ x k. tt; wake = λ x k. tt; attention = λ a k y. let never : true ≡ false = sym y ∙ not-true (is_same a.p q) k in cc }) (all_untimed s.timers, e.attention)).1;
+  timers = λ is. (h.held (λ x. is_same x.p q ≡ false) Unasked (record { due = λ n x k. k; timer = λ x k. not-true (is_same x.p q) k; wake = λ x k. not-true (is_same x.p q) k; attention = λ a k. tt }) (e.timers is, all_unasked s.attention)).0;
 }
 
 -- Services of another process.
-
-or_right : (a b : Bool) → b ≡ true → (a || b) ≡ true
-or_right true b e = refl
-or_right false b e = e
 
 may_others : (q : Pid) (s : State) (p : Pid) (a : Args) (v : Service) → is_same p q ≡ false → MayOpen (of_others q) s p a v
 may_others q s p a v apart = record {
@@ -122,10 +109,10 @@ service_rows : (s : State) (p q : Pid) (a : Args) (v : Service) → (p.0 - 1 ≡
 service_rows s p q a Assign apart k = seat_rows s (service_of s p a Assign).after q k ((assign_shifts s p a).seats (q.0 - 1) apart)
 service_rows s p q a CreMbx apart k = seat_rows s (service_of s p a CreMbx).after q k ((crembx_service_shifts s p a).seats (q.0 - 1) apart)
 service_rows s p q a Dassgn apart k = seat_rows s (service_of s p a Dassgn).after q k ((dassgn_shifts s p (number a.a0) (channel_test s p (number a.a0))).seats (q.0 - 1) apart)
-service_rows s p q a DelMbx apart k = kept_rows s (service_of s p a DelMbx).after (service_keeps s p a DelMbx refl) q k
-service_rows s p q a Qio apart k = kept_rows s (service_of s p a Qio).after (service_keeps s p a Qio refl) q k
-service_rows s p q a QioW apart k = kept_rows s (service_of s p a QioW).after (service_keeps s p a QioW refl) q k
-service_rows s p q a Cancel apart k = kept_rows s (service_of s p a Cancel).after (service_keeps s p a Cancel refl) q k
+service_rows s p q a DelMbx apart k = kept_rows s (service_of s p a DelMbx).after (service_plainly s p a DelMbx refl).keeps q k
+service_rows s p q a Qio apart k = kept_rows s (service_of s p a Qio).after (service_plainly s p a Qio refl).keeps q k
+service_rows s p q a QioW apart k = seat_rows s (service_of s p a QioW).after q k ((service_seats s p a QioW refl).seats (q.0 - 1))
+service_rows s p q a Cancel apart k = kept_rows s (service_of s p a Cancel).after (service_plainly s p a Cancel refl).keeps q k
 service_rows s p q a v apart k = (service_aside s p a v refl).rows q k
 
 -- the effects of a record of RUN, and the rows that it leaves
@@ -149,7 +136,7 @@ on_runs q s p n stop.Return apart off = returned_runs q s p (process_at s p).fra
 on_runs q s p n stop.End apart off = returned_runs q s p (process_at s p).frames
 on_runs q s p n stop.Local apart off = record { effects = nil; rows = λ k. refl }
 
-uses_channels : (w : Wait) (x : Process) → (uses_wake w x).channels ≡ x.channels
+pub uses_channels : (w : Wait) (x : Process) → (uses_wake w x).channels ≡ x.channels
 uses_channels (wait.Flags a b c) x = refl
 uses_channels (wait.Synch a b) x = refl
 uses_channels wait.Hiber x = refl

@@ -1,5 +1,5 @@
 -- In every state a process that drains a mode has no frame, and nothing of that mode but requests; RDN, and runs.
-use Rattle.std.proofs.Common.{◌≡◌, ◌∙◌, ℕ, zero, suc, ◌-◌, ◌<◌, List, [], ◌∷◌, false, Option, None, refl, sym, ap, subst, arith, length}
+use Rattle.std.proofs.Common.{◌≡◌, ◌∙◌, ℕ, zero, suc, ◌-◌, ◌<◌, List, [], ◌∷◌, false, Option, None, refl, sym, ap, subst, arith, length, ⊎_elim}
 use Rattle.std.specs.Prelude.{Contains}
 use Rattle.vx_base.specs.Pieces.{Channel}
 use Rattle.vx_base.specs.declared.effects.Effect.{Effect}
@@ -14,21 +14,18 @@ use Rattle.vx_record.proofs.Base.{Base}
 use Rattle.vx_laws.specs.Items.{Item}
 use Rattle.vx_laws.proofs.Attended.{step_seated}
 use Rattle.vx_laws.proofs.Calm.{cancelled_in_calm}
-use Rattle.vx_laws.proofs.Courses.{step_spares, ended_on}
-use Rattle.vx_laws.proofs.Emptied.{AllSeated}
+use Rattle.vx_laws.proofs.Courses.{step_spares, ended_on, of_others, spares_moves}
+use Rattle.vx_laws.proofs.Emptied.{AllSeated, seat_rows}
 use Rattle.vx_laws.proofs.Idle.{step_idle}
 use Rattle.vx_laws.proofs.Leftover.{Ended, Emptied, Cleared, emptying}
 use Rattle.vx_laws.proofs.Lowers.{IsLowering, Others, Settled, closed}
 use Rattle.vx_laws.proofs.Allowed.{Allowed}
-use Rattle.vx_laws.proofs.Courses.{of_others, spares_moves}
-use Rattle.vx_laws.proofs.Emptied.{seat_rows}
-use Rattle.vx_laws.proofs.Rests.{closed_all}
+use Rattle.vx_laws.proofs.Rests.{closed_all, enabled_awake, is_rundown, phase_made, step_ages}
 use Rattle.vx_record.proofs.Moves.{Moves}
 use Rattle.vx_record.proofs.Allowed.{enabled_there}
-use Rattle.std.proofs.Common.{⊎_elim}
 use Rattle.std.proofs.lemmas.Bool.{cases_eq}
-use Rattle.vx_laws.proofs.Phases.{Passes, phase_in}
-use Rattle.vx_laws.proofs.Rests.{enabled_awake, is_rundown, phase_made, step_ages}
+use Rattle.vx_laws.proofs.Phases.{Passes}
+use Rattle.vx_laws.proofs.Untouched.{phase_in}
 
 -- what drains a mode has no frame, and what cancelling leaves
 pub record Drains (q : Pid) (m : Mode) (s : State) : Type 0 where

@@ -36,7 +36,7 @@ pub record IsDrain (R : State → List Effect → State → Type 0) : Type 0 whe
 abbrev OutcomeBy : (State → List Effect → State → Type 0) → State → Pid → Outcome Answer → Type 0
 OutcomeBy R s p o = DownBy R s p o.effects o.after
 
-append_assoc : (a b c : List Effect) → (a ++ b) ++ c ≡ a ++ (b ++ c)
+pub append_assoc : (a b c : List Effect) → (a ++ b) ++ c ≡ a ++ (b ++ c)
 append_assoc [] b c = refl
 append_assoc (x ∷ a) b c = ap (λ (l : List Effect). x ∷ l) (append_assoc a b c)
 

@@ -1,7 +1,7 @@
 -- What rundown leaves of a process in the lists of timers and attention entries.
-use Rattle.std.proofs.Common.{◌≡◌, ◌≢◌, ◌∙◌, ℕ, zero, suc, ◌+◌, ◌-◌, ◌≤◌, List, [], ◌∷◌, ◌++◌, Bool, true, false, ◌==◌, ◌&&◌, ◌||◌, Option, Some, None, refl, sym, ap, subst, arith, get_or, ⊎_elim, replicate}
+use Rattle.std.proofs.Common.{◌≡◌, ◌≢◌, ◌∙◌, ℕ, zero, suc, ◌+◌, ◌-◌, ◌≤◌, List, [], ◌∷◌, Bool, true, false, ◌==◌, ◌&&◌, ◌||◌, Option, Some, None, refl, sym, ap, subst, arith, get_or, ⊎_elim}
 use Rattle.std.specs.List.{AllByRecursion, filter, list_any}
-use Rattle.std.proofs.lemmas.Bool.{and_from, eqb-true, eq-eqb, ne_eqb, cases_eq}
+use Rattle.std.proofs.lemmas.Bool.{and_from, eqb-true, eq-eqb, ne_eqb, cases_eq, false_from_ne_true}
 use Rattle.vx_base.specs.Channels.{channel_at, is_reached, reached_from, channels_of}
 use Rattle.vx_base.specs.Lists.{less}
 use Rattle.vx_base.specs.Modes.{reaches}
@@ -25,11 +25,11 @@ use Rattle.vx_record.specs.Timers.{this_timer, drop_timer, drop_timers, due_agai
 use Rattle.vx_record.specs.Sound.{AreOrdered, timer_id}
 use Rattle.vx_record.proofs.Base.{Base, moves_keep}
 use Rattle.vx_record.proofs.Cancelled.{cancel_channel_all, cancel_channel_attention, cancel_channel_moves}
-use Rattle.vx_record.proofs.Lists.{either, all_weaker, all_both, all_append, all_less, all_amend, removed, ordered_less}
+use Rattle.vx_record.proofs.Lists.{either, all_weaker, all_both, all_append, all_less, all_amend, removed, ordered_less, all_first, all_last}
 use Rattle.vx_record.proofs.Moves.{Loose, Moves, PartMoves, both, flag, end_asts, end_handlers, open_attention, attention_fires, end_attention, open_timer, open_wake, timer_fires, wake_fires, end_timer}
 use Rattle.vx_laws.proofs.Allowed.{Test, is_allowed}
-use Rattle.vx_laws.proofs.Aside.{row}
-use Rattle.vx_laws.proofs.Phases.{Keeps, seat_in, cancel_modes_keeps}
+use Rattle.vx_laws.proofs.Aside.{row, free_rows}
+use Rattle.vx_laws.proofs.Untouched.{Keeps, seat_in, keep_seats, cancel_modes_keeps}
 
 -- an opening is one that a test allows; of other effects nothing is asked
 abbrev pub is_open_allowed : Test → Effect → Bool
@@ -49,14 +49,6 @@ pub record IsOfLists (P : Timer → Type 0) (Q : Attention → Type 0) (ok : Tes
 
 abbrev pub AreHeld : (Timer → Type 0) → (Attention → Type 0) → State → Type 0
 AreHeld P Q s = AllByRecursion P s.timers × AllByRecursion Q s.attention
-
-all_first : {A : Type 0} (P : A → Type 0) (xs ys : List A) → AllByRecursion P (xs ++ ys) → AllByRecursion P xs
-all_first P [] ys h = tt
-all_first P (x ∷ xs) ys h = (h.0, all_first P xs ys h.1)
-
-all_last : {A : Type 0} (P : A → Type 0) (xs ys : List A) → AllByRecursion P (xs ++ ys) → AllByRecursion P ys
-all_last P [] ys h = h
-all_last P (x ∷ xs) ys h = all_last P xs ys h.1
 
 held_flag : (P : Timer → Type 0) (Q : Attention → Type 0) (s : State) (c : Cell) (on : Bool) → AreHeld P Q s → AreHeld P Q (flag_part s c on).after
 held_flag P Q s (Local p n) on h = h
@@ -100,12 +92,8 @@ any_kept passes (t ∷ ts) = (first, all_weaker (λ x. passes x ≡ true → lis
     more : (x : Timer) → (passes x ≡ true → list_any (λ y. timer_id x == timer_id y) (filter passes ts) ≡ true) → passes x ≡ true → list_any (λ y. timer_id x == timer_id y) (filter passes (t ∷ ts)) ≡ true
     more x k e = either (λ (l : List Timer). list_any (λ y. timer_id x == timer_id y) l ≡ true) (passes t) (t ∷ filter passes ts) (filter passes ts) (or_true (timer_id x == timer_id t) _ (k e)) (k e)
 
-false_by : (b : Bool) → (b ≡ true → ⊥) → b ≡ false
-false_by true k = absurd (k refl)
-false_by false k = refl
-
 drop_clear : (passes : Timer → Bool) (high : ℕ) (xs : List Timer) (s : State) → AreOrdered timer_id 0 high s.timers → AllByRecursion (λ t. passes t ≡ true → list_any (λ x. timer_id t == timer_id x) xs ≡ true) s.timers → AllByRecursion (λ t. passes t ≡ false) (each drop_timer xs s).after.timers
-drop_clear passes high [] s o h = all_weaker (λ t. passes t ≡ true → false ≡ true) (λ t. passes t ≡ false) (λ t k. false_by (passes t) (λ e. let never : false ≡ true = k e in cc)) s.timers h
+drop_clear passes high [] s o h = all_weaker (λ t. passes t ≡ true → false ≡ true) (λ t. passes t ≡ false) (λ t k. false_from_ne_true (passes t) (λ e. let never : false ≡ true = k e in cc)) s.timers h
 drop_clear passes high (x ∷ xs) s o h =
     let P = λ (t : Timer). passes t ≡ true → list_any (λ y. timer_id t == timer_id y) (x ∷ xs) ≡ true in
     let Q = λ (t : Timer). passes t ≡ true → list_any (λ y. timer_id t == timer_id y) xs ≡ true in
@@ -136,8 +124,8 @@ timer_of_none : (p : Pid) (t : Timer) → is_timer_in p Kernel t ≡ false → i
 timer_of_none p t h k = by_alarm t.what h k
   where
     by_alarm : (a : Alarm) → (is_same t.p p && is_timer_reached Kernel a) ≡ false → (is_same t.p p && is_wake_alarm a) ≡ false → is_same t.p p ≡ false
-    by_alarm (OfTimer efn reqid mode tag) h k = false_by (is_same t.p p) (λ e. let never : true ≡ false = sym (and_from (is_same t.p p) (reaches mode Kernel) e (kernel_reached mode)) ∙ h in cc)
-    by_alarm (OfWake target repeat) h k = false_by (is_same t.p p) (λ e. let never : true ≡ false = sym (and_from (is_same t.p p) true e refl) ∙ k in cc)
+    by_alarm (OfTimer efn reqid mode tag) h k = false_from_ne_true (is_same t.p p) (λ e. let never : true ≡ false = sym (and_from (is_same t.p p) (reaches mode Kernel) e (kernel_reached mode)) ∙ h in cc)
+    by_alarm (OfWake target repeat) h k = false_from_ne_true (is_same t.p p) (λ e. let never : true ≡ false = sym (and_from (is_same t.p p) true e refl) ∙ k in cc)
 
 -- Attention entries on the channels of cancelled modes.
 
@@ -184,11 +172,6 @@ reached_in test k m (r ∷ rows) n above e t =
 
 -- Rows.
 
-free_rows : (k n : ℕ) → get_or (replicate k None) n None ≡ (let o : Option Channel = None in o)
-free_rows zero n = refl
-free_rows (suc k) zero = refl
-free_rows (suc k) (suc n) = free_rows k n
-
 row_in : (l : List Process) (i n : ℕ) → channel_at (get_or l i nobody).channels n ≡ channel_at (seat_in l i).1 n
 row_in [] i n = sym (free_rows 64 (n - 1))
 row_in (x ∷ xs) zero n = refl
@@ -202,7 +185,7 @@ pub seat_rows : (s t : State) (p : Pid) (n : ℕ) → seat_in t.procs (p.0 - 1) 
 seat_rows s t p n e = row_seat t p n ∙ (ap (λ (x : Rattle.vx_base.specs.declared.frame.Phase.Phase × List (Option Channel)). channel_at x.1 n) e ∙ sym (row_seat s p n))
 
 pub kept_rows : (s t : State) → Keeps s t → (p : Pid) (n : ℕ) → row t p n ≡ row s p n
-kept_rows s t k p n = seat_rows s t p n (k.seats (p.0 - 1))
+kept_rows s t k p n = seat_rows s t p n (keep_seats k (p.0 - 1))
 
 -- What is said of attention entries: each is on a channel that is assigned.
 
@@ -222,7 +205,7 @@ Unreached p m s a = is_same a.p p ≡ true → is_reached m (row s a.p a.chan) �
 -- kernel mode reaches all: none is of the process
 pub unreached_none : (p : Pid) (s : State) (a : Attention) → Seated s a → Unreached p Kernel s a → is_same a.p p ≡ false
 unreached_none p s a h k =
-    false_by (is_same a.p p) (λ e.
+    false_from_ne_true (is_same a.p p) (λ e.
     let free : is_reached Kernel (Some h.ch) ≡ false = subst (λ (o : Option Channel). is_reached Kernel o ≡ false) h.is (k e) in
     let never : true ≡ false = sym (kernel_reached h.ch.mode) ∙ free in cc)
 
@@ -243,7 +226,7 @@ cancelled_unreached s p m b h =
     let clear = λ (a : Attention). list_any (λ n. is_attention_on p n a) ns ≡ false in
     subst (AllByRecursion (Unreached p m t)) (sym same)
     (all_weaker (λ a. Seated s a × clear a) (Unreached p m t)
-    (λ a k e. ap (is_reached m) (rows a.p a.chan) ∙ false_by (is_reached m (row s a.p a.chan)) (λ r. let is : a.p ≡ p = ap (λ (n : ℕ). let x : Pid = record { 0 = n } in x) (eqb-true a.p.0 p.0 e) in let never : true ≡ false = sym (reached_in (λ n. is_attention_on p n a) 1 m (process_at s p).channels a.chan k.0.number (subst (λ (q : Pid). is_reached m (row s q a.chan) ≡ true) is r) (and_from (is_same a.p p) (a.chan == a.chan) e (eq-eqb a.chan a.chan refl))) ∙ k.1 in cc))
+    (λ a k e. ap (is_reached m) (rows a.p a.chan) ∙ false_from_ne_true (is_reached m (row s a.p a.chan)) (λ r. let is : a.p ≡ p = ap (λ (n : ℕ). let x : Pid = record { 0 = n } in x) (eqb-true a.p.0 p.0 e) in let never : true ≡ false = sym (reached_in (λ n. is_attention_on p n a) 1 m (process_at s p).channels a.chan k.0.number (subst (λ (q : Pid). is_reached m (row s q a.chan) ≡ true) is r) (and_from (is_same a.p p) (a.chan == a.chan) e (eq-eqb a.chan a.chan refl))) ∙ k.1 in cc))
     one.attention (all_both (Seated s) clear one.attention (each_cancel_all (Seated s) p s ns h) (each_cancel_clear p s ns b)))
 
 pub cancelled_seated : (s : State) (p : Pid) (m : Mode) → AllSeated s → AllSeated (cancel_modes s p m).after

@@ -2,7 +2,7 @@
 use Rattle.std.proofs.Common.{◌≡◌, ◌≢◌, ◌∙◌, ℕ, zero, suc, ◌+◌, ◌-◌, ◌<◌, ◌≤◌, List, [], ◌∷◌, Bool, true, false, cond, ◌==◌, ◌&&◌, ◌||◌, Option, Some, None, map, refl, sym, ap, subst, arith, length, get_or, ⊎_elim}
 use Rattle.std.specs.Prelude.{Contains, nat_le}
 use Rattle.std.specs.List.{AllByRecursion, list_all, list_any}
-use Rattle.std.proofs.lemmas.Bool.{and_parts, and_from, eq-eqb, cases_eq, leb-true, le-leb}
+use Rattle.std.proofs.lemmas.Bool.{and_parts, and_from, eq-eqb, cases_eq, leb-true, le-leb, false_from_ne_true, or_right}
 use Rattle.vx_base.specs.Pieces.{Request, Timer, Attention}
 use Rattle.vx_base.specs.declared.effects.Effect.{Effect}
 use Rattle.vx_base.specs.declared.effects.Effect.TheVariants as effect
@@ -40,7 +40,8 @@ use Rattle.vx_laws.proofs.Listed.{holds, holds_in, Listed, this_ast}
 use Rattle.vx_laws.proofs.Lowers.{IsLowering, Low, Lowers, stops, goes, others_change, rundown_lowers, cancelled_phase, low_release}
 use Rattle.vx_laws.proofs.Newest.{Further, step_further, first_further}
 use Rattle.vx_laws.proofs.Opens.{any_told}
-use Rattle.vx_laws.proofs.Phases.{Passes, phase_in, release_shifts}
+use Rattle.vx_laws.proofs.Phases.{Passes}
+use Rattle.vx_laws.proofs.Untouched.{phase_in, release_shifts}
 use Rattle.vx_laws.proofs.Rests.{enabled_awake, is_rundown, phase_made, step_ages, both_later, AllGone, step_rests}
 use Rattle.vx_laws.proofs.Right.{lives_more}
 use Rattle.vx_laws.proofs.Runs.{step_right, first_stands, every_run_ends_right}
@@ -52,18 +53,15 @@ use Rattle.vx_laws.proofs.Steps.{step_tags, first_tags}
 use Rattle.vx_laws.proofs.Turns.{later_items}
 use Rattle.vx_laws.proofs.Unowned.{open_seated, pid_of}
 use Rattle.vx_laws.proofs.Vacant.{every_run_down}
+use Rattle.vx_laws.proofs.Bools.{same_bools}
 
 -- Who is deleted is gone in the records.
 
 abbrev pub GoneTold : State → List Item → Type 0
 GoneTold s past = (q : Pid) → IsProcess s q → (process_at s q).phase ≡ phase.Deleted → is_gone past q ≡ true
 
-or_second : (a b : Bool) → b ≡ true → (a || b) ≡ true
-or_second true b e = refl
-or_second false b e = e
-
 gone_item : (x : Item) (past : List Item) (q : Pid) → is_gone past q ≡ true → is_gone (x ∷ past) q ≡ true
-gone_item (Did (effect.Gone r)) past q e = or_second (is_same r q) (is_gone past q) e
+gone_item (Did (effect.Gone r)) past q e = or_right (is_same r q) (is_gone past q) e
 gone_item x past q e = e
 
 gone_items : (xs past : List Item) (q : Pid) → is_gone past q ≡ true → is_gone (later past xs) q ≡ true
@@ -131,7 +129,7 @@ lowers_told s past p a es t (goes gs u f o j w c) made h q there at =
     (λ (e : p.0 ≡ q.0). let yes : is_same p q ≡ true = eq-eqb p.0 q.0 e in rw yes refl)
     (λ (n : p.0 ≡ q.0 → ⊥).
     let off : p.0 - 1 ≡ q.0 - 1 → ⊥ = λ e. let x = made.above in let y = there.above in n (omega (arith, e, x, y)) in
-    or_second (is_same p q) (is_gone past q) (told_before s past q there.above (sym (seat_phase s u p q o off) ∙ (sym (seat_phase u v p q (others_change u p (in_phase phase.Deleted)) off) ∙ (phase_made v q there ∙ at))) h))
+    or_right (is_same p q) (is_gone past q) (told_before s past q there.above (sym (seat_phase s u p q o off) ∙ (sym (seat_phase u v p q (others_change u p (in_phase phase.Deleted)) off) ∙ (phase_made v q there ∙ at))) h))
     (cases_eq p.0 q.0)
 
 rdn_told : (s : State) (past : List Item) (p : Pid) → Contains (enabled s) (event.Rdn p) → Base s → Tags s → GoneTold s past → GoneTold (step s (event.Rdn p)).after (later (Head (event.Rdn p) (step s (event.Rdn p)).answer ∷ past) (map Did (step s (event.Rdn p)).effects))
@@ -242,17 +240,12 @@ phase_deleted : (x : Phase) → is_deleted_phase x ≡ true → x ≡ phase.Dele
 phase_deleted phase.Deleted e = refl
 phase_deleted x e = absurd (let never : false ≡ true = e in cc)
 
-same_bool : (a b : Bool) → (a ≡ true → b ≡ true) → (b ≡ true → a ≡ true) → a ≡ b
-same_bool true b f k = sym (f refl)
-same_bool false true f k = k refl
-same_bool false false f k = refl
-
 -- a process is deleted exactly if it is gone in the records
 pub every_gone : (system : System) (recs : List Rec) (p : Pid) → IsRun system recs → IsProcess (after system recs) p → is_deleted (process_at (after system recs) p) ≡ is_gone (past_of recs) p
 every_gone system recs p run made =
     let s = after system recs in
     let k = every_run_over system recs run in
-    same_bool (is_deleted (process_at s p)) (is_gone (past_of recs) p) (λ e. k.told p made (phase_deleted (process_at s p).phase e)) (λ e. ap is_deleted_phase (k.gone p e).deleted)
+    same_bools (is_deleted (process_at s p)) (is_gone (past_of recs) p) (λ e. k.told p made (phase_deleted (process_at s p).phase e)) (λ e. ap is_deleted_phase (k.gone p e).deleted)
 
 -- At the end.
 
@@ -266,17 +259,13 @@ deleted_at [] i e = refl
 deleted_at (x ∷ xs) zero e = phase_deleted x.phase (and_parts (is_deleted x) (list_all is_deleted xs) e).0
 deleted_at (x ∷ xs) (suc i) e = deleted_at xs i (and_parts (is_deleted x) (list_all is_deleted xs) e).1
 
-false_by : (b : Bool) → (b ≡ true → ⊥) → b ≡ false
-false_by true k = absurd (k refl)
-false_by false k = refl
-
 pub done_open : (system : System) (recs : List Rec) (limit : ℕ) (id : Id) → IsRun system recs → end_after system recs limit ≡ Some Done → lives is_open (life (past_of recs) id) ≡ false
 done_open system recs limit id run end = by_life (life (past_of recs) id) refl (owned_after system recs run id)
   where
     by_life : (o : Option Life) → life (past_of recs) id ≡ o → IsOwnedLife o → lives is_open o ≡ false
     by_life None is above = refl
     by_life (Some l) is above =
-        false_by (is_open l) (λ e.
+        false_from_ne_true (is_open l) (λ e.
         let s = after system recs in
         let k = every_run_over system recs run in
         let made = owner_made s (past_of recs) id l k.base k.stands k.listed is above e in

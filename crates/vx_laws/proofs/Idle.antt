@@ -1,5 +1,5 @@
 -- Who has no frame gets none from events of others.
-use Rattle.std.proofs.Common.{◌≡◌, ◌∙◌, ◌-◌, List, [], ◌∷◌, Bool, true, false, cond, Option, Some, None, refl, sym, ap, subst, get_or-set_other}
+use Rattle.std.proofs.Common.{◌≡◌, ◌∙◌, ◌-◌, List, [], ◌∷◌, true, false, cond, Option, Some, None, refl, sym, ap, subst, get_or-set_other}
 use Rattle.vx_base.specs.Pieces.{Queued, Request}
 use Rattle.vx_base.specs.Queues.{front, in_service}
 use Rattle.vx_base.specs.Serving.{serve, settled}
@@ -30,19 +30,17 @@ use Rattle.vx_record.proofs.Base.{Base}
 use Rattle.vx_record.proofs.Steps.{IsThere}
 use Rattle.vx_laws.specs.Frames.{turned, turned_by, turn}
 use Rattle.vx_laws.specs.Items.{Item}
-use Rattle.vx_laws.proofs.Awaited.{Keeps, waits_of, frame_waits, finish_keeps, tick_keeps}
+use Rattle.vx_laws.proofs.Awaited.{frame_waits}
+use Rattle.vx_laws.proofs.Untouched.{Keeps, waits_of, keep_waits, finish_keeps, tick_keeps}
 use Rattle.vx_laws.proofs.CalmServices.{call_turn, leave_all_state}
 use Rattle.vx_laws.proofs.Courses.{acts_apart, place_apart}
 use Rattle.vx_laws.proofs.Pauses.{shifted, heard, made_waits, run_waits}
 use Rattle.vx_laws.proofs.Rests.{IsAwake, is_rundown}
+use Rattle.vx_laws.proofs.Bools.{either_same}
 
 nil_frames : (fs : List Frame) → waits_of fs ≡ [] → fs ≡ []
 nil_frames [] e = refl
 nil_frames (f ∷ fs) e = absurd (let never : f.wait ∷ waits_of fs ≡ [] = e in cc)
-
-either_same : {A : Type 0} (b : Bool) (x : A) → cond b x x ≡ x
-either_same true x = refl
-either_same false x = refl
 
 abbrev Nil : List (Option Wait)
 Nil = []
@@ -60,7 +58,7 @@ frames_by : (s t : State) (q : Pid) → IsProcess s q → IsProcess t q → (pro
 frames_by s t q made there e k = nil_frames (process_at t q).frames (sym (made_waits t q there) ∙ k (made_waits s q made ∙ ap waits_of e))
 
 frames_kept : (s t : State) (q : Pid) → IsProcess s q → IsProcess t q → (process_at s q).frames ≡ [] → Keeps s t → (process_at t q).frames ≡ []
-frames_kept s t q made there e k = frames_by s t q made there e (λ n. k.waits (q.0 - 1) ∙ n)
+frames_kept s t q made there e k = frames_by s t q made there e (λ n. keep_waits k (q.0 - 1) ∙ n)
 
 pub frames_apart : (s : State) (p q : Pid) (f : Process → Process) → (p.0 - 1 ≡ q.0 - 1 → ⊥) → (process_at s q).frames ≡ [] → (process_at (change s p f) q).frames ≡ []
 frames_apart s p q f off e = ap (λ (x : Process). x.frames) (get_or-set_other s.procs (p.0 - 1) (q.0 - 1) (f (process_at s p)) nobody (λ same. off (sym same))) ∙ e
@@ -83,7 +81,7 @@ don_idle s u None q made there e = e
 don_idle s u (Some r) q made there e =
     let t = with_unit s u (settled (unit_at s u) r.req) in
     let x = unit_ending r (serve (unit_at s u) r.req).reply in
-    frames_by s (finish t r x).after q made there e (λ n. (finish_keeps t r x).waits (q.0 - 1) ∙ n)
+    frames_by s (finish t r x).after q made there e (λ n. keep_waits (finish_keeps t r x) (q.0 - 1) ∙ n)
 
 -- of all events but rundown
 pub step_idle : (s : State) (past : List Item) (e : Event) (q : Pid) → is_rundown e ≡ false → IsThere s e → IsAwake s e → Base s → IsProcess s q → IsProcess (step s e).after q → (process_at s q).frames ≡ [] → (process_at (step s e).after q).frames ≡ []

@@ -1,7 +1,7 @@
 -- What rundown leaves of its process: nothing, step by step.
-use Rattle.std.proofs.Common.{◌≡◌, ◌≢◌, ◌∙◌, ℕ, zero, suc, ◌-◌, ◌≤◌, List, [], ◌∷◌, Bool, true, false, not, ◌==◌, ◌&&◌, Option, Some, None, refl, sym, ap, subst, arith, get_or, get_or-set_other, set, ⊎_elim}
+use Rattle.std.proofs.Common.{◌≡◌, ◌≢◌, ◌∙◌, ℕ, zero, suc, ◌-◌, ◌≤◌, List, [], ◌∷◌, true, false, not, ◌==◌, ◌&&◌, Option, Some, None, refl, sym, ap, subst, arith, get_or, get_or-set_other, set, ⊎_elim}
 use Rattle.std.specs.List.{AllByRecursion, filter}
-use Rattle.std.proofs.lemmas.Bool.{and_parts, and_from, eqb-true, eq-eqb, cases_eq}
+use Rattle.std.proofs.lemmas.Bool.{and_parts, and_from, eqb-true, eq-eqb, cases_eq, false_from_ne_true}
 use Rattle.vx_base.specs.Channels.{channel_at, is_reached, channels_of}
 use Rattle.vx_base.specs.Lists.{less}
 use Rattle.vx_base.specs.Modes.{reaches}
@@ -27,12 +27,8 @@ use Rattle.vx_laws.proofs.Aside.{row, changed, asts_aside, part_with_aside}
 use Rattle.vx_laws.proofs.Emptied.{AllSeated, Seated, Unreached, seated_on, unreached_on, unreached_none, kept_rows, seat_rows, cancelled_seated, cancelled_unreached, cancelled_timers, drop_timers_all, drop_timers_clear, drop_timers_attention, kernel_reached}
 use Rattle.vx_laws.proofs.Lowered.{IsFreed, freed_first}
 use Rattle.vx_laws.proofs.Lowers.{IsLowering, Low}
-use Rattle.vx_laws.proofs.Phases.{free_shifts, swept_keeps, drop_handlers_keeps, drop_timers_keeps}
+use Rattle.vx_laws.proofs.Untouched.{free_shifts, swept_keeps, drop_handlers_keeps, drop_timers_keeps}
 use Rattle.vx_laws.proofs.Withdrawn.{free_rows, free_requests}
-
-false_by : (b : Bool) → (b ≡ true → ⊥) → b ≡ false
-false_by true k = absurd (k refl)
-false_by false k = refl
 
 -- A channel is freed.
 
@@ -76,7 +72,7 @@ Spared p m s = AllByRecursion (λ a. Seated s a × Unreached p m s a) s.attentio
 
 off_channel : (s : State) (p : Pid) (m : Mode) (n : ℕ) (a : Attention) → IsFreed s p m n → Seated s a → Unreached p m s a → (is_same a.p p && (a.chan == n)) ≡ false
 off_channel s p m n a freed h k =
-    false_by (is_same a.p p && (a.chan == n)) (λ e.
+    false_from_ne_true (is_same a.p p && (a.chan == n)) (λ e.
     let parts = and_parts (is_same a.p p) (a.chan == n) e in
     let is : a.p ≡ p = ap (λ (i : ℕ). let x : Pid = record { 0 = i } in x) (eqb-true a.p.0 p.0 parts.0) in
     let at : row s p n ≡ Some h.ch = subst (λ (q : Pid). row s q n ≡ Some h.ch) is (subst (λ (i : ℕ). row s a.p i ≡ Some h.ch) (eqb-true a.chan n parts.1) h.is) in
@@ -178,9 +174,9 @@ pub record Ended (p : Pid) (m : Mode) (s : State) : Type 0 where
   pub timers : m ≡ Kernel → AllByRecursion (λ t. is_same t.p p ≡ false) s.timers
 
 not_busy : (p : Pid) (r : Request) → keeps_busy p Kernel r ≡ false → is_same r.req.p p ≡ false
-not_busy p r h = false_by (is_same r.req.p p) (λ e. let never : true ≡ false = sym (and_from (is_same r.req.p p) (reaches r.req.chan_mode Kernel) e (kernel_reached r.req.chan_mode)) ∙ h in cc)
+not_busy p r h = false_from_ne_true (is_same r.req.p p) (λ e. let never : true ≡ false = sym (and_from (is_same r.req.p p) (reaches r.req.chan_mode Kernel) e (kernel_reached r.req.chan_mode)) ∙ h in cc)
 
-seated_change : (s : State) (p : Pid) (f : Process → Process) → (f (process_at s p)).channels ≡ (process_at s p).channels → AllSeated s → AllSeated (change s p f)
+pub seated_change : (s : State) (p : Pid) (f : Process → Process) → (f (process_at s p)).channels ≡ (process_at s p).channels → AllSeated s → AllSeated (change s p f)
 seated_change s p f e h = all_weaker (Seated s) (Seated (change s p f)) (λ a k. seated_on s (change s p f) a ((changed s p f [] e tt).rows a.p a.chan) k) s.attention h
 
 released_emptied : (s : State) (p : Pid) → 1 ≤ p.0 → AllSeated s → Ended p Kernel s → is_busy s p Kernel ≡ false → Emptied p (release s p Kernel).after

@@ -1,6 +1,6 @@
 -- Rundown, as the law of mailboxes asks.
 use Rattle.std.proofs.Common.{◌≡◌, ℕ, zero, suc, ◌+◌, ◌-◌, ◌≤◌, List, [], ◌∷◌, ◌++◌, true, false, ◌==◌, ◌&&◌, Option, Some, None, map, refl, sym, ap, ◌∙◌, subst, arith, get_or}
-use Rattle.std.proofs.lemmas.Bool.{eqb-true, and_parts, and_from}
+use Rattle.std.proofs.lemmas.Bool.{eqb-true, and_parts, and_from, false_from_ne_true}
 use Rattle.std.specs.List.{AllByRecursion, find}
 use Rattle.vx_base.specs.Channels.{channel_at, is_reached, reached_from, channels_of}
 use Rattle.vx_base.specs.Modes.{reaches}
@@ -14,7 +14,7 @@ use Rattle.vx_base.specs.declared.number.Pid.{Pid}
 use Rattle.vx_base.specs.declared.record.Answer.{Answer}
 use Rattle.vx_base.specs.declared.request.Device.TheVariants as device
 use Rattle.vx_base.specs.declared.request.Device.{Device}
-use Rattle.vx_record.proofs.Lists.{either_by, all_weaker, all_both, none_passes, false_from, apart_bools}
+use Rattle.vx_record.proofs.Lists.{either_by, all_weaker, all_both, none_passes, apart_bools}
 use Rattle.vx_record.proofs.SoundChannels.{is_on_box}
 use Rattle.vx_record.specs.Cancel.{is_request_on}
 use Rattle.vx_record.specs.Channels.{free_channel}
@@ -61,7 +61,7 @@ IsQuiet s p m = AllByRecursion (λ r. keeps_busy p m r ≡ false) s.requests
 
 clear_one : (s : State) (past : List Item) (p : Pid) (m : Mode) (n : ℕ) (r : Request) → IsFreed s p m n → Rooted s past r → keeps_busy p m r ≡ false → (is_on_box r.req.device && is_request_on p n r) ≡ false
 clear_one s past p m n r freed root quiet =
-    false_from _ (λ e. by_device r.req.device (and_parts (is_on_box r.req.device) (is_request_on p n r) e).0 root.on (and_parts (is_same r.req.p p) (r.req.chan == n) (and_parts (is_on_box r.req.device) (is_request_on p n r) e).1))
+    false_from_ne_true _ (λ e. by_device r.req.device (and_parts (is_on_box r.req.device) (is_request_on p n r) e).0 root.on (and_parts (is_same r.req.p p) (r.req.chan == n) (and_parts (is_on_box r.req.device) (is_request_on p n r) e).1))
   where
     by_device : (d : Device) → is_on_box d ≡ true → IsOn s r.req.p r.req.chan r.req.chan_mode d → (is_same r.req.p p ≡ true) × ((r.req.chan == n) ≡ true) → ⊥
     by_device (device.Unit u) on k both = absurd (let never : false ≡ true = on in cc)

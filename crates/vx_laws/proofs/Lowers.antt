@@ -1,5 +1,5 @@
 -- One step of rundown, taken apart: it stops, or it goes on to the end, where its process is gone; no other process's phase changes.
-use Rattle.std.proofs.Common.{List, None, Option, Some, [], ap, refl, sym, subst, true, false, ◌++◌, ◌∷◌, ◌≡◌, ◌∙◌, ℕ, ◌-◌, arith}
+use Rattle.std.proofs.Common.{List, None, Option, Some, [], ap, get_or-set_other, refl, sym, subst, true, false, ◌++◌, ◌∷◌, ◌≡◌, ◌∙◌, ℕ, ◌-◌, arith}
 use Rattle.std.specs.List.{find}
 use Rattle.vx_base.specs.Pieces.{Handler}
 use Rattle.vx_base.specs.declared.effects.Effect.TheVariants as effect
@@ -24,8 +24,9 @@ use Rattle.vx_record.specs.State.{Process, State, IsProcess, change, process_at}
 use Rattle.vx_record.specs.Timers.{drop_timers, is_wake_for}
 use Rattle.vx_laws.proofs.Calm.{Tags, Still, cancelled_in_calm, phase_calm, release_calm, drop_handlers_calm, drop_timers_calm}
 use Rattle.vx_laws.proofs.Named.{dropped_all, all_any}
-use Rattle.vx_laws.proofs.Phases.{Keeps, Shifts, seat_in, set_apart, keep_none, keep_then, cancel_modes_keeps, release_shifts, drop_handlers_keeps, drop_timers_keeps}
+use Rattle.vx_laws.proofs.Untouched.{Keeps, Shifts, newcomer, seat_of, seat_in, keep_seats, keep_none, keep_then, cancel_modes_keeps, release_shifts, drop_handlers_keeps, drop_timers_keeps}
 use Rattle.vx_laws.proofs.Allowed.{Test, Allowed, nil, one, join, cancel_modes_allowed, release_allowed, handlers_allowed, timers_allowed}
+use Rattle.vx_laws.proofs.Drains.{append_assoc}
 
 -- no opening is allowed
 abbrev pub closed : Test
@@ -36,7 +37,7 @@ pub record Others (p : Pid) (s t : State) : Type 0 where
   pub seats : (i : ℕ) → (p.0 - 1 ≡ i → ⊥) → seat_in t.procs i ≡ seat_in s.procs i
 
 others_of : (p : Pid) (s t : State) → Keeps s t → Others p s t
-others_of p s t k = record { seats = λ i n. k.seats i }
+others_of p s t k = record { seats = λ i n. keep_seats k i }
 
 others_shift : (p : Pid) (s t : State) → Shifts p s t → Others p s t
 others_shift p s t k = record { seats = k.seats }
@@ -45,7 +46,7 @@ others_then : (p : Pid) (s t u : State) → Others p s t → Others p t u → Ot
 others_then p s t u h k = record { seats = λ i n. k.seats i n ∙ h.seats i n }
 
 pub others_change : (s : State) (p : Pid) (f : Process → Process) → Others p s (change s p f)
-others_change s p f = record { seats = λ i n. set_apart s.procs (p.0 - 1) i (f (process_at s p)) n }
+others_change s p f = record { seats = λ i n. ap seat_of (get_or-set_other s.procs (p.0 - 1) i (f (process_at s p)) newcomer (λ same. n (sym same))) }
 
 -- The process that is run down: it is there and has no frame.
 pub record Low (s : State) (p : Pid) : Type 0 where
@@ -71,10 +72,6 @@ Settled R s p = (m : Mode) → (process_at s p).phase ≡ phase.Draining m → R
 pub data Lowers (J : State → Type 0) (R : Mode → State → Type 0) (C : State → Type 0) (p : Pid) (s : State) : List Effect → State → Type 0 where
   stops : (es : List Effect) (t : State) → Allowed closed es → Others p s t → Moves s None es t None → J t → Settled R t p → Lowers J R C p s es t
   goes : (es : List Effect) (u : State) → Allowed closed es → Others p s u → Moves s None es u None → Still u p → C u → Lowers J R C p s (es ++ effect.Gone p ∷ []) (gone_part p u).after
-
-append_assoc : (a b c : List Effect) → (a ++ b) ++ c ≡ a ++ (b ++ c)
-append_assoc [] b c = refl
-append_assoc (x ∷ a) b c = ap (λ (l : List Effect). x ∷ l) (append_assoc a b c)
 
 lowers_after : (J : State → Type 0) (R : Mode → State → Type 0) (C : State → Type 0) (p : Pid) (s v : State) (fs es : List Effect) (t : State) → Moves s None fs v None → Allowed closed fs → Others p s v → Lowers J R C p v es t → Lowers J R C p s (fs ++ es) t
 lowers_after J R C p s v fs es t j a o (stops gs u b k m w q) = stops (fs ++ gs) u (join a b) (others_then p s v u o k) (both s v u None None None fs gs j m) w q

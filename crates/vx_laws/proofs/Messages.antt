@@ -1,12 +1,12 @@
 -- In every run messages are put, handed out and withdrawn as the law of mailboxes asks.
 use Rattle.std.proofs.Common.{◌≡◌, ℕ, ◌+◌, List, [], ◌∷◌, ◌++◌, false, not, Option, Some, None, Result, Ok, Err, map, refl, sym, ap, ◌∙◌, subst, replicate, ◌-◌, ◌≤◌, arith, true, IsTrue, is_some, cond, zero, suc, append-nil, ◌&&◌, ◌||◌, Bool, position, is_none, get_or}
-use Rattle.std.proofs.lemmas.Bool.{or_right, leb-true, and_parts, and_from}
+use Rattle.std.proofs.lemmas.Bool.{or_right, leb-true, and_parts, and_from, or_parts}
 use Rattle.std.proofs.lemmas.List.Quantifiers.{position-Some}
 use Rattle.std.proofs.lemmas.Slice.Eq.{bytes_eq-Decides}
 use Rattle.std.specs.List.{AllByRecursion, find, list_any}
 use Rattle.std.specs.Prelude.{Contains, option_map, bytes_eq}
-use Rattle.vx_base.proofs.First.{none_at}
-use Rattle.vx_base.specs.Channels.{channel_at, free_from}
+use Rattle.vx_base.proofs.First.{none_at, found_passes}
+use Rattle.vx_base.specs.Channels.{channel_at}
 use Rattle.vx_base.specs.Cond.{number_of}
 use Rattle.vx_base.specs.Lists.{amend}
 use Rattle.vx_base.specs.Modes.{outer}
@@ -45,12 +45,12 @@ use Rattle.vx_image.specs.declared.stop.Stop.TheVariants as stop
 use Rattle.vx_image.specs.declared.stop.Stop.{Stop}
 use Rattle.vx_image.specs.declared.system.System.{System}
 use Rattle.vx_record.proofs.Ground.{at_set}
-use Rattle.vx_record.proofs.Lists.{either, either_by, all_find, or_none, ordered_amend, all_weaker, all_get, find_passes}
+use Rattle.vx_record.proofs.Lists.{either, either_by, all_find, ordered_amend, all_weaker, all_get, none_any}
 use Rattle.vx_record.proofs.SoundRequests.{tested_channel}
 use Rattle.vx_record.specs.Asts.{deliverable_ast}
 use Rattle.vx_record.specs.Cancel.{cancel_channel, cancel_at, dassgn_at}
 use Rattle.vx_record.specs.Channels.{channel_test, is_unit_of, is_box_of, unit_named, box_named, unit_or_box, unit_number, box_number, device_named, assigned, free_channel_of, assign_at, assign_to, is_bad_box, new_box, make_box, make_box_in, find_or_create, crembx, marked_box, delmbx_on, delmbx_at, free_channel}
-use Rattle.vx_record.specs.Events.{enabled, step, moved_to, moved_behind, served_call, called, returned, run_on, reader, run_frame, run, delivered, beg, don, or_normal, returned_from, with_r0, resumed_with, uses_wake, started}
+use Rattle.vx_record.specs.Events.{enabled, step, moved_to, moved_behind, served_call, called, returned, run_on, reader, run_frame, run, delivered, beg, don, or_normal, returned_from, with_r0, resumed_with, started}
 use Rattle.vx_record.specs.Finish.{this_request, finish}
 use Rattle.vx_record.specs.Flags.{wait_condition, awaited_at, with_wait}
 use Rattle.vx_record.specs.Mailboxes.{mailbox_at, waits_at, or_no_box}
@@ -83,14 +83,17 @@ use Rattle.vx_laws.proofs.Passing.{Lawful, walk_then, walk_aside, IsPlainCall, f
 use Rattle.vx_laws.proofs.Plain.{one}
 use Rattle.vx_laws.proofs.Rows.{made_boxed, assigned_boxed}
 use Rattle.vx_laws.proofs.Runs.{step_right, first_stands, front_found}
-use Rattle.vx_laws.proofs.Served.{find_no}
 use Rattle.vx_laws.proofs.Turns.{later_items}
 use Rattle.vx_laws.proofs.Withdrawn.{cancel_channel_walk, cancel_channel_clear, free_walk, unit_nowhere}
 use Rattle.vx_laws.specs.Agrees.{as_stored, device_title, OfChannelCall, is_box_named, box_stands}
 use Rattle.vx_laws.specs.Boxes.{stored}
-use Rattle.vx_laws.specs.Items.{Item, Head, Did, flat, later, past_of, Calling, latest_call, effects_left, at_each}
+use Rattle.vx_laws.specs.Items.{Item, Head, Did, flat, later, past_of, latest_call, at_each}
 use Rattle.vx_laws.specs.Lives.{life, lives, named_in, Life, names_device}
 use Rattle.vx_laws.specs.MessageLaw.{handles_messages, messages, is_stored_nowhere}
+use Rattle.vx_laws.proofs.Courses.{uses_channels}
+use Rattle.vx_laws.proofs.Quotas.{effects_left_is}
+use Rattle.vx_record.proofs.SoundChannels.{free_row}
+use Rattle.vx_laws.proofs.Asked.{calling_of}
 
 -- Records: after each of them mailboxes, channels and requests agree, and no mailbox has both a message and a read.
 
@@ -106,10 +109,6 @@ served_serving past p c o (Answered y) h = serving_still (headed p c o (Answered
 served_serving past p c o Waits h = h
 
 -- the call of a record
-
-abbrev calling_of : Pid → Call → Served → Calling
-calling_of p c (Answered y) = record { p = p; call = c; cond = Some y }
-calling_of p c Waits = record { p = p; call = c; cond = None }
 
 plain_headed : (p : Pid) (c : Call) (o : Outcome Served) (x : Served) (past : List Item) → names_device c.service ≡ false → IsPlainCall (headed p c o x past)
 plain_headed p c o (Answered y) past e = rw e refl
@@ -133,14 +132,6 @@ far_serving t past p a v far h single =
     (aside_serving t (headed p c o o.answer past) (part_of o) (service_aside t p a v far) (plain_headed p c o o.answer past (far_names v far)) (head_boxed t past (event.Run p) (served_call p c o o.answer).answer h) single)
 
 -- $ASSIGN and $CREMBX.
-
-free_row : (k n : ℕ) (rows : List (Option Channel)) → free_from k rows ≡ Some n → (k ≤ n) × (get_or rows (n - k) None ≡ None)
-free_row k n [] e = absurd (let never : None ≡ Some n = e in cc)
-free_row k n (None ∷ rows) e = let same : k ≡ n = cc in let at : n - k ≡ zero = omega arith in (omega arith, rw at refl)
-free_row k n (Some r ∷ rows) e =
-    let rest = free_row (k + 1) n rows e in
-    let at : n - k ≡ suc (n - (k + 1)) = omega (arith, rest.0) in
-    (omega (arith, rest.0), rw at rest.1)
 
 -- a device that its name found
 pub record IsFound (s : State) (name : List ℕ) (d : Device) : Type 0 where
@@ -189,7 +180,7 @@ named_found s name None (Some b) e f d k = let same : device.Mailbox (box_number
 named_found s name None None e f d k = absurd (let never : None ≡ Some d = k in cc)
 
 no_position : {A : Type 0} (p : A → Bool) (xs : List A) → position p xs ≡ None → list_any p xs ≡ false
-no_position p xs e = find_no p xs (sym (none_at p xs (sym e)).0)
+no_position p xs e = none_any p xs (sym (none_at p xs (sym e)).0)
 
 make_serving : (s : State) (p : Pid) (mode : Mode) (box : Mailbox) (b : ℕ) (o : Option ℕ) (t : Target) (c : Call) (past : List Item) → position is_none s.boxes ≡ Some b → free_channel_of s p ≡ o → box.messages ≡ [] → list_any (is_box_of box.name) s.boxes ≡ false → list_any (is_unit_of box.name) s.system.units ≡ false →
     names_device c.service ≡ true → text c.args.a1 ≡ box.name → 1 ≤ p.0 → Boxed s past → IsSingle s → let x = make_box s p mode box b o in let y = numbered_at p t (part_of x) x.answer in Serving (headed p c y y.answer past) (part_of y)
@@ -251,7 +242,7 @@ crembx_serving s p a past above h single =
     let name = text a.a1 in
     either_by (Numbered s p (place a.a0) c past) (is_bad_box s name (number a.a3) (number a.a4)) _ _ (λ e. refused_numbered s p (place a.a0) c past _ h single)
     (λ e.
-    let unit = (or_none (is_some (unit_named s name)) _ e).0 in
+    let unit = (or_parts (is_some (unit_named s name)) _ e).0 in
     find_or_create_serving s p (outer (access_mode a.a5) (current s p)) (new_box name (number a.a2) (number a.a3) (number a.a4)) (box_named s name) (place a.a0) c past refl refl (no_position (is_unit_of name) s.system.units (none_of (unit_named s name) unit)) refl refl above h single)
   where
     none_of : (o : Option ℕ) → is_some o ≡ false → o ≡ None
@@ -400,11 +391,6 @@ on_serving s past p n stop.Return here g = returned_serving s past p g
 on_serving s past p n stop.End here g = returned_serving s past p g
 on_serving s past p n stop.Local here g = nothing_serving s _ (head_boxed s past (event.Run p) answer.Local g.boxed) g.single
 
-used_channels : (w : Wait) (pr : Process) → (uses_wake w pr).channels ≡ pr.channels
-used_channels (wait.Flags a b c) pr = refl
-used_channels (wait.Synch a b) pr = refl
-used_channels wait.Hiber pr = refl
-
 frame_serving : (s : State) (past : List Item) (p : Pid) (f : Frame) (o : Option Wait) → Here s p → Going s past → RecordServing past (event.Run p) (run_frame s p f o)
 frame_serving s past p f None here g =
     let a = advanced (image_of s p) (reader p f) (process_at s p).store f.pc in
@@ -415,7 +401,7 @@ frame_serving s past p f (Some w) here g =
     let c = or_normal (wait_condition s p w) in
     let t = change s p (resumed_with w c) in
     let x = Head (event.Run p) (answer.Resume c) in
-    let k = changed s p (resumed_with w c) [] (used_channels w (with_wait None (process_at s p))) tt in
+    let k = changed s p (resumed_with w c) [] (uses_channels w (with_wait None (process_at s p))) tt in
     serving_still (x ∷ past) (nothing s) t (nothing_serving s (x ∷ past) (head_boxed s past (event.Run p) (answer.Resume c) g.boxed) g.single) k
 
 run_serving : (s : State) (past : List Item) (p : Pid) (frames : List Frame) → Here s p → Going s past → RecordServing past (event.Run p) (run s p frames)
@@ -436,7 +422,7 @@ don_serving s past u (Some r) is g =
     let e = unit_ending r (serve (unit_at s u) r.req).reply in
     let k = same s t [] refl refl refl refl refl tt in
     let h = still_boxed s t (x ∷ past) k (head_boxed s past (event.Don u) (answer.Unit r.req.id) g.boxed) in
-    let unit = on_unit u r.req.device (and_parts (is_unit u r.req.device) r.served (find_passes (is_served_by u) s.requests r is)).0 in
+    let unit = on_unit u r.req.device (and_parts (is_unit u r.req.device) r.served (found_passes (is_served_by u) s.requests r is)).0 in
     let root = all_find (Rooted t (x ∷ past)) (is_served_by u) s.requests r h.requests is in
     let may : MayFin (x ∷ past) r.req.id e.0.cond = or_right _ (lives (is_stored_nowhere (x ∷ past) r.req.id) (life (x ∷ past) r.req.id)) (unit_nowhere t (x ∷ past) r unit.0 unit.1 root h) in
     let w = finish_walk t (x ∷ past) r e [] refl may h in
@@ -461,7 +447,7 @@ beg_serving s past u (Some r) is g =
     let t = begun s r in
     let h = head_boxed s past (event.Beg u) (answer.Unit r.req.id) g.boxed in
     let there = front_found u s.requests r is in
-    let unit = on_unit u r.req.device (and_parts (is_unit u r.req.device) (not r.served) (find_passes (waits_for u) s.requests r there)).0 in
+    let unit = on_unit u r.req.device (and_parts (is_unit u r.req.device) (not r.served) (found_passes (waits_for u) s.requests r there)).0 in
     let c : Carried s t (x ∷ past) (x ∷ past) = record { system = refl; there = there_as s t refl refl; titles = λ d k. title_as s t refl refl d; next = omega arith; origins = λ id k. refl; devices = λ p n. refl } in
     let all = all_rooted s t (x ∷ past) (x ∷ past) c (λ p n. refl) s.requests h.requests in
     let k = all_find (Rooted t (x ∷ past)) (waits_for u) s.requests r all there in
@@ -493,14 +479,9 @@ step_serving s past event.Tick c b g = aside_serving s (Head event.Tick (step s 
 
 -- Runs.
 
-left_of_record : (es : List Effect) (rs : List Rec) → effects_left (map Did es ++ flat rs) ≡ es
-left_of_record [] [] = refl
-left_of_record [] (r ∷ rs) = refl
-left_of_record (x ∷ es) rs = ap (λ (l : List Effect). x ∷ l) (left_of_record es rs)
-
 lawful_record : (past : List Item) (es : List Effect) (rs : List Rec) → Lawful past es [] → at_each handles_messages (later past (map Did es)) (flat rs) ≡ true → at_each handles_messages past (map Did es ++ flat rs) ≡ true
 lawful_record past [] rs h k = k
-lawful_record past (x ∷ es) rs h k = and_from _ _ (h.0 (map Did es ++ flat rs) (left_of_record es rs ∙ sym (append-nil es))) (lawful_record (Did x ∷ past) es rs h.1 k)
+lawful_record past (x ∷ es) rs h k = and_from _ _ (h.0 (map Did es ++ flat rs) (effects_left_is es rs ∙ sym (append-nil es))) (lawful_record (Did x ∷ past) es rs h.1 k)
 
 pub going_on : (s : State) (past : List Item) (e : Event) → Contains (enabled s) e → Base s → Further s past → Going s past → Going (step s e).after (later (Head e (step s e).answer ∷ past) (map Did (step s e).effects))
 going_on s past e c b f g =

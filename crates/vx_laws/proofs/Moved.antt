@@ -1,6 +1,6 @@
 -- Records in which nothing finishes, and those of $QIO and $QIOW: what finishes there was opened in the record, or a message was
 -- moved from it or to it before.
-use Rattle.std.proofs.Common.{◌≡◌, ℕ, List, [], ◌∷◌, Bool, true, false, not, ◌==◌, ◌&&◌, ◌||◌, nat_lt, length, Option, Some, None, Result, Ok, Err, refl}
+use Rattle.std.proofs.Common.{◌≡◌, ℕ, List, [], ◌∷◌, Bool, true, false, not, ◌==◌, ◌&&◌, nat_lt, length, Option, Some, None, Result, Ok, Err, refl, ◌++◌, sym, ap, subst, append-nil}
 use Rattle.std.specs.List.{filter, find, list_any}
 use Rattle.vx_base.specs.Pieces.{Channel, Request, Promised, Status, cleared}
 use Rattle.vx_base.specs.declared.cond.Cond.{Cond}
@@ -18,48 +18,24 @@ use Rattle.vx_base.specs.declared.request.Msg.{Msg}
 use Rattle.vx_base.specs.declared.request.Req.{Req}
 use Rattle.vx_base.specs.declared.routine.Entry.{Entry}
 use Rattle.vx_record.specs.State.{State}
-use Rattle.vx_record.specs.Parts.{Part, each, part_if}
+use Rattle.vx_record.specs.Parts.{Part, each, part_if, and_then}
 use Rattle.vx_record.specs.Charges.{is_direct, is_attention}
 use Rattle.vx_record.specs.Flags.{cell, flag_part, flag_where_named, wait_condition, awaited_at}
 use Rattle.vx_record.specs.Finish.{Ending, ending, is_read, fin_part, buf_part, status_of, iosb_part, done_flag_part, done_ast_part, finish, finish_found, this_request}
 use Rattle.vx_record.specs.Mailboxes.{mailbox_at, is_waiting_func, waits_at, mput_part, mget_part, message_of, read_ending, write_ending, received, write_done, is_attention_at, fire_attention, call_attention, store_message, hand_over, write_box, take_message, is_answered_now, attend}
 use Rattle.vx_record.specs.Requests.{Asked, new_request, opened_request, begun_on, transfer, new_attention, attention_opened, done_at_once, attention_on, asked_of, accepted, qio_tested, qiow_tested}
-use Rattle.vx_record.proofs.Lists.{either}
-use Rattle.std.proofs.Common.{◌++◌, sym, ap, subst, append-nil}
-use Rattle.std.proofs.lemmas.Bool.{eqb-true}
+use Rattle.vx_record.proofs.Lists.{either, all_append}
+use Rattle.std.proofs.lemmas.Bool.{eqb-true, or_right, or_left, eq-eqb}
 use Rattle.vx_base.specs.declared.effects.Effect.{Effect}
 use Rattle.vx_base.specs.declared.effects.Effect.TheVariants as effect
 use Rattle.vx_base.specs.declared.number.Id.{Id}
-use Rattle.vx_record.specs.Parts.{and_then}
-use Rattle.vx_record.proofs.Lists.{all_append, find_passes}
-use Rattle.std.proofs.Common.{◌≡◌, ℕ, List, [], ◌∷◌, Bool, true, false, not, ◌==◌, ◌&&◌, ◌||◌, nat_lt, length, Option, Some, None, Result, Ok, Err, refl}
-use Rattle.vx_record.specs.State.{State}
-use Rattle.vx_record.specs.Charges.{is_direct, is_attention}
-use Rattle.vx_record.specs.Requests.{Asked, new_request, opened_request, begun_on, transfer, new_attention, attention_opened, done_at_once, attention_on, asked_of, accepted, qio_tested, qiow_tested}
-use Rattle.std.proofs.Common.{◌++◌, sym, ap, subst}
-use Rattle.std.proofs.lemmas.Bool.{eqb-true}
-use Rattle.vx_record.proofs.Lists.{all_append}
-use Rattle.std.proofs.Common.{◌≡◌, ℕ, List, [], ◌∷◌, Bool, true, false, ◌==◌, Option, Some, None, refl}
-use Rattle.vx_base.specs.Pieces.{Request}
-use Rattle.vx_record.specs.Flags.{wait_condition}
-use Rattle.vx_record.specs.Finish.{finish, this_request}
-use Rattle.std.proofs.Common.{ap}
-use Rattle.std.proofs.Common.{ap}
-use Rattle.vx_laws.specs.Items.{Item}
-use Rattle.std.proofs.Common.{◌≡◌, List, [], ◌∷◌, Bool, true, Option, Some, None, refl}
-use Rattle.std.specs.List.{find}
-use Rattle.vx_record.specs.State.{State}
-use Rattle.std.proofs.Common.{◌++◌, ap, subst}
-use Rattle.std.proofs.Common.{ap}
-use Rattle.vx_laws.proofs.Calm.{is_fine, Fine}
 use Rattle.vx_laws.specs.Items.{Item, Did, effects_before, latest_call, is_cond, is_id}
+use Rattle.vx_laws.proofs.Calm.{is_fine, Fine}
 use Rattle.vx_laws.specs.Once.{ends_where, is_requesting, moves, is_done_first}
 use Rattle.vx_base.specs.declared.request.Body.{Body}
 use Rattle.vx_base.specs.declared.request.Body.TheVariants as body
-use Rattle.std.proofs.lemmas.Bool.{eq-eqb, eqb-true}
-use Rattle.vx_record.specs.Finish.{fin_part}
-use Rattle.vx_record.specs.Mailboxes.{mailbox_at}
-use Rattle.vx_record.specs.Charges.{is_direct, is_attention}
+use Rattle.vx_laws.proofs.Bools.{or_true}
+use Rattle.vx_base.proofs.First.{found_passes}
 
 abbrev pub AllWhere : List Item → List Effect → Type 0
 AllWhere past [] = Unit {0}
@@ -142,19 +118,15 @@ abbrev onto : List Effect → List Effect → List Effect
 onto before [] = before
 onto before (x ∷ xs) = onto (x ∷ before) xs
 
-or_last : (b : Bool) → (b || true) ≡ true
-or_last true = refl
-or_last false = refl
-
 has_more : (id : Id) (x : Effect) (before : List Effect) → Has id before → Has id (x ∷ before)
-has_more id x before h = rw h (or_last (moves id x))
+has_more id x before h = rw h (or_true (moves id x))
 
 has_onto : (id : Id) (before es : List Effect) → Has id before → Has id (onto before es)
 has_onto id before [] h = h
 has_onto id before (x ∷ xs) h = has_onto id (x ∷ before) xs (has_more id x before h)
 
 moved_one : (past : List Item) (x : Effect) → is_requesting (latest_call past) ≡ true → IsMoved (effects_before past) x → (rest : List Item) → ends_where past (Did x) rest ≡ true
-moved_one past (effect.Fin id c) asks k rest = rw (k.0, asks, k.1) (or_last (is_done_first past id))
+moved_one past (effect.Fin id c) asks k rest = rw (k.0, asks, k.1) (or_true (is_done_first past id))
 moved_one past x asks k rest = refl
 
 pub moved_where : (past : List Item) (es : List Effect) → is_requesting (latest_call past) ≡ true → AllMoved (effects_before past) es → AllWhere past es
@@ -183,7 +155,7 @@ finish_moved before s r e n h = subst (λ (l : List Effect). AllMoved before l) 
 found_moved : (before : List Effect) (s : State) (id : Id) (o : Option Request) (e : Ending) → find (this_request id) s.requests ≡ o → is_cond e.0.cond Cancelled ≡ false → Has id before → AllMoved before (finish_found s o e).effects
 found_moved before s id None e is n h = tt
 found_moved before s id (Some r) e is n h =
-    let same_id : id ≡ r.req.id = ap (λ (k : ℕ). let i : Id = record { 0 = k } in i) (sym (eqb-true r.req.id.0 id.0 (find_passes (this_request id) s.requests r is))) in
+    let same_id : id ≡ r.req.id = ap (λ (k : ℕ). let i : Id = record { 0 = k } in i) (sym (eqb-true r.req.id.0 id.0 (found_passes (this_request id) s.requests r is))) in
     finish_moved before s r e n (subst (λ (i : Id). Has i before) same_id h)
 
 write_done_moved : (before : List Effect) (s : State) (m : Msg) → Has m.id before → AllMoved before (write_done s m).effects
@@ -196,22 +168,16 @@ not_cancel r m (body.Text bytes) = either (λ (c : Cond). is_cond c Cancelled �
 pub itself : (id : Id) → is_id id id ≡ true
 itself id = eq-eqb id.0 id.0 refl
 
-or_first : (a b : Bool) → a ≡ true → (a || b) ≡ true
-or_first a b e = rw e refl
-
-or_second : (a b : Bool) → b ≡ true → (a || b) ≡ true
-or_second a b e = rw e (or_last a)
-
 received_moved : (before : List Effect) (s : State) (b : BoxNo) (m : Msg) (r : Request) → AllMoved before (received s b m r).effects
 received_moved before s b m r =
     let x = effect.MGet (mailbox_at s b).name m.id r.req.id in
-    (tt, finish_moved (x ∷ before) (mget_part s b m r.req.id).after r (read_ending r.req m m.body) (not_cancel r.req m m.body) (or_first (moves r.req.id x) (list_any (moves r.req.id) before) (or_second (is_id m.id r.req.id) (is_id r.req.id r.req.id) (itself r.req.id))))
+    (tt, finish_moved (x ∷ before) (mget_part s b m r.req.id).after r (read_ending r.req m m.body) (not_cancel r.req m m.body) (or_left (moves r.req.id x) (list_any (moves r.req.id) before) (or_right (is_id m.id r.req.id) (is_id r.req.id r.req.id) (itself r.req.id))))
 
 -- the write of a message that was received
 received_has : (before : List Effect) (s : State) (b : BoxNo) (m : Msg) (r : Request) → Has m.id (onto before (received s b m r).effects)
 received_has before s b m r =
     let x = effect.MGet (mailbox_at s b).name m.id r.req.id in
-    has_onto m.id (x ∷ before) (finish (mget_part s b m r.req.id).after r (read_ending r.req m m.body)).effects (or_first (moves m.id x) (list_any (moves m.id) before) (or_first (is_id m.id m.id) (is_id r.req.id m.id) (itself m.id)))
+    has_onto m.id (x ∷ before) (finish (mget_part s b m r.req.id).after r (read_ending r.req m m.body)).effects (or_left (moves m.id x) (list_any (moves m.id) before) (or_left (is_id m.id m.id) (is_id r.req.id m.id) (itself m.id)))
 
 call_attention_fine : (s : State) (b : BoxNo) (func : Func) → Fine false (call_attention s b func).effects
 call_attention_fine s b func = fine_each fire_attention (λ t a. (refl, (refl, tt))) (filter (is_attention_at b func) s.attention) s
@@ -249,7 +215,7 @@ transfer_moved : (before : List Effect) (s : State) (p : Pid) (q : Asked) (ch : 
 transfer_moved before s p q ch =
     let r = new_request s p q ch in
     let one = opened_request s p q ch in
-    let opens_it : Has r.req.id (onto before one.effects) = either (λ (a : Part). Has r.req.id (onto before a.effects)) (is_direct s ch.device) _ _ (or_first _ (list_any (moves r.req.id) before) (itself r.req.id)) (or_first _ (list_any (moves r.req.id) before) (itself r.req.id)) in
+    let opens_it : Has r.req.id (onto before one.effects) = either (λ (a : Part). Has r.req.id (onto before a.effects)) (is_direct s ch.device) _ _ (or_left _ (list_any (moves r.req.id) before) (itself r.req.id)) (or_left _ (list_any (moves r.req.id) before) (itself r.req.id)) in
     moved_both before one.effects (begun_on one.after r ch.device).effects
     (either (λ (a : Part). AllMoved before a.effects) (is_direct s ch.device) _ _ (tt, tt) (tt, tt))
     (begun_on_moved (onto before one.effects) one.after r ch.device opens_it)
@@ -280,7 +246,7 @@ pub qio_moved : (before : List Effect) (s : State) (p : Pid) (q : Asked) (r : Re
 qio_moved before s p q (Err c) = tt
 qio_moved before s p q (Ok to) = accepted_moved before s p q to.0 to.1
 
-awaited_none : (s : State) (p : Pid) (w : Wait) (o : Option Cond) → (awaited_at s p w o).effects ≡ []
+pub awaited_none : (s : State) (p : Pid) (w : Wait) (o : Option Cond) → (awaited_at s p w o).effects ≡ []
 awaited_none s p w None = refl
 awaited_none s p w (Some c) = refl
 

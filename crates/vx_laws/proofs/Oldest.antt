@@ -1,6 +1,6 @@
 -- The oldest read that waits at a mailbox is the first in the machine's list.
 use Rattle.std.proofs.Common.{◌≡◌, ℕ, zero, suc, ◌+◌, ◌<◌, ◌≤◌, List, [], ◌∷◌, Bool, true, false, cond, ◌==◌, ◌&&◌, ◌||◌, nat_lt, Option, Some, None, refl, sym, ap, ◌∙◌, subst, arith, inl, inr, IsTrue, get_or, is_some}
-use Rattle.std.proofs.lemmas.Bool.{eq-eqb, eqb-true, and_parts, cases_eq, ltb-true, ltb-false}
+use Rattle.std.proofs.lemmas.Bool.{eq-eqb, eqb-true, and_parts, cases_eq, ltb-true, ltb-false, false_from_ne_true}
 use Rattle.std.proofs.lemmas.Slice.Eq.{bytes_eq-Decides}
 use Rattle.std.specs.List.{AllByRecursion, find, list_any}
 use Rattle.std.specs.Prelude.{option_map, bytes_eq}
@@ -10,21 +10,23 @@ use Rattle.vx_base.specs.declared.number.BoxNo.{BoxNo}
 use Rattle.vx_base.specs.declared.number.Id.{Id}
 use Rattle.vx_base.specs.declared.request.Device.TheVariants as device
 use Rattle.vx_base.specs.declared.request.Device.{Device}
-use Rattle.vx_record.proofs.Lists.{either_by, all_weaker, all_from, all_find, false_from, apart_bools, none_passes, all_both, find_passes}
+use Rattle.vx_record.proofs.Lists.{either_by, all_weaker, all_from, all_find, apart_bools, none_passes, all_both, none_any, found_any}
 use Rattle.vx_record.specs.Channels.{is_unit_of}
 use Rattle.vx_record.specs.Finish.{this_request}
 use Rattle.vx_record.specs.Mailboxes.{mailbox_at, is_box, is_waiting_func, waits_at}
 use Rattle.vx_record.specs.Sound.{AreOrdered, request_id}
 use Rattle.vx_record.specs.State.{State, box_at, no_unit_decl}
 use Rattle.vx_record.proofs.Base.{Base}
-use Rattle.vx_laws.proofs.Boxed.{Origin, origin, origin_of, origin_on, IsThere, Rooted, Boxed, any_at}
+use Rattle.vx_laws.proofs.Boxed.{Origin, origin, origin_of, origin_on, IsThere, Rooted, Boxed}
 use Rattle.vx_record.proofs.Finds.{all_found}
 use Rattle.vx_laws.proofs.Passing.{mailbox_is}
-use Rattle.vx_laws.proofs.Served.{find_any, find_no}
 use Rattle.vx_laws.specs.Agrees.{device_title}
 use Rattle.vx_laws.specs.Boxes.{is_at, asks, reads_at, oldest_read}
 use Rattle.vx_laws.specs.Items.{Item, Head, Did}
 use Rattle.vx_laws.specs.Lives.{Life, life, lives, highest, is_outstanding, least_id, id_of}
+use Rattle.vx_laws.proofs.Bools.{same_bools}
+use Rattle.vx_base.proofs.First.{found_passes}
+use Rattle.std.proofs.lemmas.List.Folds.{list_any_at}
 
 -- The least id that passes.
 
@@ -60,22 +62,16 @@ not_above (Did x ∷ past) id g e = not_above past id g (sym (origin_on (Did x) 
 
 -- A device is the mailbox exactly where it has its name.
 
-bools_same : (a b : Bool) → (a ≡ true → b ≡ true) → (b ≡ true → a ≡ true) → a ≡ b
-bools_same true true f g = refl
-bools_same false false f g = refl
-bools_same true false f g = sym (f refl)
-bools_same false true f g = g refl
-
 titled : (s : State) (past : List Item) (b : BoxNo) (box : Mailbox) (d : Device) → box_at s b ≡ Some box → IsThere s d → Boxed s past → bytes_eq (device_title s d) box.name ≡ is_box b d
 titled s past b box (device.Unit u) is there h =
-    false_from _ (λ e. apart_bools _ (any_at (is_unit_of box.name) s.system.units u.0 no_unit_decl there e) (h.boxes b box is).unit)
+    false_from_ne_true _ (λ e. apart_bools _ (list_any_at (is_unit_of box.name) s.system.units u.0 no_unit_decl there e) (h.boxes b box is).unit)
 titled s past b box (device.Mailbox c) is there h = by_box (box_at s c) refl there
   where
     by_box : (o : Option Mailbox) → box_at s c ≡ o → IsTrue (is_some o) → bytes_eq (mailbox_at s c).name box.name ≡ (b.0 == c.0)
     by_box None e k = absurd (let never : false ≡ true = k in cc)
     by_box (Some other) e k =
         let name : (mailbox_at s c).name ≡ other.name = ap (λ (x : Mailbox). x.name) (mailbox_is s c other e) in
-        rw name (bools_same (bytes_eq other.name box.name) (b.0 == c.0)
+        rw name (same_bools (bytes_eq other.name box.name) (b.0 == c.0)
         (λ t. eq-eqb b.0 c.0 (sym ((h.boxes b box is).alone c other e ((bytes_eq-Decides other.name box.name).0 t))))
         (λ t. let same : other.name ≡ box.name = (let one : Some other ≡ Some box = sym e ∙ (ap (λ (n : ℕ). get_or s.boxes n None) (sym (eqb-true b.0 c.0 t)) ∙ is) in let two : other ≡ box = cc in ap (λ (x : Mailbox). x.name) two) in (bytes_eq-Decides other.name box.name).1 same))
 
@@ -139,24 +135,24 @@ oldest_is s past b box is base listed h = by_first (find (waits_at b) s.requests
     all_same : AllByRecursion (SameAs s past b box) s.requests
     all_same =
         all_weaker (λ (r : Request). Rooted s past r × (find (this_request r.req.id) s.requests ≡ Some r)) (SameAs s past b box)
-        (λ r k. (reads_is s past b box r is k.0 (sym (listed r.req.id) ∙ find_any (this_request r.req.id) s.requests r k.1) h, k.0)) s.requests
+        (λ r k. (reads_is s past b box r is k.0 (sym (listed r.req.id) ∙ found_any (this_request r.req.id) s.requests r k.1) h, k.0)) s.requests
         (all_both (Rooted s past) (λ (r : Request). find (this_request r.req.id) s.requests ≡ Some r) s.requests h.requests (itself s.requests 0 base.requests))
 
     by_first : (o : Option Request) → find (waits_at b) s.requests ≡ o → oldest_read past box.name ≡ option_map (λ (x : Request). x.req.id) o
     by_first None e =
         least_none (test_of past box) (highest past)
-        (λ k one low. false_from ((test_of past box) (id_of k))
+        (λ k one low. false_from_ne_true ((test_of past box) (id_of k))
         (λ t.
         let found = any_with (this_request (id_of k)) (λ (r : Request). (SameAs s past b box) r × (waits_at b r ≡ false)) s.requests (opened_here (id_of k) t)
-        (all_both (SameAs s past b box) (λ (r : Request). waits_at b r ≡ false) s.requests all_same (none_passes (waits_at b) s.requests (find_no (waits_at b) s.requests e))) in
+        (all_both (SameAs s past b box) (λ (r : Request). waits_at b r ≡ false) s.requests all_same (none_passes (waits_at b) s.requests (none_any (waits_at b) s.requests e))) in
         let same : found.0.req.id.0 ≡ k = eqb-true found.0.req.id.0 k found.1 in
         let yes : (test_of past box) found.0.req.id ≡ true = subst (λ (n : ℕ). (test_of past box) (id_of n) ≡ true) (sym same) t in
         apart_bools (waits_at b found.0) (sym found.2.0.0 ∙ yes) found.2.1))
     by_first (Some r) e =
         let mine = all_find (SameAs s past b box) (waits_at b) s.requests r all_same e in
-        let waits = find_passes (waits_at b) s.requests r e in
+        let waits = found_passes (waits_at b) s.requests r e in
         least_some (test_of past box) (highest past) r.req.id.0 mine.1.from (not_above past r.req.id _ mine.1.is) (mine.0 ∙ waits)
-        (λ k one low. false_from ((test_of past box) (id_of k))
+        (λ k one low. false_from_ne_true ((test_of past box) (id_of k))
         (λ t.
         let found = any_with (this_request (id_of k)) (λ (x : Request). (SameAs s past b box) x × (waits_at b x ≡ true → r.req.id.0 ≤ x.req.id.0)) s.requests (opened_here (id_of k) t)
         (all_both (SameAs s past b box) (λ (x : Request). waits_at b x ≡ true → r.req.id.0 ≤ x.req.id.0) s.requests all_same (first_of_all (waits_at b) 0 s.next s.requests r base.requests e)) in

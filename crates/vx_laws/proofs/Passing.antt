@@ -16,7 +16,7 @@ use Rattle.vx_base.specs.declared.number.Pid.{Pid}
 use Rattle.vx_base.specs.declared.number.UnitNo.{UnitNo}
 use Rattle.vx_base.specs.declared.request.Device.TheVariants as device
 use Rattle.vx_base.specs.declared.request.Msg.{Msg}
-use Rattle.vx_record.proofs.Lists.{either, either_by, all_less, false_from, apart_bools, ordered_below, ordered_less}
+use Rattle.vx_record.proofs.Lists.{either, either_by, all_less, apart_bools, ordered_below, ordered_less}
 use Rattle.vx_record.specs.Asts.{charged_ast}
 use Rattle.vx_record.specs.Channels.{is_box_of, is_unit_of}
 use Rattle.vx_record.specs.Finish.{Ending, is_read, this_request, fin_part, with_stored_bytes, buf_part, status_of, iosb_part, done_ast_part, finish, finish_found}
@@ -26,13 +26,15 @@ use Rattle.vx_record.specs.Parts.{Part, nothing, and_then}
 use Rattle.vx_record.specs.Sound.{AreOrdered, request_id}
 use Rattle.vx_record.specs.State.{State, box_at, no_unit_decl}
 use Rattle.vx_laws.proofs.Aside.{IsAside, Aside, PartAside, idle, changed, then, named_flag_aside, status_aside, que_aside}
-use Rattle.vx_laws.proofs.Boxed.{any_index, Origin, origin, origin_on, IsThere, Rooted, Boxed, Carried, carry, all_rooted, there_as, title_as, any_at, aside_boxed}
+use Rattle.vx_laws.proofs.Boxed.{any_index, Origin, origin, origin_on, IsThere, Rooted, Boxed, Carried, carry, all_rooted, there_as, title_as, aside_boxed}
 use Rattle.vx_laws.proofs.Kept.{later_both}
 use Rattle.vx_laws.specs.Agrees.{as_stored, device_title}
 use Rattle.vx_laws.specs.Boxes.{this_stored, stored}
 use Rattle.vx_laws.specs.Items.{Item, Did, Calling, later, latest_call, effects_left, is_cond}
 use Rattle.vx_laws.specs.Lives.{Life, life, lives, named_in}
 use Rattle.vx_laws.specs.MessageLaw.{handles_messages, is_stored_nowhere}
+use Rattle.std.proofs.lemmas.Bool.{false_from_ne_true}
+use Rattle.std.proofs.lemmas.List.Folds.{list_any_at}
 
 -- An effect is as the law asks, by what is left of its record.
 abbrev pub Right : List Item → Effect → List Effect → Type 0
@@ -202,7 +204,7 @@ lives_owner P p (Some l) e k = k l (let same : Some l.p ≡ Some p = e in cc)
 
 unit_no_box : (s : State) (past : List Item) (name : List ℕ) → list_any (is_unit_of name) s.system.units ≡ true → Boxed s past → list_any (is_box_of name) s.boxes ≡ false
 unit_no_box s past name unit h =
-    false_from _ (λ e.
+    false_from_ne_true _ (λ e.
     let at = any_index (is_box_of name) s.boxes None e in
     by_box (record { 0 = at.0 }) (get_or s.boxes at.0 None) refl at.1)
   where
@@ -216,7 +218,7 @@ unit_no_box s past name unit h =
 pub unit_stores : (s : State) (past : List Item) (u : UnitNo) → IsThere s (device.Unit u) → Boxed s past → stored past (device_title s (device.Unit u)) ≡ []
 unit_stores s past u there h =
     let name = device_title s (device.Unit u) in
-    h.others name (unit_no_box s past name (any_at (is_unit_of name) s.system.units u.0 no_unit_decl there ((bytes_eq-Decides name name).1 refl)) h)
+    h.others name (unit_no_box s past name (list_any_at (is_unit_of name) s.system.units u.0 no_unit_decl there ((bytes_eq-Decides name name).1 refl)) h)
 
 -- A message leaves a mailbox.
 

@@ -1,6 +1,7 @@
 -- How each event turns what the frames of each process wait for, by its head.
-use Rattle.std.proofs.Common.{Bool, Err, List, None, Ok, Option, Result, Some, [], ap, arith, cond, false, get_or, length, nat_lt, refl, set, subst, suc, sym, true, zero, ℕ, ◌%◌, ◌+◌, ◌-◌, ◌<◌, ◌==◌, ◌^◌, ◌||◌, ◌∙◌, ◌∷◌, ◌≡◌, ◌≢◌, ◌≤◌}
-use Rattle.std.proofs.lemmas.Bool.{eq-eqb, eqb-true, ltb-false}
+use Rattle.std.proofs.Common.{Bool, Err, List, None, Ok, Option, Result, Some, [], ap, arith, cond, false, get_or-set_other, get_or-set_same, nat_lt, refl, subst, sym, true, ℕ, ◌%◌, ◌+◌, ◌-◌, ◌==◌, ◌^◌, ◌||◌, ◌∙◌, ◌∷◌, ◌≡◌, ◌≢◌, ◌≤◌}
+use Rattle.std.proofs.lemmas.Bool.{eq-eqb, eqb-true, ltb-false, or_parts}
+use Rattle.std.proofs.lemmas.List.{get_or_default}
 use Rattle.vx_base.specs.Cond.{number_of}
 use Rattle.vx_base.specs.Modes.{inner}
 use Rattle.vx_base.specs.Pieces.{Channel, Queued}
@@ -30,7 +31,8 @@ use Rattle.vx_image.specs.declared.stop.Stop.{Stop}
 use Rattle.vx_record.proofs.Apart.{Here, here_after}
 use Rattle.vx_record.proofs.Steps.{test_made}
 use Rattle.vx_record.proofs.Told.{accepted_after}
-use Rattle.vx_laws.proofs.Awaited.{Keeps, Plainly, accepted_keeps, drop_handlers_keeps, frame_waits, keep_moved, keep_none, keep_same, service_plainly, waits_in, waits_of}
+use Rattle.vx_laws.proofs.Awaited.{WaitsKept, frame_waits, waits_none, waits_of_kept, waits_plainly}
+use Rattle.vx_laws.proofs.Untouched.{Keeps, Plainly, accepted_keeps, drop_handlers_keeps, keep_moved, keep_none, keep_same, keep_waits, newcomer, waits_of}
 use Rattle.vx_laws.proofs.CalmServices.{call_turn, leave_all_state, no_turn, refusal_turn, test_is, turns}
 use Rattle.vx_laws.proofs.Events.{some_moved, start_turn, turn_is}
 use Rattle.vx_laws.proofs.Kept.{made_on}
@@ -40,7 +42,7 @@ use Rattle.vx_laws.specs.Frames.{Clears, Enters, Returns, Stays, Turn, ast_turn,
 use Rattle.vx_laws.specs.Items.{Item}
 use Rattle.vx_laws.specs.Lives.{life}
 use Rattle.vx_laws.specs.Values.{wait_for, wait_of}
-use Rattle.vx_record.proofs.Lists.{either, either_by, or_none}
+use Rattle.vx_record.proofs.Lists.{either, either_by}
 use Rattle.vx_record.specs.Asts.{is_inside, new_frame, with_frame}
 use Rattle.vx_record.specs.Charges.{is_same}
 use Rattle.vx_record.specs.Control.{named_process, process_test, with_wake}
@@ -53,6 +55,7 @@ use Rattle.vx_record.specs.Services.{asked, at_once, number, routine, service_of
 use Rattle.vx_record.specs.State.{IsProcess, Process, State, change, current, image_of, nobody, pid, process_at, with_top}
 use Rattle.vx_record.specs.declared.served.Served.TheVariants.{Answered, Waits}
 use Rattle.vx_record.specs.declared.served.Served.{Served}
+use Rattle.vx_laws.proofs.Bools.{either_same, by_bool}
 
 -- what a turn makes of waits
 abbrev pub shifted : Turn → List (Option Wait) → List (Option Wait)
@@ -84,37 +87,16 @@ pub record EventWaits (past : List Item) (s : State) (e : Event) (a : Answer) (t
 
 -- A change of one process.
 
-by_bool : (P : Bool → Type 0) (b : Bool) → (b ≡ true → P true) → (b ≡ false → P false) → P b
-by_bool P true f g = f refl
-by_bool P false f g = g refl
-
-set_at : (l : List Process) (i : ℕ) (a : Process) → i < length l → waits_in (set l i a) i ≡ waits_of a.frames
-set_at [] i a h = absurd (omega (arith, h))
-set_at (x ∷ xs) zero a h = refl
-set_at (x ∷ xs) (suc i) a h = set_at xs i a (omega (arith, h))
-
-set_apart : (l : List Process) (i j : ℕ) (a : Process) → (i ≡ j → ⊥) → waits_in (set l i a) j ≡ waits_in l j
-set_apart [] i j a n = refl
-set_apart (x ∷ xs) zero zero a n = absurd (n refl)
-set_apart (x ∷ xs) zero (suc j) a n = refl
-set_apart (x ∷ xs) (suc i) zero a n = refl
-set_apart (x ∷ xs) (suc i) (suc j) a n = set_apart xs i j a (λ e. n (ap suc e))
-
-made_at : (l : List Process) (i : ℕ) → i < length l → waits_in l i ≡ waits_of (get_or l i nobody).frames
-made_at [] i h = absurd (omega (arith, h))
-made_at (x ∷ xs) zero h = refl
-made_at (x ∷ xs) (suc i) h = made_at xs i (omega (arith, h))
-
 pub made_waits : (s : State) (p : Pid) → IsProcess s p → frame_waits s p ≡ waits_of (process_at s p).frames
-made_waits s p made = made_at s.procs (p.0 - 1) (omega (arith, made.above, made.within))
+made_waits s p made = ap (λ (pr : Process). waits_of pr.frames) (get_or_default s.procs (p.0 - 1) newcomer nobody (omega (arith, made.above, made.within)))
 
 pub turn_change : (s : State) (p : Pid) (f : Process → Process) (g : List (Option Wait) → List (Option Wait)) → IsProcess s p → waits_of (f (process_at s p)).frames ≡ g (waits_of (process_at s p).frames) → (q : Pid) → 1 ≤ q.0 → frame_waits (change s p f) q ≡ cond (is_same p q) (g (frame_waits s q)) (frame_waits s q)
 turn_change s p f g made e q above =
     by_bool (λ (b : Bool). frame_waits (change s p f) q ≡ cond b (g (frame_waits s q)) (frame_waits s q)) (p.0 == q.0)
     (λ t. let is : p ≡ q = ap (λ (n : ℕ). pid n) (eqb-true p.0 q.0 t) in
     subst (λ (r : Pid). frame_waits (change s p f) r ≡ g (frame_waits s r)) is
-    (set_at s.procs (p.0 - 1) (f (process_at s p)) (omega (arith, made.above, made.within)) ∙ (e ∙ ap g (sym (made_waits s p made)))))
-    (λ n. set_apart s.procs (p.0 - 1) (q.0 - 1) (f (process_at s p)) (λ e. let same : (p.0 == q.0) ≡ true = eq-eqb p.0 q.0 (omega (arith, made.above, e)) in cc))
+    (ap (λ (pr : Process). waits_of pr.frames) (get_or-set_same s.procs (p.0 - 1) (f (process_at s p)) newcomer (omega (arith, made.above, made.within))) ∙ (e ∙ ap g (sym (made_waits s p made)))))
+    (λ n. ap (λ (pr : Process). waits_of pr.frames) (get_or-set_other s.procs (p.0 - 1) (q.0 - 1) (f (process_at s p)) newcomer (λ e. let same : (p.0 == q.0) ≡ true = eq-eqb p.0 q.0 (omega (arith, made.above, above, e)) in cc)))
 
 -- Calls.
 
@@ -130,11 +112,7 @@ pub record ServiceWaits (s : State) (p : Pid) (a : Args) (v : Service) (x : Serv
   pub waits : (q : Pid) → 1 ≤ q.0 → frame_waits t q ≡ served_shift p a v x q (frame_waits s q)
   pub fit : ServedFits a v x
 
-pub either_same : {A : Type 0} (b : Bool) (x : A) → cond b x x ≡ x
-either_same true x = refl
-either_same false x = refl
-
-answered_waits : (s : State) (p : Pid) (a : Args) (v : Service) (c : Cond) (t : State) → call_turn v c ≡ Stays → Keeps s t → ServiceWaits s p a v (Answered c) t
+answered_waits : (s : State) (p : Pid) (a : Args) (v : Service) (c : Cond) (t : State) → call_turn v c ≡ Stays → WaitsKept s t → ServiceWaits s p a v (Answered c) t
 answered_waits s p a v c t n k = record { waits = λ q above. k.waits (q.0 - 1) ∙ sym (rw n (either_same (is_same (turned_by p a v) q) (frame_waits s q))); fit = tt }
 
 top_waits : (w : Option Wait) (fs : List Frame) → waits_of (with_top (λ f. record f { wait = w }) fs) ≡ with_first w (waits_of fs)
@@ -143,28 +121,28 @@ top_waits w (f ∷ fs) = refl
 
 paused_waits : (s u : State) (p : Pid) (a : Args) (v : Service) (w : Wait) → IsProcess u p → wait_for a v ≡ Some w → IsFit (Some w) → Keeps s u → ServiceWaits s p a v Waits (change u p (with_wait (Some w)))
 paused_waits s u p a v w made is fit k = record {
-  waits = λ q above. turn_change u p (with_wait (Some w)) (with_first (Some w)) made (top_waits (Some w) (process_at u p).frames) q above ∙ rw (k.waits (q.0 - 1), is) refl;
+  waits = λ q above. turn_change u p (with_wait (Some w)) (with_first (Some w)) made (top_waits (Some w) (process_at u p).frames) q above ∙ rw (keep_waits k (q.0 - 1), is) refl;
   fit = rw is fit;
 }
 
 -- a wait that is tried
 tried_waits : (s u : State) (p : Pid) (a : Args) (v : Service) (w : Wait) (o : Option Cond) → turns v ≡ false → IsProcess u p → wait_for a v ≡ Some w → IsFit (Some w) → Keeps s u → ServiceWaits s p a v (awaited_at u p w o).answer (awaited_at u p w o).after
 tried_waits s u p a v w None n made is fit k = paused_waits s u p a v w made is fit k
-tried_waits s u p a v w (Some c) n made is fit k = answered_waits s p a v c u (no_turn v c n) k
+tried_waits s u p a v w (Some c) n made is fit k = answered_waits s p a v c u (no_turn v c n) (waits_of_kept k)
 
 -- a flag test, and then that
 waiting_waits : (s : State) (p : Pid) (a : Args) (v : Service) (efn : ℕ) (w : Wait) → turns v ≡ false → IsProcess s p → wait_for a v ≡ Some w → IsFit (Some w) → let o = at_flag s p efn (refused_wait s) (waits_on s p w) in ServiceWaits s p a v o.answer o.after
 waiting_waits s p a v efn w n made is fit =
-    either (λ (o : Outcome Served). ServiceWaits s p a v o.answer o.after) (nat_lt 127 efn) (refused_wait s IllEfc) (at_named (refused_wait s) (waits_on s p w) (cell s p efn)) (answered_waits s p a v IllEfc s (no_turn v IllEfc n) (keep_none s)) (named (cell s p efn))
+    either (λ (o : Outcome Served). ServiceWaits s p a v o.answer o.after) (nat_lt 127 efn) (refused_wait s IllEfc) (at_named (refused_wait s) (waits_on s p w) (cell s p efn)) (answered_waits s p a v IllEfc s (no_turn v IllEfc n) (waits_none s)) (named (cell s p efn))
   where
     named : (o : Option Cell) → let x = at_named (refused_wait s) (waits_on s p w) o in ServiceWaits s p a v x.answer x.after
-    named None = answered_waits s p a v UnasEfc s (no_turn v UnasEfc n) (keep_none s)
+    named None = answered_waits s p a v UnasEfc s (no_turn v UnasEfc n) (waits_none s)
     named (Some c) = tried_waits s s p a v w (wait_condition s p w) n made is fit (keep_none s)
 
 abbrev ServesWaits : State → Pid → Args → Service → Outcome Served → Type 0
 ServesWaits s p a v o = ServiceWaits s p a v o.answer o.after
 
-plain_waits : (s : State) (p : Pid) (a : Args) (v : Service) (o : Outcome Served) → turns v ≡ false → Plainly s o → ServesWaits s p a v o
+plain_waits : (s : State) (p : Pid) (a : Args) (v : Service) (o : Outcome Served) → turns v ≡ false → Plainly WaitsKept s o → ServesWaits s p a v o
 plain_waits s p a v o n k = subst (λ (x : Served). ServiceWaits s p a v x o.after) (sym k.is) (answered_waits s p a v k.cond o.after (no_turn v k.cond n) k.keeps)
 
 -- frames turned by a service
@@ -173,7 +151,7 @@ turned_waits s p q a v f tu who is made e = record { waits = λ r above. rw (who
 
 -- what is kept after
 after_keeps : (s t u : State) (p : Pid) (a : Args) (v : Service) (x : Served) → ServiceWaits s p a v x t → Keeps t u → ServiceWaits s p a v x u
-after_keeps s t u p a v x h k = record { waits = λ q above. k.waits (q.0 - 1) ∙ h.waits q above; fit = h.fit }
+after_keeps s t u p a v x h k = record { waits = λ q above. keep_waits k (q.0 - 1) ∙ h.waits q above; fit = h.fit }
 
 exited_is : (s : State) (p : Pid) (code : ℕ) → (exited s p code).after ≡ change s p (without_frames code)
 exited_is s p code = leave_all_state (process_at s p).frames (change s p (without_frames code))
@@ -186,17 +164,17 @@ deleted_waits s p q a who made =
     after_keeps s b (deleted_by s q).after p a service.DelPrc (Answered Normal) one (drop_handlers_keeps b q any_handler)
 
 delprc_waits : (s : State) (p : Pid) (a : Args) (r : Result Pid Cond) → process_test s p (number a.a0) ≡ r → ServesWaits s p a service.DelPrc (at_once (at_tested s (deleted_by s) r))
-delprc_waits s p a (Err c) is = answered_waits s p a service.DelPrc c s (refusal_turn s p (number a.a0) c is) (keep_none s)
+delprc_waits s p a (Err c) is = answered_waits s p a service.DelPrc c s (refusal_turn s p (number a.a0) c is) (waits_none s)
 delprc_waits s p a (Ok q) is = deleted_waits s p q a (test_is s p (number a.a0) q is) (test_made s p (number a.a0) q is)
 
 block_fits : (q : Asked) → is_bad q ≡ false → q.iosb ≤ 32
-block_fits q e = ltb-false 32 q.iosb (or_none _ _ e).0
+block_fits q e = ltb-false 32 q.iosb (or_parts _ _ e).0
 
 test_fits : (s : State) (p : Pid) (q : Asked) (to : Cell × Channel) → request_test s p q ≡ Ok to → q.iosb ≤ 32
 test_fits s p q to = either_by (λ (r : Result (Cell × Channel) Cond). r ≡ Ok to → q.iosb ≤ 32) (is_bad q) _ _ (λ t e. cc) (λ f e. block_fits q f)
 
 qiow_waits : (s : State) (p : Pid) (a : Args) (r : Result (Cell × Channel) Cond) → request_test s p (asked s p a) ≡ r → Here s p → ServesWaits s p a service.QioW (qiow_tested s p (asked s p a) r)
-qiow_waits s p a (Err c) is here = answered_waits s p a service.QioW c s (no_turn service.QioW c refl) (keep_none s)
+qiow_waits s p a (Err c) is here = answered_waits s p a service.QioW c s (no_turn service.QioW c refl) (waits_none s)
 qiow_waits s p a (Ok to) is here =
     let u = (accepted s p (asked s p a) to.0 to.1).after in
     let w = wait.Synch (number a.a0) (number a.a3) in
@@ -207,11 +185,11 @@ pub service_waits : (s : State) (p : Pid) (a : Args) (v : Service) → Here s p 
 service_waits s p a service.CmExec here =
     either (λ (o : Outcome Cond). ServiceWaits s p a service.CmExec (Answered o.answer) o.after) (is_inside (current s p) || ((process_at s p).privs.cmexec || (process_at s p).privs.cmkrnl)) _ _
     (turned_waits s p p a service.CmExec (with_frame (new_frame s p kind.Change (inner (current s p) Exec) (routine s p a.a0 (number a.a1)) 0)) (Enters (record { ast = None; mode = Exec })) refl refl here.made refl)
-    (answered_waits s p a service.CmExec NoPriv s refl (keep_none s))
+    (answered_waits s p a service.CmExec NoPriv s refl (waits_none s))
 service_waits s p a service.CmKrnl here =
     either (λ (o : Outcome Cond). ServiceWaits s p a service.CmKrnl (Answered o.answer) o.after) (is_inside (current s p) || (process_at s p).privs.cmkrnl) _ _
     (turned_waits s p p a service.CmKrnl (with_frame (new_frame s p kind.Change Kernel (routine s p a.a0 (number a.a1)) 0)) (Enters (record { ast = None; mode = Kernel })) refl refl here.made refl)
-    (answered_waits s p a service.CmKrnl NoPriv s refl (keep_none s))
+    (answered_waits s p a service.CmKrnl NoPriv s refl (waits_none s))
 service_waits s p a service.Exit here = subst (ServiceWaits s p a service.Exit (Answered Normal)) (sym (exited_is s p (number a.a0))) (turned_waits s p p a service.Exit (without_frames (number a.a0)) Clears refl refl here.made refl)
 service_waits s p a service.DelPrc here = delprc_waits s p a (process_test s p (number a.a0)) refl
 service_waits s p a service.WaitFr here = waiting_waits s p a service.WaitFr (number a.a0) (wait.Flags (number a.a0) (2 ^ (number a.a0 % 32)) false) refl here.made refl tt
@@ -219,11 +197,11 @@ service_waits s p a service.WflOr here = waiting_waits s p a service.WflOr (numb
 service_waits s p a service.WflAnd here = waiting_waits s p a service.WflAnd (number a.a0) (wait.Flags (number a.a0) (number a.a1) true) refl here.made refl tt
 service_waits s p a service.Synch here =
     either_by (λ (o : Outcome Served). ServesWaits s p a service.Synch o) (nat_lt 32 (number a.a1)) (refused_wait s BadParam) (at_flag s p (number a.a0) (refused_wait s) (waits_on s p (wait.Synch (number a.a0) (number a.a1))))
-    (λ y. answered_waits s p a service.Synch BadParam s refl (keep_none s)) (λ f. waiting_waits s p a service.Synch (number a.a0) (wait.Synch (number a.a0) (number a.a1)) refl here.made refl (ltb-false 32 (number a.a1) f))
+    (λ y. answered_waits s p a service.Synch BadParam s refl (waits_none s)) (λ f. waiting_waits s p a service.Synch (number a.a0) (wait.Synch (number a.a0) (number a.a1)) refl here.made refl (ltb-false 32 (number a.a1) f))
 service_waits s p a service.QioW here = qiow_waits s p a (request_test s p (asked s p a)) refl here
 service_waits s p a service.Hiber here =
-    either (λ (o : Outcome Served). ServesWaits s p a service.Hiber o) (process_at s p).wake_pending _ _ (answered_waits s p a service.Hiber Normal (change s p (with_wake false)) refl (keep_same s p (with_wake false) refl)) (paused_waits s s p a service.Hiber wait.Hiber here.made refl tt (keep_none s))
-service_waits s p a v here = plain_waits s p a v (service_of s p a v) refl (service_plainly s p a v refl)
+    either (λ (o : Outcome Served). ServesWaits s p a service.Hiber o) (process_at s p).wake_pending _ _ (answered_waits s p a service.Hiber Normal (change s p (with_wake false)) refl (waits_of_kept (keep_same s p (with_wake false) refl))) (paused_waits s s p a service.Hiber wait.Hiber here.made refl tt (keep_none s))
+service_waits s p a v here = plain_waits s p a v (service_of s p a v) refl (waits_plainly s p a v refl)
 
 -- RUN.
 
@@ -231,11 +209,11 @@ abbrev RunWaits : List Item → State → Pid → Outcome Answer → Type 0
 RunWaits past s p o = EventWaits past s (event.Run p) o.answer o.after
 
 before_keeps : (past : List Item) (s t : State) (e : Event) (a : Answer) (u : State) → Keeps s t → EventWaits past t e a u → EventWaits past s e a u
-before_keeps past s t e a u k h = record { waits = λ q above. h.waits q above ∙ rw (k.waits (q.0 - 1)) refl; fit = h.fit }
+before_keeps past s t e a u k h = record { waits = λ q above. h.waits q above ∙ rw (keep_waits k (q.0 - 1)) refl; fit = h.fit }
 
 served_waits : (past : List Item) (s : State) (p : Pid) (c : Call) (o : Outcome Served) (x : Served) → ServiceWaits s p c.args c.service x o.after → RunWaits past s p (served_call p c o x)
 served_waits past s p c o (Answered y) h = record {
-  waits = λ q above. (keep_same o.after p (with_r0 (number_of y)) refl).waits (q.0 - 1) ∙ (h.waits q above ∙ rw (turn_is past p c y) refl);
+  waits = λ q above. keep_waits (keep_same o.after p (with_r0 (number_of y)) refl) (q.0 - 1) ∙ (h.waits q above ∙ rw (turn_is past p c y) refl);
   fit = tt;
 }
 served_waits past s p c o Waits h = record { waits = h.waits; fit = h.fit }

@@ -1,74 +1,37 @@
 -- The phases of processes and their channels: what leaves them as they were, and how phases go on.
-use Rattle.std.proofs.Common.{◌∙◌, ◌≡◌, ℕ, List, [], ◌∷◌, Bool, true, false, cond, not, ◌==◌, ◌&&◌, nat_lt, nat_le, length, Option, Some, None, Result, Ok, Err, is_some, position, is_none, refl}
-use Rattle.std.specs.List.{filter, find, list_any}
-use Rattle.vx_base.specs.Modes.{outer, is_kernel}
-use Rattle.vx_base.specs.Pieces.{Queued, Channel, Handler, Request, Promised, Timer, Alarm, OfTimer, OfWake, Attention, Mailbox, Status, cleared}
+use Rattle.std.proofs.Common.{◌∙◌, ◌≡◌, ℕ, List, [], ◌∷◌, true, false, nat_lt, Option, Some, None, Result, Ok, Err, refl, ◌-◌, ◌+◌, ap, ◌%◌, ◌^◌, ◌||◌, sym, subst}
+use Rattle.vx_base.specs.Modes.{inner}
+use Rattle.vx_base.specs.Pieces.{Queued, Channel, Request}
 use Rattle.vx_base.specs.declared.call.Args.{Args}
-use Rattle.vx_base.specs.declared.call.Target.{Target}
 use Rattle.vx_base.specs.declared.cond.Cond.{Cond}
-use Rattle.vx_base.specs.declared.cond.Cond.TheVariants.{Cancel as Cancelled, EndOfFile}
+use Rattle.vx_base.specs.declared.cond.Cond.TheVariants.{BadParam}
 use Rattle.vx_base.specs.declared.effects.Cell.{Cell}
-use Rattle.vx_base.specs.declared.effects.Cell.TheVariants.{Local, Common}
 use Rattle.vx_base.specs.declared.frame.Frame.{Frame}
 use Rattle.vx_base.specs.declared.frame.FrameKind.TheVariants as kind
 use Rattle.vx_base.specs.declared.frame.Phase.{Phase}
 use Rattle.vx_base.specs.declared.frame.Phase.TheVariants as phase
 use Rattle.vx_base.specs.declared.frame.Wait.{Wait}
 use Rattle.vx_base.specs.declared.mode.Mode.{Mode}
-use Rattle.vx_base.specs.declared.number.BoxNo.{BoxNo}
 use Rattle.vx_base.specs.declared.number.Pid.{Pid}
-use Rattle.vx_base.specs.declared.request.Device.{Device}
-use Rattle.vx_base.specs.declared.request.Device.TheVariants as device
-use Rattle.vx_base.specs.declared.request.Func.{Func}
-use Rattle.vx_base.specs.declared.request.Func.TheVariants.{ReadAttn, WrtAttn}
-use Rattle.vx_base.specs.declared.request.Msg.{Msg}
-use Rattle.vx_base.specs.declared.request.Req.{Req}
 use Rattle.vx_base.specs.declared.routine.Entry.{Entry}
 use Rattle.vx_base.specs.declared.service.Service.{Service}
-use Rattle.vx_base.specs.declared.service.Service.TheVariants.{SetEf, ClrEf, ReadEf, WaitFr, WflOr, WflAnd, AscEfc, DacEfc, DlcEfc, DclAst, SetAst, CmExec, CmKrnl, SetImr, CanTim, SchdWk, CanWak, Hiber, Wake, Suspnd, Resume, ForceX, CrePrc, DelPrc, Exit, DclExh, CanExh, Assign, Dassgn, CreMbx, DelMbx, Qio, QioW, Synch, Cancel, GetTim}
-use Rattle.vx_record.specs.State.{State, process_at, change, current}
-use Rattle.vx_record.specs.Parts.{Part, Outcome, nothing, each, part_if, refused, refused_value, at_tested, part_of}
-use Rattle.vx_record.specs.Charges.{exceeds, ast_need, timer_need, is_direct, is_attention}
-use Rattle.vx_record.specs.Flags.{cell, flag_part, flag_where_named, at_named, at_flag, put_flag_at, readef_at, readef, is_common, wants_prmceb}
-use Rattle.vx_record.specs.Finish.{Ending, ending, is_read, fin_part, buf_part, status_of, iosb_part, done_flag_part, done_ast_part, finish, finish_found, this_request}
-use Rattle.vx_record.specs.Mailboxes.{mailbox_at, is_waiting_func, waits_at, this_message, mput_part, mget_part, mcut_part, message_of, read_ending, write_ending, received, write_done, is_attention_at, fire_attention, call_attention, store_message, hand_over, write_box, take_message, read_box, is_answered_now, attend}
-use Rattle.vx_record.specs.Channels.{channel_test, box_named, device_named, with_channel, free_channel_of, assign_at, assign_to, assign, is_bad_box, new_box, make_box, make_box_in, find_or_create, crembx, marked_box, delmbx_on, delmbx_at, is_assigned, goes_unused, box_gone, swept_device, swept_box, free_channel}
-use Rattle.vx_record.specs.Cancel.{mark_part, withdraw, cancelled_request, cancel_request, is_request_on, is_attention_on, drop_attention, cancel_channel, cancel_at, dassgn_at}
-use Rattle.vx_record.specs.Requests.{attention_set, Asked, request_test, new_request, opened_request, begun_on, transfer, new_attention, attention_opened, done_at_once, attention_on, accepted, qio_tested}
-use Rattle.vx_record.specs.Control.{process_test, changed_process, with_wake, with_suspension, forced, creprc}
-use Rattle.vx_record.specs.Timers.{drop_timer, drop_timers, setimr_at, setimr, is_cancelled_timer, scheduled, is_wake_for, unscheduled, que_timer, fire_timer, fired, fire, is_due, at_time, next_time, tick}
-use Rattle.vx_record.specs.Rundown.{is_handler_of, is_handler_with, drop_handlers, any_handler, cancel_found, cancel_handlers, cancel_one, free_one, is_timer_in, is_wake_by, cancel_modes, release}
-use Rattle.vx_record.specs.Services.{number, place, access_mode, text, routine_or_none, decl_place, asked, valued_at, numbered_at, service_of}
-use Rattle.vx_record.specs.Events.{moved_to}
+use Rattle.vx_base.specs.declared.service.Service.TheVariants.{WaitFr, WflOr, WflAnd, CmExec, CmKrnl, Hiber, DelPrc, Exit, Assign, Dassgn, CreMbx, QioW, Synch}
+use Rattle.vx_record.specs.State.{State, process_at, change, current, Process, image_of, unit_at, top_mode}
+use Rattle.vx_record.specs.Parts.{Outcome, at_tested}
+use Rattle.vx_record.specs.Flags.{at_flag, awaited_at, waits_on, refused_wait, wait_condition, with_wait}
+use Rattle.vx_record.specs.Finish.{finish}
+use Rattle.vx_record.specs.Channels.{channel_test}
+use Rattle.vx_record.specs.Requests.{Asked, request_test, accepted, qiow_tested, begun, unit_ending, with_unit}
+use Rattle.vx_record.specs.Control.{process_test, with_wake}
+use Rattle.vx_record.specs.Timers.{tick}
+use Rattle.vx_record.specs.Rundown.{any_handler, without_ast, leave_all, exited, without_frames, leaving, deleted_by, named_for_deletion}
+use Rattle.vx_record.specs.Services.{number, place, asked, service_of, routine}
+use Rattle.vx_record.specs.Events.{moved_to, with_r0, put_back, below_top, resumed_with, uses_wake, returned, returned_from, r0_of, served_call, moved_behind, run_on, reader, run_frame, run, or_normal, started, delivered, beg, don}
 use Rattle.vx_record.specs.declared.served.Served.{Served}
-use Rattle.vx_record.specs.declared.served.Served.TheVariants.{Answered}
-use Rattle.vx_base.specs.Channels.{channel_at, channels_of}
+use Rattle.vx_record.specs.declared.served.Served.TheVariants.{Answered, Waits}
 use Rattle.vx_record.proofs.Lists.{either}
-use Rattle.std.proofs.Common.{◌-◌, ◌++◌, ap, zero, suc, get_or, set}
-use Rattle.vx_record.specs.State.{nobody}
-use Rattle.vx_record.specs.Rundown.{drop_asts}
-use Rattle.vx_base.specs.Lists.{less, amend}
-use Rattle.vx_record.specs.Channels.{box_number, box_made}
-use Rattle.vx_record.specs.State.{Process}
-use Rattle.vx_record.specs.Flags.{with_local_flag}
-use Rattle.vx_record.specs.State.{next_id, past_id}
-use Rattle.vx_record.specs.Asts.{declared_ast, charged_ast}
-use Rattle.vx_record.specs.Control.{exit_ast}
-use Rattle.vx_record.specs.Mailboxes.{this_attention}
-use Rattle.vx_record.specs.Rundown.{part_with}
-use Rattle.vx_record.specs.Services.{var_part, routine}
-use Rattle.vx_record.specs.Timers.{this_timer, due_again, after_wake, new_timer, new_wake, gettim}
-use Rattle.vx_record.specs.Rundown.{drop_handler, drop_ast, is_ast_reached, without_ast, without_handler, with_handler, new_handler}
-use Rattle.vx_record.specs.Control.{created, new_part}
-use Rattle.vx_record.specs.Asts.{que_part, with_queued, with_delivery}
-use Rattle.vx_record.specs.Finish.{with_stored_bytes, with_stored_status}
-use Rattle.vx_record.specs.Requests.{with_request}
-use Rattle.vx_record.specs.Timers.{with_timer}
-use Rattle.vx_record.specs.Services.{with_variable}
-use Rattle.std.proofs.Common.{◌%◌, ◌^◌, ◌||◌, sym, subst, replicate}
+use Rattle.vx_record.specs.Asts.{is_inside, with_frame, new_frame}
 use Rattle.vx_base.specs.Cond.{number_of}
-use Rattle.vx_base.specs.Modes.{inner}
-use Rattle.vx_base.specs.declared.cond.Cond.TheVariants.{BadParam}
 use Rattle.vx_base.specs.declared.frame.FrameKind.{FrameKind}
 use Rattle.vx_base.specs.declared.frame.Wait.TheVariants as wait
 use Rattle.vx_base.specs.declared.mode.Mode.TheVariants.{Exec, Kernel, User}
@@ -79,444 +42,56 @@ use Rattle.vx_base.specs.Serving.{serve, settled}
 use Rattle.vx_image.specs.Local.{advanced}
 use Rattle.vx_image.specs.declared.stop.Stop.{Stop}
 use Rattle.vx_image.specs.declared.stop.Stop.TheVariants as stop
-use Rattle.vx_record.specs.Asts.{is_inside, with_frame, new_frame}
-use Rattle.vx_record.specs.Flags.{awaited_at, waits_on, refused_wait, wait_condition, with_wait}
-use Rattle.vx_record.specs.Requests.{qiow_tested, begun, unit_ending, with_unit}
-use Rattle.vx_record.specs.Rundown.{leave_kind, leave_frame, leave_all, exited, without_frames, leaving, deleted_by, named_for_deletion}
-use Rattle.vx_record.specs.State.{image_of, unit_at, top_mode}
-use Rattle.vx_record.specs.Events.{with_r0, put_back, below_top, resumed_with, uses_wake, returned, returned_from, r0_of, served_call, moved_behind, run_on, reader, run_frame, run, or_normal, started, delivered, beg, don}
-use Rattle.vx_record.specs.declared.served.Served.TheVariants.{Waits}
-
--- a process that is not made yet
-abbrev pub newcomer : Process
-newcomer = record nobody { phase = phase.Alive; channels = replicate 64 None }
-
--- the phase of a process, and its channels
-abbrev pub seat_of : Process → Phase × List (Option Channel)
-seat_of pr = (pr.phase, pr.channels)
-
-abbrev pub seat_in : List Process → ℕ → Phase × List (Option Channel)
-seat_in prs i = seat_of (get_or prs i newcomer)
-
-abbrev pub phase_in : List Process → ℕ → Phase
-phase_in prs i = (get_or prs i newcomer).phase
+use Rattle.vx_laws.proofs.CalmServices.{leave_all_state}
+use Rattle.vx_laws.proofs.Untouched.{seat_of, seat_in, phase_in, Keeps, keep_seats, keep_phases, keep_none, keep_then, keep_procs, keep_same, keep_moved, at_flag_by, finish_keeps, accepted_keeps, tick_keeps, drop_handlers_keeps, assign_shifts, crembx_service_shifts, dassgn_shifts, is_leaving, service_plainly, one_changed, set_views}
 
 -- all processes are in the phases that they were in, with the channels that they had
-pub record Keeps (s t : State) : Type 0 where
+pub record SeatsKept (s t : State) : Type 0 where
   pub seats : (i : ℕ) → seat_in t.procs i ≡ seat_in s.procs i
 
-pub keep_phases : (s t : State) → Keeps s t → (i : ℕ) → phase_in t.procs i ≡ phase_in s.procs i
-keep_phases s t k i = ap (λ (x : Phase × List (Option Channel)). x.0) (k.seats i)
+seats_of_kept : {s t : State} → Keeps s t → SeatsKept s t
+seats_of_kept k = record { seats = keep_seats k }
 
-pub keep_none : (s : State) → Keeps s s
-keep_none s = record { seats = λ i. refl }
+seats_then : {s t u : State} → SeatsKept s t → SeatsKept t u → SeatsKept s u
+seats_then h k = record { seats = λ i. k.seats i ∙ h.seats i }
 
-pub keep_then : {s t u : State} → Keeps s t → Keeps t u → Keeps s u
-keep_then h k = record { seats = λ i. k.seats i ∙ h.seats i }
-
--- the processes are the same
-pub keep_procs : (s t : State) → t.procs ≡ s.procs → Keeps s t
-keep_procs s t e = record { seats = λ i. ap (λ (prs : List Process). seat_in prs i) e }
-
--- process p may have other channels
-pub record Shifts (p : Pid) (s t : State) : Type 0 where
-  pub seats : (i : ℕ) → (p.0 - 1 ≡ i → ⊥) → seat_in t.procs i ≡ seat_in s.procs i
-  pub phases : (i : ℕ) → phase_in t.procs i ≡ phase_in s.procs i
-
-pub shift_of : {p : Pid} {s t : State} → Keeps s t → Shifts p s t
-shift_of {p} {s} {t} k = record { seats = λ i n. k.seats i; phases = keep_phases s t k }
-
-pub shift_then : {p : Pid} {s t u : State} → Shifts p s t → Shifts p t u → Shifts p s u
-shift_then h k = record { seats = λ i n. k.seats i n ∙ h.seats i n; phases = λ i. k.phases i ∙ h.phases i }
-
-pub shift_or : {A : Type 0} {p : Pid} (s : State) (b : Bool) (x y : Outcome A) → Shifts p s x.after → Shifts p s y.after → Shifts p s (cond b x y).after
-shift_or s true x y h k = h
-shift_or s false x y h k = k
-
-pub shift_each : {A : Type 0} {p : Pid} (f : State → A → Part) → ((t : State) (x : A) → Shifts p t (f t x).after) → (xs : List A) (s : State) → Shifts p s (each f xs s).after
-shift_each f k [] s = shift_of (keep_none s)
-shift_each f k (x ∷ xs) s = shift_then (k s x) (shift_each f k xs (f s x).after)
-
-abbrev pub PartKeeps : State → Part → Type 0
-PartKeeps s a = Keeps s a.after
-
-abbrev pub OutcomeKeeps : {A : Type 0} → State → Outcome A → Type 0
-OutcomeKeeps s o = Keeps s o.after
-
-pub keep_either : (s : State) (b : Bool) (x y : Part) → PartKeeps s x → PartKeeps s y → PartKeeps s (cond b x y)
-keep_either s true x y h k = h
-keep_either s false x y h k = k
-
-pub keep_or : {A : Type 0} (s : State) (b : Bool) (x y : Outcome A) → OutcomeKeeps s x → OutcomeKeeps s y → OutcomeKeeps s (cond b x y)
-keep_or s true x y h k = h
-keep_or s false x y h k = k
-
-pub keep_if : (s : State) (b : Bool) (x : Part) → PartKeeps s x → PartKeeps s (part_if b x s)
-keep_if s b x h = keep_either s b x (nothing s) h (keep_none s)
-
-pub keep_each : {A : Type 0} (f : State → A → Part) → ((t : State) (x : A) → PartKeeps t (f t x)) → (xs : List A) (s : State) → PartKeeps s (each f xs s)
-keep_each f k [] s = keep_none s
-keep_each f k (x ∷ xs) s = keep_then (k s x) (keep_each f k xs (f s x).after)
-
-set_phases : {T : Type 0} (g : Process → T) (l : List Process) (i j : ℕ) (a : Process) → g a ≡ g (get_or l i nobody) → g (get_or (set l i a) j newcomer) ≡ g (get_or l j newcomer)
-set_phases g [] i j a h = refl
-set_phases g (x ∷ xs) zero zero a h = h
-set_phases g (x ∷ xs) zero (suc j) a h = refl
-set_phases g (x ∷ xs) (suc i) zero a h = refl
-set_phases g (x ∷ xs) (suc i) (suc j) a h = set_phases g xs i j a h
+seats_none : (s : State) → SeatsKept s s
+seats_none s = seats_of_kept (keep_none s)
 
 -- a process is changed, and neither its phase nor its channels
-pub keep_same : (s : State) (p : Pid) (f : Process → Process) → seat_of (f (process_at s p)) ≡ seat_of (process_at s p) → Keeps s (change s p f)
-keep_same s p f e = record { seats = λ i. set_phases seat_of s.procs (p.0 - 1) i (f (process_at s p)) e }
+change_seats : (s : State) (p : Pid) (f : Process → Process) → seat_of (f (process_at s p)) ≡ seat_of (process_at s p) → SeatsKept s (change s p f)
+change_seats s p f e = record { seats = λ i. set_views seat_of s.procs (p.0 - 1) i (f (process_at s p)) e }
 
-pub set_apart : (l : List Process) (i j : ℕ) (a : Process) → (i ≡ j → ⊥) → seat_in (set l i a) j ≡ seat_in l j
-set_apart [] i j a n = refl
-set_apart (x ∷ xs) zero zero a n = absurd (n refl)
-set_apart (x ∷ xs) zero (suc j) a n = refl
-set_apart (x ∷ xs) (suc i) zero a n = refl
-set_apart (x ∷ xs) (suc i) (suc j) a n = set_apart xs i j a (λ e. n (ap suc e))
+-- Services that turn frames, or wait.
 
--- Flags.
+awaited_seats : (s : State) (p : Pid) (w : Wait) (o : Option Cond) → SeatsKept s (awaited_at s p w o).after
+awaited_seats s p w None = change_seats s p (with_wait (Some w)) refl
+awaited_seats s p w (Some c) = seats_none s
 
-flag_keeps : (s : State) (c : Cell) (on : Bool) → PartKeeps s (flag_part s c on)
-flag_keeps s (Local p n) on = keep_same s p (with_local_flag n on) (either (λ (x : Process). seat_of x ≡ seat_of (process_at s p)) (nat_lt n 32) _ _ refl refl)
-flag_keeps s (Common g a n) on = keep_procs s _ refl
+waits_seats : (s : State) (p : Pid) (efn : ℕ) (w : Wait) → SeatsKept s (at_flag s p efn (refused_wait s) (waits_on s p w)).after
+waits_seats s p efn w = at_flag_by (λ (o : Outcome Served). SeatsKept s o.after) s p efn (refused_wait s) (waits_on s p w) (λ c. seats_none s) (λ c. awaited_seats s p w (wait_condition s p w))
 
-named_keeps : (s : State) (o : Option Cell) (on : Bool) → PartKeeps s (flag_where_named s o on)
-named_keeps s None on = keep_none s
-named_keeps s (Some c) on = flag_keeps s c on
-
-at_named_keeps : {A : Type 0} (s : State) (refuse : Cond → Outcome A) (go : Cell → Outcome A) (o : Option Cell) → ((c : Cond) → OutcomeKeeps s (refuse c)) → ((c : Cell) → OutcomeKeeps s (go c)) → OutcomeKeeps s (at_named refuse go o)
-at_named_keeps s refuse go None f g = f _
-at_named_keeps s refuse go (Some c) f g = g c
-
-at_flag_keeps : {A : Type 0} (s : State) (p : Pid) (efn : ℕ) (refuse : Cond → Outcome A) (go : Cell → Outcome A) → ((c : Cond) → OutcomeKeeps s (refuse c)) → ((c : Cell) → OutcomeKeeps s (go c)) → OutcomeKeeps s (at_flag s p efn refuse go)
-at_flag_keeps s p efn refuse go f g = keep_or s (nat_lt 127 efn) _ _ (f _) (at_named_keeps s refuse go (cell s p efn) f g)
-
--- Finish.
-
-que_keeps : (s : State) (p : Pid) (q : Queued) → PartKeeps s (que_part s p q)
-que_keeps s p q = keep_same s p (with_queued q) refl
-
-done_ast_keeps : (s : State) (r : Req) (o : Option Promised) → PartKeeps s (done_ast_part s r o)
-done_ast_keeps s r None = keep_none s
-done_ast_keeps s r (Some a) = que_keeps s r.p (charged_ast r.id a.mode a.tag)
-
-iosb_keeps : (s : State) (p : Pid) (i : ℕ) (st : Status) → PartKeeps s (iosb_part s p i st)
-iosb_keeps s p i st = keep_if s (not (i == 0)) _ (keep_same s p (with_stored_status i st) refl)
-
-buf_keeps : (s : State) (r : Req) (e : Ending) → PartKeeps s (buf_part s r e)
-buf_keeps s r e = keep_if s (is_read r.func && nat_lt 0 e.0.count) _ (keep_same s r.p (with_stored_bytes r.buf e.0.bytes) refl)
-
-pub finish_keeps : (s : State) (r : Request) (e : Ending) → PartKeeps s (finish s r e)
-finish_keeps s r e =
-    let a = (fin_part s r.req.id e.0.cond).after in
-    let b = (buf_part a r.req e).after in
-    let c = (iosb_part b r.req.p r.req.iosb (status_of e)).after in
-    let d = (done_flag_part c r.req).after in
-    keep_then (keep_procs s a refl) (keep_then (buf_keeps a r.req e) (keep_then (iosb_keeps b r.req.p r.req.iosb (status_of e)) (keep_then (named_keeps c (cell c r.req.p r.req.efn) true) (done_ast_keeps d r.req r.ast))))
-
-found_keeps : (s : State) (o : Option Request) (e : Ending) → PartKeeps s (finish_found s o e)
-found_keeps s None e = keep_none s
-found_keeps s (Some r) e = finish_keeps s r e
-
-write_done_keeps : (s : State) (m : Msg) → PartKeeps s (write_done s m)
-write_done_keeps s m = found_keeps s (find (this_request m.id) s.requests) (write_ending m)
-
--- Mailboxes.
-
-received_keeps : (s : State) (b : BoxNo) (m : Msg) (r : Request) → PartKeeps s (received s b m r)
-received_keeps s b m r = keep_then (keep_procs s (mget_part s b m r.req.id).after refl) (finish_keeps (mget_part s b m r.req.id).after r (read_ending r.req m m.body))
-
-fire_attention_keeps : (s : State) (a : Attention) → PartKeeps s (fire_attention s a)
-fire_attention_keeps s a =
-    let t = record s { attention = less (this_attention a.id) s.attention } in
-    keep_then (keep_procs s t refl) (que_keeps t a.p (charged_ast a.id a.mode a.tag))
-
-call_attention_keeps : (s : State) (n : BoxNo) (func : Func) → PartKeeps s (call_attention s n func)
-call_attention_keeps s n func = keep_each fire_attention fire_attention_keeps (filter (is_attention_at n func) s.attention) s
-
-store_keeps : (s : State) (b : BoxNo) (m : Msg) → PartKeeps s (store_message s b m)
-store_keeps s b m = keep_then (keep_if s (not m.held) (write_done s m) (write_done_keeps s m)) (call_attention_keeps (part_if (not m.held) (write_done s m) s).after b WrtAttn)
-
-hand_keeps : (s : State) (b : BoxNo) (m : Msg) (o : Option Request) → PartKeeps s (hand_over s b m o)
-hand_keeps s b m None = store_keeps s b m
-hand_keeps s b m (Some r) = keep_then (received_keeps s b m r) (write_done_keeps (received s b m r).after m)
-
-write_keeps : (s : State) (b : BoxNo) (m : Msg) → PartKeeps s (write_box s b m)
-write_keeps s b m = let a = (mput_part s b m).after in keep_then (keep_procs s a refl) (hand_keeps a b m (find (waits_at b) a.requests))
-
-take_keeps : (s : State) (b : BoxNo) (r : Request) (ms : List Msg) → PartKeeps s (take_message s b r ms)
-take_keeps s b r [] =
-    let part = part_if (not (is_waiting_func r.req.func)) (finish s r (ending EndOfFile 0 0 [])) s in
-    keep_then (keep_if s (not (is_waiting_func r.req.func)) (finish s r (ending EndOfFile 0 0 [])) (finish_keeps s r (ending EndOfFile 0 0 []))) (call_attention_keeps part.after b ReadAttn)
-take_keeps s b r (m ∷ ms) = let a = (received s b m r).after in keep_then (received_keeps s b m r) (keep_if a m.held (write_done a m) (write_done_keeps a m))
-
-attend_keeps : (s : State) (a : Attention) → PartKeeps s (attend s a)
-attend_keeps s a = keep_if s (is_answered_now s a) (fire_attention s a) (fire_attention_keeps s a)
-
--- Requests.
-
-begun_keeps : (s : State) (r : Request) (d : Device) → PartKeeps s (begun_on s r d)
-begun_keeps s r (device.Unit u) = keep_none s
-begun_keeps s r (device.Mailbox b) = keep_either s (is_read r.req.func) (read_box s b r) (write_box s b (message_of r.req)) (take_keeps s b r (mailbox_at s b).messages) (write_keeps s b (message_of r.req))
-
-transfer_keeps : (s : State) (p : Pid) (q : Asked) (ch : Channel) → PartKeeps s (transfer s p q ch)
-transfer_keeps s p q ch =
-    let r = new_request s p q ch in
-    keep_then (keep_either s (is_direct s ch.device) _ _ (keep_procs s (with_request (past_id s) r) refl) (keep_procs s (with_request (past_id s) r) refl)) (begun_keeps (opened_request s p q ch).after r ch.device)
-
-attention_set_keeps : (s : State) (p : Pid) (q : Asked) (a : Attention) → PartKeeps s (attention_set s p q a)
-attention_set_keeps s p q a =
-    let b = (attention_opened s p q a).after in
-    let c = (iosb_part b p q.iosb done_at_once).after in
-    let d = (flag_where_named c (cell c p q.efn) true).after in
-    keep_then (keep_procs s b refl) (keep_then (iosb_keeps b p q.iosb done_at_once) (keep_then (named_keeps c (cell c p q.efn) true) (attend_keeps d a)))
-
-attention_on_keeps : (s : State) (p : Pid) (q : Asked) (d : Device) (o : Option Entry) → PartKeeps s (attention_on s p q d o)
-attention_on_keeps s p q (device.Unit u) o = keep_none s
-attention_on_keeps s p q (device.Mailbox b) None = keep_none s
-attention_on_keeps s p q (device.Mailbox b) (Some tag) = attention_set_keeps s p q (new_attention s p q b tag)
-
-pub accepted_keeps : (s : State) (p : Pid) (q : Asked) (c : Cell) (ch : Channel) → PartKeeps s (accepted s p q c ch)
-accepted_keeps s p q c ch =
-    let one = (flag_part s c false).after in
-    let two = (iosb_part one p q.iosb cleared).after in
-    keep_then (flag_keeps s c false) (keep_then (iosb_keeps one p q.iosb cleared) (keep_either two (is_attention q.func) (attention_on two p q ch.device q.ast) (transfer two p q ch) (attention_on_keeps two p q ch.device q.ast) (transfer_keeps two p q ch)))
-
-qio_keeps : (s : State) (p : Pid) (q : Asked) (r : Result (Cell × Channel) Cond) → OutcomeKeeps s (qio_tested s p q r)
-qio_keeps s p q (Err c) = keep_none s
-qio_keeps s p q (Ok to) = accepted_keeps s p q to.0 to.1
-
--- Channels.
-
-tested_keeps : {A : Type 0} (s : State) (go : A → Outcome Cond) (r : Result A Cond) → ((x : A) → OutcomeKeeps s (go x)) → OutcomeKeeps s (at_tested s go r)
-tested_keeps s go (Err c) f = keep_none s
-tested_keeps s go (Ok x) f = f x
-
-channel_shifts : (s : State) (p : Pid) (n : ℕ) (ch : Option Channel) → Shifts p s (change s p (with_channel n ch))
-channel_shifts s p n ch = record {
-  seats = λ i e. set_apart s.procs (p.0 - 1) i (with_channel n ch (process_at s p)) e;
-  phases = λ i. set_phases (λ pr. pr.phase) s.procs (p.0 - 1) i (with_channel n ch (process_at s p)) refl;
-}
-
-assign_at_shifts : (s : State) (p : Pid) (d : Device) (mode : Mode) (o : Option ℕ) → Shifts p s (assign_at s p d mode o).after
-assign_at_shifts s p d mode None = shift_of (keep_none s)
-assign_at_shifts s p d mode (Some n) = channel_shifts s p n (Some (record { device = d; mode = mode }))
-
-assign_to_shifts : (s : State) (p : Pid) (mode : Mode) (o : Option Device) → Shifts p s (assign_to s p mode o).after
-assign_to_shifts s p mode None = shift_of (keep_none s)
-assign_to_shifts s p mode (Some d) = assign_at_shifts s p d mode (free_channel_of s p)
-
-make_box_shifts : (s : State) (p : Pid) (mode : Mode) (box : Mailbox) (n : ℕ) (o : Option ℕ) → Shifts p s (make_box s p mode box n o).after
-make_box_shifts s p mode box n None = shift_of (keep_none s)
-make_box_shifts s p mode box n (Some c) =
-    let a = (box_made s n box).after in
-    shift_then (shift_of (keep_procs s a refl)) (channel_shifts a p c (Some (record { device = device.Mailbox (box_number n); mode = mode })))
-
-make_box_in_shifts : (s : State) (p : Pid) (mode : Mode) (box : Mailbox) (o : Option ℕ) → Shifts p s (make_box_in s p mode box o).after
-make_box_in_shifts s p mode box None = shift_of (keep_none s)
-make_box_in_shifts s p mode box (Some n) = make_box_shifts s p mode box n (free_channel_of s p)
-
-find_or_create_shifts : (s : State) (p : Pid) (mode : Mode) (box : Mailbox) (o : Option ℕ) → Shifts p s (find_or_create s p mode box o).after
-find_or_create_shifts s p mode box None = shift_or s (box.permanent && not (process_at s p).privs.prmmbx) _ _ (shift_of (keep_none s)) (make_box_in_shifts s p mode box (position is_none s.boxes))
-find_or_create_shifts s p mode box (Some n) = assign_at_shifts s p _ mode (free_channel_of s p)
-
-crembx_shifts : (s : State) (p : Pid) (name : List ℕ) (perm maxmsg bufquo : ℕ) (mode : Mode) → Shifts p s (crembx s p name perm maxmsg bufquo mode).after
-crembx_shifts s p name perm maxmsg bufquo mode = shift_or s (is_bad_box s name maxmsg bufquo) _ _ (shift_of (keep_none s)) (find_or_create_shifts s p (outer mode (current s p)) (new_box name perm maxmsg bufquo) (box_named s name))
-
-delmbx_keeps : (s : State) (p : Pid) (d : Device) → OutcomeKeeps s (delmbx_on s p d)
-delmbx_keeps s p (device.Unit u) = keep_none s
-delmbx_keeps s p (device.Mailbox n) =
-    let box = mailbox_at s n in
-    keep_or s (box.permanent && not (process_at s p).privs.prmmbx) _ _ (keep_none s) (keep_if s box.permanent (marked_box s n) (keep_procs s (marked_box s n).after refl))
-
-swept_device_keeps : (s : State) (d : Device) → PartKeeps s (swept_device s d)
-swept_device_keeps s (device.Unit u) = keep_none s
-swept_device_keeps s (device.Mailbox n) = keep_if s (not (is_assigned s n) && goes_unused (mailbox_at s n)) (box_gone s n) (keep_procs s (box_gone s n).after refl)
-
-pub swept_keeps : (s : State) (o : Option Channel) → PartKeeps s (swept_box s o)
-swept_keeps s None = keep_none s
-swept_keeps s (Some ch) = swept_device_keeps s ch.device
-
-pub free_shifts : (s : State) (p : Pid) (n : ℕ) → Shifts p s (free_channel s p n).after
-free_shifts s p n = shift_then (channel_shifts s p n None) (shift_of (swept_keeps (change s p (with_channel n None)) (channel_at (process_at s p).channels n)))
-
--- Cancelling.
-
-withdraw_keeps : (s : State) (r : Request) (d : Device) → PartKeeps s (withdraw s r d)
-withdraw_keeps s r (device.Unit u) = keep_none s
-withdraw_keeps s r (device.Mailbox n) = keep_if s (list_any (this_message r.req.id) (mailbox_at s n).messages) (mcut_part s n r.req.id) (keep_procs s (mcut_part s n r.req.id).after refl)
-
-cancel_request_keeps : (s : State) (r : Request) → PartKeeps s (cancel_request s r)
-cancel_request_keeps s r =
-    let w = withdraw s r r.req.device in
-    keep_either s r.served _ (cancelled_request s r) (keep_if s (not r.marked) (mark_part s r) (keep_procs s (mark_part s r).after refl))
-    (keep_then (withdraw_keeps s r r.req.device) (finish_keeps w.after r (ending Cancelled 0 0 [])))
-
-pub cancel_channel_keeps : (s : State) (p : Pid) (n : ℕ) → PartKeeps s (cancel_channel s p n)
-cancel_channel_keeps s p n =
-    let one = each cancel_request (filter (is_request_on p n) s.requests) s in
-    keep_then (keep_each cancel_request cancel_request_keeps (filter (is_request_on p n) s.requests) s)
-    (keep_each drop_attention (λ t a. keep_procs t (drop_attention t a).after refl) (filter (is_attention_on p n) one.after.attention) one.after)
-
--- Timers.
-
-pub drop_timers_keeps : (s : State) (passes : Timer → Bool) → PartKeeps s (drop_timers passes s)
-drop_timers_keeps s passes = keep_each drop_timer (λ t x. keep_procs t (drop_timer t x).after refl) (filter passes s.timers) s
-
-setimr_keeps : (s : State) (p : Pid) (efn delta : ℕ) (tag : Option Entry) (reqid : ℕ) → OutcomeKeeps s (setimr s p efn delta tag reqid)
-setimr_keeps s p efn delta tag reqid =
-    at_flag_keeps s p efn (refused s) (setimr_at s p efn delta tag reqid) (λ c. keep_none s)
-    (λ c. let a = (flag_part s c false).after in
-    keep_or s (exceeds s p (timer_need (is_some tag))) _ _ (keep_none s) (keep_then (flag_keeps s c false) (keep_procs a (with_timer (past_id a) (new_timer a p efn delta tag reqid)) refl)))
-
-scheduled_keeps : (s : State) (p : Pid) (delta repeat : ℕ) (q : Pid) → OutcomeKeeps s (scheduled s p delta repeat q)
-scheduled_keeps s p delta repeat q = keep_or s (exceeds s p (ast_need true)) _ _ (keep_none s) (keep_procs s (with_timer (past_id s) (new_wake s p q delta repeat)) refl)
-
-que_timer_keeps : (s : State) (t : Timer) (mode : Mode) (o : Option Entry) → PartKeeps s (que_timer s t mode o)
-que_timer_keeps s t mode None = keep_none s
-que_timer_keeps s t mode (Some tag) = que_keeps s t.p (charged_ast t.id mode tag)
-
-fired_keeps : (s : State) (t : Timer) (a : Alarm) → PartKeeps s (fired s t a)
-fired_keeps s t (OfTimer efn reqid mode tag) =
-    let one = (Rattle.vx_record.specs.Timers.fire_timer s t).after in
-    let two = (flag_where_named one (cell one t.p efn) true).after in
-    keep_then (keep_procs s one refl) (keep_then (named_keeps one (cell one t.p efn) true) (que_timer_keeps two t mode tag))
-fired_keeps s t (OfWake target repeat) =
-    let a = after_wake s t repeat in
-    keep_then (either (λ (x : State). Keeps s x) (repeat == 0) _ _ (keep_procs s (record s { timers = less (this_timer t.id) s.timers }) refl) (keep_procs s (record s { timers = amend (this_timer t.id) (due_again repeat) s.timers }) refl)) (keep_same a target (with_wake true) refl)
-
-pub tick_keeps : (s : State) → PartKeeps s (tick s)
-tick_keeps s =
-    let a = at_time s (next_time s) in
-    keep_then (keep_procs s a refl) (keep_each fire (λ t x. fired_keeps t x x.what) (filter (is_due (next_time s)) s.timers) a)
-
--- Handlers and rundown.
-
-pub drop_handlers_keeps : (s : State) (p : Pid) (test : Handler → Bool) → PartKeeps s (drop_handlers s p test)
-drop_handlers_keeps s p test = keep_each (drop_handler p) (λ t d. keep_same t p (without_handler d.id) refl) (filter test (process_at s p).handlers) s
-
-cancel_found_keeps : (s : State) (p : Pid) (o : Option Handler) → OutcomeKeeps s (cancel_found s p o)
-cancel_found_keeps s p None = keep_none s
-cancel_found_keeps s p (Some d) = keep_same s p (without_handler d.id) refl
-
-cancel_handlers_keeps : (s : State) (p : Pid) (o : Option Entry) → OutcomeKeeps s (cancel_handlers s p o)
-cancel_handlers_keeps s p None = drop_handlers_keeps s p (is_handler_of (current s p))
-cancel_handlers_keeps s p (Some tag) = cancel_found_keeps s p (find (is_handler_with (current s p) tag) (process_at s p).handlers)
-
-pub release_shifts : (s : State) (p : Pid) (m : Mode) → Shifts p s (release s p m).after
-release_shifts s p m =
-    let ns = channels_of m (process_at s p).channels in
-    let one = (each (free_one p) ns s).after in
-    let two = (drop_asts p m one).after in
-    let three = (part_with p 2 two).after in
-    shift_then (shift_each (free_one p) (λ t n. free_shifts t p n) ns s)
-    (shift_of (keep_then (keep_each (drop_ast p) (λ t q. keep_same t p (without_ast q.id) refl) (filter (is_ast_reached m) (process_at one p).asts) one)
-    (keep_then (keep_procs two three refl) (keep_procs three (part_with p 3 three).after refl))))
-
-pub cancel_modes_keeps : (s : State) (p : Pid) (m : Mode) → PartKeeps s (cancel_modes s p m)
-cancel_modes_keeps s p m =
-    let ns = channels_of m (process_at s p).channels in
-    let one = (each (cancel_one p) ns s).after in
-    let two = (drop_timers (is_timer_in p m) one).after in
-    keep_then (keep_each (cancel_one p) (λ t n. cancel_channel_keeps t p n) ns s) (keep_then (drop_timers_keeps one (is_timer_in p m)) (drop_timers_keeps two (is_wake_by p)))
-
--- Services that neither turn frames nor wait.
-
-var_keeps : (s : State) (p : Pid) (t : Target) (n : ℕ) → PartKeeps s (var_part s p t n)
-var_keeps s p t n = keep_same s p (with_variable t n) refl
-
-valued_keeps : (s : State) (p : Pid) (t : Target) (part : Part) (r : Result (Cond × ℕ) Cond) → PartKeeps s part → OutcomeKeeps s (valued_at p t part r)
-valued_keeps s p t part (Ok read) k = keep_then k (var_keeps part.after p t read.1)
-valued_keeps s p t part (Err c) k = k
-
-numbered_keeps : (s : State) (p : Pid) (t : Target) (part : Part) (r : Result ℕ Cond) → PartKeeps s part → OutcomeKeeps s (numbered_at p t part r)
-numbered_keeps s p t part (Ok n) k = keep_then k (var_keeps part.after p t n)
-numbered_keeps s p t part (Err c) k = k
-
-new_phases : (prs : List Process) (pr : Process) (i : ℕ) → seat_of pr ≡ seat_of newcomer → seat_in (prs ++ pr ∷ []) i ≡ seat_in prs i
-new_phases [] pr zero e = e
-new_phases [] pr (suc i) e = refl
-new_phases (x ∷ xs) pr zero e = refl
-new_phases (x ∷ xs) pr (suc i) e = new_phases xs pr i e
-
-numbered_shifts : (s : State) (p : Pid) (t : Target) (part : Part) (r : Result ℕ Cond) → Shifts p s part.after → Shifts p s (numbered_at p t part r).after
-numbered_shifts s p t part (Ok n) k = shift_then k (shift_of (var_keeps part.after p t n))
-numbered_shifts s p t part (Err c) k = k
-
-newly_keeps : (s : State) (p : Pid) (place : ℕ) → PartKeeps s (new_part s p place)
-newly_keeps s p place = record { seats = λ i. new_phases s.procs (created s p place) i refl }
-
-declared_keeps : (s : State) (p : Pid) (mode : Mode) (tag : Entry) → PartKeeps s (declared_ast s p mode tag)
-declared_keeps s p mode tag = keep_then (keep_procs s (past_id s) refl) (que_keeps (past_id s) p (charged_ast (next_id s) mode tag))
-
-forced_keeps : (s : State) (code : ℕ) (p : Pid) → OutcomeKeeps s (forced s code p)
-forced_keeps s code p = keep_then (keep_procs s (past_id s) refl) (que_keeps (past_id s) p (exit_ast (next_id s) code))
-
-changed_keeps : (s : State) (q : Pid) (f : Process → Process) → seat_of (f (process_at s q)) ≡ seat_of (process_at s q) → OutcomeKeeps s (changed_process s f q)
-changed_keeps s q f e = keep_same s q f e
-
-awaited_keeps : (s : State) (p : Pid) (w : Wait) (o : Option Cond) → OutcomeKeeps s (awaited_at s p w o)
-awaited_keeps s p w None = keep_same s p (with_wait (Some w)) refl
-awaited_keeps s p w (Some c) = keep_none s
-
-waits_keeps : (s : State) (p : Pid) (efn : ℕ) (w : Wait) → OutcomeKeeps s (at_flag s p efn (refused_wait s) (waits_on s p w))
-waits_keeps s p efn w = at_flag_keeps s p efn (refused_wait s) (waits_on s p w) (λ c. keep_none s) (λ c. awaited_keeps s p w (wait_condition s p w))
-
-qiow_keeps : (s : State) (p : Pid) (q : Asked) (r : Result (Cell × Channel) Cond) → OutcomeKeeps s (qiow_tested s p q r)
-qiow_keeps s p q (Err c) = keep_none s
-qiow_keeps s p q (Ok to) =
+qiow_seats : (s : State) (p : Pid) (q : Asked) (r : Result (Cell × Channel) Cond) → SeatsKept s (qiow_tested s p q r).after
+qiow_seats s p q (Err c) = seats_none s
+qiow_seats s p q (Ok to) =
     let u = (accepted s p q to.0 to.1).after in
     let w = wait.Synch q.efn q.iosb in
-    keep_then (accepted_keeps s p q to.0 to.1) (awaited_keeps u p w (wait_condition u p w))
+    seats_then (seats_of_kept (accepted_keeps s p q to.0 to.1)) (awaited_seats u p w (wait_condition u p w))
 
--- services by which a process leaves its phase, or its channels change
-abbrev pub is_leaving : Service → Bool
-is_leaving Exit = true
-is_leaving DelPrc = true
-is_leaving Assign = true
-is_leaving Dassgn = true
-is_leaving CreMbx = true
-is_leaving v = false
-
-pub service_keeps : (s : State) (p : Pid) (a : Args) (v : Service) → is_leaving v ≡ false → OutcomeKeeps s (service_of s p a v)
-service_keeps s p a SetEf n = (at_flag_keeps s p (number a.a0) (refused s) (put_flag_at s true) (λ c. keep_none s) (λ c. flag_keeps s c true))
-service_keeps s p a ClrEf n = (at_flag_keeps s p (number a.a0) (refused s) (put_flag_at s false) (λ c. keep_none s) (λ c. flag_keeps s c false))
-service_keeps s p a ReadEf n = let o = readef s p (number a.a0) in valued_keeps s p (place a.a1) (part_of o) o.answer (at_flag_keeps s p (number a.a0) (refused_value s) (readef_at s) (λ c. keep_none s) (λ c. keep_none s))
-service_keeps s p a AscEfc n = (keep_or s (not (is_common (number a.a0))) _ _ (keep_none s) (keep_or s (wants_prmceb s (process_at s p) (text a.a1) (number a.a2)) _ _ (keep_none s) (keep_procs s _ refl)))
-service_keeps s p a DacEfc n = (keep_or s (not (is_common (number a.a0))) _ _ (keep_none s) (keep_procs s _ refl))
-service_keeps s p a DlcEfc n = (keep_or s (not (process_at s p).privs.prmceb) _ _ (keep_none s) (keep_procs s _ refl))
-service_keeps s p a DclAst n = (keep_or s (exceeds s p (ast_need true)) _ _ (keep_none s) (declared_keeps s p (outer (access_mode a.a2) (current s p)) (routine s p a.a0 (number a.a1))))
-service_keeps s p a SetAst n = (keep_same s p (with_delivery (current s p) (not (number a.a0 == 0))) refl)
-service_keeps s p a SetImr n = (setimr_keeps s p (number a.a0) (number a.a1) (routine_or_none s p a.a2 (number a.a3)) (number a.a3))
-service_keeps s p a CanTim n = (drop_timers_keeps s (is_cancelled_timer p (number a.a0) (outer (access_mode a.a1) (current s p))))
-service_keeps s p a SchdWk n = (tested_keeps s (scheduled s p (number a.a1) (number a.a2)) (process_test s p (number a.a0)) (λ q. scheduled_keeps s p (number a.a1) (number a.a2) q))
-service_keeps s p a CanWak n = (tested_keeps s (unscheduled s) (process_test s p (number a.a0)) (λ q. drop_timers_keeps s (is_wake_for q)))
-service_keeps s p a Wake n = (tested_keeps s (changed_process s (with_wake true)) (process_test s p (number a.a0)) (λ q. changed_keeps s q (with_wake true) refl))
-service_keeps s p a Suspnd n = (tested_keeps s (changed_process s (with_suspension true)) (process_test s p (number a.a0)) (λ q. changed_keeps s q (with_suspension true) refl))
-service_keeps s p a Resume n = (tested_keeps s (changed_process s (with_suspension false)) (process_test s p (number a.a0)) (λ q. changed_keeps s q (with_suspension false) refl))
-service_keeps s p a ForceX n = (tested_keeps s (forced s (number a.a1)) (process_test s p (number a.a0)) (λ q. forced_keeps s (number a.a1) q))
-service_keeps s p a CrePrc n =
-    let o = creprc s p (decl_place s (text a.a1)) in
-    numbered_keeps s p (place a.a0) (part_of o) o.answer (keep_or s (nat_le 1000 (length s.procs)) _ _ (keep_none s) (newly_keeps s p (decl_place s (text a.a1))))
-service_keeps s p a DclExh n = (keep_or s (is_kernel (current s p)) _ _ (keep_none s) (keep_then (keep_procs s (past_id s) refl) (keep_same (past_id s) p (with_handler (new_handler s p (routine s p a.a0 0))) refl)))
-service_keeps s p a CanExh n = (keep_or s (is_kernel (current s p)) _ _ (keep_none s) (cancel_handlers_keeps s p (routine_or_none s p a.a0 0)))
-service_keeps s p a DelMbx n = (tested_keeps s (delmbx_at s p) (channel_test s p (number a.a0)) (λ ch. delmbx_keeps s p ch.device))
-service_keeps s p a Qio n = (qio_keeps s p (asked s p a) (request_test s p (asked s p a)))
-service_keeps s p a Cancel n = (tested_keeps s (cancel_at s p (number a.a0)) (channel_test s p (number a.a0)) (λ ch. cancel_channel_keeps s p (number a.a0)))
-service_keeps s p a GetTim n = var_keeps s p (place a.a0) (gettim s)
-service_keeps s p a CmExec n = keep_or s (is_inside (current s p) || ((process_at s p).privs.cmexec || (process_at s p).privs.cmkrnl)) _ _ (keep_same s p (with_frame (new_frame s p kind.Change (inner (current s p) Exec) (routine s p a.a0 (number a.a1)) 0)) refl) (keep_none s)
-service_keeps s p a CmKrnl n = keep_or s (is_inside (current s p) || (process_at s p).privs.cmkrnl) _ _ (keep_same s p (with_frame (new_frame s p kind.Change Kernel (routine s p a.a0 (number a.a1)) 0)) refl) (keep_none s)
-service_keeps s p a WaitFr n = waits_keeps s p (number a.a0) (wait.Flags (number a.a0) (2 ^ (number a.a0 % 32)) false)
-service_keeps s p a WflOr n = waits_keeps s p (number a.a0) (wait.Flags (number a.a0) (number a.a1) false)
-service_keeps s p a WflAnd n = waits_keeps s p (number a.a0) (wait.Flags (number a.a0) (number a.a1) true)
-service_keeps s p a Synch n =
+pub service_seats : (s : State) (p : Pid) (a : Args) (v : Service) → is_leaving v ≡ false → SeatsKept s (service_of s p a v).after
+service_seats s p a CmExec n =
+    either (λ (o : Outcome Cond). SeatsKept s o.after) (is_inside (current s p) || ((process_at s p).privs.cmexec || (process_at s p).privs.cmkrnl)) _ _ (change_seats s p (with_frame (new_frame s p kind.Change (inner (current s p) Exec) (routine s p a.a0 (number a.a1)) 0)) refl) (seats_none s)
+service_seats s p a CmKrnl n =
+    either (λ (o : Outcome Cond). SeatsKept s o.after) (is_inside (current s p) || (process_at s p).privs.cmkrnl) _ _ (change_seats s p (with_frame (new_frame s p kind.Change Kernel (routine s p a.a0 (number a.a1)) 0)) refl) (seats_none s)
+service_seats s p a WaitFr n = waits_seats s p (number a.a0) (wait.Flags (number a.a0) (2 ^ (number a.a0 % 32)) false)
+service_seats s p a WflOr n = waits_seats s p (number a.a0) (wait.Flags (number a.a0) (number a.a1) false)
+service_seats s p a WflAnd n = waits_seats s p (number a.a0) (wait.Flags (number a.a0) (number a.a1) true)
+service_seats s p a Synch n =
     let w = wait.Synch (number a.a0) (number a.a1) in
-    keep_or s (nat_lt 32 (number a.a1)) (refused_wait s BadParam) (at_flag s p (number a.a0) (refused_wait s) (waits_on s p w)) (keep_none s) (waits_keeps s p (number a.a0) w)
-service_keeps s p a QioW n = qiow_keeps s p (asked s p a) (request_test s p (asked s p a))
-service_keeps s p a Hiber n = keep_or s (process_at s p).wake_pending _ _ (keep_same s p (with_wake false) refl) (keep_same s p (with_wait (Some wait.Hiber)) refl)
-service_keeps s p a v n = absurd (let yes : true ≡ false = n in cc)
+    either (λ (o : Outcome Served). SeatsKept s o.after) (nat_lt 32 (number a.a1)) (refused_wait s BadParam) (at_flag s p (number a.a0) (refused_wait s) (waits_on s p w)) (seats_none s) (waits_seats s p (number a.a0) w)
+service_seats s p a QioW n = qiow_seats s p (asked s p a) (request_test s p (asked s p a))
+service_seats s p a Hiber n = either (λ (o : Outcome Served). SeatsKept s o.after) (process_at s p).wake_pending _ _ (change_seats s p (with_wake false) refl) (change_seats s p (with_wait (Some wait.Hiber)) refl)
+service_seats s p a v n = seats_of_kept (service_plainly s p a v n).keeps
 
 -- How phases go on.
 
@@ -552,21 +127,17 @@ passes_then phase.Deleted y z h k = subst (λ (x : Phase). Passes x z) h k
 pub record Ages (s t : State) : Type 0 where
   pub phases : (i : ℕ) → Passes (phase_in s.procs i) (phase_in t.procs i)
 
-pub ages_of : (s t : State) → Keeps s t → Ages s t
-ages_of s t k = record { phases = λ i. subst (λ (x : Phase). Passes (phase_in s.procs i) x) (sym (keep_phases s t k i)) (passes_same (phase_in s.procs i)) }
+ages_same : (s t : State) → ((i : ℕ) → phase_in t.procs i ≡ phase_in s.procs i) → Ages s t
+ages_same s t k = record { phases = λ i. subst (λ (x : Phase). Passes (phase_in s.procs i) x) (sym (k i)) (passes_same (phase_in s.procs i)) }
 
-pub ages_then : (s t u : State) → Ages s t → Ages t u → Ages s u
+ages_of : (s t : State) → Keeps s t → Ages s t
+ages_of s t k = ages_same s t (keep_phases k)
+
+ages_then : (s t u : State) → Ages s t → Ages t u → Ages s u
 ages_then s t u h k = record { phases = λ i. passes_then (phase_in s.procs i) (phase_in t.procs i) (phase_in u.procs i) (h.phases i) (k.phases i) }
 
-set_passes : (l : List Process) (i j : ℕ) (a : Process) → Passes (get_or l i nobody).phase a.phase → Passes (phase_in l j) (phase_in (set l i a) j)
-set_passes [] i j a h = passes_same (phase_in [] j)
-set_passes (x ∷ xs) zero zero a h = h
-set_passes (x ∷ xs) zero (suc j) a h = passes_same (phase_in xs j)
-set_passes (x ∷ xs) (suc i) zero a h = passes_same x.phase
-set_passes (x ∷ xs) (suc i) (suc j) a h = set_passes xs i j a h
-
 change_ages : (s : State) (p : Pid) (f : Process → Process) → Passes (process_at s p).phase (f (process_at s p)).phase → Ages s (change s p f)
-change_ages s p f h = record { phases = λ i. set_passes s.procs (p.0 - 1) i (f (process_at s p)) h }
+change_ages s p f h = record { phases = λ i. one_changed (λ x y. Passes x.phase y.phase) (λ x. passes_same x.phase) s.procs (p.0 - 1) i (f (process_at s p)) h }
 
 leaving_passes : (x : Phase) (m : Mode) → Passes x (leaving x m)
 leaving_passes phase.Alive m = tt
@@ -574,14 +145,8 @@ leaving_passes (phase.Handlers n) m = refl
 leaving_passes (phase.Draining n) m = refl
 leaving_passes phase.Deleted m = refl
 
-leave_keeps : (s : State) (k : FrameKind) → PartKeeps s (leave_kind s k)
-leave_keeps s (kind.Ast id) = keep_none s
-leave_keeps s kind.Main = keep_none s
-leave_keeps s kind.Change = keep_none s
-leave_keeps s kind.Handler = keep_none s
-
-leave_all_keeps : (frames : List Frame) (s : State) → PartKeeps s (leave_all frames s)
-leave_all_keeps frames s = keep_each leave_frame (λ t f. leave_keeps t f.kind) frames s
+leave_all_keeps : (frames : List Frame) (s : State) → Keeps s (leave_all frames s).after
+leave_all_keeps frames s = keep_procs s (leave_all frames s).after (ap (λ (t : State). t.procs) (leave_all_state frames s))
 
 exited_ages : (s : State) (p : Pid) (code : ℕ) → Ages s (exited s p code).after
 exited_ages s p code =
@@ -601,28 +166,13 @@ tested_ages : (s : State) (r : Result Pid Cond) → Ages s (at_tested s (deleted
 tested_ages s (Err c) = ages_of s s (keep_none s)
 tested_ages s (Ok q) = deleted_ages s q
 
-pub assign_shifts : (s : State) (p : Pid) (a : Args) → Shifts p s (service_of s p a Assign).after
-assign_shifts s p a = numbered_shifts s p (place a.a0) (part_of (assign s p (text a.a1) (access_mode a.a2))) (assign s p (text a.a1) (access_mode a.a2)).answer (assign_to_shifts s p (outer (access_mode a.a2) (current s p)) (device_named s (text a.a1)))
-
-pub crembx_service_shifts : (s : State) (p : Pid) (a : Args) → Shifts p s (service_of s p a CreMbx).after
-crembx_service_shifts s p a =
-    let o = crembx s p (text a.a1) (number a.a2) (number a.a3) (number a.a4) (access_mode a.a5) in
-    numbered_shifts s p (place a.a0) (part_of o) o.answer (crembx_shifts s p (text a.a1) (number a.a2) (number a.a3) (number a.a4) (access_mode a.a5))
-
-pub dassgn_shifts : (s : State) (p : Pid) (n : ℕ) (r : Result Channel Cond) → Shifts p s (at_tested s (dassgn_at s p n) r).after
-dassgn_shifts s p n (Err c) = shift_of (keep_none s)
-dassgn_shifts s p n (Ok ch) = shift_then (shift_of (cancel_channel_keeps s p n)) (free_shifts (cancel_channel s p n).after p n)
-
-pub ages_shift : (p : Pid) (s t : State) → Shifts p s t → Ages s t
-ages_shift p s t k = record { phases = λ i. subst (λ (x : Phase). Passes (phase_in s.procs i) x) (sym (k.phases i)) (passes_same (phase_in s.procs i)) }
-
 service_ages : (s : State) (p : Pid) (a : Args) (v : Service) → Ages s (service_of s p a v).after
 service_ages s p a Exit = exited_ages s p (number a.a0)
 service_ages s p a DelPrc = tested_ages s (process_test s p (number a.a0))
-service_ages s p a Assign = ages_shift p s (service_of s p a Assign).after (assign_shifts s p a)
-service_ages s p a CreMbx = ages_shift p s (service_of s p a CreMbx).after (crembx_service_shifts s p a)
-service_ages s p a Dassgn = ages_shift p s (service_of s p a Dassgn).after (dassgn_shifts s p (number a.a0) (channel_test s p (number a.a0)))
-service_ages s p a v = ages_of s (service_of s p a v).after (service_keeps s p a v refl)
+service_ages s p a Assign = ages_same s (service_of s p a Assign).after (assign_shifts s p a).phases
+service_ages s p a CreMbx = ages_same s (service_of s p a CreMbx).after (crembx_service_shifts s p a).phases
+service_ages s p a Dassgn = ages_same s (service_of s p a Dassgn).after (dassgn_shifts s p (number a.a0) (channel_test s p (number a.a0))).phases
+service_ages s p a v = ages_same s (service_of s p a v).after (λ i. ap (λ (x : Phase × List (Option Channel)). x.0) ((service_seats s p a v refl).seats i))
 
 served_ages : (s : State) (p : Pid) (c : Call) (o : Outcome Served) (x : Served) → Ages s o.after → Ages s (served_call p c o x).after
 served_ages s p c o (Answered y) h = ages_then s o.after (change o.after p (with_r0 (number_of y))) h (ages_of o.after (change o.after p (with_r0 (number_of y))) (keep_same o.after p (with_r0 (number_of y)) refl))
@@ -634,32 +184,30 @@ returned_ages s p (f ∷ fs) = by_kind f.kind
   where
     by_kind : (k : FrameKind) → Ages s (returned_from s p f k).after
     by_kind kind.Main = exited_ages s p (r0_of s p)
-    by_kind (kind.Ast id) = ages_of s (change s p (put_back f.saved_r0)) (keep_same s p (put_back f.saved_r0) refl)
-    by_kind kind.Change = ages_of s (change s p below_top) (keep_same s p below_top refl)
-    by_kind kind.Handler = ages_of s (change s p below_top) (keep_same s p below_top refl)
+    by_kind (kind.Ast id) = change_ages s p (put_back f.saved_r0) (passes_same (process_at s p).phase)
+    by_kind kind.Change = change_ages s p below_top (passes_same (process_at s p).phase)
+    by_kind kind.Handler = change_ages s p below_top (passes_same (process_at s p).phase)
 
 on_ages : (s : State) (p : Pid) (place : ℕ) (x : Stop) → Ages s (run_on s p place x).after
 on_ages s p place (stop.Call c) =
     let t = change s p (moved_behind place) in
     let o = service_of t p c.args c.service in
-    ages_then s t (served_call p c o o.answer).after (ages_of s t (keep_same s p (moved_behind place) refl)) (served_ages t p c o o.answer (service_ages t p c.args c.service))
+    ages_then s t (served_call p c o o.answer).after (ages_of s t (keep_moved s p (process_at s p).store (place + 1))) (served_ages t p c o o.answer (service_ages t p c.args c.service))
 on_ages s p place stop.Return = returned_ages s p (process_at s p).frames
 on_ages s p place stop.End = returned_ages s p (process_at s p).frames
 on_ages s p place stop.Local = ages_of s s (keep_none s)
 
-uses_phase : (w : Wait) (x : Process) → seat_of (uses_wake w x) ≡ seat_of x
-uses_phase (wait.Flags a b c) x = refl
-uses_phase (wait.Synch a b) x = refl
-uses_phase wait.Hiber x = refl
+uses_passes : (w : Wait) (x : Process) → Passes x.phase (uses_wake w x).phase
+uses_passes (wait.Flags a b c) x = passes_same x.phase
+uses_passes (wait.Synch a b) x = passes_same x.phase
+uses_passes wait.Hiber x = passes_same x.phase
 
 frame_ages : (s : State) (p : Pid) (f : Frame) (o : Option Wait) → Ages s (run_frame s p f o).after
 frame_ages s p f None =
     let a = advanced (image_of s p) (reader p f) (process_at s p).store f.pc in
     let t = change s p (moved_to a.store a.place) in
-    ages_then s t (run_on t p a.place a.stop).after (ages_of s t (keep_same s p (moved_to a.store a.place) refl)) (on_ages t p a.place a.stop)
-frame_ages s p f (Some w) =
-    let g = resumed_with w (or_normal (wait_condition s p w)) in
-    ages_of s (change s p g) (keep_same s p g (uses_phase w (with_wait None (process_at s p))))
+    ages_then s t (run_on t p a.place a.stop).after (ages_of s t (keep_moved s p a.store a.place)) (on_ages t p a.place a.stop)
+frame_ages s p f (Some w) = change_ages s p (resumed_with w (or_normal (wait_condition s p w))) (uses_passes w (with_wait None (process_at s p)))
 
 pub run_ages : (s : State) (p : Pid) (frames : List Frame) → Ages s (run s p frames).after
 run_ages s p [] = ages_of s s (keep_none s)
@@ -667,8 +215,8 @@ run_ages s p (f ∷ fs) = frame_ages s p f f.wait
 
 started_ages : (s : State) (p : Pid) (q : Queued) (e : Entry) → Ages s (started s p q e).after
 started_ages s p q (entry.Exit code) = exited_ages s p code
-started_ages s p q (entry.Label k prm) = let f = with_frame (new_frame s p (kind.Ast q.id) q.mode (entry.Label k prm) (r0_of s p)) in ages_of s (change s p f) (keep_same s p f refl)
-started_ages s p q (entry.Host prm) = let f = with_frame (new_frame s p (kind.Ast q.id) q.mode (entry.Host prm) (r0_of s p)) in ages_of s (change s p f) (keep_same s p f refl)
+started_ages s p q (entry.Label k prm) = change_ages s p (with_frame (new_frame s p (kind.Ast q.id) q.mode (entry.Label k prm) (r0_of s p))) (passes_same (process_at s p).phase)
+started_ages s p q (entry.Host prm) = change_ages s p (with_frame (new_frame s p (kind.Ast q.id) q.mode (entry.Host prm) (r0_of s p))) (passes_same (process_at s p).phase)
 
 pub delivered_ages : (s : State) (p : Pid) (o : Option Queued) → Ages s (delivered s p o).after
 delivered_ages s p None = ages_of s s (keep_none s)

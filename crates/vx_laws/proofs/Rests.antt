@@ -1,8 +1,9 @@
 -- A process that is gone rests in every run: it has no event, and nothing is opened for it.
-use Rattle.std.proofs.Common.{◌≡◌, ◌≢◌, ◌∙◌, ℕ, zero, suc, ◌+◌, ◌-◌, ◌<◌, ◌≤◌, List, [], ◌∷◌, ◌++◌, Bool, true, false, not, ◌&&◌, ◌||◌, Option, Some, None, Result, Ok, map, refl, sym, ap, subst, arith, get_or, length}
+use Rattle.std.proofs.Common.{◌≡◌, ◌≢◌, ◌∙◌, ℕ, ◌+◌, ◌-◌, ◌≤◌, List, [], ◌∷◌, ◌++◌, Bool, true, false, not, ◌&&◌, ◌||◌, Option, Some, None, Result, Ok, map, refl, sym, ap, subst, arith}
 use Rattle.std.specs.Prelude.{Contains}
+use Rattle.std.proofs.lemmas.List.{get_or_default}
 use Rattle.std.specs.List.{AllByRecursion}
-use Rattle.std.proofs.lemmas.Bool.{and_parts, and_from, eqb-true, eq-eqb}
+use Rattle.std.proofs.lemmas.Bool.{and_parts, and_from, eqb-true, eq-eqb, false_from_ne_true, not-false}
 use Rattle.vx_base.specs.Pieces.{Queued, Request, Timer, DeviceUnit}
 use Rattle.vx_base.specs.Queues.{front, in_service}
 use Rattle.vx_base.specs.Serving.{serve, settled}
@@ -43,7 +44,7 @@ use Rattle.vx_record.specs.declared.served.Served.{Served}
 use Rattle.vx_record.specs.declared.served.Served.TheVariants.{Answered, Waits}
 use Rattle.vx_record.proofs.Base.{Base}
 use Rattle.vx_record.proofs.Freeing.{phase_at}
-use Rattle.vx_record.proofs.Lists.{either, either_by, all_append, all_at, not_fails}
+use Rattle.vx_record.proofs.Lists.{either, either_by, all_append, all_at}
 use Rattle.vx_record.proofs.Allowed.{enabled_there}
 use Rattle.vx_record.proofs.Along.{first_base}
 use Rattle.vx_laws.specs.Items.{Item, Head, Did, flat, later, at_each, latest_call, calling}
@@ -54,7 +55,8 @@ use Rattle.vx_laws.proofs.Allowed.{Test, is_allowed, Allowed, MayOpen, nil, one,
 use Rattle.vx_laws.proofs.Calm.{Tags, IsBare, Still, still_made, held_at}
 use Rattle.vx_laws.proofs.Lowers.{IsLowering, Low, Lowers, Others, closed, stops, goes, rundown_lowers}
 use Rattle.vx_laws.proofs.Named.{step_still}
-use Rattle.vx_laws.proofs.Phases.{keep_phases, Ages, Passes, phase_in, keep_same, run_ages, delivered_ages, beg_ages, don_ages, tick_ages}
+use Rattle.vx_laws.proofs.Untouched.{keep_moved, keep_phases, newcomer, phase_in}
+use Rattle.vx_laws.proofs.Phases.{Ages, Passes, run_ages, delivered_ages, beg_ages, don_ages, tick_ages}
 use Rattle.vx_laws.proofs.Runs.{step_right, first_stands}
 use Rattle.vx_laws.proofs.Stands.{Stands}
 use Rattle.vx_laws.proofs.Steps.{delivered_some, step_tags, first_tags}
@@ -124,13 +126,8 @@ pub record IsGone (s : State) (p : Pid) : Type 0 where
 abbrev pub AllGone : State → List Item → Type 0
 AllGone s past = (p : Pid) → is_gone past p ≡ true → IsGone s p
 
-made_in : (l : List Process) (i : ℕ) → i < length l → phase_in l i ≡ (get_or l i nobody).phase
-made_in [] i h = absurd (omega (arith, h))
-made_in (x ∷ xs) zero h = refl
-made_in (x ∷ xs) (suc i) h = made_in xs i (omega (arith, h))
-
 pub phase_made : (s : State) (p : Pid) → IsProcess s p → phase_in s.procs (p.0 - 1) ≡ (process_at s p).phase
-phase_made s p made = made_in s.procs (p.0 - 1) (omega (arith, made.above, made.within))
+phase_made s p made = ap (λ (pr : Process). pr.phase) (get_or_default s.procs (p.0 - 1) newcomer nobody (omega (arith, made.above, made.within)))
 
 deleted_on : (s t : State) (p : Pid) → Ages s t → IsProcess s p → IsProcess t p → (process_at s p).phase ≡ phase.Deleted → (process_at t p).phase ≡ phase.Deleted
 deleted_on s t p h made there e =
@@ -138,16 +135,12 @@ deleted_on s t p h made there e =
     let y : Passes phase.Deleted (phase_in t.procs (p.0 - 1)) = subst (λ (z : Phase). Passes z (phase_in t.procs (p.0 - 1))) x (h.phases (p.0 - 1)) in
     sym (phase_made t p there) ∙ y
 
-false_by : (b : Bool) → (b ≡ true → ⊥) → b ≡ false
-false_by true k = absurd (k refl)
-false_by false k = refl
-
 -- no event is of a process that is gone
 awake_gone : (s : State) (past : List Item) (p : Pid) → (process_at s p).frames ≢ [] → AllGone s past → is_gone past p ≡ false
-awake_gone s past p some h = false_by (is_gone past p) (λ k. some (h p k).still.1.0)
+awake_gone s past p some h = false_from_ne_true (is_gone past p) (λ k. some (h p k).still.1.0)
 
 down_gone : (s : State) (past : List Item) (p : Pid) → can_step_down s p (process_at s p).phase ≡ true → AllGone s past → is_gone past p ≡ false
-down_gone s past p can h = false_by (is_gone past p) (λ k. let no : can_step_down s p phase.Deleted ≡ true = subst (λ (x : Phase). can_step_down s p x ≡ true) (h p k).deleted can in let never : false ≡ true = no in cc)
+down_gone s past p can h = false_from_ne_true (is_gone past p) (λ k. let no : can_step_down s p phase.Deleted ≡ true = subst (λ (x : Phase). can_step_down s p x ≡ true) (h p k).deleted can in let never : false ≡ true = no in cc)
 
 -- What is asked of an item here.
 
@@ -190,7 +183,7 @@ test_alive s p n q =
     (λ t e. cc)
     (λ f. either (λ (r : Result Pid Cond). r ≡ Ok q → (process_at s q).phase ≡ phase.Deleted → ⊥) (may_control s p (named_process p n)) _ _
     (λ e d.
-    let there : exists_for_control s (named_process p n).0 ≡ true = not_fails _ f in
+    let there : exists_for_control s (named_process p n).0 ≡ true = not-false _ f in
     let two = and_parts _ _ (and_parts _ _ there).1 in
     let same : named_process p n ≡ q = cc in
     let here : not (is_deleted_phase (process_at s q).phase || (process_at s q).delete_pending) ≡ true = subst (λ (r : Pid). not (is_deleted_phase (process_at s r).phase || (process_at s r).delete_pending) ≡ true) same two.1 in
@@ -203,7 +196,7 @@ abbrev PhasesGone : State → List Item → Type 0
 PhasesGone s past = (p : Pid) → is_gone past p ≡ true → phase_in s.procs (p.0 - 1) ≡ phase.Deleted
 
 found_gone : (s : State) (past : List Item) (p : Pid) (n : ℕ) (q : Pid) → PhasesGone s past → process_test s p n ≡ Ok q → is_gone past q ≡ false
-found_gone s past p n q h e = false_by (is_gone past q) (λ k. test_alive s p n q e (sym (phase_made s q (Rattle.vx_record.proofs.Steps.test_made s p n q e)) ∙ h q k))
+found_gone s past p n q h e = false_from_ne_true (is_gone past q) (λ k. test_alive s p n q e (sym (phase_made s q (Rattle.vx_record.proofs.Steps.test_made s p n q e)) ∙ h q k))
 
 call_woken : (p : Pid) (c : Call) (o : Outcome Served) (x : Served) (q : Pid) → woken (calling (event.Run p) (served_call p c o x).answer) q ≡ named_process p (number c.args.a0)
 call_woken p c o (Answered y) q = refl
@@ -244,8 +237,8 @@ on_stays : (s : State) (past : List Item) (p : Pid) (n : ℕ) (x : Stop) → is_
 on_stays s past p n (stop.Call c) free h =
     let t = change s p (moved_behind n) in
     let o = service_of t p c.args c.service in
-    let k = keep_same s p (moved_behind n) refl in
-    served_stays past p c o o.answer (service_allowed t p c.args c.service (may_call t past p c free (λ q e. keep_phases _ _ k (q.0 - 1) ∙ h q e)))
+    let k = keep_moved s p (process_at s p).store (n + 1) in
+    served_stays past p c o o.answer (service_allowed t p c.args c.service (may_call t past p c free (λ q e. keep_phases k (q.0 - 1) ∙ h q e)))
 on_stays s past p n stop.Return free h = returned_allowed s p (process_at s p).frames
 on_stays s past p n stop.End free h = returned_allowed s p (process_at s p).frames
 on_stays s past p n stop.Local free h = nil
@@ -253,8 +246,8 @@ on_stays s past p n stop.Local free h = nil
 frame_stays : (s : State) (past : List Item) (p : Pid) (f : Frame) (o : Option Wait) → is_gone past p ≡ false → PhasesGone s past → RecordStays past (event.Run p) (run_frame s p f o)
 frame_stays s past p f None free h =
     let a = advanced (image_of s p) (reader p f) (process_at s p).store f.pc in
-    let k = keep_same s p (moved_to a.store a.place) refl in
-    on_stays (change s p (moved_to a.store a.place)) past p a.place a.stop free (λ q e. keep_phases _ _ k (q.0 - 1) ∙ h q e)
+    let k = keep_moved s p a.store a.place in
+    on_stays (change s p (moved_to a.store a.place)) past p a.place a.stop free (λ q e. keep_phases k (q.0 - 1) ∙ h q e)
 frame_stays s past p f (Some w) free h = nil
 
 run_stays : (s : State) (past : List Item) (p : Pid) (frames : List Frame) → is_gone past p ≡ false → PhasesGone s past → RecordStays past (event.Run p) (run s p frames)

@@ -30,7 +30,8 @@ use Rattle.vx_image.specs.declared.decl.ProcDecl.{ProcDecl}
 use Rattle.vx_image.specs.declared.stop.Stop.TheVariants as stop
 use Rattle.vx_image.specs.declared.stop.Stop.{Stop}
 use Rattle.vx_image.specs.declared.system.System.{System}
-use Rattle.vx_laws.proofs.Awaited.{Keeps, cancelled_in_keeps, finish_keeps, frame_waits, gone_keeps, keep_none, keep_procs, keep_then, newcomer, phase_keeps, release_keeps, tick_keeps, waits_of}
+use Rattle.vx_laws.proofs.Awaited.{WaitsKept, cancelled_in_waits, frame_waits, gone_waits, phase_waits, release_waits, waits_none, waits_of_kept, waits_then}
+use Rattle.vx_laws.proofs.Untouched.{finish_keeps, keep_procs, keep_then, newcomer, tick_keeps, waits_of}
 use Rattle.vx_record.proofs.Base.{Base, made_more, moves_keep}
 use Rattle.vx_laws.proofs.Calm.{Fine, Tags, cancelled_in_calm, gone_calm, is_fine, release_calm, tick_calm}
 use Rattle.vx_laws.proofs.Drains.{DownBy, IsDrain, ends, enters, rundown_by}
@@ -38,7 +39,7 @@ use Rattle.vx_laws.proofs.Events.{delivered_calm, don_calm, may_finish, run_calm
 use Rattle.vx_laws.proofs.Framed.{delivers_so, start_is, step_kinds}
 use Rattle.vx_laws.proofs.Holds.{Holds, first_holds, step_holds}
 use Rattle.vx_laws.proofs.Kept.{handler_found, later_both, moves_stand}
-use Rattle.vx_laws.proofs.Pauses.{AnswerFits, EventWaits, IsFit, delivered_waits, either_same, heard, made_waits, nobody_turned, run_waits, shifted, turn_change}
+use Rattle.vx_laws.proofs.Pauses.{AnswerFits, EventWaits, IsFit, delivered_waits, heard, made_waits, nobody_turned, run_waits, shifted, turn_change}
 use Rattle.vx_laws.proofs.Runs.{first_stands, step_right}
 use Rattle.vx_laws.proofs.Seats.{HandlerLives, life_of, seat}
 use Rattle.vx_laws.proofs.Stands.{Stands}
@@ -69,6 +70,7 @@ use Rattle.vx_record.specs.declared.served.Served.TheVariants.{Answered, Waits}
 use Rattle.vx_record.specs.declared.served.Served.{Served}
 use Rattle.vx_record.proofs.Allowed.{enabled_there}
 use Rattle.vx_record.proofs.Along.{first_base}
+use Rattle.vx_laws.proofs.Bools.{either_same}
 
 -- at the ends of records
 pub record Awaits (s : State) (past : List Item) : Type 0 where
@@ -134,7 +136,7 @@ awaits_by b past e a s es t fine w h = record {
 }
 
 -- a head that turns nobody's
-awaits_kept : (b : Bool) (past : List Item) (e : Event) (a : Answer) (s : State) (es : List Effect) (t : State) → turned e a ≡ pid 0 → Fine b es → Keeps s t → Awaits s past → Awaits t (later (Head e a ∷ past) (map Did es))
+awaits_kept : (b : Bool) (past : List Item) (e : Event) (a : Answer) (s : State) (es : List Effect) (t : State) → turned e a ≡ pid 0 → Fine b es → WaitsKept s t → Awaits s past → Awaits t (later (Head e a ∷ past) (map Did es))
 awaits_kept b past e a s es t who fine k h = record {
   told = λ p above. ap (map waited) (awaited_later b (Head e a ∷ past) es p fine) ∙ (rw (who, nobody_turned p above) (h.told p above) ∙ sym (k.waits (p.0 - 1)));
   fit = λ p above. rw (k.waits (p.0 - 1)) (h.fit p above);
@@ -145,16 +147,16 @@ awaits_kept b past e a s es t who fine k h = record {
 -- what rundown keeps, until it enters a handler
 record Rests (s : State) (es : List Effect) (t : State) : Type 0 where
   fine : Fine true es
-  keeps : Keeps s t
+  keeps : WaitsKept s t
 
 rests_drain : IsDrain Rests
 rests_drain = record {
-  start = λ s g. record { fine = tt; keeps = keep_none s };
-  join = λ s t u es fs j h k. record { fine = all_append (λ x. is_fine true x ≡ true) es fs h.fine k.fine; keeps = keep_then h.keeps k.keeps };
-  phases = λ s p ph h g. record { fine = tt; keeps = phase_keeps s p ph };
-  releases = λ s p m h g. record { fine = (release_calm true s p m g).effects; keeps = release_keeps s p m };
-  cancels = λ s p m h g. record { fine = (cancelled_in_calm s p m g).effects; keeps = cancelled_in_keeps s p m };
-  goes = λ s p h g. record { fine = (gone_calm s p g).effects; keeps = gone_keeps s p };
+  start = λ s g. record { fine = tt; keeps = waits_none s };
+  join = λ s t u es fs j h k. record { fine = all_append (λ x. is_fine true x ≡ true) es fs h.fine k.fine; keeps = waits_then h.keeps k.keeps };
+  phases = λ s p ph h g. record { fine = tt; keeps = phase_waits s p ph };
+  releases = λ s p m h g. record { fine = (release_calm true s p m g).effects; keeps = release_waits s p m };
+  cancels = λ s p m h g. record { fine = (cancelled_in_calm s p m g).effects; keeps = cancelled_in_waits s p m };
+  goes = λ s p h g. record { fine = (gone_calm s p g).effects; keeps = gone_waits s p };
 }
 
 handler_waits : (p q : Pid) (o : Option Life) (ws : List (Option Call)) → lives (λ l. (seat l == 4) && life_of p l) o ≡ true → map waited (with_handler_wait o q ws) ≡ cond (is_same p q) (None ∷ map waited ws) (map waited ws)
@@ -213,19 +215,19 @@ step_awaits s past (event.Rdn p) c b g k tags h =
 step_awaits s past (event.Beg u) c b g k tags h = by_front (front u s.requests)
   where
     by_front : (o : Option Request) → Awaits (beg s o).after (later (Head (event.Beg u) (beg s o).answer ∷ past) (map Did (beg s o).effects))
-    by_front None = awaits_kept true past (event.Beg u) answer.Local s [] s refl tt (keep_none s) h
-    by_front (Some r) = awaits_kept true past (event.Beg u) (answer.Unit r.req.id) s [] (begun s r) refl tt (keep_procs s (begun s r) refl) h
+    by_front None = awaits_kept true past (event.Beg u) answer.Local s [] s refl tt (waits_none s) h
+    by_front (Some r) = awaits_kept true past (event.Beg u) (answer.Unit r.req.id) s [] (begun s r) refl tt (waits_of_kept (keep_procs s (begun s r) refl)) h
 step_awaits s past (event.Don u) c b g k tags h = by_served (in_service u s.requests) refl
   where
     by_served : (o : Option Request) → in_service u s.requests ≡ o → Awaits (don s u o).after (later (Head (event.Don u) (don s u o).answer ∷ past) (map Did (don s u o).effects))
-    by_served None is = awaits_kept true past (event.Don u) answer.Local s [] s refl tt (keep_none s) h
+    by_served None is = awaits_kept true past (event.Don u) answer.Local s [] s refl tt (waits_none s) h
     by_served (Some r) is =
         let a = with_unit s u (settled (unit_at s u) r.req) in
         let e = unit_ending r (serve (unit_at s u) r.req).reply in
-        awaits_kept true past (event.Don u) (answer.Unit r.req.id) s (finish a r e).effects (finish a r e).after refl (don_calm s u (Some r) is tags).effects (keep_then (keep_procs s a refl) (finish_keeps a r e)) h
+        awaits_kept true past (event.Don u) (answer.Unit r.req.id) s (finish a r e).effects (finish a r e).after refl (don_calm s u (Some r) is tags).effects (waits_of_kept (keep_then (keep_procs s a refl) (finish_keeps a r e))) h
 step_awaits s past event.Tick c b g k tags h =
     let o = step s event.Tick in
-    awaits_kept false past event.Tick o.answer s o.effects o.after refl (tick_calm false s tags).effects (tick_keeps s) h
+    awaits_kept false past event.Tick o.answer s o.effects o.after refl (tick_calm false s tags).effects (waits_of_kept (tick_keeps s)) h
 
 -- A process that runs has a top frame that waits for nothing or for what has come.
 

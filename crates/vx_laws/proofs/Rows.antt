@@ -1,6 +1,6 @@
 -- Channels and mailboxes come and go: what agrees goes on.
 use Rattle.std.proofs.Common.{◌⊎◌, inl, inr, ◌≡◌, ◌≢◌, ℕ, ◌-◌, ◌<◌, ◌≤◌, List, [], ◌∷◌, Bool, true, false, ◌==◌, ◌&&◌, length, Option, Some, None, refl, sym, ap, ◌∙◌, subst, arith, get_or, set, is_some, IsTrue}
-use Rattle.std.proofs.lemmas.Bool.{eq-eqb, eqb-true, and_parts, and_from, cases_eq}
+use Rattle.std.proofs.lemmas.Bool.{eq-eqb, eqb-true, and_parts, and_from, cases_eq, false_from_ne_true}
 use Rattle.std.proofs.lemmas.List.{get_or-set_other}
 use Rattle.std.proofs.lemmas.Slice.Eq.{bytes_eq-Decides}
 use Rattle.std.specs.List.{AllByRecursion, list_any}
@@ -15,7 +15,7 @@ use Rattle.vx_base.specs.declared.number.Pid.{Pid}
 use Rattle.vx_base.specs.declared.request.Device.TheVariants as device
 use Rattle.vx_base.specs.declared.request.Device.{Device}
 use Rattle.vx_record.proofs.Ground.{at_set}
-use Rattle.vx_record.proofs.Lists.{either_by, all_weaker, all_both, all_get, none_passes, false_from, apart_bools}
+use Rattle.vx_record.proofs.Lists.{either_by, all_weaker, all_both, all_get, none_passes, apart_bools}
 use Rattle.vx_record.proofs.SoundChannels.{is_on_box}
 use Rattle.vx_record.specs.Cancel.{is_request_on}
 use Rattle.vx_record.specs.Channels.{with_channel, is_box_of, is_unit_of, is_channel_to, has_channel_to, is_assigned}
@@ -24,11 +24,12 @@ use Rattle.vx_record.specs.Mailboxes.{is_box, or_no_box}
 use Rattle.vx_record.specs.Sound.{AreOrdered, request_id}
 use Rattle.vx_record.specs.State.{Process, State, nobody, process_at, change, box_at, with_box}
 use Rattle.vx_laws.proofs.Aside.{row}
-use Rattle.vx_laws.proofs.Boxed.{any_index, IsThere, IsOn, Rooted, BoxIs, Boxed, Carried, rows_on, rooted_on, all_rooted, box_on, there_as, title_as, some_within, any_at, any_kept, was_there, put_there, Origin}
+use Rattle.vx_laws.proofs.Boxed.{any_index, IsThere, IsOn, Rooted, BoxIs, Boxed, Carried, rows_on, rooted_on, all_rooted, box_on, there_as, title_as, some_within, any_kept, was_there, put_there, Origin}
 use Rattle.vx_laws.specs.Agrees.{box_stands, device_title}
 use Rattle.vx_laws.specs.Boxes.{stored, Stored}
 use Rattle.vx_laws.specs.Items.{Item, Did, latest_call}
 use Rattle.vx_laws.specs.Lives.{device_name, named_in, or_earlier}
+use Rattle.std.proofs.lemmas.List.Folds.{list_any_at}
 
 -- One row of one process is written.
 
@@ -116,7 +117,7 @@ gone_rooted s b past name none r k =
     }
 
 pub not_named : (x y : List ℕ) → (x ≡ y → ⊥) → bytes_eq x y ≡ false
-not_named x y n = false_from _ (λ e. n ((bytes_eq-Decides x y).0 e))
+not_named x y n = false_from_ne_true _ (λ e. n ((bytes_eq-Decides x y).0 e))
 
 pub gone_boxed : (s : State) (b : BoxNo) (box : Mailbox) (past : List Item) → box_at s b ≡ Some box → is_assigned s b ≡ false → Boxed s past → Boxed (with_box s b None) (Did (effect.Mbx box.name false) ∷ past)
 gone_boxed s b box past is none h = record {
@@ -133,7 +134,7 @@ gone_boxed s b box past is none h = record {
       (λ f. h.others name (sym (any_kept (is_box_of name) s.boxes b.0 None None (rw (is, f) refl)) ∙ e));
   stands = λ name.
       either_by (λ (y : Bool). list_any (is_box_of name) (set s.boxes b.0 None) ≡ y) (bytes_eq box.name name) false (box_stands past name)
-      (λ t. false_from _ (λ e. let at = any_index (is_box_of name) (set s.boxes b.0 None) None e in none_named name t (record { 0 = at.0 }) (box_at (with_box s b None) (record { 0 = at.0 })) refl at.1))
+      (λ t. false_from_ne_true _ (λ e. let at = any_index (is_box_of name) (set s.boxes b.0 None) None e in none_named name t (record { 0 = at.0 }) (box_at (with_box s b None) (record { 0 = at.0 })) refl at.1))
       (λ f. any_kept (is_box_of name) s.boxes b.0 None None (rw (is, f) refl) ∙ h.stands name);
 }
   where
@@ -186,11 +187,11 @@ made_boxed s b box past free within empty fresh unit h =
       requests = all_rooted s t past after c (λ p n. refl) s.requests h.requests;
       boxes = λ d other e. elim (cases_eq d.0 b.0) [ inl same ↦ at_here d other same e | inr apart ↦ at_other d other apart (was_there s b d (Some box) other apart e) ];
       others = λ name e.
-          let differ : bytes_eq box.name name ≡ false = false_from _ (λ yes. apart_bools _ (any_at (is_box_of name) t.boxes b.0 None (subst (λ (n : ℕ). b.0 < n) (sym (Rattle.std.proofs.Math.ListN.length-set s.boxes b.0 (Some box))) within) (rw (put_there s b b (Some box) (refl {a = b.0}) within) yes)) e) in
+          let differ : bytes_eq box.name name ≡ false = false_from_ne_true _ (λ yes. apart_bools _ (list_any_at (is_box_of name) t.boxes b.0 None (subst (λ (n : ℕ). b.0 < n) (sym (Rattle.std.proofs.Math.ListN.length-set s.boxes b.0 (Some box))) within) (rw (put_there s b b (Some box) (refl {a = b.0}) within) yes)) e) in
           rw differ (h.others name (sym (any_kept (is_box_of name) s.boxes b.0 (Some box) None (rw (free, differ) refl)) ∙ e));
       stands = λ name.
           either_by (λ (y : Bool). list_any (is_box_of name) t.boxes ≡ y) (bytes_eq box.name name) true (box_stands past name)
-          (λ yes. any_at (is_box_of name) t.boxes b.0 None (subst (λ (n : ℕ). b.0 < n) (sym (Rattle.std.proofs.Math.ListN.length-set s.boxes b.0 (Some box))) within) (rw (put_there s b b (Some box) (refl {a = b.0}) within) yes))
+          (λ yes. list_any_at (is_box_of name) t.boxes b.0 None (subst (λ (n : ℕ). b.0 < n) (sym (Rattle.std.proofs.Math.ListN.length-set s.boxes b.0 (Some box))) within) (rw (put_there s b b (Some box) (refl {a = b.0}) within) yes))
           (λ no. any_kept (is_box_of name) s.boxes b.0 (Some box) None (rw (free, no) refl) ∙ h.stands name);
     }
   where
@@ -202,7 +203,7 @@ made_boxed s b box past free within empty fresh unit h =
 
     -- no other has its name
     other_name : (d : BoxNo) (other : Mailbox) → box_at s d ≡ Some other → other.name ≡ box.name → ⊥
-    other_name d other e same = apart_bools _ (any_at (is_box_of box.name) s.boxes d.0 None (some_within s.boxes d.0 other e) (rw e ((bytes_eq-Decides other.name box.name).1 same))) fresh
+    other_name d other e same = apart_bools _ (list_any_at (is_box_of box.name) s.boxes d.0 None (some_within s.boxes d.0 other e) (rw e ((bytes_eq-Decides other.name box.name).1 same))) fresh
 
     at_here : (d : BoxNo) (other : Mailbox) → d.0 ≡ b.0 → box_at (with_box s b (Some box)) d ≡ Some other → BoxIs (with_box s b (Some box)) (Did (effect.Mbx box.name true) ∷ past) d other
     at_here d other same e = subst (BoxIs (with_box s b (Some box)) (Did (effect.Mbx box.name true) ∷ past) d) (named d other same e) (record {
@@ -255,7 +256,7 @@ assigned_boxed s u p v n ch past a b c d same above one free there named h = rec
 
     at_other : (q : Pid) (m : ℕ) (x : Channel) → 1 ≤ q.0 → 1 ≤ m → (is_same p q && (n == m)) ≡ false → row (change s p (with_channel n (Some ch))) q m ≡ Some x → IsThere u x.device × (device_name past q m ≡ Some (device_title u x.device))
     at_other q m x up low f e =
-        let turned : (is_same q p && (m == n)) ≡ false = false_from _ (λ yes. let both = and_parts (is_same q p) (m == n) yes in apart_bools _ (and_from (is_same p q) (n == m) (eq-eqb p.0 q.0 (sym (eqb-true q.0 p.0 both.0))) (eq-eqb n m (sym (eqb-true m n both.1)))) f) in
+        let turned : (is_same q p && (m == n)) ≡ false = false_from_ne_true _ (λ yes. let both = and_parts (is_same q p) (m == n) yes in apart_bools _ (and_from (is_same p q) (n == m) (eq-eqb p.0 q.0 (sym (eqb-true q.0 p.0 both.0))) (eq-eqb n m (sym (eqb-true m n both.1)))) f) in
         let k = h.rows q m x up low (sym (row_elsewhere s p q n m (Some ch) above up one low turned) ∙ e) in
         (there_as s u a b x.device k.0, k.1 ∙ ap (λ (l : List ℕ). Some l) (sym (title_as s u a b x.device)))
 

@@ -1,5 +1,5 @@
 -- What a mailbox does for a read, a write and an end of file.
-use Rattle.std.proofs.Common.{◌⊎◌, inl, inr, ◌≡◌, ◌≢◌, ℕ, zero, suc, ◌+◌, ◌<◌, List, [], ◌∷◌, ◌++◌, Bool, true, false, cond, not, ◌==◌, ◌&&◌, ◌||◌, nat_lt, length, take, Option, Some, None, map, refl, sym, ap, ◌∙◌, subst, append-nil}
+use Rattle.std.proofs.Common.{◌⊎◌, inl, inr, ◌≡◌, ◌≢◌, ℕ, zero, suc, ◌+◌, ◌<◌, List, [], ◌∷◌, ◌++◌, Bool, true, false, not, ◌==◌, ◌&&◌, ◌||◌, nat_lt, length, take, Option, Some, None, map, refl, sym, ap, ◌∙◌, subst, append-nil}
 use Rattle.std.proofs.lemmas.Bool.{eq-eqb, eqb-true, and_parts, and_from, cases_eq, or_cases}
 use Rattle.std.proofs.lemmas.List.{get_or-set_other}
 use Rattle.std.proofs.lemmas.Slice.Eq.{bytes_eq-Decides}
@@ -23,7 +23,7 @@ use Rattle.vx_base.specs.declared.request.Func.TheVariants.{Read, ReadAttn, WrtA
 use Rattle.vx_base.specs.declared.request.Func.{Func}
 use Rattle.vx_base.specs.declared.request.Msg.{Msg}
 use Rattle.vx_base.specs.declared.request.Req.{Req}
-use Rattle.vx_record.proofs.Lists.{either, all_weaker, all_append, all_find, find_passes, apart_bools}
+use Rattle.vx_record.proofs.Lists.{either, all_weaker, all_append, all_find, apart_bools, none_any, found_any}
 use Rattle.vx_record.specs.Finish.{Ending, ending, is_read, this_request, finish, finish_found}
 use Rattle.vx_record.specs.Mailboxes.{mailbox_at, or_no_box, is_box, is_waiting_func, waits_at, this_message, message_of, mput_part, mget_part, read_ending, received, write_done, write_ending, call_attention, store_message, hand_over, write_box, wait_for_message, take_message, read_box}
 use Rattle.vx_record.specs.Parts.{Part, nothing, and_then, part_if}
@@ -40,6 +40,7 @@ use Rattle.vx_laws.specs.Items.{Item, Did, Calling, later, is_cond}
 use Rattle.vx_laws.specs.Lives.{Life, life, lives}
 use Rattle.vx_laws.specs.MessageLaw.{takes_oldest, told_read, told_reader, counts_right, puts_bytes, read_bytes, read_cond, hands_over, is_taken_by}
 use Rattle.vx_laws.specs.StatusLaw.{to_next_fin}
+use Rattle.vx_base.proofs.First.{found_passes}
 
 -- A message goes to a read.
 
@@ -234,22 +235,6 @@ pub waiting_reads : (f : Func) → is_waiting_func f ≡ true → is_read f ≡ 
 waiting_reads Read e = refl
 waiting_reads f e = absurd (let never : false ≡ true = e in cc)
 
-pub find_any : {A : Type 0} (p : A → Bool) (xs : List A) (x : A) → find p xs ≡ Some x → list_any p xs ≡ true
-find_any p [] x e = absurd (let never : None ≡ Some x = e in cc)
-find_any p (y ∷ ys) x e = at (p y) (λ k. find_any p ys x k) e
-  where
-    at : (b : Bool) → (find p ys ≡ Some x → list_any p ys ≡ true) → cond b (Some y) (find p ys) ≡ Some x → (b || list_any p ys) ≡ true
-    at true k e = refl
-    at false k e = k e
-
-pub find_no : {A : Type 0} (p : A → Bool) (xs : List A) → find p xs ≡ None → list_any p xs ≡ false
-find_no p [] e = refl
-find_no p (y ∷ ys) e = at (p y) (λ k. find_no p ys k) e
-  where
-    at : (b : Bool) → (find p ys ≡ None → list_any p ys ≡ false) → cond b (Some y) (find p ys) ≡ None → (b || list_any p ys) ≡ false
-    at true k e = absurd (let never : Some y ≡ None = e in cc)
-    at false k e = k e
-
 -- the mailbox with one message more
 abbrev one_more : State → BoxNo → Msg → Mailbox
 one_more s b m = record (mailbox_at s b) { messages = (mailbox_at s b).messages ++ m ∷ [] }
@@ -309,7 +294,7 @@ write_serving s past b box r w calm h = by_reader (find (waits_at b) s.requests)
         let put = put_walk s past b box r None e w h in
         let single : IsSingle a.after = λ c k.
         elim (cases_eq c.0 b.0) [
-          | inl same ↦ absurd (apart_bools (list_any (waits_at b) s.requests) (subst (λ (d : BoxNo). list_any (waits_at d) s.requests ≡ true) (same_box c b same) k) (find_no (waits_at b) s.requests e))
+          | inl same ↦ absurd (apart_bools (list_any (waits_at b) s.requests) (subst (λ (d : BoxNo). list_any (waits_at d) s.requests ≡ true) (same_box c b same) k) (none_any (waits_at b) s.requests e))
           | inr apart ↦ ap (λ (y : Mailbox). y.messages) (other_messages s b c (Some (one_more s b m)) apart) ∙ w.single c k
         ] in
         let rest = store_serving a.after (Did x ∷ past) b m calm single put in
@@ -321,11 +306,11 @@ write_serving s past b box r w calm h = by_reader (find (waits_at b) s.requests)
         }
     by_reader (Some q) e =
         let put = put_walk s past b box r (Some q) e w h in
-        let empty : (mailbox_at s b).messages ≡ [] = w.single b (find_any (waits_at b) s.requests q e) in
+        let empty : (mailbox_at s b).messages ≡ [] = w.single b (found_any (waits_at b) s.requests q e) in
         let first : (one_more s b m).messages ≡ m ∷ [] = ap (λ (l : List Msg). l ++ m ∷ []) empty in
         let name : (mailbox_at a.after b).name ≡ (mailbox_at s b).name = ap (λ (y : Option Mailbox). (or_no_box y).name) there in
         let root = all_find (Rooted a.after (Did x ∷ past)) (waits_at b) s.requests q put.requests e in
-        let reads = waiting_reads q.req.func (and_parts (is_box b q.req.device) (is_waiting_func q.req.func) (find_passes (waits_at b) s.requests q e)).1 in
+        let reads = waiting_reads q.req.func (and_parts (is_box b q.req.device) (is_waiting_func q.req.func) (found_passes (waits_at b) s.requests q e)).1 in
         let t = received a.after b m q in
         let last = write_done t.after m in
         let quiet = quiet_done t.after (find (this_request m.id) t.after.requests) (write_ending m) [] refl in

@@ -1,8 +1,8 @@
 -- At GONE nothing is left: no id of the process is open in the records, and no wake is for it. Of every run.
-use Rattle.std.proofs.Common.{◌≡◌, ◌∙◌, ℕ, zero, suc, ◌+◌, ◌-◌, List, [], ◌∷◌, ◌++◌, Bool, true, false, not, ◌&&◌, ◌||◌, Option, Some, None, map, refl, sym, ap, subst, arith, ⊎_elim}
+use Rattle.std.proofs.Common.{◌≡◌, ◌∙◌, ℕ, ◌+◌, ◌-◌, List, [], ◌∷◌, ◌++◌, Bool, true, false, not, ◌&&◌, ◌||◌, Option, Some, None, map, refl, sym, ap, subst, arith, ⊎_elim}
 use Rattle.std.specs.Prelude.{Contains}
 use Rattle.std.specs.List.{AllByRecursion, list_any}
-use Rattle.std.proofs.lemmas.Bool.{and_parts, and_from, eqb-true, cases_eq}
+use Rattle.std.proofs.lemmas.Bool.{and_parts, and_from, eqb-true, cases_eq, false_from_ne_true}
 use Rattle.vx_base.specs.Pieces.{Timer, Alarm, OfTimer, OfWake}
 use Rattle.vx_base.specs.declared.effects.Effect.{Effect}
 use Rattle.vx_base.specs.declared.effects.Effect.TheVariants as effect
@@ -33,7 +33,7 @@ use Rattle.vx_record.proofs.Allowed.{enabled_there}
 use Rattle.vx_record.proofs.Along.{first_base}
 use Rattle.vx_laws.specs.Items.{Item, Head, Did, flat, later, at_each}
 use Rattle.vx_laws.specs.Leftovers.{is_open_of}
-use Rattle.vx_laws.specs.Lives.{Life, life, lives, highest, is_open, is_wake, id_of, all_ids}
+use Rattle.vx_laws.specs.Lives.{Life, life, lives, highest, is_open, is_wake}
 use Rattle.vx_laws.specs.RundownLaw.{woken, is_wake_for, is_of, is_left_of, nothing_left, rests, enters_last, run_downs}
 use Rattle.vx_laws.specs.RundownParts.{stays, leaves, leaves_none}
 use Rattle.vx_laws.proofs.Allowed.{Allowed, is_allowed}
@@ -48,7 +48,7 @@ use Rattle.vx_laws.proofs.Leftover.{Emptied, Cleared}
 use Rattle.vx_laws.proofs.Listed.{holds, holds_in, Listed, moves_listed}
 use Rattle.vx_laws.proofs.Lowers.{Low, Lowers, Others, closed, stops, goes, others_change, rundown_lowers}
 use Rattle.vx_laws.proofs.Named.{every_run_last}
-use Rattle.vx_laws.proofs.Newest.{Further, step_further, first_further}
+use Rattle.vx_laws.proofs.Newest.{Further, step_further, first_further, all_ids_by}
 use Rattle.vx_laws.proofs.Opens.{any_told}
 use Rattle.vx_laws.proofs.Rests.{enabled_awake, is_rundown, phase_made, every_run_rests}
 use Rattle.vx_laws.proofs.Right.{lives_more, moves_right}
@@ -57,18 +57,10 @@ use Rattle.vx_laws.proofs.Seats.{TimerLives, timer_life, alarm_life, seat, body_
 use Rattle.vx_laws.proofs.Stands.{Stands}
 use Rattle.vx_laws.proofs.Steps.{step_tags, first_tags}
 use Rattle.vx_laws.proofs.Unowned.{nothing_owned}
-use Rattle.vx_laws.proofs.Where.{both_hold}
+use Rattle.vx_laws.proofs.Where.{both_hold, lives_then}
 use Rattle.vx_laws.proofs.Wakes.{no_wake, is_for, has_woken, IsTold, Targeted, Wakes, Opens, unopened, opened_one, Unopening, step_opens, step_wakes, wakes_moved, unwoken_on}
 
-false_by : (b : Bool) → (b ≡ true → ⊥) → b ≡ false
-false_by true k = absurd (k refl)
-false_by false k = refl
-
 -- A wake that is open stands among the timers, and none that stands there is for the process.
-
-lives_weaker : (f g : Life → Bool) (o : Option Life) → ((l : Life) → f l ≡ true → g l ≡ true) → lives f o ≡ true → lives g o ≡ true
-lives_weaker f g None k h = absurd (let never : false ≡ true = h in cc)
-lives_weaker f g (Some l) k h = k l h
 
 no_wake_apart : (p : Pid) (l : Life) → not (is_wake l.kind) ≡ true → not (is_wake_for p l) ≡ true
 no_wake_apart p l e = two (is_wake l.kind) (is_same (woken l.by l.p) p) e
@@ -92,8 +84,8 @@ timer_apart p past t h k e =
     by_alarm t.what (lives_more 2 (timer_life t) (alarm_life t.what) (life past t.id) (λ l x y. (and_parts _ (alarm_life t.what l) (and_parts (is_same l.p t.p) _ y).1).1) h) k e
   where
     by_alarm : (a : Alarm) → lives (alarm_life a) (life past t.id) ≡ true → IsTold past t.id a → wakes p a ≡ false → lives (λ l. not (is_wake_for p l)) (life past t.id) ≡ true
-    by_alarm (OfTimer efn reqid mode tag) h k e = lives_weaker (alarm_life (OfTimer efn reqid mode tag)) (λ l. not (is_wake_for p l)) (life past t.id) (λ l y. no_wake_apart p l (and_parts (not (is_wake l.kind)) _ y).0) h
-    by_alarm (OfWake target n) h k e = lives_weaker (is_for target) (λ l. not (is_wake_for p l)) (life past t.id) (λ l y. for_other p target l e y) k
+    by_alarm (OfTimer efn reqid mode tag) h k e = lives_then (alarm_life (OfTimer efn reqid mode tag)) (λ l. not (is_wake_for p l)) (life past t.id) (λ l y. no_wake_apart p l (and_parts (not (is_wake l.kind)) _ y).0) h
+    by_alarm (OfWake target n) h k e = lives_then (is_for target) (λ l. not (is_wake_for p l)) (life past t.id) (λ l y. for_other p target l e y) k
 
 timers_apart : (p : Pid) (past : List Item) (ts : List Timer) → AllByRecursion (TimerLives past) ts → AllByRecursion (Targeted past) ts → AllByRecursion (λ t. wakes p t.what ≡ false) ts → AllByRecursion (λ t. lives (λ l. not (is_wake_for p l)) (life past t.id) ≡ true) ts
 timers_apart p past [] a b c = tt
@@ -123,7 +115,7 @@ none_left s past p id c w g h k = by_life (life past id) refl (h id)
     by_life : (o : Option Life) → life past id ≡ o → holds s None id o ≡ true → lives (is_left_of p) o ≡ false
     by_life None is j = refl
     by_life (Some l) is j =
-        false_by (is_left_of p l) (λ e.
+        false_from_ne_true (is_left_of p l) (λ e.
         let parts = and_parts (is_open l) (is_of p l) e in
         by_either ⊥ (is_same l.p p) (is_wake_for p l) parts.1
         (λ own.
@@ -140,12 +132,8 @@ none_left s past p id c w g h k = by_life (life past id) refl (h id)
         let never : false ≡ true = sym (ap not wake) ∙ yes in
         cc))
 
-all_pass : (test : Id → Bool) (n : ℕ) → ((id : Id) → test id ≡ true) → all_ids test n ≡ true
-all_pass test zero k = refl
-all_pass test (suc n) k = and_from (test (id_of (suc n))) (all_ids test n) (k (id_of (suc n))) (all_pass test n k)
-
 pub left_nothing : (s : State) (past : List Item) (p : Pid) → Cleared p s → Still s p → Stands s None past → Listed s None past → Wakes s past → nothing_left past p ≡ true
-left_nothing s past p c w g h k = all_pass (λ id. not (lives (is_left_of p) (life past id))) (highest past) (λ id. ap not (none_left s past p id c w g h k))
+left_nothing s past p c w g h k = all_ids_by (λ id. not (lives (is_left_of p) (life past id))) (highest past) (λ id. ap not (none_left s past p id c w g h k))
 
 -- What is asked of the effects of a record.
 

@@ -43,7 +43,7 @@ use Rattle.vx_record.specs.Timers.{this_timer, due_again, after_wake, scheduled,
 use Rattle.vx_record.specs.declared.served.Served.{Served}
 use Rattle.vx_record.specs.declared.served.Served.TheVariants.{Answered, Waits}
 use Rattle.vx_record.proofs.Base.{Base}
-use Rattle.vx_record.proofs.Lists.{either, all_append, all_less, all_amend, all_weaker, all_both}
+use Rattle.vx_record.proofs.Lists.{either, all_append, all_less, all_amend, all_weaker, all_both, all_first, all_last}
 use Rattle.vx_record.proofs.Moves.{Loose, Moves, IsOfTimer, both, flag, end_asts, end_handlers, open_timer, open_wake, timer_fires, wake_fires, end_timer}
 use Rattle.vx_record.proofs.Steps.{IsThere}
 use Rattle.vx_record.proofs.Told.{started_moves, step_moves}
@@ -52,7 +52,7 @@ use Rattle.vx_laws.specs.Items.{Item, Head, Did, later, latest_call, calling}
 use Rattle.vx_laws.specs.Lives.{Life, life, lives, opens, is_wake, finished, fired, dropped, entered_once, queued_now, marked_now, begun_by, started as ast_started}
 use Rattle.vx_laws.specs.RundownLaw.{woken}
 use Rattle.vx_laws.proofs.Allowed.{Test, is_allowed, Allowed, MayOpen, nil, service_allowed, finish_allowed, tick_allowed}
-use Rattle.vx_laws.proofs.Boxed.{Origin, origin, origin_of, origin_on, IsElse}
+use Rattle.vx_laws.proofs.Boxed.{Origin, origin, origin_of, origin_on}
 use Rattle.vx_laws.proofs.CalmServices.{test_is}
 use Rattle.vx_laws.proofs.Emptied.{is_open_allowed, allowed_open}
 use Rattle.vx_laws.proofs.Rests.{is_rundown, returned_allowed, started_allowed}
@@ -60,6 +60,7 @@ use Rattle.vx_laws.proofs.Right.{AllRight, IsRight}
 use Rattle.vx_laws.proofs.Runs.{step_right}
 use Rattle.vx_laws.proofs.Seats.{TimerLives, timer_life, Known, seat}
 use Rattle.vx_laws.proofs.Stands.{Stands}
+use Rattle.vx_laws.proofs.Calls.{IsElse}
 
 abbrev pub no_wake : Test
 no_wake k p = not (is_wake k)
@@ -69,14 +70,6 @@ no_wake k p = not (is_wake k)
 pub record IsOfTimers (P : Timer → Type 0) : Type 0 where
   pub due : (n : ℕ) (t : Timer) → P t → P (due_again n t)
   pub timer : (t : Timer) → IsOfTimer t.what → P t
-
-all_first : {A : Type 0} (P : A → Type 0) (xs ys : List A) → AllByRecursion P (xs ++ ys) → AllByRecursion P xs
-all_first P [] ys h = tt
-all_first P (x ∷ xs) ys h = (h.0, all_first P xs ys h.1)
-
-all_last : {A : Type 0} (P : A → Type 0) (xs ys : List A) → AllByRecursion P (xs ++ ys) → AllByRecursion P ys
-all_last P [] ys h = h
-all_last P (x ∷ xs) ys h = all_last P xs ys h.1
 
 timed_flag : (P : Timer → Type 0) (s : State) (c : Cell) (on : Bool) → AllByRecursion P s.timers → AllByRecursion P (flag_part s c on).after.timers
 timed_flag P s (Local p n) on h = h

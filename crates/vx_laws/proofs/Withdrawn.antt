@@ -1,8 +1,8 @@
 -- Cancelled channels and freed ones, as the law of mailboxes asks.
 use Rattle.std.proofs.Common.{inl, inr, ◌≡◌, ◌≢◌, ℕ, ◌+◌, ◌≤◌, List, [], ◌∷◌, ◌++◌, Bool, true, false, not, ◌==◌, ◌&&◌, ◌||◌, Option, Some, None, map, refl, sym, ap, ◌∙◌, subst, arith, is_some, IsTrue}
-use Rattle.std.proofs.lemmas.Bool.{eq-eqb, eqb-true, ne_eqb, and_parts, and_from, or_cases, or_left, or_right}
-use Rattle.std.specs.List.{AllByRecursion, filter, find, list_any}
-use Rattle.vx_base.specs.Lists.{less, amend}
+use Rattle.std.proofs.lemmas.Bool.{eq-eqb, eqb-true, ne_eqb, and_parts, and_from, or_cases, or_left, or_right, false_from_ne_true, not-true, not_from_false}
+use Rattle.std.specs.List.{AllByRecursion, filter, list_any}
+use Rattle.vx_base.specs.Lists.{less}
 use Rattle.vx_base.specs.Pieces.{Channel, Request, Mailbox}
 use Rattle.vx_base.specs.declared.cond.Cond.TheVariants.{Cancel as Cancelled}
 use Rattle.vx_base.specs.declared.effects.Effect.TheVariants as effect
@@ -15,7 +15,7 @@ use Rattle.vx_base.specs.declared.request.Device.TheVariants as device
 use Rattle.vx_base.specs.declared.request.Device.{Device}
 use Rattle.vx_base.specs.declared.request.Msg.{Msg}
 use Rattle.vx_record.proofs.Ground.{at_set}
-use Rattle.vx_record.proofs.Lists.{either, either_by, all_weaker, all_both, all_less, all_amend, all_filter, all_find, all_from, ordered_less, ordered_amend, removed, false_from, apart_bools, not_holds, fails_not}
+use Rattle.vx_record.proofs.Lists.{either, either_by, all_weaker, all_both, all_less, all_amend, all_filter, all_find, all_from, ordered_less, ordered_amend, removed, apart_bools}
 use Rattle.vx_record.proofs.SoundChannels.{is_on_box}
 use Rattle.vx_record.specs.Cancel.{with_abort, mark_part, withdraw, withdraw_from, cancelled_request, cancel_request, is_request_on, is_attention_on, drop_attention, cancel_channel}
 use Rattle.vx_record.specs.Channels.{with_channel, is_assigned, goes_unused, box_gone, swept_device, swept_box, free_channel}
@@ -24,10 +24,10 @@ use Rattle.vx_record.specs.Mailboxes.{mailbox_at, or_no_box, waits_at, this_mess
 use Rattle.vx_record.specs.Parts.{Part, nothing, and_then, each}
 use Rattle.vx_record.specs.Sound.{AreOrdered, MayBeServed, request_id}
 use Rattle.vx_record.specs.State.{State, change, box_at, with_box}
-use Rattle.vx_record.proofs.Cancelled.{finish_requests, withdraw_requests}
+use Rattle.vx_record.proofs.Cancelled.{still_has, cancelled_requests}
 use Rattle.vx_laws.proofs.Aside.{row, drop_attentions_aside}
 use Rattle.vx_laws.proofs.Boxed.{Origin, origin_on, IsThere, Rooted, Boxed, Carried, carry, all_rooted, there_as, title_as, put_there, some_within, message_id}
-use Rattle.vx_record.proofs.Finds.{other_id, find_less, find_amend, all_found, ordered_filter}
+use Rattle.vx_record.proofs.Finds.{all_found, ordered_filter}
 use Rattle.vx_laws.proofs.Handed.{cut_boxed, less_fewer}
 use Rattle.vx_record.proofs.Moves.{HasRequest}
 use Rattle.vx_laws.proofs.Passing.{Right, Walk, walk_then, walk_aside, walk_nothing, finish_walk, IsPlainCall, plain_over, Fewer, fewer_same, MayFin, lives_origin, unit_stores, mailbox_is, fewer_then}
@@ -37,6 +37,7 @@ use Rattle.vx_laws.specs.Boxes.{this_stored, stored, stored_at}
 use Rattle.vx_laws.specs.Items.{Item, Did, later, is_cond}
 use Rattle.vx_laws.specs.Lives.{life, lives}
 use Rattle.vx_laws.specs.MessageLaw.{is_cancelled_next, is_stored_nowhere}
+use Rattle.vx_laws.proofs.Common.{any_amend}
 
 -- A request that is to be aborted.
 
@@ -48,10 +49,6 @@ marked_boxed s r past h =
     carry s t past (x ∷ past) c refl (λ p n. refl) (λ name. refl) (λ name. refl) (ordered_amend request_id (this_request r.req.id) with_abort (λ y. refl) 0 s.next s.requests h.ordered)
     (all_amend (Rooted t (x ∷ past)) (this_request r.req.id) with_abort (λ y k. record { from = k.from; below = k.below; above = k.above; numbered = k.numbered; there = k.there; on = k.on; free = k.free; call = k.call; is = k.is; func = k.func; len = k.len }) s.requests
     (all_rooted s t past (x ∷ past) c (λ p n. refl) s.requests h.requests)) h
-
-any_amend : (b : BoxNo) (p : Request → Bool) (xs : List Request) → list_any (waits_at b) (amend p with_abort xs) ≡ list_any (waits_at b) xs
-any_amend b p [] = refl
-any_amend b p (x ∷ xs) = either (λ (l : List Request). list_any (waits_at b) l ≡ list_any (waits_at b) (x ∷ xs)) (p x) (with_abort x ∷ xs) (x ∷ amend p with_abort xs) refl (ap (λ (y : Bool). waits_at b x || y) (any_amend b p xs))
 
 -- A write that is cancelled is stored no more.
 
@@ -67,7 +64,7 @@ stored_nowhere : (s : State) (past : List Item) (r : Request) → Rooted s past 
 stored_nowhere s past r root none =
     let g : Origin = record { p = r.req.p; by = Some root.call; device = Some (device_title s r.req.device) } in
     lives_origin (is_stored_nowhere past r.req.id) g (life past r.req.id) root.is
-    (λ l e. subst (λ (d : Option (List ℕ)). not (list_any (this_stored r.req.id) (stored_at past d)) ≡ true) (sym (ap (λ (o : Origin). o.device) e)) (fails_not _ none))
+    (λ l e. subst (λ (d : Option (List ℕ)). not (list_any (this_stored r.req.id) (stored_at past d)) ≡ true) (sym (ap (λ (o : Origin). o.device) e)) (not_from_false _ none))
 
 box_nowhere : (s : State) (past : List Item) (r : Request) (b : BoxNo) (box : Mailbox) → r.req.device ≡ device.Mailbox b → box_at s b ≡ Some box → Rooted s past r → list_any (this_message r.req.id) box.messages ≡ false → Boxed s past → MayFin past r.req.id Cancelled
 box_nowhere s past r b box on is root none h =
@@ -121,27 +118,11 @@ pub cancel_request_walk : (s : State) (past : List Item) (r : Request) (more : L
 cancel_request_walk s past r more has calm h =
     either (λ (x : Part). Walk s past x more) r.served _ (cancelled_request s r)
     (either (λ (x : Part). Walk s past x more) (not r.marked) (mark_part s r) (nothing s)
-    (record { boxed = marked_boxed s r past h; lawful = ((λ rest left. refl), tt); fewer = record { reads = λ b e. sym (any_amend b (this_request r.req.id) s.requests) ∙ e; empty = λ b e. e } })
+    (record { boxed = marked_boxed s r past h; lawful = ((λ rest left. refl), tt); fewer = record { reads = λ b e. sym (any_amend (this_request r.req.id) (waits_at b) with_abort s.requests (λ x. refl)) ∙ e; empty = λ b e. e } })
     (walk_nothing s past more h))
     (cancelled_walk s past r more has calm h)
 
 -- one after another
-
-cancelled_requests : (s : State) (r : Request) → (cancelled_request s r).after.requests ≡ less (this_request r.req.id) s.requests
-cancelled_requests s r = finish_requests (withdraw s r r.req.device).after r (ending Cancelled 0 0 []) ∙ ap (less (this_request r.req.id)) (withdraw_requests s r r.req.device)
-
-other_request : (l : List Request) (x y : Request) → request_id x + 1 ≤ request_id y → find (this_request y.req.id) l ≡ Some y → find (this_request y.req.id) (less (this_request x.req.id) l) ≡ Some y
-other_request l x y h e = find_less (this_request x.req.id) (this_request y.req.id) l y (λ z. other_id z.req.id.0 x.req.id.0 y.req.id.0 (λ same. omega arith)) e
-
-other_marked : (l : List Request) (x y : Request) → request_id x + 1 ≤ request_id y → find (this_request y.req.id) l ≡ Some y → find (this_request y.req.id) (amend (this_request x.req.id) with_abort l) ≡ Some y
-other_marked l x y h e =
-    let apart = λ (z : Request). other_id z.req.id.0 x.req.id.0 y.req.id.0 (λ same. omega arith) in
-    find_amend (this_request x.req.id) (this_request y.req.id) with_abort l y apart apart e
-
-still_has : (s : State) (x y : Request) → request_id x + 1 ≤ request_id y → HasRequest s y → HasRequest (cancel_request s x).after y
-still_has s x y h e =
-    let P = λ (a : Part). HasRequest a.after y in
-    either P x.served _ (cancelled_request s x) (either P (not x.marked) (mark_part s x) (nothing s) (other_marked s.requests x y h e) e) (rw (cancelled_requests s x) (other_request s.requests x y h e))
 
 each_cancel_walk : (low high : ℕ) (xs : List Request) (s : State) (past : List Item) (more : List Effect) → AreOrdered request_id low high xs → AllByRecursion (HasRequest s) xs → IsPlainCall past → Boxed s past → Walk s past (each cancel_request xs s) more
 each_cancel_walk low high [] s past more o k calm h = walk_nothing s past more h
@@ -171,7 +152,7 @@ past_served : (p : Pid) (n : ℕ) (t : Request) (ts : List Request) → t.served
 unfolding takes Covered
 past_served p n t ts served r k e =
     elim (or_cases (takes r t) (list_any (takes r) ts) (k e)) [
-      | inl here ↦ absurd (apart_bools t.served served (not_holds t.served (and_parts (this_request t.req.id r) (not t.served) here).1))
+      | inl here ↦ absurd (apart_bools t.served served (not-true t.served (and_parts (this_request t.req.id r) (not t.served) here).1))
       | inr there ↦ there
     ]
 
@@ -211,7 +192,7 @@ left_after s p n high t ts k =
 
 none_left : (p : Pid) (n : ℕ) (r : Request) → Covered p n [] r → (is_on_box r.req.device && is_request_on p n r) ≡ false
 unfolding Covered
-none_left p n r k = false_from _ (λ e. let no : false ≡ true = k e in cc)
+none_left p n r k = false_from_ne_true _ (λ e. let no : false ≡ true = k e in cc)
 
 each_clear : (p : Pid) (n high : ℕ) (todo : List Request) (s : State) → Left p n high todo s.requests → IsClear (each cancel_request todo s).after p n
 each_clear p n high [] s k = all_weaker (Covered p n []) (λ r. (is_on_box r.req.device && is_request_on p n r) ≡ false) (none_left p n) s.requests k.covered
@@ -228,7 +209,7 @@ covered_more p n t ts r k e = or_right (takes r t) (list_any (takes r) ts) (k e)
 covered_here : (p : Pid) (n : ℕ) (r : Request) (ts : List Request) → MayBeServed r.served r.req.device → Covered p n (r ∷ ts) r
 unfolding takes Covered
 covered_here p n r ts k e =
-    or_left (takes r r) (list_any (takes r) ts) (and_from (this_request r.req.id r) (not r.served) (eq-eqb r.req.id.0 r.req.id.0 refl) (fails_not r.served (box_unserved r.served r.req.device k (and_parts (is_on_box r.req.device) (is_request_on p n r) e).0)))
+    or_left (takes r r) (list_any (takes r) ts) (and_from (this_request r.req.id r) (not r.served) (eq-eqb r.req.id.0 r.req.id.0 refl) (not_from_false r.served (box_unserved r.served r.req.device k (and_parts (is_on_box r.req.device) (is_request_on p n r) e).0)))
 
 covered_not : (p : Pid) (n : ℕ) (r : Request) (ts : List Request) → is_request_on p n r ≡ false → Covered p n ts r
 unfolding Covered
@@ -269,7 +250,7 @@ swept_walk : (s : State) (past : List Item) (d : Device) (more : List Effect) �
 swept_walk s past (device.Unit u) more there h = walk_nothing s past more h
 swept_walk s past (device.Mailbox b) more there h =
     either_by (λ (x : Part). Walk s past x more) (not (is_assigned s b) && goes_unused (mailbox_at s b)) (box_gone s b) (nothing s)
-    (λ e. gone_walk s past b (box_at s b) more refl there (not_holds (is_assigned s b) (and_parts (not (is_assigned s b)) (goes_unused (mailbox_at s b)) e).0) h) (λ e. walk_nothing s past more h)
+    (λ e. gone_walk s past b (box_at s b) more refl there (not-true (is_assigned s b) (and_parts (not (is_assigned s b)) (goes_unused (mailbox_at s b)) e).0) h) (λ e. walk_nothing s past more h)
 
 pub free_walk : (s : State) (past : List Item) (p : Pid) (n : ℕ) (more : List Effect) → 1 ≤ p.0 → 1 ≤ n → IsClear s p n → Boxed s past → Walk s past (free_channel s p n) more
 free_walk s past p n more above one clear h = by_row (row s p n) refl

@@ -19,9 +19,7 @@ use Rattle.vx_base.specs.declared.mode.Mode.{Mode}
 use Rattle.vx_base.specs.declared.mode.Mode.TheVariants.{Kernel}
 use Rattle.vx_base.specs.declared.number.Id.{Id}
 use Rattle.vx_base.specs.declared.number.Pid.{Pid}
-use Rattle.vx_text.specs.First.{cond_named}
-use Rattle.vx_text.proofs.Runs.{and_parts}
-use Rattle.vx_table.specs.Reading.{mode_word, target_word}
+use Rattle.vx_table.specs.Reading.{target_word}
 use Rattle.vx_table.specs.Spelling.{mode_name, target_text}
 use Rattle.vx_lines.specs.Fields.{as_id, as_pid, id_of, pid_of, number_of, bit_of, name_in, kind_of, mode_or_none, cond_or_none, is_one}
 use Rattle.vx_lines.specs.ReadEffect.{is_no_feed, unfed, effect_of, with_bytes, if_spelled, read_effect, fin_in}
@@ -29,6 +27,8 @@ use Rattle.vx_lines.specs.Records.{spaced, id_text, pid_text, bit_text, opened_n
 use Rattle.vx_lines.specs.Spelled.{IsWord}
 use Rattle.vx_lines.specs.Words.{◌>>=◌, is_inner, first_word, second_word, third_word}
 use Rattle.vx_lines.proofs.WordsBack.{Whole, run_first, first_back, second_back, value_back, number_all, name_all}
+use Rattle.std.proofs.lemmas.Bool.{and_parts}
+use Rattle.vx_text.proofs.Conditions.{named_by}
 
 -- What stands in a word that is no text: neither a space nor a line feed.
 
@@ -109,14 +109,6 @@ pub bit_back : (bit : Bool) → bit_of (bit_text bit) ≡ Some bit
 bit_back true = ap (option_map is_one) (value_back 1 1 (omega arith) (omega arith))
 bit_back false = ap (option_map is_one) (value_back 1 0 (omega arith) (omega arith))
 
-pub cond_back : (c : Cond) → cond_named (name_of c) ≡ Some c
-cond_back Normal = refl
-cond_back _ = refl
-
-pub mode_back : (m : Mode) → mode_word (mode_name m) ≡ Some m
-mode_back Kernel = refl
-mode_back _ = refl
-
 pub kind_back : (k : Opened) → kind_of (opened_name k) ≡ Some k
 kind_back Bio = refl
 kind_back _ = refl
@@ -143,7 +135,7 @@ target_back target.R0 h = refl
 pub by_first : (word line : List ℕ) → first_word line ≡ word → effect_of line ≡ with_bytes word line
 by_first word line h = ap (λ (w : List ℕ). with_bytes w line) h
 
-nat_same : (b : ℕ) → (b == b) ≡ true
+pub nat_same : (b : ℕ) → (b == b) ≡ true
 nat_same b = grind (arith, nat_tests)
 
 pub bytes_same : (bs : List ℕ) → bytes_eq bs bs ≡ true
@@ -172,4 +164,4 @@ only_id_back make word id t h by =
     by_first word line (first_back word (id_text id ∷ []) (whole word t)) ∙ by line ∙ ap (λ (z : List ℕ). option_map make (id_of z)) (second_back word (id_text id) [] (whole word t) (whole (id_text id) (tight_id id h))) ∙ ap (option_map make) (id_back id h)
 
 pub fin_words : (line : List ℕ) (id : Id) (cond : Cond) → second_word line ≡ id_text id → third_word line ≡ name_of cond → IsWord id.0 → fin_in line ≡ Some (effect.Fin id cond)
-fin_words line id cond b c h = rw (b, c, id_back id h, cond_back cond) refl
+fin_words line id cond b c h = rw (b, c, id_back id h, named_by cond) refl

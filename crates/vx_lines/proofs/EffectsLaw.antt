@@ -23,8 +23,9 @@ use Rattle.vx_lines.specs.Records.{effect_line, spaced, id_text, pid_text, bit_t
 use Rattle.vx_lines.specs.Spelled.{IsSpelled, IsWord, IsSpelledCell, IsSpelledBody, IsSpelledCluster, ReadsBack}
 use Rattle.vx_lines.specs.Words.{behind_word, second_word, third_word, fourth_word, fifth_word, sixth_word}
 use Rattle.vx_lines.proofs.WordsBack.{first_back, behind_back, second_back, third_back, fourth_back, fifth_back, sixth_back}
-use Rattle.vx_lines.proofs.EffectsBack.{Tight, whole, feedless, tight_number, tight_id, tight_name, tight_bit, tight_cond, tight_mode, tight_kind, tight_mode_text, tight_cond_text, tight_target, number_back, id_back, pid_back, bit_back, mode_back, kind_back, mode_or_none_back, cond_or_none_back, name_back, target_back, by_first, read_back, feedless_spaced, only_id_back, fin_words}
+use Rattle.vx_lines.proofs.EffectsBack.{Tight, whole, feedless, tight_number, tight_id, tight_name, tight_bit, tight_cond, tight_mode, tight_kind, tight_mode_text, tight_cond_text, tight_target, number_back, id_back, pid_back, bit_back, kind_back, mode_or_none_back, cond_or_none_back, name_back, target_back, by_first, read_back, feedless_spaced, only_id_back, fin_words}
 use Rattle.vx_lines.proofs.PartsBack.{cell_back, tight_cell, tight_cluster, cluster_back, cluster_or_none_back, tight_joined, k_back, text_back, text_feed, body_back, body_feed}
+use Rattle.vx_table.proofs.Back.{mode_back}
 
 -- words of which none has a space or a line feed
 

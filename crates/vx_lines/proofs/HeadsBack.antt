@@ -1,5 +1,5 @@
 -- The head of a record is read back.
-use Rattle.std.proofs.Common.{◌≡◌, ℕ, suc, ◌+◌, ◌-◌, ◌<◌, ◌^◌, Bool, true, false, cond, List, [], ◌∷◌, ◌++◌, length, take, drop, reverse, codes, bytes_eq, Option, Some, Ok, refl, sym, ap, ◌∙◌, arith, append_assoc, length-append}
+use Rattle.std.proofs.Common.{◌≡◌, ℕ, ◌+◌, ◌-◌, ◌<◌, ◌^◌, Bool, true, false, cond, List, [], ◌∷◌, ◌++◌, length, take, drop, reverse, codes, bytes_eq, Option, Some, Ok, refl, sym, ap, ◌∙◌, arith, append_assoc, length-append}
 use Rattle.std.specs.Prelude.{decimal}
 use Rattle.std.specs.List.{list_all, prefix_len}
 use Rattle.std.proofs.Math.Seq.{take-append_seam, drop-append_seam}
@@ -17,7 +17,6 @@ use Rattle.vx_base.specs.declared.record.Answer.TheVariants as answer
 use Rattle.vx_base.specs.declared.record.Event.TheVariants as event
 use Rattle.vx_text.specs.Lex.{lex}
 use Rattle.vx_text.proofs.Lexing.{lex_gap}
-use Rattle.vx_text.proofs.Runs.{and_parts}
 use Rattle.vx_table.specs.Back.{toks_of, AreHeld}
 use Rattle.vx_table.specs.Spelling.{call_text, call_tokens}
 use Rattle.vx_table.proofs.Back.{call_back}
@@ -28,8 +27,12 @@ use Rattle.vx_lines.specs.Records.{pid_text}
 use Rattle.vx_lines.specs.Spelled.{IsWord}
 use Rattle.vx_lines.specs.ReadHead.{is_plain_call, if_plain, call_among, call_of, served_by, served_in, ran_in, with_event, run_in, other_head, head_of}
 use Rattle.vx_lines.specs.Words.{◌>>=◌, is_inner, word_len, first_word, second_word, third_word, behind_word, last_len, last_word, before_last}
-use Rattle.vx_lines.proofs.WordsBack.{Whole, run_len, run_first, run_behind}
-use Rattle.vx_lines.proofs.EffectsBack.{whole, tight_number, cond_back, pid_back}
+use Rattle.vx_lines.proofs.WordsBack.{Whole, run_first, run_behind}
+use Rattle.vx_lines.proofs.EffectsBack.{whole, tight_number, pid_back}
+use Rattle.std.proofs.lemmas.Bool.{and_parts}
+use Rattle.vx_text.proofs.Runs.{run_len}
+use Rattle.vx_text.proofs.Local.{take-1}
+use Rattle.vx_text.proofs.Conditions.{named_by}
 
 -- A call is read from its text.
 
@@ -71,7 +74,7 @@ no_wait Normal = refl
 no_wait _ = refl
 
 pub served_back : (c : Call) (cond : Cond) → is_call c ≡ true → AreHeld (args_list c.args) → is_plain_call c ≡ true → served_in (32 ∷ call_text c) (name_of cond) ≡ Some (answer.Service c cond)
-served_back c cond is held plain = ap (λ (o : Option Call). served_by o (name_of cond)) (call_of_text c is held plain) ∙ rw (no_wait cond, cond_back cond) refl
+served_back c cond is held plain = ap (λ (o : Option Call). served_by o (name_of cond)) (call_of_text c is held plain) ∙ rw (no_wait cond, named_by cond) refl
 
 pub waits_back : (c : Call) → is_call c ≡ true → AreHeld (args_list c.args) → is_plain_call c ≡ true → served_in (32 ∷ call_text c) (codes "WAIT") ≡ Some (answer.Wait c)
 waits_back c is held plain = ap (λ (o : Option Call). served_by o (codes "WAIT")) (call_of_text c is held plain)
@@ -93,19 +96,13 @@ second_two a b rest h k = ap first_word (run_behind is_inner a (32 ∷ (b ++ 32 
 pub third_two : (a b rest : List ℕ) → Whole a → Whole b → third_word (two_words a b rest) ≡ first_word (32 ∷ rest)
 third_two a b rest h k = ap first_word (behind_two a b rest h k)
 
--- the first word of a call begins with a dollar
-take_one : (n b : ℕ) (bs : List ℕ) → take (1 + n) (b ∷ bs) ≡ b ∷ take n bs
-take_one n b bs =
-    let e : 1 + n ≡ suc n = omega arith in
-    rw e refl
-
 -- RUN and a call
 pub ran_call : (p : ℕ) (call word : List ℕ) → p < 2 ^ 32 → Whole word → ran_in (third_word (two_words (codes "RUN") (decimal p) ((36 ∷ call) ++ 32 ∷ word))) (two_words (codes "RUN") (decimal p) ((36 ∷ call) ++ 32 ∷ word)) ≡ served_in (32 ∷ 36 ∷ call) word
 ran_call p call word h k =
     let rest : List ℕ = (36 ∷ call) ++ 32 ∷ word in
     let line : List ℕ = two_words (codes "RUN") (decimal p) rest in
     let number = whole (decimal p) (tight_number p h) in
-    let third : third_word line ≡ 36 ∷ take (word_len (call ++ 32 ∷ word)) (call ++ 32 ∷ word) = third_two (codes "RUN") (decimal p) rest refl number ∙ take_one (word_len (call ++ 32 ∷ word)) 36 (call ++ 32 ∷ word) in
+    let third : third_word line ≡ 36 ∷ take (word_len (call ++ 32 ∷ word)) (call ++ 32 ∷ word) = third_two (codes "RUN") (decimal p) rest refl number ∙ take-1 (word_len (call ++ 32 ∷ word)) 36 (call ++ 32 ∷ word) in
     let front : List ℕ = 32 ∷ (codes "RUN" ++ 32 ∷ (decimal p ++ 32 ∷ 36 ∷ call)) in
     let same : line ≡ front ++ 32 ∷ word = ap (λ (z : List ℕ). 32 ∷ (codes "RUN" ++ 32 ∷ z)) (sym (append_assoc (decimal p) (32 ∷ 36 ∷ call) (32 ∷ word))) in
     let last : last_word line ≡ word = ap last_word same ∙ last_back front word k in

@@ -30,7 +30,6 @@ use Rattle.vx_base.specs.declared.service.Param.{Param}
 use Rattle.vx_base.specs.declared.service.Service.{Service}
 use Rattle.vx_base.specs.declared.service.Service.TheVariants.{SetEf}
 use Rattle.vx_image.specs.declared.unit.UnitDecl.{UnitDecl}
-use Rattle.vx_text.proofs.Runs.{and_parts}
 use Rattle.vx_text.specs.First.{cond_named}
 use Rattle.vx_table.specs.Back.{IsHeld, IsHeldOperand, AreHeld, held_unless}
 use Rattle.vx_table.specs.Spelling.{mode_name, func_name, arg_text, args_text, operand_text, target_text, call_text}
@@ -43,13 +42,15 @@ use Rattle.vx_lines.specs.Spelled.{IsWord}
 use Rattle.vx_lines.specs.SpelledHead.{IsSpelledCall, IsSpelledHead, IsSpelledUnit, HeadsReadBack}
 use Rattle.vx_lines.specs.Words.{◌>>=◌, is_inner, first_word, second_word, third_word, fourth_word, behind_word}
 use Rattle.vx_lines.proofs.WordsBack.{Whole, run_first, run_behind, first_back, value_back, number_all}
-use Rattle.vx_lines.proofs.EffectsBack.{whole, feedless, tight_cond, tight_id, tight_name, tight_number, tight_mode, tight_target, cond_back, id_back, pid_back, bytes_same}
+use Rattle.vx_lines.proofs.EffectsBack.{whole, feedless, tight_cond, tight_id, tight_name, tight_number, tight_mode, tight_target, id_back, pid_back, bytes_same}
 use Rattle.vx_lines.proofs.HeadsBack.{two_words, run_head, ran_call, served_back, waits_back, first_two, second_two, third_two, behind_two}
+use Rattle.std.proofs.lemmas.Bool.{and_parts}
+use Rattle.vx_text.proofs.Conditions.{named_by}
 
 -- No line feed stands in a head.
 
-both : (xs ys : List ℕ) → list_all is_no_feed xs ≡ true → list_all is_no_feed ys ≡ true → list_all is_no_feed (xs ++ ys) ≡ true
-both xs ys h k = list_all-append is_no_feed xs ys ∙ rw (h, k) refl
+pub no_feed_append : (xs ys : List ℕ) → list_all is_no_feed xs ≡ true → list_all is_no_feed ys ≡ true → list_all is_no_feed (xs ++ ys) ≡ true
+no_feed_append xs ys h k = list_all-append is_no_feed xs ys ∙ rw (h, k) refl
 
 service_feed : (s : Service) → list_all is_no_feed (service_name s) ≡ true
 service_feed SetEf = refl
@@ -80,7 +81,7 @@ arg_feed _ _ h held = absurd (cc)
 
 args_by : (before : ℕ) (k : Kind) (a : Arg) (args : List Arg) (u : Bool) → is_no_feed before ≡ true → is_of_kind k a ≡ true → held_unless u a (AreHeld args) → (AreHeld args → list_all is_no_feed (args_text 44 args) ≡ true) → list_all is_no_feed (cond u [] (before ∷ (arg_text a ++ args_text 44 args))) ≡ true
 args_by before k a args true c h held more = refl
-args_by before k a args false c h held more = rw (c, both (arg_text a) (args_text 44 args) (arg_feed k a h held.0) (more held.1)) refl
+args_by before k a args false c h held more = rw (c, no_feed_append (arg_text a) (args_text 44 args) (arg_feed k a h held.0) (more held.1)) refl
 
 none_by : (u : Bool) (text : List ℕ) → u ≡ true → list_all is_no_feed (cond u [] text) ≡ true
 none_by true text h = refl
@@ -95,7 +96,7 @@ args_feed before (p ∷ params) (a ∷ args) c h held =
     args_by before (kind_of p) a args (is_unused a) c parts.0 held (λ more. args_feed 44 params args refl parts.1 more)
 
 call_feed : (c : Call) → IsSpelledCall c → list_all is_no_feed (call_text c) ≡ true
-call_feed c h = both (service_name c.service) (args_text 32 (args_list c.args)) (service_feed c.service) (args_feed 32 (params_of c.service) (args_list c.args) refl h.0 h.1)
+call_feed c h = no_feed_append (service_name c.service) (args_text 32 (args_list c.args)) (service_feed c.service) (args_feed 32 (params_of c.service) (args_list c.args) refl h.0 h.1)
 
 digit_feed : (b : ℕ) → is_digit b ≡ true → is_no_feed b ≡ true
 digit_feed b h = grind (arith, nat_tests, h)
@@ -117,7 +118,7 @@ unfolding read_head
 whole_head units n e a h is =
     let rest : List ℕ = event_text units e ++ 32 ∷ answer_text a in
     let line : List ℕ = decimal n ++ 32 ∷ rest in
-    let clean : list_all is_no_feed line ≡ true = both (decimal n) (32 ∷ rest) (number_all is_no_feed n digit_feed h) is.feed in
+    let clean : list_all is_no_feed line ≡ true = no_feed_append (decimal n) (32 ∷ rest) (number_all is_no_feed n digit_feed h) is.feed in
     let cut : unfed (line ++ 10 ∷ []) ≡ line = run_first is_no_feed line (10 ∷ []) clean refl in
     let behind : from_space line ≡ 32 ∷ rest = run_behind is_inner (decimal n) (32 ∷ rest) (number_all is_inner n digit_inner h) refl in
     ap (λ (z : List ℕ). head_of units (from_space z) >>= if_head units n (line ++ 10 ∷ [])) cut
@@ -133,7 +134,7 @@ run_behind_number units p a h is feed =
     let rest : List ℕ = answer_text a in
     record {
       read = run_head units p (two_words (codes "RUN") (decimal p.0) rest) (Some a) (first_two (codes "RUN") (decimal p.0) rest refl) (second_two (codes "RUN") (decimal p.0) rest refl (whole (decimal p.0) number)) h is;
-      feed = both (decimal p.0) (32 ∷ rest) (feedless (decimal p.0) number) feed;
+      feed = no_feed_append (decimal p.0) (32 ∷ rest) (feedless (decimal p.0) number) feed;
     }
 
 -- RUN and a fixed word
@@ -143,10 +144,10 @@ run_word units p a h is feed =
     run_behind_number units p a h (ap (λ (z : List ℕ). ran_in z line) (third_two (codes "RUN") (decimal p.0) (answer_text a) refl (whole (decimal p.0) (tight_number p.0 h))) ∙ is line) feed
 
 run_call : (units : List UnitDecl) (p : Pid) (c : Call) (cond : Cond) → IsWord p.0 → IsSpelledCall c → Behind units (event.Run p) (answer.Service c cond)
-run_call units p c cond h k = run_behind_number units p (answer.Service c cond) h (ran_call p.0 (drop 1 (call_text c)) (name_of cond) h (whole (name_of cond) (tight_cond cond)) ∙ served_back c cond k.0 k.1 k.2) (both (call_text c) (32 ∷ name_of cond) (call_feed c k) (feedless (name_of cond) (tight_cond cond)))
+run_call units p c cond h k = run_behind_number units p (answer.Service c cond) h (ran_call p.0 (drop 1 (call_text c)) (name_of cond) h (whole (name_of cond) (tight_cond cond)) ∙ served_back c cond k.0 k.1 k.2) (no_feed_append (call_text c) (32 ∷ name_of cond) (call_feed c k) (feedless (name_of cond) (tight_cond cond)))
 
 run_wait : (units : List UnitDecl) (p : Pid) (c : Call) → IsWord p.0 → IsSpelledCall c → Behind units (event.Run p) (answer.Wait c)
-run_wait units p c h k = run_behind_number units p (answer.Wait c) h (ran_call p.0 (drop 1 (call_text c)) (codes "WAIT") h refl ∙ waits_back c k.0 k.1 k.2) (both (call_text c) (codes " WAIT") (call_feed c k) refl)
+run_wait units p c h k = run_behind_number units p (answer.Wait c) h (ran_call p.0 (drop 1 (call_text c)) (codes "WAIT") h refl ∙ waits_back c k.0 k.1 k.2) (no_feed_append (call_text c) (codes " WAIT") (call_feed c k) refl)
 
 -- one word behind two
 alone : (word : List ℕ) → Whole word → first_word (32 ∷ word) ≡ word
@@ -164,7 +165,7 @@ run_resume units p cond h =
     let own = whole name (tight_cond cond) in
     let third : third_word line ≡ codes "RESUME" = third_two (codes "RUN") (decimal p.0) rest refl number ∙ run_first is_inner (codes "RESUME") (32 ∷ name) refl refl in
     let fourth : fourth_word line ≡ name = fourth_word_of line name (behind_two (codes "RUN") (decimal p.0) rest refl number) own in
-    run_behind_number units p (answer.Resume cond) h (ap (λ (z : List ℕ). ran_in z line) third ∙ ap (λ (z : List ℕ). option_map answer.Resume (cond_named z)) fourth ∙ ap (option_map answer.Resume) (cond_back cond)) (feedless name (tight_cond cond))
+    run_behind_number units p (answer.Resume cond) h (ap (λ (z : List ℕ). ran_in z line) third ∙ ap (λ (z : List ℕ). option_map answer.Resume (cond_named z)) fourth ∙ ap (option_map answer.Resume) (named_by cond)) (feedless name (tight_cond cond))
 
 -- The other events.
 
@@ -195,7 +196,7 @@ ast_behind units p id h k =
     let own = whole (id_text id) (tight_id id k) in
     record {
       read = other units (codes "AST") (decimal p.0) (id_text id) refl refl ∙ ast_words (two_words (codes "AST") (decimal p.0) (id_text id)) p id h k (second_two (codes "AST") (decimal p.0) (id_text id) refl number) (third_alone (codes "AST") (decimal p.0) (id_text id) refl number own);
-      feed = both (decimal p.0) (32 ∷ id_text id) (feedless (decimal p.0) (tight_number p.0 h)) (feedless (id_text id) (tight_id id k));
+      feed = no_feed_append (decimal p.0) (32 ∷ id_text id) (feedless (decimal p.0) (tight_number p.0 h)) (feedless (id_text id) (tight_id id k));
     }
 
 rdn_behind : (units : List UnitDecl) (p : Pid) (a : Answer) → IsWord p.0 → Whole (answer_text a) → down_in (answer_text a) ≡ Some a → list_all is_no_feed (answer_text a) ≡ true → Behind units (event.Rdn p) a
@@ -204,7 +205,7 @@ rdn_behind units p a h own is feed =
     let word : List ℕ = answer_text a in
     record {
       read = other units (codes "RDN") (decimal p.0) word refl refl ∙ rdn_words (two_words (codes "RDN") (decimal p.0) word) word p a h (second_two (codes "RDN") (decimal p.0) word refl number) (third_alone (codes "RDN") (decimal p.0) word refl number own) is;
-      feed = both (decimal p.0) (32 ∷ word) (feedless (decimal p.0) (tight_number p.0 h)) feed;
+      feed = no_feed_append (decimal p.0) (32 ∷ word) (feedless (decimal p.0) (tight_number p.0 h)) feed;
     }
 
 beg_behind : (units : List UnitDecl) (u : UnitNo) (id : Id) → IsSpelledUnit units u → IsWord id.0 → Behind units (event.Beg u) (answer.Unit id)
@@ -214,7 +215,7 @@ beg_behind units u id h k =
     let own = whole (id_text id) (tight_id id k) in
     record {
       read = other units (codes "BEG") name (id_text id) refl refl ∙ beg_words units (two_words (codes "BEG") name (id_text id)) u id h.1 k (second_two (codes "BEG") name (id_text id) refl (whole name named)) (third_alone (codes "BEG") name (id_text id) refl (whole name named) own);
-      feed = both name (32 ∷ id_text id) (feedless name named) (feedless (id_text id) (tight_id id k));
+      feed = no_feed_append name (32 ∷ id_text id) (feedless name named) (feedless (id_text id) (tight_id id k));
     }
 
 don_behind : (units : List UnitDecl) (u : UnitNo) (id : Id) → IsSpelledUnit units u → IsWord id.0 → Behind units (event.Don u) (answer.Unit id)
@@ -224,7 +225,7 @@ don_behind units u id h k =
     let own = whole (id_text id) (tight_id id k) in
     record {
       read = other units (codes "DON") name (id_text id) refl refl ∙ don_words units (two_words (codes "DON") name (id_text id)) u id h.1 k (second_two (codes "DON") name (id_text id) refl (whole name named)) (third_alone (codes "DON") name (id_text id) refl (whole name named) own);
-      feed = both name (32 ∷ id_text id) (feedless name named) (feedless (id_text id) (tight_id id k));
+      feed = no_feed_append name (32 ∷ id_text id) (feedless name named) (feedless (id_text id) (tight_id id k));
     }
 
 tick_behind : (units : List UnitDecl) (t : ℕ) → t < 2 ^ 64 → Behind units event.Tick (answer.Time t)
@@ -259,4 +260,4 @@ pub heads_back : HeadsReadBack
 heads_back units n e a m h = whole_head units n e a m (behind_of units e a h)
 
 pub head_feed : (units : List UnitDecl) (n : ℕ) (e : Event) (a : Answer) → n < 2 ^ 64 → IsSpelledHead units e a → list_all is_no_feed (head_line units n (as_head e a)) ≡ true
-head_feed units n e a m h = both (decimal n) (32 ∷ (event_text units e ++ 32 ∷ answer_text a)) (number_all is_no_feed n digit_feed m) (behind_of units e a h).feed
+head_feed units n e a m h = no_feed_append (decimal n) (32 ∷ (event_text units e ++ 32 ∷ answer_text a)) (number_all is_no_feed n digit_feed m) (behind_of units e a h).feed

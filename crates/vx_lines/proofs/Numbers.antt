@@ -1,15 +1,9 @@
 -- Digits and their numbers.
-use Rattle.std.proofs.Common.{◌≡◌, ℕ, ◌<◌, ◌≤◌, List, [], ◌∷◌, Bool, true, false, ◌&&◌, nat_le, None, arith, refl, rules}
+use Rattle.std.proofs.Common.{◌≡◌, ℕ, ◌<◌, List, false, nat_le, None, arith, refl, rules}
 use Rattle.std.specs.List.{fold}
 use Rattle.vx_lines.specs.Numbers.{with_digit, digits_value, value_up_to}
-
-fold-grows : (n : ℕ) (ds : List ℕ) → n ≤ fold with_digit n ds
-fold-grows n [] = omega arith
-fold-grows n (d ∷ ds) = omega (arith, fold-grows (with_digit n d) ds)
-
-and_false : (a : Bool) → (a && false) ≡ false
-and_false true = refl
-and_false false = refl
+use Rattle.vx_text.proofs.Runs.{and_false}
+use Rattle.vx_text.proofs.Digits.{fold-grows}
 
 -- a number that is too large stays so
 pub value_up_to-large : (most : ℕ) (run ds : List ℕ) (n : ℕ) → digits_value run ≡ fold with_digit n ds → most < n → None ≡ value_up_to most run

@@ -3,7 +3,7 @@ use Rattle.std.proofs.Common.{◌≡◌, ℕ, ◌+◌, ◌/◌, ◌%◌, ◌<◌
 use Rattle.std.specs.Prelude.{decimal}
 use Rattle.std.specs.List.{list_all}
 use Rattle.std.proofs.lemmas.List.Folds.{list_all-append}
-use Rattle.std.proofs.lemmas.Bool.{le-leb}
+use Rattle.std.proofs.lemmas.Bool.{le-leb, and_parts}
 use Rattle.std.proofs.lemmas.Bool.Decides.{nat_tests}
 use Rattle.vx_base.specs.Name.{is_name, is_digit, is_name_byte}
 use Rattle.vx_base.specs.declared.effects.Cell.{Cell}
@@ -18,7 +18,6 @@ use Rattle.vx_text.specs.declared.token.Tok.TheVariants as tok
 use Rattle.vx_text.proofs.Canonical.{first-quote}
 use Rattle.vx_text.proofs.Lexing.{lex_gap, lex_last}
 use Rattle.vx_text.proofs.Numbers.{decimal_digits, decimal_some}
-use Rattle.vx_text.proofs.Runs.{and_parts}
 use Rattle.vx_table.specs.Back.{toks_of}
 use Rattle.vx_lines.specs.Fields.{number_of, small_of, name_in, local_of, common_of, cell_by, cell_of, cluster_of, cluster_or_none, common_number, if_common, text_among, text_of}
 use Rattle.vx_lines.specs.ReadEffect.{is_no_feed, body_of}

@@ -1,5 +1,5 @@
 -- The lines of records that have a spelling are read as the records.
-use Rattle.std.proofs.Common.{◌≡◌, ℕ, ◌+◌, ◌<◌, ◌≤◌, ◌^◌, ◌==◌, not, Bool, true, false, List, [], ◌∷◌, ◌++◌, length, map, Some, Result, Ok, refl, sym, ap, ◌∙◌, arith, append_assoc, append-nil, length-append}
+use Rattle.std.proofs.Common.{◌≡◌, ℕ, ◌+◌, ◌<◌, ◌≤◌, ◌^◌, ◌==◌, true, false, List, [], ◌∷◌, ◌++◌, length, map, Some, Result, Ok, refl, sym, ap, ◌∙◌, arith, append_assoc, append-nil, length-append}
 use Rattle.std.proofs.lemmas.Grind.{flat_map-append}
 use Rattle.std.proofs.lemmas.List.{length-map}
 use Rattle.std.specs.Prelude.{decimal}
@@ -10,7 +10,6 @@ use Rattle.vx_base.specs.declared.effects.Effect.{Effect}
 use Rattle.vx_base.specs.declared.effects.Effect.TheVariants as effect
 use Rattle.vx_base.specs.declared.record.Rec.{Rec}
 use Rattle.vx_image.specs.declared.unit.UnitDecl.{UnitDecl}
-use Rattle.vx_text.proofs.Runs.{and_parts}
 use Rattle.vx_lines.specs.Numbers.{digits_value}
 use Rattle.vx_lines.specs.ReadEffect.{is_no_feed}
 use Rattle.vx_lines.specs.ReadRecords.{begins_with_space, fed_lines, is_of_record, nothing_read, onto_first, or_bad, read_line, read_lines, read_so_far}
@@ -23,20 +22,17 @@ use Rattle.vx_lines.specs.declared.read.Records.{Records}
 use Rattle.vx_lines.proofs.Cutting.{begins, ended, taken}
 use Rattle.vx_lines.proofs.EffectsLaw.{spelled_back}
 use Rattle.vx_lines.proofs.HeadsLaw.{head_feed, heads_back}
-use Rattle.vx_lines.proofs.WordsBack.{spells}
+use Rattle.vx_text.proofs.Numbers.{spells}
+use Rattle.std.proofs.lemmas.Bool.{not-true, and_parts}
 
 -- A line of a text.
-
-no_feed : (t : Bool) → not t ≡ true → t ≡ false
-no_feed true h = absurd (cc)
-no_feed false h = refl
 
 pub front_line : (l rest : List ℕ) → list_all is_no_feed l ≡ true → fed_lines (l ++ 10 ∷ rest) ≡ (l ++ 10 ∷ []) ∷ fed_lines rest
 unfolding fed_lines
 front_line [] rest h = refl
 front_line (b ∷ l) rest h =
     let parts = and_parts (is_no_feed b) (list_all is_no_feed l) h in
-    let other : (b == 10) ≡ false = no_feed (b == 10) parts.0 in
+    let other : (b == 10) ≡ false = not-true (b == 10) parts.0 in
     rw other (ap (onto_first b) (front_line l rest parts.1))
 
 pub fed_line : (l rest : List ℕ) → list_all is_no_feed l ≡ true → fed_lines ((l ++ 10 ∷ []) ++ rest) ≡ (l ++ 10 ∷ []) ∷ fed_lines rest

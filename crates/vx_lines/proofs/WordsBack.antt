@@ -1,24 +1,16 @@
 -- Words that were printed one behind another are read back one by one.
-use Rattle.std.proofs.Common.{◌≡◌, ℕ, ◌+◌, ◌/◌, ◌%◌, ◌<◌, ◌≤◌, ◌^◌, Bool, true, List, [], ◌∷◌, ◌++◌, length, take, drop, nat_le, Some, refl, ap, ◌∙◌, arith}
+use Rattle.std.proofs.Common.{◌≡◌, ℕ, ◌+◌, ◌<◌, ◌≤◌, ◌^◌, Bool, true, List, [], ◌∷◌, ◌++◌, take, drop, nat_le, Some, refl, ap, ◌∙◌}
 use Rattle.std.specs.Prelude.{decimal}
-use Rattle.std.specs.List.{list_all, prefix_len, fold}
+use Rattle.std.specs.List.{list_all, prefix_len}
 use Rattle.std.proofs.Math.Seq.{take-append_seam, drop-append_seam}
-use Rattle.std.proofs.lemmas.Fmt.{decimal_by_steps}
-use Rattle.std.proofs.lemmas.Bool.{le-leb}
-use Rattle.std.proofs.lemmas.Bool.Decides.{nat_tests}
+use Rattle.std.proofs.lemmas.Bool.{le-leb, and_parts}
 use Rattle.vx_base.specs.Name.{is_name, is_digit, is_name_byte}
-use Rattle.vx_text.proofs.Runs.{and_parts, stops}
+use Rattle.vx_text.proofs.Runs.{stops, run_len}
 use Rattle.vx_text.proofs.Lexing.{name_bytes}
-use Rattle.vx_lines.specs.Numbers.{with_digit, digits_value, value_up_to}
+use Rattle.vx_lines.specs.Numbers.{value_up_to}
 use Rattle.vx_lines.specs.Records.{spaced}
 use Rattle.vx_lines.specs.Words.{is_inner, first_word, behind_word, second_word, third_word, fourth_word, fifth_word, sixth_word}
-
-pub run_len : (p : ℕ → Bool) (run rest : List ℕ) → list_all p run ≡ true → stops p rest → prefix_len p (run ++ rest) ≡ length run
-run_len p [] [] h s = refl
-run_len p [] (b ∷ bs) h s = rw s refl
-run_len p (b ∷ run) rest h s =
-    let parts = and_parts (p b) (list_all p run) h in
-    rw (parts.0, run_len p run rest parts.1 s) (omega arith)
+use Rattle.vx_text.proofs.Numbers.{spells}
 
 pub run_first : (p : ℕ → Bool) (run rest : List ℕ) → list_all p run ≡ true → stops p rest → take (prefix_len p (run ++ rest)) (run ++ rest) ≡ run
 run_first p run rest h s = rw (run_len p run rest h s) (take-append_seam run rest)
@@ -56,33 +48,6 @@ pub sixth_back : (a b c d e f : List ℕ) (words : List (List ℕ)) → Whole a 
 sixth_back a b c d e f words h i j k l m = ap fifth_word (behind_back a (b ∷ c ∷ d ∷ e ∷ f ∷ words) h) ∙ fifth_back b c d e f words i j k l m
 
 -- Numbers.
-
-fold_more : (n d : ℕ) (ds : List ℕ) → fold with_digit n (ds ++ d ∷ []) ≡ with_digit (fold with_digit n ds) d
-fold_more n d [] = refl
-fold_more n d (x ∷ xs) = fold_more (with_digit n x) d xs
-
-all_more : (d : ℕ) (ds : List ℕ) → list_all is_digit ds ≡ true → is_digit d ≡ true → list_all is_digit (ds ++ d ∷ []) ≡ true
-all_more d [] h k = rw k refl
-all_more d (x ∷ xs) h k = let p = and_parts (is_digit x) (list_all is_digit xs) h in rw (p.0, all_more d xs p.1 k) refl
-
-pub record Spells (n : ℕ) (ds : List ℕ) : Type 0 where
-  pub digits : list_all is_digit ds ≡ true
-  pub value : digits_value ds ≡ n
-
-a_digit : (m : ℕ) → m < 10 → is_digit (48 + m) ≡ true
-a_digit m h = grind (arith, nat_tests, h)
-
-one : (n : ℕ) → n < 10 → Spells n ((48 + n) ∷ [])
-one n h = record { digits = rw (a_digit n h) refl; value = omega arith }
-
-more : (n : ℕ) (ds : List ℕ) → 10 ≤ n → Spells (n / 10) ds → Spells n (ds ++ (48 + n % 10) ∷ [])
-more n ds h s = record {
-  digits = all_more (48 + n % 10) ds s.digits (a_digit (n % 10) (omega arith));
-  value = rw (fold_more 0 (48 + n % 10) ds, s.value) (omega arith);
-}
-
-pub spells : (n : ℕ) → n < 2 ^ 64 → Spells n (decimal n)
-spells n h = decimal_by_steps Spells one more n h
 
 pub value_back : (most n : ℕ) → n ≤ most → n < 2 ^ 64 → value_up_to most (decimal n) ≡ Some n
 value_back most n h k =

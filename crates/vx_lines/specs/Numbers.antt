@@ -1,14 +1,8 @@
 -- Numbers: decimal digits without a sign or a leading zero.
-use Rattle.std.specs.Prelude.{ℕ, ◌+◌, ◌-◌, ◌*◌, ◌==◌, ◌&&◌, nat_le, Bool, true, false, List, [], ◌∷◌, Option, None, Some, if◌then◌else◌}
-use Rattle.std.specs.List.{list_all, fold}
+use Rattle.std.specs.Prelude.{ℕ, ◌==◌, ◌&&◌, nat_le, Bool, true, false, List, [], ◌∷◌, Option, None, Some, if◌then◌else◌}
+use Rattle.std.specs.List.{list_all}
 use Rattle.vx_base.specs.Name.{is_digit}
-
--- a digit behind a number
-abbrev pub with_digit : ℕ → ℕ → ℕ
-with_digit n d = n * 10 + (d - 48)
-
-abbrev pub digits_value : List ℕ → ℕ
-digits_value digits = fold with_digit 0 digits
+pub use Rattle.vx_text.specs.Bytes.{with_digit, digits_value}
 
 -- nothing, or a zero in front of more
 abbrev pub is_misspelled : List ℕ → Bool

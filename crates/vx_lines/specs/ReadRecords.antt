@@ -11,12 +11,9 @@ use Rattle.vx_lines.specs.declared.read.LinesFail.{LinesFail}
 use Rattle.vx_lines.specs.declared.read.LinesFail.TheVariants as fail
 use Rattle.vx_lines.specs.declared.read.Reading.{Reading}
 use Rattle.vx_lines.specs.declared.read.Records.{Records}
+pub use Rattle.vx_text.specs.Lines.{onto_first}
 
 -- The lines of a text, each with its line feed, which the last may lack.
-
-abbrev pub onto_first : ℕ → List (List ℕ) → List (List ℕ)
-onto_first b [] = (b ∷ []) ∷ []
-onto_first b (line ∷ lines) = (b ∷ line) ∷ lines
 
 unfoldable pub fed_lines : List ℕ → List (List ℕ)
 fed_lines [] = []

@@ -1,5 +1,5 @@
 -- The lines of records: heads, and effects behind them.
-use Rattle.std.specs.Prelude.{ℕ, ◌+◌, List, [], ◌∷◌, ◌++◌, map, flat_map, codes, decimal, Bool, Option, Some, None, slice_index_or}
+use Rattle.std.specs.Prelude.{ℕ, ◌+◌, List, [], ◌∷◌, ◌++◌, map, codes, decimal, Bool, Option, Some, None, slice_index_or}
 use Rattle.vx_base.specs.Cond.{name_of}
 use Rattle.vx_base.specs.Flags.{one}
 use Rattle.vx_base.specs.declared.cond.Cond.{Cond}
@@ -23,14 +23,7 @@ use Rattle.vx_base.specs.declared.request.Body.TheVariants as body
 use Rattle.vx_image.specs.declared.unit.UnitDecl.{UnitDecl}
 use Rattle.vx_table.specs.Spelling.{target_text, mode_name, call_text}
 use Rattle.vx_text.specs.Quote.{quote_text}
-
--- lines, each with a line feed at its end
-abbrev pub ended_lines : List (List ℕ) → List ℕ
-ended_lines lines = flat_map (λ line. line ++ 10 ∷ []) lines
-
--- words, each behind a space
-abbrev pub spaced : List (List ℕ) → List ℕ
-spaced words = flat_map (λ word. 32 ∷ word) words
+pub use Rattle.vx_text.specs.Lines.{ended_lines, spaced}
 
 -- What effects name.
 

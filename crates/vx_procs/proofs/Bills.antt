@@ -1,7 +1,7 @@
 -- What requests are charged, as they come and go.
 use Rattle.std.proofs.Common.{◌≡◌, ◌≢◌, ℕ, ◌+◌, List, [], ◌∷◌, ◌++◌, Bool, true, false, cond, not, ◌&&◌, Option, Some, is_some, arith, refl, sym, ap, ◌∙◌}
 use Rattle.std.specs.List.{find}
-use Rattle.std.proofs.lemmas.Bool.{eq-eqb, eqb-true}
+use Rattle.std.proofs.lemmas.Bool.{eq-eqb, eqb-true, false_from_ne_true}
 use Rattle.vx_base.specs.Flags.{one}
 use Rattle.vx_base.specs.Lists.{amend, less, tally}
 use Rattle.vx_base.specs.Pieces.{Promised, Request}
@@ -12,14 +12,11 @@ use Rattle.vx_base.specs.declared.request.Req.{Req}
 use Rattle.vx_record.specs.Charges.{ast_need, bears_ast, buffered_bytes, buffered_need, direct_need, is_attention, is_buffered_of, is_direct, is_direct_of, is_same, moved_bytes, request_need}
 use Rattle.vx_record.specs.Parts.{total}
 use Rattle.vx_record.specs.State.{State}
-use Rattle.vx_record.proofs.Lists.{either, false_from}
-use Rattle.vx_procs.proofs.Booked.{tally-amend, tally-append, tally-less}
+use Rattle.vx_record.proofs.Lists.{either}
+use Rattle.vx_procs.proofs.Booked.{tally-append, tally-less}
+use Rattle.vx_record.proofs.OwnIds.{total_append, tally_amend}
 
 -- Totals.
-
-total-append : {A : Type 0} (f : A → ℕ) (xs : List A) (x : A) → total f (xs ++ x ∷ []) ≡ total f xs + f x
-total-append f [] x = omega arith
-total-append f (y ∷ ys) x = let rest = total-append f ys x in omega (arith, rest)
 
 total-less : {A : Type 0} (f : A → ℕ) (test : A → Bool) (xs : List A) (x : A) → find test xs ≡ Some x → total f (less test xs) + f x ≡ total f xs
 total-less f test [] x e = absurd (cc)
@@ -57,7 +54,7 @@ own_charge s p r own transfer =
 
 pub other_charge : (s : State) (q : Pid) (r : Request) → q.0 ≢ r.req.p.0 → its_charge s q r ≡ no_need
 other_charge s q r other =
-    let none : is_same r.req.p q ≡ false = false_from (is_same r.req.p q) (λ same. other (sym (eqb-true r.req.p.0 q.0 same))) in
+    let none : is_same r.req.p q ≡ false = false_from_ne_true (is_same r.req.p q) (λ same. other (sym (eqb-true r.req.p.0 q.0 same))) in
     ap (λ b. bill b (is_direct s r.req.device) (is_some r.ast) (moved_bytes r.req.func r.req.len)) none
 
 -- The one list is charged so much more than the other.
@@ -79,7 +76,7 @@ one_more s p rs r = record {
   ast = let e = tally-append (bears_ast p) rs (r ∷ []) in omega (arith, e);
   bio = let e = tally-append (is_buffered_of s p) rs (r ∷ []) in omega (arith, e);
   dio = let e = tally-append (is_direct_of s p) rs (r ∷ []) in omega (arith, e);
-  byt = sym (total-append (buffered_bytes s p) rs r);
+  byt = sym (total_append (buffered_bytes s p) rs r);
 }
 
 pub one_less : (s : State) (p : Pid) (test : Request → Bool) (rs : List Request) (r : Request) → find test rs ≡ Some r → IsMore s p (its_charge s p r) (less test rs) rs
@@ -122,8 +119,8 @@ alike_less s q test rs r found other =
 -- where one is changed in nothing that is charged
 pub alike_amend : (s : State) (q : Pid) (test : Request → Bool) (g : Request → Request) → ((r : Request) → (g r).req ≡ r.req) → ((r : Request) → (g r).ast ≡ r.ast) → (rs : List Request) → IsAlike s q (amend test g rs) rs
 alike_amend s q test g same_req same_ast rs = record {
-  ast = tally-amend (bears_ast q) test g (λ r. ap (λ (x : Req). is_same x.p q && is_some (g r).ast) (same_req r) ∙ ap (λ (x : Option Promised). is_same r.req.p q && is_some x) (same_ast r)) rs;
-  bio = tally-amend (is_buffered_of s q) test g (λ r. ap (λ (x : Req). is_same x.p q && not (is_direct s x.device)) (same_req r)) rs;
-  dio = tally-amend (is_direct_of s q) test g (λ r. ap (λ (x : Req). is_same x.p q && is_direct s x.device) (same_req r)) rs;
+  ast = tally_amend (bears_ast q) test g (λ r. ap (λ (x : Req). is_same x.p q && is_some (g r).ast) (same_req r) ∙ ap (λ (x : Option Promised). is_same r.req.p q && is_some x) (same_ast r)) rs;
+  bio = tally_amend (is_buffered_of s q) test g (λ r. ap (λ (x : Req). is_same x.p q && not (is_direct s x.device)) (same_req r)) rs;
+  dio = tally_amend (is_direct_of s q) test g (λ r. ap (λ (x : Req). is_same x.p q && is_direct s x.device) (same_req r)) rs;
   byt = total-amend (buffered_bytes s q) test g (λ r. ap (λ (x : Req). cond (is_same x.p q && not (is_direct s x.device)) (moved_bytes x.func x.len) 0) (same_req r)) rs;
 }

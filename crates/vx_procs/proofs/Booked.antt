@@ -1,16 +1,15 @@
 -- What is owed and charged, as ASTs are queued and taken out and timers come and go.
 use Rattle.std.proofs.Common.{◌≡◌, ◌≢◌, ℕ, zero, suc, ◌+◌, ◌-◌, ◌≤◌, length, List, [], ◌∷◌, ◌++◌, Bool, true, false, cond, not, ◌==◌, ◌&&◌, map, slice_index_or, slice_set, Option, Some, None, arith, refl, sym, ap, ◌∙◌}
 use Rattle.std.specs.List.{find}
-use Rattle.std.proofs.lemmas.Bool.{eq-eqb, eqb-true}
+use Rattle.std.proofs.lemmas.Bool.{eq-eqb, eqb-true, false_from_ne_true}
 use Rattle.std.proofs.lemmas.List.{get_or_append_left, length-map}
 use Rattle.vx_base.specs.Flags.{one}
-use Rattle.vx_base.specs.Lists.{amend, less, tally}
+use Rattle.vx_base.specs.Lists.{less, tally}
 use Rattle.vx_base.specs.Pieces.{Attention, Queued, Timer}
 use Rattle.vx_base.specs.declared.number.Pid.{Pid}
 use Rattle.vx_base.specs.declared.quota.Need.{Need}
 use Rattle.vx_record.specs.State.{Process, State, IsProcess, limits_of, process_at, no_decl}
 use Rattle.vx_record.specs.Charges.{charge, bears_ast, is_attention_of, is_same, charged_timer, is_charged, is_timer_of}
-use Rattle.vx_record.proofs.Lists.{either, false_from}
 use Rattle.vx_procs.specs.Held.{Books, IsBooked, books_at, no_books, spare}
 use Rattle.vx_procs.specs.Kernel.{Room, no_room, room_at}
 use Rattle.vx_procs.specs.Ready.{HasSpares, owed}
@@ -32,10 +31,6 @@ tally-less p test (y ∷ ys) x e =
       | true ↦ λ found. let same : y ≡ x = cc in let e = ap (λ z. one (p z)) same in omega (arith, e)
       | false ↦ λ found. let rest = tally-less p test ys x found in omega (arith, rest)
     ] e
-
-pub tally-amend : {A : Type 0} (p test : A → Bool) (f : A → A) → ((x : A) → p (f x) ≡ p x) → (xs : List A) → tally p (amend test f xs) ≡ tally p xs
-tally-amend p test f same [] = refl
-tally-amend p test f same (x ∷ xs) = let rest = tally-amend p test f same xs in either (λ ys. tally p ys ≡ one (p x) + tally p xs) (test x) (f x ∷ xs) (x ∷ amend test f xs) (rw (same x) refl) (omega (arith, rest))
 
 pub length-less : {A : Type 0} (test : A → Bool) (xs : List A) (x : A) → find test xs ≡ Some x → length (less test xs) + 1 ≡ length xs
 length-less test [] x e = absurd (cc)
@@ -132,7 +127,7 @@ spared c after q spares made =
 -- a timer of p is none of another's
 pub apart : (p q : Pid) (b : Bool) → q.0 ≢ p.0 → (is_same p q && b) ≡ false
 apart p q b other =
-    let e : (p.0 == q.0) ≡ false = false_from (p.0 == q.0) (λ same. other (sym (eqb-true p.0 q.0 same))) in
+    let e : (p.0 == q.0) ≡ false = false_from_ne_true (p.0 == q.0) (λ same. other (sym (eqb-true p.0 q.0 same))) in
     ap (λ x. x && b) e
 
 -- and an attention entry of p
@@ -141,7 +136,7 @@ pub attention_own : (p : Pid) (a : Attention) → a.p ≡ p → is_attention_of 
 attention_own p a own = ap (λ (x : Pid). is_same x p) own ∙ eq-eqb p.0 p.0 refl
 
 pub attention_apart : (p q : Pid) (a : Attention) → a.p ≡ p → q.0 ≢ p.0 → is_attention_of q a ≡ false
-attention_apart p q a own other = false_from (is_attention_of q a) (λ same. other (sym (eqb-true a.p.0 q.0 same) ∙ ap (λ (x : Pid). x.0) own))
+attention_apart p q a own other = false_from_ne_true (is_attention_of q a) (λ same. other (sym (eqb-true a.p.0 q.0 same) ∙ ap (λ (x : Pid). x.0) own))
 
 -- any other, as attention entries come and go
 pub others_called : (s : State) (before after : Option Pid) (es : List Attention) (q : Pid) (b : Books) → IsBooked s before q b → length (process_at s q).frames + spare after q ≤ b.room.frames → owed s q + spare after q ≤ b.room.asts → tally (is_attention_of q) es ≡ tally (is_attention_of q) s.attention → IsBooked (record s { attention = es }) after q b

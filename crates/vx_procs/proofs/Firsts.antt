@@ -1,10 +1,10 @@
 -- The items of a list that pass a test: the first of them, and then the rest.
 use Rattle.std.proofs.Common.{◌≡◌, ℕ, ◌+◌, ◌≤◌, List, [], ◌∷◌, Bool, true, false, cond, ◌==◌, Some, None, length, ap, sym, ◌∙◌, refl, arith}
 use Rattle.std.specs.List.{filter, find}
-use Rattle.std.proofs.lemmas.Bool.{eq-eqb, eqb-true}
-use Rattle.vx_base.specs.Lists.{amend, less, tally}
+use Rattle.std.proofs.lemmas.Bool.{eq-eqb, eqb-true, false_from_ne_true}
+use Rattle.vx_base.specs.Lists.{amend, less}
 use Rattle.vx_record.specs.Sound.{AreOrdered}
-use Rattle.vx_record.proofs.Lists.{all_find, all_from, either, false_from}
+use Rattle.vx_record.proofs.Lists.{all_find, all_from, either}
 
 pub filter_found : {A : Type 0} (p : A → Bool) (xs : List A) (x : A) → find p xs ≡ Some x → filter p xs ≡ x ∷ filter p (less p xs)
 filter_found p [] x e = absurd (cc)
@@ -33,7 +33,7 @@ less_same key p low high (y ∷ ys) x order e =
           ap (λ b. cond b ys (y ∷ less (λ z. key z == key x) ys)) is
       | false ↦ λ found.
           let above : key y + 1 ≤ key x = all_find (λ z. key y + 1 ≤ key z) p ys x (all_from key (key y + 1) high ys order.1) found in
-          let isnt : (key y == key x) ≡ false = false_from (key y == key x) (λ same. let e = eqb-true (key y) (key x) same in omega (arith, above, e)) in
+          let isnt : (key y == key x) ≡ false = false_from_ne_true (key y == key x) (λ same. let e = eqb-true (key y) (key x) same in omega (arith, above, e)) in
           ap (λ b. cond b ys (y ∷ less (λ z. key z == key x) ys)) isnt ∙ ap (λ zs. y ∷ zs) (less_same key p (key y + 1) high ys x order.1 found)
     ] e
 
@@ -47,7 +47,7 @@ find_same key p low high (y ∷ ys) x order e =
           ap (λ b. cond b (Some y) (find (λ z. key z == key x) ys)) is ∙ ap Some same
       | false ↦ λ found.
           let above : key y + 1 ≤ key x = all_find (λ z. key y + 1 ≤ key z) p ys x (all_from key (key y + 1) high ys order.1) found in
-          let isnt : (key y == key x) ≡ false = false_from (key y == key x) (λ same. let e = eqb-true (key y) (key x) same in omega (arith, above, e)) in
+          let isnt : (key y == key x) ≡ false = false_from_ne_true (key y == key x) (λ same. let e = eqb-true (key y) (key x) same in omega (arith, above, e)) in
           ap (λ b. cond b (Some y) (find (λ z. key z == key x) ys)) isnt ∙ find_same key p (key y + 1) high ys x order.1 found
     ] e
 
@@ -61,7 +61,7 @@ amend_like key p f low high (y ∷ ys) x order e =
           ap (λ b. cond b (f y ∷ ys) (y ∷ amend (λ z. key z == key x) f ys)) is
       | false ↦ λ found.
           let above : key y + 1 ≤ key x = all_find (λ z. key y + 1 ≤ key z) p ys x (all_from key (key y + 1) high ys order.1) found in
-          let isnt : (key y == key x) ≡ false = false_from (key y == key x) (λ same. let e = eqb-true (key y) (key x) same in omega (arith, above, e)) in
+          let isnt : (key y == key x) ≡ false = false_from_ne_true (key y == key x) (λ same. let e = eqb-true (key y) (key x) same in omega (arith, above, e)) in
           ap (λ b. cond b (f y ∷ ys) (y ∷ amend (λ z. key z == key x) f ys)) isnt ∙ ap (λ zs. y ∷ zs) (amend_like key p f (key y + 1) high ys x order.1 found)
     ] e
 
@@ -69,7 +69,3 @@ amend_like key p f low high (y ∷ ys) x order e =
 pub less_few : {A : Type 0} (p : A → Bool) (xs : List A) → length (less p xs) ≤ length xs
 less_few p [] = omega arith
 less_few p (x ∷ xs) = let rest = less_few p xs in either (λ ys. length ys ≤ length (x ∷ xs)) (p x) xs (x ∷ less p xs) (omega arith) (omega (arith, rest))
-
-pub tally_few : {A : Type 0} (test p : A → Bool) (xs : List A) → tally test (less p xs) ≤ tally test xs
-tally_few test p [] = omega arith
-tally_few test p (x ∷ xs) = let rest = tally_few test p xs in either (λ ys. tally test ys ≤ tally test (x ∷ xs)) (p x) xs (x ∷ less p xs) (omega arith) (omega (arith, rest))

@@ -1,9 +1,9 @@
 -- What is held stays held, as frames are entered, ASTs queued and taken out, and timers set, fired and dropped.
-use Rattle.std.proofs.Common.{◌≡◌, ◌≢◌, ℕ, ◌+◌, ◌-◌, ◌<◌, ◌≤◌, length, length-append, List, [], ◌∷◌, ◌++◌, Bool, true, false, cond, not, ◌==◌, ◌&&◌, slice_index_or, Option, Some, None, IfSome, IsTrue, is_some, option_map, arith, refl, sym, ap, subst, ◌∙◌}
+use Rattle.std.proofs.Common.{◌≡◌, ◌≢◌, ℕ, ◌+◌, ◌-◌, ◌<◌, ◌≤◌, length, length-append, List, [], ◌∷◌, ◌++◌, Bool, true, false, cond, not, ◌==◌, ◌&&◌, slice_index_or, Option, Some, None, IfSome, IsTrue, is_some, arith, refl, sym, ap, subst, ◌∙◌}
 use Rattle.std.specs.List.{AllByRecursion, find}
 use Rattle.std.specs.Vec.{with_item}
 use Rattle.std.proofs.lemmas.Bool.Decides.{nat_tests}
-use Rattle.std.proofs.lemmas.Bool.{eq-eqb, eqb-true, leb-true}
+use Rattle.std.proofs.lemmas.Bool.{eq-eqb, eqb-true, leb-true, false_from_ne_true, not-false}
 use Rattle.vx_base.specs.Flags.{one}
 use Rattle.vx_base.specs.Lists.{amend, less, tally}
 use Rattle.vx_base.specs.Pieces.{Queued, Timer, Alarm, OfTimer, OfWake}
@@ -18,7 +18,7 @@ use Rattle.vx_record.specs.Timers.{at_time, due_again, is_due}
 use Rattle.vx_record.specs.State.{Process, State, IsProcess, process_at}
 use Rattle.vx_record.specs.Asts.{charged_ast, with_frame, with_queued}
 use Rattle.vx_record.specs.Charges.{ast_need, charge, charged_timer, exceeds, is_charged, is_same, is_timer, is_timer_of, takes_ast}
-use Rattle.vx_record.proofs.Lists.{all_append, all_find, all_less, all_weaker, either_by, false_from, not_fails}
+use Rattle.vx_record.proofs.Lists.{all_append, all_find, all_less, all_weaker, either_by}
 use Rattle.vx_quota.specs.Account.{Quotas, charged, has_left, released}
 use Rattle.vx_procs.specs.Counts.{CountsAsts, freed}
 use Rattle.vx_procs.specs.Held.{Books, IsBooked, IsOwn, IsTargetMade, books_at, spare}
@@ -30,10 +30,11 @@ use Rattle.vx_timers.specs.Seen.{falls_of}
 use Rattle.vx_procs.specs.View.{process, state, kernel, books, books_of, room_of, IsHeld}
 use Rattle.vx_procs.specs.declared.procs.Core.TheInside.{Inside}
 use Rattle.vx_procs.specs.declared.process.Proc.{Proc}
-use Rattle.vx_procs.proofs.Booked.{Counts, apart, counts_of, here_by, others_by, one_few, room_books, spare_used, spared, tally-amend, tally-append, tally-less}
+use Rattle.vx_procs.proofs.Booked.{Counts, apart, counts_of, here_by, others_by, one_few, room_books, spare_used, spared, tally-append, tally-less}
 use Rattle.vx_procs.proofs.Changed.{held_set, made_in, seen, seen_books}
 use Rattle.vx_procs.proofs.Own.{find_own}
 use Rattle.vx_procs.proofs.Started.{started_found}
+use Rattle.vx_record.proofs.OwnIds.{tally_amend}
 
 -- the books of the process that the code reads
 pub booked_here : {R : Type 0} (c : Inside R) (p : Pid) (r : Proc R) → IsHeld c → IsProcess (state c) p → r ≡ slice_index_or c.procs.items (p.0 - 1) r → IsBooked (state c) c.short p (books_of r)
@@ -110,7 +111,7 @@ pub left_for : {R : Type 0} (c : Inside R) (k : Kernel) (p : Pid) (r : Proc R) (
 left_for c k p r need view h made is within =
     let b = booked_here c p r h made is in
     let here : exceeds (state c) p need ≡ false = ap (λ (x : Kernel). exceeds x.state p need) view ∙ within in
-    ap (λ (n : Need). is_within (together n need) r.account.limits) b.used ∙ (ap (λ (n : Need). is_within (together (charge (state c) p) need) n) b.limits ∙ not_fails _ here)
+    ap (λ (n : Need). is_within (together n need) r.account.limits) b.used ∙ (ap (λ (n : Need). is_within (together (charge (state c) p) need) n) b.limits ∙ not-false _ here)
 
 -- An AST is queued.
 
@@ -498,8 +499,8 @@ held_later now n c ts later past few h =
       booked = λ q m.
           let b = h.booked q m in
           others_by s c.short c.short ts.items q (books_at (books c) q) b b.frames b.asts
-          (ap (λ (xs : List Timer). tally (charged_timer q) xs) items ∙ tally-amend (charged_timer q) (is_due now) (due_again n) (λ x. refl) c.timers.items)
-          (ap (λ (xs : List Timer). tally (is_timer_of q) xs) items ∙ tally-amend (is_timer_of q) (is_due now) (due_again n) (λ x. refl) c.timers.items);
+          (ap (λ (xs : List Timer). tally (charged_timer q) xs) items ∙ tally_amend (charged_timer q) (is_due now) (due_again n) (λ x. refl) c.timers.items)
+          (ap (λ (xs : List Timer). tally (is_timer_of q) xs) items ∙ tally_amend (is_timer_of q) (is_due now) (due_again n) (λ x. refl) c.timers.items);
       timers = subst (λ (xs : List Timer). AllByRecursion (IsOwn (record s { timers = ts.items })) xs) (sym items) (own_again s now n ts.items c.timers.items past few h.timers);
       requests = all_weaker (λ r. IsOwnRequest s r.req) (λ r. IsOwnRequest (record s { timers = ts.items }) r.req) (λ r o. record { made = o.made; transfer = o.transfer; device = o.device; iosb = o.iosb; buf = o.buf }) c.requests.items h.requests;
       attention = h.attention;
@@ -565,13 +566,9 @@ held_mended c p r new short is e account frames asts h =
     (ap (λ (a : Quotas). a.limits) account)
     (subst (λ (a : Quotas). Counts s p (process new).asts c.timers.items a.used) (sym account) (subst (λ (x : Process). Counts s p x.asts c.timers.items r.account.used) (sym e) counts)))
     (λ q m other bq.
-    let apart_so : (q.0 == p.0) ≡ false = false_from (q.0 == p.0) (λ same. other (eqb-true q.0 p.0 same)) in
+    let apart_so : (q.0 == p.0) ≡ false = false_from_ne_true (q.0 == p.0) (λ same. other (eqb-true q.0 p.0 same)) in
     let before : spare c.short q ≡ 1 = ap (λ (o : Option Pid). spare o q) short ∙ ap (λ b. one (not b)) apart_so in
     others_by s c.short None c.timers.items q (books_at (books c) q) bq (omega (arith, bq.frames, before)) (omega (arith, bq.asts, before)) refl refl)
     h.timers tt
 
 -- Facts that the code asks.
-
-pub mapped_some : {A B : Type 0} (f : A → B) (o : Option A) → is_some (option_map f o) ≡ is_some o
-mapped_some f None = refl
-mapped_some f (Some x) = refl

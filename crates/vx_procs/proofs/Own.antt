@@ -1,10 +1,10 @@
 -- Lists in which no two have one id: what is found is the first with its id.
 use Rattle.std.proofs.Common.{◌≡◌, List, [], ◌∷◌, Bool, true, false, cond, not, ◌==◌, eq-eqb, IsTrue, Some, ap, sym, refl, ◌∙◌}
 use Rattle.std.specs.List.{find, list_any}
-use Rattle.std.proofs.lemmas.Bool.{and_from, and_parts, not-true, or_parts}
+use Rattle.std.proofs.lemmas.Bool.{and_from, and_parts, not-true, or_parts, not_from_false}
 use Rattle.vx_base.specs.Lists.{less}
 use Rattle.vx_base.specs.declared.number.Id.{Id}
-use Rattle.vx_record.proofs.Lists.{either, fails_not}
+use Rattle.vx_record.proofs.Lists.{either}
 use Rattle.vx_procs.specs.Words.{have_own}
 
 any_less : {A : Type 0} (g p : A → Bool) (xs : List A) → list_any g xs ≡ false → list_any g (less p xs) ≡ false
@@ -30,7 +30,7 @@ own_less {A = A} id p (x ∷ xs) own =
     let same : A → Bool = λ y. (id x).0 == (id y).0 in
     let parts = and_parts (not (list_any same xs)) (have_own id xs) own in
     either (λ ys. IsTrue (have_own id ys)) (p x) xs (x ∷ less p xs) parts.1
-    (and_from (not (list_any same (less p xs))) (have_own id (less p xs)) (fails_not _ (any_less same p xs (not-true _ parts.0))) (own_less id p xs parts.1))
+    (and_from (not (list_any same (less p xs))) (have_own id (less p xs)) (not_from_false _ (any_less same p xs (not-true _ parts.0))) (own_less id p xs parts.1))
 
 -- the list without what is found is the list without the first with its id
 pub less_own : {A : Type 0} (id : A → Id) (p : A → Bool) (xs : List A) (q : A) → IsTrue (have_own id xs) → find p xs ≡ Some q → less (λ y. (id y).0 == (id q).0) xs ≡ less p xs

@@ -12,7 +12,7 @@ use Rattle.vx_record.specs.Flags.{with_local_flag, with_wait}
 use Rattle.vx_record.proofs.Lists.{either}
 use Rattle.vx_procs.proofs.Changed.{IsQuiet}
 
-top_few : (f : Frame → Frame) (fs : List Frame) → length (with_top f fs) ≤ length fs
+pub top_few : (f : Frame → Frame) (fs : List Frame) → length (with_top f fs) ≤ length fs
 top_few f [] = omega arith
 top_few f (x ∷ xs) = omega arith
 

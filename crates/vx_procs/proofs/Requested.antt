@@ -3,7 +3,7 @@ use Rattle.std.proofs.Common.{◌≡◌, ℕ, ◌+◌, ◌-◌, ◌<◌, ◌≤�
 use Rattle.std.specs.List.{AllByRecursion, find, list_any}
 use Rattle.std.specs.Vec.{with_item}
 use Rattle.std.proofs.lemmas.Bool.Decides.{nat_tests}
-use Rattle.std.proofs.lemmas.Bool.{and_parts, cases_eq, eq-eqb, eqb-true}
+use Rattle.std.proofs.lemmas.Bool.{and_parts, cases_eq, eq-eqb, eqb-true, false_from_ne_true, or_parts, and_right}
 use Rattle.std.proofs.lemmas.List.{get_or-map, length-map, map-set, set-get_or}
 use Rattle.vx_base.specs.Flags.{one}
 use Rattle.vx_base.specs.Lists.{amend, less, tally}
@@ -30,7 +30,7 @@ use Rattle.vx_record.specs.Finish.{this_request}
 use Rattle.vx_record.specs.Requests.{taken_up, with_unit}
 use Rattle.vx_record.specs.Sound.{AreOrdered, request_id}
 use Rattle.vx_record.specs.Charges.{exceeds, is_charged, is_same, request_need}
-use Rattle.vx_record.proofs.Lists.{all_amend, all_append, all_find, all_less, all_weaker, either_by, false_from, or_none}
+use Rattle.vx_record.proofs.Lists.{all_amend, all_append, all_find, all_less, all_weaker, either_by}
 use Rattle.vx_quota.specs.Account.{Quotas, charged, released}
 use Rattle.vx_reqs.specs.Requests.{begun}
 use Rattle.vx_units.specs.Units.{is_for_unit}
@@ -45,12 +45,13 @@ use Rattle.vx_procs.specs.declared.procs.Core.TheInside.{Inside}
 use Rattle.vx_procs.specs.declared.process.Proc.{Proc}
 use Rattle.vx_procs.specs.declared.requests.Finished.{Finished}
 use Rattle.vx_procs.proofs.Bills.{IsAlike, IsMore, alike_amend, alike_less, alike_more, its_charge, one_less, one_more, own_charge}
-use Rattle.vx_procs.proofs.Booked.{counts_of, here_by, need_eq, one_few, spare_used, spared, tally-amend, tally-append, tally-less}
+use Rattle.vx_procs.proofs.Booked.{counts_of, here_by, need_eq, one_few, spare_used, spared, tally-append, tally-less}
 use Rattle.vx_procs.proofs.Changed.{held_there, requests_as, seen}
 use Rattle.vx_procs.proofs.Ended.{found_id}
 use Rattle.vx_procs.proofs.Firsts.{amend_like, find_same}
 use Rattle.vx_procs.proofs.Inside.{stand_here}
 use Rattle.vx_procs.proofs.Ops.{booked_here, charged_limits, counts_here, left_for, queued_decl, queued_frames, spares_here, spares_in}
+use Rattle.vx_record.proofs.OwnIds.{tally_amend}
 
 -- what a request of p is charged
 own_need : (s : State) (p : Pid) (r : Request) → r.req.p ≡ p → IsOwnRequest s r.req → its_charge s p r ≡ request_need s r.req.device r.req.func (is_some r.ast) r.req.len
@@ -70,13 +71,9 @@ others_asked s before after rs q b h frames asts same =
 
 -- What a unit serves.
 
-unserved : (b served : Bool) → served ≡ false → (b && served) ≡ false
-unserved true served is = is
-unserved false served is = refl
-
 serving_more : (u : UnitNo) (rs : List Request) (r : Request) (asked : Option Req) → r.served ≡ false → ServesAsked rs u asked → ServesAsked (rs ++ r ∷ []) u asked
 serving_more u rs r asked waits h =
-    let none = unserved (is_on u r) r.served waits in
+    let none = and_right (is_on u r) r.served waits in
     record {
       few = omega (arith, h.few, ap one none, tally-append (is_served_by u) rs (r ∷ []));
       only = all_append _ rs (r ∷ []) h.only ((λ is. let e : false ≡ true = sym none ∙ is in absurd (cc)), tt);
@@ -277,7 +274,7 @@ held_amended test g c rs is same_req same_ast served h =
 pub held_marked : {R : Type 0} (id : Id) (c : Inside R) (rs : Roomy Request) → rs ≡ with_items c.requests (amend (this_request id) with_abort c.requests.items) → IsHeld c → IsHeld (record c { requests = rs })
 held_marked id c rs is h =
     held_amended (this_request id) with_abort c rs is (λ r. refl) (λ r. refl) (λ u. record {
-      few = omega (arith, (h.served u).few, tally-amend (is_served_by u) (this_request id) with_abort (λ r. refl) c.requests.items);
+      few = omega (arith, (h.served u).few, tally_amend (is_served_by u) (this_request id) with_abort (λ r. refl) c.requests.items);
       only = all_amend (λ r. is_served_by u r ≡ true → asked_of (slice_index_or (ends c) u.0 None) ≡ Some r.req) (this_request id) with_abort (λ r o. o) c.requests.items (h.served u).only;
     }) h
 
@@ -285,7 +282,7 @@ held_marked id c rs is h =
 
 none_tally : {A : Type 0} (p : A → Bool) (xs : List A) → list_any p xs ≡ false → tally p xs ≡ 0
 none_tally p [] e = refl
-none_tally p (x ∷ xs) e = let parts = or_none (p x) (list_any p xs) e in omega (arith, ap one parts.0, none_tally p xs parts.1)
+none_tally p (x ∷ xs) e = let parts = or_parts (p x) (list_any p xs) e in omega (arith, ap one parts.0, none_tally p xs parts.1)
 
 -- a request that waits for u is of no other unit
 taken_by : (u v : UnitNo) (d : Device) (served : Bool) → (is_unit u d && not served) ≡ true → one (is_unit v d && true) ≤ one (is_unit v d && served) + one (v.0 == u.0)
@@ -334,7 +331,7 @@ served_taken u rs es free there next h v = record {
         let here = served_more u u rs in
         rw is (omega (arith, here, none, few, prepared))
     | inr other ↦
-        let apart_so : (v.0 == u.0) ≡ false = false_from (v.0 == u.0) (λ same. other (eqb-true v.0 u.0 same)) in
+        let apart_so : (v.0 == u.0) ≡ false = false_from_ne_true (v.0 == u.0) (λ same. other (eqb-true v.0 u.0 same)) in
         omega (arith, served_more u v rs, ap one apart_so, (h v).few)
   ];
   only = only_taken u v rs (asked_of (slice_index_or es v.0 None)) (λ same. ap (λ (n : ℕ). asked_of (slice_index_or es n None)) same ∙ (next ∙ ap (option_map (λ (r : Request). r.req)) (next_free u rs free))) (h v).only;

@@ -21,7 +21,7 @@ Allowed s (event.Beg u) = Unit {0}
 Allowed s (event.Don u) = Unit {0}
 Allowed s event.Tick = Unit {0}
 
-no_frames : (s : State) (p : Pid) (frames : List Frame) → can_run_down s p frames ≡ true → frames ≡ []
+pub no_frames : (s : State) (p : Pid) (frames : List Frame) → can_run_down s p frames ≡ true → frames ≡ []
 no_frames s p [] e = refl
 no_frames s p (f ∷ fs) e = cc
 

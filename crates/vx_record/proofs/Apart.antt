@@ -25,7 +25,7 @@ use Rattle.vx_record.specs.Mailboxes.{mailbox_at, is_waiting_func, waits_at, mpu
 use Rattle.vx_record.specs.Channels.{channel_test}
 use Rattle.vx_record.specs.Cancel.{is_attention_on, drop_attention}
 use Rattle.vx_record.specs.Requests.{is_bad, device_test, on_channel, on_cell, attention_set, Asked, request_test, new_request, opened_request, cleared_part, begun_on, transfer, new_attention, attention_opened, done_at_once, attention_on, asked_of, accepted, qio_tested, qiow_tested}
-use Rattle.vx_record.proofs.Lists.{either, either_by, all_weaker, all_both, all_filter, all_find, find_passes, all_from, ordered_more}
+use Rattle.vx_record.proofs.Lists.{either, either_by, all_weaker, all_both, all_filter, all_find, all_from, ordered_more}
 use Rattle.std.proofs.lemmas.Bool.{eq-eqb, eqb-true, ltb-true}
 use Rattle.std.specs.Prelude.{option_map}
 use Rattle.vx_base.specs.Clusters.{Common as Clusters, Change, dissociated, associated, marked_at, is_used, is_user, is_association}
@@ -45,6 +45,7 @@ use Rattle.vx_record.proofs.Changes.{Quiet, with_wait_quiet}
 use Rattle.vx_record.proofs.Fits.{field_same, seated_then, cell_seated, status_seated, IsFit, fit_seated, fit_request, fit_attention}
 use Rattle.vx_record.proofs.Base.{Base, made_more, moves_keep}
 use Rattle.vx_record.proofs.Finds.{other_id, find_less, all_found, ordered_filter}
+use Rattle.vx_base.proofs.First.{found_passes}
 
 -- Stages.
 
@@ -198,7 +199,7 @@ finish_moves {refs} s r e has h =
     part_then s p None l3 None four q here fourth (λ k. done_ast_moves four.after r r.ast k.made)
 
 id_is : (s : State) (id : Id) (r : Request) → find (this_request id) s.requests ≡ Some r → HasRequest s r
-id_is s id r e = grind (arith, eqb-true, find_passes)
+id_is s id r e = grind (arith, eqb-true, found_passes)
 
 write_done_moves : {refs : Bool} (s : State) (m : Msg) → Base s → PartBy refs s (write_done s m)
 write_done_moves {refs} s m h =

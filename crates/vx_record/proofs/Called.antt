@@ -85,7 +85,7 @@ stopped_call s p place c k =
     called (change s p (moved_behind place)) p c moved.0 moved.1
 
 -- the image that a process runs is well formed
-image_formed : (s : State) (p : Pid) → IsWellFormed s.system → is_image (decl_names s.system) (image_of s p) ≡ true
+pub image_formed : (s : State) (p : Pid) → IsWellFormed s.system → is_image (decl_names s.system) (image_of s p) ≡ true
 image_formed s p w =
     all_get (λ (i : Image). is_image (decl_names s.system) i ≡ true) s.system.images (decl_of s p).image no_image refl (all_from_list (is_image (decl_names s.system)) s.system.images w.images)
 

@@ -22,8 +22,8 @@ use Rattle.vx_record.specs.Cancel.{mark_part, withdraw, cancelled_request, cance
 use Rattle.vx_record.specs.Control.{with_wake}
 use Rattle.vx_record.specs.Timers.{drop_timer, drop_timers, setimr_at, setimr, scheduled, que_timer, fired, fire, is_due, at_time, next_time, tick, mode_of_ast, this_timer, due_again, after_wake, new_timer, new_wake, timer_set}
 use Rattle.vx_base.specs.Channels.{channel_at}
-use Rattle.vx_record.proofs.Lists.{either, either_by, all_weaker, all_both, all_filter, all_find, not_holds, all_less, all_amend, ordered_amend, ordered_less, removed, false_from, apart_bools}
-use Rattle.std.proofs.lemmas.Bool.{eq-eqb, and_parts, and_from, or_left, or_right}
+use Rattle.vx_record.proofs.Lists.{either, either_by, all_weaker, all_both, all_filter, all_find, all_less, all_amend, ordered_amend, ordered_less, removed, apart_bools}
+use Rattle.std.proofs.lemmas.Bool.{eq-eqb, and_parts, and_from, or_left, or_right, false_from_ne_true, not-true}
 use Rattle.std.proofs.Math.ListN.{length-set}
 use Rattle.std.specs.Prelude.{option_map}
 use Rattle.vx_base.specs.Lists.{less}
@@ -79,7 +79,7 @@ delmbx_moves s p (device.Mailbox b) = grind (arith, outcome_either, none, moves_
 
 swept_device_moves : {refs : Bool} (s : State) (d : Device) → PartBy refs s (swept_device s d)
 swept_device_moves s (device.Unit u) = none s None
-swept_device_moves s (device.Mailbox b) = grind (arith, part_by, box_ends, not_holds, and_parts, none)
+swept_device_moves s (device.Mailbox b) = grind (arith, part_by, box_ends, not-true, and_parts, none)
 
 swept_moves : {refs : Bool} (s : State) (o : Option Channel) → PartBy refs s (swept_box s o)
 swept_moves s None = none s None
@@ -103,7 +103,7 @@ withdraw_requests s r d = grind arith
 cancel_request_moves : {refs : Bool} (s : State) (r : Request) → Base s → HasRequest s r → PartBy refs s (cancel_request s r)
 cancel_request_moves {refs} s r h has =
     part_either s None None r.served _ (cancelled_request s r)
-    (either_by (λ (x : Part). PartBy refs s x) (not r.marked) (mark_part s r) (nothing s) (λ t. mark s r has (not_holds r.marked t)) (λ f. none s None))
+    (either_by (λ (x : Part). PartBy refs s x) (not r.marked) (mark_part s r) (nothing s) (λ t. mark s r has (not-true r.marked t)) (λ f. none s None))
     (let w = withdraw s r r.req.device in
     based_then s w (λ a. finish a r (ending Cancelled 0 0 [])) h (withdraw_moves s r r.req.device) (λ k. finish_moves w.after r (ending Cancelled 0 0 []) (rw (withdraw_requests s r r.req.device) has) k))
 
@@ -111,10 +111,10 @@ cancel_request_moves {refs} s r h has =
 pub finish_requests : (s : State) (r : Request) (e : Ending) → (finish s r e).after.requests ≡ less (this_request r.req.id) s.requests
 finish_requests s r e = grind arith
 
-cancelled_requests : (s : State) (r : Request) → (cancelled_request s r).after.requests ≡ less (this_request r.req.id) s.requests
+pub cancelled_requests : (s : State) (r : Request) → (cancelled_request s r).after.requests ≡ less (this_request r.req.id) s.requests
 cancelled_requests s r = finish_requests (withdraw s r r.req.device).after r (ending Cancelled 0 0 []) ∙ ap (less (this_request r.req.id)) (withdraw_requests s r r.req.device)
 
-still_has : (s : State) (x y : Request) → request_id x + 1 ≤ request_id y → HasRequest s y → HasRequest (cancel_request s x).after y
+pub still_has : (s : State) (x y : Request) → request_id x + 1 ≤ request_id y → HasRequest s y → HasRequest (cancel_request s x).after y
 still_has s x y h e =
     let P = λ (a : Part). HasRequest a.after y in
     let apart = λ (z : Request). other_id z.req.id.0 x.req.id.0 y.req.id.0 (λ same. omega arith) in
@@ -149,7 +149,7 @@ past : {A : Type 0} (on : A → Bool) (takes : A → A → Bool) (t : A) (ts : L
 past on takes t ts x other k e = rw other at (k e)
 
 none_to_do : {A : Type 0} (on : A → Bool) (takes : A → A → Bool) (x : A) → IsToDo on takes [] x → on x ≡ false
-none_to_do on takes x k = false_from _ (λ e. let no : false ≡ true = k e in cc)
+none_to_do on takes x k = false_from_ne_true _ (λ e. let no : false ≡ true = k e in cc)
 
 -- of each of a list
 pub each_keeps : {A : Type 0} (P : State → Type 0) (f : State → A → Part) → ((s : State) (x : A) → P s → P (f s x).after) → (xs : List A) (s : State) → P s → P (each f xs s).after
@@ -250,7 +250,7 @@ cancel_channel_clears s p n h i =
     let served = each_keeps (λ x. AllByRecursion Served x.requests) drop_attention (λ x y k. k) (filter (is_attention_on p n) a.attention) a (each_cancel_served s p n s.next todo covered h.requests) in
     record {
       requests = all_weaker (λ r. RequestStands (ground t) r × Served r) (λ r. (is_on_box r.req.device && is_request_on p n r) ≡ false)
-          (λ r k. false_from _
+          (λ r k. false_from_ne_true _
           (λ e.
           let both = and_parts (is_on_box r.req.device) (is_request_on p n r) e in
           apart_bools (not r.served && is_request_on p n r) (and_from (not r.served) (is_request_on p n r) (box_unserved r.served r.req.device k.0.served both.0) both.1) k.1)) t.requests

@@ -1,6 +1,6 @@
 -- What stands where a request is accepted, and stays while its flag and its status block are cleared.
 use Rattle.std.proofs.Common.{◌≡◌, ℕ, ◌-◌, ◌≤◌, Bool, true, not, ◌==◌, nat_lt, Option, Some, Ok, IfSome, refl, ◌∙◌, subst}
-use Rattle.std.proofs.lemmas.Bool.{ltb-false}
+use Rattle.std.proofs.lemmas.Bool.{ltb-false, or_parts}
 use Rattle.vx_base.specs.Channels.{is_channel_number, channel_at}
 use Rattle.vx_base.specs.Pieces.{Channel, Status}
 use Rattle.vx_base.specs.declared.effects.Cell.{Cell}
@@ -17,7 +17,7 @@ use Rattle.vx_record.specs.Finish.{iosb_part, with_stored_status}
 use Rattle.vx_record.specs.Requests.{Asked, request_test, new_request, new_attention}
 use Rattle.vx_record.specs.Sound.{ground, IsRoutineOf, DeviceStands, RequestStands, AttentionStands}
 use Rattle.vx_record.proofs.Firm.{IsFirm}
-use Rattle.vx_record.proofs.Lists.{either, or_none}
+use Rattle.vx_record.proofs.Lists.{either}
 use Rattle.vx_record.proofs.Ground.{some_weaker, routine_moves, at_set}
 use Rattle.vx_record.proofs.Changes.{going_of, firm_at}
 use Rattle.vx_record.proofs.SoundRequests.{request_test_row, tested_channel, device_stands, rooted_new, unserved, promised_stands}
@@ -65,9 +65,9 @@ pub tested_fits : (s : State) (p : Pid) (q : Asked) (to : Cell × Channel) → r
 tested_fits s p q to e has r =
     let parts = request_test_row s p q to e in
     let row = tested_channel s p q.chan to.1 parts.1 in
-    let first = or_none (nat_lt 32 q.iosb) _ parts.0 in
-    let second = or_none (nat_lt 31 q.buf) _ first.1 in
-    let third = or_none (nat_lt 2048 q.len) _ second.1 in
+    let first = or_parts (nat_lt 32 q.iosb) _ parts.0 in
+    let second = or_parts (nat_lt 31 q.buf) _ first.1 in
+    let third = or_parts (nat_lt 2048 q.len) _ second.1 in
     search ltb-false
 
 pub fit_seated : (s t : State) (p : Pid) (q : Asked) (ch : Channel) → IsSeated s t p → IsFit s p q ch → IsFit t p q ch

@@ -1,7 +1,7 @@
 -- The channels of a mode that is drained are freed: nothing hangs on them.
 use Rattle.std.proofs.Common.{◌≡◌, ℕ, zero, suc, ◌+◌, ◌-◌, ◌<◌, ◌≤◌, List, [], ◌∷◌, true, false, ◌==◌, ◌&&◌, nat_le, length, Option, Some, None, get_or, set, refl, sym, ap, ◌∙◌, arith, subst, get_or-set_same}
 use Rattle.std.proofs.Math.ListN.{length-set}
-use Rattle.std.proofs.lemmas.Bool.{and_parts, and_from, eqb-true, le-leb}
+use Rattle.std.proofs.lemmas.Bool.{and_parts, and_from, eqb-true, le-leb, false_from_ne_true}
 use Rattle.std.specs.List.{AllByRecursion}
 use Rattle.vx_base.specs.Channels.{channel_at, is_reached, reached_from, channels_of}
 use Rattle.vx_base.specs.Modes.{reaches}
@@ -20,7 +20,7 @@ use Rattle.vx_record.specs.Cancel.{is_request_on, is_attention_on}
 use Rattle.vx_record.specs.Rundown.{in_phase, keeps_busy, free_one, drop_ast, release, without_ast}
 use Rattle.vx_record.specs.Sound.{ground, process_of, IsRooted, RequestStands, is_drained, AttentionStands}
 use Rattle.vx_record.proofs.Firm.{IsFirm}
-use Rattle.vx_record.proofs.Lists.{either_by, all_weaker, all_both, false_from, apart_bools}
+use Rattle.vx_record.proofs.Lists.{either_by, all_weaker, all_both, apart_bools}
 use Rattle.vx_record.proofs.Ground.{at_set}
 use Rattle.vx_record.proofs.Changes.{firm_at}
 use Rattle.vx_record.proofs.SoundChannels.{is_on_box, IsClear}
@@ -104,9 +104,9 @@ freeing_row s p m n ns f h =
     let row = f.rows.0.2 in
     let clear : IsClear s p n = record {
       requests = all_weaker (λ r. RequestStands (ground s) r × (keeps_busy p m r ≡ false)) (λ r. (is_on_box r.req.device && is_request_on p n r) ≡ false)
-          (λ r k. false_from _ (clear_request s p m n r.req.p r.req.chan r.req.chan_mode r.req.device row k.0.rooted k.1)) s.requests
+          (λ r k. false_from_ne_true _ (clear_request s p m n r.req.p r.req.chan r.req.chan_mode r.req.device row k.0.rooted k.1)) s.requests
           (all_both (RequestStands (ground s)) (λ r. keeps_busy p m r ≡ false) s.requests h.requests f.released.idle);
-      attention = all_weaker (AttentionStands (ground s)) (λ a. is_attention_on p n a ≡ false) (λ a k. false_from _ (clear_attention s p m n a f.released.phase row k)) s.attention h.attention;
+      attention = all_weaker (AttentionStands (ground s)) (λ a. is_attention_on p n a ≡ false) (λ a k. false_from_ne_true _ (clear_attention s p m n a f.released.phase row k)) s.attention h.attention;
     } in
     let many = (firm_at s p h f.made).numbers in
     (f.made, (and_from (nat_le 1 n) (nat_le n 64) (le-leb 1 n f.rows.0.0) (le-leb n 64 (omega (arith, f.rows.0.1, many))), clear))

@@ -1,7 +1,8 @@
 -- Facts that hold of each of a list, and ids that rise.
-use Rattle.std.proofs.Common.{◌≡◌, ◌≢◌, ℕ, zero, suc, ◌+◌, ◌<◌, ◌≤◌, List, [], ◌∷◌, ◌++◌, Bool, true, false, cond, not, ◌==◌, ◌||◌, length, Option, Some, IfSome, get_or, set, refl, sym, ◌∙◌, arith}
+use Rattle.std.proofs.Common.{◌≡◌, ◌≢◌, ℕ, zero, suc, ◌+◌, ◌<◌, ◌≤◌, List, [], ◌∷◌, ◌++◌, Bool, true, false, cond, ◌==◌, length, Option, Some, None, is_some, IfSome, get_or, set, refl, sym, ◌∙◌, arith}
 use Rattle.std.specs.List.{AllByRecursion, filter, find, list_any}
-use Rattle.std.proofs.lemmas.Bool.{eq-eqb, eqb-true}
+use Rattle.std.specs.Prelude.{option_map}
+use Rattle.std.proofs.lemmas.Bool.{eq-eqb, eqb-true, or_parts}
 use Rattle.vx_base.specs.Lists.{less, amend}
 use Rattle.vx_record.specs.Sound.{AreOrdered}
 
@@ -55,10 +56,6 @@ all_find P p [] x h e = cc
 all_find P p (y ∷ ys) x h e =
     either_by (λ (o : Option _). o ≡ Some x → P x) (p y) (Some y) (find p ys) (λ t same. let is : y ≡ x = cc in rw (← is) h.0) (λ f same. all_find P p ys x h.1 same) e
 
-pub find_passes : {A : Type 0} (p : A → Bool) (xs : List A) (x : A) → find p xs ≡ Some x → p x ≡ true
-find_passes p [] x e = cc
-find_passes p (y ∷ ys) x e = let rest = find_passes p ys x in grind arith
-
 pub all_get : {A : Type 0} (P : A → Type 0) (xs : List A) (i : ℕ) (d : A) → P d → AllByRecursion P xs → P (get_or xs i d)
 all_get P [] i d e h = e
 all_get P (x ∷ xs) zero d e h = h.0
@@ -69,30 +66,42 @@ pub some_found : {A : Type 0} (P : A → Type 0) (p : A → Bool) (xs : List A) 
 some_found P p [] h = tt
 some_found P p (x ∷ xs) h = either (λ (o : Option _). IfSome o P) (p x) (Some x) (find p xs) h.0 (some_found P p xs h.1)
 
+-- what both have together each has
+
+pub all_first : {A : Type 0} (P : A → Type 0) (xs ys : List A) → AllByRecursion P (xs ++ ys) → AllByRecursion P xs
+all_first P [] ys h = tt
+all_first P (x ∷ xs) ys h = (h.0, all_first P xs ys h.1)
+
+pub all_last : {A : Type 0} (P : A → Type 0) (xs ys : List A) → AllByRecursion P (xs ++ ys) → AllByRecursion P ys
+all_last P [] ys h = h
+all_last P (x ∷ xs) ys h = all_last P xs ys h.1
+
+-- whether something is found
+
+pub mapped_some : {A B : Type 0} (f : A → B) (o : Option A) → is_some (option_map f o) ≡ is_some o
+mapped_some f None = refl
+mapped_some f (Some x) = refl
+
+pub found_any : {A : Type 0} (p : A → Bool) (xs : List A) (x : A) → find p xs ≡ Some x → list_any p xs ≡ true
+found_any p [] x e = cc
+found_any p (y ∷ ys) x e = let rest = found_any p ys x in grind arith
+
+pub none_any : {A : Type 0} (p : A → Bool) (xs : List A) → find p xs ≡ None → list_any p xs ≡ false
+none_any p [] e = refl
+none_any p (y ∷ ys) e = let rest = none_any p ys in grind arith
+
+pub none_found : {A : Type 0} (p : A → Bool) (xs : List A) → find p xs ≡ None → AllByRecursion (λ x. p x ≡ false) xs
+none_found p [] e = tt
+none_found p (y ∷ ys) e = let rest = none_found p ys in grind arith
+
 -- Tests.
-
-pub or_none : (a b : Bool) → (a || b) ≡ false → (a ≡ false) × (b ≡ false)
-or_none a b h = grind arith
-
-pub not_holds : (b : Bool) → not b ≡ true → b ≡ false
-not_holds b h = grind arith
-
-pub not_fails : (b : Bool) → not b ≡ false → b ≡ true
-not_fails b h = grind arith
-
-pub fails_not : (b : Bool) → b ≡ false → not b ≡ true
-fails_not b h = grind arith
-
-pub false_from : (b : Bool) → (b ≡ true → ⊥) → b ≡ false
-false_from true h = absurd (h refl)
-false_from false h = refl
 
 pub apart_bools : (b : Bool) → b ≡ true → b ≡ false → ⊥
 apart_bools b e f = let no : true ≡ false = sym e ∙ f in cc
 
 pub none_passes : {A : Type 0} (p : A → Bool) (xs : List A) → list_any p xs ≡ false → AllByRecursion (λ x. p x ≡ false) xs
 none_passes p [] h = tt
-none_passes p (x ∷ xs) h = let both = or_none (p x) (list_any p xs) h in (both.0, none_passes p xs both.1)
+none_passes p (x ∷ xs) h = let both = or_parts (p x) (list_any p xs) h in (both.0, none_passes p xs both.1)
 
 -- Ids.
 

@@ -29,7 +29,7 @@ use Rattle.vx_record.proofs.Moves.{Loose, passed, loosed, loosed_timer, MovesBy,
 
 -- Lists.
 
-tally_less : {A : Type 0} (p q : A → Bool) (xs : List A) → tally p (less q xs) ≤ tally p xs
+pub tally_less : {A : Type 0} (p q : A → Bool) (xs : List A) → tally p (less q xs) ≤ tally p xs
 tally_less p q [] = omega arith
 tally_less p q (x ∷ xs) = let rest = tally_less p q xs in either (λ ys. tally p ys ≤ one (p x) + tally p xs) (q x) xs (x ∷ less q xs) (omega arith) (omega (arith, rest))
 
@@ -41,7 +41,7 @@ tally_append : {A : Type 0} (p : A → Bool) (xs : List A) (y : A) → tally p (
 tally_append p [] y = omega arith
 tally_append p (x ∷ xs) y = let rest = tally_append p xs y in omega (arith, rest)
 
-tally_amend : {A : Type 0} (p q : A → Bool) (f : A → A) → ((x : A) → p (f x) ≡ p x) → (xs : List A) → tally p (amend q f xs) ≡ tally p xs
+pub tally_amend : {A : Type 0} (p q : A → Bool) (f : A → A) → ((x : A) → p (f x) ≡ p x) → (xs : List A) → tally p (amend q f xs) ≡ tally p xs
 tally_amend p q f same [] = refl
 tally_amend p q f same (x ∷ xs) = either (λ ys. tally p ys ≡ one (p x) + tally p xs) (q x) (f x ∷ xs) (x ∷ amend q f xs) (rw (same x) refl) (let rest = tally_amend p q f same xs in omega (arith, rest))
 
@@ -50,7 +50,7 @@ total_set f [] i y d e = omega (arith, e)
 total_set f (x ∷ xs) zero y d e = omega arith
 total_set f (x ∷ xs) (suc i) y d e = let rest = total_set f xs i y d e in omega (arith, rest)
 
-total_append : {A : Type 0} (f : A → ℕ) (xs : List A) (y : A) → total f (xs ++ y ∷ []) ≡ total f xs + f y
+pub total_append : {A : Type 0} (f : A → ℕ) (xs : List A) (y : A) → total f (xs ++ y ∷ []) ≡ total f xs + f y
 total_append f [] y = omega arith
 total_append f (x ∷ xs) y = let rest = total_append f xs y in omega (arith, rest)
 

@@ -1,6 +1,6 @@
 -- References stand after each move.
 use Rattle.std.proofs.Common.{◌≡◌, ℕ, ◌-◌, ◌+◌, ◌<◌, ◌≤◌, List, [], ◌∷◌, ◌++◌, ◌≢◌, ◌==◌, Bool, true, false, Option, Some, None, IfSome, refl, sym, ap, ◌∙◌, subst, length, arith, inl, inr, get_or-set_other, set, zero, suc, nat_le, get_or}
-use Rattle.std.proofs.lemmas.Bool.{cases_eq, and_parts, and_from, eq-eqb, or_left, or_right, leb-true}
+use Rattle.std.proofs.lemmas.Bool.{cases_eq, and_parts, and_from, eq-eqb, or_left, or_right, leb-true, false_from_ne_true}
 use Rattle.std.specs.List.{list_any}
 use Rattle.vx_base.specs.Channels.{channels_of, channel_at, is_reached, reached_from}
 use Rattle.vx_base.specs.Pieces.{Attention, Request, Promised, Timer, Alarm, OfTimer, Channel}
@@ -19,7 +19,7 @@ use Rattle.vx_record.specs.Rundown.{in_phase, draining, new_handler}
 use Rattle.vx_record.specs.Timers.{this_timer}
 use Rattle.vx_record.specs.Sound.{Ground, ground, IsMade, IsRoutineOf, RequestStands, TimerStands, AlarmStands, AttentionStands, ProcessStands, is_drained, IsIdle as Idles, HasChannel, IsRooted}
 use Rattle.vx_record.proofs.Firm.{IsFirm}
-use Rattle.vx_record.proofs.Lists.{all_weaker, all_both, all_append, all_set, all_find, either, false_from, apart_bools}
+use Rattle.vx_record.proofs.Lists.{all_weaker, all_both, all_append, all_set, all_find, either, apart_bools}
 use Rattle.vx_record.proofs.Ground.{Base, attention_moves, rebuilt, made_base, routine_of_moves, request_moves, process_moves, Still, moved as with_procs, common_still, later_still, past_id_still, at_set, change_sound, change_base}
 use Rattle.vx_record.proofs.Changes.{Quiet, quiet_still, with_queued_still, with_handler_still, without_handler_still, entering_sound, in_phase_still, moved_to_quiet, with_delivery_quiet, with_stored_bytes_quiet, with_stored_status_quiet, with_variable_quiet}
 use Rattle.vx_record.proofs.Moves.{Loose, passed, loosed, loosed_timer, IsAlarmMade, IsTame, calm, drains, IsSilent, IsRow, AreUnattended, MovesBy, both, quiet, channel, newly, clusters, open_ast, open_force, open_handler, enter, open_request, fin, box_ends, open_attention, attention_fires, open_timer, open_wake, timer_fires}
@@ -87,7 +87,7 @@ any_weaker f g k (x ∷ xs) h = let rest = any_weaker f g k xs in let one = k x 
 -- what is not attended on the channels of a mode is of no mode that is drained
 still_going : (s : State) (p : Pid) (m : Mode) (a : Attention) → IsProcess s p → (k : AttentionStands (ground s) a) → a.p.0 ≡ p.0 → (list_any (λ n. is_attention_on p n a) (channels_of m (process_at s p).channels) ≡ false) → reaches k.channel_mode m ≡ false
 still_going s p m a made k same away =
-    false_from (reaches k.channel_mode m)
+    false_from_ne_true (reaches k.channel_mode m)
     (λ e.
     let ch : Channel = record { device = device.Mailbox a.box; mode = k.channel_mode } in
     let rows = (process_at s p).channels in

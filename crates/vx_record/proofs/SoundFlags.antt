@@ -13,9 +13,10 @@ use Rattle.vx_record.specs.State.{State, IsWithin, process_at}
 use Rattle.vx_record.specs.Flags.{with_local_flag, with_cluster_flag, flag_part}
 use Rattle.vx_record.specs.Sound.{AssociationStands}
 use Rattle.vx_record.proofs.Firm.{IsFirm}
-use Rattle.vx_record.proofs.Lists.{either, either_by, all_weaker, all_both, all_append, all_less, find_passes, none_passes}
+use Rattle.vx_record.proofs.Lists.{either, either_by, all_weaker, all_both, all_append, all_less, none_passes}
 use Rattle.vx_record.proofs.Ground.{Still, common_still}
 use Rattle.vx_record.proofs.Changes.{quiet_still, with_local_flag_quiet}
+use Rattle.vx_base.proofs.First.{found_passes}
 
 -- Lists.
 
@@ -23,7 +24,7 @@ any_append : {A : Type 0} (p : A → Bool) (xs ys : List A) → list_any p xs �
 any_append p [] ys h = cc
 any_append p (x ∷ xs) ys h = let rest = any_append p xs ys in grind arith
 
-any_last : {A : Type 0} (p : A → Bool) (xs : List A) (y : A) → p y ≡ true → list_any p (xs ++ y ∷ []) ≡ true
+pub any_last : {A : Type 0} (p : A → Bool) (xs : List A) (y : A) → p y ≡ true → list_any p (xs ++ y ∷ []) ≡ true
 any_last p [] y h = or_left (p y) false h
 any_last p (x ∷ xs) y h = or_right (p x) (list_any p (xs ++ y ∷ [])) (any_last p xs y h)
 
@@ -61,7 +62,7 @@ gone_stands n c group name none h =
 swept_at_stands : (n : ℕ) (c : Common) (group : ℕ) (name : List ℕ) (o : Option Cluster) → find (is_cluster group name) c.clusters ≡ o → is_used c group name ≡ false → CommonStands n c → CommonStands n (swept_at c o).after
 swept_at_stands n c group name None is none h = h
 swept_at_stands n c group name (Some cl) is none h =
-    let same = both_names cl.group group cl.name name (find_passes (is_cluster group name) c.clusters cl is) in
+    let same = both_names cl.group group cl.name name (found_passes (is_cluster group name) c.clusters cl is) in
     either (λ (d : Change). CommonStands n d.after) (cl.permanent && not cl.marked) _ _ h (gone_stands n c cl.group cl.name (rw (same.0, same.1) none) h)
 
 swept_stands : (n : ℕ) (c : Common) (group : ℕ) (name : List ℕ) → CommonStands n c → CommonStands n (swept c group name).after

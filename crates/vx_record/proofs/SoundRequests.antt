@@ -22,9 +22,10 @@ use Rattle.vx_record.specs.Requests.{with_attention, Asked, is_bad, device_test,
 use Rattle.vx_record.specs.Sound.{Ground, ground, process_of, IsRoutineOf, DeviceStands, ChannelStands, IsRooted, MayBeServed, RequestStands, AttentionStands, AreOrdered, request_id}
 use Rattle.vx_record.proofs.Finds.{all_found}
 use Rattle.vx_record.proofs.Firm.{IsFirm}
-use Rattle.vx_record.proofs.Lists.{either_by, all_weaker, all_append, all_find, ordered_more, ordered_amend, all_get, find_passes}
+use Rattle.vx_record.proofs.Lists.{either_by, all_weaker, all_append, all_find, ordered_more, ordered_amend, all_get}
 use Rattle.vx_record.proofs.Ground.{Keeps, process_moves, Still, still_then, moved, requests_still, attention_still, past_id_still}
 use Rattle.vx_record.proofs.Changes.{firm_at}
+use Rattle.vx_base.proofs.First.{found_passes}
 
 -- A channel that passed the test.
 
@@ -62,10 +63,10 @@ with_attention_still s a e k h = grind (arith, still_then, past_id_still, attent
 
 -- The tests.
 
-device_test_row : (s : State) (p : Pid) (q : Asked) (c : Cell) (ch : Channel) (to : Cell × Channel) → device_test s p q c ch ≡ Ok to → ch ≡ to.1
+pub device_test_row : (s : State) (p : Pid) (q : Asked) (c : Cell) (ch : Channel) (to : Cell × Channel) → device_test s p q c ch ≡ Ok to → ch ≡ to.1
 device_test_row s p q c ch to e = grind arith
 
-on_cell_row : (s : State) (p : Pid) (q : Asked) (o : Option Cell) (to : Cell × Channel) → on_cell s p q o ≡ Ok to → channel_test s p q.chan ≡ Ok to.1
+pub on_cell_row : (s : State) (p : Pid) (q : Asked) (o : Option Cell) (to : Cell × Channel) → on_cell s p q o ≡ Ok to → channel_test s p q.chan ≡ Ok to.1
 on_cell_row s p q o to e = let row = λ (c : Cell) (ch : Channel). device_test_row s p q c ch to in grind arith
 
 pub request_test_row : (s : State) (p : Pid) (q : Asked) (to : Cell × Channel) → request_test s p q ≡ Ok to → (is_bad q ≡ false) × (channel_test s p q.chan ≡ Ok to.1)
@@ -85,7 +86,7 @@ same_id w low high xs r h e =
     let P = λ (y : Request). find (λ z. request_id z == request_id y) xs ≡ Some y in
     let found = all_found request_id low high xs h in
     let here : P r = all_find P w xs r found e in
-    let alike = λ (x : Request) (k : P x) (same : request_id x ≡ request_id r). let there : find (λ z. request_id z == request_id r) xs ≡ Some x = subst (λ (n : ℕ). find (λ z. request_id z == n) xs ≡ Some x) same k in let is : x ≡ r = cc in ap w is ∙ find_passes w xs r e in
+    let alike = λ (x : Request) (k : P x) (same : request_id x ≡ request_id r). let there : find (λ z. request_id z == request_id r) xs ≡ Some x = subst (λ (n : ℕ). find (λ z. request_id z == n) xs ≡ Some x) same k in let is : x ≡ r = cc in ap w is ∙ found_passes w xs r e in
     all_weaker P (λ x. request_id x ≡ request_id r → w x ≡ true) alike xs found
 
 amend_by : {A : Type 0} (P : A → Type 0) (p : A → Bool) (f : A → A) (xs : List A) → AllByRecursion P xs → AllByRecursion (λ x. p x ≡ true → P x → P (f x)) xs → AllByRecursion P (amend p f xs)

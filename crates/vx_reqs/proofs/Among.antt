@@ -1,15 +1,9 @@
 -- A search among places whose ids rise.
-use Rattle.std.proofs.Common.{◌≡◌, ◌≢◌, ℕ, ◌+◌, ◌<◌, ◌≤◌, List, [], ◌∷◌, Bool, true, false, Some, None, length, get_or, refl, ap, arith, suc, zero, position, nat_lt, ltb-true, ltb-false, subst}
+use Rattle.std.proofs.Common.{◌≡◌, ◌≢◌, ℕ, ◌+◌, ◌<◌, ◌≤◌, List, Bool, true, false, Some, None, length, get_or, refl, ap, arith, position, nat_lt, ltb-true, ltb-false, subst}
 use Rattle.vx_base.specs.declared.number.Id.{Id}
 use Rattle.vx_reqs.specs.Places.{Place, holds, Rises}
-use Rattle.vx_reqs.specs.Requests.{has_id}
 use Rattle.vx_reqs.proofs.Rising.{rises_at, rises_between, is_other, place_first, place_none}
-
--- an item within a list is what it is by any default
-pub same_at : {X : Type 0} (xs : List X) (k : ℕ) (d e : X) → k < length xs → get_or xs k d ≡ get_or xs k e
-same_at [] k d e lt = absurd (omega arith)
-same_at (x ∷ xs) zero d e lt = refl
-same_at (x ∷ xs) (suc k) d e lt = same_at xs k d e (omega arith)
+use Rattle.vx_record.specs.Finish.{this_request}
 
 pub below_middle : (xs : List Place) (next n m : ℕ) (i : Id) → Rises 0 xs next → m < length xs → ((d : Place) → i ≡ (get_or xs m d).id) → i.0 < n → (k : ℕ) (d : Place) → k < m + 1 → (get_or xs k d).id.0 < n
 below_middle xs next n m i rises within is less k d lt =
@@ -20,7 +14,7 @@ above_middle xs next n m i rises within is le k d from lt =
     grind (arith, ap (λ (j : Id). j.0) (is d), le, from, lt, rises_between 0 xs next rises m k d, λ (same : k ≡ m). ap (λ (j : ℕ). (get_or xs j d).id.0) same)
 
 -- the request with an id stands at no place with another one
-pub others_fail : (id : Id) (xs : List Place) (next : ℕ) → Rises 0 xs next → (k : ℕ) (d : Place) → k < length xs → (get_or xs k d).id.0 ≢ id.0 → holds (has_id id) (get_or xs k d) ≡ false
+pub others_fail : (id : Id) (xs : List Place) (next : ℕ) → Rises 0 xs next → (k : ℕ) (d : Place) → k < length xs → (get_or xs k d).id.0 ≢ id.0 → holds (this_request id) (get_or xs k d) ≡ false
 others_fail id xs next rises k d lt differs = is_other id (get_or xs k d) (rises_at 0 xs next rises k d lt).0 differs
 
 module _ (p : Place → Bool) (xs : List Place) (n i : ℕ) (fails : (k : ℕ) (d : Place) → k < length xs → (get_or xs k d).id.0 ≢ n → p (get_or xs k d) ≡ false) (below : (k : ℕ) (d : Place) → k < i → (get_or xs k d).id.0 < n) where

@@ -6,8 +6,8 @@ use Rattle.vx_base.specs.Pieces.{Request}
 use Rattle.vx_base.specs.declared.number.Id.{Id}
 use Rattle.vx_base.proofs.First.{amend_at, found_at, none_at}
 use Rattle.vx_reqs.specs.Places.{Place, holds, live}
-use Rattle.vx_reqs.proofs.Among.{same_at}
 use Rattle.vx_reqs.proofs.Live.{any_found, found_live, request_of}
+use Rattle.std.proofs.lemmas.List.{get_or_default}
 
 -- a place, so that there is one
 abbrev pub some_place : Place
@@ -19,7 +19,7 @@ set_found p g xs i new place after = after some_place ∙ amend_at (holds p) g x
 
 -- what it is
 pub place_found : (q : Place → Bool) (xs : List Place) (i : ℕ) → i < length xs → Some i ≡ position q xs → Some (get_or xs i some_place) ≡ find q xs
-place_found q xs i within place = found_at q xs i (get_or xs i some_place) place (same_at xs i some_place (get_or xs i some_place) within)
+place_found q xs i within place = found_at q xs i (get_or xs i some_place) place (get_or_default xs i some_place (get_or xs i some_place) within)
 
 -- the request that stands there
 pub request_found : (p : Request → Bool) (xs : List Place) (i : ℕ) (o : Option Request) → i < length xs → Some i ≡ position (holds p) xs → ((d : Place) → o ≡ (get_or xs i d).request) → o ≡ find p (live xs)

@@ -9,8 +9,8 @@ use Rattle.vx_base.specs.declared.number.UnitNo.{UnitNo}
 use Rattle.vx_base.specs.declared.request.Device.{Device}
 use Rattle.vx_base.specs.declared.request.Device.TheVariants as device
 use Rattle.vx_reqs.specs.Places.{Place, holds, is_held, changed, Keeps, AllKeep, Rises}
-use Rattle.vx_reqs.specs.Requests.{as_served}
 use Rattle.vx_reqs.proofs.Rising.{rises_from}
+use Rattle.vx_record.specs.Requests.{taken_up}
 
 pub keep_at : (u : UnitNo) (from served : ℕ) (xs : List Place) → AllKeep u from served xs → (k : ℕ) (d : Place) → k < length xs → Keeps u from served (get_or xs k d)
 keep_at u from served [] h k d lt = absurd (omega arith)
@@ -62,7 +62,7 @@ pub not_both : (b : Bool) → (b && false) ≡ false
 not_both true = refl
 not_both false = refl
 
-no_wait : (u : UnitNo) (i : Id) (o : Option Request) → holds (waits_for u) (changed as_served (record { id = i; request = o })) ≡ false
+no_wait : (u : UnitNo) (i : Id) (o : Option Request) → holds (waits_for u) (changed taken_up (record { id = i; request = o })) ≡ false
 no_wait u i None = refl
 no_wait u i (Some r) = not_both (is_on u r)
 
@@ -76,23 +76,23 @@ elsewhere u other (device.Unit v) b differs on =
     let here : u.0 ≡ v.0 = eqb-true u.0 v.0 (first_of_two (u.0 == v.0) b on) in
     ap (λ (c : Bool). c && true) (ne_eqb other.0 v.0 (λ e. differs (here ∙ sym e)))
 
-no_service : (u other : UnitNo) (i : Id) (o : Option Request) → u.0 ≢ other.0 → holds (waits_for u) (record { id = i; request = o }) ≡ true → holds (is_served_by other) (changed as_served (record { id = i; request = o })) ≡ false
+no_service : (u other : UnitNo) (i : Id) (o : Option Request) → u.0 ≢ other.0 → holds (waits_for u) (record { id = i; request = o }) ≡ true → holds (is_served_by other) (changed taken_up (record { id = i; request = o })) ≡ false
 no_service u other i None differs on = refl
 no_service u other i (Some r) differs on = elsewhere u other r.req.device (not r.served) differs on
 
 -- the first that waits for a unit that serves none is served
-pub keep_begun : (u : UnitNo) (from served : ℕ) (xs : List Place) (y : Place) → None ≡ find (holds (is_served_by u)) xs → Some y ≡ find (holds (waits_for u)) xs → AllKeep u from served xs → AllKeep u from y.id.0 (amend (holds (waits_for u)) (changed as_served) xs)
+pub keep_begun : (u : UnitNo) (from served : ℕ) (xs : List Place) (y : Place) → None ≡ find (holds (is_served_by u)) xs → Some y ≡ find (holds (waits_for u)) xs → AllKeep u from served xs → AllKeep u from y.id.0 (amend (holds (waits_for u)) (changed taken_up) xs)
 keep_begun u from served [] y none found h = tt
 keep_begun u from served (x ∷ xs) y none found h =
     let here = none_in (holds (is_served_by u)) x xs none in
-    elim (holds (waits_for u) x) as (λ b. Some y ≡ cond b (Some x) (find (holds (waits_for u)) xs) → AllKeep u from y.id.0 (cond b (changed as_served x ∷ xs) (x ∷ amend (holds (waits_for u)) (changed as_served) xs))) [
+    elim (holds (waits_for u) x) as (λ b. Some y ≡ cond b (Some x) (find (holds (waits_for u)) xs) → AllKeep u from y.id.0 (cond b (changed taken_up x ∷ xs) (x ∷ amend (holds (waits_for u)) (changed taken_up) xs))) [
       | true ↦ λ is. let e : y ≡ x = cc in (record { waits = λ _. no_wait u x.id x.request; serves = λ differs. absurd (differs (ap (λ (p : Place). p.id.0) (sym e))) }, keep_unserved u from served y.id.0 xs here.1 h.1)
       | false ↦ λ is. (record { waits = h.0.waits; serves = λ _. here.0 }, keep_begun u from served xs y here.1 is h.1)
     ] found
 
 -- and to the other units nothing changes
-pub keep_begun_elsewhere : (u other : UnitNo) → u.0 ≢ other.0 → (from served : ℕ) (xs : List Place) → AllKeep other from served xs → AllKeep other from served (amend (holds (waits_for u)) (changed as_served) xs)
-keep_begun_elsewhere u other differs from served xs h = keep_amend (holds (waits_for u)) (changed as_served) other from served (λ x on k. record { waits = λ _. no_wait other x.id x.request; serves = λ _. no_service u other x.id x.request differs on }) xs h
+pub keep_begun_elsewhere : (u other : UnitNo) → u.0 ≢ other.0 → (from served : ℕ) (xs : List Place) → AllKeep other from served xs → AllKeep other from served (amend (holds (waits_for u)) (changed taken_up) xs)
+keep_begun_elsewhere u other differs from served xs h = keep_amend (holds (waits_for u)) (changed taken_up) other from served (λ x on k. record { waits = λ _. no_wait other x.id x.request; serves = λ _. no_service u other x.id x.request differs on }) xs h
 
 -- with a new number, from the first that waits on
 pub keep_above : (u : UnitNo) (from served : ℕ) (low : ℕ) (xs : List Place) (next : ℕ) → Rises low xs next → AllKeep u from served xs → AllKeep u low served xs

@@ -8,9 +8,10 @@ use Rattle.vx_base.specs.declared.number.Id.{Id}
 use Rattle.vx_base.specs.declared.number.UnitNo.{UnitNo}
 use Rattle.vx_base.specs.declared.request.Device.{Device}
 use Rattle.vx_reqs.specs.Places.{Place, holds, is_held, emptied, changed, AllKeep, IsOrdered}
-use Rattle.vx_reqs.specs.Requests.{as_served, as_marked}
 use Rattle.vx_reqs.proofs.Numbers.{keep_put, keep_lower, keep_begun, keep_begun_elsewhere, keep_settled, keep_idle, keep_amend, keep_kept, not_both}
 use Rattle.vx_reqs.proofs.Rising.{rises_put, rises_amend, rises_kept, own_changed}
+use Rattle.vx_record.specs.Requests.{taken_up}
+use Rattle.vx_record.specs.Cancel.{with_abort}
 
 -- what holds of one unit and of the others
 by_unit : (P : UnitNo → Type 0) (u : UnitNo) → (u.0 < 32 → P u) → ((v : UnitNo) → u.0 ≢ v.0 → v.0 < 32 → P v) → (v : UnitNo) → v.0 < 32 → P v
@@ -42,12 +43,12 @@ pub none_of : (o : Option Place) → None ≡ option_map (λ y. y.id) o → None
 none_of None e = refl
 none_of (Some y) e = absurd (cc)
 
-pub begun_order : (u : UnitNo) (id : Id) (places : List Place) (next : ℕ) (from served new : List ℕ) → None ≡ find (holds (is_served_by u)) places → Some id ≡ option_map (λ y. y.id) (find (holds (waits_for u)) places) → (u.0 < 32 → get_or new u.0 0 ≡ id.0) → ((v : UnitNo) → u.0 ≢ v.0 → get_or new v.0 0 ≡ get_or served v.0 0) → IsOrdered next from served places → IsOrdered next from new (amend (holds (waits_for u)) (changed as_served) places)
+pub begun_order : (u : UnitNo) (id : Id) (places : List Place) (next : ℕ) (from served new : List ℕ) → None ≡ find (holds (is_served_by u)) places → Some id ≡ option_map (λ y. y.id) (find (holds (waits_for u)) places) → (u.0 < 32 → get_or new u.0 0 ≡ id.0) → ((v : UnitNo) → u.0 ≢ v.0 → get_or new v.0 0 ≡ get_or served v.0 0) → IsOrdered next from served places → IsOrdered next from new (amend (holds (waits_for u)) (changed taken_up) places)
 begun_order u id places next from served new none is here others ordered =
-    let changed_places = amend (holds (waits_for u)) (changed as_served) places in
+    let changed_places = amend (holds (waits_for u)) (changed taken_up) places in
     let found = some_of id (find (holds (waits_for u)) places) is in
     record {
-      rises = rises_amend (holds (waits_for u)) (changed as_served) (λ x. refl) (own_changed as_served (λ r. refl)) 0 places next ordered.rises;
+      rises = rises_amend (holds (waits_for u)) (changed taken_up) (λ x. refl) (own_changed taken_up (λ r. refl)) 0 places next ordered.rises;
       units = by_unit (λ v. AllKeep v (get_or from v.0 0) (get_or new v.0 0) changed_places) u
           (λ lt. subst (λ (n : ℕ). AllKeep u (get_or from u.0 0) n changed_places) (ap (λ (i : Id). i.0) found.2 ∙ sym (here lt)) (keep_begun u (get_or from u.0 0) (get_or served u.0 0) places found.0 none found.1 (ordered.units u lt)))
           (λ v differs lt. subst (λ (n : ℕ). AllKeep v (get_or from v.0 0) n changed_places) (sym (others v differs)) (keep_begun_elsewhere u v differs (get_or from v.0 0) (get_or served v.0 0) places (ordered.units v lt)));
@@ -81,19 +82,19 @@ ordered_emptied q places next from served ordered = record {
   units = λ u lt. keep_amend q emptied u (get_or from u.0 0) (get_or served u.0 0) (λ x passes k. record { waits = λ _. refl; serves = λ _. refl }) places (ordered.units u lt);
 }
 
-marked_waits : (u : UnitNo) (i : Id) (o : Option Request) → holds (waits_for u) (changed as_marked (record { id = i; request = o })) ≡ holds (waits_for u) (record { id = i; request = o })
+marked_waits : (u : UnitNo) (i : Id) (o : Option Request) → holds (waits_for u) (changed with_abort (record { id = i; request = o })) ≡ holds (waits_for u) (record { id = i; request = o })
 marked_waits u i None = refl
 marked_waits u i (Some r) = refl
 
-marked_serves : (u : UnitNo) (i : Id) (o : Option Request) → holds (is_served_by u) (changed as_marked (record { id = i; request = o })) ≡ holds (is_served_by u) (record { id = i; request = o })
+marked_serves : (u : UnitNo) (i : Id) (o : Option Request) → holds (is_served_by u) (changed with_abort (record { id = i; request = o })) ≡ holds (is_served_by u) (record { id = i; request = o })
 marked_serves u i None = refl
 marked_serves u i (Some r) = refl
 
 -- a request that is marked
-pub ordered_marked : (q : Place → Bool) (places : List Place) (next : ℕ) (from served : List ℕ) → IsOrdered next from served places → IsOrdered next from served (amend q (changed as_marked) places)
+pub ordered_marked : (q : Place → Bool) (places : List Place) (next : ℕ) (from served : List ℕ) → IsOrdered next from served places → IsOrdered next from served (amend q (changed with_abort) places)
 ordered_marked q places next from served ordered = record {
-  rises = rises_amend q (changed as_marked) (λ x. refl) (own_changed as_marked (λ r. refl)) 0 places next ordered.rises;
-  units = λ u lt. keep_amend q (changed as_marked) u (get_or from u.0 0) (get_or served u.0 0) (λ x passes k. record { waits = λ below. marked_waits u x.id x.request ∙ k.waits below; serves = λ differs. marked_serves u x.id x.request ∙ k.serves differs }) places (ordered.units u lt);
+  rises = rises_amend q (changed with_abort) (λ x. refl) (own_changed with_abort (λ r. refl)) 0 places next ordered.rises;
+  units = λ u lt. keep_amend q (changed with_abort) u (get_or from u.0 0) (get_or served u.0 0) (λ x passes k. record { waits = λ below. marked_waits u x.id x.request ∙ k.waits below; serves = λ differs. marked_serves u x.id x.request ∙ k.serves differs }) places (ordered.units u lt);
 }
 
 -- the places that are held

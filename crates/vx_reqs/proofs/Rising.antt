@@ -6,7 +6,7 @@ use Rattle.vx_base.specs.Lists.{amend}
 use Rattle.vx_base.specs.Pieces.{Request}
 use Rattle.vx_base.specs.declared.number.Id.{Id}
 use Rattle.vx_reqs.specs.Places.{Place, holds, is_held, changed, IsOwn, Rises}
-use Rattle.vx_reqs.specs.Requests.{has_id}
+use Rattle.vx_record.specs.Finish.{this_request}
 
 -- each place has its own id, which is not below the first bound
 pub rises_at : (low : ℕ) (xs : List Place) (next : ℕ) → Rises low xs next → (k : ℕ) (d : Place) → k < length xs → IsOwn (get_or xs k d) × (low ≤ (get_or xs k d).id.0)
@@ -25,11 +25,11 @@ rises_between low (x ∷ xs) next h zero (suc j) d lt in_range =
 rises_between low (x ∷ xs) next h (suc i) (suc j) d lt in_range = rises_between (x.id.0 + 1) xs next h.2 i j d (omega arith) (omega arith)
 
 -- a place of its own holds no request with another id
-other_in : (id i : Id) (o : Option Request) → IsOwn (record { id = i; request = o }) → i.0 ≢ id.0 → holds (has_id id) (record { id = i; request = o }) ≡ false
+other_in : (id i : Id) (o : Option Request) → IsOwn (record { id = i; request = o }) → i.0 ≢ id.0 → holds (this_request id) (record { id = i; request = o }) ≡ false
 other_in id i None own differs = refl
 other_in id i (Some r) own differs = ne_eqb r.req.id.0 id.0 (λ e. differs (sym own ∙ e))
 
-pub is_other : (id : Id) (x : Place) → IsOwn x → x.id.0 ≢ id.0 → holds (has_id id) x ≡ false
+pub is_other : (id : Id) (x : Place) → IsOwn x → x.id.0 ≢ id.0 → holds (this_request id) x ≡ false
 is_other id x own differs = other_in id x.id x.request own differs
 
 -- where none passes before a place that does, it is the first

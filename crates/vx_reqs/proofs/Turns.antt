@@ -5,8 +5,9 @@ use Rattle.vx_base.specs.Lists.{amend}
 use Rattle.vx_base.specs.Pieces.{Request}
 use Rattle.vx_base.specs.Queues.{front, in_service, is_served_by, waits_for}
 use Rattle.vx_base.specs.declared.number.UnitNo.{UnitNo}
-use Rattle.vx_reqs.specs.Requests.{as_served, begun}
+use Rattle.vx_reqs.specs.Requests.{begun}
 use Rattle.vx_reqs.proofs.Live.{amend_nothing, any_found}
+use Rattle.vx_record.specs.Requests.{taken_up}
 
 -- it serves one
 pub front_busy : (u : UnitNo) (rs : List Request) (r : Request) → Some r ≡ in_service u rs → None ≡ front u rs
@@ -23,15 +24,15 @@ front_free u rs serves =
 -- nothing is taken
 pub begun_none : (u : UnitNo) (rs : List Request) → None ≡ front u rs → rs ≡ begun u rs
 begun_none u rs none =
-    elim (list_any (is_served_by u) rs) as (λ b. None ≡ cond b None (find (waits_for u) rs) → rs ≡ cond b rs (amend (waits_for u) as_served rs)) [
+    elim (list_any (is_served_by u) rs) as (λ b. None ≡ cond b None (find (waits_for u) rs) → rs ≡ cond b rs (amend (waits_for u) taken_up rs)) [
       | true ↦ λ is. refl
-      | false ↦ λ is. amend_nothing (waits_for u) as_served rs is
+      | false ↦ λ is. amend_nothing (waits_for u) taken_up rs is
     ] none
 
 -- the first that waits is taken, and none was served
-pub begun_some : (u : UnitNo) (rs : List Request) (r : Request) → Some r ≡ front u rs → (list_any (is_served_by u) rs ≡ false) × (amend (waits_for u) as_served rs ≡ begun u rs)
+pub begun_some : (u : UnitNo) (rs : List Request) (r : Request) → Some r ≡ front u rs → (list_any (is_served_by u) rs ≡ false) × (amend (waits_for u) taken_up rs ≡ begun u rs)
 begun_some u rs r some =
-    elim (list_any (is_served_by u) rs) as (λ b. Some r ≡ cond b None (find (waits_for u) rs) → (b ≡ false) × (amend (waits_for u) as_served rs ≡ cond b rs (amend (waits_for u) as_served rs))) [
+    elim (list_any (is_served_by u) rs) as (λ b. Some r ≡ cond b None (find (waits_for u) rs) → (b ≡ false) × (amend (waits_for u) taken_up rs ≡ cond b rs (amend (waits_for u) taken_up rs))) [
       | true ↦ λ is. absurd (cc)
       | false ↦ λ is. (refl, refl)
     ] some

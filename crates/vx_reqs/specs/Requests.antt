@@ -1,5 +1,5 @@
 -- The outstanding requests.
-use Rattle.std.specs.Prelude.{ℕ, List, Bool, true, false, ◌&&◌, ◌==◌, not, Option, Some, None, if◌then◌else◌}
+use Rattle.std.specs.Prelude.{ℕ, List, Bool, false, ◌&&◌, ◌==◌, not, Option, Some, None, if◌then◌else◌}
 use Rattle.std.specs.List.{list_any}
 use Rattle.vx_base.specs.Lists.{amend}
 use Rattle.vx_base.specs.Modes.{reaches}
@@ -7,10 +7,10 @@ use Rattle.vx_base.specs.Pieces.{Request, Promised}
 use Rattle.vx_base.specs.Queues.{is_served_by, waits_for}
 use Rattle.vx_base.specs.Roomy.{Roomy}
 use Rattle.vx_base.specs.declared.mode.Mode.{Mode}
-use Rattle.vx_base.specs.declared.number.Id.{Id}
 use Rattle.vx_base.specs.declared.number.Pid.{Pid}
 use Rattle.vx_base.specs.declared.number.UnitNo.{UnitNo}
 use Rattle.vx_base.specs.declared.routine.Entry.{Entry}
+use Rattle.vx_record.specs.Requests.{taken_up}
 
 -- The requests in order of acceptance, and how many there is room for in all.
 abbrev pub Requests : Type 0
@@ -19,10 +19,6 @@ Requests = Roomy Request
 -- an AST that is promised, its tag in place of its routine
 abbrev pub promised_of : {R : Type 0} → (R → Entry) → (Mode × R) → Promised
 promised_of tag ast = record { mode = ast.0; tag = tag ast.1 }
-
--- the request has this id
-abbrev pub has_id : Id → Request → Bool
-has_id id r = r.req.id.0 == id.0
 
 -- the request is of process p
 abbrev pub is_of : Pid → Request → Bool
@@ -41,12 +37,6 @@ abbrev pub is_found : (Request → Bool) → Option Request → Bool
 is_found p None = false
 is_found p (Some r) = p r
 
-abbrev pub as_served : Request → Request
-as_served r = record r { served = true }
-
-abbrev pub as_marked : Request → Request
-as_marked r = record r { marked = true }
-
 -- the list after a unit has taken the request that it takes next, if there is one
 abbrev pub begun : UnitNo → List Request → List Request
-begun u requests = if list_any (is_served_by u) requests then requests else amend (waits_for u) as_served requests
+begun u requests = if list_any (is_served_by u) requests then requests else amend (waits_for u) taken_up requests

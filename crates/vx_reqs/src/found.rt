@@ -4,9 +4,11 @@ ghost use Rattle.std.specs.Prelude.{◌≡◌, ◌≢◌, ◌<◌, ◌≤◌, �
 ghost use Rattle.std.specs.List.{find};
 ghost use Rattle.vx_base.specs.Lists.{amend};
 ghost use Rattle.vx_base.specs.Pieces.{Request};
-ghost use Rattle.vx_reqs.specs.Requests.{has_id, as_served, as_marked};
 ghost use Rattle.vx_reqs.specs.Places.{Place, emptied, changed, holds, live, OrderedIf, Rises};
 ghost use Rattle.vx_reqs.specs.Sought.{is_sought};
+ghost use Rattle.vx_record.specs.Requests.{taken_up};
+ghost use Rattle.vx_record.specs.Finish.{this_request};
+ghost use Rattle.vx_record.specs.Cancel.{with_abort};
 
 use crate::order::Order;
 use crate::outstanding::Outstanding;
@@ -88,7 +90,7 @@ pub(crate) fn place_among<R: Routine>(
 /// Where the request with an id stands. Where the ids rise, as from a counter, in the logarithm of the places.
 pub(crate) fn place_of_id<R: Routine>(places: &Places<R>, order: &Order, id: Id) -> Option<usize>
     requires { OrderedIf order.now.rising order.now.next order.now.from order.now.served places.now.items }
-    ensures place { result ≡ position (holds (has_id id)) places.now.items }
+    ensures place { result ≡ position (holds (this_request id)) places.now.items }
     ensures within { IfSome result (λ i. i < length places.now.items) }
 {
     if order.rising {
@@ -142,7 +144,7 @@ pub(crate) fn take_at<R: Routine>(
 /// Has a unit serve the request at a place, if there is one.
 pub(crate) fn serve_at<R: Routine>(places: &mut Places<R>, place: Option<usize>)
     requires { IfSome place (λ i. i < length places.old.items) }
-    ensures after { (p : Request → Bool) → place ≡ position (holds p) places.old.items → places.new.items ≡ amend (holds p) (changed as_served) places.old.items }
+    ensures after { (p : Request → Bool) → place ≡ position (holds p) places.old.items → places.new.items ≡ amend (holds p) (changed taken_up) places.old.items }
     ensures capacity { places.new.capacity ≡ places.old.capacity }
 {
     match place {
@@ -154,7 +156,7 @@ pub(crate) fn serve_at<R: Routine>(places: &mut Places<R>, place: Option<usize>)
 /// Has the request at a place aborted, if there is one.
 pub(crate) fn mark_at<R: Routine>(places: &mut Places<R>, place: Option<usize>)
     requires { IfSome place (λ i. i < length places.old.items) }
-    ensures after { (p : Request → Bool) → place ≡ position (holds p) places.old.items → places.new.items ≡ amend (holds p) (changed as_marked) places.old.items }
+    ensures after { (p : Request → Bool) → place ≡ position (holds p) places.old.items → places.new.items ≡ amend (holds p) (changed with_abort) places.old.items }
     ensures capacity { places.new.capacity ≡ places.old.capacity }
 {
     match place {

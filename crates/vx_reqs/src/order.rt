@@ -5,8 +5,8 @@ ghost use Rattle.std.specs.List.{find};
 ghost use Rattle.vx_base.specs.Lists.{amend};
 ghost use Rattle.vx_base.specs.Pieces.{Request};
 ghost use Rattle.vx_base.specs.Queues.{is_served_by, is_unit, waits_for};
-ghost use Rattle.vx_reqs.specs.Requests.{as_served};
 ghost use Rattle.vx_reqs.specs.Places.{Place, OrderedIf, changed, holds};
+ghost use Rattle.vx_record.specs.Requests.{taken_up};
 
 use vx_base::{Device, Id, UnitNo};
 
@@ -52,7 +52,7 @@ impl Order {
 
     /// Goes on to a unit that serves the first request that waited for it.
     pub(crate) fn begin(&mut self, u: UnitNo, first: Option<Id>)
-        ensures { (places : List Place) → None ≡ find (holds (is_served_by u)) places → first ≡ option_map (λ y. y.id) (find (holds (waits_for u)) places) → OrderedIf self.old.rising self.old.next self.old.from self.old.served places → OrderedIf self.new.rising self.new.next self.new.from self.new.served (amend (holds (waits_for u)) (changed as_served) places) }
+        ensures { (places : List Place) → None ≡ find (holds (is_served_by u)) places → first ≡ option_map (λ y. y.id) (find (holds (waits_for u)) places) → OrderedIf self.old.rising self.old.next self.old.from self.old.served places → OrderedIf self.new.rising self.new.next self.new.from self.new.served (amend (holds (waits_for u)) (changed taken_up) places) }
     {
         match first {
             Some(id) => put(&mut self.served, u, id.0 as u64),

@@ -3,7 +3,10 @@
 ghost use Rattle.std.specs.Prelude.{◌≡◌, ◌↔◌, IsTrue, false, is_some, option_map};
 ghost use Rattle.vx_base.specs.Queues.{is_unit, is_served_by, waits_for};
 ghost use Rattle.vx_record.specs.Mailboxes.{is_box, is_waiting_func, waits_at};
-ghost use Rattle.vx_reqs.specs.Requests.{has_id, as_served, as_marked, is_to_cancel, keeps_open, promised_of};
+ghost use Rattle.vx_reqs.specs.Requests.{is_to_cancel, keeps_open, promised_of};
+ghost use Rattle.vx_record.specs.Requests.{taken_up};
+ghost use Rattle.vx_record.specs.Finish.{this_request};
+ghost use Rattle.vx_record.specs.Cancel.{with_abort};
 
 use std::marker::Model;
 use vx_base::{
@@ -95,21 +98,21 @@ impl<R: Routine> Outstanding<R> {
 
     /// Has its unit serve it.
     pub(crate) fn serve(&mut self)
-        ensures { self.new ≡ as_served self.old }
+        ensures { self.new ≡ taken_up self.old }
     {
         self.served = true;
     }
 
     /// Has it aborted.
     pub(crate) fn mark(&mut self)
-        ensures { self.new ≡ as_marked self.old }
+        ensures { self.new ≡ with_abort self.old }
     {
         self.marked = true;
     }
 
     /// Whether it has an id.
     pub(crate) fn has_id(&self, id: Id) -> bool
-        ensures { result ≡ has_id id self.now }
+        ensures { result ≡ this_request id self.now }
     {
         self.req.id.0 == id.0
     }

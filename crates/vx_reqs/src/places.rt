@@ -4,8 +4,9 @@ ghost use Rattle.std.specs.Prelude.{◌≡◌, ◌⊎◌, ◌+◌, ◌<◌, ◌�
 ghost use Rattle.std.specs.List.{filter};
 ghost use Rattle.slab.specs.Slab.{HasRoomFor, Updates, get, slab_len};
 ghost use Rattle.vx_reqs.specs.Places.{Place, changed, emptied, is_held, live};
-ghost use Rattle.vx_reqs.specs.Requests.{as_marked, as_served};
 ghost use Rattle.vx_reqs.specs.Slots.{has_key};
+ghost use Rattle.vx_record.specs.Requests.{taken_up};
+ghost use Rattle.vx_record.specs.Cancel.{with_abort};
 
 use crate::outstanding::Outstanding;
 use crate::slot::Slot;
@@ -152,7 +153,7 @@ impl<R: Routine> Places<R> {
     /// Has its unit serve the request at a place.
     pub(crate) fn serve(&mut self, at: usize)
         requires { at < length self.old.items }
-        ensures after { (d : Place) → self.new.items ≡ slice_set self.old.items at (changed as_served (get_or self.old.items at d)) }
+        ensures after { (d : Place) → self.new.items ≡ slice_set self.old.items at (changed taken_up (get_or self.old.items at d)) }
         ensures capacity { self.new.capacity ≡ self.old.capacity }
     {
         match self.slots[at].key {
@@ -164,7 +165,7 @@ impl<R: Routine> Places<R> {
     /// Has the request at a place aborted.
     pub(crate) fn mark(&mut self, at: usize)
         requires { at < length self.old.items }
-        ensures after { (d : Place) → self.new.items ≡ slice_set self.old.items at (changed as_marked (get_or self.old.items at d)) }
+        ensures after { (d : Place) → self.new.items ≡ slice_set self.old.items at (changed with_abort (get_or self.old.items at d)) }
         ensures capacity { self.new.capacity ≡ self.old.capacity }
     {
         match self.slots[at].key {

@@ -6,7 +6,9 @@ ghost use Rattle.vx_base.specs.Lists.{less, amend};
 ghost use Rattle.vx_base.specs.Queues.{front, in_service};
 ghost use Rattle.vx_record.specs.Mailboxes.{waits_at};
 ghost use Rattle.vx_reqs.specs.Places.{live};
-ghost use Rattle.vx_reqs.specs.Requests.{promised_of, has_id, is_found, as_marked, begun, is_to_cancel, keeps_open};
+ghost use Rattle.vx_reqs.specs.Requests.{promised_of, is_found, begun, is_to_cancel, keeps_open};
+ghost use Rattle.vx_record.specs.Finish.{this_request};
+ghost use Rattle.vx_record.specs.Cancel.{with_abort};
 
 use crate::found::{id_at, mark_at, place_from, place_of_id, request_at, serve_at, take_at};
 use crate::order::Order;
@@ -92,7 +94,7 @@ impl<R: Routine> Reqs<R> {
     /// Accepts a request ($QIO), with the AST that it is to queue when it finishes, if it has one. Takes no memory.
     pub fn accept(&mut self, req: Req, ast: Option<(Mode, R)>)
         requires room { length self.old.items < self.old.capacity }
-        requires fresh { list_any (has_id req.id) self.old.items ≡ false }
+        requires fresh { list_any (this_request req.id) self.old.items ≡ false }
         ensures { self.new ≡ record self.old { items = self.old.items ++ record { req = req; ast = option_map (promised_of R.tagged) ast; served = false; marked = false } ∷ [] } }
     {
         self.order.accept(req.id, req.device);
@@ -150,7 +152,7 @@ impl<R: Routine> Reqs<R> {
 
     // The request with an id.
     fn with_id(&self, id: Id) -> Option<&Outstanding<R>>
-        ensures { option_map (λ o. o.now) result ≡ find (has_id id) self.now.items }
+        ensures { option_map (λ o. o.now) result ≡ find (this_request id) self.now.items }
     {
         let place = place_of_id(&self.places, &self.order, id);
         request_at(&self.places, place)
@@ -158,7 +160,7 @@ impl<R: Routine> Reqs<R> {
 
     /// The request with an id. None exactly where there is none.
     pub fn get(&self, id: Id) -> Option<&Req>
-        ensures { option_map (λ r. r.now) result ≡ option_map (λ r. r.req) (find (has_id id) self.now.items) }
+        ensures { option_map (λ r. r.now) result ≡ option_map (λ r. r.req) (find (this_request id) self.now.items) }
     {
         let found = self.with_id(id)?;
         Some(found.req())
@@ -180,15 +182,15 @@ impl<R: Routine> Reqs<R> {
 
     /// Whether there is a request with an id.
     pub fn has(&self, id: Id) -> bool
-        ensures { result ≡ list_any (has_id id) self.now.items }
+        ensures { result ≡ list_any (this_request id) self.now.items }
     {
         self.with_id(id).is_some()
     }
 
     /// Takes out the request with an id. None exactly where there is none.
     pub fn finish(&mut self, id: Id) -> Option<Outstanding<R>>
-        ensures found { result ≡ find (has_id id) self.old.items }
-        ensures after { self.new ≡ record self.old { items = less (has_id id) self.old.items } }
+        ensures found { result ≡ find (this_request id) self.old.items }
+        ensures after { self.new ≡ record self.old { items = less (this_request id) self.old.items } }
     {
         let place = place_of_id(&self.places, &self.order, id);
         let done = take_at(&mut self.places, place)?;
@@ -211,10 +213,10 @@ impl<R: Routine> Reqs<R> {
     /// Marks the request with an id: it is to be aborted when its unit has served it ($CANCEL). Answers false, and changes
     /// nothing, exactly where it was marked.
     pub fn mark(&mut self, id: Id) -> bool
-        requires { IsTrue (list_any (has_id id) self.old.items) }
-        ensures was { result ≡ not (is_found (λ r. r.marked) (find (has_id id) self.old.items)) }
+        requires { IsTrue (list_any (this_request id) self.old.items) }
+        ensures was { result ≡ not (is_found (λ r. r.marked) (find (this_request id) self.old.items)) }
         ensures kept { result ≡ false → self.new ≡ self.old }
-        ensures after { self.new ≡ record self.old { items = amend (has_id id) as_marked self.old.items } }
+        ensures after { self.new ≡ record self.old { items = amend (this_request id) with_abort self.old.items } }
     {
         if let Some(found) = self.with_id(id)
             && found.is_marked()
@@ -236,7 +238,7 @@ impl<R: Routine> Reqs<R> {
 
     /// Whether there is a request with an id, and its unit serves it.
     pub fn is_served(&self, id: Id) -> bool
-        ensures { result ≡ is_found (λ r. r.served) (find (has_id id) self.now.items) }
+        ensures { result ≡ is_found (λ r. r.served) (find (this_request id) self.now.items) }
     {
         match self.with_id(id) {
             Some(found) => found.is_served(),
@@ -246,7 +248,7 @@ impl<R: Routine> Reqs<R> {
 
     /// Whether there is a request with an id, and it has an AST.
     pub fn has_ast(&self, id: Id) -> bool
-        ensures { result ≡ is_found (λ r. is_some r.ast) (find (has_id id) self.now.items) }
+        ensures { result ≡ is_found (λ r. is_some r.ast) (find (this_request id) self.now.items) }
     {
         match self.with_id(id) {
             Some(found) => found.has_ast(),

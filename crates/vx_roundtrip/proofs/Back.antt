@@ -3,11 +3,9 @@ use Rattle.std.proofs.Common.{◌≡◌, ℕ, true, List, [], ◌++◌, map, fla
 use Rattle.std.proofs.lemmas.Bool.{leb-true}
 use Rattle.vx_image.specs.WellFormed.{IsWellFormed, decl_names}
 use Rattle.vx_image.specs.declared.system.System.{System}
-use Rattle.vx_script.specs.Lines.{lines_of}
 use Rattle.vx_script.specs.Reading.{between_images, nothing_read, read_lines, read_script}
 use Rattle.vx_script.specs.Script.{unit_lines, image_lines, decl_line, script_lines, script}
 use Rattle.vx_script.specs.declared.parts.Parts.{Parts}
-use Rattle.vx_script.specs.Resolving.{resolve}
 use Rattle.vx_roundtrip.specs.Held.{IsHeldSystem}
 use Rattle.vx_grammar.proofs.Whole.{read_is_spelled}
 use Rattle.vx_roundtrip.specs.Law.{ReadsBack}
@@ -19,6 +17,8 @@ use Rattle.vx_roundtrip.proofs.Outer.{Steps, and_then, are_clean, shaped}
 use Rattle.vx_roundtrip.proofs.Resolved.{Sound, ToldAll, resolved_back}
 use Rattle.vx_roundtrip.proofs.Told.{Said, Told}
 use Rattle.vx_roundtrip.proofs.Units.{unit_names, with_units, units_back}
+use Rattle.vx_grammar.proofs.FirstFaults.{starts}
+use Rattle.vx_grammar.proofs.Feeding.{lines_end}
 
 -- the lines of a system were all read
 record All (s : System) (ls : List (List ℕ)) : Type 0 where
@@ -52,19 +52,11 @@ all_read s well held =
       told = three.told;
     }
 
-at_end : (line : ℕ) (parts : Parts) → read_lines line (between_images parts) [] ≡ resolve parts
-unfolding read_lines
-at_end line parts = refl
-
-begins : (text : List ℕ) → read_script text ≡ read_lines 1 nothing_read (lines_of text)
-unfolding read_script
-begins text = refl
-
 read_back : (s : System) → IsWellFormed s → IsHeldSystem s → read_script (script s) ≡ Ok s
 read_back s well held =
     let all = all_read s well held in
     let sound : Sound s = record { unit_apart = well.unit_names; image_apart = well.image_names; units_are = well.units; decls_are = well.decls } in
-    begins (script s) ∙ ap (read_lines 1 nothing_read) (cut_all (script_lines s) (all.read.clean refl)) ∙ all.read.read ∙ at_end all.line2 all.parts ∙ resolved_back s all.parts sound all.told
+    starts (script s) ∙ ap (read_lines 1 nothing_read) (cut_all (script_lines s) (all.read.clean refl)) ∙ all.read.read ∙ lines_end all.line2 all.parts ∙ resolved_back s all.parts sound all.told
 
 -- no line of a canonical script has a line feed or a return in it
 pub clean_lines : (s : System) → IsWellFormed s → IsHeldSystem s → are_clean (script_lines s) ≡ true

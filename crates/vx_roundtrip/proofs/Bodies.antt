@@ -1,7 +1,7 @@
 -- The lines between IMAGE and END are read as the image's labels and statements.
 use Rattle.std.proofs.Common.{◌≡◌, ℕ, suc, ◌+◌, ◌≤◌, Bool, true, false, List, [], ◌∷◌, ◌++◌, length, map, nat_lt, nat_le, refl, sym, subst, ap, ◌∙◌, arith, append-nil, append_assoc, length-append}
 use Rattle.std.specs.List.{AllByRecursion, list_all}
-use Rattle.std.proofs.lemmas.Bool.{lt-ltb, le-leb, leb-true, leb-false}
+use Rattle.std.proofs.lemmas.Bool.{lt-ltb, le-leb, leb-true, leb-false, and_parts}
 use Rattle.std.proofs.lemmas.Bool.Decides.{nat_tests}
 use Rattle.std.proofs.lemmas.List.{map-append}
 use Rattle.vx_image.specs.WellFormed.{is_stmt, falls_nowhere}
@@ -15,10 +15,10 @@ use Rattle.vx_script.specs.declared.draft.DraftImage.{DraftImage}
 use Rattle.vx_script.specs.declared.draft.DraftLine.{DraftLine}
 use Rattle.vx_script.specs.declared.parts.Parts.{Parts}
 use Rattle.vx_roundtrip.specs.Held.{IsHeldStmt, IsHeldLabelOf}
-use Rattle.vx_text.proofs.Runs.{and_parts}
-use Rattle.vx_roundtrip.proofs.Names.{Fresh, placed_nowhere}
+use Rattle.vx_roundtrip.proofs.Names.{Fresh}
 use Rattle.vx_roundtrip.proofs.Outer.{Taken, Steps, stays, step, and_then, shaped}
-use Rattle.vx_roundtrip.proofs.Stmts.{draft_of, with_draft, take_stmt, take_label}
+use Rattle.vx_roundtrip.proofs.Stmts.{draft_of, take_stmt, take_label}
+use Rattle.vx_grammar.proofs.LinesBack.{no_place, with_draft}
 
 abbrev pub names_of : List Label → List (List ℕ)
 names_of labels = map (λ l. l.name) labels
@@ -107,7 +107,7 @@ label_by decls image parts rest stmts place l left true e next more line current
     let is : l.place ≡ place = omega (arith, leb-true _ _ e, leb-true _ _ p.0) in
     let here : DraftImage = record current { labels = current.labels ++ l ∷ [] } in
     let ih = more (line + 1) here (ready_label decls image place current l left stmts is r) in
-    let new = placed_nowhere (λ (x : Label). x.name) l.name current.labels r.fresh.0 in
+    let new = no_place (λ (x : Label). x.name) l.name current.labels r.fresh.0 in
     let taken = subst (λ (i : DraftImage). Taken line (goes_on parts current) (label_line l) (goes_on parts i)) (labelled_as current l place r.stands is) (take_label line parts current l r.named.0 new) in
     record {
       line2 = ih.line2;

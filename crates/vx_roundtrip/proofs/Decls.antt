@@ -2,7 +2,7 @@
 use Rattle.std.proofs.Common.{◌≡◌, ℕ, zero, suc, ◌+◌, ◌<◌, ◌≤◌, true, List, [], ◌∷◌, ◌++◌, length, map, nat_lt, refl, sym, subst, ap, ◌∙◌, arith, append-nil, append_assoc, length-append}
 use Rattle.std.specs.Prelude.{slice_index_or}
 use Rattle.std.specs.List.{AllByRecursion, list_all}
-use Rattle.std.proofs.lemmas.Bool.{lt-ltb, ltb-true}
+use Rattle.std.proofs.lemmas.Bool.{lt-ltb, ltb-true, and_parts}
 use Rattle.std.proofs.lemmas.List.{map-append}
 use Rattle.vx_base.specs.Name.{is_name}
 use Rattle.vx_image.specs.WellFormed.{is_among, is_decl}
@@ -13,11 +13,11 @@ use Rattle.vx_script.specs.Script.{no_image, decl_line}
 use Rattle.vx_script.specs.declared.lines.DeclLine.{DeclLine}
 use Rattle.vx_script.specs.declared.parts.Parts.{Parts}
 use Rattle.vx_roundtrip.specs.Held.{IsHeldImage, IsHeldDecl}
-use Rattle.vx_text.proofs.Runs.{and_parts}
-use Rattle.vx_roundtrip.proofs.Names.{Fresh, placed_nowhere}
+use Rattle.vx_roundtrip.proofs.Names.{Fresh}
 use Rattle.vx_roundtrip.proofs.Outer.{stays, step, and_then}
 use Rattle.vx_roundtrip.proofs.Process.{line_of, take_process}
 use Rattle.vx_roundtrip.proofs.Told.{plain_decl, Said, Told, Comes, told_as}
+use Rattle.vx_grammar.proofs.LinesBack.{no_place}
 
 abbrev pub line_names : List DeclLine → List (List ℕ)
 line_names decls = map (λ d. d.name) decls
@@ -57,7 +57,7 @@ decls_back names line parts said images (d ∷ more) rest shown held are few fre
     let p = and_parts (is_decl (length images) d) _ are in
     let place = and_parts (nat_lt d.image (length images)) _ p.0 in
     let image = image_named images d.image shown (ltb-true _ _ place.0) in
-    let new = placed_nowhere (λ (x : DeclLine). x.name) d.name parts.decls (ap (is_among d.name) (told_names parts.decls said.decls told.decls) ∙ fresh.0) in
+    let new = no_place (λ (x : DeclLine). x.name) d.name parts.decls (ap (is_among d.name) (told_names parts.decls said.decls told.decls) ∙ fresh.0) in
     let room : nat_lt (length parts.decls) 1000 ≡ true = lt-ltb _ _ (omega (arith, few, told_length parts.decls said.decls told.decls)) in
     let l = line_of line images d in
     let next : Parts = record parts { decls = parts.decls ++ l ∷ [] } in

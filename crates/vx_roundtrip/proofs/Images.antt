@@ -1,7 +1,7 @@
 -- The lines of images are read as the images.
 use Rattle.std.proofs.Common.{◌≡◌, ℕ, ◌+◌, ◌<◌, ◌≤◌, true, false, List, [], ◌∷◌, ◌++◌, length, map, flat_map, nat_lt, nat_le, codes, None, refl, sym, subst, ap, ◌∙◌, arith, append-nil, append_assoc, length-append}
 use Rattle.std.specs.List.{AllByRecursion, list_all}
-use Rattle.std.proofs.lemmas.Bool.{lt-ltb, leb-true}
+use Rattle.std.proofs.lemmas.Bool.{lt-ltb, leb-true, and_parts}
 use Rattle.std.proofs.lemmas.List.{map-append}
 use Rattle.std.proofs.lemmas.List.Folds.{list_all-append}
 use Rattle.vx_image.specs.WellFormed.{is_among, are_distinct, falls_nowhere, is_image, is_stmt, label_names, label_places}
@@ -14,12 +14,12 @@ use Rattle.vx_script.specs.declared.draft.DraftImage.{DraftImage}
 use Rattle.vx_script.specs.declared.parts.Parts.{Parts}
 use Rattle.vx_roundtrip.specs.Held.{IsHeldImage}
 use Rattle.vx_roundtrip.proofs.Bodies.{Ready, body_back}
-use Rattle.vx_text.proofs.Runs.{and_parts}
-use Rattle.vx_roundtrip.proofs.Names.{Fresh, fresh_of, placed_nowhere}
+use Rattle.vx_roundtrip.proofs.Names.{Fresh, fresh_of}
 use Rattle.vx_roundtrip.proofs.Outer.{empty_image, stays, step, and_then, shaped, take_image}
 use Rattle.vx_roundtrip.proofs.Settled.{settled_back, none_unlabelled, made_back}
 use Rattle.vx_roundtrip.proofs.Stmts.{take_end}
 use Rattle.vx_roundtrip.proofs.Told.{Said, Told, Comes, told_as, are_created}
+use Rattle.vx_grammar.proofs.LinesBack.{no_place}
 
 -- the parts of the test of an image
 record ImageTest (names : List (List ℕ)) (i : Image) : Type 0 where
@@ -79,7 +79,7 @@ told_image names parts said d i is none made told = record {
 image_back : (names : List (List ℕ)) (line : ℕ) (parts : Parts) (said : Said) (i : Image) (rest : List (List ℕ)) → IsHeldImage i → is_image names i ≡ true → length said.images < 256 → is_among i.name (image_names said.images) ≡ false → Told names parts said → Comes names line (between_images parts) (image_lines i ++ rest) rest (with_images said (i ∷ []))
 image_back names line parts said i rest held are few fresh told =
     let t = image_test names i are in
-    let new = placed_nowhere (λ (x : Image). x.name) i.name parts.images (ap (λ (is : List Image). is_among i.name (image_names is)) told.images ∙ fresh) in
+    let new = no_place (λ (x : Image). x.name) i.name parts.images (ap (λ (is : List Image). is_among i.name (image_names is)) told.images ∙ fresh) in
     let room : nat_lt (length parts.images) 256 ≡ true = lt-ltb _ _ (omega (arith, few, ap (λ (is : List Image). length is) told.images)) in
     let behind = codes "END" ∷ rest in
     let first = step line (between_images parts) (goes_on parts (empty_image i.name)) (codes "IMAGE " ++ i.name) (body_lines i.labels 0 i.labels i.stmts ++ behind) (take_image line parts i.name held.0 new room) in

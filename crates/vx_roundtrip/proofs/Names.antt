@@ -1,18 +1,11 @@
 -- Names that differ, and where they stand.
-use Rattle.std.proofs.Common.{◌≡◌, ℕ, zero, suc, ◌+◌, ◌<◌, ◌||◌, not, Bool, true, false, cond, List, [], ◌∷◌, ◌++◌, length, map, get_or, Some, None, position, nat_lt, bytes_eq, refl, sym, ◌∙◌, arith}
+use Rattle.std.proofs.Common.{◌≡◌, ℕ, zero, suc, ◌+◌, ◌<◌, ◌||◌, not, Bool, true, false, cond, List, [], ◌∷◌, ◌++◌, length, map, get_or, Some, position, nat_lt, bytes_eq, refl, sym, ◌∙◌, arith}
 use Rattle.std.specs.List.{AllByRecursion, position_or_len}
 use Rattle.std.proofs.lemmas.Slice.Eq.{bytes_eq-Decides}
-use Rattle.std.proofs.lemmas.Bool.{lt-ltb, le-ltb}
+use Rattle.std.proofs.lemmas.Bool.{lt-ltb, not-true, or_parts, and_parts}
 use Rattle.std.proofs.lemmas.List.Folds.{list_any-append}
 use Rattle.vx_image.specs.WellFormed.{is_among, are_distinct}
-use Rattle.vx_text.proofs.Runs.{and_parts}
-use Rattle.vx_roundtrip.proofs.Tests.{neither, is_not}
-
-pub same_name : (a : List ℕ) → bytes_eq a a ≡ true
-same_name a = (bytes_eq-Decides a a).1 refl
-
-pub name_is : (a b : List ℕ) → bytes_eq a b ≡ true → a ≡ b
-name_is a b h = (bytes_eq-Decides a b).0 h
+use Rattle.vx_grammar.proofs.Fields.{name_is, same_name}
 
 other_by : (a b : List ℕ) (t : Bool) → bytes_eq b a ≡ t → bytes_eq a b ≡ false → t ≡ false
 other_by a b true e h =
@@ -35,14 +28,14 @@ Apart done ns = AllByRecursion (λ n. is_among n done ≡ false) ns
 apart_more : (done : List (List ℕ)) (n : List ℕ) (ns : List (List ℕ)) → Apart done ns → is_among n ns ≡ false → Apart (done ++ n ∷ []) ns
 apart_more done n [] a h = tt
 apart_more done n (m ∷ ms) a h =
-    let parts = neither (bytes_eq n m) (is_among n ms) h in
+    let parts = or_parts (bytes_eq n m) (is_among n ms) h in
     (list_any-append (bytes_eq m) done (n ∷ []) ∙ rw (a.0, other_way n m parts.0) refl, apart_more done n ms a.1 parts.1)
 
 fresh_by : (done ns : List (List ℕ)) → Apart done ns → are_distinct ns ≡ true → Fresh done ns
 fresh_by done [] a h = tt
 fresh_by done (n ∷ ns) a h =
     let parts = and_parts (not (is_among n ns)) (are_distinct ns) h in
-    (a.0, fresh_by (done ++ n ∷ []) ns (apart_more done n ns a.1 (is_not (is_among n ns) parts.0)) parts.1)
+    (a.0, fresh_by (done ++ n ∷ []) ns (apart_more done n ns a.1 (not-true (is_among n ns) parts.0)) parts.1)
 
 apart_none : (ns : List (List ℕ)) → Apart [] ns
 apart_none [] = tt
@@ -56,19 +49,13 @@ fresh_of ns h = fresh_by [] ns (apart_none ns) h
 no_place : {A : Type 0} (n : A → List ℕ) (name : List ℕ) (xs : List A) → is_among name (map n xs) ≡ false → position_or_len (λ x. bytes_eq name (n x)) xs ≡ length xs
 no_place n name [] h = refl
 no_place n name (x ∷ xs) h =
-    let parts = neither (bytes_eq name (n x)) (is_among name (map n xs)) h in
+    let parts = or_parts (bytes_eq name (n x)) (is_among name (map n xs)) h in
     rw (parts.0, no_place n name xs parts.1) (omega arith)
-
--- a name that is not there has no place
-pub placed_nowhere : {A : Type 0} (n : A → List ℕ) (name : List ℕ) (xs : List A) → is_among name (map n xs) ≡ false → position (λ x. bytes_eq name (n x)) xs ≡ None
-placed_nowhere n name xs h =
-    let none : nat_lt (length xs) (length xs) ≡ false = le-ltb _ _ (omega arith) in
-    rw (no_place n name xs h, none) refl
 
 pub among_at : {A : Type 0} (n : A → List ℕ) (a : List ℕ) (xs : List A) (k : ℕ) (d : A) → is_among a (map n xs) ≡ false → k < length xs → bytes_eq a (n (get_or xs k d)) ≡ false
 among_at n a [] k d h lt = absurd (omega arith)
-among_at n a (x ∷ xs) zero d h lt = (neither (bytes_eq a (n x)) (is_among a (map n xs)) h).0
-among_at n a (x ∷ xs) (suc k) d h lt = among_at n a xs k d (neither (bytes_eq a (n x)) (is_among a (map n xs)) h).1 (omega arith)
+among_at n a (x ∷ xs) zero d h lt = (or_parts (bytes_eq a (n x)) (is_among a (map n xs)) h).0
+among_at n a (x ∷ xs) (suc k) d h lt = among_at n a xs k d (or_parts (bytes_eq a (n x)) (is_among a (map n xs)) h).1 (omega arith)
 
 place_len : {A : Type 0} (n : A → List ℕ) (xs : List A) (k : ℕ) (d : A) → k < length xs → are_distinct (map n xs) ≡ true → position_or_len (λ x. bytes_eq (n (get_or xs k d)) (n x)) xs ≡ k
 place_len n [] k d lt h = absurd (omega arith)
@@ -76,7 +63,7 @@ place_len n (x ∷ xs) zero d lt h = rw (same_name (n x)) refl
 place_len n (x ∷ xs) (suc k) d lt h =
     let parts = and_parts (not (is_among (n x) (map n xs))) (are_distinct (map n xs)) h in
     let within : k < length xs = omega arith in
-    let other = other_way (n x) (n (get_or xs k d)) (among_at n (n x) xs k d (is_not (is_among (n x) (map n xs)) parts.0) within) in
+    let other = other_way (n x) (n (get_or xs k d)) (among_at n (n x) xs k d (not-true (is_among (n x) (map n xs)) parts.0) within) in
     rw (other, place_len n xs k d within parts.1) (omega arith)
 
 -- a name stands at its place

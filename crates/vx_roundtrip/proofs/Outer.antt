@@ -1,37 +1,25 @@
 -- Each line that stands in no image is read as its piece.
-use Rattle.std.proofs.Common.{◌≡◌, ℕ, ◌+◌, ◌<◌, ◌^◌, ◌==◌, Bool, true, false, cond, List, [], ◌∷◌, ◌++◌, length, codes, nat_lt, nat_le, None, Result, Ok, Err, refl, sym, subst, ap, ◌∙◌, arith, append-nil}
+use Rattle.std.proofs.Common.{◌≡◌, ℕ, ◌+◌, ◌<◌, ◌^◌, ◌==◌, Bool, true, false, cond, List, [], ◌∷◌, ◌++◌, length, codes, nat_lt, nat_le, None, Ok, refl, sym, subst, ap, ◌∙◌, arith, append-nil}
 use Rattle.std.specs.Prelude.{decimal}
 use Rattle.std.specs.List.{list_all, list_any}
 use Rattle.std.proofs.lemmas.Bool.{leb-true}
 use Rattle.std.proofs.lemmas.Bool.Decides.{nat_tests}
 use Rattle.vx_base.specs.Name.{is_name}
 use Rattle.vx_image.specs.declared.unit.UnitDecl.{UnitDecl}
-use Rattle.vx_text.specs.declared.token.LexFail.{LexFail}
 use Rattle.vx_text.specs.declared.token.Tok.{Tok}
 use Rattle.vx_text.specs.declared.token.Tok.TheVariants as tok
-use Rattle.vx_text.specs.declared.token.Token.{Token}
 use Rattle.vx_text.specs.Lex.{lex}
 use Rattle.vx_text.specs.Quote.{quote_text, AreBytes}
 use Rattle.vx_table.specs.Back.{toks_of}
 use Rattle.vx_script.specs.Declarations as read
-use Rattle.vx_script.specs.Fields.{with_kind}
 use Rattle.vx_script.specs.Places.{unit_place, image_place}
 use Rattle.vx_script.specs.Reading.{take_line, accepted, outside, between_images, goes_on, read_lines}
 use Rattle.vx_script.specs.Script as script
 use Rattle.vx_script.specs.declared.draft.DraftImage.{DraftImage}
-use Rattle.vx_script.specs.declared.fault.FaultKind.{FaultKind}
-use Rattle.vx_script.specs.declared.fault.FaultKind.TheVariants as kind
 use Rattle.vx_script.specs.declared.parts.Parts.{Parts}
 use Rattle.vx_script.specs.declared.parts.Reading.{Reading}
 use Rattle.vx_roundtrip.proofs.Words.{Has, has_same, is_clean, has_piece, has_spaced, AreSpelled, spells_word, spells_number, spells_text, ends_spaced}
-
-abbrev as_kinds : Result (List Tok) LexFail → Result (List Tok) FaultKind
-as_kinds (Ok toks) = Ok toks
-as_kinds (Err e) = Err kind.Byte
-
-lexed_by : (lexed : Result (List Token) LexFail) (toks : List Tok) → toks_of lexed ≡ Ok toks → with_kind lexed ≡ Ok toks
-lexed_by (Ok tokens) toks h = ap as_kinds h
-lexed_by (Err e) toks h = absurd (cc)
+use Rattle.vx_grammar.proofs.Feeding.{back_kinds, line_read}
 
 -- a line without feed or return is taken, and this is read then
 pub record Taken (line : ℕ) (r : Reading) (text : List ℕ) (next : Reading) : Type 0 where
@@ -40,7 +28,7 @@ pub record Taken (line : ℕ) (r : Reading) (text : List ℕ) (next : Reading) :
 
 take_of : (line : ℕ) (r : Reading) (text : List ℕ) (toks : List Tok) → toks_of (lex text) ≡ Ok toks → take_line line r text ≡ accepted line r toks
 unfolding take_line
-take_of line r text toks h = rw (lexed_by (lex text) toks h) refl
+take_of line r text toks h = rw (back_kinds (lex text) toks h) refl
 
 -- a line is taken by its tokens
 pub taken_by : (line : ℕ) (r next : Reading) (text : List ℕ) (toks : List Tok) → Has text toks → accepted line r toks ≡ Ok next → Taken line r text next
@@ -57,13 +45,9 @@ pub record Steps (line : ℕ) (r : Reading) (ls : List (List ℕ)) (line2 : ℕ)
 pub stays : (line : ℕ) (r : Reading) (ls : List (List ℕ)) → Steps line r ls line r ls
 stays line r ls = record { read = refl; clean = λ h. h }
 
-takes_one : (line : ℕ) (r next : Reading) (l : List ℕ) (ls : List (List ℕ)) → take_line line r l ≡ Ok next → read_lines line r (l ∷ ls) ≡ read_lines (line + 1) next ls
-unfolding read_lines
-takes_one line r next l ls h = rw h refl
-
 -- a line that was taken, and those behind it
 pub step : (line : ℕ) (r next : Reading) (l : List ℕ) (ls : List (List ℕ)) → Taken line r l next → Steps line r (l ∷ ls) (line + 1) next ls
-step line r next l ls t = record { read = takes_one line r next l ls t.takes; clean = λ h. rw (t.clean, h) refl }
+step line r next l ls t = record { read = line_read line r next l ls t.takes; clean = λ h. rw (t.clean, h) refl }
 
 pub and_then : {line line2 line3 : ℕ} {r s t : Reading} {ls ms ns : List (List ℕ)} → Steps line r ls line2 s ms → Steps line2 s ms line3 t ns → Steps line r ls line3 t ns
 and_then one two = record { read = one.read ∙ two.read; clean = λ h. one.clean (two.clean h) }

@@ -2,11 +2,10 @@
 use Rattle.std.proofs.Common.{◌≡◌, ℕ, zero, suc, ◌+◌, ◌<◌, ◌^◌, Bool, true, false, List, [], ◌∷◌, ◌++◌, length, codes, nat_lt, nat_le, Some, None, Ok, refl, sym, ap, ◌∙◌, arith, append-nil, append_assoc, lit<}
 use Rattle.std.specs.Prelude.{decimal, slice_index_or}
 use Rattle.std.specs.List.{list_all}
-use Rattle.std.proofs.lemmas.Bool.{leb-true, le-leb}
+use Rattle.std.proofs.lemmas.Bool.{leb-true, le-leb, and_parts}
 use Rattle.vx_base.specs.Flags.{one}
 use Rattle.vx_base.specs.Name.{is_name}
 use Rattle.vx_base.specs.declared.mode.Mode.{Mode}
-use Rattle.vx_base.specs.declared.mode.Mode.TheVariants.{Kernel, Exec, Super, User}
 use Rattle.vx_base.specs.declared.quota.Need.{Need}
 use Rattle.vx_base.specs.declared.quota.Privs.{Privs}
 use Rattle.vx_image.specs.WellFormed.{is_decl, are_limits}
@@ -15,7 +14,6 @@ use Rattle.vx_image.specs.declared.image.Image.{Image}
 use Rattle.vx_text.specs.declared.token.Tok.{Tok}
 use Rattle.vx_text.specs.declared.token.Tok.TheVariants as tok
 use Rattle.vx_text.proofs.Leading.{first-cons}
-use Rattle.vx_table.specs.Reading.{mode_word}
 use Rattle.vx_table.specs.Spelling.{mode_name}
 use Rattle.vx_script.specs.Declarations as read
 use Rattle.vx_script.specs.Keys.{keys_from, with_key, uic_at, mode_at, limit_at, privs_at, start_at, limit_name, limit_in, with_limit_in, once, no_keys}
@@ -26,9 +24,10 @@ use Rattle.vx_script.specs.declared.keys.Limit.{Limit}
 use Rattle.vx_script.specs.declared.keys.Limit.TheVariants as limit
 use Rattle.vx_script.specs.declared.lines.DeclLine.{DeclLine}
 use Rattle.vx_script.specs.declared.parts.Parts.{Parts}
-use Rattle.vx_text.proofs.Runs.{and_parts}
 use Rattle.vx_roundtrip.proofs.Outer.{Taken, taken_by}
 use Rattle.vx_roundtrip.proofs.Words.{Has, has_same, has_piece, has_sign, has_gap, has_nothing, Ends, ends_nothing, ends_gap, Spells, spells_word, spells_number}
+use Rattle.vx_table.proofs.Back.{mode_back}
+use Rattle.vx_table.proofs.Texts.{mode_names}
 
 ends_equals : (rest : List ℕ) → Ends (61 ∷ rest)
 ends_equals rest = record { word = refl; number = refl }
@@ -44,18 +43,6 @@ has_key : (key value : List ℕ) (v : Tok) (rest : List ℕ) (toks : List Tok) �
 has_key key value v rest toks h s e more =
     let behind = 61 ∷ (value ++ rest) in
     has_gap (key ++ behind) _ (has_piece key (tok.Word key) behind _ (spells_word key h) (ends_equals _) (has_sign 61 (value ++ rest) (v ∷ toks) refl (first-cons 61 _) (has_piece value v rest toks s e more)))
-
-mode_named : (m : Mode) → is_name (mode_name m) ≡ true
-mode_named Kernel = refl
-mode_named Exec = refl
-mode_named Super = refl
-mode_named User = refl
-
-mode_back : (m : Mode) → mode_word (mode_name m) ≡ Some m
-mode_back Kernel = refl
-mode_back Exec = refl
-mode_back Super = refl
-mode_back User = refl
 
 -- Names joined by +.
 
@@ -292,7 +279,7 @@ rights_shape d rest = simp append_assoc
 
 has_rights : (d : ProcDecl) (rest : List ℕ) (toks : List Tok) → InRange d → Ends rest → Has rest toks → Has (rights_text d rest) (rights_toks d toks)
 has_rights d rest toks r e more =
-    let mode = has_key (codes "MODE") (mode_name d.mode) (tok.Word (mode_name d.mode)) rest toks refl (spells_word (mode_name d.mode) (mode_named d.mode)) e more in
+    let mode = has_key (codes "MODE") (mode_name d.mode) (tok.Word (mode_name d.mode)) rest toks refl (spells_word (mode_name d.mode) (mode_names d.mode)) e more in
     let member = has_piece (decimal d.member) (tok.Num d.member) _ _ (spells_number d.member (few d.member 65534 r.member (lit< tt))) (ends_gap _) mode in
     has_key (codes "UIC") (decimal d.group) (tok.Num d.group) _ _ refl (spells_number d.group (few d.group 16382 r.high (lit< tt))) (ends_colon _) (has_sign 58 _ _ refl (first-cons 58 _) member)
 

@@ -1,7 +1,7 @@
 -- What the lines of a canonical script say resolves to the system.
 use Rattle.std.proofs.Common.{◌≡◌, ℕ, ◌==◌, ◌||◌, Bool, true, false, not, cond, List, [], ◌∷◌, ◌++◌, length, map, flat_map, nat_lt, bytes_eq, None, Some, option_map, Ok, refl, sym, subst, ap, ◌∙◌, arith, append-nil}
 use Rattle.std.specs.List.{list_all, list_any, find}
-use Rattle.std.proofs.lemmas.Bool.{ltb-true}
+use Rattle.std.proofs.lemmas.Bool.{ltb-true, or_right, not-true, or_parts, and_parts}
 use Rattle.std.proofs.lemmas.Bool.Decides.{nat_tests}
 use Rattle.std.proofs.lemmas.List.Folds.{list_all-append, list_all-map}
 use Rattle.vx_image.specs.WellFormed.{is_among, are_distinct, is_unit, is_decl, rises_above, decl_names}
@@ -19,13 +19,13 @@ use Rattle.vx_script.specs.declared.lines.InputLine.{InputLine}
 use Rattle.vx_script.specs.declared.parts.Parts.{Parts}
 use Rattle.vx_roundtrip.proofs.Decls.{line_names, process_names, told_names}
 use Rattle.vx_roundtrip.proofs.Images.{image_names}
-use Rattle.vx_text.proofs.Runs.{and_parts, or_true}
-use Rattle.vx_roundtrip.proofs.Names.{same_name, name_is, placed_at, placed_somewhere}
-use Rattle.vx_roundtrip.proofs.Tests.{neither, is_not, none_found}
+use Rattle.vx_roundtrip.proofs.Names.{placed_at, placed_somewhere}
 use Rattle.vx_roundtrip.proofs.Outer.{bare}
 use Rattle.vx_roundtrip.proofs.Process.{image_name, line_of}
 use Rattle.vx_roundtrip.proofs.Told.{plain_input, plain_fault, plain_decl, Said, Told}
 use Rattle.vx_roundtrip.proofs.Units.{input_told, fault_told, inputs_told, faults_told, unit_names, unit_test}
+use Rattle.vx_grammar.proofs.Fields.{name_is, same_name}
+use Rattle.vx_grammar.proofs.LinesBack.{none_found}
 
 -- What statements create is there.
 
@@ -81,7 +81,7 @@ inputs_known all (u ∷ units) within h =
     let p = and_parts (is_unit u) (list_all is_unit units) h in
     let known : (u.blocks == 0) ≡ true → list_any (is_line_unit u.name) (map bare all) ≡ true = λ e. within u.name (rw (same_name u.name, e) refl) in
     let first = line_unit_by all u.name u.inputs (u.blocks == 0) (unit_test u p.0).kinds known in
-    list_all-append (λ i. not (names_no_line_unit (map bare all) i)) (inputs_told u) (flat_map inputs_told units) ∙ rw (first, inputs_known all units (λ name e. within name (or_true (is_line_unit name (bare u)) _ e)) p.1) refl
+    list_all-append (λ i. not (names_no_line_unit (map bare all) i)) (inputs_told u) (flat_map inputs_told units) ∙ rw (first, inputs_known all units (λ name e. within name (or_right (is_line_unit name (bare u)) _ e)) p.1) refl
 
 faults_known_by : (all : List UnitDecl) (name : List ℕ) (ns : List ℕ) → is_among name (unit_names all) ≡ true → list_all (λ f. not (names_no_unit all f)) (map (fault_told name) ns) ≡ true
 faults_known_by all name [] h = refl
@@ -91,7 +91,7 @@ faults_known : (all units : List UnitDecl) → ((name : List ℕ) → is_among n
 faults_known all [] within = refl
 faults_known all (u ∷ units) within =
     let first = faults_known_by all u.name u.faults (within u.name (rw (same_name u.name) refl)) in
-    list_all-append (λ f. not (names_no_unit all f)) (faults_told u) (flat_map faults_told units) ∙ rw (first, faults_known all units (λ name e. within name (or_true (bytes_eq name u.name) _ e))) refl
+    list_all-append (λ f. not (names_no_unit all f)) (faults_told u) (flat_map faults_told units) ∙ rw (first, faults_known all units (λ name e. within name (or_right (bytes_eq name u.name) _ e))) refl
 
 bare_names : (units : List UnitDecl) → unit_names (map bare units) ≡ unit_names units
 bare_names [] = refl
@@ -138,13 +138,13 @@ numbers_own name (u ∷ units) = numbers_own_by name u.name (bytes_eq name u.nam
 none_inputs : (name : List ℕ) (units : List UnitDecl) → is_among name (unit_names units) ≡ false → own_inputs name units ≡ []
 none_inputs name [] h = refl
 none_inputs name (u ∷ units) h =
-    let p = neither (bytes_eq name u.name) (is_among name (unit_names units)) h in
+    let p = or_parts (bytes_eq name u.name) (is_among name (unit_names units)) h in
     rw (p.0, none_inputs name units p.1) refl
 
 none_faults : (name : List ℕ) (units : List UnitDecl) → is_among name (unit_names units) ≡ false → own_faults name units ≡ []
 none_faults name [] h = refl
 none_faults name (u ∷ units) h =
-    let p = neither (bytes_eq name u.name) (is_among name (unit_names units)) h in
+    let p = or_parts (bytes_eq name u.name) (is_among name (unit_names units)) h in
     rw (p.0, none_faults name units p.1) refl
 
 -- a name among units is none that is not
@@ -178,10 +178,10 @@ gives_tail : (inputs : List ℕ → List (List ℕ)) (faults : List ℕ → List
 gives_tail inputs faults u units new g = record {
   texts = λ name h.
       let other = apart_by name u.name units (bytes_eq name u.name) refl h new in
-      g.texts name (or_true (bytes_eq name u.name) _ h) ∙ rw other refl;
+      g.texts name (or_right (bytes_eq name u.name) _ h) ∙ rw other refl;
   numbers = λ name h.
       let other = apart_by name u.name units (bytes_eq name u.name) refl h new in
-      g.numbers name (or_true (bytes_eq name u.name) _ h) ∙ rw other refl;
+      g.numbers name (or_right (bytes_eq name u.name) _ h) ∙ rw other refl;
 }
 
 units_rebuilt : (inputs : List ℕ → List (List ℕ)) (faults : List ℕ → List ℕ) (units : List UnitDecl) → are_distinct (unit_names units) ≡ true → list_all is_unit units ≡ true → Gives inputs faults units → map (rebuilt inputs faults) (map bare units) ≡ units
@@ -189,7 +189,7 @@ units_rebuilt inputs faults [] apart are g = refl
 units_rebuilt inputs faults (u ∷ units) apart are g =
     let p = and_parts (not (is_among u.name (unit_names units))) (are_distinct (unit_names units)) apart in
     let q = and_parts (is_unit u) (list_all is_unit units) are in
-    let new = is_not (is_among u.name (unit_names units)) p.0 in
+    let new = not-true (is_among u.name (unit_names units)) p.0 in
     let here : is_among u.name (unit_names (u ∷ units)) ≡ true = rw (same_name u.name) refl in
     let texts : inputs u.name ≡ u.inputs = g.texts u.name here ∙ rw (same_name u.name, none_inputs u.name units new) (append-nil u.inputs) in
     let numbers : faults u.name ≡ u.faults = g.numbers u.name here ∙ rw (same_name u.name, none_faults u.name units new) (append-nil u.faults) in

@@ -1,7 +1,7 @@
 -- The drafts of an image's statements settle to the statements.
 use Rattle.std.proofs.Common.{◌≡◌, ℕ, Bool, true, false, not, List, [], ◌∷◌, length, map, nat_lt, Some, None, refl, sym, subst, ap, ◌∙◌}
-use Rattle.std.specs.List.{AllByRecursion, list_all, list_any}
-use Rattle.std.proofs.lemmas.Bool.{ltb-true}
+use Rattle.std.specs.List.{AllByRecursion, list_all}
+use Rattle.std.proofs.lemmas.Bool.{ltb-true, and_parts}
 use Rattle.std.proofs.lemmas.List.Folds.{list_all-append, list_all-map}
 use Rattle.vx_base.specs.Services.{is_call, is_operand, args_list}
 use Rattle.vx_base.specs.declared.call.Arg.{Arg}
@@ -14,18 +14,18 @@ use Rattle.vx_image.specs.declared.image.Image.{Image}
 use Rattle.vx_image.specs.declared.image.Label.{Label}
 use Rattle.vx_image.specs.declared.stmt.Stmt.{Stmt}
 use Rattle.vx_image.specs.declared.stmt.Stmt.TheVariants as stmt
-use Rattle.vx_script.specs.Resolving.{is_label, arg_names_none, draft_names_none, names_no_label, first_unlabelled, settled, created_by, created_in, creation_of, creations_of}
+use Rattle.vx_script.specs.Resolving.{is_label, draft_names_none, names_no_label, first_unlabelled, settled, created_by, created_in, creation_of, creations_of}
 use Rattle.vx_script.specs.Places.{label_place}
 use Rattle.vx_script.specs.Script.{label_name}
 use Rattle.vx_script.specs.declared.draft.Draft.{Draft}
 use Rattle.vx_script.specs.declared.draft.DraftLine.{DraftLine}
 use Rattle.vx_script.specs.declared.lines.Creation.{Creation}
 use Rattle.vx_roundtrip.proofs.Bodies.{drafts_of}
-use Rattle.vx_text.proofs.Runs.{and_parts}
 use Rattle.vx_roundtrip.proofs.Names.{placed_at, placed_somewhere}
-use Rattle.vx_roundtrip.proofs.Tests.{none_found}
 use Rattle.vx_roundtrip.proofs.Stmts.{draft_of}
 use Rattle.vx_roundtrip.proofs.Told.{are_created}
+use Rattle.vx_grammar.proofs.LinesBack.{none_found}
+use Rattle.vx_grammar.proofs.ReadStatements.{labels_there}
 
 -- a label is found at its place
 label_found : (labels : List Label) (k : ℕ) → nat_lt k (length labels) ≡ true → are_distinct (map (λ l. l.name) labels) ≡ true → label_place (label_name labels k) labels ≡ Some k
@@ -61,22 +61,6 @@ settled_back decls image lines apart h e = settled_through image.labels lines �
 is_there : (labels : List Label) (name : List ℕ) → is_among name (map (λ l. l.name) labels) ≡ true → is_label labels name ≡ true
 is_there labels name h = rw (placed_somewhere (λ (l : Label). l.name) name labels h) refl
 
-arg_named : (image : Image) (a : Arg) → has_its_label image a ≡ true → arg_names_none image.labels a ≡ false
-arg_named image (arg.Label (Some name)) h = rw (is_there image.labels name h) refl
-arg_named image (arg.Label None) h = refl
-arg_named image (arg.Value x) h = refl
-arg_named image (arg.Target t) h = refl
-arg_named image (arg.Mode m) h = refl
-arg_named image (arg.Name name) h = refl
-arg_named image (arg.Func f) h = refl
-arg_named image arg.Unused h = refl
-
-args_named : (image : Image) (args : List Arg) → list_all (has_its_label image) args ≡ true → list_any (arg_names_none image.labels) args ≡ false
-args_named image [] h = refl
-args_named image (a ∷ args) h =
-    let p = and_parts (has_its_label image a) _ h in
-    rw (arg_named image a p.0, args_named image args p.1) refl
-
 stmt_named : (decls : List (List ℕ)) (image : Image) (s : Stmt) → are_distinct (label_names image) ≡ true → is_stmt decls image s ≡ true → draft_names_none image.labels (draft_of image.labels s) ≡ false
 stmt_named decls image (stmt.Goto k) apart h = rw (label_found image.labels k h apart) refl
 stmt_named decls image (stmt.If x r y k) apart h = rw (label_found image.labels k (and_parts (is_operand y) _ (and_parts (is_operand x) _ h).1).1 apart) refl
@@ -87,7 +71,7 @@ stmt_named decls image (stmt.Put b bytes) apart h = refl
 stmt_named decls image (stmt.Byte t b x) apart h = refl
 stmt_named decls image (stmt.Iosb t i f) apart h = refl
 stmt_named decls image stmt.Return apart h = refl
-stmt_named decls image (stmt.Service c) apart h = args_named image (args_list c.args) (and_parts (list_all (has_its_label image) (args_list c.args)) _ (and_parts (is_call c) _ h).1).0
+stmt_named decls image (stmt.Service c) apart h = labels_there image (args_list c.args) (and_parts (list_all (has_its_label image) (args_list c.args)) _ (and_parts (is_call c) _ h).1).0
 
 abbrev names_one : List Label → Draft → Bool
 names_one labels d = not (draft_names_none labels d)

@@ -1,13 +1,11 @@
 -- Each line of an image is read as its piece.
-use Rattle.std.proofs.Common.{◌≡◌, ℕ, zero, suc, ◌<◌, ◌^◌, true, false, List, [], ◌∷◌, ◌++◌, length, codes, nat_lt, nat_le, bytes_eq, Some, None, Ok, refl, ap, ◌∙◌, arith, append-nil}
+use Rattle.std.proofs.Common.{◌≡◌, ℕ, zero, suc, ◌<◌, ◌^◌, true, false, List, [], ◌∷◌, ◌++◌, length, codes, nat_lt, nat_le, bytes_eq, None, Ok, refl, ap, ◌∙◌, arith, append-nil}
 use Rattle.std.specs.Prelude.{decimal}
 use Rattle.std.specs.List.{AllByRecursion}
-use Rattle.std.proofs.lemmas.Bool.{ltb-true, leb-true, le-leb}
+use Rattle.std.proofs.lemmas.Bool.{ltb-true, leb-true, le-leb, and_parts}
 use Rattle.vx_base.specs.declared.call.Call.{Call}
 use Rattle.vx_base.specs.declared.call.Operand.{Operand}
-use Rattle.vx_base.specs.declared.call.Operand.TheVariants as operand
 use Rattle.vx_base.specs.declared.call.Target.{Target}
-use Rattle.vx_base.specs.declared.call.Target.TheVariants as target
 use Rattle.vx_base.specs.Name.{is_name}
 use Rattle.vx_base.specs.Services.{is_operand, is_target, is_call, args_list}
 use Rattle.vx_image.specs.WellFormed.{is_stmt}
@@ -24,23 +22,23 @@ use Rattle.vx_text.specs.declared.token.Tok.TheVariants as tok
 use Rattle.vx_text.specs.Quote.{quote_text}
 use Rattle.vx_text.proofs.Leading.{first-cons}
 use Rattle.vx_table.specs.Back.{AreHeld}
-use Rattle.vx_table.specs.Reading.{operand_of}
 use Rattle.vx_table.specs.Spelling.{call_text, call_tokens, operand_text, operand_token, target_text, target_token}
 use Rattle.vx_table.proofs.Back.{call_back}
-use Rattle.vx_script.specs.Fields.{begins_with_sign, is_sign, target_in}
+use Rattle.vx_script.specs.Fields.{begins_with_sign}
 use Rattle.vx_script.specs.Reading.{inside, goes_on, between_images, with_label}
 use Rattle.vx_script.specs.Resolving.{with_image}
 use Rattle.vx_script.specs.Places.{label_place}
 use Rattle.vx_script.specs.Script.{stmt_line, let_words, goto_words, label_name, label_line}
-use Rattle.vx_script.specs.Statements.{local_stmt, let_stmt, let_rest, goto_stmt, if_stmt, put_stmt, byte_stmt, iosb_stmt, return_stmt, rel_name, rel_word, field_name, field_word}
+use Rattle.vx_script.specs.Statements.{local_stmt, goto_stmt, if_stmt, put_stmt, byte_stmt, iosb_stmt, rel_name, field_name}
 use Rattle.vx_script.specs.declared.draft.Draft.{Draft}
 use Rattle.vx_script.specs.declared.draft.Draft.TheVariants as draft
 use Rattle.vx_script.specs.declared.draft.DraftImage.{DraftImage}
 use Rattle.vx_script.specs.declared.parts.Parts.{Parts}
 use Rattle.vx_roundtrip.specs.Held.{IsHeldStmt, IsHeldLabelOf}
-use Rattle.vx_text.proofs.Runs.{and_parts}
 use Rattle.vx_roundtrip.proofs.Outer.{Taken, taken_by}
 use Rattle.vx_roundtrip.proofs.Words.{Has, has_same, has_call, has_piece, has_sign, has_gap, has_nothing, has_spaced, Ends, ends_nothing, spells_word, spells_number, spells_text, spells_equals, spells_plus, spells_minus, spells_operand, spells_target}
+use Rattle.vx_grammar.proofs.ReadStatements.{operand_back, target_back, target_no_colon, operand_no_colon, rel_back, field_back, let_back, add_back, sub_back, let_toks, return_back}
+use Rattle.vx_grammar.proofs.LinesBack.{with_draft}
 
 -- a statement as it is drafted: a label stands by its name
 abbrev pub draft_of : List Label → Stmt → Draft
@@ -49,9 +47,6 @@ draft_of labels (stmt.If x r y k) = draft.If x r y (label_name labels k)
 draft_of labels s = draft.Plain s
 
 -- The tokens of a statement, behind its word.
-
-abbrev let_toks : Target → Operand → List Tok → List Tok
-let_toks t x toks = target_token t ∷ tok.Sign 61 ∷ operand_token x ∷ toks
 
 abbrev goto_toks : List ℕ → List Tok
 goto_toks label = tok.Word label ∷ []
@@ -70,61 +65,16 @@ iosb_toks t i f = target_token t ∷ tok.Num i ∷ tok.Word (field_name f) ∷ [
 
 -- What its tokens are read as.
 
-operand_back : (x : Operand) → is_operand x ≡ true → operand_of (operand_token x) ≡ Some x
-operand_back (operand.Num n) h = refl
-operand_back (operand.Cond c) h = refl
-operand_back (operand.Var v) h = rw h refl
-operand_back operand.R0 h = refl
-operand_back operand.Pid h = refl
-operand_back operand.Prm h = refl
-
-target_back : (t : Target) → is_target t ≡ true → target_in (target_token t) ≡ Ok t
-target_back (target.Var v) h = rw h refl
-target_back target.R0 h = refl
-
-target_no_colon : (t : Target) → is_sign 58 (target_token t) ≡ false
-target_no_colon (target.Var v) = refl
-target_no_colon target.R0 = refl
-
-operand_no_colon : (x : Operand) → is_sign 58 (operand_token x) ≡ false
-operand_no_colon (operand.Num n) = refl
-operand_no_colon (operand.Cond c) = refl
-operand_no_colon (operand.Var v) = refl
-operand_no_colon operand.R0 = refl
-operand_no_colon operand.Pid = refl
-operand_no_colon operand.Prm = refl
-
-rel_back : (r : Rel) → rel_word (rel_name r) ≡ Some r
-rel_back rel.Eq = refl
-rel_back rel.Ne = refl
-rel_back rel.Lt = refl
-rel_back rel.Ge = refl
-
 rel_named : (r : Rel) → is_name (rel_name r) ≡ true
 rel_named rel.Eq = refl
 rel_named rel.Ne = refl
 rel_named rel.Lt = refl
 rel_named rel.Ge = refl
 
-field_back : (f : Field) → field_word (field_name f) ≡ Some f
-field_back field.Status = refl
-field_back field.Count = refl
-field_back field.Info = refl
-
 field_named : (f : Field) → is_name (field_name f) ≡ true
 field_named field.Status = refl
 field_named field.Count = refl
 field_named field.Info = refl
-
-let_back : (t : Target) (x : Operand) (toks : List Tok) → is_target t ≡ true → is_operand x ≡ true → local_stmt (codes "LET") (let_toks t x toks) ≡ let_rest t x toks
-unfolding local_stmt let_stmt
-let_back t x toks h k = rw (target_back t h, operand_back x k) refl
-
-add_back : (t : Target) (x y : Operand) → is_operand y ≡ true → let_rest t x (tok.Sign 43 ∷ operand_token y ∷ []) ≡ Ok (draft.Plain (stmt.Add t x y))
-add_back t x y h = rw (operand_back y h) refl
-
-sub_back : (t : Target) (x y : Operand) → is_operand y ≡ true → let_rest t x (tok.Sign 45 ∷ operand_token y ∷ []) ≡ Ok (draft.Plain (stmt.Sub t x y))
-sub_back t x y h = rw (operand_back y h) refl
 
 goto_back : (label : List ℕ) → local_stmt (codes "GOTO") (goto_toks label) ≡ Ok (draft.Goto label)
 unfolding local_stmt goto_stmt
@@ -152,14 +102,7 @@ iosb_back : (t : Target) (i : ℕ) (f : Field) → is_target t ≡ true → nat_
 unfolding local_stmt iosb_stmt
 iosb_back t i f h l m = rw (target_back t h, l, m, field_back f) refl
 
-return_back : local_stmt (codes "RETURN") [] ≡ Ok (draft.Plain stmt.Return)
-unfolding local_stmt return_stmt
-return_back = refl
-
 -- Lines.
-
-abbrev pub with_draft : ℕ → DraftImage → Draft → DraftImage
-with_draft line image d = record image { lines = image.lines ++ record { line = line; draft = d } ∷ [] }
 
 drafted : (line : ℕ) (parts : Parts) (image : DraftImage) (word : List ℕ) (toks : List Tok) (d : Draft) → begins_with_sign 58 toks ≡ false → bytes_eq word (codes "END") ≡ false → local_stmt word toks ≡ Ok d → nat_lt (length image.lines) 10000 ≡ true → inside line parts image (tok.Word word ∷ toks) ≡ Ok (goes_on parts (with_draft line image d))
 drafted line parts image word toks d colon last is room = rw (colon, last, is, room) refl

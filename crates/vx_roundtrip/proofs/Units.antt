@@ -1,7 +1,7 @@
 -- The lines of units are read as the units, their lines and their faults.
 use Rattle.std.proofs.Common.{◌≡◌, ℕ, ◌+◌, ◌<◌, ◌≤◌, ◌==◌, ◌||◌, Bool, true, false, List, [], ◌∷◌, ◌++◌, length, map, flat_map, nat_lt, nat_le, bytes_eq, refl, sym, subst, ap, ◌∙◌, arith, append-nil, append_assoc, length-append}
 use Rattle.std.specs.List.{AllByRecursion, list_all, list_any}
-use Rattle.std.proofs.lemmas.Bool.{lt-ltb, le-leb, ltb-true}
+use Rattle.std.proofs.lemmas.Bool.{lt-ltb, le-leb, ltb-true, or_parts, and_parts}
 use Rattle.std.proofs.lemmas.Bool.Decides.{nat_tests}
 use Rattle.std.proofs.lemmas.List.{map-append}
 use Rattle.std.proofs.lemmas.List.Folds.{list_any-append}
@@ -16,11 +16,11 @@ use Rattle.vx_script.specs.declared.lines.FaultLine.{FaultLine}
 use Rattle.vx_script.specs.declared.lines.InputLine.{InputLine}
 use Rattle.vx_script.specs.declared.parts.Parts.{Parts}
 use Rattle.vx_roundtrip.specs.Held.{IsHeldUnit}
-use Rattle.vx_text.proofs.Runs.{and_parts}
-use Rattle.vx_roundtrip.proofs.Names.{Fresh, same_name, placed_nowhere}
-use Rattle.vx_roundtrip.proofs.Tests.{neither}
+use Rattle.vx_roundtrip.proofs.Names.{Fresh}
 use Rattle.vx_roundtrip.proofs.Outer.{stays, step, and_then, shaped, bare, take_unit, take_input, take_fault}
 use Rattle.vx_roundtrip.proofs.Told.{plain_input, plain_fault, Said, Told, Comes, told_as}
+use Rattle.vx_grammar.proofs.LinesBack.{no_place}
+use Rattle.vx_grammar.proofs.Fields.{same_name}
 
 -- a unit's lines and faults, without the numbers of lines
 
@@ -118,8 +118,8 @@ others_faults name other m (n ∷ ns) h = rw (h, others_faults name other m ns h
 faulted_more : (units : List UnitDecl) (faults : List FaultLine) (u : UnitDecl) → Faulted units faults → Faulted (units ++ bare u ∷ []) (faults ++ faults_told u)
 faulted_more units faults u h name new m =
     let apart : is_among name (unit_names units) || (bytes_eq name u.name || false) ≡ false = sym (list_any-append (bytes_eq name) (unit_names units) (u.name ∷ [])) ∙ ap (is_among name) (sym (map-append (λ (v : UnitDecl). v.name) units (bare u ∷ []))) ∙ new in
-    let p = neither (is_among name (unit_names units)) (bytes_eq name u.name || false) apart in
-    let q = neither (bytes_eq name u.name) false p.1 in
+    let p = or_parts (is_among name (unit_names units)) (bytes_eq name u.name || false) apart in
+    let q = or_parts (bytes_eq name u.name) false p.1 in
     list_any-append (is_fault_of name m) faults (faults_told u) ∙ rw (h name p.0 m, others_faults name u.name m u.faults q.0) refl
 
 -- the parts of the test of a unit
@@ -170,7 +170,7 @@ unit_back : (names : List (List ℕ)) (line : ℕ) (parts : Parts) (said : Said)
 unit_back names line parts said u rest held are few fresh faulted told =
     let test = unit_test u are in
     let fault_lines = map (fault_line u.name) u.faults ++ rest in
-    let new = placed_nowhere (λ (v : UnitDecl). v.name) u.name parts.units (ap (λ (us : List UnitDecl). is_among u.name (unit_names us)) told.units ∙ fresh) in
+    let new = no_place (λ (v : UnitDecl). v.name) u.name parts.units (ap (λ (us : List UnitDecl). is_among u.name (unit_names us)) told.units ∙ fresh) in
     let room : nat_lt (length parts.units) 32 ≡ true = lt-ltb _ _ (omega (arith, few, ap (λ (us : List UnitDecl). length us) told.units)) in
     let next : Parts = record parts { units = parts.units ++ bare u ∷ [] } in
     let one : Said = record said { units = said.units ++ bare u ∷ [] } in

@@ -1,5 +1,5 @@
 -- The tokens of a line that is made of words, numbers, texts, conditions and signs.
-use Rattle.std.proofs.Common.{◌≡◌, ℕ, zero, suc, ◌+◌, ◌-◌, ◌<◌, ◌^◌, ◌/◌, ◌%◌, ◌==◌, ◌&&◌, not, nat_lt, Bool, true, false, cond, List, [], ◌∷◌, ◌++◌, length, codes, Some, None, Result, Ok, Err, refl, sym, subst, ap, ◌∙◌, arith, lit<}
+use Rattle.std.proofs.Common.{◌≡◌, ℕ, zero, suc, ◌+◌, ◌-◌, ◌<◌, ◌^◌, ◌/◌, ◌%◌, ◌==◌, ◌&&◌, not, nat_lt, Bool, true, false, cond, List, [], ◌∷◌, ◌++◌, length, codes, Some, None, Result, Ok, refl, sym, subst, ap, ◌∙◌, arith, lit<}
 use Rattle.std.specs.Prelude.{decimal}
 use Rattle.std.specs.List.{list_all}
 use Rattle.std.proofs.lemmas.Bool.Decides.{nat_tests}
@@ -23,7 +23,7 @@ use Rattle.vx_base.specs.declared.call.Operand.TheVariants as operand
 use Rattle.vx_base.specs.declared.call.Target.{Target}
 use Rattle.vx_base.specs.declared.call.Target.TheVariants as target
 use Rattle.vx_base.specs.Cond.{name_of}
-use Rattle.vx_base.specs.Name.{is_name, is_capital, is_name_byte}
+use Rattle.vx_base.specs.Name.{is_name, is_name_byte}
 use Rattle.vx_base.specs.Services.{service_name, params_of, is_of_kind, is_unused, are_args, kind_of, is_call, args_list, is_operand, is_target}
 use Rattle.vx_text.specs.declared.token.LexFail.{LexFail}
 use Rattle.vx_text.specs.declared.token.Tok.{Tok}
@@ -33,26 +33,19 @@ use Rattle.vx_text.specs.declared.first.First.{First}
 use Rattle.vx_text.specs.declared.first.First.TheVariants.{End, Gap, Found, Bad}
 use Rattle.vx_text.specs.Bytes.{is_digit, is_plain, is_word_byte, is_alphanumeric}
 use Rattle.vx_text.specs.First.{first}
-use Rattle.vx_text.specs.Lex.{lex, lex_from, with_front, by_first, token_at}
+use Rattle.vx_text.specs.Lex.{lex, lex_from, by_first, token_at}
 use Rattle.vx_text.specs.Quote.{hex_digit, byte_text, inside_text, quote_text, AreBytes}
-use Rattle.vx_text.proofs.Runs.{and_parts, stops}
+use Rattle.vx_text.proofs.Runs.{stops}
 use Rattle.vx_text.proofs.Canonical.{first-quote}
 use Rattle.vx_text.proofs.Leading.{first-cons}
-use Rattle.vx_text.proofs.Lexing.{first-name, first-cond, lex_found, lex_gap, lex_nothing, name_some, name_bytes}
+use Rattle.vx_text.proofs.Lexing.{first-name, first-cond, lex_found, lex_gap, name_some, name_bytes}
 use Rattle.vx_text.proofs.Numbers.{first-number, decimal_some, decimal_digits}
 use Rattle.vx_table.specs.Back.{IsHeldOperand, IsHeld, AreHeld, held_unless, toks_of}
 use Rattle.vx_table.specs.Spelling.{mode_name, func_name, arg_text, args_text, call_text, call_tokens, operand_text, operand_token, target_text, target_token}
-use Rattle.vx_table.proofs.Texts.{call_toks}
+use Rattle.vx_table.proofs.Texts.{call_toks, letter_name, toks_front, and_tok}
 use Rattle.vx_script.specs.Script.{spaced}
-
--- a token in front of others
-abbrev and_tok : Tok → Result (List Tok) LexFail → Result (List Tok) LexFail
-and_tok t (Ok toks) = Ok (t ∷ toks)
-and_tok t (Err e) = Err e
-
-toks_front : (token : Token) (r : Result (List Token) LexFail) → toks_of (with_front (token ∷ []) r) ≡ and_tok token.tok (toks_of r)
-toks_front token (Ok tokens) = refl
-toks_front token (Err e) = refl
+use Rattle.std.proofs.lemmas.Bool.{and_parts}
+use Rattle.vx_text.proofs.Turns.{lex_nothing}
 
 -- Tokens without their places are the same at every place.
 
@@ -205,9 +198,6 @@ spells_plus = record { stands = λ rest e. first-cons 43 rest; some = lit< tt; c
 
 pub spells_minus : Spells (codes "-") (tok.Sign 45)
 spells_minus = record { stands = λ rest e. first-cons 45 rest; some = lit< tt; clean = refl }
-
-letter_name : (v : ℕ) → is_capital v ≡ true → is_name (v ∷ []) ≡ true
-letter_name v h = rw h refl
 
 pub spells_operand : (x : Operand) → is_operand x ≡ true → IsHeldOperand x → Spells (operand_text x) (operand_token x)
 spells_operand (operand.Num n) h held = spells_number n held

@@ -16,11 +16,11 @@ use Rattle.vx_base.specs.declared.number.Pid.{Pid}
 use Rattle.vx_base.specs.declared.request.Device.{Device}
 use Rattle.vx_base.specs.declared.request.Device.TheVariants as device
 use Rattle.vx_base.specs.declared.request.Req.{Req}
-use Rattle.vx_record.proofs.Cancelled.{cancel_channel_moves, finish_requests, withdraw_requests}
-use Rattle.vx_record.proofs.Finds.{all_found, find_amend, find_less, ordered_filter, other_id}
+use Rattle.vx_record.proofs.Cancelled.{cancel_channel_moves, withdraw_requests, still_has}
+use Rattle.vx_record.proofs.Finds.{all_found, ordered_filter}
 use Rattle.vx_record.proofs.Fits.{field_same}
 use Rattle.vx_record.proofs.Ground.{at_set}
-use Rattle.vx_record.proofs.Lists.{all_both, all_filter, all_from, all_weaker, either, find_passes, ordered_from}
+use Rattle.vx_record.proofs.Lists.{all_both, all_filter, all_from, all_weaker, either, ordered_from}
 use Rattle.vx_record.proofs.Moves.{HasRequest}
 use Rattle.vx_record.specs.Asts.{charged_ast}
 use Rattle.vx_record.specs.Cancel.{cancel_channel, cancel_request, cancelled_request, drop_attention, is_attention_on, is_request_on, mark_part, with_abort, withdraw}
@@ -36,12 +36,14 @@ use Rattle.vx_procs.specs.Kernel.{Acts, Fits, Kernel, with_state}
 use Rattle.vx_procs.specs.Ready.{owed}
 use Rattle.vx_procs.specs.Requests.{ended, promised_ast, request_ast}
 use Rattle.vx_procs.specs.Words.{with_queued_if}
-use Rattle.vx_procs.proofs.Booked.{tally-amend, tally-less}
+use Rattle.vx_procs.proofs.Booked.{tally-less}
 use Rattle.vx_procs.proofs.Firsts.{filter_none}
 use Rattle.vx_procs.proofs.Rest.{IsDoing, doing_begun, doing_end, doing_on, doing_room}
 use Rattle.vx_rundown.specs.Leaving.{IsLeaving}
 use Rattle.vx_rundown.proofs.Left.{Follows, IsLess, attention_follows, change_follows, each_follows, follows_still, follows_then, leaving_acted, leaving_by, made_then, others_follow}
 use Rattle.vx_rundown.proofs.Standing.{base_of, sound_moved}
+use Rattle.vx_base.proofs.First.{found_passes}
+use Rattle.vx_record.proofs.OwnIds.{tally_amend}
 
 -- A request finishes: its AST is owed no more, and is queued.
 
@@ -122,7 +124,7 @@ withdraw_has : (s : State) (x y : Request) (d : Device) → HasRequest s y → H
 withdraw_has s x y d has = subst (λ (rs : List Request). find (this_request y.req.id) rs ≡ Some y) (sym (withdraw_requests s x d)) has
 
 mark_follows : (s : State) (r : Request) → Follows true s (mark_part s r).after
-mark_follows s r = others_follow refl refl (λ q. let same = tally-amend (bears_ast q) (this_request r.req.id) with_abort (λ x. refl) s.requests in omega (arith, same))
+mark_follows s r = others_follow refl refl (λ q. let same = tally_amend (bears_ast q) (this_request r.req.id) with_abort (λ x. refl) s.requests in omega (arith, same))
 
 request_follows : (s : State) (r : Request) → IsProcess s r.req.p → HasRequest s r → Follows true s (cancel_request s r).after
 request_follows s r made has =
@@ -130,16 +132,6 @@ request_follows s r made has =
     let cancelled = follows_then first (finish_follows (withdraw s r r.req.device).after r (ending Cancel 0 0 []) (made_then first made) (withdraw_has s r r r.req.device has)) in
     either (λ (x : Part). Follows true s x.after) r.served _ (cancelled_request s r)
     (either (λ (x : Part). Follows true s x.after) (not r.marked) (mark_part s r) (nothing s) (mark_follows s r) follows_still) cancelled
-
--- those that come later stand as they did
-still_has : (s : State) (x y : Request) → request_id x + 1 ≤ request_id y → HasRequest s y → HasRequest (cancel_request s x).after y
-still_has s x y above has =
-    let P : Part → Type 0 = λ a. HasRequest a.after y in
-    let apart = λ (z : Request). other_id z.req.id.0 x.req.id.0 y.req.id.0 (λ same. omega (arith, above)) in
-    let w = (withdraw s x x.req.device).after in
-    either P x.served _ (cancelled_request s x)
-    (either P (not x.marked) (mark_part s x) (nothing s) (find_amend (this_request x.req.id) (this_request y.req.id) with_abort s.requests y apart apart has) has)
-    (subst (λ (rs : List Request). find (this_request y.req.id) rs ≡ Some y) (sym (finish_requests w x (ending Cancel 0 0 []))) (find_less (this_request x.req.id) (this_request y.req.id) w.requests y apart (withdraw_has s x y x.req.device has)))
 
 -- a request that stands among those of the state, of a process that is there
 abbrev IsOf : State → Request → Type 0
@@ -202,7 +194,7 @@ behind_next : (after low high n : ℕ) (ns : List ℕ) → AreOrdered (λ n. n) 
 behind_next after low high n [] h found = absurd (cc)
 behind_next after low high n (x ∷ xs) h found =
     let rest = behind_next after (x + 1) high n xs h.1 in
-    let passes = find_passes (λ k. nat_lt after k) xs n in
+    let passes = found_passes (λ k. nat_lt after k) xs n in
     let all : nat_lt after x ≡ true → filter (λ n. nat_lt after n) xs ≡ xs = λ past. all_behind after (x + 1) high xs (grind (arith, nat_tests, past)) h.1 in
     let later = all_behind x (x + 1) high xs (omega arith) h.1 in
     grind (arith, nat_tests)

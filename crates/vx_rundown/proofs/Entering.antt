@@ -14,7 +14,6 @@ use Rattle.vx_base.specs.declared.number.Pid.{Pid}
 use Rattle.vx_base.specs.declared.record.Answer.{Answer}
 use Rattle.vx_base.specs.declared.routine.Entry.{Entry}
 use Rattle.vx_exits.specs.Exits.{known}
-use Rattle.vx_record.proofs.Lists.{find_passes}
 use Rattle.vx_record.specs.Asts.{entry_place, with_frame}
 use Rattle.vx_record.specs.Parts.{nothing}
 use Rattle.vx_record.proofs.Moves.{end_handler}
@@ -32,13 +31,14 @@ use Rattle.vx_rundown.specs.Steps.{cancelled_and_drained, drained, entered_as, p
 use Rattle.vx_io.proofs.Changed.{change_again, process_there}
 use Rattle.vx_rundown.proofs.Left.{handler_follows, leaving_by}
 use Rattle.vx_rundown.proofs.Standing.{own_handlers_at}
+use Rattle.vx_base.proofs.First.{found_passes}
 
 rank_same : (a b : Mode) → rank a ≡ rank b → a ≡ b
 rank_same a b e = grind arith
 
 -- the handler that was found, by what is known of it
 handler_known : (m : Mode) (hs : List Handler) (id : Id) (tag : Entry) → Some (id, tag) ≡ option_map known (find (is_handler_of m) hs) → find (is_handler_of m) hs ≡ Some (record { id = id; mode = m; tag = tag })
-handler_known m hs id tag found = grind (arith, option_map, rank_same, eqb-true, find_passes)
+handler_known m hs id tag found = grind (arith, option_map, rank_same, eqb-true, found_passes)
 
 none_known : (o : Option Handler) → None ≡ option_map known o → o ≡ None
 none_known o e = grind arith

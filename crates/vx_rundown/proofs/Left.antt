@@ -24,9 +24,10 @@ use Rattle.vx_record.specs.State.{Process, State, IsProcess, change, nobody, pro
 use Rattle.vx_record.specs.Timers.{drop_timer, drop_timers, this_timer}
 use Rattle.vx_procs.specs.Kernel.{Acts, Kernel, changed, with_state}
 use Rattle.vx_procs.specs.Ready.{owed}
-use Rattle.vx_procs.proofs.Firsts.{less_few, tally_few}
+use Rattle.vx_procs.proofs.Firsts.{less_few}
 use Rattle.vx_rundown.specs.Leaving.{IsLeaving}
 use Rattle.vx_rundown.proofs.Standing.{base_of, sound_moved}
+use Rattle.vx_record.proofs.OwnIds.{tally_less}
 
 -- The processes are those that were there, with their declarations and frames, and no more ASTs are owed to them; and where rows is
 -- true, the channels are those that were there.
@@ -105,14 +106,14 @@ pub leaving_handlers : (p : Pid) (test : Handler → Bool) (k : Kernel) → IsLe
 leaving_handlers p test k h = leaving_by (end_handlers k.state p test h.made) (each_follows (drop_handler p) (handler_follows p) (filter test (process_at k.state p).handlers) k.state) h
 
 timer_follows : (s : State) (t : Timer) → Follows true s (drop_timer s t).after
-timer_follows s t = others_follow refl refl (λ q. let few = tally_few (charged_timer q) (this_timer t.id) s.timers in omega (arith, few))
+timer_follows s t = others_follow refl refl (λ q. let few = tally_less (charged_timer q) (this_timer t.id) s.timers in omega (arith, few))
 
 pub timers_follow : (test : Timer → Bool) (s : State) → Follows true s (drop_timers test s).after
 timers_follow test s = each_follows drop_timer timer_follows (filter test s.timers) s
 
 -- an entry gives the place of its AST back
 pub attention_follows : (s : State) (a : Attention) → Follows true s (drop_attention s a).after
-attention_follows s a = others_follow refl refl (λ q. let few = tally_few (is_attention_of q) (this_attention a.id) s.attention in omega (arith, few))
+attention_follows s a = others_follow refl refl (λ q. let few = tally_less (is_attention_of q) (this_attention a.id) s.attention in omega (arith, few))
 
 pub leaving_timers : (test : Timer → Bool) {p : Pid} {k : Kernel} → IsLeaving k p → IsLeaving (with_state k (drop_timers test k.state).after) p
 leaving_timers test {p} {k} h = leaving_by (drop_timers_moves k.state test (base_of k.state h.sound)) (timers_follow test k.state) h

@@ -1,7 +1,7 @@
 -- What of a process follows from a state whose references stand: no two of its queued ASTs have one id, and no two of its exit handlers.
 use Rattle.std.proofs.Common.{◌≡◌, ℕ, zero, suc, ◌-◌, ◌<◌, ◌≤◌, List, [], ◌∷◌, ◌==◌, not, true, false, IsTrue, None, length, slice_index_or, refl, arith}
 use Rattle.std.specs.List.{list_any}
-use Rattle.std.proofs.lemmas.Bool.{and_from, eq-eqb}
+use Rattle.std.proofs.lemmas.Bool.{and_from, eq-eqb, not_from_false}
 use Rattle.std.proofs.lemmas.Bool.Decides.{nat_tests}
 use Rattle.vx_base.specs.Flags.{one}
 use Rattle.vx_base.specs.Lists.{tally}
@@ -14,7 +14,7 @@ use Rattle.vx_record.specs.Sound.{AlarmStands, IsSound, ground, process_bears}
 use Rattle.vx_record.specs.State.{State, IsProcess, nobody, process_at}
 use Rattle.vx_record.proofs.Base.{Base}
 use Rattle.vx_record.proofs.Firm.{firm, sound_of}
-use Rattle.vx_record.proofs.Lists.{all_weaker, fails_not}
+use Rattle.vx_record.proofs.Lists.{all_weaker}
 use Rattle.vx_record.proofs.Moves.{IsAlarmMade, MovesBy}
 use Rattle.vx_record.proofs.OwnIds.{moves_own, own_of, owned}
 use Rattle.vx_record.proofs.References.{moves_stand}
@@ -36,7 +36,7 @@ own_from key (x ∷ xs) few =
     let here = few (key x).0 in
     let one_here : one ((key x).0 == (key x).0) ≡ 1 = rw (eq-eqb (key x).0 (key x).0 refl) refl in
     let none = none_bears key (key x).0 xs (omega (arith, here, one_here)) in
-    and_from (not (list_any (λ y. (key x).0 == (key y).0) xs)) (have_own key xs) (fails_not _ none) (own_from key xs (λ id. let all = few id in omega (arith, all)))
+    and_from (not (list_any (λ y. (key x).0 == (key y).0) xs)) (have_own key xs) (not_from_false _ none) (own_from key xs (λ id. let all = few id in omega (arith, all)))
 
 in_total : {A : Type 0} (f : A → ℕ) (xs : List A) (i : ℕ) (d : A) → i < length xs → f (slice_index_or xs i d) ≤ total f xs
 in_total f [] i d within = absurd (omega arith)

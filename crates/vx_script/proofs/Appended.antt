@@ -1,18 +1,10 @@
 -- Lists of which all pass a test, and lists with one more at the end.
 use Rattle.std.proofs.Common.{◌≡◌, ℕ, suc, Bool, true, false, cond, not, ◌&&◌, ◌||◌, ◌==◌, nat_lt, nat_le, List, [], ◌∷◌, ◌++◌, length, map, flat_map, Option, Some, None, option_map, find, bytes_eq, refl, sym, ap, ◌∙◌, arith, length-append}
 use Rattle.std.specs.List.{list_all, list_any}
-use Rattle.std.proofs.lemmas.Bool.{and_parts, and_from, or_parts, or_from, not_from_false, ltb-true, le-leb, eqb-true, eq-eqb}
+use Rattle.std.proofs.lemmas.Bool.{and_parts, and_from, or_parts, or_from, not_from_false, ltb-true, le-leb, eqb-true, eq-eqb, not-true}
 use Rattle.std.proofs.lemmas.List.Folds.{list_all-append, list_any-append}
 use Rattle.std.proofs.lemmas.Slice.Eq.{bytes_eq-Decides}
 use Rattle.vx_image.specs.WellFormed.{is_among, are_distinct, falls_nowhere}
-
-pub not_out : (b : Bool) → not b ≡ true → b ≡ false
-not_out true h = cc
-not_out false h = refl
-
-pub not_in : (b : Bool) → not b ≡ false → b ≡ true
-not_in true h = refl
-not_in false h = cc
 
 pub none_from : {A B : Type 0} (f : A → B) (o : Option A) → option_map f o ≡ None → o ≡ None
 none_from f None h = refl
@@ -33,10 +25,6 @@ all_weaker p q k [] h = refl
 all_weaker p q k (x ∷ xs) h =
     let parts = and_parts (p x) (list_all p xs) h in
     and_from (q x) (list_all q xs) (k x parts.0) (all_weaker p q k xs parts.1)
-
-pub map_push : {A B : Type 0} (f : A → B) (xs : List A) (x : A) → map f (xs ++ x ∷ []) ≡ map f xs ++ f x ∷ []
-map_push f [] x = refl
-map_push f (y ∷ ys) x = ap (λ zs. f y ∷ zs) (map_push f ys x)
 
 -- one more where fewer than so many are there
 pub few_push : {A : Type 0} (most : ℕ) (xs : List A) (x : A) → nat_lt (length xs) most ≡ true → nat_le (length (xs ++ x ∷ [])) most ≡ true
@@ -92,7 +80,7 @@ distinct_push [] name h k = refl
 distinct_push (n ∷ ns) name h k =
     let parts = and_parts (not (is_among n ns)) (are_distinct ns) h in
     let apart = or_parts (bytes_eq name n) (is_among name ns) k in
-    let old : is_among n ns ≡ false = not_out (is_among n ns) parts.0 in
+    let old : is_among n ns ≡ false = not-true (is_among n ns) parts.0 in
     let new : is_among n (ns ++ name ∷ []) ≡ false =
     list_any-append (bytes_eq n) ns (name ∷ []) ∙ or_from (is_among n ns) (bytes_eq n name || false) old
     (or_from (bytes_eq n name) false (same_back n name ∙ apart.0) refl) in

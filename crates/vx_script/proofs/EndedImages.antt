@@ -1,7 +1,7 @@
 -- An image that has ended, each of whose labels and process declarations is there, is well formed.
 use Rattle.std.proofs.Common.{◌≡◌, ◌∙◌, ℕ, Bool, true, false, not, ◌&&◌, nat_lt, nat_le, List, [], ◌∷◌, ◌++◌, length, map, find, Option, Some, None, bytes_eq, refl, sym, ap}
 use Rattle.std.specs.List.{list_all}
-use Rattle.std.proofs.lemmas.Bool.{and_parts, and_from}
+use Rattle.std.proofs.lemmas.Bool.{and_parts, and_from, not-true, not-false}
 use Rattle.vx_base.specs.Services.{is_call, is_operand, args_list}
 use Rattle.vx_base.specs.declared.call.Arg.{Arg}
 use Rattle.vx_base.specs.declared.call.Arg.TheVariants as arg
@@ -20,10 +20,11 @@ use Rattle.vx_script.specs.declared.draft.Draft.TheVariants as draft
 use Rattle.vx_script.specs.declared.draft.DraftImage.{DraftImage}
 use Rattle.vx_script.specs.declared.draft.DraftLine.{DraftLine}
 use Rattle.vx_script.specs.declared.lines.Creation.{Creation}
-use Rattle.vx_script.proofs.Appended.{not_out, not_in, all_both, all_push, map_push, few_push, distinct_push, all_weaker, unfound, none_any, none_from, as_many}
+use Rattle.vx_script.proofs.Appended.{all_both, all_push, few_push, distinct_push, all_weaker, unfound, none_any, none_from, as_many}
 use Rattle.vx_script.proofs.InRange.{is_plain, is_draft}
 use Rattle.vx_script.proofs.OpenImages.{IsOpen}
 use Rattle.vx_script.proofs.Places.{any_map, has_place, placed}
+use Rattle.std.proofs.lemmas.List.{map_push}
 
 -- the process declaration that a statement names is one of these
 abbrev pub is_known : List (List ℕ) → Creation → Bool
@@ -34,13 +35,13 @@ is_known decls c = is_among c.name decls
 has_label : (image : Image) (a : Arg) → not (arg_names_none image.labels a) ≡ true → has_its_label image a ≡ true
 has_label image (arg.Label (Some name)) h =
     let p = λ (l : Label). bytes_eq name l.name in
-    any_map (bytes_eq name) (λ (l : Label). l.name) image.labels ∙ sym (has_place p image.labels) ∙ not_in (is_label image.labels name) (not_out _ h)
+    any_map (bytes_eq name) (λ (l : Label). l.name) image.labels ∙ sym (has_place p image.labels) ∙ not-false (is_label image.labels name) (not-true _ h)
 has_label image (arg.Label None) h = refl
 has_label image _ h = refl
 
 label_is : (image : Image) (name : List ℕ) → not (is_label image.labels name) ≡ false
     → nat_lt (place_or_zero (label_place name image.labels)) (length image.labels) ≡ true
-label_is image name h = placed (λ (l : Label). bytes_eq name l.name) image.labels (not_in _ h)
+label_is image name h = placed (λ (l : Label). bytes_eq name l.name) image.labels (not-false _ h)
 
 -- Process declarations.
 
@@ -94,7 +95,7 @@ stmts_are decls image (d ∷ ds) drafts labels known =
     let there = and_parts (not (names_no_label image.labels d)) (list_all (λ d. not (names_no_label image.labels d)) ds) labels in
     let made = all_both (is_known decls) (creation_of d) (creations_of ds) known in
     and_from (is_stmt decls image (settled image.labels d.draft)) (list_all (is_stmt decls image) (map (λ d. settled image.labels d.draft) ds))
-    (settled_is decls image d.line d.draft range.0 (not_out _ there.0) made.0)
+    (settled_is decls image d.line d.draft range.0 (not-true _ there.0) made.0)
     (stmts_are decls image ds range.1 there.1 made.1)
 
 -- The image.

@@ -1,7 +1,7 @@
 -- The FAULT lines, and the numbers of one unit in order.
 use Rattle.std.proofs.Common.{◌≡◌, ◌∙◌, ℕ, Bool, true, false, cond, not, ◌&&◌, ◌||◌, ◌==◌, nat_lt, nat_le, List, [], ◌∷◌, ◌++◌, bytes_eq, refl, ap, arith, drop, IfOk, Result}
 use Rattle.std.specs.List.{list_all, list_any}
-use Rattle.std.proofs.lemmas.Bool.{and_parts, and_from, or_parts, or_from, not_from_false, ltb-false, lt-ltb, le-leb, leb-true, eq-eqb}
+use Rattle.std.proofs.lemmas.Bool.{and_parts, and_from, or_parts, or_from, not_from_false, ltb-false, lt-ltb, le-leb, leb-true, eq-eqb, not-true}
 use Rattle.std.proofs.lemmas.List.Folds.{list_any-append}
 use Rattle.std.proofs.lemmas.Slice.Eq.{bytes_eq-Decides}
 use Rattle.vx_image.specs.WellFormed.{rises_above}
@@ -13,7 +13,7 @@ use Rattle.vx_script.specs.Resolving.{fault_if, numbers_of}
 use Rattle.vx_script.specs.Places.{in_place, rising}
 use Rattle.vx_script.specs.declared.fault.FaultKind.{FaultKind}
 use Rattle.vx_script.specs.declared.lines.FaultLine.{FaultLine}
-use Rattle.vx_script.proofs.Appended.{not_out, all_flat, all_push, all_weaker, same_back, equal_back}
+use Rattle.vx_script.proofs.Appended.{all_flat, all_push, all_weaker, same_back, equal_back}
 use Rattle.vx_script.proofs.Chains.{after, after_by}
 use Rattle.vx_script.proofs.InRange.{IsBetween, number}
 
@@ -36,7 +36,7 @@ apart_push [] f h k = refl
 apart_push (g ∷ gs) f h k =
     let parts = and_parts (not (list_any (is_fault_of g.unit g.number) gs)) (are_apart gs) h in
     let apart = or_parts (is_fault_of f.unit f.number g) (list_any (is_fault_of f.unit f.number) gs) k in
-    let old = not_out (list_any (is_fault_of g.unit g.number) gs) parts.0 in
+    let old = not-true (list_any (is_fault_of g.unit g.number) gs) parts.0 in
     let new : is_fault_of g.unit g.number f ≡ false = fault_back g f ∙ apart.0 in
     let none : list_any (is_fault_of g.unit g.number) (gs ++ f ∷ []) ≡ false =
     list_any-append (is_fault_of g.unit g.number) gs (f ∷ []) ∙ or_from (list_any (is_fault_of g.unit g.number) gs)
@@ -91,7 +91,7 @@ different : (name : List ℕ) (fs : List FaultLine) → are_apart fs ≡ true �
 different name [] h = refl
 different name (f ∷ fs) h =
     let parts = and_parts (not (list_any (is_fault_of f.unit f.number) fs)) (are_apart fs) h in
-    let none = not_out (list_any (is_fault_of f.unit f.number) fs) parts.0 in
+    let none = not-true (list_any (is_fault_of f.unit f.number) fs) parts.0 in
     let rest = different name fs parts.1 in
     by_test (λ ns. are_different (ns ++ numbers_of name fs) ≡ true) (bytes_eq name f.unit) (f.number ∷ []) []
     (λ e. and_from (list_all (λ m. not (f.number == m)) (numbers_of name fs)) (are_different (numbers_of name fs))

@@ -1,7 +1,7 @@
 -- The INPUT lines of a unit, which is a line unit where it has any.
 use Rattle.std.proofs.Common.{◌≡◌, ◌∙◌, ℕ, Bool, true, false, not, ◌&&◌, ◌||◌, ◌==◌, nat_le, List, [], ◌∷◌, ◌++◌, length, map, bytes_eq, refl, sym, ap, drop, IfOk}
 use Rattle.std.specs.List.{list_all, list_any}
-use Rattle.std.proofs.lemmas.Bool.{and_parts, and_from, or_parts, or_from, or_right, and_left}
+use Rattle.std.proofs.lemmas.Bool.{and_parts, and_from, or_parts, or_from, or_right, and_left, not-true, not-false}
 use Rattle.std.proofs.lemmas.Slice.Eq.{bytes_eq-Decides}
 use Rattle.vx_image.specs.declared.unit.UnitDecl.{UnitDecl}
 use Rattle.vx_image.specs.WellFormed.{is_among, are_distinct}
@@ -12,7 +12,7 @@ use Rattle.vx_script.specs.Fields.{end_at, name_at, text_at}
 use Rattle.vx_script.specs.Resolving.{names_no_line_unit, input_if, inputs_of}
 use Rattle.vx_script.specs.Places.{is_line_unit}
 use Rattle.vx_script.specs.declared.lines.InputLine.{InputLine}
-use Rattle.vx_script.proofs.Appended.{not_out, not_in, all_weaker, all_flat, all_pairs, all_push, none_any, same_back}
+use Rattle.vx_script.proofs.Appended.{all_weaker, all_flat, all_pairs, all_push, none_any, same_back}
 use Rattle.vx_script.proofs.Chains.{after, after_by}
 use Rattle.vx_script.proofs.InRange.{IsText, text}
 use Rattle.vx_script.proofs.Places.{any_map}
@@ -63,7 +63,7 @@ the_line_unit name [] h k = refl
 the_line_unit name (u ∷ us) h k =
     let names = map (λ (v : UnitDecl). v.name) us in
     let parts = and_parts (not (is_among u.name names)) (are_distinct names) h in
-    let absent : is_among u.name names ≡ false = not_out (is_among u.name names) parts.0 in
+    let absent : is_among u.name names ≡ false = not-true (is_among u.name names) parts.0 in
     let alone : bytes_eq name u.name ≡ true → list_any (λ (v : UnitDecl). bytes_eq name v.name) us ≡ false =
     λ e. sym (any_map (bytes_eq name) (λ (v : UnitDecl). v.name) us) ∙ ap (λ n. is_among n names) ((bytes_eq-Decides name u.name).0 e) ∙ absent in
     first_or_other name u us (bytes_eq name u.name) alone (λ l. the_line_unit name us parts.1 l) k
@@ -72,7 +72,7 @@ no_inputs : (name : List ℕ) (is : List InputLine) → list_all (λ i. not (byt
 no_inputs name [] h = refl
 no_inputs name (i ∷ is) h =
     let parts = and_parts (not (bytes_eq i.unit name)) (list_all (λ i. not (bytes_eq i.unit name)) is) h in
-    let other : bytes_eq name i.unit ≡ false = same_back name i.unit ∙ not_out (bytes_eq i.unit name) parts.0 in
+    let other : bytes_eq name i.unit ≡ false = same_back name i.unit ∙ not-true (bytes_eq i.unit name) parts.0 in
     rw (other, no_inputs name is parts.1) refl
 
 line_or_none : (name : List ℕ) (is : List InputLine) (b : Bool) → list_all (λ i. b || not (bytes_eq i.unit name)) is ≡ true
@@ -87,7 +87,7 @@ pub no_block_lines : (us : List UnitDecl) (is : List InputLine) → are_distinct
 no_block_lines us is h k =
     let pairs =
     all_weaker (λ i. not (names_no_line_unit us i)) (λ i. list_all (is_line_or_other i.unit) us)
-    (λ i l. the_line_unit i.unit us h (not_in _ (not_out _ l))) is k in
+    (λ i l. the_line_unit i.unit us h (not-false _ (not-true _ l))) is k in
     all_weaker (λ u. list_all (λ i. is_line_or_other i.unit u) is) (λ u. (u.blocks == 0) || (length (inputs_of u.name is) == 0))
     (λ u l. line_or_none u.name is (u.blocks == 0) l) us (all_pairs (λ (i : InputLine) (u : UnitDecl). is_line_or_other i.unit u) is us pairs)
 

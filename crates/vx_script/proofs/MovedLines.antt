@@ -1,7 +1,7 @@
 -- INPUT lines that move to their units one by one.
 use Rattle.std.proofs.Common.{◌≡◌, ◌∙◌, ℕ, suc, ◌+◌, ◌<◌, Bool, true, false, cond, not, List, [], ◌∷◌, ◌++◌, length, map, slice_set, slice_index_or, Some, None, position, bytes_eq, refl, sym, ap, arith}
 use Rattle.std.specs.List.{position_or_len}
-use Rattle.std.proofs.lemmas.Bool.{and_parts, or_parts}
+use Rattle.std.proofs.lemmas.Bool.{and_parts, or_parts, not-true}
 use Rattle.std.proofs.lemmas.List.{append-nil, flat_map_more}
 use Rattle.std.proofs.lemmas.Slice.Eq.{bytes_eq-Decides}
 use Rattle.vx_image.specs.declared.unit.UnitDecl.{UnitDecl}
@@ -11,7 +11,7 @@ use Rattle.vx_script.specs.Resolving.{input_if, unit_of}
 use Rattle.vx_script.specs.Steps.{unit_names, with_inputs, with_line_if}
 use Rattle.vx_script.specs.declared.lines.InputLine.{InputLine}
 use Rattle.vx_script.specs.declared.parts.Parts.{Parts}
-use Rattle.vx_script.proofs.Appended.{not_out, same_back}
+use Rattle.vx_script.proofs.Appended.{same_back}
 use Rattle.vx_script.proofs.Places.{any_map, first_placed, no_place, place_map}
 
 -- their names stay
@@ -71,7 +71,7 @@ to_first : (input : InputLine) (us : List UnitDecl) (r : UnitDecl) → are_disti
 to_first input [] r h lt read = absurd (omega (arith, lt))
 to_first input (u ∷ us) r h lt read =
     let parts = and_parts (not (is_among u.name (unit_names us))) (are_distinct (unit_names us)) h in
-    by_first input u us r (is_its input u) refl (not_out (is_among u.name (unit_names us)) parts.0) (to_first input us r parts.1) lt read
+    by_first input u us r (is_its input u) refl (not-true (is_among u.name (unit_names us)) parts.0) (to_first input us r parts.1) lt read
 
 -- the units stand where places have their names
 place_of : (name : List ℕ) (places units : List UnitDecl) → unit_names units ≡ unit_names places → unit_place name units ≡ unit_place name places

@@ -1,10 +1,6 @@
 -- The lines of a text.
 use Rattle.std.specs.Prelude.{ℕ, ◌==◌, ◌&&◌, Bool, false, List, [], ◌∷◌, if◌then◌else◌}
-
--- a byte in front of the first line
-abbrev pub onto_first : ℕ → List (List ℕ) → List (List ℕ)
-onto_first b [] = (b ∷ []) ∷ []
-onto_first b (line ∷ lines) = (b ∷ line) ∷ lines
+pub use Rattle.vx_text.specs.Lines.{onto_first}
 
 abbrev pub begins_with : ℕ → List ℕ → Bool
 begins_with b [] = false

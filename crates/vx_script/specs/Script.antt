@@ -20,14 +20,7 @@ use Rattle.vx_script.specs.Keys.{privilege_name, holds}
 use Rattle.vx_script.specs.Statements.{rel_name, field_name}
 use Rattle.vx_script.specs.declared.privileges.Privilege.{Privilege}
 use Rattle.vx_script.specs.declared.privileges.Privilege.TheVariants as privilege
-
--- lines, each with a line feed at its end
-abbrev pub ended_lines : List (List ℕ) → List ℕ
-ended_lines lines = flat_map (λ line. line ++ 10 ∷ []) lines
-
--- words, each behind a space
-abbrev pub spaced : List (List ℕ) → List ℕ
-spaced words = flat_map (λ word. 32 ∷ word) words
+pub use Rattle.vx_text.specs.Lines.{ended_lines, spaced}
 
 -- Units.
 

@@ -1,5 +1,5 @@
 -- What a seed chooses is a run of the machine, and it has an end.
-use Rattle.std.proofs.Common.{◌≡◌, ℕ, zero, suc, ◌+◌, ◌<◌, ◌≤◌, List, [], ◌∷◌, Bool, if◌then◌else◌, length, Some, Contains, slice_index_or, refl, sym, ap, subst, ◌∙◌, arith}
+use Rattle.std.proofs.Common.{◌≡◌, ℕ, zero, suc, ◌+◌, ◌<◌, ◌≤◌, List, [], ◌∷◌, Bool, if◌then◌else◌, length, Some, Contains, refl, sym, ap, subst, ◌∙◌, arith}
 use Rattle.std.proofs.lemmas.Bool.Decides.{nat_tests}
 use Rattle.vx_base.specs.declared.record.End.{End}
 use Rattle.vx_base.specs.declared.record.End.TheVariants.{Done, Hung, Limit}
@@ -9,6 +9,7 @@ use Rattle.vx_image.specs.declared.system.System.{System}
 use Rattle.vx_record.specs.State.{State}
 use Rattle.vx_record.specs.Events.{enabled, step}
 use Rattle.vx_record.specs.Runs.{AreSteps, IsRun, after_from, are_deleted, choose, chosen, chosen_from, end_after, end_of, end_with, first, next_seed, pick, picked, record_of}
+use Rattle.vx_exec.proofs.Runs.{get_default}
 
 -- records that are at most n steps of the machine from a state on, behind so many that were taken, and end there
 record EndsFrom (limit taken n : ℕ) (s : State) (recs : List Rec) : Type 0 where
@@ -16,11 +17,6 @@ record EndsFrom (limit taken n : ℕ) (s : State) (recs : List Rec) : Type 0 whe
   steps : AreSteps s recs
   end : End
   ended : end_of limit (taken + length recs) (after_from s recs) ≡ Some end
-
-get_default : {A : Type 0} (xs : List A) (i : ℕ) (d e : A) → i < length xs → slice_index_or xs i d ≡ slice_index_or xs i e
-get_default [] i d e within = absurd (omega arith)
-get_default (x ∷ xs) zero d e within = refl
-get_default (x ∷ xs) (suc i) d e within = get_default xs i d e (omega arith)
 
 pick_there : (x : ℕ) (e : Event) (es : List Event) → Contains (e ∷ es) (pick x e es)
 pick_there x e es =

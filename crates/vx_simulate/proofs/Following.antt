@@ -12,7 +12,7 @@ use Rattle.vx_record.specs.Events.{enabled, step}
 use Rattle.vx_record.specs.Runs.{IsStep, after, after_from, are_deleted, end_of, end_with, first, record_of}
 use Rattle.vx_exec.specs.Taken.{TakesRun}
 use Rattle.vx_exec.specs.View.{Executive, Plan, after_step, plan}
-use Rattle.vx_exec.proofs.Runs.{after_more, going_below, steps_more}
+use Rattle.vx_exec.proofs.Runs.{after_more, going_below, steps_more, is_step, opened}
 use Rattle.vx_simulate.specs.Picking.{EndsPicked, Follows, IsPickedRun, StopsBefore, stops_at, tells_missing}
 use Rattle.vx_record.specs.Picked.{IsMissing, follow, next_place, picked, picked_from, places_after}
 use Rattle.vx_simulate.specs.declared.schedule.PickFail.{PickFail}
@@ -21,10 +21,6 @@ use Rattle.vx_simulate.specs.declared.schedule.PickFail.TheVariants.{Missing, No
 -- what stands at a place is there
 pub placed_there : (es : List Event) (i : ℕ) (e : Event) → Some e ≡ slice_get es i → Contains es e
 placed_there es i e is = (i, slice_get_within es i e (sym is), get_or_from_slice_get es i e e (sym is))
-
--- a record of the machine is a step
-is_step : (s : State) (e : Event) (r : Rec) → Contains (enabled s) e → r ≡ record_of s e → IsStep s r
-is_step s e r there is = subst (IsStep s) (sym is) (record { enabled = there; answer = refl; effects = refl })
 
 -- The run that the places choose, a record at a time.
 
@@ -104,9 +100,6 @@ ended_run before now places left recs end so_far ended = record {
 }
 
 -- Runs from the first state.
-
-abbrev opened : System → ℕ → Executive
-opened system limit = record { state = first system; limit = limit; taken = 0 }
 
 -- the records are the whole run's
 whole : (system : System) (places : List ℕ) (limit : ℕ) (exec : Executive) (recs : List Rec) → Follows (opened system limit) exec places recs → recs ≡ picked system places limit

@@ -1,5 +1,5 @@
 -- A run that is written as it goes, and its text.
-use Rattle.std.proofs.Common.{◌≡◌, ℕ, ◌+◌, ◌-◌, ◌<◌, ◌≤◌, List, [], ◌∷◌, ◌++◌, length, take, drop, take-append-drop, None, Some, Option, ap, refl, sym, subst, ◌∙◌, append_assoc, append-nil, arith, codes}
+use Rattle.std.proofs.Common.{◌≡◌, ℕ, ◌+◌, ◌-◌, ◌≤◌, List, [], ◌∷◌, ◌++◌, length, take, drop, take-append-drop, None, Some, Option, ap, refl, sym, subst, ◌∙◌, append_assoc, append-nil, arith, codes}
 use Rattle.std.proofs.KnownBytes.{Appends-nil, Appends-trans}
 use Rattle.std.proofs.Math.Seq.{take-append_seam}
 use Rattle.std.proofs.lemmas.Grind.{flat_map-append}
@@ -7,7 +7,7 @@ use Rattle.std.specs.Io.KnownBytes.{Appends}
 use Rattle.vx_base.specs.declared.record.End.{End}
 use Rattle.vx_base.specs.declared.record.Event.{Event}
 use Rattle.vx_base.specs.declared.record.Rec.{Rec}
-use Rattle.vx_exec.proofs.Runs.{Taking, begun, chosen_run, ended_run, going_below, taken_more}
+use Rattle.vx_exec.proofs.Runs.{Taking, begun, chosen_run, ended_run, taken_more, opened}
 use Rattle.vx_exec.specs.Picks.{moved_seed, picked_event}
 use Rattle.vx_exec.specs.Taken.{IsChosenRun}
 use Rattle.vx_exec.specs.View.{Executive, Plan, after_step, plan}
@@ -84,9 +84,6 @@ chosen_transcript system options within =
 
 -- A run that is written as it goes.
 
-abbrev opened : System → ℕ → Executive
-opened system limit = record { state = first system; limit = limit; taken = 0 }
-
 -- The lines of the records so far were written or wait to be, and the seed chooses the rest.
 pub record Writing (system : System) (options : Options) (now : Executive) (next : ℕ) (held held_now : Option (List ℕ)) (pending : List ℕ) : Type 0 where
   pub recs : List Rec
@@ -124,14 +121,6 @@ more_written system options now later x y e held held_now pending more so_far go
       all = ap (λ (l : List ℕ). ended_lines so_far.lines ++ l) own ∙ (sym (append_assoc (ended_lines so_far.lines) pending (ended_lines (record_lines system.units (1 + length recs) r)))
           ∙ (ap (λ (l : List ℕ). l ++ ended_lines (record_lines system.units (1 + length recs) r)) so_far.all ∙ one_more system recs r));
     }
-
--- a step leaves fewer to take
-pub fewer_left : (now later : Executive) (s : State) → None ≡ end_of now.limit now.taken now.state → later ≡ record now { state = s; taken = now.taken + 1 } → later.limit - later.taken < now.limit - now.taken
-fewer_left now later s going becomes =
-    let below : now.taken < now.limit = going_below now.limit now.taken now.state going in
-    let limited : later.limit ≡ now.limit = ap (λ (e : Executive). e.limit) becomes in
-    let counted : later.taken ≡ now.taken + 1 = ap (λ (e : Executive). e.taken) becomes in
-    omega arith
 
 pub still_written : (system : System) (options : Options) (now : Executive) (next : ℕ) (held held_now held_after : Option (List ℕ)) (pending more : List ℕ) → Writing system options now next held held_now pending → Sends held_now held_after pending more → Writing system options now next held held_after more
 still_written system options now next held held_now held_after pending more so_far (kept same) = record {

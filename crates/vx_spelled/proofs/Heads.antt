@@ -23,23 +23,24 @@ use Rattle.vx_base.specs.declared.record.Event.TheVariants as event
 use Rattle.vx_base.specs.declared.routine.Entry.{Entry}
 use Rattle.vx_base.specs.declared.routine.Entry.TheVariants as entry
 use Rattle.vx_image.specs.Local.{advanced}
-use Rattle.vx_image.specs.WellFormed.{IsWellFormed, decl_names, is_image}
+use Rattle.vx_image.specs.WellFormed.{IsWellFormed, decl_names}
 use Rattle.vx_image.specs.declared.image.Image.{Image}
 use Rattle.vx_image.specs.declared.stop.Stop.{Stop}
 use Rattle.vx_image.specs.declared.stop.Stop.TheVariants as stop
 use Rattle.vx_lines.specs.ReadHead.{is_plain_call}
-use Rattle.vx_record.proofs.Lists.{all_append, all_at, all_get, either}
-use Rattle.vx_record.proofs.SoundCalls.{StopFits, advanced_fits, all_from_list}
+use Rattle.vx_record.proofs.Lists.{all_append, all_at, either}
+use Rattle.vx_record.proofs.SoundCalls.{StopFits, advanced_fits}
 use Rattle.vx_record.specs.Asts.{deliverable_ast}
 use Rattle.vx_record.specs.Events.{ast_or_run, beg, beg_event, don, can_run, can_run_down, delivered, don_or_beg, enabled, moved_behind, moved_to, process_events, processes_from, r0_of, reader, returned, returned_from, run, run_events, run_frame, run_on, served_call, started, step, tick_events, unit_events, units_from}
 use Rattle.vx_record.specs.Parts.{Outcome, tells}
 use Rattle.vx_record.specs.Rundown.{cancelled_in, drain, exited, handling, inner_modes, is_busy, release, run_down, run_handlers, rundown_from, without_ast}
 use Rattle.vx_record.specs.Services.{service}
-use Rattle.vx_record.specs.State.{Process, State, change, decl_of, image_of, no_image, pid, process_at}
+use Rattle.vx_record.specs.State.{Process, State, change, image_of, pid, process_at}
 use Rattle.vx_record.specs.declared.served.Served.{Served}
 use Rattle.vx_record.specs.declared.served.Served.TheVariants.{Answered, Waits}
 use Rattle.vx_spelled.proofs.Calls.{IsPlainStop, advanced_plain, service_fine}
 use Rattle.vx_spelled.proofs.Fine.{AreFine, OutFine, done_fine, exited_fine, rundown_fine, then_fine, tick_fine}
+use Rattle.vx_record.proofs.Called.{image_formed}
 
 -- An answer that its event may have; of a call, one of the table with numbers for its values.
 
@@ -89,11 +90,6 @@ run_on_good image s p place (stop.Call c) fits plain =
 run_on_good image s p place stop.Return fits plain = returned_good s p (process_at s p).frames
 run_on_good image s p place stop.End fits plain = returned_good s p (process_at s p).frames
 run_on_good image s p place stop.Local fits plain = (tt, tt)
-
--- the image that a process runs is well formed
-image_formed : (s : State) (p : Pid) → IsWellFormed s.system → is_image (decl_names s.system) (image_of s p) ≡ true
-image_formed s p w =
-    all_get (λ (i : Image). is_image (decl_names s.system) i ≡ true) s.system.images (decl_of s p).image no_image refl (all_from_list (is_image (decl_names s.system)) s.system.images w.images)
 
 run_frame_good : (s : State) (p : Pid) (f : Frame) (w : Option Wait) → IsWellFormed s.system → IsGood (event.Run p) (run_frame s p f w)
 run_frame_good s p f None formed =

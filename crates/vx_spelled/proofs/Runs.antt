@@ -1,8 +1,7 @@
 -- Each record of a run has a spelling.
-use Rattle.std.proofs.Common.{◌≡◌, ℕ, zero, suc, ◌<◌, ◌||◌, not, nat_lt, Bool, true, false, List, [], ◌∷◌, length, map, get_or, bytes_eq, refl, sym, subst, ◌∙◌, arith}
+use Rattle.std.proofs.Common.{◌≡◌, ℕ, zero, suc, ◌<◌, not, nat_lt, true, false, List, [], ◌∷◌, length, map, get_or, bytes_eq, refl, sym, subst, ◌∙◌, arith}
 use Rattle.std.specs.List.{AllByRecursion, position_or_len}
-use Rattle.std.proofs.lemmas.Bool.{and_parts, lt-ltb}
-use Rattle.std.proofs.lemmas.Slice.Eq.{bytes_eq-Decides}
+use Rattle.std.proofs.lemmas.Bool.{and_parts, lt-ltb, not-true, or_parts}
 use Rattle.vx_base.specs.Name.{is_name}
 use Rattle.vx_base.specs.declared.effects.Cell.{Cell}
 use Rattle.vx_base.specs.declared.effects.Cell.TheVariants.{Local, Common}
@@ -21,7 +20,7 @@ use Rattle.vx_lines.specs.Records.{no_unit}
 use Rattle.vx_lines.specs.Spelled.{IsSpelled, IsSpelledCell}
 use Rattle.vx_lines.specs.SpelledHead.{IsSpelledHead, IsSpelledUnit}
 use Rattle.vx_lines.specs.SpelledRecords.{AreSpelled, IsSpelledRec}
-use Rattle.vx_record.proofs.Lists.{all_at, not_holds}
+use Rattle.vx_record.proofs.Lists.{all_at}
 use Rattle.vx_record.proofs.SoundSteps.{first_sound, step_sound}
 use Rattle.vx_record.proofs.Fixed.{step_keeps_system}
 use Rattle.vx_record.specs.Events.{step}
@@ -32,6 +31,7 @@ use Rattle.vx_spelled.specs.Held.{AreHeldRecs, AreNamed, IsHeldAnswer, IsHeldCel
 use Rattle.vx_spelled.specs.Law.{RunsAreSpelled}
 use Rattle.vx_spelled.proofs.Fine.{AreFine, IsFine, IsFineCell}
 use Rattle.vx_spelled.proofs.Heads.{IsAnswerOf, IsDue, enabled_due, step_good}
+use Rattle.vx_lines.proofs.EffectsBack.{bytes_same}
 
 -- Effects.
 
@@ -51,25 +51,18 @@ effects_spelled (e ∷ es) h k = (effect_spelled e h.0 k.0, effects_spelled es h
 
 -- Units.
 
-name_same : (name : List ℕ) → bytes_eq name name ≡ true
-name_same name = (bytes_eq-Decides name name).1 refl
-
-neither : (a b : Bool) → a || b ≡ false → (a ≡ false) × (b ≡ false)
-neither true b h = absurd (cc)
-neither false b h = (refl, h)
-
 among_at : (a : List ℕ) (us : List UnitDecl) (k : ℕ) → is_among a (map (λ u. u.name) us) ≡ false → k < length us → bytes_eq a (get_or us k no_unit).name ≡ false
 among_at a [] k h lt = absurd (omega arith)
-among_at a (u ∷ us) zero h lt = (neither (bytes_eq a u.name) (is_among a (map (λ u. u.name) us)) h).0
-among_at a (u ∷ us) (suc k) h lt = among_at a us k (neither (bytes_eq a u.name) (is_among a (map (λ u. u.name) us)) h).1 (omega arith)
+among_at a (u ∷ us) zero h lt = (or_parts (bytes_eq a u.name) (is_among a (map (λ u. u.name) us)) h).0
+among_at a (u ∷ us) (suc k) h lt = among_at a us k (or_parts (bytes_eq a u.name) (is_among a (map (λ u. u.name) us)) h).1 (omega arith)
 
 place_len : (us : List UnitDecl) (k : ℕ) → k < length us → are_distinct (map (λ u. u.name) us) ≡ true → position_or_len (λ u. bytes_eq u.name (get_or us k no_unit).name) us ≡ k
 place_len [] k lt h = absurd (omega arith)
-place_len (u ∷ us) zero lt h = rw (name_same u.name) refl
+place_len (u ∷ us) zero lt h = rw (bytes_same u.name) refl
 place_len (u ∷ us) (suc k) lt h =
     let parts = and_parts (not (is_among u.name (map (λ u. u.name) us))) (are_distinct (map (λ u. u.name) us)) h in
     let within : k < length us = omega arith in
-    let other = among_at u.name us k (not_holds (is_among u.name (map (λ u. u.name) us)) parts.0) within in
+    let other = among_at u.name us k (not-true (is_among u.name (map (λ u. u.name) us)) parts.0) within in
     rw (other, place_len us k within parts.1) (omega arith)
 
 -- a unit of the script has a spelling

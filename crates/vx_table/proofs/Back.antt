@@ -18,10 +18,10 @@ use Rattle.vx_base.specs.declared.service.Service.{Service}
 use Rattle.vx_base.specs.declared.service.Service.TheVariants.{SetEf}
 use Rattle.vx_base.specs.Services.{service_name, service_rows, service_row, params_of, args_list, args_of, arg_first, arg_rest, is_of_kind, is_unused, are_args, kind_of, is_call}
 use Rattle.vx_text.specs.declared.token.Tok.{Tok}
-use Rattle.vx_text.proofs.Runs.{and_parts}
 use Rattle.vx_table.specs.declared.fail.CallFail.{CallFail}
 use Rattle.vx_table.specs.Spelling.{mode_name, func_name, arg_token, operand_token, comma, args_tokens, call_tokens}
 use Rattle.vx_table.specs.Reading.{is_comma, mode_word, func_word, token_arg, read_args, cut, pieces, as_args, call_with, read_row, read_named, read_call}
+use Rattle.std.proofs.lemmas.Bool.{and_parts}
 
 -- the arguments up to the first that is not used
 abbrev pub used : List Arg → List Arg
@@ -60,7 +60,7 @@ kind_used k (arg.Label label) h = refl
 kind_used k (arg.Func f) h = refl
 kind_used k arg.Unused h = sym h ∙ unused_of_kind k
 
-mode_back : (m : Mode) → mode_word (mode_name m) ≡ Some m
+pub mode_back : (m : Mode) → mode_word (mode_name m) ≡ Some m
 mode_back Kernel = refl
 mode_back Exec = refl
 mode_back Super = refl
@@ -155,7 +155,7 @@ args_whole : (params : List Param) (args : Args) → are_args params (args_list 
 args_whole params args h = ap args_of (used_firsts params (args_list args) h)
 
 -- a service is found by its name
-named_back : (s : Service) (args : List Tok) → read_named service_rows (service_name s) args ≡ read_row (service_row s) args
+pub named_back : (s : Service) (args : List Tok) → read_named service_rows (service_name s) args ≡ read_row (service_row s) args
 named_back SetEf args = refl
 named_back _ args = refl
 

@@ -22,10 +22,11 @@ use Rattle.vx_base.specs.Name.{is_capital}
 use Rattle.vx_base.specs.Services.{ServiceRow, service_name, service_rows, service_row, all_services, params_of, is_operand, is_target, is_of_kind, are_args, kind_of, is_call, has_right_default}
 use Rattle.vx_text.specs.declared.token.Tok.{Tok}
 use Rattle.vx_text.specs.declared.token.Tok.TheVariants as tok
-use Rattle.vx_text.proofs.Runs.{and_parts, by_test}
+use Rattle.vx_text.proofs.Runs.{by_test}
 use Rattle.vx_table.specs.declared.fail.CallFail.{CallFail}
 use Rattle.vx_table.specs.Reading.{letter, long_operand, operand_word, target_word, word_arg, token_arg, arg_or, read_arg, and_args, read_args, first_piece, more_pieces, pieces, as_args, call_with, read_named, read_call}
 use Rattle.vx_table.proofs.Back.{firsts}
+use Rattle.std.proofs.lemmas.Bool.{and_parts}
 
 abbrev pub IsOperandOr : Option Operand → Type 0
 IsOperandOr None = Unit {0}

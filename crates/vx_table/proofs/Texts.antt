@@ -25,13 +25,15 @@ use Rattle.vx_text.specs.declared.first.First.TheVariants.{Found}
 use Rattle.vx_text.specs.Bytes.{is_word_byte, is_alphanumeric, is_service_byte}
 use Rattle.vx_text.specs.First.{first}
 use Rattle.vx_text.specs.Lex.{lex_from, with_front, token_at}
-use Rattle.vx_text.proofs.Runs.{and_parts, stops}
+use Rattle.vx_text.proofs.Runs.{stops}
 use Rattle.vx_text.proofs.Leading.{first-cons}
-use Rattle.vx_text.proofs.Lexing.{first-name, first-cond, first-service, lex_found, lex_gap, lex_nothing, name_some}
+use Rattle.vx_text.proofs.Lexing.{first-name, first-cond, first-service, lex_found, lex_gap, name_some}
 use Rattle.vx_text.proofs.Numbers.{first-number, decimal_some}
 use Rattle.vx_table.specs.Spelling.{mode_name, func_name, arg_token, arg_text, comma, args_tokens, args_text, call_tokens, call_text}
 use Rattle.vx_table.specs.Back.{IsHeld, AreHeld, held_unless, toks_of, ReadsBack}
 use Rattle.vx_table.proofs.Back.{call_back}
+use Rattle.std.proofs.lemmas.Bool.{and_parts}
+use Rattle.vx_text.proofs.Turns.{lex_nothing}
 
 -- an argument's text stands first as its token
 record Stands (text : List ℕ) (t : Tok) (rest : List ℕ) : Type 0 where
@@ -41,7 +43,7 @@ record Stands (text : List ℕ) (t : Tok) (rest : List ℕ) : Type 0 where
 word_stands : (word rest : List ℕ) → is_name word ≡ true → stops is_word_byte rest → Stands word (tok.Word word) rest
 word_stands word rest h s = record { first_is = first-name word rest h s; some = name_some word h }
 
-letter_name : (v : ℕ) → is_capital v ≡ true → is_name (v ∷ []) ≡ true
+pub letter_name : (v : ℕ) → is_capital v ≡ true → is_name (v ∷ []) ≡ true
 letter_name v h = rw h refl
 
 -- a piece ends at the next comma, or at the end
@@ -58,7 +60,7 @@ args_end : (before : ℕ) (args : List Arg) → is_word_byte before ≡ false �
 args_end before [] w n s = record { word = tt; number = tt; service = tt }
 args_end before (a ∷ args) w n s = ends_by before a (arg_text a ++ args_text 44 args) (is_unused a) w n s
 
-mode_names : (m : Mode) → is_name (mode_name m) ≡ true
+pub mode_names : (m : Mode) → is_name (mode_name m) ≡ true
 mode_names Kernel = refl
 mode_names Exec = refl
 mode_names Super = refl
@@ -96,7 +98,7 @@ abbrev pub and_tok : Tok → Result (List Tok) LexFail → Result (List Tok) Lex
 and_tok t (Ok toks) = Ok (t ∷ toks)
 and_tok t (Err e) = Err e
 
-toks_front : (token : Token) (r : Result (List Token) LexFail) → toks_of (with_front (token ∷ []) r) ≡ and_tok token.tok (toks_of r)
+pub toks_front : (token : Token) (r : Result (List Token) LexFail) → toks_of (with_front (token ∷ []) r) ≡ and_tok token.tok (toks_of r)
 toks_front token (Ok tokens) = refl
 toks_front token (Err e) = refl
 

@@ -1,6 +1,6 @@
 -- What is told of texts is told of others that they are among.
 use Rattle.std.proofs.Common.{◌≡◌, ℕ, List, Option, Result, Ok, Err, IfOk, refl, sym, subst}
-use Rattle.vx_grammar.specs.FirstFault.{TellsIfFault}
+use Rattle.vx_grammar.specs.FirstFault.{TellsIfFault, Tells}
 use Rattle.vx_grammar.specs.Grammar.{Spells}
 use Rattle.vx_host.specs.Causes.{Rose}
 use Rattle.vx_host.specs.Streams.{Takes, TakesAtMost}
@@ -10,7 +10,6 @@ use Rattle.vx_image.specs.declared.system.System.{System}
 use Rattle.vx_script.specs.declared.fault.ScriptFail.{ScriptFail}
 use Rattle.vx_script.specs.declared.fault.ScriptFail.TheVariants as fail
 use Rattle.vx_script.specs.declared.fault.ScriptFault.{ScriptFault}
-use Rattle.vx_grammar.specs.FirstFault.{Tells}
 use Rattle.vx_tell.specs.Lines.{fault_line, no_memory, read_fault, too_long}
 use Rattle.vx_tell.specs.Refused.{IsNoScript, IsRefusalOf}
 use Rattle.vx_tell.specs.Scripts.{OfScript, no_script, of_system}

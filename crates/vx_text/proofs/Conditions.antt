@@ -18,7 +18,7 @@ found_name : (conds : List Cond) (text : List ℕ) (c : Cond) → find (λ c. by
 found_name [] text c found = cc
 found_name (d ∷ conds) text c found = has_name text c d (bytes_eq (name_of d) text) _ refl (found_name conds text c) found
 
-named_by : (c : Cond) → cond_named (name_of c) ≡ Some c
+pub named_by : (c : Cond) → cond_named (name_of c) ≡ Some c
 named_by Normal = refl
 named_by _ = refl
 

@@ -3,9 +3,9 @@ use Rattle.std.proofs.Common.{◌≡◌, ℕ, ◌+◌, ◌-◌, ◌<◌, ◌≤�
 use Rattle.std.specs.List.{list_all, take_while, starts_with}
 use Rattle.std.proofs.Math.Seq.{drop-append_seam}
 use Rattle.std.proofs.lemmas.Bool.Decides.{nat_tests}
-use Rattle.std.proofs.lemmas.Bool.{le-ltb}
+use Rattle.std.proofs.lemmas.Bool.{le-ltb, and_parts}
 use borrow.Author.Tests.{ltb-true, leb-true}
-use Rattle.vx_text.proofs.Turns.{lex_from-skip}
+use Rattle.vx_text.proofs.Turns.{lex_from-skip, lex_nothing}
 use Rattle.vx_base.specs.declared.cond.Cond.{Cond}
 use Rattle.vx_base.specs.declared.cond.Cond.TheVariants.{Normal}
 use Rattle.vx_base.specs.Cond.{name_of}
@@ -16,7 +16,7 @@ use Rattle.vx_text.specs.declared.first.First.TheVariants.{Found}
 use Rattle.vx_text.specs.Bytes.{to_upper, is_letter, is_word_byte, is_service_byte}
 use Rattle.vx_text.specs.First.{first, word, word_of, service}
 use Rattle.vx_text.specs.Lex.{lex_from, with_front, token_at}
-use Rattle.vx_text.proofs.Runs.{and_parts, and_false, stops, run_of}
+use Rattle.vx_text.proofs.Runs.{and_false, stops, run_of}
 use Rattle.vx_text.proofs.Leading.{first-cons, letter_leads}
 
 capital_letter : (b : ℕ) → is_capital b ≡ true → is_letter b ≡ true
@@ -142,10 +142,6 @@ service-name name rest h short s =
 -- a service stands first where '$' and its name do
 pub first-service : (name rest : List ℕ) → is_name name ≡ true → length name ≤ 30 → stops is_service_byte rest → first (36 ∷ (name ++ rest)) ≡ Found (tok.Service name) (1 + length name)
 first-service name rest h short s = first-cons 36 (name ++ rest) ∙ service-name name rest h short s
-
-pub lex_nothing : (at : ℕ) → lex_from 0 at [] ≡ Ok []
-unfolding lex_from
-lex_nothing at = refl
 
 pub name_some : (name : List ℕ) → is_name name ≡ true → 0 < length name
 name_some name h = (named name h).some

@@ -5,7 +5,7 @@ use Rattle.vx_base.specs.declared.bytes.NoMemory.{NoMemory}
 use Rattle.std.specs.List.{take_while}
 use Rattle.std.proofs.lemmas.List.Folds.{length-prefix_len}
 use Rattle.std.proofs.lemmas.List.Sums.{prefix_len-le-length}
-use Rattle.std.proofs.lemmas.Bool.{eqb-true}
+use Rattle.std.proofs.lemmas.Bool.{eqb-true, or_right}
 use Rattle.vx_text.specs.declared.token.Tok.{Tok}
 use Rattle.vx_text.specs.declared.token.Tok.TheVariants as tok
 use Rattle.vx_text.specs.declared.token.LexFail.{LexFail}
@@ -20,14 +20,14 @@ use Rattle.vx_text.specs.Bytes.{to_upper, is_letter, is_digit, is_hex_digit, is_
 use Rattle.vx_text.specs.Quoted.{step_of, behind, by_step, quoted, quoted_text}
 use Rattle.vx_text.specs.First.{first, first_by, found_or, word_of, word, service_of, service, number, hex_number, quote, text_found}
 use Rattle.vx_text.specs.Lex.{IsReading}
-use Rattle.vx_text.proofs.Runs.{by_test, or_true, run_cons, run_twice}
+use Rattle.vx_text.proofs.Runs.{by_test, run_cons, run_twice}
 use Rattle.vx_text.proofs.Leading.{first-cons, letter_leads, digit_leads}
 
 found_or-reading : (bytes : List ℕ) (kind : LexFail) (t : Option Tok) (len : ℕ) → 0 < len → len ≤ length bytes → first (take len bytes) ≡ found_or kind t len → IsReading bytes (found_or kind t len)
 found_or-reading bytes kind None len p q e = tt
 found_or-reading bytes kind (Some t) len p q e = (p, q, e)
 
-take-1 : (n b : ℕ) (bs : List ℕ) → take (1 + n) (b ∷ bs) ≡ b ∷ take n bs
+pub take-1 : (n b : ℕ) (bs : List ℕ) → take (1 + n) (b ∷ bs) ≡ b ∷ take n bs
 take-1 n b bs =
     let e : 1 + n ≡ suc n = omega arith in
     rw e refl
@@ -47,7 +47,7 @@ word_byte : (b : ℕ) → is_letter b ≡ true → is_word_byte b ≡ true
 word_byte b h = rw h refl
 
 alphanumeric : (b : ℕ) → is_digit b ≡ true → is_alphanumeric b ≡ true
-alphanumeric b h = or_true (is_letter b) (is_digit b) h
+alphanumeric b h = or_right (is_letter b) (is_digit b) h
 
 -- what leads a run of its own bytes
 run_reading : (p : ℕ → Bool) (read : List ℕ → Option Tok) (kind : LexFail) (b : ℕ) (bs : List ℕ) → p b ≡ true → ((bytes : List ℕ) → first_by b bytes ≡ found_or kind (read (take_while p bytes)) (length (take_while p bytes))) → IsReading (b ∷ bs) (found_or kind (read (take_while p (b ∷ bs))) (length (take_while p (b ∷ bs))))

@@ -3,13 +3,13 @@ use Rattle.std.proofs.Common.{◌≡◌, ℕ, ◌+◌, ◌/◌, ◌%◌, ◌<◌
 use Rattle.std.specs.List.{list_all, fold}
 use Rattle.std.specs.Prelude.{decimal}
 use Rattle.std.proofs.lemmas.Fmt.{decimal_by_steps}
-use Rattle.std.proofs.lemmas.Bool.{le-leb}
+use Rattle.std.proofs.lemmas.Bool.{le-leb, and_parts}
 use Rattle.std.proofs.lemmas.Bool.Decides.{nat_tests}
 use Rattle.vx_text.specs.declared.token.Tok.TheVariants as tok
 use Rattle.vx_text.specs.declared.first.First.TheVariants.{Found}
 use Rattle.vx_text.specs.Bytes.{with_digit, digits_value, is_digit, is_alphanumeric, decimal_of}
 use Rattle.vx_text.specs.First.{first, number}
-use Rattle.vx_text.proofs.Runs.{and_parts, stops, run_of}
+use Rattle.vx_text.proofs.Runs.{stops, run_of}
 use Rattle.vx_text.proofs.Leading.{first-cons, digit_leads}
 
 fold_more : (n d : ℕ) (ds : List ℕ) → fold with_digit n (ds ++ d ∷ []) ≡ with_digit (fold with_digit n ds) d
@@ -20,10 +20,10 @@ all_more : (d : ℕ) (ds : List ℕ) → list_all is_digit ds ≡ true → is_di
 all_more d [] h k = rw k refl
 all_more d (x ∷ xs) h k = let p = and_parts (is_digit x) (list_all is_digit xs) h in rw (p.0, all_more d xs p.1 k) refl
 
-record Spells (n : ℕ) (ds : List ℕ) : Type 0 where
-  some : 0 < length ds
-  digits : list_all is_digit ds ≡ true
-  value : digits_value ds ≡ n
+pub record Spells (n : ℕ) (ds : List ℕ) : Type 0 where
+  pub some : 0 < length ds
+  pub digits : list_all is_digit ds ≡ true
+  pub value : digits_value ds ≡ n
 
 a_digit : (m : ℕ) → m < 10 → is_digit (48 + m) ≡ true
 a_digit m h = grind (arith, nat_tests, h)
@@ -38,7 +38,7 @@ more n ds h s = record {
   value = rw (fold_more 0 (48 + n % 10) ds, s.value) (omega arith);
 }
 
-spells : (n : ℕ) → n < 2 ^ 64 → Spells n (decimal n)
+pub spells : (n : ℕ) → n < 2 ^ 64 → Spells n (decimal n)
 spells n h = decimal_by_steps Spells one more n h
 
 all_alphanumeric : (ds : List ℕ) → list_all is_digit ds ≡ true → list_all is_alphanumeric ds ≡ true

@@ -1,20 +1,13 @@
 -- Tests, and runs of bytes that pass one.
-use Rattle.std.proofs.Common.{◌≡◌, ℕ, ◌&&◌, ◌||◌, Bool, true, false, cond, List, [], ◌∷◌, ◌++◌, length, refl, ◌∙◌, arith}
+use Rattle.std.proofs.Common.{◌≡◌, ℕ, ◌&&◌, Bool, true, false, cond, List, [], ◌∷◌, ◌++◌, length, refl, ◌∙◌, arith}
 use Rattle.std.specs.List.{list_all, prefix_len, take_while}
 use Rattle.std.proofs.Math.Seq.{take-append_seam}
 use Rattle.std.proofs.lemmas.List.Sums.{take_while-cons}
-
-pub and_parts : (a b : Bool) → a && b ≡ true → (a ≡ true) × (b ≡ true)
-and_parts true b h = (refl, h)
-and_parts false b h = cc
+use Rattle.std.proofs.lemmas.Bool.{and_parts}
 
 pub and_false : (a : Bool) → a && false ≡ false
 and_false true = refl
 and_false false = refl
-
-pub or_true : (a b : Bool) → b ≡ true → a || b ≡ true
-or_true true b h = refl
-or_true false b h = h
 
 -- what holds of both choices, under the test, holds of the chosen one
 pub by_test : {A : Type 0} (P : A → Type 0) (t : Bool) (x y : A) → (t ≡ true → P x) → (t ≡ false → P y) → P (cond t x y)
@@ -26,7 +19,7 @@ abbrev pub stops : (ℕ → Bool) → List ℕ → Type 0
 stops p [] = Unit {0}
 stops p (b ∷ bs) = p b ≡ false
 
-run_len : (p : ℕ → Bool) (run rest : List ℕ) → list_all p run ≡ true → stops p rest → prefix_len p (run ++ rest) ≡ length run
+pub run_len : (p : ℕ → Bool) (run rest : List ℕ) → list_all p run ≡ true → stops p rest → prefix_len p (run ++ rest) ≡ length run
 run_len p [] [] h s = refl
 run_len p [] (b ∷ bs) h s = rw s refl
 run_len p (b ∷ run) rest h s =

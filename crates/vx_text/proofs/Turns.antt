@@ -13,9 +13,9 @@ use Rattle.vx_text.specs.declared.first.First.TheVariants.{End, Gap, Found, Bad}
 use Rattle.vx_text.specs.Lex.{lex_from, by_first, with_front, token_at, Fails}
 use Rattle.vx_text.specs.declared.token.LexFail.TheVariants as fail
 
-none : (at : ℕ) → lex_from 0 at [] ≡ Ok []
+pub lex_nothing : (at : ℕ) → lex_from 0 at [] ≡ Ok []
 unfolding lex_from
-none at = refl
+lex_nothing at = refl
 
 -- bytes of a token are passed over
 pub lex_from-skip : (skip at : ℕ) (bytes : List ℕ) → lex_from skip at bytes ≡ lex_from 0 (at + skip) (drop skip bytes)
@@ -45,7 +45,7 @@ turn at line f h e =
     rw (e, rest_of at line, cut) (turn_cons at (get_or line at 0) (drop (suc at) line))
 
 pub turn_end : (at : ℕ) (line : List ℕ) → length line ≤ at → lex_from 0 at (drop at line) ≡ Ok []
-turn_end at line h = rw (drop_all at line h) (none at)
+turn_end at line h = rw (drop_all at line h) (lex_nothing at)
 
 pub with_front-front : (a b : List Token) (r : Result (List Token) LexFail) → with_front (a ++ b) r ≡ with_front a (with_front b r)
 with_front-front a b (Ok rest) = ap Ok (append_assoc a b rest)

@@ -1,6 +1,7 @@
 -- The classes of bytes, and numbers by their digits.
 use Rattle.std.specs.Prelude.{ℕ, ◌+◌, ◌-◌, ◌*◌, Bool, not, ◌&&◌, ◌||◌, ◌==◌, nat_le, nat_lt, List, length, if◌then◌else◌, Option, Some, None, fold}
 use Rattle.std.specs.List.{list_all}
+pub use Rattle.vx_base.specs.Name.{is_digit}
 
 abbrev pub is_lower : ℕ → Bool
 is_lower b = nat_le 97 b && nat_le b 122
@@ -11,9 +12,6 @@ to_upper b = if is_lower b then b - 32 else b
 
 abbrev pub is_letter : ℕ → Bool
 is_letter b = (nat_le 65 b && nat_le b 90) || is_lower b
-
-abbrev pub is_digit : ℕ → Bool
-is_digit b = nat_le 48 b && nat_le b 57
 
 -- 0 to 9, and A to F of either case
 abbrev pub is_hex_digit : ℕ → Bool

@@ -8,20 +8,21 @@ use Rattle.vx_base.specs.declared.record.Event.TheVariants as event
 use Rattle.vx_base.specs.declared.record.Rec.{Rec}
 use Rattle.vx_laws.specs.Items.{Item, Head, Did, flat, later, effects_left, record_end}
 use Rattle.vx_laws.specs.StatusLaw.{tells_earlier, waits_right}
-use Rattle.vx_judge.proofs.Passes.{effects_left_in, record_end_in}
 use Rattle.vx_judge.proofs.status.answers_right.Goals as goal
+use Rattle.vx_laws.proofs.Quotas.{effects_left_is}
+use Rattle.vx_laws.proofs.Tells.{record_end_is}
 
 -- what is told at the record's end
 at_end : (past : List Item) (p : Pid) (told : Option Cond) (w v : Option Wait) (es effects : List Effect) (more : List Rec) (r : Bool) →
     r ≡ waits_right (later past (map Did es)) p told w → w ≡ v → es ≡ effects → r ≡ waits_right (record_end past (map Did effects ++ flat more)) p told v
-at_end past p told w v es effects more r h k l = rw (record_end_in past effects more, ← l, ← k) h
+at_end past p told w v es effects more r h k l = rw (record_end_is past effects more, ← l, ← k) h
 
 pub returns-then-tells_earlier : goal.returns-then-tells_earlier
 returns-then-tells_earlier c = λ past more values waits.
     let s = c.in-Run-Service in
     let effects = c.args.rec.now.effects in
     let earlier : c.tells_earlier.result ≡ tells_earlier past s.p s.call.args s.c (effects_left (map Did effects ++ flat more)) s.call.service =
-    c.tells_earlier.ensures past values ∙ ap (λ es. tells_earlier past s.p s.call.args s.c es s.call.service) (c.as_slice-effects.ensures ∙ sym (effects_left_in effects more)) in
+    c.tells_earlier.ensures past values ∙ ap (λ es. tells_earlier past s.p s.call.args s.c es s.call.service) (c.as_slice-effects.ensures ∙ sym (effects_left_is effects more)) in
     let here = Head (event.Run s.p) (answer.Service s.call s.c) ∷ past in
     rw (s.is-0, s.is-1, ← earlier, c.if-tells_earlier.true)
     (at_end here s.p (Some s.c) c.wait_of.result _ c.as_slice-effects.result.now effects more c.waits_right.result (c.waits_right.ensures here values) c.wait_of.ensures c.as_slice-effects.ensures)
@@ -31,7 +32,7 @@ returns-else-tells_earlier c = λ past more values waits.
     let s = c.in-Run-Service in
     let effects = c.args.rec.now.effects in
     let earlier : c.tells_earlier.result ≡ tells_earlier past s.p s.call.args s.c (effects_left (map Did effects ++ flat more)) s.call.service =
-    c.tells_earlier.ensures past values ∙ ap (λ es. tells_earlier past s.p s.call.args s.c es s.call.service) (c.as_slice-effects.ensures ∙ sym (effects_left_in effects more)) in
+    c.tells_earlier.ensures past values ∙ ap (λ es. tells_earlier past s.p s.call.args s.c es s.call.service) (c.as_slice-effects.ensures ∙ sym (effects_left_is effects more)) in
     rw (s.is-0, s.is-1, ← earlier, c.if-tells_earlier.false) refl
 
 pub returns-in-Run-Wait : goal.returns-in-Run-Wait

@@ -1,8 +1,9 @@
 use Rattle.std.proofs.Common.{arith}
 use Rattle.vx_exec.proofs.Runs.{picked_there}
 use Rattle.vx_record.specs.Events.{enabled, step}
-use Rattle.vx_simulate.proofs.Simulated.{begun_writing, fewer_left, front_of_front, more_written, run_broken, run_written, some_front, some_lines, still_written}
+use Rattle.vx_simulate.proofs.Simulated.{begun_writing, front_of_front, more_written, run_broken, run_written, some_front, some_lines, still_written}
 use Rattle.vx_simulate.proofs.by_seed.write_journal.Goals as goal
+use Rattle.vx_simulate.proofs.Following.{left_falls}
 
 pub returns-in_err-write_all-clause-fault : goal.returns-in_err-write_all-clause-fault
 returns-in_err-write_all-clause-fault g c = λ e. front_of_front c.args.exec.now.state.system c.args.options _ _ c.args.front c.requires.within c.requires.front (rw c.as_slice.ensures at c.in_err-write_all.ensures.err)
@@ -33,7 +34,7 @@ pub returns-in_err-take_step-in-Some-pick-clause-no_memory : goal.returns-in_err
 returns-in_err-take_step-in-Some-pick-clause-no_memory g c = λ e. some_lines c.args.exec.now.state.system c.args.options c.steps.exec c.steps.next.x _ _ c.steps.pending c.requires.within c.steps.invariant.so_far
 
 pub steps-smaller : goal.steps-smaller
-steps-smaller g c = fewer_left c.steps.exec c.take_step.new.exec (step c.steps.exec.state c.in-Some-pick.event).after c.in_default.ensures c.in_ok-take_step-in-Some-pick.ensures.after
+steps-smaller g c = left_falls c.steps.exec c.take_step.new.exec (step c.steps.exec.state c.in-Some-pick.event).after c.in_default.ensures c.in_ok-take_step-in-Some-pick.ensures.after
 
 pub steps-preserved : goal.steps-preserved
 steps-preserved g c =

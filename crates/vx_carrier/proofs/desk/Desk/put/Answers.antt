@@ -1,9 +1,8 @@
-use Rattle.std.proofs.Common.{◌≡◌, List, ◌++◌, true, false, sym, subst, ◌∙◌}
+use Rattle.std.proofs.Common.{◌≡◌, List, ◌++◌, true, false, sym, subst, ◌∙◌, None}
 use Rattle.vx_base.specs.declared.record.Rec.{Rec}
 use Rattle.vx_carrier.specs.Desk.{Desk}
 use Rattle.vx_carrier.specs.Turns.{Gives, SawBeg}
 use Rattle.vx_carrier.specs.declared.turn.Turn.TheVariants.{Took, Stale, Ended}
-use Rattle.std.proofs.Common.{None}
 use Rattle.vx_carrier.proofs.Back.{back_enabled, back_gives, back_in, back_kept, back_room, don_kept, don_said, fits_back, stale_gives}
 use Rattle.vx_carrier.proofs.desk.Desk.put.Goals as goal
 

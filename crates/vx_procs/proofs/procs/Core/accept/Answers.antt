@@ -8,9 +8,9 @@ use Rattle.vx_record.specs.State.{State}
 use Rattle.vx_procs.specs.Kernel.{Kernel}
 use Rattle.vx_procs.specs.View.{state}
 use Rattle.vx_procs.proofs.Changed.{requests_alone}
-use Rattle.vx_procs.proofs.Ops.{mapped_some}
 use Rattle.vx_procs.proofs.Requested.{held_asked}
 use Rattle.vx_procs.proofs.procs.Core.accept.Goals as goal
+use Rattle.vx_record.proofs.Lists.{mapped_some}
 
 pub invariant_of-self : goal.invariant_of-self
 invariant_of-self g c =

@@ -12,10 +12,11 @@ use Rattle.vx_procs.specs.Kernel.{with_state}
 use Rattle.vx_procs.specs.Requests.{ended_if, promised_ast}
 use Rattle.vx_procs.specs.View.{kernel, process, state}
 use Rattle.vx_procs.specs.Words.{with_queued_if}
-use Rattle.vx_procs.proofs.Ops.{mapped_some, same_timers}
+use Rattle.vx_procs.proofs.Ops.{same_timers}
 use Rattle.vx_procs.proofs.Requested.{asked_in, charged_request, ended_as, held_ended, own_found, place_kept}
 use Rattle.vx_procs.proofs.Standing.{standing}
 use Rattle.vx_procs.proofs.procs.Core.finish_request.Goals as goal
+use Rattle.vx_record.proofs.Lists.{mapped_some}
 
 pub invariant_of-self : goal.invariant_of-self
 invariant_of-self g c = rw (same_timers (this_request c.args.id) c.self.inside.requests c.finish.new.self c.in_err-done.ensures.found c.in_err-done.ensures.after) c.self.invariant

@@ -5,11 +5,12 @@ use Rattle.vx_base.specs.Pieces.{Request}
 use Rattle.vx_base.specs.Queues.{front, is_served_by, waits_for}
 use Rattle.vx_base.specs.Roomy.{with_items}
 use Rattle.vx_reqs.specs.Places.{Place, AreFrom, IsOrdered, changed, holds, live}
-use Rattle.vx_reqs.specs.Requests.{Requests, as_served}
+use Rattle.vx_reqs.specs.Requests.{Requests}
 use Rattle.vx_reqs.proofs.Live.{amend_live, any_live, none_any, same_room}
 use Rattle.vx_reqs.proofs.Turns.{begun_none, begun_some}
 use Rattle.vx_reqs.proofs.Waiting.{reads_changed}
 use Rattle.vx_reqs.proofs.reqs.Reqs.begin.Goals as goal
+use Rattle.vx_record.specs.Requests.{taken_up}
 
 pub returns-in_err-front-clause-after : goal.returns-in_err-front-clause-after
 returns-in_err-front-clause-after g c =
@@ -23,7 +24,7 @@ settle_unit-requires g c = λ rising.
     let u = c.args.u in
     let places = c.self.inside.places.items in
     let place : c.place_waiting-place.result ≡ position (holds (waits_for u)) places = c.place_waiting-place.ensures.place in
-    let after : c.serve_at.new.places.items ≡ amend (holds (waits_for u)) (changed as_served) places = c.serve_at.ensures.after (waits_for u) place in
+    let after : c.serve_at.new.places.items ≡ amend (holds (waits_for u)) (changed taken_up) places = c.serve_at.ensures.after (waits_for u) place in
     let some : Some c.in_ok-front.field-0.now ≡ front u (live places) = ap (option_map (λ (o : Bor Request). o.now)) (sym c.in_ok-front.was) ∙ c.front.ensures in
     let taken = begun_some u (live places) c.in_ok-front.field-0.now some in
     let first : c.id_at-first.result ≡ option_map (λ (y : Place). y.id) (find (holds (waits_for u)) places) =
@@ -37,11 +38,11 @@ invariant_of-self g c =
     let u = c.args.u in
     let places = c.self.inside.places.items in
     let place : c.place_waiting-place.result ≡ position (holds (waits_for u)) places = c.place_waiting-place.ensures.place in
-    let after : c.serve_at.new.places.items ≡ amend (holds (waits_for u)) (changed as_served) places = c.serve_at.ensures.after (waits_for u) place in
+    let after : c.serve_at.new.places.items ≡ amend (holds (waits_for u)) (changed taken_up) places = c.serve_at.ensures.after (waits_for u) place in
     let order = c.settle_unit.new.order in
     record {
       order = c.settle_unit.ensures;
-      waiting = subst (λ (xs : List Place). AreFrom c.self.inside.reads.from xs) (sym after) (reads_changed as_served (λ r. refl) (holds (waits_for u)) places c.self.inside.reads.from c.self.invariant.waiting);
+      waiting = subst (λ (xs : List Place). AreFrom c.self.inside.reads.from xs) (sym after) (reads_changed taken_up (λ r. refl) (holds (waits_for u)) places c.self.inside.reads.from c.self.invariant.waiting);
     }
 
 pub returns-clause-after : goal.returns-clause-after
@@ -49,7 +50,7 @@ returns-clause-after g c =
     let u = c.args.u in
     let places = c.self.inside.places.items in
     let place : c.place_waiting-place.result ≡ position (holds (waits_for u)) places = c.place_waiting-place.ensures.place in
-    let after : c.serve_at.new.places.items ≡ amend (holds (waits_for u)) (changed as_served) places = c.serve_at.ensures.after (waits_for u) place in
+    let after : c.serve_at.new.places.items ≡ amend (holds (waits_for u)) (changed taken_up) places = c.serve_at.ensures.after (waits_for u) place in
     let some : Some c.in_ok-front.field-0.now ≡ front u (live places) = ap (option_map (λ (o : Bor Request). o.now)) (sym c.in_ok-front.was) ∙ c.front.ensures in
     let taken = begun_some u (live places) c.in_ok-front.field-0.now some in
-    rw (← c.self.view_is) (same_room (ap live after ∙ amend_live (waits_for u) as_served places ∙ taken.1) c.serve_at.ensures.capacity)
+    rw (← c.self.view_is) (same_room (ap live after ∙ amend_live (waits_for u) taken_up places ∙ taken.1) c.serve_at.ensures.capacity)

@@ -2,15 +2,15 @@ use Rattle.std.proofs.Common.{◌≡◌, ◌∙◌, List, None, Some, position, 
 use Rattle.std.specs.List.{find}
 use Rattle.vx_base.specs.Lists.{amend}
 use Rattle.vx_reqs.specs.Places.{Place, AreFrom, IsOrdered, emptied, holds, live}
-use Rattle.vx_reqs.specs.Requests.{has_id}
 use Rattle.vx_reqs.proofs.Live.{less_live, same_room}
 use Rattle.vx_reqs.proofs.Ordered.{ordered_emptied}
 use Rattle.vx_reqs.proofs.Waiting.{reads_emptied}
 use Rattle.vx_reqs.proofs.reqs.Reqs.finish.Goals as goal
+use Rattle.vx_record.specs.Finish.{this_request}
 
 pub invariant_of-self : goal.invariant_of-self
 invariant_of-self g c =
-    let test = has_id c.args.id in
+    let test = this_request c.args.id in
     let places = c.self.inside.places.items in
     let place : c.place_of_id-place.result ≡ position (holds test) places = c.place_of_id-place.ensures.place in
     let after : c.take_at.new.places.items ≡ amend (holds test) emptied places = c.take_at.ensures.after test place in
@@ -23,7 +23,7 @@ invariant_of-self g c =
 
 pub returns-in_err-done-clause-found : goal.returns-in_err-done-clause-found
 returns-in_err-done-clause-found g c =
-    let test = has_id c.args.id in
+    let test = this_request c.args.id in
     let places = c.self.inside.places.items in
     let place : c.place_of_id-place.result ≡ position (holds test) places = c.place_of_id-place.ensures.place in
     let none : None ≡ find test (live places) = sym c.in_err-done.was ∙ c.take_at.ensures.found test place in
@@ -31,7 +31,7 @@ returns-in_err-done-clause-found g c =
 
 pub returns-in_err-done-clause-after : goal.returns-in_err-done-clause-after
 returns-in_err-done-clause-after g c =
-    let test = has_id c.args.id in
+    let test = this_request c.args.id in
     let places = c.self.inside.places.items in
     let place : c.place_of_id-place.result ≡ position (holds test) places = c.place_of_id-place.ensures.place in
     let after : c.take_at.new.places.items ≡ amend (holds test) emptied places = c.take_at.ensures.after test place in
@@ -39,7 +39,7 @@ returns-in_err-done-clause-after g c =
 
 pub settle-requires : goal.settle-requires
 settle-requires g c = λ rising.
-    let test = has_id c.args.id in
+    let test = this_request c.args.id in
     let places = c.self.inside.places.items in
     let place : c.place_of_id-place.result ≡ position (holds test) places = c.place_of_id-place.ensures.place in
     let after : c.take_at.new.places.items ≡ amend (holds test) emptied places = c.take_at.ensures.after test place in
@@ -48,7 +48,7 @@ settle-requires g c = λ rising.
 
 pub settle_reads-requires-clause-reads : goal.settle_reads-requires-clause-reads
 settle_reads-requires-clause-reads g c =
-    let test = has_id c.args.id in
+    let test = this_request c.args.id in
     let places = c.self.inside.places.items in
     let place : c.place_of_id-place.result ≡ position (holds test) places = c.place_of_id-place.ensures.place in
     let after : c.take_at.new.places.items ≡ amend (holds test) emptied places = c.take_at.ensures.after test place in
@@ -56,7 +56,7 @@ settle_reads-requires-clause-reads g c =
 
 pub invariant_of-self-2 : goal.invariant_of-self-2
 invariant_of-self-2 g c =
-    let test = has_id c.args.id in
+    let test = this_request c.args.id in
     let places = c.self.inside.places.items in
     let place : c.place_of_id-place.result ≡ position (holds test) places = c.place_of_id-place.ensures.place in
     let after : c.take_at.new.places.items ≡ amend (holds test) emptied places = c.take_at.ensures.after test place in
@@ -69,7 +69,7 @@ invariant_of-self-2 g c =
 
 pub returns-clause-found : goal.returns-clause-found
 returns-clause-found g c =
-    let test = has_id c.args.id in
+    let test = this_request c.args.id in
     let places = c.self.inside.places.items in
     let place : c.place_of_id-place.result ≡ position (holds test) places = c.place_of_id-place.ensures.place in
     let some : Some c.in_ok-done.done ≡ find test (live places) = sym c.in_ok-done.was ∙ c.take_at.ensures.found test place in
@@ -77,7 +77,7 @@ returns-clause-found g c =
 
 pub returns-clause-after : goal.returns-clause-after
 returns-clause-after g c =
-    let test = has_id c.args.id in
+    let test = this_request c.args.id in
     let places = c.self.inside.places.items in
     let place : c.place_of_id-place.result ≡ position (holds test) places = c.place_of_id-place.ensures.place in
     let after : c.take_at.new.places.items ≡ amend (holds test) emptied places = c.take_at.ensures.after test place in

@@ -1,0 +1,15 @@
+-- Lines and words, joined and apart.
+use Rattle.std.specs.Prelude.{ℕ, List, [], ◌∷◌, ◌++◌, flat_map}
+
+-- lines, each with a line feed at its end
+abbrev pub ended_lines : List (List ℕ) → List ℕ
+ended_lines lines = flat_map (λ line. line ++ 10 ∷ []) lines
+
+-- words, each behind a space
+abbrev pub spaced : List (List ℕ) → List ℕ
+spaced words = flat_map (λ word. 32 ∷ word) words
+
+-- a byte in front of the first line
+abbrev pub onto_first : ℕ → List (List ℕ) → List (List ℕ)
+onto_first b [] = (b ∷ []) ∷ []
+onto_first b (line ∷ lines) = (b ∷ line) ∷ lines
