@@ -1,10 +1,10 @@
--- What each service opens, and for whom; what else happens opens nothing.
+-- What each service opens, and for whom; what else happens opens nothing, and only rundown lets a process go.
 use Rattle.std.proofs.Common.{◌≡◌, ℕ, ◌%◌, ◌^◌, List, [], ◌∷◌, ◌++◌, Bool, true, false, cond, not, ◌&&◌, ◌||◌, ◌==◌, nat_lt, nat_le, length, Option, Some, None, Result, Ok, Err, position, is_none, refl, sym, ◌∙◌}
 use Rattle.std.specs.List.{AllByRecursion, filter, find, list_any}
 use Rattle.vx_base.specs.Channels.{channel_at, channels_of}
 use Rattle.vx_base.specs.Clusters.{Change, cluster_number, associated, dissociated, marked, is_cluster}
 use Rattle.vx_base.specs.Modes.{outer, is_kernel}
-use Rattle.vx_base.specs.Pieces.{Channel, Handler, Request, Promised, Timer, Alarm, OfTimer, OfWake, Attention, Mailbox, cleared}
+use Rattle.vx_base.specs.Pieces.{Channel, Handler, Request, Promised, Timer, Alarm, OfTimer, OfWake, Attention, Mailbox, cleared, Queued}
 use Rattle.vx_base.specs.declared.call.Args.{Args}
 use Rattle.vx_base.specs.declared.call.Target.{Target}
 use Rattle.vx_base.specs.declared.cond.Cond.{Cond}
@@ -28,7 +28,7 @@ use Rattle.vx_base.specs.declared.request.Msg.{Msg}
 use Rattle.vx_base.specs.declared.routine.Entry.{Entry}
 use Rattle.vx_base.specs.declared.service.Service.{Service}
 use Rattle.vx_base.specs.declared.service.Service.TheVariants.{SetEf, ClrEf, ReadEf, WaitFr, WflOr, WflAnd, AscEfc, DacEfc, DlcEfc, DclAst, SetAst, CmExec, CmKrnl, SetImr, CanTim, SchdWk, CanWak, Hiber, Wake, Suspnd, Resume, ForceX, CrePrc, DelPrc, Exit, DclExh, CanExh, Assign, Dassgn, CreMbx, DelMbx, Qio, QioW, Synch, Cancel, GetTim}
-use Rattle.vx_record.specs.State.{State, process_at, change, current}
+use Rattle.vx_record.specs.State.{State, process_at, change, current, unit_at}
 use Rattle.vx_record.specs.Parts.{Part, Outcome, nothing, each, refused, refused_value, at_tested, part_of, and_then}
 use Rattle.vx_record.specs.Flags.{cell, flag_where_named, at_named, at_flag, put_flag_at, readef_at, readef, refused_wait, wait_condition, awaited_at, waits_on, is_common, wants_prmceb, flag_part}
 use Rattle.vx_record.specs.Asts.{is_inside}
@@ -37,10 +37,10 @@ use Rattle.vx_record.specs.Finish.{Ending, ending, is_read, fin_part, buf_part, 
 use Rattle.vx_record.specs.Mailboxes.{mailbox_at, is_waiting_func, waits_at, this_message, mput_part, mget_part, mcut_part, read_ending, write_ending, received, write_done, is_attention_at, fire_attention, call_attention, store_message, hand_over, write_box, take_message, read_box, is_answered_now, attend, message_of}
 use Rattle.vx_record.specs.Channels.{channel_test, device_named, with_channel, free_channel_of, assign_at, assign_to, assign, is_bad_box, new_box, box_named, make_box, make_box_in, find_or_create, crembx, marked_box, delmbx_on, delmbx_at, is_assigned, goes_unused, box_gone, swept_device, swept_box, free_channel}
 use Rattle.vx_record.specs.Cancel.{mark_part, withdraw, cancelled_request, cancel_request, is_request_on, is_attention_on, drop_attention, cancel_channel, cancel_at, dassgn_at}
-use Rattle.vx_record.specs.Requests.{begun_on, Asked, new_request, cleared_part, transfer, new_attention, attention_opened, attention_set, attention_on, accepted, done_at_once, request_test, qio_tested, qiow_tested}
+use Rattle.vx_record.specs.Requests.{begun_on, Asked, new_request, cleared_part, transfer, new_attention, attention_opened, attention_set, attention_on, accepted, done_at_once, request_test, qio_tested, qiow_tested, unit_ending, with_unit}
 use Rattle.vx_record.specs.Control.{process_test, changed_process, with_wake, with_suspension, forced, creprc}
 use Rattle.vx_record.specs.Timers.{drop_timer, drop_timers, setimr_at, scheduled, is_wake_for, unscheduled, que_timer, fired, fire, is_due, at_time, next_time, tick}
-use Rattle.vx_record.specs.Rundown.{leave_kind, leave_frame, leave_all, exited, is_handler_of, is_handler_with, drop_handler, drop_handlers, any_handler, cancel_found, cancel_handlers, named_for_deletion, deleted_by, cancel_one, free_one, is_timer_in, is_wake_by, cancel_modes, drop_ast, drop_asts, is_ast_reached, part_with, release}
+use Rattle.vx_record.specs.Rundown.{leave_kind, leave_frame, leave_all, exited, is_handler_of, is_handler_with, drop_handler, drop_handlers, any_handler, cancel_found, cancel_handlers, named_for_deletion, deleted_by, cancel_one, free_one, is_timer_in, is_wake_by, cancel_modes, drop_ast, drop_asts, is_ast_reached, part_with, release, is_busy, drain, cancelled_in, run_handlers, handling, run_down, inner_modes, rundown_from, without_ast}
 use Rattle.vx_record.specs.Services.{number, place, access_mode, text, routine_or_none, decl_place, valued_at, numbered_at, service_of, asked}
 use Rattle.vx_record.proofs.Lists.{all_append, all_weaker, either, either_by}
 use Rattle.vx_record.proofs.Moves.{is_clusters}
@@ -48,17 +48,26 @@ use Rattle.vx_record.proofs.Apart.{associated_only, dissociated_only, marked_at_
 use Rattle.vx_base.specs.declared.effects.Opened.{Opened}
 use Rattle.vx_base.specs.declared.effects.Opened.TheVariants as opened
 use Rattle.vx_laws.specs.Lives.{is_wake}
+use Rattle.vx_base.specs.declared.frame.Phase.{Phase}
+use Rattle.vx_base.specs.declared.frame.Phase.TheVariants as phase
+use Rattle.vx_base.specs.declared.record.Answer.{Answer}
+use Rattle.vx_laws.specs.StatusLaw.{is_asked}
+use Rattle.vx_base.specs.Serving.{serve, settled}
+use Rattle.vx_base.specs.declared.number.UnitNo.{UnitNo}
+use Rattle.vx_base.specs.declared.routine.Entry.TheVariants as entry
+use Rattle.vx_record.specs.Events.{returned, returned_from, r0_of, started, delivered, beg, don}
 
--- which openings a test allows, by kind and process
-abbrev pub Test : Type 0
-Test = Opened → Pid → Bool
+-- which openings are allowed, by kind and process, and whether a process may be gone
+pub record Test : Type 0 where
+  pub opens : Opened → Pid → Bool
+  pub gone : Bool
 
 abbrev pub is_allowed : Test → Effect → Bool
-is_allowed ok (effect.Open id k p mode n) = ok k p
-is_allowed ok (effect.Gone p) = false
+is_allowed ok (effect.Open id k p mode n) = ok.opens k p
+is_allowed ok (effect.Gone p) = ok.gone
 is_allowed ok x = true
 
--- nothing else is opened, and no process is gone
+-- nothing else happens
 pub record Allowed (ok : Test) (es : List Effect) : Type 0 where
   pub all : AllByRecursion (λ x. is_allowed ok x ≡ true) es
 
@@ -291,6 +300,54 @@ cancel_modes_allowed s p m =
     let b = (drop_timers (is_timer_in p m) a).after in
     join (join (each_allowed (cancel_one p) (λ t n. cancel_allowed t p n) ns s) (timers_allowed a (is_timer_in p m))) (timers_allowed b (is_wake_by p))
 
+drain_allowed : {ok : Test} (s : State) (p : Pid) (m : Mode) (next : State → Outcome Answer) → ((t : State) → Allowed ok (next t).effects) → Allowed ok (drain p m next s).effects
+drain_allowed s p m next k = of_two (is_busy s p m) _ _ nil (join (release_allowed s p m) (k (release s p m).after))
+
+run_handlers_allowed : {ok : Test} (s : State) (p : Pid) (m : Mode) (next : State → Outcome Answer) (o : Option Handler) → ((t : State) → Allowed ok (next t).effects) → Allowed ok (run_handlers s p m next o).effects
+run_handlers_allowed s p m next None k = join (join (cancel_modes_allowed s p m) nil) (drain_allowed (cancelled_in s p m).after p m next k)
+run_handlers_allowed s p m next (Some d) k = one (effect.Enter d.id) refl
+
+run_down_allowed : {ok : Test} → ok.gone ≡ true → (ms : List Mode) (p : Pid) (s : State) → Allowed ok (run_down p ms s).effects
+run_down_allowed g [] p s =
+    let a = (drop_handlers s p any_handler).after in
+    join (join (handlers_allowed s p any_handler) (timers_allowed a (is_wake_for p))) (one (effect.Gone p) g)
+run_down_allowed g (m ∷ ms) p s = run_handlers_allowed (handling p m s) p m (run_down p ms) (find (is_handler_of m) (process_at s p).handlers) (λ t. run_down_allowed g ms p t)
+
+pub rundown_allowed : {ok : Test} → ok.gone ≡ true → (s : State) (p : Pid) (ph : Phase) → Allowed ok (rundown_from p ph s).effects
+rundown_allowed g s p (phase.Handlers m) = run_down_allowed g (m ∷ inner_modes m) p s
+rundown_allowed g s p (phase.Draining m) = drain_allowed s p m (run_down p (inner_modes m)) (λ t. run_down_allowed g (inner_modes m) p t)
+rundown_allowed g s p phase.Alive = nil
+rundown_allowed g s p phase.Deleted = nil
+
+-- Leaving and starting; units.
+
+pub returned_allowed : {ok : Test} (s : State) (p : Pid) (frames : List Frame) → Allowed ok (returned s p frames).effects
+returned_allowed s p [] = nil
+returned_allowed {ok} s p (f ∷ fs) = by_kind f.kind
+  where
+    by_kind : (x : FrameKind) → Allowed ok (returned_from s p f x).effects
+    by_kind kind.Main = exited_allowed s p (r0_of s p)
+    by_kind (kind.Ast id) = one (effect.Leave id) refl
+    by_kind kind.Change = nil
+    by_kind kind.Handler = nil
+
+pub started_allowed : {ok : Test} (s : State) (p : Pid) (q : Queued) (tag : Entry) → Allowed ok (started s p q tag).effects
+started_allowed s p q (entry.Exit code) = join (one (effect.Leave q.id) refl) (exited_allowed s p code)
+started_allowed s p q (entry.Label k prm) = nil
+started_allowed s p q (entry.Host prm) = nil
+
+pub delivered_allowed : {ok : Test} (s : State) (p : Pid) (o : Option Queued) → Allowed ok (delivered s p o).effects
+delivered_allowed s p None = nil
+delivered_allowed s p (Some q) = started_allowed (change s p (without_ast q.id)) p q q.tag
+
+pub beg_allowed : {ok : Test} (s : State) (o : Option Request) → Allowed ok (beg s o).effects
+beg_allowed s None = nil
+beg_allowed s (Some r) = nil
+
+pub don_allowed : {ok : Test} (s : State) (u : UnitNo) (o : Option Request) → Allowed ok (don s u o).effects
+don_allowed s u None = nil
+don_allowed s u (Some r) = finish_allowed (with_unit s u (settled (unit_at s u) r.req)) r (unit_ending r (serve (unit_at s u) r.req).reply)
+
 -- Services.
 
 valued_allowed : {ok : Test} (s : State) (p : Pid) (t : Target) (part : Part) (r : Result (Cond × ℕ) Cond) → Allowed ok part.effects → Allowed ok (valued_at p t part r).effects
@@ -303,7 +360,7 @@ numbered_allowed s p t part (Err c) k = k
 
 -- Requests.
 
-attention_set_allowed : {ok : Test} (s : State) (p : Pid) (q : Asked) (a : Attention) → ok opened.Attn p ≡ true → Allowed ok (attention_set s p q a).effects
+attention_set_allowed : {ok : Test} (s : State) (p : Pid) (q : Asked) (a : Attention) → ok.opens opened.Attn p ≡ true → Allowed ok (attention_set s p q a).effects
 attention_set_allowed {ok} s p q a own =
     let b = (attention_opened s p q a).after in
     let c = (iosb_part b p q.iosb done_at_once).after in
@@ -311,17 +368,17 @@ attention_set_allowed {ok} s p q a own =
     let iosb : Allowed ok (iosb_part b p q.iosb done_at_once).effects = part_of_two (not (q.iosb == 0)) _ (nothing b) (one (effect.Iosb p q.iosb done_at_once.cond 0 0) refl) nil in
     join (join (one _ own) iosb) (join (flag_allowed c (cell c p q.efn) true) (attend_allowed d a))
 
-attention_on_allowed : {ok : Test} (s : State) (p : Pid) (q : Asked) (d : Device) (o : Option Entry) → ok opened.Attn p ≡ true → Allowed ok (attention_on s p q d o).effects
+attention_on_allowed : {ok : Test} (s : State) (p : Pid) (q : Asked) (d : Device) (o : Option Entry) → ok.opens opened.Attn p ≡ true → Allowed ok (attention_on s p q d o).effects
 attention_on_allowed s p q (device.Unit u) o own = nil
 attention_on_allowed s p q (device.Mailbox b) None own = nil
 attention_on_allowed s p q (device.Mailbox b) (Some tag) own = attention_set_allowed s p q (new_attention s p q b tag) own
 
-transfer_allowed : {ok : Test} (s : State) (p : Pid) (q : Asked) (ch : Channel) → ok opened.Dio p ≡ true → ok opened.Bio p ≡ true → Allowed ok (transfer s p q ch).effects
+transfer_allowed : {ok : Test} (s : State) (p : Pid) (q : Asked) (ch : Channel) → ok.opens opened.Dio p ≡ true → ok.opens opened.Bio p ≡ true → Allowed ok (transfer s p q ch).effects
 transfer_allowed {ok} s p q ch dio bio =
     let r = new_request s p q ch in
     either (λ (x : Part). Allowed ok (and_then x (λ a. begun_on a r ch.device)).effects) (is_direct s ch.device) _ _ (join (one _ dio) (begun_allowed _ r ch.device)) (join (one _ bio) (begun_allowed _ r ch.device))
 
-accepted_allowed : {ok : Test} (s : State) (p : Pid) (q : Asked) (cl : Cell) (ch : Channel) → ((k : Opened) → is_wake k ≡ false → ok k p ≡ true) → Allowed ok (accepted s p q cl ch).effects
+accepted_allowed : {ok : Test} (s : State) (p : Pid) (q : Asked) (cl : Cell) (ch : Channel) → ((k : Opened) → is_wake k ≡ false → ok.opens k p ≡ true) → Allowed ok (accepted s p q cl ch).effects
 accepted_allowed {ok} s p q cl ch own =
     let b = (flag_part s cl false).after in
     let t = (cleared_part s p q cl).after in
@@ -330,7 +387,7 @@ accepted_allowed {ok} s p q cl ch own =
     (part_of_two (is_attention q.func) (attention_on t p q ch.device q.ast) (transfer t p q ch) (attention_on_allowed t p q ch.device q.ast (own opened.Attn refl)) (transfer_allowed t p q ch (own opened.Dio refl) (own opened.Bio refl)))
 
 -- of a request that is none for attention
-pub transferred_allowed : {ok : Test} (s : State) (p : Pid) (q : Asked) (cl : Cell) (ch : Channel) → is_attention q.func ≡ false → ok opened.Dio p ≡ true → ok opened.Bio p ≡ true → Allowed ok (accepted s p q cl ch).effects
+pub transferred_allowed : {ok : Test} (s : State) (p : Pid) (q : Asked) (cl : Cell) (ch : Channel) → is_attention q.func ≡ false → ok.opens opened.Dio p ≡ true → ok.opens opened.Bio p ≡ true → Allowed ok (accepted s p q cl ch).effects
 transferred_allowed {ok} s p q cl ch plain dio bio =
     let b = (flag_part s cl false).after in
     let t = (cleared_part s p q cl).after in
@@ -338,28 +395,34 @@ transferred_allowed {ok} s p q cl ch plain dio bio =
     join (join (one (effect.Flag cl false) refl) iosb)
     (either_by (λ (x : Part). Allowed ok x.effects) (is_attention q.func) (attention_on t p q ch.device q.ast) (transfer t p q ch) (λ e. absurd (let never : true ≡ false = sym e ∙ plain in cc)) (λ n. transfer_allowed t p q ch dio bio))
 
-qio_allowed : {ok : Test} (s : State) (p : Pid) (q : Asked) (r : Result (Cell × Channel) Cond) → ((k : Opened) → is_wake k ≡ false → ok k p ≡ true) → Allowed ok (qio_tested s p q r).effects
+qio_allowed : {ok : Test} (s : State) (p : Pid) (q : Asked) (r : Result (Cell × Channel) Cond) → ((k : Opened) → is_wake k ≡ false → ok.opens k p ≡ true) → Allowed ok (qio_tested s p q r).effects
 qio_allowed s p q (Err c) own = nil
 qio_allowed s p q (Ok to) own = accepted_allowed s p q to.0 to.1 own
 
-qiow_allowed : {ok : Test} (s : State) (p : Pid) (q : Asked) (r : Result (Cell × Channel) Cond) → ((k : Opened) → is_wake k ≡ false → ok k p ≡ true) → Allowed ok (qiow_tested s p q r).effects
+qiow_allowed : {ok : Test} (s : State) (p : Pid) (q : Asked) (r : Result (Cell × Channel) Cond) → ((k : Opened) → is_wake k ≡ false → ok.opens k p ≡ true) → Allowed ok (qiow_tested s p q r).effects
 qiow_allowed s p q (Err c) own = nil
 qiow_allowed s p q (Ok to) own =
     let u = (accepted s p q to.0 to.1).after in
     let w = wait.Synch q.efn q.iosb in
     join (accepted_allowed s p q to.0 to.1 own) (awaited_allowed u p w (wait_condition u p w))
 
--- what a service may open: for its caller anything but a wake; a forced exit and a wake where its test finds the process
-pub record MayOpen (ok : Test) (s : State) (p : Pid) (a : Args) (v : Service) : Type 0 where
-  pub own : (k : Opened) → is_wake k ≡ false → ok k p ≡ true
-  pub force : v ≡ ForceX → (q : Pid) → process_test s p (number a.a0) ≡ Ok q → ok opened.Force q ≡ true
-  pub wake : v ≡ SchdWk → (q : Pid) → process_test s p (number a.a0) ≡ Ok q → ok opened.Wake p ≡ true
+abbrev pub is_qio : Service → Bool
+is_qio Qio = true
+is_qio QioW = true
+is_qio v = false
 
-forced_allowed : {ok : Test} (s : State) (p : Pid) (a : Args) (r : Result Pid Cond) → process_test s p (number a.a0) ≡ r → ((q : Pid) → process_test s p (number a.a0) ≡ Ok q → ok opened.Force q ≡ true) → Allowed ok (at_tested s (forced s (number a.a1)) r).effects
+-- what a service may open: for its caller anything but a wake, and what is asked of a device only if it is $QIO or $QIOW; a forced exit and a wake where its test finds
+-- the process
+pub record MayOpen (ok : Test) (s : State) (p : Pid) (a : Args) (v : Service) : Type 0 where
+  pub own : (k : Opened) → is_wake k ≡ false → (is_asked k ≡ true → is_qio v ≡ true) → ok.opens k p ≡ true
+  pub force : v ≡ ForceX → (q : Pid) → process_test s p (number a.a0) ≡ Ok q → ok.opens opened.Force q ≡ true
+  pub wake : v ≡ SchdWk → (q : Pid) → process_test s p (number a.a0) ≡ Ok q → ok.opens opened.Wake p ≡ true
+
+forced_allowed : {ok : Test} (s : State) (p : Pid) (a : Args) (r : Result Pid Cond) → process_test s p (number a.a0) ≡ r → ((q : Pid) → process_test s p (number a.a0) ≡ Ok q → ok.opens opened.Force q ≡ true) → Allowed ok (at_tested s (forced s (number a.a1)) r).effects
 forced_allowed s p a (Err c) is may = nil
 forced_allowed s p a (Ok q) is may = join (one _ (may q is)) (one _ refl)
 
-scheduled_allowed : {ok : Test} (s : State) (p : Pid) (a : Args) (r : Result Pid Cond) → process_test s p (number a.a0) ≡ r → ((q : Pid) → process_test s p (number a.a0) ≡ Ok q → ok opened.Wake p ≡ true) → Allowed ok (at_tested s (scheduled s p (number a.a1) (number a.a2)) r).effects
+scheduled_allowed : {ok : Test} (s : State) (p : Pid) (a : Args) (r : Result Pid Cond) → process_test s p (number a.a0) ≡ r → ((q : Pid) → process_test s p (number a.a0) ≡ Ok q → ok.opens opened.Wake p ≡ true) → Allowed ok (at_tested s (scheduled s p (number a.a1) (number a.a2)) r).effects
 scheduled_allowed s p a (Err c) is may = nil
 scheduled_allowed s p a (Ok q) is may = of_two (exceeds s p (ast_need true)) _ _ nil (one _ (may q is))
 
@@ -375,13 +438,13 @@ service_allowed s p a AscEfc e =
     of_two (not (is_common (number a.a0))) _ _ nil (of_two (wants_prmceb s (process_at s p) (text a.a1) (number a.a2)) _ _ nil (only_allowed c (associated_only s.common p (cluster_number (number a.a0)) (process_at s p).group (text a.a1) (not (number a.a2 == 0)))))
 service_allowed s p a DacEfc e = of_two (not (is_common (number a.a0))) _ _ nil (only_allowed (dissociated s.common p (cluster_number (number a.a0))) (dissociated_only s.common p (cluster_number (number a.a0))))
 service_allowed s p a DlcEfc e = of_two (not (process_at s p).privs.prmceb) _ _ nil (only_allowed (marked s.common (process_at s p).group (text a.a0)) (marked_at_only s.common (find (is_cluster (process_at s p).group (text a.a0)) s.common.clusters)))
-service_allowed s p a DclAst e = of_two (exceeds s p (ast_need true)) _ _ nil (join (one _ (e.own opened.Ast refl)) (one _ refl))
+service_allowed s p a DclAst e = of_two (exceeds s p (ast_need true)) _ _ nil (join (one _ (e.own opened.Ast refl (λ i. absurd (let never : false ≡ true = i in cc)))) (one _ refl))
 service_allowed s p a SetAst e = one _ refl
 service_allowed s p a CmExec e = of_two (is_inside (current s p) || ((process_at s p).privs.cmexec || (process_at s p).privs.cmkrnl)) _ _ nil nil
 service_allowed s p a CmKrnl e = of_two (is_inside (current s p) || (process_at s p).privs.cmkrnl) _ _ nil nil
 service_allowed s p a SetImr e =
     let tag = routine_or_none s p a.a2 (number a.a3) in
-    at_flag_allowed s p (number a.a0) (refused s) (setimr_at s p (number a.a0) (number a.a1) tag (number a.a3)) (λ c. nil) (λ c. of_two (exceeds s p (timer_need (Rattle.std.specs.Prelude.is_some tag))) _ _ nil (join (one _ refl) (one _ (e.own opened.Timer refl))))
+    at_flag_allowed s p (number a.a0) (refused s) (setimr_at s p (number a.a0) (number a.a1) tag (number a.a3)) (λ c. nil) (λ c. of_two (exceeds s p (timer_need (Rattle.std.specs.Prelude.is_some tag))) _ _ nil (join (one _ refl) (one _ (e.own opened.Timer refl (λ i. absurd (let never : false ≡ true = i in cc))))))
 service_allowed s p a CanTim e = timers_allowed s _
 service_allowed s p a SchdWk e = scheduled_allowed s p a (process_test s p (number a.a0)) refl (e.wake refl)
 service_allowed s p a CanWak e = tested_allowed s (unscheduled s) (process_test s p (number a.a0)) (λ q. timers_allowed s (is_wake_for q))
@@ -393,7 +456,7 @@ service_allowed s p a ForceX e = forced_allowed s p a (process_test s p (number 
 service_allowed s p a CrePrc e = let o = creprc s p (decl_place s (text a.a1)) in numbered_allowed s p (place a.a0) (part_of o) o.answer (of_two (nat_le 1000 (length s.procs)) _ _ nil (one _ refl))
 service_allowed s p a DelPrc e = tested_allowed s (deleted_by s) (process_test s p (number a.a0)) (λ q. deleted_allowed s q)
 service_allowed s p a Exit e = exited_allowed s p (number a.a0)
-service_allowed s p a DclExh e = of_two (is_kernel (current s p)) _ _ nil (one _ (e.own opened.Exh refl))
+service_allowed s p a DclExh e = of_two (is_kernel (current s p)) _ _ nil (one _ (e.own opened.Exh refl (λ i. absurd (let never : false ≡ true = i in cc))))
 service_allowed s p a CanExh e = of_two (is_kernel (current s p)) _ _ nil (cancel_handlers_allowed s p (routine_or_none s p a.a0 0))
 service_allowed s p a Assign e = let o = assign s p (text a.a1) (access_mode a.a2) in numbered_allowed s p (place a.a0) (part_of o) o.answer (assign_to_allowed s p (outer (access_mode a.a2) (current s p)) (device_named s (text a.a1)))
 service_allowed s p a Dassgn e = tested_allowed s (dassgn_at s p (number a.a0)) (channel_test s p (number a.a0)) (λ ch. join (cancel_allowed s p (number a.a0)) (free_allowed (cancel_channel s p (number a.a0)).after p (number a.a0)))
@@ -401,10 +464,31 @@ service_allowed s p a CreMbx e =
     let o = crembx s p (text a.a1) (number a.a2) (number a.a3) (number a.a4) (access_mode a.a5) in
     numbered_allowed s p (place a.a0) (part_of o) o.answer (of_two (is_bad_box s (text a.a1) (number a.a3) (number a.a4)) _ _ nil (create_allowed s p (outer (access_mode a.a5) (current s p)) (new_box (text a.a1) (number a.a2) (number a.a3) (number a.a4)) (box_named s (text a.a1))))
 service_allowed s p a DelMbx e = tested_allowed s (delmbx_at s p) (channel_test s p (number a.a0)) (λ ch. delmbx_allowed s p ch.device)
-service_allowed s p a Qio e = qio_allowed s p (asked s p a) (request_test s p (asked s p a)) e.own
-service_allowed s p a QioW e = qiow_allowed s p (asked s p a) (request_test s p (asked s p a)) e.own
+service_allowed s p a Qio e = qio_allowed s p (asked s p a) (request_test s p (asked s p a)) (λ k w. e.own k w (λ i. refl))
+service_allowed s p a QioW e = qiow_allowed s p (asked s p a) (request_test s p (asked s p a)) (λ k w. e.own k w (λ i. refl))
 service_allowed s p a Synch e =
     let w = wait.Synch (number a.a0) (number a.a1) in
     of_two (nat_lt 32 (number a.a1)) (refused_wait s BadParam) (at_flag s p (number a.a0) (refused_wait s) (waits_on s p w)) nil (waits_allowed s p (number a.a0) w)
 service_allowed s p a Cancel e = tested_allowed s (cancel_at s p (number a.a0)) (channel_test s p (number a.a0)) (λ ch. cancel_allowed s p (number a.a0))
 service_allowed s p a GetTim e = one _ refl
+
+-- Requests and attention entries are opened by $QIO and $QIOW alone.
+
+abbrev pub unasked : Test
+unasked = record { opens = λ k p. not (is_asked k); gone = true }
+
+abbrev pub is_plain : Effect → Bool
+is_plain = is_allowed unasked
+
+abbrev pub Plain : List Effect → Type 0
+Plain = Allowed unasked
+
+pub may_unasked : (s : State) (p : Pid) (a : Args) (v : Service) → is_qio v ≡ false → MayOpen unasked s p a v
+may_unasked s p a v e = record { own = λ k w i. by_test (is_asked k) i; force = λ f q t. refl; wake = λ f q t. refl }
+  where
+    by_test : (b : Bool) → (b ≡ true → is_qio v ≡ true) → not b ≡ true
+    by_test true i = absurd (let never : true ≡ false = sym (i refl) ∙ e in cc)
+    by_test false i = refl
+
+pub service_plain : (s : State) (p : Pid) (a : Args) (v : Service) → is_qio v ≡ false → Plain (service_of s p a v).effects
+service_plain s p a v e = service_allowed s p a v (may_unasked s p a v e)

@@ -39,14 +39,12 @@ use Rattle.vx_record.proofs.Lists.{either, all_weaker, all_append, all_less}
 use Rattle.vx_record.proofs.Moves.{Moves, PartMoves, moved}
 use Rattle.vx_record.proofs.SoundChannels.{free_row}
 use Rattle.vx_record.proofs.Told.{accepted_after, service_moves, started_moves, step_moves}
-use Rattle.vx_laws.specs.StatusLaw.{is_asked}
-use Rattle.vx_laws.proofs.Allowed.{Test, is_allowed, transferred_allowed}
+use Rattle.vx_laws.proofs.Allowed.{Test, transferred_allowed, Plain, unasked, service_plain, tick_allowed, don_allowed, returned_allowed, started_allowed}
 use Rattle.vx_laws.proofs.Aside.{row, changed, service_aside, Aside, returned_aside, started_aside, tick_aside}
-use Rattle.vx_laws.proofs.Emptied.{AllSeated, Seated, IsOfLists, is_open_allowed, allowed_open, moves_held, seated_on, kept_rows, seat_rows}
+use Rattle.vx_laws.proofs.Emptied.{AllSeated, Seated, IsOfLists, moves_held, seated_on, kept_rows, seat_rows}
 use Rattle.vx_laws.proofs.Leftover.{freed_seated, seated_change}
 use Rattle.vx_laws.proofs.Phases.{service_seats}
 use Rattle.vx_laws.proofs.Untouched.{service_plainly, cancel_channel_keeps, finish_keeps}
-use Rattle.vx_laws.proofs.Plain.{Plain, is_plain, service_plain, nil, finish_plain, tick_plain}
 use Rattle.vx_base.specs.Cond.{number_of}
 use Rattle.vx_base.specs.Queues.{front, in_service}
 use Rattle.vx_base.specs.Serving.{serve, settled}
@@ -62,7 +60,6 @@ use Rattle.vx_record.specs.declared.served.Served.{Served}
 use Rattle.vx_record.specs.declared.served.Served.TheVariants.{Answered, Waits}
 use Rattle.vx_record.proofs.Locals.{advanced_statuses}
 use Rattle.vx_record.proofs.Steps.{IsThere, returned_moves}
-use Rattle.vx_laws.proofs.Cleared.{returned_plain, started_plain}
 use Rattle.vx_laws.proofs.Rests.{is_rundown}
 use Rattle.vx_laws.proofs.Courses.{uses_channels, all_untimed, Untimed}
 use Rattle.vx_laws.specs.Agrees.{is_attending}
@@ -136,18 +133,14 @@ service_grows s p a v e = grows_same s (service_of s p a v).after (service_aside
 -- Attention entries.
 
 abbrev no_attention : Test
-no_attention k p = not (is_attending k)
+no_attention = record { opens = λ k p. not (is_attending k); gone = true }
 
-plain_open : (x : Effect) → is_plain x ≡ true → is_open_allowed (λ k p. not (is_asked k)) x ≡ true
-plain_open (Rattle.vx_base.specs.declared.effects.Effect.TheVariants.Open id k p mode n) e = e
-plain_open x e = refl
-
-unasked_lists : (Q : Attention → Type 0) → IsOfLists Untimed Q (λ k p. not (is_asked k))
-unasked_lists Q = record { due = λ n t k. tt; timer = λ t e. tt; wake = λ t e. tt; attention = λ a e. absurd (let never : false ≡ true = e in cc) }
+unasked_lists : (Q : Attention → Type 0) → IsOfLists Untimed Q unasked
+unasked_lists Q = record { due = λ n t k. tt; timer = λ t is e. tt; wake = λ t e. tt; attention = λ a e. absurd (let never : false ≡ true = e in cc) }
 
 -- what opens no attention entry keeps what is said of all
 plain_held : (Q : Attention → Type 0) (s : State) (es : List Effect) (t : State) → Moves s None es t None → Plain es → AllByRecursion Q s.attention → AllByRecursion Q t.attention
-plain_held Q s es t j h k = (moves_held Untimed Q (λ k p. not (is_asked k)) (unasked_lists Q) s None es t None j (all_weaker (λ x. is_plain x ≡ true) (λ x. is_open_allowed (λ k p. not (is_asked k)) x ≡ true) plain_open es h.all) (all_untimed s.timers, k)).1
+plain_held Q s es t j h k = (moves_held Untimed Q unasked (unasked_lists Q) s None es t None j h.all (all_untimed s.timers, k)).1
 
 set_held : (Q : Attention → Type 0) (s : State) (p : Pid) (q : Asked) (a : Attention) → AllByRecursion Q s.attention → Q a → AllByRecursion Q (attention_set s p q a).after.attention
 set_held Q s p q a h k =
@@ -173,8 +166,8 @@ accepted_held Q s p q to is here k h =
     let ok = no_attention in
     let j : PartMoves s (accepted s p q to.0 to.1) = accepted_after s p q to is here in
     let f = transferred_allowed {ok = ok} s p q to.0 to.1 n refl refl in
-    (moves_held Untimed Q ok (record { due = λ n t k. tt; timer = λ t e. tt; wake = λ t e. tt; attention = λ a e. absurd (let never : false ≡ true = e in cc) }) s None (accepted s p q to.0 to.1).effects (accepted s p q to.0 to.1).after None j
-    (all_weaker (λ x. is_allowed ok x ≡ true) (λ x. is_open_allowed ok x ≡ true) (allowed_open ok) (accepted s p q to.0 to.1).effects f.all) (all_untimed s.timers, h)).1)
+    (moves_held Untimed Q ok (record { due = λ n t k. tt; timer = λ t is e. tt; wake = λ t e. tt; attention = λ a e. absurd (let never : false ≡ true = e in cc) }) s None (accepted s p q to.0 to.1).effects (accepted s p q to.0 to.1).after None j
+    f.all (all_untimed s.timers, h)).1)
   where
     by_bool : (P : Type 0) (b : Bool) → (b ≡ true → P) → (b ≡ false → P) → P
     by_bool P true f g = f refl
@@ -246,8 +239,8 @@ on_seated s p n (stop.Call c) here h =
     let o = service_of t p c.args c.service in
     let first : Moves s None [] t None = moved s None p (process_at s p).store (n + 1) refl in
     served_seated t p c o o.answer (service_seated t p c.args c.service (here_after s p None [] t None first here) (seated_change s p (moved_behind n) refl h))
-on_seated s p n stop.Return here h = let o = returned s p (process_at s p).frames in aside_seated s o.after o.effects (returned_moves s p (process_at s p).frames) (returned_plain s p (process_at s p).frames) (returned_aside s p (process_at s p).frames) h
-on_seated s p n stop.End here h = let o = returned s p (process_at s p).frames in aside_seated s o.after o.effects (returned_moves s p (process_at s p).frames) (returned_plain s p (process_at s p).frames) (returned_aside s p (process_at s p).frames) h
+on_seated s p n stop.Return here h = let o = returned s p (process_at s p).frames in aside_seated s o.after o.effects (returned_moves s p (process_at s p).frames) (returned_allowed s p (process_at s p).frames) (returned_aside s p (process_at s p).frames) h
+on_seated s p n stop.End here h = let o = returned s p (process_at s p).frames in aside_seated s o.after o.effects (returned_moves s p (process_at s p).frames) (returned_allowed s p (process_at s p).frames) (returned_aside s p (process_at s p).frames) h
 on_seated s p n stop.Local here h = h
 
 frame_seated : (s : State) (p : Pid) (f : Frame) (o : Option Wait) → Here s p → AllSeated s → AllSeated (run_frame s p f o).after
@@ -267,7 +260,7 @@ delivered_seated s p None h = h
 delivered_seated s p (Some q) h =
     let t = change s p (without_ast q.id) in
     let b = started t p q q.tag in
-    aside_seated t b.after b.effects (started_moves t p q q.tag) (started_plain t p q q.tag) (started_aside t p q q.tag) (seated_change s p (without_ast q.id) refl h)
+    aside_seated t b.after b.effects (started_moves t p q q.tag) (started_allowed t p q q.tag) (started_aside t p q q.tag) (seated_change s p (without_ast q.id) refl h)
 
 beg_seated : (s : State) (o : Option Request) → AllSeated s → AllSeated (beg s o).after
 beg_seated s None h = h
@@ -288,10 +281,6 @@ step_seated s (event.Don u) other made b h = don_seated (in_service u s.requests
         let e = unit_ending r (serve (unit_at s u) r.req).reply in
         kept_rows t (finish t r e).after (finish_keeps t r e) q k
 
-    don_plain : (o : Option Request) → Plain (don s u o).effects
-    don_plain None = nil
-    don_plain (Some r) = finish_plain (with_unit s u (settled (unit_at s u) r.req)) r (unit_ending r (serve (unit_at s u) r.req).reply)
-
     don_seated : (o : Option Request) → AllSeated (step s (event.Don u)).after
-    don_seated o = let x = step s (event.Don u) in grown s x.after (grows_same s x.after (don_rows (in_service u s.requests))) (plain_held (Seated s) s x.effects x.after (step_moves s (event.Don u) refl made b) (don_plain (in_service u s.requests)) h)
-step_seated s event.Tick other made b h = let o = step s event.Tick in aside_seated s o.after o.effects (step_moves s event.Tick refl made b) (tick_plain s) (tick_aside s) h
+    don_seated o = let x = step s (event.Don u) in grown s x.after (grows_same s x.after (don_rows (in_service u s.requests))) (plain_held (Seated s) s x.effects x.after (step_moves s (event.Don u) refl made b) (don_allowed s u (in_service u s.requests)) h)
+step_seated s event.Tick other made b h = let o = step s event.Tick in aside_seated s o.after o.effects (step_moves s event.Tick refl made b) (tick_allowed s) (tick_aside s) h

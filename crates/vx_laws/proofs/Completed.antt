@@ -19,7 +19,7 @@ use Rattle.vx_base.specs.declared.request.Req.{Req}
 use Rattle.vx_laws.proofs.Calls.{Called, IsElse, Unasked, called_on, is_unasked, plain_unasked}
 use Rattle.vx_laws.proofs.Done.{finish_is, is_other, lives_called, tail_block, tail_flag, tail_of, tail_others}
 use Rattle.vx_laws.proofs.Kept.{later_both}
-use Rattle.vx_laws.proofs.Plain.{finish_plain}
+use Rattle.vx_laws.proofs.Allowed.{finish_allowed}
 use Rattle.vx_laws.specs.Agrees.{AsCalled}
 use Rattle.vx_laws.specs.Items.{Did, Item, at_each, effects_left, later}
 use Rattle.vx_laws.specs.Lives.{life, lives}
@@ -287,7 +287,7 @@ finish_ends s r e past h k =
     let others = tail_others r.req.p r.req.iosb e.0.cond e.0.count e.1 r.req.buf e.0.bytes (is_read r.req.func && nat_lt 0 e.0.count) (not (r.req.iosb == 0)) (cell s r.req.p r.req.efn) (option_map (λ a. r.req.id) r.ast) in
     record {
       still = subst Still (sym (finish_is s r e)) tt;
-      unasked = plain_unasked (finish s r e).effects (finish_plain s r e);
+      unasked = plain_unasked (finish s r e).effects (finish_allowed s r e);
       told = subst (Told past) (sym (finish_is s r e))
           (λ more still g.
           let zs = to_next_fin (effects_left more) in

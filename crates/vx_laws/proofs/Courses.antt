@@ -41,17 +41,17 @@ use Rattle.vx_record.proofs.Lists.{all_weaker}
 use Rattle.vx_record.proofs.Moves.{Moves}
 use Rattle.vx_record.proofs.Steps.{IsThere}
 use Rattle.vx_record.proofs.Told.{started_moves, step_moves}
-use Rattle.vx_laws.proofs.Allowed.{Test, is_allowed, Allowed, MayOpen, nil, service_allowed, tick_allowed, finish_allowed}
+use Rattle.vx_laws.proofs.Allowed.{Test, Allowed, MayOpen, nil, service_allowed, tick_allowed, returned_allowed, started_allowed, don_allowed}
 use Rattle.vx_laws.proofs.Aside.{row, changed, service_aside, returned_aside, started_aside, tick_aside}
-use Rattle.vx_laws.proofs.Emptied.{IsOfLists, AreHeld, Unreached, is_open_allowed, allowed_open, moves_held, kept_rows, seat_rows}
+use Rattle.vx_laws.proofs.Emptied.{IsOfLists, AreHeld, Unreached, moves_held, kept_rows, seat_rows}
 use Rattle.vx_laws.proofs.Leftover.{Ended}
 use Rattle.vx_laws.proofs.Phases.{service_seats}
 use Rattle.vx_laws.proofs.Untouched.{finish_keeps, service_plainly, assign_shifts, crembx_service_shifts, dassgn_shifts}
-use Rattle.vx_laws.proofs.Rests.{IsAwake, is_rundown, started_allowed, returned_allowed}
+use Rattle.vx_laws.proofs.Rests.{IsAwake, is_rundown}
 use Rattle.vx_laws.specs.Lives.{is_force}
 
 abbrev pub of_others : Pid → Test
-of_others q k p = is_force k || not (is_same p q)
+of_others q = record { opens = λ k p. is_force k || not (is_same p q); gone = false }
 
 -- nothing comes to q, and its channels are as they were
 pub record Spares (q : Pid) (s t : State) : Type 1 where
@@ -60,7 +60,7 @@ pub record Spares (q : Pid) (s t : State) : Type 1 where
 
 pub spares_moves : (q : Pid) (s : State) (es : List Effect) (t : State) → Moves s None es t None → Allowed (of_others q) es → ((k : ℕ) → row t q k ≡ row s q k) → Spares q s t
 spares_moves q s es t j f r = record {
-  held = λ P Q i h. moves_held P Q (of_others q) i s None es t None j (all_weaker (λ x. is_allowed (of_others q) x ≡ true) (λ x. is_open_allowed (of_others q) x ≡ true) (allowed_open (of_others q)) es f.all) h;
+  held = λ P Q i h. moves_held P Q (of_others q) i s None es t None j f.all h;
   rows = r;
 }
 
@@ -89,15 +89,15 @@ ended_on q m s t h e = record {
   attention =
       all_weaker (Unreached q m s) (Unreached q m t)
       (λ a k y. let is : a.p ≡ q = ap (λ (n : ℕ). let x : Pid = record { 0 = n } in x) (eqb-true a.p.0 q.0 y) in ap (is_reached m) (subst (λ (r : Pid). row t r a.chan ≡ row s r a.chan) (sym is) (h.rows a.chan)) ∙ k y) t.attention
-      (h.held Untimed (Unreached q m s) (record { due = λ n x k. tt; timer = λ x k. tt; wake = λ x k. tt; attention = λ a k y. let never : true ≡ false = sym y ∙ not-true (is_same a.p q) k in cc }) (all_untimed s.timers, e.attention)).1;
-  timers = λ is. (h.held (λ x. is_same x.p q ≡ false) Unasked (record { due = λ n x k. k; timer = λ x k. not-true (is_same x.p q) k; wake = λ x k. not-true (is_same x.p q) k; attention = λ a k. tt }) (e.timers is, all_unasked s.attention)).0;
+      (h.held Untimed (Unreached q m s) (record { due = λ n x k. tt; timer = λ x is k. tt; wake = λ x k. tt; attention = λ a k y. let never : true ≡ false = sym y ∙ not-true (is_same a.p q) k in cc }) (all_untimed s.timers, e.attention)).1;
+  timers = λ is. (h.held (λ x. is_same x.p q ≡ false) Unasked (record { due = λ n x k. k; timer = λ x is k. not-true (is_same x.p q) k; wake = λ x k. not-true (is_same x.p q) k; attention = λ a k. tt }) (e.timers is, all_unasked s.attention)).0;
 }
 
 -- Services of another process.
 
 may_others : (q : Pid) (s : State) (p : Pid) (a : Args) (v : Service) → is_same p q ≡ false → MayOpen (of_others q) s p a v
 may_others q s p a v apart = record {
-  own = λ k e. or_right (is_force k) (not (is_same p q)) (rw apart refl);
+  own = λ k e i. or_right (is_force k) (not (is_same p q)) (rw apart refl);
   force = λ e r k. refl;
   wake = λ e r k. rw apart refl;
 }
@@ -169,10 +169,6 @@ don_rows q s u (Some r) k =
     let t = with_unit s u (settled (unit_at s u) r.req) in
     let e = unit_ending r (serve (unit_at s u) r.req).reply in
     kept_rows t (finish t r e).after (finish_keeps t r e) q k
-
-don_allowed : {ok : Test} (s : State) (u : Rattle.vx_base.specs.declared.number.UnitNo.UnitNo) (o : Option Request) → Allowed ok (don s u o).effects
-don_allowed s u None = nil
-don_allowed s u (Some r) = finish_allowed (with_unit s u (settled (unit_at s u) r.req)) r (unit_ending r (serve (unit_at s u) r.req).reply)
 
 -- who acts is another one: a process that acts has a frame
 pub acts_apart : (s : State) (p q : Pid) → (process_at s p).frames ≢ [] → (process_at s q).frames ≡ [] → is_same p q ≡ false

@@ -9,7 +9,6 @@ use Rattle.vx_base.specs.Pieces.{Channel, Timer, Alarm, OfTimer, OfWake, Attenti
 use Rattle.vx_base.specs.declared.effects.Cell.{Cell}
 use Rattle.vx_base.specs.declared.effects.Cell.TheVariants.{Local, Common as Shared}
 use Rattle.vx_base.specs.declared.effects.Effect.{Effect}
-use Rattle.vx_base.specs.declared.effects.Effect.TheVariants as effect
 use Rattle.vx_base.specs.declared.effects.Opened.TheVariants as opened
 use Rattle.vx_base.specs.declared.mode.Mode.{Mode}
 use Rattle.vx_base.specs.declared.mode.Mode.TheVariants.{Kernel, Exec, Super, User}
@@ -18,34 +17,25 @@ use Rattle.vx_record.specs.Cancel.{cancel_channel, is_attention_on}
 use Rattle.vx_record.specs.Charges.{is_same}
 use Rattle.vx_record.specs.Flags.{flag_part}
 use Rattle.vx_record.specs.Mailboxes.{this_attention}
-use Rattle.vx_record.specs.Parts.{Part, each}
+use Rattle.vx_record.specs.Parts.{each}
 use Rattle.vx_record.specs.Rundown.{drop_ast, drop_handler, is_ast_reached, cancel_one, cancel_modes, is_timer_in, is_wake_by, is_timer_reached, is_wake_alarm}
 use Rattle.vx_record.specs.State.{Process, State, process_at, nobody}
 use Rattle.vx_record.specs.Timers.{this_timer, drop_timer, drop_timers, due_again, after_wake}
 use Rattle.vx_record.specs.Sound.{AreOrdered, timer_id}
 use Rattle.vx_record.proofs.Base.{Base, moves_keep}
-use Rattle.vx_record.proofs.Cancelled.{cancel_channel_all, cancel_channel_attention, cancel_channel_moves}
+use Rattle.vx_record.proofs.Cancelled.{cancel_channel_all, cancel_channel_attention, cancel_channel_moves, each_keeps}
 use Rattle.vx_record.proofs.Lists.{either, all_weaker, all_both, all_append, all_less, all_amend, removed, ordered_less, all_first, all_last}
-use Rattle.vx_record.proofs.Moves.{Loose, Moves, PartMoves, both, flag, end_asts, end_handlers, open_attention, attention_fires, end_attention, open_timer, open_wake, timer_fires, wake_fires, end_timer}
+use Rattle.vx_record.proofs.Moves.{Loose, IsOfTimer, Moves, PartMoves, both, flag, end_asts, end_handlers, open_attention, attention_fires, end_attention, open_timer, open_wake, timer_fires, wake_fires, end_timer}
 use Rattle.vx_laws.proofs.Allowed.{Test, is_allowed}
 use Rattle.vx_laws.proofs.Aside.{row, free_rows}
 use Rattle.vx_laws.proofs.Untouched.{Keeps, seat_in, keep_seats, cancel_modes_keeps}
 
--- an opening is one that a test allows; of other effects nothing is asked
-abbrev pub is_open_allowed : Test → Effect → Bool
-is_open_allowed ok (effect.Open id k p mode n) = ok k p
-is_open_allowed ok x = true
-
-pub allowed_open : (ok : Test) (x : Effect) → is_allowed ok x ≡ true → is_open_allowed ok x ≡ true
-allowed_open ok (effect.Open id k p mode n) e = e
-allowed_open ok x e = refl
-
 -- what is said of timers and attention entries, if it is so of those that a test allows
 pub record IsOfLists (P : Timer → Type 0) (Q : Attention → Type 0) (ok : Test) : Type 0 where
   pub due : (n : ℕ) (t : Timer) → P t → P (due_again n t)
-  pub timer : (t : Timer) → ok opened.Timer t.p ≡ true → P t
-  pub wake : (t : Timer) → ok opened.Wake t.p ≡ true → P t
-  pub attention : (a : Attention) → ok opened.Attn a.p ≡ true → Q a
+  pub timer : (t : Timer) → IsOfTimer t.what → ok.opens opened.Timer t.p ≡ true → P t
+  pub wake : (t : Timer) → ok.opens opened.Wake t.p ≡ true → P t
+  pub attention : (a : Attention) → ok.opens opened.Attn a.p ≡ true → Q a
 
 abbrev pub AreHeld : (Timer → Type 0) → (Attention → Type 0) → State → Type 0
 AreHeld P Q s = AllByRecursion P s.timers × AllByRecursion Q s.attention
@@ -54,22 +44,18 @@ held_flag : (P : Timer → Type 0) (Q : Attention → Type 0) (s : State) (c : C
 held_flag P Q s (Local p n) on h = h
 held_flag P Q s (Shared g a n) on h = h
 
-held_each : {A : Type 0} (P : Timer → Type 0) (Q : Attention → Type 0) (f : State → A → Part) → ((t : State) (x : A) → AreHeld P Q t → AreHeld P Q (f t x).after) → (xs : List A) (s : State) → AreHeld P Q s → AreHeld P Q (each f xs s).after
-held_each P Q f k [] s h = h
-held_each P Q f k (x ∷ xs) s h = held_each P Q f k xs (f s x).after (k s x h)
-
 held_wake : (P : Timer → Type 0) (Q : Attention → Type 0) (s : State) (t : Timer) (n : ℕ) → ((m : ℕ) (x : Timer) → P x → P (due_again m x)) → AreHeld P Q s → AreHeld P Q (after_wake s t n)
 held_wake P Q s t n due h = either (AreHeld P Q) (n == 0) _ _ (all_less P (this_timer t.id) s.timers h.0, h.1) (all_amend P (this_timer t.id) (due_again n) (due n) s.timers h.0, h.1)
 
-pub moves_held : (P : Timer → Type 0) (Q : Attention → Type 0) (ok : Test) → IsOfLists P Q ok → (s : State) (l : Option Loose) (es : List Effect) (t : State) (m : Option Loose) → Moves s l es t m → AllByRecursion (λ x. is_open_allowed ok x ≡ true) es → AreHeld P Q s → AreHeld P Q t
-moves_held P Q ok i s l es t m (both x y z a b c fs gs j k) f h = moves_held P Q ok i y b gs z c k (all_last (λ x. is_open_allowed ok x ≡ true) fs gs f) (moves_held P Q ok i x a fs y b j (all_first (λ x. is_open_allowed ok x ≡ true) fs gs f) h)
+pub moves_held : (P : Timer → Type 0) (Q : Attention → Type 0) (ok : Test) → IsOfLists P Q ok → (s : State) (l : Option Loose) (es : List Effect) (t : State) (m : Option Loose) → Moves s l es t m → AllByRecursion (λ x. is_allowed ok x ≡ true) es → AreHeld P Q s → AreHeld P Q t
+moves_held P Q ok i s l es t m (both x y z a b c fs gs j k) f h = moves_held P Q ok i y b gs z c k (all_last (λ x. is_allowed ok x ≡ true) fs gs f) (moves_held P Q ok i x a fs y b j (all_first (λ x. is_allowed ok x ≡ true) fs gs f) h)
 moves_held P Q ok i s l es t m (flag x a c on made at set_on) f h = held_flag P Q x c on h
-moves_held P Q ok i s l es t m (end_asts x p mode made) f h = held_each P Q (drop_ast p) (λ y q k. k) (filter (is_ast_reached mode) (process_at x p).asts) x h
-moves_held P Q ok i s l es t m (end_handlers x p test made) f h = held_each P Q (drop_handler p) (λ y q k. k) (filter test (process_at x p).handlers) x h
+moves_held P Q ok i s l es t m (end_asts x p mode made) f h = each_keeps (AreHeld P Q) (drop_ast p) (λ y q k. k) (filter (is_ast_reached mode) (process_at x p).asts) x h
+moves_held P Q ok i s l es t m (end_handlers x p test made) f h = each_keeps (AreHeld P Q) (drop_handler p) (λ y q k. k) (filter test (process_at x p).handlers) x h
 moves_held P Q ok i s l es t m (open_attention x p mode a new at r) f h = (h.0, all_append Q x.attention (a ∷ []) h.1 (i.attention a (rw new.owner f.0), tt))
 moves_held P Q ok i s l es t m (attention_fires x a has) f h = (h.0, all_less Q (this_attention a.id) x.attention h.1)
 moves_held P Q ok i s l es t m (end_attention x a has) f h = (h.0, all_less Q (this_attention a.id) x.attention h.1)
-moves_held P Q ok i s l es t m (open_timer x p mode a efn reqid n tag new is at r) f h = (all_append P x.timers (a ∷ []) h.0 (i.timer a (rw new.owner f.0), tt), h.1)
+moves_held P Q ok i s l es t m (open_timer x p mode a efn reqid n tag new is at r) f h = (all_append P x.timers (a ∷ []) h.0 (i.timer a (subst IsOfTimer (sym is) tt) (rw new.owner f.0), tt), h.1)
 moves_held P Q ok i s l es t m (open_wake x p n a target new is) f h = (all_append P x.timers (a ∷ []) h.0 (i.wake a (rw new.owner f.0), tt), h.1)
 moves_held P Q ok i s l es t m (timer_fires x a has is) f h = (all_less P (this_timer a.id) x.timers h.0, h.1)
 moves_held P Q ok i s l es t m (wake_fires x a target n has is) f h = held_wake P Q x a n i.due h

@@ -30,7 +30,7 @@ use Rattle.vx_laws.proofs.Drains.{append_assoc}
 
 -- no opening is allowed
 abbrev pub closed : Test
-closed k p = false
+closed = record { opens = λ k p. false; gone = false }
 
 -- all processes but p are in the phases that they were in, with the channels that they had
 pub record Others (p : Pid) (s t : State) : Type 0 where

@@ -80,7 +80,7 @@ use Rattle.vx_record.proofs.Allowed.{enabled_there}
 use Rattle.vx_record.proofs.Along.{first_base}
 use Rattle.vx_laws.proofs.Newest.{Further, step_further, first_further}
 use Rattle.vx_laws.proofs.Passing.{Lawful, walk_then, walk_aside, IsPlainCall, fewer_same, IsSingle, single_on, mailbox_is, Serving, serving, finish_walk, still_boxed, serving_still, MayFin}
-use Rattle.vx_laws.proofs.Plain.{one}
+use Rattle.vx_laws.proofs.Allowed.{one}
 use Rattle.vx_laws.proofs.Rows.{made_boxed, assigned_boxed}
 use Rattle.vx_laws.proofs.Runs.{step_right, first_stands, front_found}
 use Rattle.vx_laws.proofs.Turns.{later_items}

@@ -6,15 +6,12 @@ use Rattle.std.specs.List.{AllByRecursion}
 use Rattle.std.proofs.lemmas.Bool.{and_parts, and_from, eqb-true, eq-eqb, false_from_ne_true, not-false}
 use Rattle.vx_base.specs.Pieces.{Queued, Request, Timer, DeviceUnit}
 use Rattle.vx_base.specs.Queues.{front, in_service}
-use Rattle.vx_base.specs.Serving.{serve, settled}
 use Rattle.vx_base.specs.declared.call.Call.{Call}
 use Rattle.vx_base.specs.declared.cond.Cond.{Cond}
 use Rattle.vx_base.specs.declared.effects.Effect.{Effect}
 use Rattle.vx_base.specs.declared.effects.Effect.TheVariants as effect
 use Rattle.vx_base.specs.declared.effects.Opened.{Opened}
 use Rattle.vx_base.specs.declared.frame.Frame.{Frame}
-use Rattle.vx_base.specs.declared.frame.FrameKind.{FrameKind}
-use Rattle.vx_base.specs.declared.frame.FrameKind.TheVariants as kind
 use Rattle.vx_base.specs.declared.frame.Phase.{Phase}
 use Rattle.vx_base.specs.declared.frame.Phase.TheVariants as phase
 use Rattle.vx_base.specs.declared.frame.Wait.{Wait}
@@ -24,8 +21,6 @@ use Rattle.vx_base.specs.declared.record.Answer.{Answer}
 use Rattle.vx_base.specs.declared.record.Event.{Event}
 use Rattle.vx_base.specs.declared.record.Event.TheVariants as event
 use Rattle.vx_base.specs.declared.record.Rec.{Rec}
-use Rattle.vx_base.specs.declared.routine.Entry.{Entry}
-use Rattle.vx_base.specs.declared.routine.Entry.TheVariants as entry
 use Rattle.vx_image.specs.Local.{advanced}
 use Rattle.vx_image.specs.declared.stop.Stop.{Stop}
 use Rattle.vx_image.specs.declared.stop.Stop.TheVariants as stop
@@ -33,13 +28,12 @@ use Rattle.vx_image.specs.declared.system.System.{System}
 use Rattle.vx_record.specs.Asts.{deliverable_ast}
 use Rattle.vx_record.specs.Charges.{is_same}
 use Rattle.vx_record.specs.Control.{is_deleted_phase, exists_for_control, may_control, named_process, process_test}
-use Rattle.vx_record.specs.Events.{moved_to, returned, returned_from, r0_of, served_call, moved_behind, run_on, reader, run_frame, run, started, delivered, beg, don, step, enabled, can_run, can_run_down, can_step_down, run_events, ast_or_run, process_events, processes_from, beg_event, don_or_beg, unit_events, units_from, tick_events}
+use Rattle.vx_record.specs.Events.{moved_to, served_call, moved_behind, run_on, reader, run_frame, run, step, enabled, can_run, can_run_down, can_step_down, run_events, ast_or_run, process_events, processes_from, beg_event, don_or_beg, unit_events, units_from, tick_events}
 use Rattle.vx_record.specs.Parts.{Outcome}
-use Rattle.vx_record.specs.Requests.{unit_ending, with_unit}
-use Rattle.vx_record.specs.Rundown.{without_ast, gone_part, in_phase}
+use Rattle.vx_record.specs.Rundown.{gone_part, in_phase}
 use Rattle.vx_record.specs.Runs.{first, AreSteps, IsRun}
 use Rattle.vx_record.specs.Services.{service_of, number}
-use Rattle.vx_record.specs.State.{Process, State, IsProcess, process_at, change, image_of, nobody, pid, unit_at}
+use Rattle.vx_record.specs.State.{Process, State, IsProcess, process_at, change, image_of, nobody, pid}
 use Rattle.vx_record.specs.declared.served.Served.{Served}
 use Rattle.vx_record.specs.declared.served.Served.TheVariants.{Answered, Waits}
 use Rattle.vx_record.proofs.Base.{Base}
@@ -51,7 +45,7 @@ use Rattle.vx_laws.specs.Items.{Item, Head, Did, flat, later, at_each, latest_ca
 use Rattle.vx_laws.specs.Lives.{is_wake}
 use Rattle.vx_laws.specs.RundownLaw.{is_gone, woken}
 use Rattle.vx_laws.specs.RundownParts.{stays, gone_rest}
-use Rattle.vx_laws.proofs.Allowed.{Test, is_allowed, Allowed, MayOpen, nil, one, join, exited_allowed, finish_allowed, tick_allowed, service_allowed}
+use Rattle.vx_laws.proofs.Allowed.{Test, is_allowed, Allowed, MayOpen, nil, one, tick_allowed, service_allowed, returned_allowed, delivered_allowed, beg_allowed, don_allowed}
 use Rattle.vx_laws.proofs.Calm.{Tags, IsBare, Still, still_made, held_at}
 use Rattle.vx_laws.proofs.Lowers.{IsLowering, Low, Lowers, Others, closed, stops, goes, rundown_lowers}
 use Rattle.vx_laws.proofs.Named.{step_still}
@@ -145,21 +139,21 @@ down_gone s past p can h = false_from_ne_true (is_gone past p) (λ k. let no : c
 -- What is asked of an item here.
 
 abbrev pub may_open : List Item → Test
-may_open past k p = not (is_gone past p || (is_wake k && is_gone past (woken (latest_call past) p)))
+may_open past = record { opens = λ k p. not (is_gone past p || (is_wake k && is_gone past (woken (latest_call past) p))); gone = false }
 
 abbrev pub AllStay : List Item → List Effect → Type 0
 AllStay past [] = Unit {0}
 AllStay past (x ∷ xs) = ((rest : List Item) → stays past (Did x) rest ≡ true) × AllStay (Did x ∷ past) xs
 
-gone_one : (ok : Test) (x : Effect) (past : List Item) (p : Pid) → is_allowed ok x ≡ true → is_gone (Did x ∷ past) p ≡ is_gone past p
-gone_one ok (effect.Gone q) past p e = absurd (let never : false ≡ true = e in cc)
-gone_one ok x past p e = refl
+gone_one : (ok : Test) → ok.gone ≡ false → (x : Effect) (past : List Item) (p : Pid) → is_allowed ok x ≡ true → is_gone (Did x ∷ past) p ≡ is_gone past p
+gone_one ok n (effect.Gone q) past p e = absurd (let never : true ≡ false = sym e ∙ n in cc)
+gone_one ok n x past p e = refl
 
-pub gone_later : (ok : Test) (es : List Effect) (past : List Item) (p : Pid) → AllByRecursion (λ x. is_allowed ok x ≡ true) es → is_gone (later past (map Did es)) p ≡ is_gone past p
-gone_later ok [] past p h = refl
-gone_later ok (x ∷ xs) past p h = gone_later ok xs (Did x ∷ past) p h.1 ∙ gone_one ok x past p h.0
+pub gone_later : (ok : Test) → ok.gone ≡ false → (es : List Effect) (past : List Item) (p : Pid) → AllByRecursion (λ x. is_allowed ok x ≡ true) es → is_gone (later past (map Did es)) p ≡ is_gone past p
+gone_later ok n [] past p h = refl
+gone_later ok n (x ∷ xs) past p h = gone_later ok n xs (Did x ∷ past) p h.1 ∙ gone_one ok n x past p h.0
 
-may_as : (past old : List Item) (k : Opened) (p : Pid) → ((q : Pid) → is_gone past q ≡ is_gone old q) → latest_call past ≡ latest_call old → may_open old k p ≡ true → may_open past k p ≡ true
+may_as : (past old : List Item) (k : Opened) (p : Pid) → ((q : Pid) → is_gone past q ≡ is_gone old q) → latest_call past ≡ latest_call old → (may_open old).opens k p ≡ true → (may_open past).opens k p ≡ true
 may_as past old k p g l e = rw (l, g p, g (woken (latest_call old) p)) e
 
 one_stays : (past old : List Item) (x : Effect) → ((q : Pid) → is_gone past q ≡ is_gone old q) → latest_call past ≡ latest_call old → is_allowed (may_open old) x ≡ true → (rest : List Item) → stays past (Did x) rest ≡ true
@@ -168,7 +162,7 @@ one_stays past old x g l e rest = refl
 
 all_stay : (past old : List Item) (es : List Effect) → ((q : Pid) → is_gone past q ≡ is_gone old q) → latest_call past ≡ latest_call old → AllByRecursion (λ x. is_allowed (may_open old) x ≡ true) es → AllStay past es
 all_stay past old [] g l h = tt
-all_stay past old (x ∷ xs) g l h = (one_stays past old x g l h.0, all_stay (Did x ∷ past) old xs (λ q. gone_one (may_open old) x past q h.0 ∙ g q) l h.1)
+all_stay past old (x ∷ xs) g l h = (one_stays past old x g l h.0, all_stay (Did x ∷ past) old xs (λ q. gone_one (may_open old) refl x past q h.0 ∙ g q) l h.1)
 
 closed_wider : (ok : Test) (x : Effect) → is_allowed closed x ≡ true → is_allowed ok x ≡ true
 closed_wider ok (effect.Open id k p mode n) e = absurd (let never : false ≡ true = e in cc)
@@ -207,7 +201,7 @@ may_call s past p c free h =
     let o = service_of s p c.args c.service in
     let w = call_woken p c o o.answer p in
     record {
-      own = λ k e. rw (free, e) refl;
+      own = λ k e i. rw (free, e) refl;
       force = λ v q e. rw (found_gone s past p (number c.args.a0) q h e) refl;
       wake = λ v q e.
           let named : named_process p (number c.args.a0) ≡ q = Rattle.vx_laws.proofs.CalmServices.test_is s p (number c.args.a0) q e in
@@ -222,16 +216,6 @@ RecordStays past e o = Allowed (may_open (Head e o.answer ∷ past)) o.effects
 served_stays : (past : List Item) (p : Pid) (c : Call) (o : Outcome Served) (x : Served) → Allowed (may_open (Head (event.Run p) (served_call p c o x).answer ∷ past)) o.effects → RecordStays past (event.Run p) (served_call p c o x)
 served_stays past p c o (Answered y) h = h
 served_stays past p c o Waits h = h
-
-pub returned_allowed : {ok : Test} (s : State) (p : Pid) (frames : List Frame) → Allowed ok (returned s p frames).effects
-returned_allowed s p [] = nil
-returned_allowed {ok} s p (f ∷ fs) = by_kind f.kind
-  where
-    by_kind : (x : FrameKind) → Allowed ok (returned_from s p f x).effects
-    by_kind kind.Main = exited_allowed s p (r0_of s p)
-    by_kind (kind.Ast id) = one (effect.Leave id) refl
-    by_kind kind.Change = nil
-    by_kind kind.Handler = nil
 
 on_stays : (s : State) (past : List Item) (p : Pid) (n : ℕ) (x : Stop) → is_gone past p ≡ false → PhasesGone s past → RecordStays past (event.Run p) (run_on s p n x)
 on_stays s past p n (stop.Call c) free h =
@@ -253,23 +237,6 @@ frame_stays s past p f (Some w) free h = nil
 run_stays : (s : State) (past : List Item) (p : Pid) (frames : List Frame) → is_gone past p ≡ false → PhasesGone s past → RecordStays past (event.Run p) (run s p frames)
 run_stays s past p [] free h = nil
 run_stays s past p (f ∷ fs) free h = frame_stays s past p f f.wait free h
-
-pub started_allowed : {ok : Test} (s : State) (p : Pid) (q : Queued) (tag : Entry) → Allowed ok (started s p q tag).effects
-started_allowed s p q (entry.Exit code) = join (one (effect.Leave q.id) refl) (exited_allowed s p code)
-started_allowed s p q (entry.Label k prm) = nil
-started_allowed s p q (entry.Host prm) = nil
-
-delivered_allowed : {ok : Test} (s : State) (p : Pid) (o : Option Queued) → Allowed ok (delivered s p o).effects
-delivered_allowed s p None = nil
-delivered_allowed s p (Some q) = started_allowed (change s p (without_ast q.id)) p q q.tag
-
-beg_allowed : {ok : Test} (s : State) (o : Option Request) → Allowed ok (beg s o).effects
-beg_allowed s None = nil
-beg_allowed s (Some r) = nil
-
-don_allowed : {ok : Test} (s : State) (u : UnitNo) (o : Option Request) → Allowed ok (don s u o).effects
-don_allowed s u None = nil
-don_allowed s u (Some r) = finish_allowed (with_unit s u (settled (unit_at s u) r.req)) r (unit_ending r (serve (unit_at s u) r.req).reply)
 
 abbrev pub is_rundown : Event → Bool
 is_rundown (event.Rdn p) = true
@@ -318,7 +285,7 @@ others_deleted s t p q h apart above made there e =
 
 pub both_later : (past : List Item) (es : List Effect) (p q : Pid) → AllByRecursion (λ x. is_allowed closed x ≡ true) es → is_gone (later past (map Did (es ++ effect.Gone p ∷ []))) q ≡ (is_same p q || is_gone past q)
 both_later past [] p q h = refl
-both_later past (x ∷ xs) p q h = both_later (Did x ∷ past) xs p q h.1 ∙ ap (λ (b : Bool). is_same p q || b) (gone_one closed x past q h.0)
+both_later past (x ∷ xs) p q h = both_later (Did x ∷ past) xs p q h.1 ∙ ap (λ (b : Bool). is_same p q || b) (gone_one closed refl x past q h.0)
 
 by_owner : (P : Type 0) (a b : Bool) → (a || b) ≡ true → (a ≡ true → P) → (a ≡ false → b ≡ true → P) → P
 by_owner P true b h f g = f refl
@@ -343,7 +310,7 @@ lowers_rests J R C s past p a es t (stops gs u b o m j q) made free h k =
     let head = Head (event.Rdn p) a ∷ past in (
       all_stay head head gs (λ r. refl) refl (closed_all (may_open head) gs b.all),
       λ r y.
-          let old : is_gone past r ≡ true = sym (gone_later closed gs head r b.all) ∙ y in
+          let old : is_gone past r ≡ true = sym (gone_later closed refl gs head r b.all) ∙ y in
           let g = h r old in
           let still = k r g.still in
           record { still = still; deleted = others_deleted s u p r o (λ same. let is : p ≡ r = ap (λ (n : ℕ). pid n) same in let never : false ≡ true = sym free ∙ (ap (is_gone past) is ∙ old) in cc) made.above g.still.0 still.0 g.deleted },
@@ -382,7 +349,7 @@ other_rests s past e other c b g h =
     record {
       effects = all_stay head head o.effects (λ q. refl) refl a.all;
       gone = λ q k.
-          let old : is_gone past q ≡ true = sym (gone_later (may_open head) o.effects head q a.all) ∙ k in
+          let old : is_gone past q ≡ true = sym (gone_later (may_open head) refl o.effects head q a.all) ∙ k in
           let was = h q old in
           let still = step_still s past e c b g q was.still in
           record { still = still; deleted = deleted_on s o.after q (step_ages s e other) was.still.0 still.0 was.deleted };

@@ -36,21 +36,21 @@ use Rattle.vx_laws.specs.Leftovers.{is_open_of}
 use Rattle.vx_laws.specs.Lives.{Life, life, lives, highest, is_open, is_wake}
 use Rattle.vx_laws.specs.RundownLaw.{woken, is_wake_for, is_of, is_left_of, nothing_left, rests, enters_last, run_downs}
 use Rattle.vx_laws.specs.RundownParts.{stays, leaves, leaves_none}
-use Rattle.vx_laws.proofs.Allowed.{Allowed, is_allowed}
+use Rattle.vx_laws.proofs.Allowed.{Test, Allowed, is_allowed}
 use Rattle.vx_laws.proofs.Aside.{changed}
 use Rattle.vx_laws.proofs.Calm.{Tags, Still}
 use Rattle.vx_laws.proofs.Down.{Down, ends, enters, rundown_down}
 use Rattle.vx_laws.proofs.Drained.{Course, Drains, draining, step_course, stops_course, other_drains, seat_phase}
-use Rattle.vx_laws.proofs.Emptied.{AllSeated, Seated, Unreached, seated_on, unreached_on, is_open_allowed}
+use Rattle.vx_laws.proofs.Emptied.{AllSeated, Seated, Unreached, seated_on, unreached_on}
 use Rattle.vx_laws.proofs.Idle.{frames_apart}
 use Rattle.vx_laws.proofs.Kept.{moves_stand}
 use Rattle.vx_laws.proofs.Leftover.{Emptied, Cleared}
 use Rattle.vx_laws.proofs.Listed.{holds, holds_in, Listed, moves_listed}
+use Rattle.vx_laws.proofs.Rests.{closed_all, enabled_awake, is_rundown, phase_made, every_run_rests}
 use Rattle.vx_laws.proofs.Lowers.{Low, Lowers, Others, closed, stops, goes, others_change, rundown_lowers}
 use Rattle.vx_laws.proofs.Named.{every_run_last}
 use Rattle.vx_laws.proofs.Newest.{Further, step_further, first_further, all_ids_by}
 use Rattle.vx_laws.proofs.Opens.{any_told}
-use Rattle.vx_laws.proofs.Rests.{enabled_awake, is_rundown, phase_made, every_run_rests}
 use Rattle.vx_laws.proofs.Right.{lives_more, moves_right}
 use Rattle.vx_laws.proofs.Runs.{step_right, first_stands}
 use Rattle.vx_laws.proofs.Seats.{TimerLives, timer_life, alarm_life, seat, body_seat}
@@ -58,7 +58,7 @@ use Rattle.vx_laws.proofs.Stands.{Stands}
 use Rattle.vx_laws.proofs.Steps.{step_tags, first_tags}
 use Rattle.vx_laws.proofs.Unowned.{nothing_owned}
 use Rattle.vx_laws.proofs.Where.{both_hold, lives_then}
-use Rattle.vx_laws.proofs.Wakes.{no_wake, is_for, has_woken, IsTold, Targeted, Wakes, Opens, unopened, opened_one, Unopening, step_opens, step_wakes, wakes_moved, unwoken_on}
+use Rattle.vx_laws.proofs.Wakes.{no_wake, is_for, has_woken, IsTold, Targeted, Wakes, Opens, unopened, opened_one, step_opens, step_wakes, wakes_moved, unwoken_on}
 
 -- A wake that is open stands among the timers, and none that stands there is for the process.
 
@@ -141,13 +141,13 @@ abbrev pub AllLeave : List Item → List Effect → Type 0
 AllLeave past [] = Unit {0}
 AllLeave past (x ∷ xs) = ((rest : List Item) → leaves past (Did x) rest ≡ true) × AllLeave (Did x ∷ past) xs
 
-one_leaves : (ok : Rattle.vx_laws.proofs.Allowed.Test) (x : Effect) (past rest : List Item) → is_allowed ok x ≡ true → leaves past (Did x) rest ≡ true
-one_leaves ok (effect.Gone p) past rest e = absurd (let never : false ≡ true = e in cc)
-one_leaves ok x past rest e = refl
+one_leaves : (ok : Test) → ok.gone ≡ false → (x : Effect) (past rest : List Item) → is_allowed ok x ≡ true → leaves past (Did x) rest ≡ true
+one_leaves ok n (effect.Gone p) past rest e = absurd (let never : true ≡ false = sym e ∙ n in cc)
+one_leaves ok n x past rest e = refl
 
-allowed_leave : (ok : Rattle.vx_laws.proofs.Allowed.Test) (es : List Effect) (past : List Item) → AllByRecursion (λ x. is_allowed ok x ≡ true) es → AllLeave past es
-allowed_leave ok [] past h = tt
-allowed_leave ok (x ∷ xs) past h = ((λ rest. one_leaves ok x past rest h.0), allowed_leave ok xs (Did x ∷ past) h.1)
+allowed_leave : (ok : Test) → ok.gone ≡ false → (es : List Effect) (past : List Item) → AllByRecursion (λ x. is_allowed ok x ≡ true) es → AllLeave past es
+allowed_leave ok n [] past h = tt
+allowed_leave ok n (x ∷ xs) past h = ((λ rest. one_leaves ok n x past rest h.0), allowed_leave ok n xs (Did x ∷ past) h.1)
 
 leave_both : (past : List Item) (es fs : List Effect) → AllLeave past es → AllLeave (later past (map Did es)) fs → AllLeave past (es ++ fs)
 leave_both past [] fs h k = k
@@ -156,13 +156,6 @@ leave_both past (x ∷ xs) fs h k = (h.0, leave_both (Did x ∷ past) xs fs h.1 
 later_one : (past : List Item) (es : List Effect) (x : Effect) → later past (map Did (es ++ x ∷ [])) ≡ Did x ∷ later past (map Did es)
 later_one past [] x = refl
 later_one past (y ∷ es) x = later_one (Did y ∷ past) es x
-
-closed_opens : (es : List Effect) → AllByRecursion (λ x. is_allowed closed x ≡ true) es → Unopening es
-closed_opens es h = all_weaker (λ x. is_allowed closed x ≡ true) (λ x. is_open_allowed no_wake x ≡ true) one es h
-  where
-    one : (x : Effect) → is_allowed closed x ≡ true → is_open_allowed no_wake x ≡ true
-    one (effect.Open id k p mode n) e = absurd (let never : false ≡ true = e in cc)
-    one x e = refl
 
 -- What a record leaves.
 pub record Vacates (past : List Item) (es : List Effect) (t : State) : Type 0 where
@@ -218,20 +211,20 @@ lowers_vacate : (s : State) (past : List Item) (p : Pid) (a : Answer) (es : List
 lowers_vacate s past p a es t (stops gs u f o j seated settled) made b g l k h idle =
     let head = Head (event.Rdn p) a ∷ past in
     record {
-      effects = allowed_leave closed gs head f.all;
+      effects = allowed_leave closed refl gs head f.all;
       course = stops_course s u gs p made j f o seated settled idle h;
-      wakes = wakes_moved s past (event.Rdn p) a gs u j (closed_opens gs f.all) (moves_right s None gs u None head j b g) g k;
+      wakes = wakes_moved s past (event.Rdn p) a gs u j (record { all = closed_all no_wake gs f.all }) (moves_right s None gs u None head j b g) g k;
     }
 lowers_vacate s past p a es t (goes gs u f o j w c) made b g l k h idle =
     let head = Head (event.Rdn p) a ∷ past in
     let then = later head (map Did gs) in
     let right = moves_right s None gs u None head j b g in
-    let told = wakes_moved s past (event.Rdn p) a gs u j (closed_opens gs f.all) right g k in
+    let told = wakes_moved s past (event.Rdn p) a gs u j (record { all = closed_all no_wake gs f.all }) right g k in
     let stands = moves_stand s None gs u None head j b g in
     let listed = moves_listed s None gs u None head j b g l in
     let v = (gone_part p u).after in
     record {
-      effects = leave_both head gs (effect.Gone p ∷ []) (allowed_leave closed gs head f.all) ((λ rest. left_nothing u then p c w stands listed told), tt);
+      effects = leave_both head gs (effect.Gone p ∷ []) (allowed_leave closed refl gs head f.all) ((λ rest. left_nothing u then p c w stands listed told), tt);
       course = goes_course s u gs p made w.0 j f o c.seated idle h;
       wakes = subst (λ (x : List Item). Wakes v x) (sym (later_one head gs (effect.Gone p))) (record { targets = told.targets; unwoken = unwoken_on (Did (effect.Gone p)) then refl told.unwoken });
     }
@@ -249,7 +242,7 @@ rdn_vacates s past p c b g tags l k h =
 -- Other events.
 
 opens_leave : (s : State) (past : List Item) (e : Event) → Opens s e (step s e) → AllLeave (Head e (step s e).answer ∷ past) (step s e).effects
-opens_leave s past e (unopened f) = let o = step s e in allowed_leave no_wake o.effects (Head e o.answer ∷ past) f.all
+opens_leave s past e (unopened f) = let o = step s e in allowed_leave no_wake refl o.effects (Head e o.answer ∷ past) f.all
 opens_leave s past e (opened_one p target n delta is at w) = subst (AllLeave (Head e (step s e).answer ∷ past)) (sym is) ((λ rest. refl), tt)
 
 other_vacates : (s : State) (past : List Item) (e : Event) → is_rundown e ≡ false → Contains (enabled s) e → Base s → Stands s None past → Wakes s past → Course s → Vacates (Head e (step s e).answer ∷ past) (step s e).effects (step s e).after

@@ -1,15 +1,13 @@
 -- Scheduled wakes: each in the list is for the process that its $SCHDWK names, and none has a routine.
 use Rattle.std.proofs.Common.{◌≡◌, ◌∙◌, ℕ, ◌+◌, ◌<◌, ◌≤◌, List, [], ◌∷◌, ◌++◌, Bool, true, false, cond, not, ◌==◌, ◌&&◌, Option, Some, None, Result, Ok, Err, map, refl, sym, ap, subst, arith, ⊎_elim}
 use Rattle.std.specs.Prelude.{Contains, option_map, is_some}
-use Rattle.std.specs.List.{AllByRecursion, filter}
+use Rattle.std.specs.List.{AllByRecursion}
 use Rattle.std.proofs.lemmas.Bool.{and_parts, eq-eqb, eqb-true, cases_lt}
-use Rattle.vx_base.specs.Pieces.{Queued, Request, Timer, Alarm, OfTimer, OfWake}
+use Rattle.vx_base.specs.Pieces.{Attention, Queued, Request, Timer, Alarm, OfTimer, OfWake}
 use Rattle.vx_base.specs.Queues.{front, in_service}
-use Rattle.vx_base.specs.Serving.{serve, settled}
 use Rattle.vx_base.specs.declared.call.Call.{Call}
 use Rattle.vx_base.specs.declared.cond.Cond.{Cond}
-use Rattle.vx_base.specs.declared.effects.Cell.{Cell}
-use Rattle.vx_base.specs.declared.effects.Cell.TheVariants.{Local, Common as Shared}
+use Rattle.vx_base.specs.declared.effects.Cell.TheVariants.{Local}
 use Rattle.vx_base.specs.declared.effects.Effect.{Effect}
 use Rattle.vx_base.specs.declared.effects.Effect.TheVariants as effect
 use Rattle.vx_base.specs.declared.effects.Opened.{Opened}
@@ -19,7 +17,6 @@ use Rattle.vx_base.specs.declared.frame.Wait.{Wait}
 use Rattle.vx_base.specs.declared.mode.Mode.{Mode}
 use Rattle.vx_base.specs.declared.number.Id.{Id}
 use Rattle.vx_base.specs.declared.number.Pid.{Pid}
-use Rattle.vx_base.specs.declared.number.UnitNo.{UnitNo}
 use Rattle.vx_base.specs.declared.record.Answer.{Answer}
 use Rattle.vx_base.specs.declared.record.Event.{Event}
 use Rattle.vx_base.specs.declared.record.Answer.TheVariants as answer
@@ -32,30 +29,28 @@ use Rattle.vx_image.specs.declared.stop.Stop.TheVariants as stop
 use Rattle.vx_record.specs.Asts.{deliverable_ast}
 use Rattle.vx_record.specs.Charges.{is_same, exceeds, ast_need}
 use Rattle.vx_record.specs.Control.{process_test}
-use Rattle.vx_record.specs.Events.{moved_to, moved_behind, served_call, run_on, reader, run_frame, run, started, delivered, beg, don, step, enabled}
-use Rattle.vx_record.specs.Flags.{flag_part}
-use Rattle.vx_record.specs.Parts.{Outcome, Part, each, at_tested}
-use Rattle.vx_record.specs.Requests.{unit_ending, with_unit}
-use Rattle.vx_record.specs.Rundown.{without_ast, drop_ast, drop_handler, is_ast_reached}
+use Rattle.vx_record.specs.Events.{moved_to, moved_behind, served_call, run_on, reader, run_frame, run, started, delivered, beg, step, enabled}
+use Rattle.vx_record.specs.Parts.{Outcome, at_tested}
+use Rattle.vx_record.specs.Rundown.{without_ast}
 use Rattle.vx_record.specs.Services.{service_of, number, at_once}
-use Rattle.vx_record.specs.State.{Process, State, process_at, change, image_of, next_id, unit_at}
-use Rattle.vx_record.specs.Timers.{this_timer, due_again, after_wake, scheduled, new_wake}
+use Rattle.vx_record.specs.State.{Process, State, process_at, change, image_of, next_id}
+use Rattle.vx_record.specs.Timers.{due_again, scheduled, new_wake}
 use Rattle.vx_record.specs.declared.served.Served.{Served}
 use Rattle.vx_record.specs.declared.served.Served.TheVariants.{Answered, Waits}
 use Rattle.vx_record.proofs.Base.{Base}
-use Rattle.vx_record.proofs.Lists.{either, all_append, all_less, all_amend, all_weaker, all_both, all_first, all_last}
-use Rattle.vx_record.proofs.Moves.{Loose, Moves, IsOfTimer, both, flag, end_asts, end_handlers, open_timer, open_wake, timer_fires, wake_fires, end_timer}
+use Rattle.vx_record.proofs.Lists.{either, all_append, all_weaker, all_both}
+use Rattle.vx_record.proofs.Moves.{Loose, Moves, IsOfTimer}
 use Rattle.vx_record.proofs.Steps.{IsThere}
 use Rattle.vx_record.proofs.Told.{started_moves, step_moves}
 use Rattle.vx_record.proofs.Allowed.{enabled_there}
 use Rattle.vx_laws.specs.Items.{Item, Head, Did, later, latest_call, calling}
 use Rattle.vx_laws.specs.Lives.{Life, life, lives, opens, is_wake, finished, fired, dropped, entered_once, queued_now, marked_now, begun_by, started as ast_started}
 use Rattle.vx_laws.specs.RundownLaw.{woken}
-use Rattle.vx_laws.proofs.Allowed.{Test, is_allowed, Allowed, MayOpen, nil, service_allowed, finish_allowed, tick_allowed}
+use Rattle.vx_laws.proofs.Allowed.{Test, is_allowed, Allowed, MayOpen, nil, service_allowed, tick_allowed, returned_allowed, started_allowed, delivered_allowed, beg_allowed, don_allowed}
 use Rattle.vx_laws.proofs.Boxed.{Origin, origin, origin_of, origin_on}
 use Rattle.vx_laws.proofs.CalmServices.{test_is}
-use Rattle.vx_laws.proofs.Emptied.{is_open_allowed, allowed_open}
-use Rattle.vx_laws.proofs.Rests.{is_rundown, returned_allowed, started_allowed}
+use Rattle.vx_laws.proofs.Emptied.{moves_held}
+use Rattle.vx_laws.proofs.Rests.{is_rundown}
 use Rattle.vx_laws.proofs.Right.{AllRight, IsRight}
 use Rattle.vx_laws.proofs.Runs.{step_right}
 use Rattle.vx_laws.proofs.Seats.{TimerLives, timer_life, Known, seat}
@@ -63,7 +58,7 @@ use Rattle.vx_laws.proofs.Stands.{Stands}
 use Rattle.vx_laws.proofs.Calls.{IsElse}
 
 abbrev pub no_wake : Test
-no_wake k p = not (is_wake k)
+no_wake = record { opens = λ k p. not (is_wake k); gone = false }
 
 -- Moves that open no wake keep what is said of all timers, if it is so of those that are no wakes.
 
@@ -71,28 +66,12 @@ pub record IsOfTimers (P : Timer → Type 0) : Type 0 where
   pub due : (n : ℕ) (t : Timer) → P t → P (due_again n t)
   pub timer : (t : Timer) → IsOfTimer t.what → P t
 
-timed_flag : (P : Timer → Type 0) (s : State) (c : Cell) (on : Bool) → AllByRecursion P s.timers → AllByRecursion P (flag_part s c on).after.timers
-timed_flag P s (Local p n) on h = h
-timed_flag P s (Shared g a n) on h = h
-
-timed_each : {A : Type 0} (P : Timer → Type 0) (f : State → A → Part) → ((t : State) (x : A) → AllByRecursion P t.timers → AllByRecursion P (f t x).after.timers) → (xs : List A) (s : State) → AllByRecursion P s.timers → AllByRecursion P (each f xs s).after.timers
-timed_each P f k [] s h = h
-timed_each P f k (x ∷ xs) s h = timed_each P f k xs (f s x).after (k s x h)
-
-timed_wake : (P : Timer → Type 0) (s : State) (t : Timer) (n : ℕ) → ((m : ℕ) (x : Timer) → P x → P (due_again m x)) → AllByRecursion P s.timers → AllByRecursion P (after_wake s t n).timers
-timed_wake P s t n due h = either (λ (x : State). AllByRecursion P x.timers) (n == 0) _ _ (all_less P (this_timer t.id) s.timers h) (all_amend P (this_timer t.id) (due_again n) (due n) s.timers h)
-
-pub moves_timed : (P : Timer → Type 0) → IsOfTimers P → (s : State) (l : Option Loose) (es : List Effect) (t : State) (m : Option Loose) → Moves s l es t m → AllByRecursion (λ x. is_open_allowed no_wake x ≡ true) es → AllByRecursion P s.timers → AllByRecursion P t.timers
-moves_timed P i s l es t m (both x y z a b c fs gs j k) f h = moves_timed P i y b gs z c k (all_last (λ x. is_open_allowed no_wake x ≡ true) fs gs f) (moves_timed P i x a fs y b j (all_first (λ x. is_open_allowed no_wake x ≡ true) fs gs f) h)
-moves_timed P i s l es t m (flag x a c on made at set_on) f h = timed_flag P x c on h
-moves_timed P i s l es t m (end_asts x p mode made) f h = timed_each P (drop_ast p) (λ y q k. k) (filter (is_ast_reached mode) (process_at x p).asts) x h
-moves_timed P i s l es t m (end_handlers x p test made) f h = timed_each P (drop_handler p) (λ y q k. k) (filter test (process_at x p).handlers) x h
-moves_timed P i s l es t m (open_timer x p mode a efn reqid n tag new is at r) f h = all_append P x.timers (a ∷ []) h (i.timer a (subst IsOfTimer (sym is) tt), tt)
-moves_timed P i s l es t m (open_wake x p n a target new is) f h = absurd (let never : false ≡ true = f.0 in cc)
-moves_timed P i s l es t m (timer_fires x a has is) f h = all_less P (this_timer a.id) x.timers h
-moves_timed P i s l es t m (wake_fires x a target n has is) f h = timed_wake P x a n i.due h
-moves_timed P i s l es t m (end_timer x a has) f h = all_less P (this_timer a.id) x.timers h
-moves_timed P i s l es t m move f h = h
+pub moves_timed : (P : Timer → Type 0) → IsOfTimers P → (s : State) (l : Option Loose) (es : List Effect) (t : State) (m : Option Loose) → Moves s l es t m → Allowed no_wake es → AllByRecursion P s.timers → AllByRecursion P t.timers
+moves_timed P i s l es t m j f h = (moves_held P (λ a. Unit {0}) no_wake (record { due = i.due; timer = λ x is k. i.timer x is; wake = λ x k. absurd (let never : false ≡ true = k in cc); attention = λ a k. tt }) s l es t m j f.all (h, all_any s.attention)).0
+  where
+    all_any : (l : List Attention) → AllByRecursion (λ a. Unit {0}) l
+    all_any [] = tt
+    all_any (x ∷ xs) = (tt, all_any xs)
 
 -- What is said of wakes.
 
@@ -189,7 +168,7 @@ unwoken_on (Head (event.Ast p) (answer.Ast i)) past e h = λ id. woken_at (i.0 =
 unwoken_on (Head (event.Beg u) (answer.Unit i)) past e h = λ id. woken_at (i.0 == id.0) (begun_by u) (life past id) (λ l. refl) (λ l r. r) (h id)
 unwoken_on x past e h = h
 
-fits_effect : (x : Effect) → is_open_allowed no_wake x ≡ true → fits (Did x) ≡ true
+fits_effect : (x : Effect) → is_allowed no_wake x ≡ true → fits (Did x) ≡ true
 fits_effect (effect.Open i k p mode n) e = two (is_wake k) (is_some mode) e
   where
     two : (x y : Bool) → not x ≡ true → not (x && y) ≡ true
@@ -197,7 +176,7 @@ fits_effect (effect.Open i k p mode n) e = two (is_wake k) (is_some mode) e
     two true y e = absurd (let never : false ≡ true = e in cc)
 fits_effect x e = refl
 
-unwoken_all : (es : List Effect) (past : List Item) → AllByRecursion (λ x. is_open_allowed no_wake x ≡ true) es → Unwoken past → Unwoken (later past (map Did es))
+unwoken_all : (es : List Effect) (past : List Item) → AllByRecursion (λ x. is_allowed no_wake x ≡ true) es → Unwoken past → Unwoken (later past (map Did es))
 unwoken_all [] past f h = h
 unwoken_all (x ∷ xs) past f h = unwoken_all xs (Did x ∷ past) f.1 (unwoken_on (Did x) past (fits_effect x f.0) h)
 
@@ -218,7 +197,7 @@ schdwk_opens s p c (Ok q) is =
     (opened_one p q (number c.args.a2) (number c.args.a1) refl refl (test_is s p (number c.args.a0) q is))
 
 may_but : (s : State) (p : Pid) (c : Call) (v : Service) → (v ≡ SchdWk → ⊥) → MayOpen no_wake s p c.args v
-may_but s p c v apart = record { own = λ k e. rw e refl; force = λ e q k. refl; wake = λ e q k. absurd (apart e) }
+may_but s p c v apart = record { own = λ k e i. rw e refl; force = λ e q k. refl; wake = λ e q k. absurd (apart e) }
 
 call_opens : (s : State) (p : Pid) (c : Call) (v : Service) → let o = service_of s p c.args v in Opens s (event.Run p) (served_call p c o o.answer)
 call_opens s p c SchdWk = schdwk_opens s p c (process_test s p (number c.args.a0)) refl
@@ -242,34 +221,16 @@ run_opens : (s : State) (p : Pid) (frames : List Frame) → Opens s (event.Run p
 run_opens s p [] = unopened nil
 run_opens s p (f ∷ fs) = frame_opens s p f f.wait
 
-delivered_closed : (s : State) (p : Pid) (o : Option Queued) → Allowed no_wake (delivered s p o).effects
-delivered_closed s p None = nil
-delivered_closed s p (Some q) = started_allowed (change s p (without_ast q.id)) p q q.tag
-
-beg_closed : (s : State) (o : Option Request) → Allowed no_wake (beg s o).effects
-beg_closed s None = nil
-beg_closed s (Some r) = nil
-
-don_closed : (s : State) (u : UnitNo) (o : Option Request) → Allowed no_wake (don s u o).effects
-don_closed s u None = nil
-don_closed s u (Some r) = finish_allowed (with_unit s u (settled (unit_at s u) r.req)) r (unit_ending r (serve (unit_at s u) r.req).reply)
-
 -- all events but rundown
 pub step_opens : (s : State) (e : Event) → is_rundown e ≡ false → Opens s e (step s e)
 step_opens s (event.Run p) other = run_opens s p (process_at s p).frames
-step_opens s (event.Ast p) other = unopened (delivered_closed s p (deliverable_ast s p))
+step_opens s (event.Ast p) other = unopened (delivered_allowed s p (deliverable_ast s p))
 step_opens s (event.Rdn p) other = absurd (let never : true ≡ false = other in cc)
-step_opens s (event.Beg u) other = unopened (beg_closed s (front u s.requests))
-step_opens s (event.Don u) other = unopened (don_closed s u (in_service u s.requests))
+step_opens s (event.Beg u) other = unopened (beg_allowed s (front u s.requests))
+step_opens s (event.Don u) other = unopened (don_allowed s u (in_service u s.requests))
 step_opens s event.Tick other = unopened (tick_allowed s)
 
 -- The theme goes on.
-
-abbrev pub Unopening : List Effect → Type 0
-Unopening es = AllByRecursion (λ x. is_open_allowed no_wake x ≡ true) es
-
-opened_none : (es : List Effect) → Allowed no_wake es → Unopening es
-opened_none es f = all_weaker (λ x. is_allowed no_wake x ≡ true) (λ x. is_open_allowed no_wake x ≡ true) (allowed_open no_wake) es f.all
 
 untold : (past : List Item) (id : Id) (a : Alarm) → IsOfTimer a → IsTold past id a
 untold past id (OfTimer efn reqid mode tag) is = tt
@@ -290,23 +251,23 @@ pub same_origins : (past : List Item) (e : Event) (a : Answer) (es : List Effect
 same_origins past e a es f = λ id below. origins_on es (Head e a ∷ past) id f below ∙ origin_on (Head e a) past id tt
 
 -- where moves open no wake
-pub wakes_moved : (s : State) (past : List Item) (e : Event) (a : Answer) (es : List Effect) (t : State) → Moves s None es t None → Unopening es → AllRight (Head e a ∷ past) es → Stands s None past → Wakes s past → Wakes t (later (Head e a ∷ past) (map Did es))
+pub wakes_moved : (s : State) (past : List Item) (e : Event) (a : Answer) (es : List Effect) (t : State) → Moves s None es t None → Allowed no_wake es → AllRight (Head e a ∷ past) es → Stands s None past → Wakes s past → Wakes t (later (Head e a ∷ past) (map Did es))
 wakes_moved s past e a es t j f r g h =
     let new = later (Head e a ∷ past) (map Did es) in
     record {
       targets = moves_timed (Targeted new) (targets_are new) s None es t None j f (old_targets s past new g (same_origins past e a es r) h.targets);
-      unwoken = unwoken_all es (Head e a ∷ past) f (unwoken_on (Head e a) past refl h.unwoken);
+      unwoken = unwoken_all es (Head e a ∷ past) f.all (unwoken_on (Head e a) past refl h.unwoken);
     }
 
 delivered_timed : (P : Timer → Type 0) → IsOfTimers P → (s : State) (p : Pid) (o : Option Queued) → AllByRecursion P s.timers → AllByRecursion P (delivered s p o).after.timers
 delivered_timed P i s p None h = h
-delivered_timed P i s p (Some q) h = let t = change s p (without_ast q.id) in let b = started t p q q.tag in moves_timed P i t None b.effects b.after None (started_moves t p q q.tag) (opened_none b.effects (started_allowed t p q q.tag)) h
+delivered_timed P i s p (Some q) h = let t = change s p (without_ast q.id) in let b = started t p q q.tag in moves_timed P i t None b.effects b.after None (started_moves t p q q.tag) (started_allowed t p q q.tag) h
 
 beg_timed : (P : Timer → Type 0) (s : State) (o : Option Request) → AllByRecursion P s.timers → AllByRecursion P (beg s o).after.timers
 beg_timed P s None h = h
 beg_timed P s (Some r) h = h
 
-step_timed : (P : Timer → Type 0) → IsOfTimers P → (s : State) (e : Event) → IsThere s e → Base s → Unopening (step s e).effects → AllByRecursion P s.timers → AllByRecursion P (step s e).after.timers
+step_timed : (P : Timer → Type 0) → IsOfTimers P → (s : State) (e : Event) → IsThere s e → Base s → Allowed no_wake (step s e).effects → AllByRecursion P s.timers → AllByRecursion P (step s e).after.timers
 step_timed P i s (event.Run p) made b f h = let o = step s (event.Run p) in moves_timed P i s None o.effects o.after None (step_moves s (event.Run p) refl made b) f h
 step_timed P i s (event.Ast p) made b f h = delivered_timed P i s p (deliverable_ast s p) h
 step_timed P i s (event.Rdn p) made b f h = let o = step s (event.Rdn p) in moves_timed P i s None o.effects o.after None (step_moves s (event.Rdn p) refl made b) f h
@@ -321,10 +282,9 @@ wakes_by : (s : State) (past : List Item) (e : Event) → IsThere s e → Base s
 wakes_by s past e made b r g h (unopened f) =
     let o = step s e in
     let new = later (Head e o.answer ∷ past) (map Did o.effects) in
-    let k = opened_none o.effects f in
     record {
-      targets = step_timed (Targeted new) (targets_are new) s e made b k (old_targets s past new g (same_origins past e o.answer o.effects r) h.targets);
-      unwoken = unwoken_all o.effects (Head e o.answer ∷ past) k (unwoken_on (Head e o.answer) past refl h.unwoken);
+      targets = step_timed (Targeted new) (targets_are new) s e made b f (old_targets s past new g (same_origins past e o.answer o.effects r) h.targets);
+      unwoken = unwoken_all o.effects (Head e o.answer ∷ past) f.all (unwoken_on (Head e o.answer) past refl h.unwoken);
     }
 wakes_by s past e made b r g h (opened_one p target n delta is at w) =
     let o = step s e in
