@@ -14,9 +14,13 @@ mod carrier;
 #[cfg(test)]
 mod chans;
 #[cfg(test)]
+mod check;
+#[cfg(test)]
 mod clusters;
 #[cfg(test)]
 mod commands;
+#[cfg(test)]
+mod endings;
 #[cfg(test)]
 mod exec;
 #[cfg(test)]
