@@ -1,5 +1,6 @@
 -- What services leave as it was, one after another: most turn no frames, and a few do.
 use Rattle.std.proofs.Common.{length-append, ◌<◌, ◌≢◌, ◌≡◌, ℕ, ◌^◌, ◌%◌, List, [], ◌∷◌, Bool, true, false, cond, not, ◌==◌, ◌||◌, nat_lt, nat_le, length, Option, Some, None, Result, Ok, Err, refl, ◌-◌, ◌≤◌, ◌++◌, ap, arith, subst, zero, suc, get_or}
+use Rattle.std.proofs.lemmas.List.{get_or_append_left}
 use Rattle.std.specs.List.{find}
 use Rattle.vx_base.specs.Modes.{outer, is_kernel, rank, inner}
 use Rattle.vx_base.specs.declared.call.Args.{Args}
@@ -75,9 +76,7 @@ appended_held P (x ∷ xs) y d zero k h = h
 appended_held P (x ∷ xs) y d (suc i) k h = appended_held P xs y d i k h
 
 kept_before : (P : Process → Type 0) (xs : List Process) (y d : Process) (i : ℕ) → i < length xs → P (get_or xs i d) → P (get_or (xs ++ y ∷ []) i d)
-kept_before P [] y d i k h = absurd (omega (arith, k))
-kept_before P (x ∷ xs) y d zero k h = h
-kept_before P (x ∷ xs) y d (suc i) k h = kept_before P xs y d i (omega (arith, k)) h
+kept_before P xs y d i k h = rw (get_or_append_left xs (y ∷ []) d i k) h
 
 newly_calm : (s : State) (p : Pid) (place : ℕ) → PartCalm false s (new_part s p place)
 newly_calm s p place h = record {

@@ -73,14 +73,14 @@ spares_change q s p f e = record { held = λ P Q i h. h; rows = λ n. (changed s
 abbrev pub Untimed : Timer → Type 0
 Untimed t = Unit {0}
 
-abbrev Unasked : Attention → Type 0
+abbrev pub Unasked : Attention → Type 0
 Unasked a = Unit {0}
 
 pub all_untimed : (ts : List Timer) → AllByRecursion Untimed ts
 all_untimed [] = tt
 all_untimed (t ∷ ts) = (tt, all_untimed ts)
 
-all_unasked : (xs : List Attention) → AllByRecursion Unasked xs
+pub all_unasked : (xs : List Attention) → AllByRecursion Unasked xs
 all_unasked [] = tt
 all_unasked (x ∷ xs) = (tt, all_unasked xs)
 

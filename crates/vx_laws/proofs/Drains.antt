@@ -1,5 +1,5 @@
 -- Rundown, for whatever it keeps until it enters a handler: one pass over modes and their handlers, once for all of that.
-use Rattle.std.proofs.Common.{List, None, Option, Some, [], ap, refl, subst, true, ◌++◌, ◌∷◌, ◌≡◌}
+use Rattle.std.proofs.Common.{append_assoc, List, None, Option, Some, [], ap, refl, subst, true, ◌++◌, ◌∷◌, ◌≡◌}
 use Rattle.std.specs.List.{find}
 use Rattle.vx_base.specs.Pieces.{Handler}
 use Rattle.vx_base.specs.declared.effects.Effect.TheVariants as effect
@@ -35,10 +35,6 @@ pub record IsDrain (R : State → List Effect → State → Type 0) : Type 0 whe
 
 abbrev OutcomeBy : (State → List Effect → State → Type 0) → State → Pid → Outcome Answer → Type 0
 OutcomeBy R s p o = DownBy R s p o.effects o.after
-
-pub append_assoc : (a b c : List Effect) → (a ++ b) ++ c ≡ a ++ (b ++ c)
-append_assoc [] b c = refl
-append_assoc (x ∷ a) b c = ap (λ (l : List Effect). x ∷ l) (append_assoc a b c)
 
 down_after : (R : State → List Effect → State → Type 0) → IsDrain R → (s v : State) (p : Pid) (fs es : List Effect) (t : State) → Moves s None fs v None → R s fs v → DownBy R v p es t → DownBy R s p (fs ++ es) t
 down_after R i s v p fs es t j h (ends gs u c) = ends (fs ++ gs) u (i.join s v u fs gs j h c)

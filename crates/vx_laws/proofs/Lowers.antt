@@ -1,5 +1,5 @@
 -- One step of rundown, taken apart: it stops, or it goes on to the end, where its process is gone; no other process's phase changes.
-use Rattle.std.proofs.Common.{List, None, Option, Some, [], ap, get_or-set_other, refl, sym, subst, true, false, ◌++◌, ◌∷◌, ◌≡◌, ◌∙◌, ℕ, ◌-◌, arith}
+use Rattle.std.proofs.Common.{append_assoc, List, None, Option, Some, [], ap, get_or-set_other, refl, sym, subst, true, false, ◌++◌, ◌∷◌, ◌≡◌, ◌∙◌, ℕ, ◌-◌, arith}
 use Rattle.std.specs.List.{find}
 use Rattle.vx_base.specs.Pieces.{Handler}
 use Rattle.vx_base.specs.declared.effects.Effect.TheVariants as effect
@@ -26,7 +26,6 @@ use Rattle.vx_laws.proofs.Calm.{Tags, Still, cancelled_in_calm, phase_calm, rele
 use Rattle.vx_laws.proofs.Named.{dropped_all, all_any}
 use Rattle.vx_laws.proofs.Untouched.{Keeps, Shifts, newcomer, seat_of, seat_in, keep_seats, keep_none, keep_then, cancel_modes_keeps, release_shifts, drop_handlers_keeps, drop_timers_keeps}
 use Rattle.vx_laws.proofs.Allowed.{Test, Allowed, nil, one, join, cancel_modes_allowed, release_allowed, handlers_allowed, timers_allowed}
-use Rattle.vx_laws.proofs.Drains.{append_assoc}
 
 -- no opening is allowed
 abbrev pub closed : Test

@@ -3,7 +3,7 @@ use Rattle.std.proofs.Common.{◌≡◌, ◌∙◌, ℕ, ◌+◌, ◌<◌, ◌�
 use Rattle.std.specs.Prelude.{Contains, option_map, is_some}
 use Rattle.std.specs.List.{AllByRecursion}
 use Rattle.std.proofs.lemmas.Bool.{and_parts, eq-eqb, eqb-true, cases_lt}
-use Rattle.vx_base.specs.Pieces.{Attention, Queued, Request, Timer, Alarm, OfTimer, OfWake}
+use Rattle.vx_base.specs.Pieces.{Queued, Request, Timer, Alarm, OfTimer, OfWake}
 use Rattle.vx_base.specs.Queues.{front, in_service}
 use Rattle.vx_base.specs.declared.call.Call.{Call}
 use Rattle.vx_base.specs.declared.cond.Cond.{Cond}
@@ -49,6 +49,7 @@ use Rattle.vx_laws.specs.RundownLaw.{woken}
 use Rattle.vx_laws.proofs.Allowed.{Test, is_allowed, Allowed, MayOpen, nil, service_allowed, tick_allowed, returned_allowed, started_allowed, delivered_allowed, beg_allowed, don_allowed}
 use Rattle.vx_laws.proofs.Boxed.{Origin, origin, origin_of, origin_on}
 use Rattle.vx_laws.proofs.CalmServices.{test_is}
+use Rattle.vx_laws.proofs.Courses.{Unasked, all_unasked}
 use Rattle.vx_laws.proofs.Emptied.{moves_held}
 use Rattle.vx_laws.proofs.Rests.{is_rundown}
 use Rattle.vx_laws.proofs.Right.{AllRight, IsRight}
@@ -67,11 +68,7 @@ pub record IsOfTimers (P : Timer → Type 0) : Type 0 where
   pub timer : (t : Timer) → IsOfTimer t.what → P t
 
 pub moves_timed : (P : Timer → Type 0) → IsOfTimers P → (s : State) (l : Option Loose) (es : List Effect) (t : State) (m : Option Loose) → Moves s l es t m → Allowed no_wake es → AllByRecursion P s.timers → AllByRecursion P t.timers
-moves_timed P i s l es t m j f h = (moves_held P (λ a. Unit {0}) no_wake (record { due = i.due; timer = λ x is k. i.timer x is; wake = λ x k. absurd (let never : false ≡ true = k in cc); attention = λ a k. tt }) s l es t m j f.all (h, all_any s.attention)).0
-  where
-    all_any : (l : List Attention) → AllByRecursion (λ a. Unit {0}) l
-    all_any [] = tt
-    all_any (x ∷ xs) = (tt, all_any xs)
+moves_timed P i s l es t m j f h = (moves_held P Unasked no_wake (record { due = i.due; timer = λ x is k. i.timer x is; wake = λ x k. absurd (let never : false ≡ true = k in cc); attention = λ a k. tt }) s l es t m j f.all (h, all_unasked s.attention)).0
 
 -- What is said of wakes.
 
