@@ -1,8 +1,7 @@
 -- The queued ASTs of one process.
-use Rattle.std.specs.Prelude.{ℕ, List, Bool, Option, Some, None}
+use Rattle.std.specs.Prelude.{ℕ, List, Option, Some, None}
 use Rattle.std.specs.List.{find}
 use Rattle.vx_base.specs.Lists.{less}
-use Rattle.vx_base.specs.Modes.{reaches}
 use Rattle.vx_base.specs.Pieces.{Queued, Enables}
 use Rattle.vx_base.specs.Queues.{is_of_mode, deliverable}
 use Rattle.vx_base.specs.declared.mode.Mode.{Mode}
@@ -12,10 +11,6 @@ pub record Queue : Type 0 where
   pub items : List Queued
   pub enables : Enables
   pub capacity : ℕ
-
--- an AST of mode m or an outer one
-abbrev pub is_within : Mode → Queued → Bool
-is_within m q = reaches q.mode m
 
 -- the list without an AST that is the first of its mode
 abbrev pub less_first_like : Option Queued → List Queued → List Queued

@@ -4,8 +4,8 @@ ghost use Rattle.std.specs.Prelude.{◌≡◌, ◌<◌, ◌≤◌, ◌+◌, ◌+
 ghost use Rattle.std.specs.List.{find};
 ghost use Rattle.vx_base.specs.Lists.{less};
 ghost use Rattle.vx_base.specs.Pieces.{all_on, is_enabled_in, with_enable};
-ghost use Rattle.vx_base.specs.Queues.{is_of_mode, may_start, deliverable};
-ghost use Rattle.vx_ast.specs.Queue.{is_within, less_deliverable, first_in};
+ghost use Rattle.vx_base.specs.Queues.{is_ast_reached, is_of_mode, may_start, deliverable};
+ghost use Rattle.vx_ast.specs.Queue.{less_deliverable, first_in};
 
 use crate::by_mode::{place_of_mode, place_within};
 use crate::delivery::Delivery;
@@ -115,8 +115,8 @@ impl<R: Routine> AstQueue<R> {
 
     /// Takes out the first AST of a mode or an outer one, in order of queuing: rundown drops them so.
     pub fn flush_first(&mut self, mode: Mode) -> Option<Delivery<R>>
-        ensures found { result ≡ find (is_within mode) self.old.items }
-        ensures after { self.new ≡ record self.old { items = less (is_within mode) self.old.items } }
+        ensures found { result ≡ find (is_ast_reached mode) self.old.items }
+        ensures after { self.new ≡ record self.old { items = less (is_ast_reached mode) self.old.items } }
     {
         let place = place_within(self.items.as_slice(), mode);
         self.items.take(place)

@@ -46,7 +46,7 @@ some_place : (b : Bool) (n i : ℕ) → Some i ≡ cond b (Some n) None → (b �
 some_place true n i e = (refl, cc)
 some_place false n i e = absurd (cc)
 
-none_place : (b : Bool) (n : ℕ) → None ≡ cond b (Some n) None → b ≡ false
+pub none_place : (b : Bool) (n : ℕ) → None ≡ cond b (Some n) None → b ≡ false
 none_place true n e = absurd (cc)
 none_place false n e = refl
 
@@ -100,7 +100,7 @@ amend_at p g xs i d y place is =
     let there = some_place (nat_lt (position_or_len p xs) (length xs)) (position_or_len p xs) i place in
     ap (λ n. slice_set xs n y) there.1 ∙ amend_first p g xs d y (ltb-true _ _ there.0) (is ∙ ap (λ n. g (slice_index_or xs n d)) there.1)
 
-amend_nowhere : {X : Type 0} (p : X → Bool) (g : X → X) (xs : List X) → None ≡ find p xs → xs ≡ amend p g xs
+pub amend_nowhere : {X : Type 0} (p : X → Bool) (g : X → X) (xs : List X) → None ≡ find p xs → xs ≡ amend p g xs
 amend_nowhere p g [] e = refl
 amend_nowhere p g (x ∷ xs) e =
     elim (p x) as (λ b. None ≡ cond b (Some x) (find p xs) → x ∷ xs ≡ cond b (g x ∷ xs) (x ∷ amend p g xs)) [

@@ -1,9 +1,12 @@
 -- The channels of a process: at place n - 1 of a list stands channel n, None where it is free.
-use Rattle.std.specs.Prelude.{ℕ, ◌+◌, ◌-◌, List, [], ◌∷◌, Bool, false, ◌&&◌, nat_lt, nat_le, if◌then◌else◌, Option, Some, None, slice_index_or}
+use Rattle.std.specs.Prelude.{ℕ, ◌+◌, ◌-◌, List, [], ◌∷◌, Bool, false, ◌&&◌, ◌==◌, nat_lt, nat_le, if◌then◌else◌, Option, Some, None, slice_index_or}
 use Rattle.std.specs.List.{find}
 use Rattle.vx_base.specs.Modes.{reaches}
 use Rattle.vx_base.specs.Pieces.{Channel}
 use Rattle.vx_base.specs.declared.mode.Mode.{Mode}
+use Rattle.vx_base.specs.declared.number.BoxNo.{BoxNo}
+use Rattle.vx_base.specs.declared.request.Device.{Device}
+use Rattle.vx_base.specs.declared.request.Device.TheVariants as device
 
 -- channels are numbered from 1 to 64
 abbrev pub is_channel_number : ℕ → Bool
@@ -38,3 +41,13 @@ channels_of m rows = reached_from 1 m rows
 -- the next of them after a number
 abbrev pub next_of_mode : Mode → ℕ → List (Option Channel) → Option ℕ
 next_of_mode m after rows = find (λ n. nat_lt after n) (channels_of m rows)
+
+-- a channel to a mailbox
+
+abbrev pub is_box : BoxNo → Device → Bool
+is_box b (device.Unit u) = false
+is_box b (device.Mailbox c) = b.0 == c.0
+
+abbrev pub is_channel_to : BoxNo → Option Channel → Bool
+is_channel_to b None = false
+is_channel_to b (Some channel) = is_box b channel.device

@@ -1,5 +1,5 @@
 -- Common event flag clusters: who has which associated, and what associating, dissociating and marking do.
-use Rattle.std.specs.Prelude.{ℕ, ◌/◌, List, [], ◌∷◌, ◌++◌, Bool, true, false, ◌&&◌, ◌==◌, not, if◌then◌else◌, Option, Some, None, bytes_eq}
+use Rattle.std.specs.Prelude.{ℕ, ◌/◌, List, [], ◌∷◌, ◌++◌, Bool, true, false, ◌&&◌, ◌==◌, not, nat_le, if◌then◌else◌, Option, Some, None, bytes_eq}
 use Rattle.std.specs.List.{find, list_any}
 use Rattle.vx_base.specs.Lists.{less, amend}
 use Rattle.vx_base.specs.Pieces.{Cluster, Association}
@@ -27,6 +27,10 @@ followed a f = record { effects = a.effects ++ (f a.after).effects; after = (f a
 -- a flag's cluster, by its number: 2 for the flags 64 to 95, 3 for 96 to 127
 abbrev pub cluster_number : ℕ → ℕ
 cluster_number efn = efn / 32
+
+-- it is the number of a flag of a common cluster
+abbrev pub is_common : ℕ → Bool
+is_common efn = nat_le 64 efn && nat_le efn 127
 
 abbrev pub is_cluster : ℕ → List ℕ → Cluster → Bool
 is_cluster group name cl = cl.group == group && bytes_eq cl.name name

@@ -4,6 +4,7 @@ pub mod Cond
 pub mod Entries
 pub mod Flags
 pub mod Frames
+pub mod Handlers
 pub mod Lists
 pub mod Log
 pub mod Modes

@@ -26,6 +26,10 @@ may_start enables current active m = is_enabled_in enables m && (reaches current
 abbrev pub is_of_mode : Mode → Queued → Bool
 is_of_mode m q = rank q.mode == rank m
 
+-- it is of mode m or an outer one
+abbrev pub is_ast_reached : Mode → Queued → Bool
+is_ast_reached m q = reaches q.mode m
+
 -- the first of a mode, where one of that mode may start
 abbrev pub first_of_mode : Enables → Mode → Option Mode → List Queued → Mode → Option Queued
 first_of_mode enables current active asts m = if may_start enables current active m then find (is_of_mode m) asts else None

@@ -4,9 +4,9 @@
 //! bytes, conditions, modes, ids, requests, frames. For the crates above these are data of definitions: a clause sees an
 //! enum or a struct as it stands, and a type with private fields as the list of what it holds.
 //!
-//! `specs/Pieces.antt` has the pieces that the plain state of the executive is made of, `specs/Lists.antt`,
-//! `specs/Flags.antt`, `specs/Queues.antt` and `specs/Serving.antt` the words on them, `specs/Services.antt` the services
-//! with their names and arguments.
+//! `specs/Pieces.antt` has the pieces that the plain state of the executive is made of; `Lists`, `Roomy`, `Flags`, `Modes`, `Frames`,
+//! `Queues`, `Channels`, `Handlers`, `Clusters`, `Quotas`, `Entries` and `Serving` the words on them; `Services` the services with their
+//! names and arguments; `Cond` the table of conditions.
 #![tactic(auto)]
 
 mod buffer;

@@ -1,10 +1,9 @@
 -- What the calls on the channels of a process answer and leave, in the words of `vx_base`.
-use Rattle.std.specs.Prelude.{ℕ, ◌-◌, ◌==◌, List, Bool, false, Option, Some, None, Result, Ok, Err, if◌then◌else◌, slice_set}
+use Rattle.std.specs.Prelude.{ℕ, ◌-◌, List, Option, Some, None, Result, Ok, Err, if◌then◌else◌, slice_set}
 use Rattle.vx_base.specs.Channels.{is_channel_number, channel_at}
 use Rattle.vx_base.specs.Modes.{is_inner}
 use Rattle.vx_base.specs.Pieces.{Channel}
 use Rattle.vx_base.specs.declared.mode.Mode.{Mode}
-use Rattle.vx_base.specs.declared.number.BoxNo.{BoxNo}
 use Rattle.vx_base.specs.declared.request.Device.{Device}
 use Rattle.vx_base.specs.declared.request.Device.TheVariants as device
 use Rattle.vx_chans.specs.declared.chans.ChanFail.{ChanFail}
@@ -32,13 +31,3 @@ allowed current (Some channel) = if is_inner channel.mode current then Err NoPri
 -- IVCHAN where it is no number of a channel
 abbrev pub found : List (Option Channel) → ℕ → Mode → Result (Device × Mode) ChanFail
 found rows n current = if is_channel_number n then allowed current (channel_at rows n) else Err IvChan
-
--- a channel to a mailbox
-
-abbrev pub is_box : BoxNo → Device → Bool
-is_box b (device.Unit u) = false
-is_box b (device.Mailbox c) = b.0 == c.0
-
-abbrev pub is_to : BoxNo → Option Channel → Bool
-is_to b None = false
-is_to b (Some channel) = is_box b channel.device

@@ -1,10 +1,10 @@
 //! Channels by their numbers.
 
 ghost use Rattle.std.specs.Prelude.{◌≡◌, ◌≤◌, replicate, IsTrue, IsSome, IfOk, IfSome, None, length, option_map};
-ghost use Rattle.vx_base.specs.Channels.{is_channel_number, channel_at, least_free, is_reached, next_of_mode};
+ghost use Rattle.vx_base.specs.Channels.{is_box, is_channel_number, is_channel_to, channel_at, least_free, is_reached, next_of_mode};
 ghost use Rattle.std.specs.List.{list_any};
 ghost use Rattle.vx_same.specs.Trimmed.{filled_to, laid_over};
-ghost use Rattle.vx_chans.specs.Chans.{number_or_none, with_channel, without_channel, found, is_box, is_to};
+ghost use Rattle.vx_chans.specs.Chans.{number_or_none, with_channel, without_channel, found};
 
 use crate::row::Row;
 use crate::snapshot::ChansSnapshot;
@@ -143,9 +143,9 @@ impl Chans {
 
     /// Whether a channel is assigned to a mailbox.
     pub fn has_box(&self, b: BoxNo) -> bool
-        ensures { result ≡ list_any (is_to b) self.now }
+        ensures { result ≡ list_any (is_channel_to b) self.now }
     {
-        self.rows.iter().any(|row| is_to(b, row))
+        self.rows.iter().any(|row| is_channel_to(b, row))
     }
 
     /// Frees a channel that is assigned ($DASSGN). Takes no memory.
@@ -207,8 +207,8 @@ fn is_reached(mode: Mode, row: &Option<Row>) -> bool
 }
 
 /// Whether a channel is assigned to a mailbox.
-fn is_to(b: BoxNo, row: &Option<Row>) -> bool
-    ensures { result ≡ is_to b row.now }
+fn is_channel_to(b: BoxNo, row: &Option<Row>) -> bool
+    ensures { result ≡ is_channel_to b row.now }
 {
     match row {
         Some(row) => is_box(row.device(), b),

@@ -15,7 +15,7 @@ use Rattle.vx_journal.specs.RunJournal.{run_journal}
 use Rattle.vx_journal.specs.Transcript.{trailer_lines}
 use Rattle.vx_check.specs.Laws.{RunJudged, TranscriptJudged}
 use Rattle.vx_check.specs.Verdict.{of_run, ended_verdict, limit_for, trailer_verdict}
-use Rattle.vx_lines.proofs.EffectsBack.{bytes_same}
+use Rattle.vx_base.proofs.Texts.{same_bytes}
 
 -- how a run has ended by its limit is how it has by its number of records
 
@@ -43,7 +43,7 @@ run_judged system recs limit end run above h =
     let n : ℕ = length recs in
     let trailer : List ℕ = ended_lines (trailer_lines s end n) in
     let ended : end_after system recs (limit_for n) ≡ Some end = by_events limit n (are_deleted s) (enabled s) end above h in
-    let own : trailer_verdict s n trailer (Some end) ≡ ended_verdict end n = rw (bytes_same trailer) refl in
+    let own : trailer_verdict s n trailer (Some end) ≡ ended_verdict end n = rw (same_bytes trailer) refl in
     of_run run (sym (ap (trailer_verdict s n trailer) ended ∙ own))
 
 pub transcript_judged : TranscriptJudged

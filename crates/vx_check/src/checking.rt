@@ -94,7 +94,7 @@ pub fn part_verdict(
         return Ok(Verdict::Bad(n + 1));
     };
     let mut text = Bytes::new(alloc);
-    print_trailer(alloc, exec, end, &mut text)?;
+    print_trailer(exec, end, &mut text)?;
     if text.as_slice() == trailer {
         Ok(ended_verdict(end, n))
     } else {

@@ -19,7 +19,7 @@ use vx_image::System;
 use vx_journal::{Front, JournalFail, Part, read_front, read_trailer};
 use vx_lines::LinesFail;
 
-/// How a run has ended that an executive took with the most records of a run as its limit, where its limit is the number of its records.
+/// How the run ended. The executive's own limit is 100,000; if it has taken a record and could go on, the run ended at its limit.
 fn ended_for(exec: &Exec<Scripted>) -> Option<End>
     requires { exec.now.limit ≡ 100000 }
     ensures { result ≡ end_for exec.now.taken (end_of exec.now.limit exec.now.taken exec.now.state) }

@@ -5,7 +5,7 @@ use Rattle.vx_base.specs.Clusters.{Common, Change, unchanged, followed, is_clust
 use Rattle.vx_base.specs.Lists.{amend}
 use Rattle.vx_base.specs.Pieces.{Cluster, Association}
 use Rattle.vx_base.specs.declared.number.Pid.{Pid}
-use Rattle.vx_clusters.specs.Clusters.{associate, dissociate, mark, associate_refusal, dissociate_refusal, mark_refusal, unless}
+use Rattle.vx_clusters.specs.Clusters.{associate, dissociate, associate_refusal, dissociate_refusal, unless}
 use Rattle.vx_clusters.specs.declared.fail.AscFail.{AscFail}
 
 -- of two changes
@@ -58,6 +58,3 @@ marked_at_few c (Some cl) =
     let kept : Change = record { effects = []; after = record c { clusters = amend (is_cluster cl.group cl.name) with_mark c.clusters } } in
     choice 1 (not cl.permanent) (unchanged c) (if is_used c cl.group cl.name then kept else gone c cl.group cl.name) (omega arith)
     (choice 1 (is_used c cl.group cl.name) kept (gone c cl.group cl.name) (omega arith) (omega arith))
-
-pub mark_few : (c : Common) (group : ℕ) (name : List ℕ) (may : Bool) → length (mark c group name may).effects ≤ 1
-mark_few c group name may = refused_few 1 (mark_refusal may) c (marked c group name) (marked_at_few c (find (is_cluster group name) c.clusters))

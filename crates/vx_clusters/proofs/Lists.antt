@@ -1,21 +1,10 @@
 -- Lists without one item, with one more, and with no two items that are the same.
-use Rattle.std.proofs.Common.{◌≡◌, List, [], ◌∷◌, ◌++◌, Bool, false, ◌||◌, not, IsTrue, Some, None, inl, inr, refl}
-use Rattle.std.specs.List.{find, list_any, list_all}
+use Rattle.std.proofs.Common.{◌≡◌, List, [], ◌∷◌, ◌++◌, Bool, false, not, IsTrue, inl, inr, refl}
+use Rattle.std.specs.List.{list_any, list_all}
 use Rattle.std.proofs.lemmas.Bool.{cases_Bool, and_parts, and_from, or_cases, or_left, or_right, or_parts, or_from, not-true, not_from_false, false_from_ne_true, both_ways}
 use Rattle.vx_base.specs.Lists.{less}
 use Rattle.vx_clusters.specs.Sound.{are_apart}
-
-pub any_less : {A : Type 0} (p q : A → Bool) (xs : List A) → IsTrue (list_any q (less p xs)) → IsTrue (list_any q xs)
-any_less p q [] h = h
-any_less p q (x ∷ xs) h = elim (cases_Bool (p x)) [
-  | inl passes ↦ let below : IsTrue (list_any q xs) = rw passes at h in or_right (q x) (list_any q xs) below
-  | inr fails ↦
-      let both : IsTrue (q x || list_any q (less p xs)) = rw fails at h in
-      elim (or_cases (q x) (list_any q (less p xs)) both) [ inl here ↦ or_left (q x) (list_any q xs) here | inr below ↦ or_right (q x) (list_any q xs) (any_less p q xs below) ]
-]
-
-pub none_less : {A : Type 0} (p q : A → Bool) (xs : List A) → list_any q xs ≡ false → list_any q (less p xs) ≡ false
-none_less p q xs none = false_from_ne_true _ (λ some. both_ways _ none (any_less p q xs some))
+use Rattle.vx_base.proofs.Any.{none_less}
 
 pub all_less : {A : Type 0} (p q : A → Bool) (xs : List A) → IsTrue (list_all q xs) → IsTrue (list_all q (less p xs))
 all_less p q [] all = all
@@ -75,10 +64,3 @@ apart_push same (x ∷ xs) y apart none =
     let parts = and_parts (not (list_any (same x) xs)) (are_apart same xs) apart in
     let nones = or_parts (same x y) (list_any (λ z. same z y) xs) none in
     and_from _ _ (not_from_false _ (none_push (same x) xs y (not-true _ parts.0) nones.0)) (apart_push same xs y parts.1 nones.1)
-
-pub none_found : {A : Type 0} (p : A → Bool) (xs : List A) → find p xs ≡ None → list_any p xs ≡ false
-none_found p [] none = refl
-none_found p (x ∷ xs) none = elim (cases_Bool (p x)) [
-  | inl passes ↦ let here : Some x ≡ None = rw passes at none in absurd (cc)
-  | inr fails ↦ let below : find p xs ≡ None = rw fails at none in or_from _ _ fails (none_found p xs below)
-]

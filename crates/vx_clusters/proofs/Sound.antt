@@ -11,7 +11,9 @@ use Rattle.vx_base.specs.declared.number.Pid.{Pid}
 use Rattle.vx_base.proofs.First.{found_passes}
 use Rattle.vx_clusters.specs.Clusters.{with_flag_at, no_cluster}
 use Rattle.vx_clusters.specs.Sound.{are_apart, is_same_cluster, is_same_association, has_cluster, IsSound}
-use Rattle.vx_clusters.proofs.Lists.{all_less, apart_less, none_stronger, any_push, any_last, all_push, all_weaker, apart_push, none_found}
+use Rattle.vx_clusters.proofs.Lists.{all_less, apart_less, none_stronger, any_push, any_last, all_push, all_weaker, apart_push}
+use Rattle.vx_base.proofs.Any.{none_any}
+use Rattle.vx_base.proofs.Clusters.{swept_keeps as swept_associations}
 
 -- Keys.
 
@@ -109,13 +111,6 @@ dissociated_keeps c p k s = dissociated_at_keeps c p k (find (is_association p k
 
 -- After it the process has nothing there.
 
-swept_at_associations : (c : Common) (o : Option Cluster) → (swept_at c o).after.associations ≡ c.associations
-swept_at_associations c None = refl
-swept_at_associations c (Some cl) = elim (cl.permanent && not cl.marked) as (λ b. (if b then unchanged c else gone c cl.group cl.name).after.associations ≡ c.associations) [ true ↦ refl | false ↦ refl ]
-
-swept_associations : (c : Common) (group : ℕ) (name : List ℕ) → (swept c group name).after.associations ≡ c.associations
-swept_associations c group name = elim (is_used c group name) as (λ b. (if b then unchanged c else swept_at c (find (is_cluster group name) c.clusters)).after.associations ≡ c.associations) [ true ↦ refl | false ↦ swept_at_associations c (find (is_cluster group name) c.clusters) ]
-
 none_left : (p : Pid) (k : ℕ) (xs : List Association) → IsTrue (are_apart is_same_association xs) → list_any (is_association p k) (less (is_association p k) xs) ≡ false
 none_left p k [] apart = refl
 none_left p k (x ∷ xs) apart =
@@ -128,7 +123,7 @@ none_left p k (x ∷ xs) apart =
     ]
 
 dissociated_at_none : (c : Common) (p : Pid) (k : ℕ) (o : Option Association) → find (is_association p k) c.associations ≡ o → IsSound c → list_any (is_association p k) (dissociated_at c p k o).after.associations ≡ false
-dissociated_at_none c p k None found s = none_found (is_association p k) c.associations found
+dissociated_at_none c p k None found s = none_any (is_association p k) c.associations found
 dissociated_at_none c p k (Some a) found s = ap (list_any (is_association p k)) (swept_associations (parted c p k).after a.group a.name) ∙ none_left p k c.associations s.associations
 
 -- Making and joining.

@@ -1,7 +1,7 @@
 -- What the calls on the common event flag clusters answer and leave, in the words of `vx_base`.
-use Rattle.std.specs.Prelude.{◌≡◌, ℕ, List, [], Bool, false, ◌&&◌, not, nat_le, if◌then◌else◌, Option, Some, None, Result, Ok, Err, slice_index_or, slice_set, position}
+use Rattle.std.specs.Prelude.{◌≡◌, ℕ, List, [], Bool, false, ◌&&◌, not, if◌then◌else◌, Option, Some, None, Result, Ok, Err, slice_index_or, slice_set, position}
 use Rattle.std.specs.List.{find}
-use Rattle.vx_base.specs.Clusters.{Common, Change, unchanged, cluster_number, is_cluster, is_association, stands, associated, dissociated, marked}
+use Rattle.vx_base.specs.Clusters.{Common, Change, unchanged, cluster_number, is_cluster, is_common, is_association, stands, associated, dissociated, marked}
 use Rattle.vx_base.specs.Flags.{with_flag}
 use Rattle.vx_base.specs.Log.{Log, logged}
 use Rattle.vx_base.specs.Pieces.{Cluster, Association}
@@ -20,10 +20,6 @@ none = record { common = record { clusters = []; associations = [] }; cluster_ca
 
 abbrev pub with_clusters : Shared → List Cluster → Shared
 with_clusters s clusters = record s { common = record s.common { clusters = clusters } }
-
--- the numbers of the flags of common clusters
-abbrev pub is_common : ℕ → Bool
-is_common efn = nat_le 64 efn && nat_le efn 127
 
 -- $ASCEFC: ILLEFC where the flag is of no common cluster; NOPRIV for a permanent cluster that is not there, without the
 -- privilege

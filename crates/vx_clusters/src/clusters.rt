@@ -2,12 +2,12 @@
 
 ghost use Rattle.std.specs.Prelude.{◌≡◌, ◌<◌, ◌≤◌, length, IfOk, IfSome, OnOk, OnErr, Some, None, true, false, if◌then◌else◌, option_map, position};
 ghost use Rattle.std.specs.List.{find};
-ghost use Rattle.vx_base.specs.Clusters.{cluster_number, is_association, is_cluster};
+ghost use Rattle.vx_base.specs.Clusters.{cluster_number, is_association, is_cluster, is_common};
 ghost use Rattle.vx_base.specs.Flags.{is_set};
 ghost use Rattle.vx_base.specs.Log.{HasRoom};
 ghost use Rattle.vx_clusters.specs.Clusters.{answer, associate_refusal, dissociate_refusal, mark_refusal};
 ghost use Rattle.vx_clusters.specs.Clusters.{Does, associate, dissociate, mark};
-ghost use Rattle.vx_clusters.specs.Clusters.{none, is_common, resolved, cluster_at, with_flag_at};
+ghost use Rattle.vx_clusters.specs.Clusters.{none, resolved, cluster_at, with_flag_at};
 ghost use Rattle.vx_clusters.specs.Sound.{IsSound};
 
 use crate::cluster::NewCluster;

@@ -36,7 +36,7 @@ fn transcript<Q: Threads + Wait + Sync, G: Gate + Sync>(
     let mut text = print_script(alloc, &system)?;
     let exec = Exec::<Scripted>::new(alloc, system, crew.limit)?;
     let (exec, recs, end) = run_pool(rt, alloc, exec, gate, crew.cpus)?;
-    let printed = print_run(alloc, &exec, recs.as_slice(), end, &mut text);
+    let printed = print_run(&exec, recs.as_slice(), end, &mut text);
     drop(exec);
     drop(recs);
     match printed {

@@ -1,8 +1,8 @@
 //! Services on event flags.
 
-ghost use Rattle.std.specs.Prelude.{◌≡◌};
+ghost use Rattle.std.specs.Prelude.{◌≡◌, true};
 ghost use Rattle.vx_record.specs.State.{IsProcess};
-ghost use Rattle.vx_record.specs.Flags.{clref, flag_part, how_it_was, readef, setef};
+ghost use Rattle.vx_record.specs.Flags.{cell, clref, flag_part, flag_where_named, how_it_was, readef, setef};
 ghost use Rattle.vx_procs.specs.Cells.{IsCell};
 ghost use Rattle.vx_procs.specs.Kernel.{Acts, Does, DoesQuietly, Fits};
 ghost use Rattle.vx_procs.specs.Ready.{IsReady};
@@ -29,6 +29,19 @@ pub fn put_cell<R: Routine>(core: &mut Core<R>, cell: Cell, on: bool)
 {
     core.set_flag(&cell, on);
     core.tell(Effect::Flag { cell, bit: on });
+}
+
+/// FLAG: sets an event flag of a process, if the number names one now.
+#[tactic(auto, using(crate::proofs::Told::told_none))]
+pub fn set_where_named<R: Routine>(core: &mut Core<R>, p: Pid, efn: u32)
+    requires made { IsProcess core.old.state p }
+    requires room { Fits core.old (flag_where_named core.old.state (cell core.old.state p efn) true).effects }
+    ensures { Acts (flag_where_named core.old.state (cell core.old.state p efn) true) core.old core.new }
+{
+    let Some(cell) = core.cell(p, efn) else {
+        return;
+    };
+    put_cell(core, cell, true);
 }
 
 // Sets or clears the event flag of a number.

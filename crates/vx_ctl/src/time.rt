@@ -3,30 +3,16 @@
 ghost use Rattle.std.specs.Prelude.{◌≡◌, ◌<◌, ◌≤◌, ◌^◌, true, is_some};
 ghost use Rattle.std.specs.List.{find};
 ghost use Rattle.vx_record.specs.State.{IsProcess};
-ghost use Rattle.vx_record.specs.Flags.{cell, flag_where_named};
 ghost use Rattle.vx_record.specs.Timers.{gettim, is_due, next_time, tick};
 ghost use Rattle.vx_record.specs.Sound.{AreOrdered, timer_id};
 ghost use Rattle.vx_record.specs.Control.{with_wake};
 ghost use Rattle.vx_procs.specs.Kernel.{Acts, Fits, changed, with_state};
 ghost use Rattle.vx_ctl.specs.Firing.{AreFiring, due_part, firing, woken_off};
 
-use crate::flags::put_cell;
+use crate::flags::set_where_named;
 use vx_base::{Effect, Pid, Routine};
 use vx_procs::Core;
 use vx_timers::Falls;
-
-// Sets an event flag of a process, where the number names one.
-#[tactic(auto, using(crate::proofs::Told::told_none))]
-fn set_where_named<R: Routine>(core: &mut Core<R>, p: Pid, efn: u32)
-    requires made { IsProcess core.old.state p }
-    requires room { Fits core.old (flag_where_named core.old.state (cell core.old.state p efn) true).effects }
-    ensures { Acts (flag_where_named core.old.state (cell core.old.state p efn) true) core.old core.new }
-{
-    let Some(cell) = core.cell(p, efn) else {
-        return;
-    };
-    put_cell(core, cell, true);
-}
 
 // A wake that is due ends, or is due so many ticks later.
 fn end_or_put_off<R: Routine>(core: &mut Core<R>, now: u64, repeat: u32)

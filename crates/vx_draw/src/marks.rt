@@ -240,7 +240,7 @@ fn effect_title(alloc: Global, effect: &Effect) -> Result<Bytes, NoMemory>
     ensures { IfOk result (λ title. title ≡ spec.effect_title effect.now) }
 {
     let mut title = Bytes::new(alloc);
-    print_effects(alloc, from_ref(effect), &mut title)?;
+    print_effects(from_ref(effect), &mut title)?;
     Ok(title)
 }
 

@@ -53,7 +53,7 @@ fn said_title(alloc: Global, rec: &Rec) -> Result<Bytes, NoMemory>
     let mut title = Bytes::new(alloc);
     print_deed(rec, &mut title)?;
     title.push_all(b"\n")?;
-    print_effects(alloc, rec.effects.as_slice(), &mut title)?;
+    print_effects(rec.effects.as_slice(), &mut title)?;
     Ok(title)
 }
 

@@ -58,7 +58,7 @@ fn ending_here(alloc: Global, exec: &Exec<Scripted>) -> Result<RunEnding, NoMemo
     ensures { IfOk result (λ ending. ending ≡ ending_in exec.now) }
 {
     let mut trailer = Bytes::new(alloc);
-    print_outcome(alloc, exec, b" ", &mut trailer)?;
+    print_outcome(exec, b" ", &mut trailer)?;
     let end = exec.ended().unwrap_or(End::Limit);
     Ok(RunEnding { end, trailer })
 }

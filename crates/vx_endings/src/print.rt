@@ -24,7 +24,7 @@ fn print_more_places(places: &[u32], out: &mut Bytes) -> Result<(), NoMemory>
     Ok(())
 }
 
-/// Appends places, with a comma between two.
+/// Appends a space and places, with a comma between two; nothing if there are none.
 fn print_places(places: &[u32], out: &mut Bytes) -> Result<(), NoMemory>
     ensures { OnOk result (out.new ≡ out.old ++ places_text places.now) }
 {

@@ -1,5 +1,5 @@
 -- Words for scripts and for the records of their runs, so that examples read as transcripts do.
-use Rattle.std.specs.Prelude.{ℕ, List, [], ◌∷◌, Bool, true, false, Option, Some, None, slice_index_or}
+use Rattle.std.specs.Prelude.{ℕ, List, [], ◌∷◌, Bool, true, Option, Some, None, slice_index_or}
 use Rattle.vx_base.specs.declared.call.Arg.{Arg}
 use Rattle.vx_base.specs.declared.call.Arg.TheVariants as arg
 use Rattle.vx_base.specs.declared.call.Call.{Call}
@@ -18,7 +18,6 @@ use Rattle.vx_base.specs.declared.number.Id.{Id}
 use Rattle.vx_base.specs.declared.number.Pid.{Pid}
 use Rattle.vx_base.specs.declared.number.UnitNo.{UnitNo}
 use Rattle.vx_base.specs.declared.quota.Need.{Need}
-use Rattle.vx_base.specs.declared.quota.Privs.{Privs}
 use Rattle.vx_base.specs.declared.record.Answer.{Answer}
 use Rattle.vx_base.specs.declared.record.Answer.TheVariants as answer
 use Rattle.vx_base.specs.declared.record.Event.{Event}
@@ -30,6 +29,7 @@ use Rattle.vx_base.specs.declared.service.Service.{Service}
 use Rattle.vx_image.specs.declared.decl.ProcDecl.{ProcDecl}
 use Rattle.vx_image.specs.declared.stmt.Stmt.{Stmt}
 use Rattle.vx_image.specs.declared.stmt.Stmt.TheVariants as stmt
+pub use Rattle.vx_base.specs.Quotas.{no_privs}
 
 -- Numbers that name things.
 
@@ -118,9 +118,6 @@ abbrev pub calls : Service → List Arg → Stmt
 calls service args = stmt.Service (call service args)
 
 -- Process declarations.
-
-abbrev pub no_privs : Privs
-no_privs = record { cmexec = false; cmkrnl = false; group = false; prmceb = false; prmmbx = false; world = false }
 
 abbrev pub usual_limits : Need
 usual_limits = record { ast = 24; bio = 18; dio = 18; byt = 8192; tqe = 10 }

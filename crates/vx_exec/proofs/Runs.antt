@@ -1,5 +1,5 @@
 -- A run goes on by a step, as the seed chooses, and ends.
-use Rattle.std.proofs.Common.{◌≡◌, ℕ, zero, suc, ◌+◌, ◌-◌, ◌<◌, ◌≤◌, List, [], ◌∷◌, ◌++◌, Bool, length, length-append, Some, None, Contains, slice_index_or, refl, sym, ap, subst, ◌∙◌, arith}
+use Rattle.std.proofs.Common.{◌≡◌, ℕ, zero, suc, ◌+◌, ◌-◌, ◌<◌, ◌≤◌, List, [], ◌∷◌, ◌++◌, Bool, length, length-append, Some, None, Contains, refl, sym, ap, subst, ◌∙◌, arith}
 use Rattle.std.proofs.lemmas.Bool.Decides.{nat_tests}
 use Rattle.std.proofs.lemmas.List.{append_assoc, append-nil}
 use Rattle.vx_base.specs.declared.record.End.{End}
@@ -12,6 +12,7 @@ use Rattle.vx_record.specs.Runs.{AreSteps, IsStep, after_from, are_deleted, choo
 use Rattle.vx_exec.specs.Picks.{moved_seed, picked_event}
 use Rattle.vx_exec.specs.Taken.{EndsRun, IsChosenRun, TakesRun}
 use Rattle.vx_exec.specs.View.{Executive, after_step, plan}
+use Rattle.vx_base.proofs.Lists.{any_default}
 
 pub steps_more : (s : State) (rs : List Rec) (r : Rec) → AreSteps s rs → IsStep (after_from s rs) r → AreSteps s (rs ++ r ∷ [])
 steps_more s [] r h k = (k, tt)
@@ -25,12 +26,6 @@ after_more s (x ∷ rs) r = after_more (step s x.event).after rs r
 pub is_step : (s : State) (e : Event) (r : Rec) → Contains (enabled s) e → r ≡ record_of s e → IsStep s r
 is_step s e r there is = subst (IsStep s) (sym is) (record { enabled = there; answer = refl; effects = refl })
 
--- the default does not matter within a list
-pub get_default : {A : Type 0} (xs : List A) (i : ℕ) (d e : A) → i < length xs → slice_index_or xs i d ≡ slice_index_or xs i e
-get_default [] i d e within = absurd (omega arith)
-get_default (x ∷ xs) zero d e within = refl
-get_default (x ∷ xs) (suc i) d e within = get_default xs i d e (omega arith)
-
 -- what is picked is there
 pub picked_there : (x : ℕ) (es : List Event) (e : Event) → Some e ≡ picked_event x es → Contains es e
 picked_there x [] e is = absurd (cc)
@@ -38,7 +33,7 @@ picked_there x (f ∷ es) e is =
     let i = picked (next_seed x) (length (f ∷ es)) in
     let same : e ≡ pick x f es = cc in
     let within : i < length (f ∷ es) = omega arith in
-    (i, within, get_default (f ∷ es) i e f within ∙ sym same)
+    (i, within, any_default (f ∷ es) i e f within ∙ sym same)
 
 goes_below : (limit taken : ℕ) (deleted : Bool) (es : List Event) → None ≡ end_with limit taken deleted es → taken < limit
 goes_below limit taken deleted [] h = absurd (cc)

@@ -12,6 +12,7 @@
 //! takes other events, and is given back with the reply (`specs/Leases.antt`). It steps as `Exec` does. An `Exec` never has a unit out.
 #![tactic(auto)]
 
+mod arguments;
 mod block;
 mod engine;
 mod events;

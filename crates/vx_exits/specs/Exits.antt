@@ -1,6 +1,7 @@
 -- The exit handlers of a process, the newest first.
-use Rattle.std.specs.Prelude.{◌∷◌, Bool, true, ◌&&◌, ◌==◌, if◌then◌else◌, Option, Some, None, Result, Ok, Err}
-use Rattle.vx_base.specs.Modes.{rank, is_kernel}
+use Rattle.std.specs.Prelude.{◌∷◌, Bool, ◌&&◌, if◌then◌else◌, Option, Some, None, Result, Ok, Err}
+use Rattle.vx_base.specs.Handlers.{is_handler_of}
+use Rattle.vx_base.specs.Modes.{is_kernel}
 use Rattle.vx_base.specs.Pieces.{Handler}
 use Rattle.vx_base.specs.Roomy.{Roomy, with_items}
 use Rattle.vx_base.specs.declared.mode.Mode.{Mode}
@@ -18,14 +19,8 @@ Stack = Roomy Handler
 abbrev pub declared : Stack → Handler → Stack
 declared s h = if is_kernel h.mode then s else with_items s (h ∷ s.items)
 
-abbrev pub is_of_mode : Mode → Handler → Bool
-is_of_mode mode h = rank h.mode == rank mode
-
 abbrev pub is_tagged : Mode → Entry → Handler → Bool
-is_tagged mode tag h = is_of_mode mode h && is_same_entry h.tag tag
-
-abbrev pub is_any : Handler → Bool
-is_any h = true
+is_tagged mode tag h = is_handler_of mode h && is_same_entry h.tag tag
 
 -- what is known of a handler that is handed out: its id and its tag
 abbrev pub known : Handler → Id × Entry

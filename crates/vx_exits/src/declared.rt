@@ -2,7 +2,8 @@
 
 ghost use Rattle.std.specs.Prelude.{◌≡◌, IsTrue, ◌↔◌};
 ghost use Rattle.vx_base.specs.Entries.{is_same_entry};
-ghost use Rattle.vx_exits.specs.Exits.{is_of_mode, is_tagged, known, handed};
+ghost use Rattle.vx_base.specs.Handlers.{is_handler_of};
+ghost use Rattle.vx_exits.specs.Exits.{is_tagged, known, handed};
 
 use std::marker::Model;
 use vx_base::{Duplicate, Entry, Id, Mode, NoMemory, Routine, Same};
@@ -32,7 +33,7 @@ impl<R: Routine> Declared<R> {
 
     /// Whether it is of a mode.
     pub(crate) fn is_of_mode(&self, mode: Mode) -> bool
-        ensures { result ≡ is_of_mode mode self.now }
+        ensures { result ≡ is_handler_of mode self.now }
     {
         self.mode.rank() == mode.rank()
     }

@@ -3,9 +3,10 @@
 ghost use Rattle.std.specs.Prelude.{◌≡◌, ◌↔◌, ◌<◌, ◌≤◌, [], length, IsTrue, IsErr, IfErr, IfSome, OnOk, OnErr};
 ghost use Rattle.std.specs.Prelude.{IfOk, option_map, position};
 ghost use Rattle.std.specs.List.{find};
+ghost use Rattle.vx_base.specs.Handlers.{any_handler, is_handler_of};
 ghost use Rattle.vx_base.specs.Lists.{less};
 ghost use Rattle.vx_base.specs.Modes.{is_kernel};
-ghost use Rattle.vx_exits.specs.Exits.{declared, is_of_mode, is_tagged, is_any};
+ghost use Rattle.vx_exits.specs.Exits.{declared, is_tagged};
 ghost use Rattle.vx_exits.specs.Exits.{known, handed, handed_or, or_no_handler};
 
 use crate::declared::Declared;
@@ -88,8 +89,8 @@ impl<R: Routine> Exits<R> {
 
     /// Takes out the newest handler of a mode, if there is one.
     pub fn pop(&mut self, mode: Mode) -> Option<(Id, R)>
-        ensures handler { option_map (handed R.tagged) result ≡ option_map known (find (is_of_mode mode) self.old.items) }
-        ensures after { self.new ≡ record self.old { items = less (is_of_mode mode) self.old.items } }
+        ensures handler { option_map (handed R.tagged) result ≡ option_map known (find (is_handler_of mode) self.old.items) }
+        ensures after { self.new ≡ record self.old { items = less (is_handler_of mode) self.old.items } }
     {
         let place = place_of_mode(self.items.as_slice(), mode);
         let handler = self.items.take(place)?;
@@ -98,8 +99,8 @@ impl<R: Routine> Exits<R> {
 
     /// Takes out the newest handler, if there is one.
     pub fn pop_any(&mut self) -> Option<(Id, R)>
-        ensures handler { option_map (handed R.tagged) result ≡ option_map known (find is_any self.old.items) }
-        ensures after { self.new ≡ record self.old { items = less is_any self.old.items } }
+        ensures handler { option_map (handed R.tagged) result ≡ option_map known (find any_handler self.old.items) }
+        ensures after { self.new ≡ record self.old { items = less any_handler self.old.items } }
     {
         let handler = self.items.take_first()?;
         Some(handler.parts())
@@ -124,7 +125,7 @@ impl<R: Routine> Exits<R> {
 
 /// Where the first handler of a mode is.
 fn place_of_mode<R: Routine>(items: &[Declared<R>], mode: Mode) -> Option<usize>
-    ensures place { result ≡ position (is_of_mode mode) items.now }
+    ensures place { result ≡ position (is_handler_of mode) items.now }
     ensures within { IfSome result (λ i. i < length items.now) }
 {
     items.iter().position(|handler| handler.is_of_mode(mode))

@@ -19,14 +19,15 @@ use Rattle.vx_base.specs.declared.service.Service.{Service}
 use Rattle.vx_base.specs.Services.{service_name, service_rows, service_row, all_services, params_of, args_of, is_of_kind, is_operand, is_target, kind_of}
 use Rattle.vx_text.specs.declared.token.Tok.{Tok}
 use Rattle.vx_text.specs.declared.token.Tok.TheVariants as tok
-use Rattle.vx_text.proofs.Runs.{by_test}
 use Rattle.vx_table.specs.declared.fail.CallFail.{CallFail}
 use Rattle.vx_table.specs.Reading.{operand_word, target_word, mode_word, func_word, word_arg, token_arg, arg_or, default_of, read_arg, is_comma, onto_first, cut, pieces, and_args, read_args, as_args, call_with, read_row, read_named, read_call}
 use Rattle.vx_table.specs.Spelling.{mode_name, func_name, arg_token, comma}
 use Rattle.vx_table.proofs.Back.{no_comma, kind_used, token_back, named_back}
 use Rattle.vx_table.proofs.Calls.{IsOperandOr, IsTargetOr, operand_is, target_is}
 use Rattle.vx_grammar.specs.Grammar.{Argument, stands, left_out, Arguments, no_params, by_piece, with_no_piece, between_commas}
-use Rattle.vx_grammar.proofs.Fields.{name_is, found_name, operand_name, target_name}
+use Rattle.vx_grammar.proofs.Fields.{found_name, operand_name, target_name}
+use Rattle.vx_base.proofs.Texts.{bytes_are}
+use Rattle.vx_base.proofs.Bools.{either_by}
 
 -- Pieces.
 
@@ -143,7 +144,7 @@ cond_spelled _ c a h = absurd (cc)
 
 sign_spelled : (k : Kind) (s : ℕ) (a : Arg) → token_arg k (tok.Sign s) ≡ Some a → IsTokenOf k (tok.Sign s) a
 sign_spelled kind.LabelOrNone s a h =
-    by_test {A = Option Arg} (λ o. o ≡ Some a → IsTokenOf kind.LabelOrNone (tok.Sign s) a) (s == 45) (Some (arg.Label None)) None
+    either_by {A = Option Arg} (λ o. o ≡ Some a → IsTokenOf kind.LabelOrNone (tok.Sign s) a) (s == 45) (Some (arg.Label None)) None
     (λ e h. subst (λ (b : Arg). IsTokenOf kind.LabelOrNone (tok.Sign s) b) (let e : arg.Label None ≡ a = cc in e) (ap tok.Sign (eqb-true s 45 e), refl))
     (λ _ h. absurd (cc)) h
 sign_spelled _ s a h = absurd (cc)
@@ -207,8 +208,8 @@ row_spelled s name ts c e h =
 named_spelled : (services : List Service) (name : List ℕ) (ts : List Tok) (c : Call) → read_named (map service_row services) name ts ≡ Ok c → SpellsCall name ts c
 named_spelled [] name ts c h = absurd (cc)
 named_spelled (s ∷ services) name ts c h =
-    by_test {A = Result Call CallFail} (λ r. r ≡ Ok c → SpellsCall name ts c) (bytes_eq (service_name s) name) _ _
-    (λ e h. row_spelled s name ts c (sym (name_is (service_name s) name e)) h)
+    either_by {A = Result Call CallFail} (λ r. r ≡ Ok c → SpellsCall name ts c) (bytes_eq (service_name s) name) _ _
+    (λ e h. row_spelled s name ts c (sym (bytes_are (service_name s) name e)) h)
     (λ _ h. named_spelled services name ts c h) h
 
 -- what is read as a call is spelled as the call

@@ -2,7 +2,6 @@
 use Rattle.std.proofs.Common.{◌≡◌, ℕ, ◌+◌, ◌≤◌, ◌==◌, ◌&&◌, Bool, true, false, nat_le, List, [], ◌∷◌, length, drop, find, codes, Option, Some, None, Result, Ok, Err, option_map, slice_index, bytes_eq, refl, sym, subst, ap, ◌∙◌, arith}
 use Rattle.std.proofs.lemmas.Bool.{and_parts, leb-true, eqb-true}
 use Rattle.std.proofs.lemmas.List.{drop-drop}
-use Rattle.std.proofs.lemmas.Slice.Eq.{bytes_eq-Decides}
 use Rattle.vx_base.specs.declared.call.Operand.{Operand}
 use Rattle.vx_base.specs.declared.call.Operand.TheVariants as operand
 use Rattle.vx_base.specs.declared.call.Target.{Target}
@@ -10,7 +9,6 @@ use Rattle.vx_base.specs.declared.call.Target.TheVariants as target
 use Rattle.vx_base.specs.Name.{is_capital}
 use Rattle.vx_text.specs.declared.token.Tok.{Tok}
 use Rattle.vx_text.specs.declared.token.Tok.TheVariants as tok
-use Rattle.vx_text.proofs.Runs.{by_test}
 use Rattle.vx_table.specs.Reading.{letter, long_operand, operand_word, operand_of, target_word}
 use Rattle.vx_table.specs.Spelling.{operand_token, target_token}
 use Rattle.vx_script.specs.Results.{◌>>=◌, given}
@@ -19,6 +17,8 @@ use Rattle.vx_script.specs.declared.fault.FaultKind.{FaultKind}
 use Rattle.vx_script.specs.declared.fault.FaultKind.TheVariants as kind
 use Rattle.vx_grammar.specs.Grammar.{Between}
 use Rattle.vx_base.proofs.First.{found_passes}
+use Rattle.vx_base.proofs.Texts.{bytes_are}
+use Rattle.vx_base.proofs.Bools.{either_by}
 
 -- Chains and tests.
 
@@ -35,14 +35,8 @@ pub when_ok : (b : Bool) (k : FaultKind) (u : Unit {0}) → when b k ≡ Ok u �
 when_ok true k u h = refl
 when_ok false k u h = absurd (cc)
 
-pub same_name : (a : List ℕ) → bytes_eq a a ≡ true
-same_name a = (bytes_eq-Decides a a).1 refl
-
-pub name_is : (a b : List ℕ) → bytes_eq a b ≡ true → a ≡ b
-name_is a b h = (bytes_eq-Decides a b).0 h
-
 pub found_name : {A : Type 0} (name : A → List ℕ) (xs : List A) (word : List ℕ) (x : A) → find (λ a. bytes_eq word (name a)) xs ≡ Some x → word ≡ name x
-found_name name xs word x h = name_is word (name x) (found_passes (λ a. bytes_eq word (name a)) xs x h)
+found_name name xs word x h = bytes_are word (name x) (found_passes (λ a. bytes_eq word (name a)) xs x h)
 
 -- Tokens at a place.
 
@@ -80,7 +74,7 @@ sign_token s (tok.Service n) h = absurd (cc)
 sign_token s (tok.Quote b) h = absurd (cc)
 
 pub word_token : (text : List ℕ) (t : Tok) → is_word text t ≡ true → t ≡ tok.Word text
-word_token text (tok.Word w) h = ap tok.Word (name_is w text h)
+word_token text (tok.Word w) h = ap tok.Word (bytes_are w text h)
 word_token text (tok.Sign r) h = absurd (cc)
 word_token text (tok.Num n) h = absurd (cc)
 word_token text (tok.Cond c) h = absurd (cc)
@@ -105,13 +99,13 @@ number_token (tok.Quote b) n h = absurd (cc)
 
 within_ok : (low high m n : ℕ) → within low high m ≡ Ok n → (m ≡ n) × Between low high n
 within_ok low high m n =
-    by_test {A = Result ℕ FaultKind} (λ r. r ≡ Ok n → (m ≡ n) × Between low high n) (nat_le low m && nat_le m high) (Ok m) (Err kind.Range)
+    either_by {A = Result ℕ FaultKind} (λ r. r ≡ Ok n → (m ≡ n) × Between low high n) (nat_le low m && nat_le m high) (Ok m) (Err kind.Range)
     (λ e h. let same : m ≡ n = cc in let p = and_parts (nat_le low m) (nat_le m high) e in subst (λ k. (m ≡ k) × Between low high k) same (refl, (leb-true low m p.0, leb-true m high p.1)))
     (λ _ h. absurd (cc))
 
 text_ok : (bytes text : List ℕ) → text_in (tok.Quote bytes) ≡ Ok text → (bytes ≡ text) × (length text ≤ 2048)
 text_ok bytes text =
-    by_test {A = Result (List ℕ) FaultKind} (λ r. r ≡ Ok text → (bytes ≡ text) × (length text ≤ 2048)) (nat_le (length bytes) 2048) (Ok bytes) (Err kind.Range)
+    either_by {A = Result (List ℕ) FaultKind} (λ r. r ≡ Ok text → (bytes ≡ text) × (length text ≤ 2048)) (nat_le (length bytes) 2048) (Ok bytes) (Err kind.Range)
     (λ e h. let same : bytes ≡ text = cc in subst (λ (t : List ℕ). (bytes ≡ t) × (length t ≤ 2048)) same (refl, leb-true (length bytes) 2048 e))
     (λ _ h. absurd (cc))
 
@@ -127,12 +121,12 @@ text_token (tok.Service m) text h = absurd (cc)
 
 long_is : (word : List ℕ) (x : Operand) → long_operand word ≡ Some x → tok.Word word ≡ operand_token x
 long_is word x =
-    by_test {A = Option Operand} (λ o. o ≡ Some x → tok.Word word ≡ operand_token x) (bytes_eq word (codes "R0")) _ _
-    (λ e h. let k : operand.R0 ≡ x = cc in ap tok.Word (name_is word (codes "R0") e) ∙ ap operand_token k) (λ _.
-    by_test {A = Option Operand} (λ o. o ≡ Some x → tok.Word word ≡ operand_token x) (bytes_eq word (codes "PID")) _ _
-    (λ e h. let k : operand.Pid ≡ x = cc in ap tok.Word (name_is word (codes "PID") e) ∙ ap operand_token k) (λ _.
-    by_test {A = Option Operand} (λ o. o ≡ Some x → tok.Word word ≡ operand_token x) (bytes_eq word (codes "PRM")) _ _
-    (λ e h. let k : operand.Prm ≡ x = cc in ap tok.Word (name_is word (codes "PRM") e) ∙ ap operand_token k) (λ _ h. absurd (cc))))
+    either_by {A = Option Operand} (λ o. o ≡ Some x → tok.Word word ≡ operand_token x) (bytes_eq word (codes "R0")) _ _
+    (λ e h. let k : operand.R0 ≡ x = cc in ap tok.Word (bytes_are word (codes "R0") e) ∙ ap operand_token k) (λ _.
+    either_by {A = Option Operand} (λ o. o ≡ Some x → tok.Word word ≡ operand_token x) (bytes_eq word (codes "PID")) _ _
+    (λ e h. let k : operand.Pid ≡ x = cc in ap tok.Word (bytes_are word (codes "PID") e) ∙ ap operand_token k) (λ _.
+    either_by {A = Option Operand} (λ o. o ≡ Some x → tok.Word word ≡ operand_token x) (bytes_eq word (codes "PRM")) _ _
+    (λ e h. let k : operand.Prm ≡ x = cc in ap tok.Word (bytes_are word (codes "PRM") e) ∙ ap operand_token k) (λ _ h. absurd (cc))))
 
 one_letter : (word : List ℕ) → (length word == 1) ≡ true → word ≡ slice_index word 0 ∷ []
 one_letter [] h = absurd (cc)
@@ -140,7 +134,7 @@ one_letter (b ∷ []) h = refl
 one_letter (b ∷ c ∷ word) h = absurd (omega (arith, eqb-true (length (b ∷ c ∷ word)) 1 h))
 
 letter_is : (b v : ℕ) → letter b ≡ Some v → b ≡ v
-letter_is b v = by_test {A = Option ℕ} (λ o. o ≡ Some v → b ≡ v) (is_capital b) (Some b) None (λ _ h. cc) (λ _ h. absurd (cc))
+letter_is b v = either_by {A = Option ℕ} (λ o. o ≡ Some v → b ≡ v) (is_capital b) (Some b) None (λ _ h. cc) (λ _ h. absurd (cc))
 
 var_is : (b : ℕ) (o : Option ℕ) (x : Operand) → ((v : ℕ) → o ≡ Some v → b ≡ v) → option_map operand.Var o ≡ Some x → tok.Word (b ∷ []) ≡ operand_token x
 var_is b None x k h = absurd (cc)
@@ -148,7 +142,7 @@ var_is b (Some v) x k h = let e : operand.Var v ≡ x = cc in ap (λ c. tok.Word
 
 pub operand_name : (word : List ℕ) (x : Operand) → operand_word word ≡ Some x → tok.Word word ≡ operand_token x
 operand_name word x =
-    by_test {A = Option Operand} (λ o. o ≡ Some x → tok.Word word ≡ operand_token x) (length word == 1) _ _
+    either_by {A = Option Operand} (λ o. o ≡ Some x → tok.Word word ≡ operand_token x) (length word == 1) _ _
     (λ e h. ap tok.Word (one_letter word e) ∙ var_is (slice_index word 0) (letter (slice_index word 0)) x (λ v. letter_is (slice_index word 0) v) h)
     (λ _ h. long_is word x h)
 
@@ -166,10 +160,10 @@ target_var b (Some v) x k h = let e : target.Var v ≡ x = cc in ap (λ c. tok.W
 
 pub target_name : (word : List ℕ) (x : Target) → target_word word ≡ Some x → tok.Word word ≡ target_token x
 target_name word x =
-    by_test {A = Option Target} (λ o. o ≡ Some x → tok.Word word ≡ target_token x) (length word == 1) _ _
+    either_by {A = Option Target} (λ o. o ≡ Some x → tok.Word word ≡ target_token x) (length word == 1) _ _
     (λ e h. ap tok.Word (one_letter word e) ∙ target_var (slice_index word 0) (letter (slice_index word 0)) x (λ v. letter_is (slice_index word 0) v) h) (λ _.
-    by_test {A = Option Target} (λ o. o ≡ Some x → tok.Word word ≡ target_token x) (bytes_eq word (codes "R0")) _ _
-    (λ e h. let k : target.R0 ≡ x = cc in ap tok.Word (name_is word (codes "R0") e) ∙ ap target_token k) (λ _ h. absurd (cc)))
+    either_by {A = Option Target} (λ o. o ≡ Some x → tok.Word word ≡ target_token x) (bytes_eq word (codes "R0")) _ _
+    (λ e h. let k : target.R0 ≡ x = cc in ap tok.Word (bytes_are word (codes "R0") e) ∙ ap target_token k) (λ _ h. absurd (cc)))
 
 target_is : (t : Tok) (x : Target) → target_in t ≡ Ok x → t ≡ target_token x
 target_is (tok.Word w) x h = target_name w x (given_ok kind.Name (target_word w) x h)

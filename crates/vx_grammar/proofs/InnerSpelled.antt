@@ -9,7 +9,6 @@ use Rattle.vx_image.specs.declared.unit.UnitDecl.{UnitDecl}
 use Rattle.vx_image.specs.WellFormed.{are_distinct, falls_nowhere, label_names, label_places, decl_names, is_stmt}
 use Rattle.vx_text.specs.declared.token.Tok.{Tok}
 use Rattle.vx_text.specs.declared.token.Tok.TheVariants as tok
-use Rattle.vx_text.proofs.Runs.{by_test}
 use Rattle.vx_script.specs.Fields.{begins_with_sign, end_at, room_for}
 use Rattle.vx_script.specs.Declarations.{unused_name, unit_line, input_line, fault_line, image_line, process_line}
 use Rattle.vx_script.specs.Places.{label_place}
@@ -22,15 +21,18 @@ use Rattle.vx_script.specs.declared.draft.DraftLine.{DraftLine}
 use Rattle.vx_script.specs.declared.fault.FaultKind.{FaultKind}
 use Rattle.vx_script.specs.declared.parts.Parts.{Parts}
 use Rattle.vx_script.specs.declared.parts.Reading.{Reading}
-use Rattle.vx_script.proofs.Appended.{all_both, unfound, none_from}
+use Rattle.vx_script.proofs.Appended.{all_both, unfound}
 use Rattle.vx_script.proofs.EndedImages.{is_formed}
 use Rattle.vx_grammar.specs.Grammar.{Said, Names, Does, Statement, BodyLine, empty_line, statement_line, label_line, labelled_line, Body, no_lines, and_line, stmts_in, labels_in, ImageOf, Item, OfUnit, OfInput, OfFault, OfImage, OfProcess, Line, Lines, none_left, an_empty_line, a_line, an_image, image_in, colon}
-use Rattle.vx_grammar.proofs.Fields.{bind_ok, name_is, end_is, sign_token}
+use Rattle.vx_grammar.proofs.Fields.{bind_ok, end_is, sign_token}
 use Rattle.vx_grammar.proofs.Statements.{stmt_spelled}
 use Rattle.vx_grammar.proofs.SaidSoFar.{pushed, map_pushed, Extends, nothing_added, and_unit, and_input, and_fault, and_decl, bare_unit, unit_added, input_added, fault_added, decl_added, image_added, Known, known_unit, known_input, known_fault, known_decl, known_image, all_front}
 use Rattle.vx_grammar.proofs.Feeding.{feeds}
 use Rattle.vx_grammar.proofs.OuterSpelled.{unit_spelled, input_spelled, fault_spelled, image_spelled, process_spelled}
 use Rattle.vx_grammar.proofs.LinesBack.{with_draft}
+use Rattle.vx_base.proofs.Texts.{bytes_are}
+use Rattle.vx_base.proofs.Lists.{none_mapped}
+use Rattle.vx_base.proofs.Bools.{either_by}
 
 -- what the system is to have
 pub record Sound (s : System) (all : Parts) : Type 0 where
@@ -181,7 +183,7 @@ formed_parts decls i h =
 end_spelled : (s : System) (all parts : Parts) (image : DraftImage) (tss : List (List Tok)) → Sound s all → Outer s all (with_image parts image) tss → Inner s all parts image ((tok.Word (codes "END") ∷ []) ∷ tss)
 end_spelled s all parts image tss sound o =
     let k = known_image s parts image o.known in
-    let there = unfound (names_no_label image.labels) image.lines (none_from (λ (d : DraftLine). d.line) (find (names_no_label image.labels) image.lines) k.1) in
+    let there = unfound (names_no_label image.labels) image.lines (none_mapped (λ (d : DraftLine). d.line) (find (names_no_label image.labels) image.lines) k.1) in
     let images = subst (λ (is : List Image). list_all (is_formed (decl_names s)) is ≡ true) (sound.images ∙ o.adds.images) sound.formed in
     let here = all_both (is_formed (decl_names s)) (parts.images ++ image_of image ∷ []) (flat_map image_in o.items) images in
     let formed = (all_front (is_formed (decl_names s)) parts.images (image_of image) here.0).1 in
@@ -219,15 +221,15 @@ colon_by (t ∷ ts) h = ap (λ (u : Tok). u ∷ ts) (sign_token 58 t h)
 word_spelled : (s : System) (all parts : Parts) (line : ℕ) (image : DraftImage) (word : List ℕ) (ts : List Tok) (tss : List (List Tok)) (r : Reading) → Sound s all
     → word_line line parts image word (tok.Word word ∷ ts) ≡ Ok r → Behind s all r tss → Inner s all parts image ((tok.Word word ∷ ts) ∷ tss)
 word_spelled s all parts line image word ts tss r sound h b =
-    by_test {A = Result Reading FaultKind} (λ q. q ≡ Ok r → Inner s all parts image ((tok.Word word ∷ ts) ∷ tss)) (begins_with_sign 58 ts) _ _
+    either_by {A = Result Reading FaultKind} (λ q. q ≡ Ok r → Inner s all parts image ((tok.Word word ∷ ts) ∷ tss)) (begins_with_sign 58 ts) _ _
     (λ e k. going s all parts image (tok.Word word ∷ ts) tss (labelled line image word (drop 1 ts)) r k b λ more m i.
     inner_as s all parts image _ (tok.Word word ∷ colon ∷ drop 1 ts) tss (ap (λ (us : List Tok). tok.Word word ∷ us) (sym (colon_by ts e))) (label_spelled s all parts line image more word (drop 1 ts) tss m i))
-    (λ _. by_test {A = Result Reading FaultKind} (λ q. q ≡ Ok r → Inner s all parts image ((tok.Word word ∷ ts) ∷ tss)) (bytes_eq word (codes "END")) _ _
+    (λ _. either_by {A = Result Reading FaultKind} (λ q. q ≡ Ok r → Inner s all parts image ((tok.Word word ∷ ts) ∷ tss)) (bytes_eq word (codes "END")) _ _
     (λ e k.
     let end = bind_ok (end_at ts) _ r k in
     let none = end_is 0 ts end.0 end.1 in
     let is : r ≡ between_images (with_image parts image) = cc (end.2) in
-    let shape : tok.Word (codes "END") ∷ [] ≡ tok.Word word ∷ ts = ap (λ (w : List ℕ). tok.Word w ∷ []) (sym (name_is word (codes "END") e)) ∙ ap (λ (us : List Tok). tok.Word word ∷ us) (sym none) in
+    let shape : tok.Word (codes "END") ∷ [] ≡ tok.Word word ∷ ts = ap (λ (w : List ℕ). tok.Word w ∷ []) (sym (bytes_are word (codes "END") e)) ∙ ap (λ (us : List Tok). tok.Word word ∷ us) (sym none) in
     inner_as s all parts image _ (tok.Word (codes "END") ∷ []) tss shape (end_spelled s all parts image tss sound (subst (λ (q : Reading). Behind s all q tss) is b)))
     (λ _ k. going s all parts image (tok.Word word ∷ ts) tss (with_stmt line image (tok.Word word ∷ ts)) r k b λ more m i. plain_line s all parts line image more (tok.Word word ∷ ts) tss m i)) h
 
@@ -270,8 +272,8 @@ by_keyword : (s : System) (all parts : Parts) (word keyword : List ℕ) (ts : Li
     → (x ≡ Ok r → Outer s all parts ((tok.Word keyword ∷ ts) ∷ tss)) → (y ≡ Ok r → Outer s all parts ((tok.Word word ∷ ts) ∷ tss))
     → cond (bytes_eq word keyword) x y ≡ Ok r → Outer s all parts ((tok.Word word ∷ ts) ∷ tss)
 by_keyword s all parts word keyword ts tss r x y h k =
-    by_test {A = Result Reading FaultKind} (λ q. q ≡ Ok r → Outer s all parts ((tok.Word word ∷ ts) ∷ tss)) (bytes_eq word keyword) x y
-    (λ e ok. outer_as s all parts _ (tok.Word keyword ∷ ts) tss (ap (λ (w : List ℕ). tok.Word w ∷ ts) (sym (name_is word keyword e))) (h ok)) (λ _ ok. k ok)
+    either_by {A = Result Reading FaultKind} (λ q. q ≡ Ok r → Outer s all parts ((tok.Word word ∷ ts) ∷ tss)) (bytes_eq word keyword) x y
+    (λ e ok. outer_as s all parts _ (tok.Word keyword ∷ ts) tss (ap (λ (w : List ℕ). tok.Word w ∷ ts) (sym (bytes_are word keyword e))) (h ok)) (λ _ ok. k ok)
 
 with_unit_spelled : (s : System) (all parts more : Parts) (u : UnitDecl) (ts : List Tok) (tss : List (List Tok)) → unit_line parts.units ts ≡ Ok u → Outer s all (and_unit parts u) tss
     → Outer s all parts ((tok.Word (codes "UNIT") ∷ ts) ∷ tss)

@@ -11,7 +11,6 @@ use Rattle.vx_image.specs.declared.unit.UnitDecl.{UnitDecl}
 use Rattle.vx_image.specs.WellFormed.{is_among, are_distinct}
 use Rattle.vx_text.specs.declared.token.Tok.{Tok}
 use Rattle.vx_text.specs.declared.token.Tok.TheVariants as tok
-use Rattle.vx_text.proofs.Runs.{by_test}
 use Rattle.vx_script.specs.Fields.{begins_with_sign, end_at, room_for}
 use Rattle.vx_script.specs.Keys.{no_keys}
 use Rattle.vx_script.specs.Declarations.{unused_name, unit_line, input_line, fault_line, image_line, process_line}
@@ -35,7 +34,7 @@ use Rattle.vx_script.proofs.Places.{has_place}
 use Rattle.vx_grammar.specs.Grammar.{Said, Names, Does, BodyLine, empty_line, statement_line, label_line, labelled_line, plain_decl, Item, OfUnit, OfInput, OfFault, OfImage, OfProcess, Line, a_line_unit, a_block_unit, an_input, a_fault, a_process, colon}
 use Rattle.vx_grammar.specs.Declared.{DeclaredImage, Declared, IsNew, line_name, and_item, IsNewIn, and_said}
 use Rattle.vx_grammar.specs.FirstFault.{Fits, empty_fits, line_fits, opening_fits, body_fits, end_fits}
-use Rattle.vx_grammar.proofs.Fields.{bind_ok, name_is, same_name, end_is}
+use Rattle.vx_grammar.proofs.Fields.{bind_ok, end_is}
 use Rattle.vx_grammar.proofs.ReadStatements.{ReadsAs, stmt_reads}
 use Rattle.vx_grammar.proofs.ProcessKeys.{settings_read}
 use Rattle.vx_grammar.proofs.SaidSoFar.{flat_pushed, fault_key, and_unit, and_input, and_fault, and_decl, bare_unit}
@@ -45,6 +44,8 @@ use Rattle.vx_grammar.proofs.Looking.{faults_differ}
 use Rattle.vx_grammar.proofs.OuterSpelled.{unit_spelled, input_spelled, fault_spelled, image_spelled, process_spelled}
 use Rattle.vx_grammar.proofs.Somewhere.{some_statement}
 use Rattle.std.proofs.lemmas.List.{map_push}
+use Rattle.vx_base.proofs.Texts.{same_bytes, bytes_are}
+use Rattle.vx_base.proofs.Bools.{either_by}
 
 -- what was read declares this
 
@@ -271,7 +272,7 @@ unit_fits parts u ts h k =
 input_fits : (line : ℕ) (parts : Parts) (i : InputLine) (ts : List Tok) → input_line line ts ≡ Ok i → FitsTo parts None (tok.Word (codes "INPUT") ∷ ts) (between_images (and_input parts i))
 input_fits line parts i ts h =
     let s : System = record { units = bare_unit i.unit 0 ∷ []; images = []; decls = [] } in
-    line_fits s _ (OfInput i.unit i.text) refl (input_spelled line ts i h s (or_left ((bytes_eq i.unit i.unit) && (0 == 0)) false (both (bytes_eq i.unit i.unit) (same_name i.unit)))) tt
+    line_fits s _ (OfInput i.unit i.text) refl (input_spelled line ts i h s (or_left ((bytes_eq i.unit i.unit) && (0 == 0)) false (both (bytes_eq i.unit i.unit) (same_bytes i.unit)))) tt
   where
     both : (b : Bool) → b ≡ true → b && true ≡ true
     both true k = refl
@@ -283,13 +284,13 @@ fault_fits line parts f ts h k =
     let new = pushed_new fault_key parts.faults f (faults_differ (parts.faults ++ f ∷ []) k.faults.apart) in
     fits_as (declared_by parts None) _ (tok.Word (codes "FAULT") ∷ ts) (and_item (declared_by parts None) (OfFault f.unit f.number)) (declared_by (and_fault parts f) None) refl
     (ap (λ (fs : List (List ℕ)). record (declared_by parts None) { faults = fs }) (sym (map_push fault_key parts.faults f)))
-    (line_fits s _ (OfFault f.unit f.number) refl (fault_spelled line parts.faults ts f h s (or_left (bytes_eq f.unit f.unit) false (same_name f.unit))) new)
+    (line_fits s _ (OfFault f.unit f.number) refl (fault_spelled line parts.faults ts f h s (or_left (bytes_eq f.unit f.unit) false (same_bytes f.unit))) new)
 
 process_fits : (line : ℕ) (parts : Parts) (d : DeclLine) (ts : List Tok) → process_line line parts.decls ts ≡ Ok d → AreParts (and_decl parts d) → FitsTo parts None (tok.Word (codes "PROCESS") ∷ ts) (between_images (and_decl parts d))
 process_fits line parts d ts h k =
     let i : Image = record { name = d.image; labels = []; stmts = [] } in
     let s : System = record { units = []; images = i ∷ []; decls = [] } in
-    let there : is_some (image_place d.image (i ∷ [])) ≡ true = has_place (λ (i : Image). bytes_eq d.image i.name) (i ∷ []) ∙ or_left (bytes_eq d.image d.image) false (same_name d.image) in
+    let there : is_some (image_place d.image (i ∷ [])) ≡ true = has_place (λ (i : Image). bytes_eq d.image i.name) (i ∷ []) ∙ or_left (bytes_eq d.image d.image) false (same_bytes d.image) in
     let p = process_spelled line parts.decls ts d h s there in
     let name = λ (d : DeclLine). d.name in
     let same : p.decl.name ≡ d.name = ap (λ (q : ProcDecl). q.name) (sym p.is) in
@@ -313,8 +314,8 @@ image_fits parts image ts h o =
 by_keyword : (parts : Parts) (word keyword : List ℕ) (ts : List Tok) (r : Reading) (x y : Result Reading FaultKind)
     → (x ≡ Ok r → FitsTo parts None (tok.Word keyword ∷ ts) r) → (y ≡ Ok r → FitsTo parts None (tok.Word word ∷ ts) r) → cond (bytes_eq word keyword) x y ≡ Ok r → FitsTo parts None (tok.Word word ∷ ts) r
 by_keyword parts word keyword ts r x y h k =
-    by_test {A = Result Reading FaultKind} (λ q. q ≡ Ok r → FitsTo parts None (tok.Word word ∷ ts) r) (bytes_eq word keyword) x y
-    (λ e ok. subst (λ (w : List ℕ). FitsTo parts None (tok.Word w ∷ ts) r) (sym (name_is word keyword e)) (h ok)) (λ _ ok. k ok)
+    either_by {A = Result Reading FaultKind} (λ q. q ≡ Ok r → FitsTo parts None (tok.Word word ∷ ts) r) (bytes_eq word keyword) x y
+    (λ e ok. subst (λ (w : List ℕ). FitsTo parts None (tok.Word w ∷ ts) r) (sym (bytes_are word keyword e)) (h ok)) (λ _ ok. k ok)
 
 word_fits : (line : ℕ) (parts : Parts) (word : List ℕ) (ts : List Tok) (r : Reading) → outer_line line parts word ts ≡ Ok r → IsRead r → FitsTo parts None (tok.Word word ∷ ts) r
 word_fits line parts word ts r h is =
@@ -412,15 +413,15 @@ tokens_as parts current ts us r e h = subst (λ (vs : List Tok). FitsTo parts cu
 word_inside : (line : ℕ) (parts : Parts) (image : DraftImage) (word : List ℕ) (ts : List Tok) (r : Reading) → word_line line parts image word (tok.Word word ∷ ts) ≡ Ok r → IsRead r
     → FitsTo parts (Some image) (tok.Word word ∷ ts) r
 word_inside line parts image word ts r h is =
-    by_test {A = Result Reading FaultKind} (λ q. q ≡ Ok r → FitsTo parts (Some image) (tok.Word word ∷ ts) r) (begins_with_sign 58 ts) _ _
+    either_by {A = Result Reading FaultKind} (λ q. q ≡ Ok r → FitsTo parts (Some image) (tok.Word word ∷ ts) r) (begins_with_sign 58 ts) _ _
     (λ e k. tokens_as parts (Some image) _ (tok.Word word ∷ colon ∷ drop 1 ts) r (ap (λ (us : List Tok). tok.Word word ∷ us) (sym (colon_by ts e)))
     (going_fits parts image (tok.Word word ∷ colon ∷ drop 1 ts) (labelled line image word (drop 1 ts)) r k is λ more m o. label_fits line parts image more word (drop 1 ts) m o))
-    (λ _. by_test {A = Result Reading FaultKind} (λ q. q ≡ Ok r → FitsTo parts (Some image) (tok.Word word ∷ ts) r) (bytes_eq word (codes "END")) _ _
+    (λ _. either_by {A = Result Reading FaultKind} (λ q. q ≡ Ok r → FitsTo parts (Some image) (tok.Word word ∷ ts) r) (bytes_eq word (codes "END")) _ _
     (λ e k.
     let end = bind_ok (end_at ts) _ r k in
     let none = end_is 0 ts end.0 end.1 in
     let same : between_images (with_image parts image) ≡ r = cc (end.2) in
-    let shape : tok.Word (codes "END") ∷ [] ≡ tok.Word word ∷ ts = ap (λ (w : List ℕ). tok.Word w ∷ []) (sym (name_is word (codes "END") e)) ∙ ap (λ (us : List Tok). tok.Word word ∷ us) (sym none) in
+    let shape : tok.Word (codes "END") ∷ [] ≡ tok.Word word ∷ ts = ap (λ (w : List ℕ). tok.Word w ∷ []) (sym (bytes_are word (codes "END") e)) ∙ ap (λ (us : List Tok). tok.Word word ∷ us) (sym none) in
     subst (λ (q : Reading). FitsTo parts (Some image) (tok.Word word ∷ ts) q) same (
     fits_as (declared_by parts (Some image)) _ (tok.Word (codes "END") ∷ []) _ (declared_by (with_image parts image) None) shape
     (sym (ended_more parts image)) (end_fits (open_of image) refl)))

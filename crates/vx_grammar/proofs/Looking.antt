@@ -16,7 +16,7 @@ use Rattle.vx_script.specs.declared.lines.DeclLine.{DeclLine}
 use Rattle.vx_script.specs.declared.lines.FaultLine.{FaultLine}
 use Rattle.vx_script.specs.declared.lines.InputLine.{InputLine}
 use Rattle.vx_script.specs.declared.parts.Parts.{Parts}
-use Rattle.vx_script.proofs.Appended.{unfound, none_from}
+use Rattle.vx_script.proofs.Appended.{unfound}
 use Rattle.vx_script.proofs.EndedImages.{is_known, neither}
 use Rattle.vx_script.proofs.FaultLines.{are_apart}
 use Rattle.vx_script.proofs.Places.{any_map, has_place}
@@ -25,16 +25,14 @@ use Rattle.vx_grammar.specs.Grammar.{Item, OfUnit, OfInput, OfFault, OfImage, Of
 use Rattle.vx_grammar.proofs.SaidSoFar.{fault_key, plain_unit, Extends, Known, has_image, has_line_unit, has_unit}
 use Rattle.vx_grammar.proofs.LinesBack.{none_found, both_ways}
 use Rattle.vx_script.proofs.ResolvedSystem.{map_twice}
+use Rattle.vx_base.proofs.Bools.{not_twice}
+use Rattle.vx_base.proofs.Lists.{none_mapped}
 
 -- Names, as the second pass looks for them.
 
 not_none : (o : Option ℕ) → not (is_none o) ≡ is_some o
 not_none None = refl
 not_none (Some k) = refl
-
-twice_not : (b : Bool) → not (not b) ≡ b
-twice_not true = refl
-twice_not false = refl
 
 -- a name has a place where it is among the names
 placed_among : {A : Type 0} (name : A → List ℕ) (n : List ℕ) (xs : List A) → is_some (position (λ x. bytes_eq n (name x)) xs) ≡ is_among n (map name xs)
@@ -49,7 +47,7 @@ image_same : (all : Parts) (d : DeclLine) → not (names_no_image all.images d) 
 image_same all d = not_none (image_place d.image all.images)
 
 input_same : (all : Parts) (i : InputLine) → not (names_no_line_unit all.units i) ≡ has_line_unit (resolving.system_of all) i
-input_same all i = twice_not (list_any (is_line_unit i.unit) all.units) ∙ sym (any_map (is_line_unit i.unit) (unit_of all) all.units)
+input_same all i = not_twice (list_any (is_line_unit i.unit) all.units) ∙ sym (any_map (is_line_unit i.unit) (unit_of all) all.units)
 
 fault_same : (all : Parts) (f : FaultLine) → not (names_no_unit all.units f) ≡ has_unit (resolving.system_of all) f
 fault_same all f =
@@ -71,13 +69,13 @@ all_known all e =
     record {
       labels = labels.0;
       creations = sym (all_same (λ c. not (names_no_decl all.decls c)) (is_known (decl_names s)) (creation_same all) all.creations)
-          ∙ unfound (names_no_decl all.decls) all.creations (none_from (λ (c : Creation). c.line) (find (names_no_decl all.decls) all.creations) made.0);
+          ∙ unfound (names_no_decl all.decls) all.creations (none_mapped (λ (c : Creation). c.line) (find (names_no_decl all.decls) all.creations) made.0);
       images = sym (all_same (λ d. not (names_no_image all.images d)) (has_image s) (image_same all) all.decls)
-          ∙ unfound (names_no_image all.images) all.decls (none_from (λ (d : DeclLine). d.line) (find (names_no_image all.images) all.decls) run.0);
+          ∙ unfound (names_no_image all.images) all.decls (none_mapped (λ (d : DeclLine). d.line) (find (names_no_image all.images) all.decls) run.0);
       inputs = sym (all_same (λ i. not (names_no_line_unit all.units i)) (has_line_unit s) (input_same all) all.inputs)
-          ∙ unfound (names_no_line_unit all.units) all.inputs (none_from (λ (i : InputLine). i.line) (find (names_no_line_unit all.units) all.inputs) fed.0);
+          ∙ unfound (names_no_line_unit all.units) all.inputs (none_mapped (λ (i : InputLine). i.line) (find (names_no_line_unit all.units) all.inputs) fed.0);
       faults = sym (all_same (λ f. not (names_no_unit all.units f)) (has_unit s) (fault_same all) all.faults)
-          ∙ unfound (names_no_unit all.units) all.faults (none_from (λ (f : FaultLine). f.line) (find (names_no_unit all.units) all.faults) fed.1);
+          ∙ unfound (names_no_unit all.units) all.faults (none_mapped (λ (f : FaultLine). f.line) (find (names_no_unit all.units) all.faults) fed.1);
     }
 
 none_line : {A : Type 0} (line : A → ℕ) (p : A → Bool) (xs : List A) → list_all (λ x. not (p x)) xs ≡ true → option_map line (find p xs) ≡ None

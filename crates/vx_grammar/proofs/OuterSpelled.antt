@@ -7,7 +7,6 @@ use Rattle.vx_image.specs.declared.system.System.{System}
 use Rattle.vx_image.specs.declared.unit.UnitDecl.{UnitDecl}
 use Rattle.vx_text.specs.declared.token.Tok.{Tok}
 use Rattle.vx_text.specs.declared.token.Tok.TheVariants as tok
-use Rattle.vx_text.proofs.Runs.{by_test}
 use Rattle.vx_script.specs.Fields.{end_at, name_at, number_at, text_at, room_for, device_name, device_in, device_at, blocks_of}
 use Rattle.vx_script.specs.Keys.{no_keys, keys_from}
 use Rattle.vx_script.specs.Declarations.{decl_place, unused_name, unit_line, input_line, is_fault_of, fresh_fault, fault_line, image_line, process_line}
@@ -26,6 +25,7 @@ use Rattle.vx_grammar.specs.Grammar.{plain_decl, OfUnit, OfInput, OfFault, OfPro
 use Rattle.vx_grammar.proofs.Fields.{bind_ok, found_name, end_is, name_found, number_found, text_found, choice_found}
 use Rattle.vx_grammar.proofs.ProcessKeys.{KeysStand, keys_stand}
 use Rattle.vx_grammar.proofs.SaidSoFar.{bare_unit, has_image, has_line_unit, has_unit}
+use Rattle.vx_base.proofs.Bools.{either_by}
 
 fresh_ok : (o : Option ℕ) (word name : List ℕ) → unused_name o word ≡ Ok name → word ≡ name
 fresh_ok None word name h = cc
@@ -101,7 +101,7 @@ input_spelled line ts i h s known =
 -- FAULT
 
 fresh_fault_ok : (unit : List ℕ) (n m : ℕ) (faults : List FaultLine) → fresh_fault unit n faults ≡ Ok m → n ≡ m
-fresh_fault_ok unit n m faults = by_test {A = Result ℕ FaultKind} (λ r. r ≡ Ok m → n ≡ m) (list_any (is_fault_of unit n) faults) (Err kind.Twice) (Ok n) (λ _ h. absurd (cc)) (λ _ h. cc)
+fresh_fault_ok unit n m faults = either_by {A = Result ℕ FaultKind} (λ r. r ≡ Ok m → n ≡ m) (list_any (is_fault_of unit n) faults) (Err kind.Twice) (Ok n) (λ _ h. absurd (cc)) (λ _ h. cc)
 
 pub fault_spelled : (line : ℕ) (faults : List FaultLine) (ts : List Tok) (f : FaultLine) → fault_line line faults ts ≡ Ok f → (s : System) → has_unit s f ≡ true
     → Line s (tok.Word (codes "FAULT") ∷ ts) (OfFault f.unit f.number)

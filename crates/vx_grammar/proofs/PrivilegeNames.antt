@@ -3,7 +3,6 @@ use Rattle.std.proofs.Common.{◌≡◌, ℕ, ◌+◌, ◌||◌, true, false, Li
 use Rattle.vx_base.specs.declared.quota.Privs.{Privs}
 use Rattle.vx_text.specs.declared.token.Tok.{Tok}
 use Rattle.vx_text.specs.declared.token.Tok.TheVariants as tok
-use Rattle.vx_text.proofs.Runs.{by_test}
 use Rattle.vx_script.specs.Results.{given}
 use Rattle.vx_script.specs.Fields.{is_sign, begins_with_sign}
 use Rattle.vx_script.specs.Keys.{privilege_name, privileges, privilege_word, privilege_in, holds, granted, with_privilege, with_token, no_more, one_more, privs_from}
@@ -15,6 +14,7 @@ use Rattle.vx_script.specs.declared.privileges.TakenPrivs.{TakenPrivs}
 use Rattle.vx_grammar.specs.Grammar.{Privileges, one_name, and_name, plus}
 use Rattle.vx_grammar.proofs.Fields.{bind_ok, given_ok, found_name, sign_token}
 use Rattle.vx_grammar.proofs.Once.{OneMore, AreNew, and_new, first_new, rest_new}
+use Rattle.vx_base.proofs.Bools.{either_by}
 
 holds_granted : (held : Privs) (p q : Privilege) → holds (granted held p) q ≡ (bytes_eq (privilege_name p) (privilege_name q) || holds held q)
 holds_granted held privilege.CmExec privilege.CmExec = refl
@@ -89,7 +89,7 @@ privilege_token (tok.Quote b) p h = absurd (cc)
 
 with_ok : (held : Privs) (p : Privilege) (more : Privs) → with_privilege held p ≡ Ok more → (holds held p ≡ false) × (granted held p ≡ more)
 with_ok held p more =
-    by_test {A = Result Privs FaultKind} (λ r. r ≡ Ok more → (holds held p ≡ false) × (granted held p ≡ more)) (holds held p) (Err kind.Twice) (Ok (granted held p))
+    either_by {A = Result Privs FaultKind} (λ r. r ≡ Ok more → (holds held p ≡ false) × (granted held p ≡ more)) (holds held p) (Err kind.Twice) (Ok (granted held p))
     (λ _ h. absurd (cc)) (λ e h. (e, (let k : granted held p ≡ more = cc in k)))
 
 -- a token names a privilege that is not held
@@ -150,7 +150,7 @@ names_stand held (t ∷ s ∷ tokens) taken h =
     let b = bind_ok (with_token held t) _ taken h in
     let o = one_read held t b.0 b.1 in
     let c = bind_ok (privs_from true b.0 (s ∷ tokens)) _ taken b.2 in
-    by_test {A = Result TakenPrivs FaultKind} (λ r. r ≡ Ok c.0 → NamesStand held (t ∷ s ∷ tokens) taken) (is_sign 43 s) _ _
+    either_by {A = Result TakenPrivs FaultKind} (λ r. r ≡ Ok c.0 → NamesStand held (t ∷ s ∷ tokens) taken) (is_sign 43 s) _ _
     (λ sign k.
     let i = bind_ok (privs_from false b.0 tokens) _ c.0 k in
     let e : one_more i.0 ≡ c.0 = cc (i.2) in

@@ -9,7 +9,6 @@ use Rattle.vx_base.specs.declared.quota.Privs.{Privs}
 use Rattle.vx_image.specs.declared.decl.ProcDecl.{ProcDecl}
 use Rattle.vx_text.specs.declared.token.Tok.{Tok}
 use Rattle.vx_text.specs.declared.token.Tok.TheVariants as tok
-use Rattle.vx_text.proofs.Runs.{by_test}
 use Rattle.vx_table.specs.Spelling.{mode_name}
 use Rattle.vx_script.specs.Results.{◌>>=◌, given}
 use Rattle.vx_script.specs.Fields.{is_word, begins_with_sign, sign_at, number_at}
@@ -32,6 +31,7 @@ use Rattle.vx_grammar.proofs.Fields.{bind_ok, given_ok, found_name, sign_found, 
 use Rattle.vx_grammar.proofs.Once.{OneMore, AreNew, and_new, first_new, rest_new}
 use Rattle.vx_grammar.proofs.PrivilegeNames.{names_read, names_stand}
 use Rattle.vx_table.proofs.Back.{mode_back}
+use Rattle.vx_base.proofs.Bools.{either_by}
 
 -- a key stands already
 abbrev pub has : Keys → Key → Bool
@@ -354,7 +354,7 @@ record PrivsStand (tokens : List Tok) (taken : TakenPrivs) : Type 0 where
 privs_stand : (tokens : List Tok) (taken : TakenPrivs) → privs_of tokens ≡ Ok taken → PrivsStand tokens taken
 privs_stand [] taken h = absurd (cc)
 privs_stand (t ∷ tokens) taken h =
-    by_test {A = Result TakenPrivs FaultKind} (λ r. r ≡ Ok taken → PrivsStand (t ∷ tokens) taken) (is_word (codes "NONE") t) _ _
+    either_by {A = Result TakenPrivs FaultKind} (λ r. r ≡ Ok taken → PrivsStand (t ∷ tokens) taken) (is_word (codes "NONE") t) _ _
     (λ none k. subst (λ (u : TakenPrivs). PrivsStand (t ∷ tokens) u) (let e : record { privs = no_privs; used = 1 } ≡ taken = cc in e) (record {
       value = tok.Word (codes "NONE") ∷ [];
       set = λ d. record d { privs = no_privs };

@@ -24,9 +24,9 @@ use Rattle.vx_script.specs.declared.draft.Draft.TheVariants as draft
 use Rattle.vx_script.proofs.InRange.{is_plain, is_draft, IsDraft, statement}
 use Rattle.vx_script.proofs.Places.{has_place, placed}
 use Rattle.vx_grammar.specs.Grammar.{Statement}
-use Rattle.vx_grammar.proofs.Fields.{same_name}
 use Rattle.vx_grammar.proofs.ReadStatements.{labels_there}
 use Rattle.vx_grammar.proofs.Statements.{stmt_spelled}
+use Rattle.vx_base.proofs.Texts.{same_bytes}
 
 -- an image with these labels
 abbrev with_labels : List Label → Image
@@ -45,7 +45,7 @@ pub record SomeStatement (ts : List Tok) : Type 0 where
 -- One label.
 
 its_label : (name : List ℕ) → is_label (label_of name ∷ []) name ≡ true
-its_label name = has_place (λ (l : Label). bytes_eq name l.name) (label_of name ∷ []) ∙ or_first (bytes_eq name name) (same_name name)
+its_label name = has_place (λ (l : Label). bytes_eq name l.name) (label_of name ∷ []) ∙ or_first (bytes_eq name name) (same_bytes name)
   where
     or_first : (b : Bool) → b ≡ true → b || false ≡ true
     or_first true h = refl
@@ -85,7 +85,7 @@ all_still_have xs ys (a ∷ args) h =
     and_from (has_its_label (with_labels (xs ++ ys)) a) (list_all (has_its_label (with_labels (xs ++ ys))) args) (still_has xs ys a p.0) (all_still_have xs ys args p.1)
 
 first_has : (a : Arg) (ys : List Label) → has_its_label (with_labels (label_in a ++ ys)) a ≡ true
-first_has (arg.Label (Some name)) ys = or_left (bytes_eq name name) (is_among name (label_names (with_labels ys))) (same_name name)
+first_has (arg.Label (Some name)) ys = or_left (bytes_eq name name) (is_among name (label_names (with_labels ys))) (same_bytes name)
 first_has (arg.Label None) ys = refl
 first_has (arg.Value x) ys = refl
 first_has _ ys = refl
@@ -101,7 +101,7 @@ decl_in_arg (arg.Name name) = name ∷ []
 decl_in_arg _ = []
 
 has_decl : (service : Service) (a : Arg) → has_its_decl (decl_in_arg a) service a ≡ true
-has_decl CrePrc (arg.Name name) = or_left (bytes_eq name name) false (same_name name)
+has_decl CrePrc (arg.Name name) = or_left (bytes_eq name name) false (same_bytes name)
 has_decl CrePrc _ = refl
 has_decl _ a = refl
 

@@ -15,7 +15,6 @@ use Rattle.vx_image.specs.declared.stmt.Stmt.TheVariants as stmt
 use Rattle.vx_image.specs.WellFormed.{has_its_label, is_stmt}
 use Rattle.vx_text.specs.declared.token.Tok.{Tok}
 use Rattle.vx_text.specs.declared.token.Tok.TheVariants as tok
-use Rattle.vx_text.proofs.Runs.{by_test}
 use Rattle.vx_table.specs.declared.fail.CallFail.{CallFail}
 use Rattle.vx_table.specs.Reading.{read_call, pieces}
 use Rattle.vx_table.specs.Spelling.{operand_token, target_token}
@@ -28,8 +27,10 @@ use Rattle.vx_script.specs.declared.draft.Draft.TheVariants as draft
 use Rattle.vx_script.specs.declared.fault.FaultKind.{FaultKind}
 use Rattle.vx_script.specs.declared.fault.FaultKind.TheVariants as kind
 use Rattle.vx_grammar.specs.Grammar.{between_commas, Statement, let_value, let_sum, let_difference, goto_label, if_goto, put_text, get_byte, get_iosb, returns, call_service}
-use Rattle.vx_grammar.proofs.Fields.{bind_ok, name_is, found_name, end_is, sign_token, sign_found, word_found, name_found, number_found, text_found, operand_found, target_found, choice_found}
+use Rattle.vx_grammar.proofs.Fields.{bind_ok, found_name, end_is, sign_token, sign_found, word_found, name_found, number_found, text_found, operand_found, target_found, choice_found}
 use Rattle.vx_grammar.proofs.Calls.{call_spelled, joined_pieces}
+use Rattle.vx_base.proofs.Texts.{bytes_are}
+use Rattle.vx_base.proofs.Bools.{either_by}
 
 -- What is read is spelled: where the names are there, and the statement is in range.
 
@@ -52,7 +53,7 @@ rest_spelled decls image tokens [] v x d e h =
     spelled decls image _ (tok.Word (codes "LET") ∷ target_token v ∷ tok.Sign 61 ∷ operand_token x ∷ []) (draft.Plain (stmt.Let v x)) d (ap (λ ts. tok.Word (codes "LET") ∷ ts) (sym e)) h
     λ _ range. let p = and_parts (is_target v) (is_operand x) range in let_value v x p.0 p.1
 rest_spelled decls image tokens (t ∷ rest) v x d e h =
-    by_test {A = Result Draft FaultKind} (λ r. r ≡ Ok d → Spelled decls image (tok.Word (codes "LET") ∷ tokens) d) (is_sign 43 t) _ _
+    either_by {A = Result Draft FaultKind} (λ r. r ≡ Ok d → Spelled decls image (tok.Word (codes "LET") ∷ tokens) d) (is_sign 43 t) _ _
     (λ sign k.
     let y = bind_ok (operand_at rest) _ d k in
     let end = bind_ok (end_at (drop 1 rest)) _ d y.2 in
@@ -62,7 +63,7 @@ rest_spelled decls image tokens (t ∷ rest) v x d e h =
     let shape : rest ≡ operand_token y.0 ∷ [] = cc in
     spelled decls image _ (tok.Word (codes "LET") ∷ target_token v ∷ tok.Sign 61 ∷ operand_token x ∷ tok.Sign 43 ∷ operand_token y.0 ∷ []) (draft.Plain (stmt.Add v x y.0)) d (cc) end.2
     λ _ range. let p = and_parts (is_target v) _ range in let q = and_parts (is_operand x) (is_operand y.0) p.1 in let_sum v x y.0 p.0 q.0 q.1)
-    (λ _. by_test {A = Result Draft FaultKind} (λ r. r ≡ Ok d → Spelled decls image (tok.Word (codes "LET") ∷ tokens) d) (is_sign 45 t) _ _
+    (λ _. either_by {A = Result Draft FaultKind} (λ r. r ≡ Ok d → Spelled decls image (tok.Word (codes "LET") ∷ tokens) d) (is_sign 45 t) _ _
     (λ sign k.
     let y = bind_ok (operand_at rest) _ d k in
     let end = bind_ok (end_at (drop 1 rest)) _ d y.2 in
@@ -207,8 +208,8 @@ by_keyword : (decls : List (List ℕ)) (image : Image) (word keyword : List ℕ)
     → (x ≡ Ok d → Spelled decls image (tok.Word keyword ∷ tokens) d) → (y ≡ Ok d → Spelled decls image (tok.Word word ∷ tokens) d)
     → cond (bytes_eq word keyword) x y ≡ Ok d → Spelled decls image (tok.Word word ∷ tokens) d
 by_keyword decls image word keyword tokens d x y h k =
-    by_test {A = Result Draft FaultKind} (λ r. r ≡ Ok d → Spelled decls image (tok.Word word ∷ tokens) d) (bytes_eq word keyword) x y
-    (λ e ok. subst (λ (w : List ℕ). Spelled decls image (tok.Word w ∷ tokens) d) (sym (name_is word keyword e)) (h ok)) (λ _ ok. k ok)
+    either_by {A = Result Draft FaultKind} (λ r. r ≡ Ok d → Spelled decls image (tok.Word word ∷ tokens) d) (bytes_eq word keyword) x y
+    (λ e ok. subst (λ (w : List ℕ). Spelled decls image (tok.Word w ∷ tokens) d) (sym (bytes_are word keyword e)) (h ok)) (λ _ ok. k ok)
 
 local_spelled : (decls : List (List ℕ)) (image : Image) (word : List ℕ) (tokens : List Tok) (d : Draft) → local_stmt word tokens ≡ Ok d → Spelled decls image (tok.Word word ∷ tokens) d
 unfolding local_stmt

@@ -4,7 +4,7 @@ use Rattle.std.specs.List.{list_all}
 use Rattle.std.proofs.lemmas.Bool.{and_parts, and_from, not_from_false, eqb-true, eq-eqb, not-true}
 use Rattle.vx_script.specs.Lines.{onto_first, begins_with, lines_of}
 use Rattle.vx_grammar.specs.Grammar.{IsFeedless, IsLines, no_text, last_line, fed_line, returned_line}
-use Rattle.vx_text.proofs.Runs.{and_false}
+use Rattle.vx_base.proofs.Bools.{and_false}
 
 abbrev no_feed : ℕ → Bool
 no_feed b = not (b == 10)

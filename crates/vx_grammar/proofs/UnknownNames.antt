@@ -14,7 +14,6 @@ use Rattle.vx_image.specs.declared.stmt.Stmt.TheVariants as stmt
 use Rattle.vx_image.specs.declared.unit.UnitDecl.{UnitDecl}
 use Rattle.vx_text.specs.declared.token.Tok.{Tok}
 use Rattle.vx_text.specs.declared.token.Tok.TheVariants as tok
-use Rattle.vx_text.proofs.Runs.{by_test}
 use Rattle.vx_script.specs.Declarations.{decl_place, unused_name, fresh_fault, unit_line, input_line, fault_line, image_line, process_line}
 use Rattle.vx_script.specs.Fields.{begins_with_sign, end_at, name_at, number_at, text_at, room_for}
 use Rattle.vx_script.specs.Keys.{no_keys, keys_from}
@@ -38,11 +37,13 @@ use Rattle.vx_script.proofs.OpenImages.{IsOpen}
 use Rattle.vx_script.proofs.Places.{any_map, has_place}
 use Rattle.vx_grammar.specs.Declared.{Declared}
 use Rattle.vx_grammar.specs.UnknownName.{outside_unknown, label_unknown, draft_unknown, labels_of, statement_unknown, inside_unknown, names_unknown}
-use Rattle.vx_grammar.proofs.Fields.{bind_ok, name_is, same_name, name_found, end_is}
+use Rattle.vx_grammar.proofs.Fields.{bind_ok, name_found, end_is}
 use Rattle.vx_grammar.proofs.Least.{mark, marked, any_of, Moves, marks, ends}
 use Rattle.vx_grammar.proofs.LinesBack.{with_draft}
 use Rattle.vx_grammar.proofs.LinesFit.{open_of, ended_of, line_of, declared_by}
 use Rattle.vx_grammar.proofs.SaidSoFar.{and_unit, and_input, and_fault, and_decl, flat_pushed}
+use Rattle.vx_base.proofs.Texts.{same_bytes, bytes_are}
+use Rattle.vx_base.proofs.Bools.{or_false, either_by}
 
 -- What is unknown of the names looked up in the end.
 
@@ -98,10 +99,6 @@ push_behind p number y more ys x false h = h
 found_push : {A : Type 0} (p : A → Bool) (number : A → ℕ) (xs : List A) (x : A) → option_map number (find p (xs ++ x ∷ [])) ≡ mark (number x) (p x) (option_map number (find p xs))
 found_push p number [] x = push_by number x (p x)
 found_push p number (y ∷ ys) x = push_behind p number y (ys ++ x ∷ []) ys x (p y) (found_push p number ys x)
-
-or_false : (t : Bool) → t || false ≡ t
-or_false true = refl
-or_false false = refl
 
 none_some : (o : Option ℕ) → is_none o ≡ not (is_some o)
 none_some None = refl
@@ -283,8 +280,8 @@ OutStep fin line p s ts = Stepped fin line p None s (outside_unknown (all_of fin
 by_keyword : (fin : Parts) (line : ℕ) (p : Parts) (word keyword : List ℕ) (ts : List Tok) (s : Reading) (x y : Result Reading FaultKind)
     → (x ≡ Ok s → OutStep fin line p s (tok.Word keyword ∷ ts)) → (y ≡ Ok s → OutStep fin line p s (tok.Word word ∷ ts)) → cond (bytes_eq word keyword) x y ≡ Ok s → OutStep fin line p s (tok.Word word ∷ ts)
 by_keyword fin line p word keyword ts s x y h k =
-    by_test {A = Result Reading FaultKind} (λ q. q ≡ Ok s → OutStep fin line p s (tok.Word word ∷ ts)) (bytes_eq word keyword) x y
-    (λ e ok. subst (λ (w : List ℕ). OutStep fin line p s (tok.Word w ∷ ts)) (sym (name_is word keyword e)) (h ok)) (λ _ ok. k ok)
+    either_by {A = Result Reading FaultKind} (λ q. q ≡ Ok s → OutStep fin line p s (tok.Word word ∷ ts)) (bytes_eq word keyword) x y
+    (λ e ok. subst (λ (w : List ℕ). OutStep fin line p s (tok.Word w ∷ ts)) (sym (bytes_are word keyword e)) (h ok)) (λ _ ok. k ok)
 
 word_stepped : (fin : Parts) (line : ℕ) (p : Parts) (word : List ℕ) (ts : List Tok) (s : Reading) → outer_line line p word ts ≡ Ok s → OutStep fin line p s (tok.Word word ∷ ts)
 word_stepped fin line p word ts s h =
@@ -457,7 +454,7 @@ going fin line p image (Err kind) s t h k = absurd (cc)
 -- END
 
 final_is : (images : List Image) (i : Image) (rest : List Image) → is_among i.name (map (λ (i : Image). i.name) images) ≡ false → final ((images ++ i ∷ []) ++ rest) i.name ≡ i.labels
-final_is [] i rest h = ap (λ (t : Bool). cond t i.labels (final rest i.name)) (same_name i.name)
+final_is [] i rest h = ap (λ (t : Bool). cond t i.labels (final rest i.name)) (same_bytes i.name)
 final_is (j ∷ images) i rest h =
     let p = or_parts (bytes_eq i.name j.name) _ h in
     ap (λ (t : Bool). cond t j.labels (final ((images ++ i ∷ []) ++ rest) i.name)) p.0 ∙ final_is images i rest p.1
@@ -481,15 +478,15 @@ word_inside : (fin : Parts) (line : ℕ) (p : Parts) (image : DraftImage) (word 
 word_inside fin line p image word ts s o h =
     let all = all_of fin in
     let i = open_of image in
-    by_test {A = Result Reading FaultKind} (λ q. q ≡ Ok s → Stepped fin line p (Some image) s (inside_unknown all i (tok.Word word ∷ ts))) (begins_with_sign 58 ts) _ _
+    either_by {A = Result Reading FaultKind} (λ q. q ≡ Ok s → Stepped fin line p (Some image) s (inside_unknown all i (tok.Word word ∷ ts))) (begins_with_sign 58 ts) _ _
     (λ e k. as_flag fin line p (Some image) s _ _ (ap (λ (t : Bool). cond t (statement_unknown all i (drop 1 ts)) (statement_unknown all i (tok.Word word ∷ ts))) (sym e))
     (going fin line p image (labelled line image word (drop 1 ts)) s _ k λ more m. behind_label fin line p image more word (drop 1 ts) m))
-    (λ none. by_test {A = Result Reading FaultKind} (λ q. q ≡ Ok s → Stepped fin line p (Some image) s (inside_unknown all i (tok.Word word ∷ ts))) (bytes_eq word (codes "END")) _ _
+    (λ none. either_by {A = Result Reading FaultKind} (λ q. q ≡ Ok s → Stepped fin line p (Some image) s (inside_unknown all i (tok.Word word ∷ ts))) (bytes_eq word (codes "END")) _ _
     (λ e k.
     let end = bind_ok (end_at ts) _ s k in
     let nothing = end_is 0 ts end.0 end.1 in
     let same : between_images (with_image p image) ≡ s = cc (end.2) in
-    let shape : tok.Word (codes "END") ∷ [] ≡ tok.Word word ∷ ts = ap (λ (w : List ℕ). tok.Word w ∷ []) (sym (name_is word (codes "END") e)) ∙ ap (λ (us : List Tok). tok.Word word ∷ us) (sym nothing) in
+    let shape : tok.Word (codes "END") ∷ [] ≡ tok.Word word ∷ ts = ap (λ (w : List ℕ). tok.Word w ∷ []) (sym (bytes_are word (codes "END") e)) ∙ ap (λ (us : List Tok). tok.Word word ∷ us) (sym nothing) in
     subst (λ (q : Reading). Stepped fin line p (Some image) q (inside_unknown all i (tok.Word word ∷ ts))) same (
     as_flag fin line p (Some image) _ false _ (end_flag fin image ∙ ap (inside_unknown all i) shape) (end_stepped fin line p image o)))
     (λ _ k. as_flag fin line p (Some image) s _ _ (ap (λ (t : Bool). cond t (statement_unknown all i (drop 1 ts)) (statement_unknown all i (tok.Word word ∷ ts))) (sym none))

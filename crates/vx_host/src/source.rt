@@ -20,7 +20,7 @@ pub enum ReadFail {
     /// A read failed.
     #[error("a read failed")]
     Fault,
-    /// There are more bytes than `max`.
+    /// There are more bytes than the caller takes.
     #[error("there are more bytes than are taken")]
     TooLong,
     /// Memory ran out.

@@ -10,6 +10,7 @@ use Rattle.vx_base.specs.Pieces.{Status, cleared}
 use Rattle.vx_image.specs.Filled.{all_statuses, filled, page_of}
 use Rattle.vx_same.proofs.Trimmed.{all_alike, behind_laid, front, laid}
 use Rattle.vx_same.proofs.Trimmed as Trimmed
+use Rattle.vx_base.proofs.Lists.{any_default}
 
 next_blank : {A : Type 0} (b : A) (xs : List A) (n : ℕ) → length xs < n → (xs ++ b ∷ []) ++ replicate (n - length (xs ++ b ∷ [])) b ≡ xs ++ replicate (n - length xs) b
 next_blank b [] zero lt = absurd (omega (arith, lt))
@@ -29,11 +30,6 @@ next_filled r s page zeros lt put = rw (put, zeros) (one_more r.items lt)
 
 changed : (pages : List (List ℕ)) (k : ℕ) (bytes : List ℕ) → k < length pages → filled (slice_set pages k bytes) ≡ slice_set (filled pages) k bytes
 changed pages k bytes lt = rw (length-set pages k bytes, set-append_left pages _ k bytes lt) refl
-
-any_default : {A : Type 0} (xs : List A) (k : ℕ) (d e : A) → k < length xs → slice_index_or xs k d ≡ slice_index_or xs k e
-any_default [] k d e lt = absurd (omega (arith, lt))
-any_default (x ∷ xs) zero d e lt = refl
-any_default (x ∷ xs) (suc k) d e lt = any_default xs k d e (omega (arith, lt))
 
 -- a filled one is changed where it stands
 pub overlaid_at : (pages all : List (List ℕ)) (k : ℕ) (piece page after : List ℕ) → k < length pages → filled pages ≡ all → page ≡ slice_index_or pages k page → after ≡ overlaid piece page →

@@ -1,12 +1,12 @@
 -- Statements in their small form stay as their terms get more.
 use Rattle.std.proofs.Common.{◌≡◌, ℕ, zero, suc, ◌+◌, ◌-◌, ◌<◌, ◌≤◌, List, [], ◌∷◌, ◌++◌, drop, length, map, take, slice_get, slice_index_or, Option, Some, None, ap, refl, subst, sym, ◌∙◌, arith}
 use Rattle.std.specs.List.{AllByRecursion}
-use Rattle.std.proofs.lemmas.List.{get_or-drop, get_or-take, length-append, map-append, take-append-drop}
+use Rattle.std.proofs.lemmas.List.{get_or-drop, get_or-take, length-append, map-append}
 use Rattle.vx_base.specs.Services.{args_list}
 use Rattle.vx_base.specs.declared.call.Arg.{Arg}
 use Rattle.vx_base.specs.declared.call.Arg.TheVariants as arg
 use Rattle.vx_base.specs.declared.call.Args.{Args}
-use Rattle.vx_image.proofs.KeptTerms.{begins_longer}
+use Rattle.vx_image.proofs.KeptTerms.{begins_longer, parts}
 use Rattle.vx_image.proofs.Packed.{all_and_one, piece_kept, piece_last}
 use Rattle.vx_image.specs.Packed.{Begins, IsWithin, piece}
 use Rattle.vx_image.specs.Small.{own, stmt_by, stmts_in, HaveTerms, args_in}
@@ -37,9 +37,6 @@ own_text terms h lt =
 
 pub no_text_behind : (terms : List Term) (h : Head) → h.count ≤ 0 → text_in (own terms h) 0 ≡ []
 no_text_behind terms h le = ap (λ (t : Term). text_of t) (none_behind h.count 0 (drop h.start terms) (OfArg arg.Unused) le)
-
-parts : {A : Type 0} (front all : List A) → Begins front all → all ≡ front ++ drop (length front) all
-parts {A} front all begins = sym (take-append-drop (length front) all) ∙ ap (λ (xs : List A). xs ++ drop (length front) all) begins
 
 own_kept : (terms all : List Term) (h : Head) → Begins terms all → IsWithin h.start h.count terms → own all h ≡ own terms h
 own_kept terms all h begins within = ap (λ (ts : List Term). own ts h) (parts terms all begins) ∙ piece_kept h.start h.count terms (drop (length terms) all) within

@@ -14,7 +14,7 @@ last_text texts all text more = rw more (get_or-append_seam texts text [] [])
 pub begins_longer : {A : Type 0} (front all more : List A) → all ≡ front ++ more → Begins front all
 begins_longer front all more longer = rw longer (take-append_seam front more)
 
-parts : {A : Type 0} (front all : List A) → Begins front all → all ≡ front ++ drop (length front) all
+pub parts : {A : Type 0} (front all : List A) → Begins front all → all ≡ front ++ drop (length front) all
 parts {A} front all begins = sym (take-append-drop (length front) all) ∙ ap (λ (xs : List A). xs ++ drop (length front) all) begins
 
 text_kept : (texts all : List (List ℕ)) (i : ℕ) → Begins texts all → i < length texts → slice_index_or all i [] ≡ slice_index_or texts i []

@@ -8,8 +8,8 @@ ghost use Rattle.vx_same.specs.Trimmed.{laid_over};
 
 use std::alloc::Global;
 use std::marker::Model;
-use vx_base::{Cond, NoMemory};
-use vx_same::mix;
+use vx_base::{Cond, NoMemory, Same};
+use vx_same::{mix, same_items};
 
 /// How many I/O status blocks a process has.
 const BLOCKS: usize = 32;
@@ -32,26 +32,10 @@ impl Model for Block {
     ghost inverse = { λ s. record { cond = s.cond; count = s.count; info = s.info } };
 }
 
-// Whether two I/O status blocks are the same.
-fn same_block(a: &Block, b: &Block) -> bool
-    ensures { IsTrue result ↔ (a.now ≡ b.now) }
-{
-    a.cond == b.cond && a.count == b.count && a.info == b.info
-}
-
-// Whether two lists of I/O status blocks are the same.
-fn same_blocks(a: &[Block], b: &[Block]) -> bool
-    ensures { IsTrue result ↔ (a.now ≡ b.now) }
-{
-    if a.len() != b.len() {
-        return false;
+impl Same for Block {
+    fn same(&self, other: &Block) -> bool {
+        self.cond == other.cond && self.count == other.count && self.info == other.info
     }
-    for (i, block) in a.iter().enumerate() {
-        if !same_block(block, &b[i]) {
-            return false;
-        }
-    }
-    true
 }
 
 // Whether all blocks are clear.
@@ -74,7 +58,7 @@ fn same_filled(few: &[Block], more: &[Block]) -> bool
     ensures { IsTrue result ↔ (all_statuses few.now ≡ all_statuses more.now) }
 {
     let (front, behind) = more.split_at(few.len());
-    same_blocks(few, front) && are_clear(behind)
+    same_items(few, front) && are_clear(behind)
 }
 
 // A digest with the numbers of an I/O status block, if they are not both zero.
@@ -115,7 +99,7 @@ impl Block {
 fn is_clear(block: &Block) -> bool
     ensures { IsTrue result ↔ (block.now ≡ cleared) }
 {
-    same_block(block, &Block::clear())
+    block.same(&Block::clear())
 }
 
 // How many blocks there are up to the last that is not clear, of which those behind the first so many are clear.

@@ -70,8 +70,7 @@ fn captured<R: Routine>(core: &Core<R>, p: Pid, ask: &Asking, rooms: &mut Rooms)
     ensures after { rooms.new ≡ record rooms.old { kept = false } }
 {
     match ask.func {
-        Func::Write => rooms.kept(&core.buffer(p, ask.buf)[..ask.len as usize]),
-        Func::WriteNow => rooms.kept(&core.buffer(p, ask.buf)[..ask.len as usize]),
+        Func::Write | Func::WriteNow => { rooms.kept(&core.buffer(p, ask.buf)[..ask.len as usize]) }
         _ => rooms.kept(b"".as_slice()),
     }
 }
@@ -171,10 +170,10 @@ fn body<R: Routine>(core: &Core<R>, p: Pid, ask: &Asking, rooms: &mut Rooms) -> 
     ensures read { rooms.new.read ≡ rooms.old.read }
 {
     match ask.func {
-        Func::Write => Body::Text(rooms.stored(&core.buffer(p, ask.buf)[..ask.len as usize])),
-        Func::WriteNow => Body::Text(rooms.stored(&core.buffer(p, ask.buf)[..ask.len as usize])),
-        Func::Eof => Body::Eof,
-        Func::EofNow => Body::Eof,
+        Func::Write | Func::WriteNow => {
+            Body::Text(rooms.stored(&core.buffer(p, ask.buf)[..ask.len as usize]))
+        }
+        Func::Eof | Func::EofNow => Body::Eof,
         _ => Body::Text(rooms.stored(b"".as_slice())),
     }
 }
@@ -183,11 +182,7 @@ fn body<R: Routine>(core: &Core<R>, p: Pid, ask: &Asking, rooms: &mut Rooms) -> 
 fn is_held(func: Func) -> bool
     ensures { result ≡ is_held func }
 {
-    match func {
-        Func::Write => true,
-        Func::Eof => true,
-        _ => false,
-    }
+    matches!(func, Func::Write | Func::Eof)
 }
 
 // A request that was opened on a mailbox does its part.

@@ -62,11 +62,7 @@ fn has_function(device: Device, func: Func) -> bool
     ensures { result ≡ has_function device func }
 {
     match device {
-        Device::Unit(_) => match func {
-            Func::Read => true,
-            Func::Write => true,
-            _ => false,
-        },
+        Device::Unit(_) => matches!(func, Func::Read | Func::Write),
         Device::Mailbox(_) => true,
     }
 }
@@ -75,11 +71,7 @@ fn has_function(device: Device, func: Func) -> bool
 pub(crate) fn is_write(func: Func) -> bool
     ensures { result ≡ is_write func }
 {
-    match func {
-        Func::Write => true,
-        Func::WriteNow => true,
-        _ => false,
-    }
+    matches!(func, Func::Write | Func::WriteNow)
 }
 
 // Whether a request writes more than its mailbox takes.

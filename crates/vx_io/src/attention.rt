@@ -15,8 +15,9 @@ ghost use Rattle.vx_io.specs.Asking.{IsInRange, IsOpening, asked};
 ghost use Rattle.vx_io.specs.Boxes.{attend_by, fire_found, is_answered};
 
 use crate::asking::Asking;
-use crate::finish::{fill_status, set_flag};
+use crate::finish::fill_status;
 use vx_base::{BoxNo, Cond, Effect, Func, Id, Opened, Pid, Routine};
+use vx_ctl::set_where_named;
 use vx_mailbox::AttentionEntry;
 use vx_procs::Core;
 
@@ -112,6 +113,6 @@ pub(crate) fn set_attention<R: Routine>(
 {
     let id = open(core, p, &ask, b, routine);
     fill_status(core, p, ask.iosb, Cond::Normal, 0, 0);
-    set_flag(core, p, ask.efn);
+    set_where_named(core, p, ask.efn);
     attend(core, b, ask.func, id);
 }

@@ -127,17 +127,6 @@ fn drop_attentions<R: Routine>(core: &mut Core<R>, p: Pid, chan: u32)
     }
 }
 
-// What a process asked on a channel is cancelled: its requests, and then its attention entries.
-fn cancel_asked<R: Routine>(core: &mut Core<R>, p: Pid, chan: u32)
-    requires requests { AreRequests core.old.state }
-    requires entries { AreOrdered attention_id 0 core.old.state.next core.old.state.attention }
-    requires room { Fits core.old (cancel_channel core.old.state p chan).effects }
-    ensures { Acts (cancel_channel core.old.state p chan) core.old core.new }
-{
-    cancel_requests(core, p, chan);
-    drop_attentions(core, p, chan);
-}
-
 /// What a process asked on a channel is cancelled: its requests in order of acceptance, and then its attention entries in id order. A
 /// request in service is marked, and told so once; any other is withdrawn where a mailbox stores it, and finishes with CANCEL. Takes no
 /// memory.
@@ -147,7 +136,8 @@ pub fn cancel_channel<R: Routine>(core: &mut Core<R>, p: Pid, chan: u32)
     requires room { Fits core.old (cancel_channel core.old.state p chan).effects }
     ensures { Acts (cancel_channel core.old.state p chan) core.old core.new }
 {
-    cancel_asked(core, p, chan);
+    cancel_requests(core, p, chan);
+    drop_attentions(core, p, chan);
 }
 
 /// $CANCEL: what the caller asked on a channel is cancelled: IVCHAN where the number is none of a channel, NOPRIV where the channel is
@@ -160,7 +150,7 @@ pub fn cancel<R: Routine>(core: &mut Core<R>, p: Pid, chan: u32) -> Cond
 {
     match core.channel(p, chan) {
         Ok(_) => {
-            cancel_asked(core, p, chan);
+            cancel_channel(core, p, chan);
             Cond::Normal
         }
         Err(cond) => cond,
@@ -177,7 +167,7 @@ pub fn dassgn<R: Routine>(core: &mut Core<R>, p: Pid, chan: u32) -> Cond
 {
     match device_channel(core, p, chan) {
         Ok(_) => {
-            cancel_asked(core, p, chan);
+            cancel_channel(core, p, chan);
             free_channel(core, p, chan);
             Cond::Normal
         }

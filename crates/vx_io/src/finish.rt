@@ -1,25 +1,21 @@
 //! How a request finishes, in its parts.
 
-ghost use Rattle.std.specs.Prelude.{◌≡◌, ◌≤◌, Some, length, true};
+ghost use Rattle.std.specs.Prelude.{◌≡◌, ◌≤◌, Some, length};
 ghost use Rattle.vx_record.specs.State.{IsProcess};
 ghost use Rattle.vx_record.specs.Finish.{buf_part, finish_id, iosb_part, is_read};
-ghost use Rattle.vx_record.specs.Flags.{cell, flag_where_named};
 ghost use Rattle.vx_procs.specs.Kernel.{Acts, Fits};
 ghost use Rattle.vx_io.specs.Finishing.{IsEnding, finishing, storing};
 ghost use Rattle.vx_io.specs.Steady.{AreSteady};
 
 use vx_base::{Bytes, Cond, Effect, Func, Id, Pid, Reply, Req, Routine};
+use vx_ctl::set_where_named;
 use vx_procs::{Core, Finished};
 
 /// Whether a request reads.
 pub(crate) fn is_read(func: Func) -> bool
     ensures { result ≡ is_read func }
 {
-    match func {
-        Func::Read => true,
-        Func::ReadNow => true,
-        _ => false,
-    }
+    matches!(func, Func::Read | Func::ReadNow)
 }
 
 // BUF: the bytes that were read, over the start of the buffer.
@@ -72,20 +68,6 @@ pub(crate) fn fill_status<R: Routine>(
     }
 }
 
-/// FLAG: the event flag, where its number names one now.
-#[tactic(auto, using(crate::proofs::Parted::told_none))]
-pub(crate) fn set_flag<R: Routine>(core: &mut Core<R>, p: Pid, efn: u32)
-    requires made { IsProcess core.old.state p }
-    requires room { Fits core.old (flag_where_named core.old.state (cell core.old.state p efn) true).effects }
-    ensures { Acts (flag_where_named core.old.state (cell core.old.state p efn) true) core.old core.new }
-{
-    let Some(cell) = core.cell(p, efn) else {
-        return;
-    };
-    core.set_flag(&cell, true);
-    core.tell(Effect::Flag { cell, bit: true });
-}
-
 // FIN, BUF, IOSB: how a request ended is told, and what it read and its status, whose last number is given apart, are stored.
 fn store<R: Routine>(core: &mut Core<R>, req: &Req, reply: Reply, info: u32)
     requires ending { IsEnding core.old.state req.now reply }
@@ -106,7 +88,7 @@ pub(crate) fn finish<R: Routine>(core: &mut Core<R>, done: Finished, reply: Repl
     ensures { Acts (finishing done (reply, info) core.old.state) core.old core.new }
 {
     store(core, &done.req, reply, info);
-    set_flag(core, done.req.p, done.req.efn);
+    set_where_named(core, done.req.p, done.req.efn);
     if done.queued {
         core.tell(Effect::Que(done.req.id));
     }

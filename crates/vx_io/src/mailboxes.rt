@@ -50,7 +50,7 @@ pub(crate) fn sweep<R: Routine>(core: &mut Core<R>, b: BoxNo)
 fn is_bad_box<R: Routine>(core: &Core<R>, name: &[u8], maxmsg: u32, bufquo: u32) -> bool
     ensures { result ≡ is_bad_box core.now.state name.now maxmsg bufquo }
 {
-    core.unit_named(name) || maxmsg < 1 || 2048 < maxmsg || bufquo < maxmsg || 65535 < bufquo
+    core.is_unit_name(name) || maxmsg < 1 || 2048 < maxmsg || bufquo < maxmsg || 65535 < bufquo
 }
 
 // MBX: a mailbox is made under a number that none has, and a channel to it is assigned: NOIOCHAN where no channel is free.
@@ -68,10 +68,7 @@ fn make_box<R: Routine>(
     requires room { Fits core.old (make_box core.old.state p mode (box_asked ask) b.0 (free_channel_of core.old.state p)).effects }
     ensures { Does (make_box core.old.state p mode (box_asked ask) b.0 (free_channel_of core.old.state p)) result core.old core.new }
 {
-    let n = match core.assign(p, Device::Mailbox(b), mode) {
-        Ok(n) => n,
-        Err(cond) => return Err(cond),
-    };
+    let n = core.assign(p, Device::Mailbox(b), mode)?;
     core.make_box(b, ask.name, ask.perm != 0, ask.maxmsg, ask.bufquo);
     core.tell(Effect::Mbx {
         name: ask.name,

@@ -16,7 +16,7 @@ use Rattle.vx_lines.specs.Records.{pid_text, spaced, unit_name}
 use Rattle.vx_lines.specs.Spelled.{IsWord}
 use Rattle.vx_lines.specs.SpelledHead.{IsSpelledUnit}
 use Rattle.vx_lines.specs.Words.{◌>>=◌, first_word, behind_word, second_word, third_word, fourth_word}
-use Rattle.vx_lines.proofs.EffectsBack.{Tight, whole, feedless, tight_number, tight_name, number_back, pid_back, name_back, bytes_same}
+use Rattle.vx_lines.proofs.EffectsBack.{Tight, whole, feedless, tight_number, tight_name, number_back, pid_back, name_back}
 use Rattle.vx_lines.proofs.PartsBack.{text_back, text_feed}
 use Rattle.vx_lines.proofs.RecordsLaw.{fed_line}
 use Rattle.vx_lines.proofs.WordsBack.{run_first, first_back, behind_back, second_back, third_back, fourth_back}
@@ -32,6 +32,7 @@ use Rattle.vx_journal.specs.declared.trailer.TrailerLine.{TrailerLine}
 use Rattle.vx_journal.specs.declared.trailer.TrailerLine.TheVariants as trailer
 use Rattle.vx_journal.proofs.TrailerPart.{begins, first_line, over}
 use Rattle.vx_lines.proofs.HeadsLaw.{no_feed_append}
+use Rattle.vx_base.proofs.Texts.{same_bytes}
 
 -- Words.
 
@@ -125,7 +126,7 @@ line_back units t h =
     let line : List ℕ = trailer_line units t in
     ap (λ (z : List ℕ). line_of units z >>= if_spelled units (line ++ 10 ∷ [])) (run_first is_no_feed line (10 ∷ []) is.feed refl)
     ∙ ap (λ (o : Option TrailerLine). o >>= if_spelled units (line ++ 10 ∷ [])) is.read
-    ∙ rw (bytes_same (line ++ 10 ∷ [])) refl
+    ∙ rw (same_bytes (line ++ 10 ∷ [])) refl
 
 -- All lines.
 

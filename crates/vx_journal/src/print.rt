@@ -5,7 +5,6 @@
 ghost use Rattle.std.specs.Prelude.{◌≡◌, ◌++◌, ◌∷◌, [], OnOk};
 ghost use Rattle.vx_journal.specs.Transcript.{standing_word, standing_line, output_line, end_word, end_line};
 
-use std::alloc::Global;
 use vx_base::{Bytes, End, Name, NoMemory, Pid};
 use vx_lines::{print_spaced, print_spaced_num};
 use vx_record::Standing;
@@ -54,18 +53,13 @@ pub fn end_word(end: End) -> &'static [u8]
 }
 
 /// Appends a line that a unit has put out.
-pub fn print_output(
-    alloc: Global,
-    name: &[u8],
-    bytes: &[u8],
-    out: &mut Bytes,
-) -> Result<(), NoMemory>
+pub fn print_output(name: &[u8], bytes: &[u8], out: &mut Bytes) -> Result<(), NoMemory>
     ensures { OnOk result (out.new ≡ out.old ++ (output_line name.now bytes.now ++ 10 ∷ [])) }
 {
     out.push_all(b"OUT")?;
     print_spaced(name, out)?;
     out.push_all(b" ")?;
-    print_quote(alloc, out, bytes)?;
+    print_quote(out, bytes)?;
     out.push_all(b"\n")
 }
 

@@ -115,12 +115,7 @@ fn line_of(alloc: Global, units: &[UnitDecl], line: &[u8]) -> Result<Option<Trai
     Ok(end_in(words))
 }
 
-fn print_line(
-    alloc: Global,
-    units: &[UnitDecl],
-    line: &TrailerLine,
-    out: &mut Bytes,
-) -> Result<(), NoMemory>
+fn print_line(units: &[UnitDecl], line: &TrailerLine, out: &mut Bytes) -> Result<(), NoMemory>
     ensures { OnOk result (out.new ≡ out.old ++ (spec.trailer_line units.now line.now ++ 10 ∷ [])) }
 {
     match line {
@@ -128,7 +123,7 @@ fn print_line(
             print_standing(*p, *name, *standing, *code, out)
         }
         TrailerLine::Output(unit, bytes) => {
-            print_output(alloc, unit_name(units, *unit), bytes.as_slice(), out)
+            print_output(unit_name(units, *unit), bytes.as_slice(), out)
         }
         TrailerLine::End(end, n) => print_end(*end, *n, out),
     }
@@ -143,7 +138,7 @@ fn if_spelled(
     ensures { IfOk result (λ kept. kept ≡ spec.if_spelled units.now line.now read) }
 {
     let mut text = Bytes::new(alloc);
-    print_line(alloc, units, &read, &mut text)?;
+    print_line(units, &read, &mut text)?;
     if text.as_slice() == line {
         Ok(Some(read))
     } else {

@@ -15,6 +15,7 @@ use Rattle.vx_laws.specs.Items.{Calling}
 use Rattle.vx_record.specs.Services.{number}
 use Rattle.vx_judge.proofs.Passes.{list_any_reverse}
 use Rattle.vx_record.proofs.Lists.{either_by}
+use Rattle.vx_base.proofs.Bools.{or_false}
 
 is_one : (n : ℕ) → 1 < n → (n == 1) ≡ false
 is_one n h = ne_eqb n 1 (λ e. omega (arith, e, h))
@@ -32,13 +33,9 @@ any_of : {A : Type 0} (of is : A → Bool) → ((x : A) → is x ≡ true → of
 any_of of is sub [] = refl
 any_of of is sub (x ∷ xs) = any_where of is (of x) x (list_any is xs) (filter of xs) (sub x) (any_of of is sub xs)
 
-or_false : (b : Bool) → b ≡ (b || false)
-or_false true = refl
-or_false false = refl
-
 only_one : (is : Effect → Bool) (fs : List Effect) → ((length fs == 1) && list_any is fs) ≡ is_only is fs
 only_one is [] = refl
-only_one is (x ∷ []) = sym (or_false (is x))
+only_one is (x ∷ []) = or_false (is x)
 only_one is (x ∷ (y ∷ fs)) = rw (is_one (length (x ∷ (y ∷ fs))) (omega arith)) refl
 
 only_by : (of is : Effect → Bool) (es : List Effect) → ((x : Effect) → is x ≡ true → of x ≡ true) → ((length (filter of es) == 1) && list_any is es) ≡ only of is es

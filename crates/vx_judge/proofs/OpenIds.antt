@@ -14,7 +14,7 @@ use Rattle.vx_judge.specs.OpenIds.{HasOpen, has_open, is_open_in}
 use Rattle.vx_judge.specs.declared.lives.Lives.{Lives}
 use Rattle.vx_laws.proofs.Shares.{lived_none, still_none}
 use Rattle.vx_laws.proofs.Openings.{is_open_item}
-use Rattle.vx_laws.proofs.Bools.{both_left}
+use Rattle.vx_base.proofs.Bools.{both_left}
 
 pub by_cases : {A : Type 0} (b : Bool) → (b ≡ true → A) → (b ≡ false → A) → A
 by_cases true f g = f refl

@@ -45,7 +45,7 @@ use Rattle.vx_laws.proofs.Stands.{field_at}
 use Rattle.vx_record.proofs.Apart.{associated_only, dissociated_only, marked_at_only}
 use Rattle.vx_record.proofs.Steps.{test_made}
 use Rattle.vx_laws.proofs.Calm.{AreFrames, AreTagged, Calmed, Fine, IsBare, OutcomeCalm, PartCalm, Tags, Turned, assign_to_calm, at_flag_calm, at_tested_calm, by_turn, calm_none, calm_or, calm_then, cancel_channel_calm, cancel_handlers_calm, change_calm, change_tags, clusters_calm, crembx_calm, delmbx_calm, drop_handlers_calm, drop_timers_calm, flag_calm, free_channel_calm, handler_calm, held_at, is_exit_entry, is_fine, lists_calm, plain_calm, qio_calm, qiow_calm, que_calm, same, scheduled_calm, setimr_calm, still_made, waited_calm, waits_calm}
-use Rattle.vx_laws.proofs.Bools.{either_same}
+use Rattle.vx_base.proofs.Bools.{either_same}
 
 -- Services that neither enter nor leave.
 

@@ -31,7 +31,7 @@ use Rattle.vx_record.specs.Finish.{Ending, buf_part, done_ast_part, done_flag_pa
 use Rattle.vx_record.specs.Flags.{cell, flag_part, flag_where_named}
 use Rattle.vx_record.specs.Parts.{Part, and_then, each, nothing}
 use Rattle.vx_record.specs.State.{State}
-use Rattle.vx_laws.proofs.Bools.{or_false}
+use Rattle.vx_base.proofs.Bools.{or_false}
 
 -- no status block is written and no flag is set before the first FIN
 abbrev pub Still : List Effect → Type 0

@@ -53,7 +53,7 @@ use Rattle.vx_laws.proofs.Steps.{step_tags, first_tags}
 use Rattle.vx_laws.proofs.Turns.{later_items}
 use Rattle.vx_laws.proofs.Unowned.{open_seated, pid_of}
 use Rattle.vx_laws.proofs.Vacant.{every_run_down}
-use Rattle.vx_laws.proofs.Bools.{same_bools}
+use Rattle.vx_base.proofs.Bools.{same_bools}
 
 -- Who is deleted is gone in the records.
 

@@ -36,7 +36,7 @@ use Rattle.vx_laws.proofs.CalmServices.{call_turn, leave_all_state}
 use Rattle.vx_laws.proofs.Courses.{acts_apart, place_apart}
 use Rattle.vx_laws.proofs.Pauses.{shifted, heard, made_waits, run_waits}
 use Rattle.vx_laws.proofs.Rests.{IsAwake, is_rundown}
-use Rattle.vx_laws.proofs.Bools.{either_same}
+use Rattle.vx_base.proofs.Bools.{either_same}
 
 nil_frames : (fs : List Frame) → waits_of fs ≡ [] → fs ≡ []
 nil_frames [] e = refl

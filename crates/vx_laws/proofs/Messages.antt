@@ -4,8 +4,8 @@ use Rattle.std.proofs.lemmas.Bool.{or_right, leb-true, and_parts, and_from, or_p
 use Rattle.std.proofs.lemmas.List.Quantifiers.{position-Some}
 use Rattle.std.proofs.lemmas.Slice.Eq.{bytes_eq-Decides}
 use Rattle.std.specs.List.{AllByRecursion, find, list_any}
-use Rattle.std.specs.Prelude.{Contains, option_map, bytes_eq}
-use Rattle.vx_base.proofs.First.{none_at, found_passes}
+use Rattle.std.specs.Prelude.{Contains, option_map}
+use Rattle.vx_base.proofs.First.{found_passes}
 use Rattle.vx_base.specs.Channels.{channel_at}
 use Rattle.vx_base.specs.Cond.{number_of}
 use Rattle.vx_base.specs.Lists.{amend}
@@ -45,7 +45,7 @@ use Rattle.vx_image.specs.declared.stop.Stop.TheVariants as stop
 use Rattle.vx_image.specs.declared.stop.Stop.{Stop}
 use Rattle.vx_image.specs.declared.system.System.{System}
 use Rattle.vx_record.proofs.Ground.{at_set}
-use Rattle.vx_record.proofs.Lists.{either, either_by, all_find, ordered_amend, all_weaker, all_get, none_any}
+use Rattle.vx_record.proofs.Lists.{either, either_by, all_find, ordered_amend, all_weaker, all_get}
 use Rattle.vx_record.proofs.SoundRequests.{tested_channel}
 use Rattle.vx_record.specs.Asts.{deliverable_ast}
 use Rattle.vx_record.specs.Cancel.{cancel_channel, cancel_at, dassgn_at}
@@ -85,7 +85,7 @@ use Rattle.vx_laws.proofs.Rows.{made_boxed, assigned_boxed}
 use Rattle.vx_laws.proofs.Runs.{step_right, first_stands, front_found}
 use Rattle.vx_laws.proofs.Turns.{later_items}
 use Rattle.vx_laws.proofs.Withdrawn.{cancel_channel_walk, cancel_channel_clear, free_walk, unit_nowhere}
-use Rattle.vx_laws.specs.Agrees.{as_stored, device_title, OfChannelCall, is_box_named, box_stands}
+use Rattle.vx_laws.specs.Agrees.{as_stored, device_title, OfChannelCall, box_stands}
 use Rattle.vx_laws.specs.Boxes.{stored}
 use Rattle.vx_laws.specs.Items.{Item, Head, Did, flat, later, past_of, latest_call, at_each}
 use Rattle.vx_laws.specs.Lives.{life, lives, named_in, Life, names_device}
@@ -94,6 +94,7 @@ use Rattle.vx_laws.proofs.Courses.{uses_channels}
 use Rattle.vx_laws.proofs.Quotas.{effects_left_is}
 use Rattle.vx_record.proofs.SoundChannels.{free_row}
 use Rattle.vx_laws.proofs.Asked.{calling_of}
+use Rattle.vx_base.proofs.Any.{no_position}
 
 -- Records: after each of them mailboxes, channels and requests agree, and no mailbox has both a message and a read.
 
@@ -178,9 +179,6 @@ named_found : (s : State) (name : List ℕ) (u b : Option ℕ) → unit_named s 
 named_found s name (Some u) b e f d k = let same : unit_number u ≡ d = cc in subst (IsFound s name) same (unit_found s name u e)
 named_found s name None (Some b) e f d k = let same : device.Mailbox (box_number b) ≡ d = cc in subst (IsFound s name) same (box_found s name b f)
 named_found s name None None e f d k = absurd (let never : None ≡ Some d = k in cc)
-
-no_position : {A : Type 0} (p : A → Bool) (xs : List A) → position p xs ≡ None → list_any p xs ≡ false
-no_position p xs e = none_any p xs (sym (none_at p xs (sym e)).0)
 
 make_serving : (s : State) (p : Pid) (mode : Mode) (box : Mailbox) (b : ℕ) (o : Option ℕ) (t : Target) (c : Call) (past : List Item) → position is_none s.boxes ≡ Some b → free_channel_of s p ≡ o → box.messages ≡ [] → list_any (is_box_of box.name) s.boxes ≡ false → list_any (is_unit_of box.name) s.system.units ≡ false →
     names_device c.service ≡ true → text c.args.a1 ≡ box.name → 1 ≤ p.0 → Boxed s past → IsSingle s → let x = make_box s p mode box b o in let y = numbered_at p t (part_of x) x.answer in Serving (headed p c y y.answer past) (part_of y)
@@ -553,13 +551,8 @@ run_going s past (r ∷ rs) k b f g =
 every_going : (system : System) (recs : List Rec) → IsRun system recs → Going (after system recs) (past_of recs)
 every_going system recs run = run_going (first system) [] recs run.steps (first_base system) (first_further system) (first_going system)
 
-pub every_box_stands : (system : System) (recs : List Rec) (name : List ℕ) → IsRun system recs → list_any (is_box_named name) (after system recs).boxes ≡ box_stands (past_of recs) name
-every_box_stands system recs name run = same_any (after system recs).boxes ∙ (every_going system recs run).boxed.stands name
-  where
-    same_any : (l : List (Option Mailbox)) → list_any (is_box_named name) l ≡ list_any (is_box_of name) l
-    same_any [] = refl
-    same_any (None ∷ l) = same_any l
-    same_any (Some box ∷ l) = ap (λ (b : Bool). bytes_eq box.name name || b) (same_any l)
+pub every_box_stands : (system : System) (recs : List Rec) (name : List ℕ) → IsRun system recs → list_any (is_box_of name) (after system recs).boxes ≡ box_stands (past_of recs) name
+every_box_stands system recs name run = (every_going system recs run).boxed.stands name
 
 pub every_box_stores : (system : System) (recs : List Rec) (b : BoxNo) → IsRun system recs → IsTrue (is_some (box_at (after system recs) b)) → map as_stored (mailbox_at (after system recs) b).messages ≡ stored (past_of recs) (mailbox_at (after system recs) b).name
 every_box_stores system recs b run there = by_box (box_at (after system recs) b) refl there

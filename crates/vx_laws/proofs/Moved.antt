@@ -34,7 +34,7 @@ use Rattle.vx_laws.proofs.Calm.{is_fine, Fine}
 use Rattle.vx_laws.specs.Once.{ends_where, is_requesting, moves, is_done_first}
 use Rattle.vx_base.specs.declared.request.Body.{Body}
 use Rattle.vx_base.specs.declared.request.Body.TheVariants as body
-use Rattle.vx_laws.proofs.Bools.{or_true}
+use Rattle.vx_base.proofs.Bools.{or_true}
 use Rattle.vx_base.proofs.First.{found_passes}
 
 abbrev pub AllWhere : List Item → List Effect → Type 0

@@ -24,7 +24,7 @@ use Rattle.vx_laws.specs.Agrees.{device_title}
 use Rattle.vx_laws.specs.Boxes.{is_at, asks, reads_at, oldest_read}
 use Rattle.vx_laws.specs.Items.{Item, Head, Did}
 use Rattle.vx_laws.specs.Lives.{Life, life, lives, highest, is_outstanding, least_id, id_of}
-use Rattle.vx_laws.proofs.Bools.{same_bools}
+use Rattle.vx_base.proofs.Bools.{same_bools}
 use Rattle.vx_base.proofs.First.{found_passes}
 use Rattle.std.proofs.lemmas.List.Folds.{list_any_at}
 

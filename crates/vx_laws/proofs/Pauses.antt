@@ -55,7 +55,7 @@ use Rattle.vx_record.specs.Services.{asked, at_once, number, routine, service_of
 use Rattle.vx_record.specs.State.{IsProcess, Process, State, change, current, image_of, nobody, pid, process_at, with_top}
 use Rattle.vx_record.specs.declared.served.Served.TheVariants.{Answered, Waits}
 use Rattle.vx_record.specs.declared.served.Served.{Served}
-use Rattle.vx_laws.proofs.Bools.{either_same, by_bool}
+use Rattle.vx_base.proofs.Bools.{either_same, by_bool}
 
 -- what a turn makes of waits
 abbrev pub shifted : Turn → List (Option Wait) → List (Option Wait)

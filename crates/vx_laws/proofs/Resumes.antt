@@ -70,7 +70,7 @@ use Rattle.vx_record.specs.declared.served.Served.TheVariants.{Answered, Waits}
 use Rattle.vx_record.specs.declared.served.Served.{Served}
 use Rattle.vx_record.proofs.Allowed.{enabled_there}
 use Rattle.vx_record.proofs.Along.{first_base}
-use Rattle.vx_laws.proofs.Bools.{either_same}
+use Rattle.vx_base.proofs.Bools.{either_same}
 
 -- at the ends of records
 pub record Awaits (s : State) (past : List Item) : Type 0 where

@@ -11,6 +11,7 @@ use Rattle.vx_base.specs.declared.number.Id.{Id}
 use Rattle.vx_base.specs.declared.number.Pid.{Pid}
 use Rattle.vx_image.specs.Storage.{status_at}
 use Rattle.vx_record.specs.Charges.{charge}
+use Rattle.vx_record.specs.Channels.{is_box_of}
 use Rattle.vx_record.specs.Control.{is_deleted}
 use Rattle.vx_record.specs.Finish.{this_request}
 use Rattle.vx_record.specs.Flags.{flags_of}
@@ -18,7 +19,7 @@ use Rattle.vx_record.specs.Mailboxes.{mailbox_at, this_attention, waits_at}
 use Rattle.vx_record.specs.Rundown.{this_handler}
 use Rattle.vx_record.specs.State.{State, IsProcess, box_at, decl_of, process_at}
 use Rattle.vx_record.specs.Timers.{this_timer}
-use Rattle.vx_laws.specs.Agrees.{AreEntries, AsCalled, IsOwned, OfChannelCall, as_stored, as_waiting, box_stands, cluster_of, cluster_stands, device_title, entered_frames, has_kind, is_attending, is_box_named, is_handler_of, is_timed, waited}
+use Rattle.vx_laws.specs.Agrees.{AreEntries, AsCalled, IsOwned, OfChannelCall, as_stored, as_waiting, box_stands, cluster_of, cluster_stands, device_title, entered_frames, has_kind, is_attending, is_handler_of, is_timed, waited}
 use Rattle.vx_laws.specs.Boxes.{stored}
 use Rattle.vx_laws.specs.Charges.{charge_by}
 use Rattle.vx_laws.specs.Frames.{awaited, enabled_by, entered, waiting}
@@ -69,5 +70,5 @@ pub record StateAgrees (s : State) (past : List Item) : Type 0 where
   pub opened : OpenAgrees s past
   pub procs : (p : Pid) → IsProcess s p → ProcessAgrees s past p
   pub values : ValuesAgree s past
-  pub stands : (name : List ℕ) → list_any (is_box_named name) s.boxes ≡ box_stands past name
+  pub stands : (name : List ℕ) → list_any (is_box_of name) s.boxes ≡ box_stands past name
   pub boxes : (b : BoxNo) → IsTrue (is_some (box_at s b)) → BoxAgrees s past b

@@ -16,9 +16,9 @@ ghost use Rattle.vx_image.specs.Storage.{status_at};
 ghost use Rattle.vx_image.specs.declared.decl.ProcDecl.{ProcDecl as DeclOf};
 ghost use Rattle.vx_image.specs.declared.system.System.{System as SystemOf};
 ghost use Rattle.vx_laws.specs.Agreement.{StateAgrees};
-ghost use Rattle.vx_laws.specs.Agrees.{AreEntries, as_waiting, entered_frames, has_kind, is_attending, is_handler_of, is_timed, cluster_of, cluster_stands, AsCalled, IsOwned, as_stored, box_stands, device_title, is_box_named, OfChannelCall, waited};
+ghost use Rattle.vx_laws.specs.Agrees.{AreEntries, as_waiting, entered_frames, has_kind, is_attending, is_handler_of, is_timed, cluster_of, cluster_stands, AsCalled, IsOwned, as_stored, box_stands, device_title, OfChannelCall, waited};
 ghost use Rattle.vx_laws.specs.Boxes.{stored};
-ghost use Rattle.vx_record.specs.Channels.{is_unit_of};
+ghost use Rattle.vx_record.specs.Channels.{is_box_of, is_unit_of};
 ghost use Rattle.vx_laws.specs.Charges.{charge_by};
 ghost use Rattle.vx_laws.specs.Frames.{awaited, enabled_by, entered, waiting};
 ghost use Rattle.vx_laws.specs.Items.{past_of};
@@ -104,7 +104,7 @@ pub fn every_wait_agrees()
 #[tactic(auto, using(crate::proofs::Messages::every_box_stands))]
 pub fn every_box_agrees()
     ensures stands { (system : SystemOf) (recs : List RecOf) (name : List ℕ) → IsRun system recs →
-        list_any (is_box_named name) (after system recs).boxes ≡ box_stands (past_of recs) name }
+        list_any (is_box_of name) (after system recs).boxes ≡ box_stands (past_of recs) name }
     ensures messages { (system : SystemOf) (recs : List RecOf) (b : BoxNoOf) → IsRun system recs → IsTrue (is_some (box_at (after system recs) b)) →
         map as_stored (mailbox_at (after system recs) b).messages ≡ stored (past_of recs) (mailbox_at (after system recs) b).name }
     ensures writers { (system : SystemOf) (recs : List RecOf) (b : BoxNoOf) → IsRun system recs → IsTrue (is_some (box_at (after system recs) b)) →

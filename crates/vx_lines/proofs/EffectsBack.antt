@@ -1,5 +1,5 @@
 -- The line of an effect is read as the effect.
-use Rattle.std.proofs.Common.{◌≡◌, ℕ, ◌<◌, ◌^◌, ◌==◌, ◌&&◌, Bool, true, false, List, [], ◌∷◌, ◌++◌, bytes_eq, Option, Some, None, option_map, refl, ap, ◌∙◌, arith}
+use Rattle.std.proofs.Common.{◌≡◌, ℕ, ◌<◌, ◌^◌, ◌==◌, ◌&&◌, Bool, true, false, List, [], ◌∷◌, ◌++◌, Option, Some, None, option_map, refl, ap, ◌∙◌, arith}
 use Rattle.std.specs.Prelude.{decimal}
 use Rattle.std.specs.List.{list_all}
 use Rattle.std.proofs.lemmas.List.Folds.{list_all-append}
@@ -29,6 +29,7 @@ use Rattle.vx_lines.specs.Words.{◌>>=◌, is_inner, first_word, second_word, t
 use Rattle.vx_lines.proofs.WordsBack.{Whole, run_first, first_back, second_back, value_back, number_all, name_all}
 use Rattle.std.proofs.lemmas.Bool.{and_parts}
 use Rattle.vx_text.proofs.Conditions.{named_by}
+use Rattle.vx_base.proofs.Texts.{same_bytes}
 
 -- What stands in a word that is no text: neither a space nor a line feed.
 
@@ -138,12 +139,8 @@ by_first word line h = ap (λ (w : List ℕ). with_bytes w line) h
 pub nat_same : (b : ℕ) → (b == b) ≡ true
 nat_same b = grind (arith, nat_tests)
 
-pub bytes_same : (bs : List ℕ) → bytes_eq bs bs ≡ true
-bytes_same [] = refl
-bytes_same (b ∷ bs) = rw (nat_same b, bytes_same bs) refl
-
 spelled_same : (e : Effect) → if_spelled (effect_line e ++ 10 ∷ []) e ≡ Some e
-spelled_same e = rw (bytes_same (effect_line e ++ 10 ∷ [])) refl
+spelled_same e = rw (same_bytes (effect_line e ++ 10 ∷ [])) refl
 
 -- an effect whose line has no line feed in it and is read as the effect is read back
 pub read_back : (e : Effect) → list_all is_no_feed (effect_line e) ≡ true → effect_of (effect_line e) ≡ Some e → read_effect (effect_line e ++ 10 ∷ []) ≡ Some e

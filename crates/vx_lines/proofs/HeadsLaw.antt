@@ -42,10 +42,11 @@ use Rattle.vx_lines.specs.Spelled.{IsWord}
 use Rattle.vx_lines.specs.SpelledHead.{IsSpelledCall, IsSpelledHead, IsSpelledUnit, HeadsReadBack}
 use Rattle.vx_lines.specs.Words.{◌>>=◌, is_inner, first_word, second_word, third_word, fourth_word, behind_word}
 use Rattle.vx_lines.proofs.WordsBack.{Whole, run_first, run_behind, first_back, value_back, number_all}
-use Rattle.vx_lines.proofs.EffectsBack.{whole, feedless, tight_cond, tight_id, tight_name, tight_number, tight_mode, tight_target, id_back, pid_back, bytes_same}
+use Rattle.vx_lines.proofs.EffectsBack.{whole, feedless, tight_cond, tight_id, tight_name, tight_number, tight_mode, tight_target, id_back, pid_back}
 use Rattle.vx_lines.proofs.HeadsBack.{two_words, run_head, ran_call, served_back, waits_back, first_two, second_two, third_two, behind_two}
 use Rattle.std.proofs.lemmas.Bool.{and_parts}
 use Rattle.vx_text.proofs.Conditions.{named_by}
+use Rattle.vx_base.proofs.Texts.{same_bytes}
 
 -- No line feed stands in a head.
 
@@ -111,7 +112,7 @@ record Behind (units : List UnitDecl) (e : Event) (a : Answer) : Type 0 where
   feed : list_all is_no_feed (event_text units e ++ 32 ∷ answer_text a) ≡ true
 
 if_same : (units : List UnitDecl) (n : ℕ) (r : Rec) → if_head units n (head_line units n r ++ 10 ∷ []) r ≡ Some r
-if_same units n r = rw (bytes_same (head_line units n r ++ 10 ∷ [])) refl
+if_same units n r = rw (same_bytes (head_line units n r ++ 10 ∷ [])) refl
 
 whole_head : (units : List UnitDecl) (n : ℕ) (e : Event) (a : Answer) → n < 2 ^ 64 → Behind units e a → read_head units n (head_line units n (as_head e a) ++ 10 ∷ []) ≡ Some (as_head e a)
 unfolding read_head

@@ -2,8 +2,8 @@
 use Rattle.std.proofs.Common.{◌≡◌, ℕ, ◌<◌, List, false, nat_le, None, arith, refl, rules}
 use Rattle.std.specs.List.{fold}
 use Rattle.vx_lines.specs.Numbers.{with_digit, digits_value, value_up_to}
-use Rattle.vx_text.proofs.Runs.{and_false}
 use Rattle.vx_text.proofs.Digits.{fold-grows}
+use Rattle.vx_base.proofs.Bools.{and_false}
 
 -- a number that is too large stays so
 pub value_up_to-large : (most : ℕ) (run ds : List ℕ) (n : ℕ) → digits_value run ≡ fold with_digit n ds → most < n → None ≡ value_up_to most run

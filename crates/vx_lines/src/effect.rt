@@ -11,7 +11,6 @@ use crate::effect_parts::{
     print_of_id, print_of_name, print_of_pid, print_spaced, print_spaced_bit, print_spaced_id,
     print_spaced_num,
 };
-use std::alloc::Global;
 use vx_base::{Body, Bytes, Cell, Cond, Effect, Id, Mode, Name, NoMemory, Opened, Pid, Target};
 use vx_table::{mode_name, print_target};
 use vx_text::print_quote;
@@ -70,13 +69,13 @@ fn print_iosb(
 }
 
 // BUF, a process, a buffer and its quoted bytes.
-fn print_buf(alloc: Global, p: Pid, b: u32, bytes: &[u8], out: &mut Bytes) -> Result<(), NoMemory>
+fn print_buf(p: Pid, b: u32, bytes: &[u8], out: &mut Bytes) -> Result<(), NoMemory>
     ensures { OnOk result (out.new ≡ out.old ++ spaced (effect_words (variant.Buf p b bytes.now))) }
 {
     print_of_pid(b"BUF", p, out)?;
     print_spaced_num(b, out)?;
     out.push_all(b" ")?;
-    print_quote(alloc, out, bytes)
+    print_quote(out, bytes)
 }
 
 // VAR, a process, a variable and its value.
@@ -90,19 +89,13 @@ fn print_var(p: Pid, v: Target, n: u32, out: &mut Bytes) -> Result<(), NoMemory>
 }
 
 // MPUT, a mailbox, the id of a write and what is written.
-fn print_put(
-    alloc: Global,
-    name: &Name,
-    id: Id,
-    body: &Body,
-    out: &mut Bytes,
-) -> Result<(), NoMemory>
+fn print_put(name: &Name, id: Id, body: &Body, out: &mut Bytes) -> Result<(), NoMemory>
     ensures { OnOk result (out.new ≡ out.old ++ spaced (effect_words (variant.MPut name.now id body.now))) }
 {
     print_of_name(b"MPUT", name, out)?;
     print_spaced_id(id, out)?;
     out.push_all(b" ")?;
-    print_body(alloc, body, out)
+    print_body(body, out)
 }
 
 // MGET, a mailbox, and the ids of a write and of a read.
@@ -167,7 +160,7 @@ fn print_new(p: Pid, name: &Name, out: &mut Bytes) -> Result<(), NoMemory>
 }
 
 // The words of an effect, each behind a space.
-fn print_words(alloc: Global, effect: &Effect, out: &mut Bytes) -> Result<(), NoMemory>
+fn print_words(effect: &Effect, out: &mut Bytes) -> Result<(), NoMemory>
     ensures { OnOk result (out.new ≡ out.old ++ spaced (effect_words effect.now)) }
 {
     match effect {
@@ -193,9 +186,9 @@ fn print_words(alloc: Global, effect: &Effect, out: &mut Bytes) -> Result<(), No
             count,
             info,
         } => print_iosb(*p, *i, *cond, *count, *info, out),
-        Effect::Buf { p, b, bytes } => print_buf(alloc, *p, *b, bytes.as_slice(), out),
+        Effect::Buf { p, b, bytes } => print_buf(*p, *b, bytes.as_slice(), out),
         Effect::Var { p, v, n } => print_var(*p, *v, *n, out),
-        Effect::MPut { name, id, body } => print_put(alloc, name, *id, body, out),
+        Effect::MPut { name, id, body } => print_put(name, *id, body, out),
         Effect::MGet { name, w, r } => print_get(name, *w, *r, out),
         Effect::MCut { name, w } => print_cut(name, *w, out),
         Effect::Mbx { name, bit } => print_mbx(name, *bit, out),
@@ -208,19 +201,19 @@ fn print_words(alloc: Global, effect: &Effect, out: &mut Bytes) -> Result<(), No
 }
 
 /// Appends an effect, on its line.
-pub fn print_effect(alloc: Global, effect: &Effect, out: &mut Bytes) -> Result<(), NoMemory>
+pub fn print_effect(effect: &Effect, out: &mut Bytes) -> Result<(), NoMemory>
     ensures { OnOk result (out.new ≡ out.old ++ (effect_line effect.now ++ 10 ∷ [])) }
 {
-    print_words(alloc, effect, out)?;
+    print_words(effect, out)?;
     out.push_all(b"\n")
 }
 
 /// Appends effects, each on its line.
-pub fn print_effects(alloc: Global, effects: &[Effect], out: &mut Bytes) -> Result<(), NoMemory>
+pub fn print_effects(effects: &[Effect], out: &mut Bytes) -> Result<(), NoMemory>
     ensures { OnOk result (out.new ≡ out.old ++ ended_lines (map effect_line effects.now)) }
 {
     for effect in effects {
-        print_effect(alloc, effect, out)?;
+        print_effect(effect, out)?;
     }
     Ok(())
 }

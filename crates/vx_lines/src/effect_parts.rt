@@ -5,7 +5,6 @@
 ghost use Rattle.std.specs.Prelude.{◌≡◌, ◌++◌, ◌∷◌, [], decimal, OnOk};
 ghost use Rattle.vx_lines.specs.Records.{spaced, id_text, bit_text, cluster_text, cell_text, opened_name, mode_text, cond_text, joined_text, body_text};
 
-use std::alloc::Global;
 use vx_base::{Body, Bytes, Cell, Cond, Id, Mode, Name, NoMemory, Opened, Pid};
 use vx_table::mode_name;
 use vx_text::{print_num, print_quote};
@@ -113,11 +112,11 @@ pub fn cond_text(cond: Option<Cond>) -> &'static [u8]
 }
 
 /// Appends a message's quoted text, or EOF.
-pub fn print_body(alloc: Global, body: &Body, out: &mut Bytes) -> Result<(), NoMemory>
+pub fn print_body(body: &Body, out: &mut Bytes) -> Result<(), NoMemory>
     ensures { OnOk result (out.new ≡ out.old ++ body_text body.now) }
 {
     match body {
-        Body::Text(bytes) => print_quote(alloc, out, bytes.as_slice()),
+        Body::Text(bytes) => print_quote(out, bytes.as_slice()),
         Body::Eof => out.push_all(b"EOF"),
     }
 }

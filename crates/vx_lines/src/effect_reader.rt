@@ -280,7 +280,7 @@ fn if_spelled(alloc: Global, line: &[u8], effect: Effect) -> Result<Option<Effec
     ensures { IfOk result (λ read. read ≡ spec.if_spelled line.now effect) }
 {
     let mut text = Bytes::new(alloc);
-    print_effect(alloc, &effect, &mut text)?;
+    print_effect(&effect, &mut text)?;
     if text.as_slice() == line {
         Ok(Some(effect))
     } else {

@@ -8,7 +8,6 @@ ghost use Rattle.vx_lines.specs.Records.{ended_lines, spaced, unit_name, event_t
 
 use crate::effect::print_effects;
 use crate::effect_parts::{print_id, print_of_pid, print_spaced};
-use std::alloc::Global;
 use vx_base::{Answer, Bytes, Call, Event, NoMemory, Rec, UnitNo};
 use vx_image::UnitDecl;
 use vx_table::append_call;
@@ -93,30 +92,19 @@ pub fn print_head(units: &[UnitDecl], n: u64, rec: &Rec, out: &mut Bytes) -> Res
 }
 
 /// Appends record n: its head, and its effects, each on its line.
-pub fn print_record(
-    alloc: Global,
-    units: &[UnitDecl],
-    n: u64,
-    rec: &Rec,
-    out: &mut Bytes,
-) -> Result<(), NoMemory>
+pub fn print_record(units: &[UnitDecl], n: u64, rec: &Rec, out: &mut Bytes) -> Result<(), NoMemory>
     ensures { OnOk result (out.new ≡ out.old ++ ended_lines (record_lines units.now n rec.now)) }
 {
     print_head(units, n, rec, out)?;
-    print_effects(alloc, rec.effects.as_slice(), out)
+    print_effects(rec.effects.as_slice(), out)
 }
 
 /// Appends records, numbered from 1, with the names of these units.
-pub fn print_records(
-    alloc: Global,
-    units: &[UnitDecl],
-    recs: &[Rec],
-    out: &mut Bytes,
-) -> Result<(), NoMemory>
+pub fn print_records(units: &[UnitDecl], recs: &[Rec], out: &mut Bytes) -> Result<(), NoMemory>
     ensures { OnOk result (out.new ≡ out.old ++ ended_lines (records_lines units.now 1 recs.now)) }
 {
     for (i, rec) in recs.iter().enumerate() {
-        print_record(alloc, units, i as u64 + 1, rec, out)?;
+        print_record(units, i as u64 + 1, rec, out)?;
     }
     Ok(())
 }

@@ -1,12 +1,11 @@
 -- What is found by name, when one more item stands at the end.
-use Rattle.std.proofs.Common.{◌≡◌, ℕ, ◌+◌, Bool, true, false, cond, ◌&&◌, ◌||◌, ◌==◌, List, [], ◌∷◌, ◌++◌, length, Option, Some, None, is_some, position, bytes_eq, refl, sym, ap, ◌∙◌, true≢false, arith}
-use Rattle.std.specs.List.{list_any, position_from}
+use Rattle.std.proofs.Common.{◌≡◌, ℕ, ◌+◌, Bool, true, false, cond, ◌&&◌, ◌==◌, List, [], ◌∷◌, ◌++◌, length, Option, Some, None, is_some, position, bytes_eq, refl, sym, ap, ◌∙◌, true≢false, arith}
+use Rattle.std.specs.List.{position_from}
 use Rattle.std.specs.Map.{lookup}
 use Rattle.std.specs.Option.{option_or}
 use Rattle.std.specs.Cmp.Lexicographic.{bytes_decides}
 use Rattle.std.proofs.lemmas.Cmp.{nat_eq_equiv, nat_list_eq_equiv}
 use Rattle.std.proofs.lemmas.Iterator.Adapters.{position_from-zero}
-use Rattle.std.proofs.lemmas.List.Folds.{list_any-append}
 
 -- what has a place keeps it, and what had none may have one now
 kept : {X : Type 0} (is_new : Bool) (old new : Option X) → (is_new ≡ true → is_some old ≡ false)
@@ -46,16 +45,6 @@ position-push p xs x =
     position_from-zero p (xs ++ x ∷ []) ∙ position_from-push p 0 xs x
     ∙ ap (λ n. option_or (position_from p 0 xs) (cond (p x) (Some n) None)) e
     ∙ ap (λ o. option_or o (cond (p x) (Some (length xs)) None)) (sym (position_from-zero p xs))
-
--- whether one passes, with one more item
-pub list_any-push : {X : Type 0} (p : X → Bool) (xs : List X) (x : X) → list_any p (xs ++ x ∷ []) ≡ cond (p x) true (list_any p xs)
-list_any-push p xs x = list_any-append p xs (x ∷ []) ∙ by (p x) (list_any p xs)
-  where
-    by : (b any : Bool) → (any || (b || false)) ≡ cond b true any
-    by true true = refl
-    by true false = refl
-    by false true = refl
-    by false false = refl
 
 -- a name and a number are those of another, or it has theirs
 pub same_key : (name other : List ℕ) (number another : ℕ)

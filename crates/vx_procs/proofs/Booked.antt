@@ -17,6 +17,7 @@ use Rattle.vx_procs.specs.View.{kernel, newcomers, books, books_of, room_of, sta
 use Rattle.vx_procs.specs.declared.procs.Core.TheInside.{Inside}
 use Rattle.vx_procs.specs.declared.process.Proc.{Proc}
 use Rattle.vx_procs.proofs.Changed.{put_there, stands}
+use Rattle.vx_base.proofs.Needs.{need_is}
 
 -- Tallies.
 
@@ -64,14 +65,6 @@ room_books c q made =
 
 -- Amounts.
 
-pub need_eq : (a b : Need) → a.ast ≡ b.ast → a.bio ≡ b.bio → a.dio ≡ b.dio → a.byt ≡ b.byt → a.tqe ≡ b.tqe → a ≡ b
-need_eq a b ast bio dio byt tqe =
-    ap (λ (n : ℕ). let x : Need = record { ast = n; bio = a.bio; dio = a.dio; byt = a.byt; tqe = a.tqe } in x) ast
-    ∙ (ap (λ (n : ℕ). let x : Need = record { ast = b.ast; bio = n; dio = a.dio; byt = a.byt; tqe = a.tqe } in x) bio
-    ∙ (ap (λ (n : ℕ). let x : Need = record { ast = b.ast; bio = b.bio; dio = n; byt = a.byt; tqe = a.tqe } in x) dio
-    ∙ (ap (λ (n : ℕ). let x : Need = record { ast = b.ast; bio = b.bio; dio = b.dio; byt = n; tqe = a.tqe } in x) byt
-    ∙ ap (λ (n : ℕ). let x : Need = record { ast = b.ast; bio = b.bio; dio = b.dio; byt = b.byt; tqe = n } in x) tqe)))
-
 -- One process.
 
 -- its queued ASTs and its timers, as they are charged and promised
@@ -100,7 +93,7 @@ here_by s after p pr ts b c made has decl frames asts limits counts =
     record {
       frames = omega (arith, frames, ap (λ (x : Process). length x.frames) at);
       asts = omega (arith, asts, ap (λ (xs : List Queued). length xs) queued);
-      used = need_eq c.account.used (charge t p)
+      used = need_is c.account.used (charge t p)
           (counts.ast ∙ ap (λ (xs : List Queued). tally (bears_ast p) s.requests + (tally (is_attention_of p) s.attention + (tally (charged_timer p) ts + tally is_charged xs))) (sym queued))
           counts.bio counts.dio counts.byt counts.tqe;
       limits = limits ∙ (has ∙ ap (λ (n : ℕ). (slice_index_or s.system.decls n no_decl).limits) (sym (ap (λ (x : Process). x.decl) at ∙ decl)));
@@ -113,7 +106,7 @@ others_by s before after ts q b h frames asts same none =
     record {
       frames = frames;
       asts = omega (arith, asts, same);
-      used = need_eq b.account.used (charge (record s { timers = ts }) q) (omega (arith, counts.ast, same)) counts.bio counts.dio counts.byt (counts.tqe ∙ sym none);
+      used = need_is b.account.used (charge (record s { timers = ts }) q) (omega (arith, counts.ast, same)) counts.bio counts.dio counts.byt (counts.tqe ∙ sym none);
       limits = h.limits;
     }
 
@@ -145,6 +138,6 @@ others_called s before after es q b h frames asts same =
     record {
       frames = frames;
       asts = omega (arith, asts, same);
-      used = need_eq b.account.used (charge (record s { attention = es }) q) (omega (arith, counts.ast, same)) counts.bio counts.dio counts.byt counts.tqe;
+      used = need_is b.account.used (charge (record s { attention = es }) q) (omega (arith, counts.ast, same)) counts.bio counts.dio counts.byt counts.tqe;
       limits = h.limits;
     }

@@ -26,9 +26,10 @@ use Rattle.vx_procs.specs.View.{process, state, kernel, ends, newcomers, books, 
 use Rattle.vx_procs.specs.Words.{with_created}
 use Rattle.vx_procs.specs.declared.procs.Core.TheInside.{Inside}
 use Rattle.vx_procs.specs.declared.process.Proc.{Proc}
-use Rattle.vx_procs.proofs.Booked.{apart, attention_apart, need_eq, spare_few}
+use Rattle.vx_procs.proofs.Booked.{apart, attention_apart, spare_few}
 use Rattle.vx_procs.proofs.Changed.{booked_quiet}
 use Rattle.vx_procs.proofs.Bills.{HasNone, other_charge}
+use Rattle.vx_base.proofs.Needs.{need_is}
 
 -- The spare process.
 
@@ -143,7 +144,7 @@ fresh_booked c r h fresh =
     record {
       frames = omega (arith, fresh.frame, few, ap (λ (x : Process). length x.frames) at);
       asts = omega (arith, fresh.ast, few, none.0, idle.ast, calm, ap (λ (qs : List Queued). length qs) queued);
-      used = ap (λ (a : Quotas). a.used) fresh.account ∙ need_eq no_need (charge t q) (omega (arith, none.0, idle.ast, calm, ap (λ (qs : List Queued). tally is_charged qs) queued)) (sym idle.bio) (sym idle.dio) (sym idle.byt) (sym none.1);
+      used = ap (λ (a : Quotas). a.used) fresh.account ∙ need_is no_need (charge t q) (omega (arith, none.0, idle.ast, calm, ap (λ (qs : List Queued). tally is_charged qs) queued)) (sym idle.bio) (sym idle.dio) (sym idle.byt) (sym none.1);
       limits = ap (λ (a : Quotas). a.limits) fresh.account ∙ ap (λ (n : ℕ). (slice_index_or c.system.decls n no_decl).limits) (sym (ap (λ (x : Process). x.decl) at));
     }
 

@@ -1,5 +1,4 @@
 -- The processes that are there from the start, one declaration after another.
-use Rattle.vx_procs.proofs.Booked.{need_eq}
 use Rattle.std.proofs.Common.{◌≡◌, ℕ, zero, suc, ◌+◌, ◌-◌, ◌<◌, ◌≤◌, None, Option, arith, List, [], ◌∷◌, ◌++◌, true, false, if◌then◌else◌, map, drop, length, slice_index_or, refl, ap, sym, subst, ◌∙◌}
 use Rattle.std.proofs.lemmas.List.{append_assoc, drop_more}
 use Rattle.vx_image.specs.declared.decl.ProcDecl.{ProcDecl}
@@ -18,6 +17,7 @@ use Rattle.vx_procs.specs.Units.{Ending}
 use Rattle.vx_procs.specs.View.{books_of, process}
 use Rattle.vx_procs.specs.Words.{born_if_started}
 use Rattle.vx_procs.specs.declared.process.Proc.{Proc}
+use Rattle.vx_base.proofs.Needs.{need_is}
 
 born_cons : (place : ℕ) (d : ProcDecl) (ds : List ProcDecl) → born_if_started place d ++ born_from (place + 1) ds ≡ born_from place (d ∷ ds)
 born_cons place d ds = elim d.start as (λ b. (if b then born_of place d ∷ [] else []) ++ born_from (place + 1) ds ≡ (if b then born_of place d ∷ born_from (place + 1) ds else born_from (place + 1) ds)) [ true ↦ refl | false ↦ refl ]
@@ -59,7 +59,7 @@ first_held system us ls xs h =
           record {
             frames = f.0;
             asts = omega (arith, f.2, ap (λ (qs : List Queued). length qs) asts);
-            used = ap (λ (a : Quotas). a.used) f.3 ∙ need_eq no_need (charge s p) (ap (λ (qs : List Queued). 0 + (0 + (0 + tally is_charged qs))) (sym asts)) refl refl refl refl;
+            used = ap (λ (a : Quotas). a.used) f.3 ∙ need_is no_need (charge s p) (ap (λ (qs : List Queued). 0 + (0 + (0 + tally is_charged qs))) (sym asts)) refl refl refl refl;
             limits = ap (λ (a : Quotas). a.limits) f.3;
           };
       timers = tt;

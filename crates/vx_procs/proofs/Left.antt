@@ -24,6 +24,7 @@ use Rattle.vx_procs.specs.declared.handlers.Sought.{Sought}
 use Rattle.vx_procs.specs.declared.procs.Core.TheInside.{Inside}
 use Rattle.vx_procs.specs.declared.process.Proc.{Proc}
 use Rattle.vx_procs.proofs.Changed.{IsQuiet, none_changed, roomier_state, seen_books, stands}
+use Rattle.vx_base.proofs.Lists.{none_mapped}
 
 -- Channels.
 
@@ -41,10 +42,6 @@ assigns k l p dev mode None answer is there = record { answers = is; quiet = ref
 assigns k l p dev mode (Some n) answer is there = record { answers = is; quiet = refl; leaves = there }
 
 -- Exit handlers.
-
-none_mapped : {A B : Type 0} (f : A → B) (o : Option A) → option_map f o ≡ None → o ≡ None
-none_mapped f None e = refl
-none_mapped f (Some x) e = absurd (cc)
 
 -- where none is found, the process stays as it was
 pub none_sought : {A B : Type 0} (key : Handler → B) (f : A → B) (o : Option A) (k : Kernel) (p : Pid) (which : Sought) → option_map f o ≡ option_map key (find (is_sought which) (process_at k.state p).handlers) → o ≡ None → changed k p (without_sought which) ≡ k

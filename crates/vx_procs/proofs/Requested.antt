@@ -45,13 +45,14 @@ use Rattle.vx_procs.specs.declared.procs.Core.TheInside.{Inside}
 use Rattle.vx_procs.specs.declared.process.Proc.{Proc}
 use Rattle.vx_procs.specs.declared.requests.Finished.{Finished}
 use Rattle.vx_procs.proofs.Bills.{IsAlike, IsMore, alike_amend, alike_less, alike_more, its_charge, one_less, one_more, own_charge}
-use Rattle.vx_procs.proofs.Booked.{counts_of, here_by, need_eq, one_few, spare_used, spared, tally-append, tally-less}
+use Rattle.vx_procs.proofs.Booked.{counts_of, here_by, one_few, spare_used, spared, tally-append, tally-less}
 use Rattle.vx_procs.proofs.Changed.{held_there, requests_as, seen}
 use Rattle.vx_procs.proofs.Ended.{found_id}
 use Rattle.vx_procs.proofs.Firsts.{amend_like, find_same}
 use Rattle.vx_procs.proofs.Inside.{stand_here}
 use Rattle.vx_procs.proofs.Ops.{booked_here, charged_limits, counts_here, left_for, queued_decl, queued_frames, spares_here, spares_in}
 use Rattle.vx_record.proofs.OwnIds.{tally_amend}
+use Rattle.vx_base.proofs.Needs.{need_is}
 
 -- what a request of p is charged
 own_need : (s : State) (p : Pid) (r : Request) → r.req.p ≡ p → IsOwnRequest s r.req → its_charge s p r ≡ request_need s r.req.device r.req.func (is_some r.ast) r.req.len
@@ -65,7 +66,7 @@ others_asked s before after rs q b h frames asts same =
     record {
       frames = frames;
       asts = omega (arith, asts, same.ast);
-      used = need_eq b.account.used _ (omega (arith, counts.ast, same.ast)) (counts.bio ∙ sym same.bio) (counts.dio ∙ sym same.dio) (counts.byt ∙ sym same.byt) counts.tqe;
+      used = need_is b.account.used _ (omega (arith, counts.ast, same.ast)) (counts.bio ∙ sym same.bio) (counts.dio ∙ sym same.dio) (counts.byt ∙ sym same.byt) counts.tqe;
       limits = h.limits;
     }
 

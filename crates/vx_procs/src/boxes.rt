@@ -19,7 +19,6 @@ use vx_base::{BoxNo, Id, Msg, Name, Routine};
 
 impl<R: Routine> Proc<R> {
     // Whether it has a channel to a mailbox.
-    #[tactic(auto, using(crate::proofs::Assigned::rows_to))]
     fn has_channel_to(&self, b: BoxNo) -> bool
         ensures { result ≡ has_channel_to b (process self.now) }
     {
@@ -48,8 +47,7 @@ impl<R: Routine> Core<R> {
         ensures found { option_map (λ b. b.0) result ≡ position is_none self.now.state.boxes }
         ensures free { IfSome result (λ b. (b.0 < 64) × (box_at self.now.state b ≡ None)) }
     {
-        let b = self.boxes.free()?;
-        Some(b)
+        self.boxes.free()
     }
 
     /// Its name.

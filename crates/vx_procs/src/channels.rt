@@ -1,16 +1,15 @@
 //! The channels of a process.
 
-ghost use Rattle.std.specs.Prelude.{◌≡◌, ◌<◌, IfSome, IsSome, IsTrue, None, is_some, length, option_map, position};
+ghost use Rattle.std.specs.Prelude.{◌≡◌, IsSome, IsTrue, None, length, option_map};
 ghost use Rattle.vx_base.specs.Channels.{channel_at, is_channel_number, next_of_mode};
 ghost use Rattle.vx_record.specs.State.{IsProcess, process_at};
-ghost use Rattle.vx_record.specs.Channels.{assign_at, channel_test, device_named, free_channel_of, is_unit_of, unit_named, with_channel};
+ghost use Rattle.vx_record.specs.Channels.{assign_at, channel_test, free_channel_of, with_channel};
 ghost use Rattle.vx_procs.specs.Channels.{channel_of, cond_of, or_cond};
 ghost use Rattle.vx_procs.specs.Kernel.{DoesQuietly, changed};
 
 use crate::procs::Core;
-use vx_base::{Cond, Device, Mode, Pid, Routine, UnitNo};
+use vx_base::{Cond, Device, Mode, Pid, Routine};
 use vx_chans::ChanFail;
-use vx_image::UnitDecl;
 
 // The condition of a refusal.
 fn cond_of(fail: ChanFail) -> Cond
@@ -33,42 +32,7 @@ fn or_cond(answer: Result<u32, ChanFail>) -> Result<u32, Cond>
     }
 }
 
-fn is_unit_of(name: &[u8], unit: &UnitDecl) -> bool
-    ensures { result ≡ is_unit_of name.now unit.now }
-{
-    unit.name.text() == name
-}
-
-// Where a unit of a name stands among units.
-fn position_of_unit(units: &[UnitDecl], name: &[u8]) -> Option<usize>
-    ensures place { result ≡ position (is_unit_of name.now) units.now }
-    ensures within { IfSome result (λ place. place < length units.now) }
-{
-    units.iter().position(|unit| is_unit_of(name, unit))
-}
-
 impl<R: Routine> Core<R> {
-    /// The device of a name: a unit of the script, or else a mailbox. None exactly where there is none.
-    pub fn device_named(&self, name: &[u8]) -> Option<Device>
-        requires { length self.now.state.system.units < 4294967296 }
-        ensures { result ≡ device_named self.now.state name.now }
-    {
-        match position_of_unit(self.system.get().units.as_slice(), name) {
-            Some(place) => Some(Device::Unit(UnitNo(place as u32))),
-            None => {
-                let b = self.boxes.named(name)?;
-                Some(Device::Mailbox(b))
-            }
-        }
-    }
-
-    /// Whether a unit of the script has a name.
-    pub fn unit_named(&self, name: &[u8]) -> bool
-        ensures { result ≡ is_some (unit_named self.now.state name.now) }
-    {
-        position_of_unit(self.system.get().units.as_slice(), name).is_some()
-    }
-
     /// Assigns the least free channel of a process to a device, in a mode, and gives its number, 1 to 64 ($ASSIGN). NOIOCHAN, and
     /// nothing changed, exactly where none is free. Takes no memory.
     pub fn assign(&mut self, p: Pid, device: Device, mode: Mode) -> Result<u32, Cond>

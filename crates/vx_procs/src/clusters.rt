@@ -57,12 +57,7 @@ impl<R: Routine> Core<R> {
         requires { IsProcess self.now.state p }
         ensures { result ≡ local_flags (process_at self.now.state p) n }
     {
-        let proc = self.process_of(p);
-        if n < 32 {
-            proc.cluster_0.bits()
-        } else {
-            proc.cluster_1.bits()
-        }
+        self.process_of(p).local_flags(n).bits()
     }
 
     // The 32 flags of the common cluster of a group and name.

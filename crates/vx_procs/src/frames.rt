@@ -42,8 +42,8 @@ fn log_left(kind: FrameKind, log: &mut Effects)
     }
 }
 
-#[tactic(auto, using(crate::proofs::Stack::none_left, crate::proofs::Stack::top_left, crate::proofs::Stack::no_top_left))]
 // Takes the top frame off, if there is one.
+#[tactic(auto, using(crate::proofs::Stack::none_left, crate::proofs::Stack::top_left, crate::proofs::Stack::no_top_left))]
 fn leave_top(frames: &mut Frames, log: &mut Effects)
     requires { HasRoom log.old (length (left_top frames.old.items)) }
     ensures frames { frames.new ≡ record frames.old { items = below_top frames.old.items } }
@@ -55,8 +55,8 @@ fn leave_top(frames: &mut Frames, log: &mut Effects)
     }
 }
 
-#[tactic(auto, using(crate::proofs::Stack::below_drop, crate::proofs::Stack::left_room, crate::proofs::Stack::room_below, crate::proofs::Stack::log_below, crate::proofs::Stack::none_left))]
 /// Takes all frames off, the top first, and logs for each AST that it is no longer active.
+#[tactic(auto, using(crate::proofs::Stack::below_drop, crate::proofs::Stack::left_room, crate::proofs::Stack::room_below, crate::proofs::Stack::log_below, crate::proofs::Stack::none_left))]
 pub(crate) fn leave_all(frames: &mut Frames, log: &mut Effects)
     requires { HasRoom log.old (length (left frames.old.items)) }
     ensures frames { frames.new ≡ record frames.old { items = [] } }

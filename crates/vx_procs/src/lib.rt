@@ -25,6 +25,7 @@ mod channels;
 mod clusters;
 mod create;
 mod depth;
+mod devices;
 mod digest;
 mod frames;
 mod handlers;

@@ -17,8 +17,8 @@ const FIRST_COMMON: u32 = 64;
 const LAST_BLOCK: u32 = 32;
 
 impl<R: Routine> Proc<R> {
-    // Its flags 0 to 31 or 32 to 63, those in which an event flag lies.
-    fn local_flags(&self, efn: u32) -> &Flags
+    /// Its flags 0 to 31 or 32 to 63, those in which an event flag lies.
+    pub(crate) fn local_flags(&self, efn: u32) -> &Flags
         ensures { result.now ≡ local_flags (process self.now) efn }
     {
         if efn < 32 {
@@ -40,8 +40,8 @@ impl<R: Routine> Proc<R> {
         }
     }
 
-    // Whether one of its I/O status blocks is filled.
-    fn is_filled(&self, iosb: u32) -> bool
+    /// Whether one of its I/O status blocks, 1 to 32, is filled.
+    pub(crate) fn is_filled(&self, iosb: u32) -> bool
         requires above { 1 ≤ iosb }
         requires within { iosb ≤ 32 }
         ensures { result ≡ is_filled (status_at (process self.now).store iosb) }

@@ -4,8 +4,7 @@ ghost use Rattle.std.specs.Prelude.{◌≡◌, ◌<◌, ◌≤◌, length, optio
 ghost use Rattle.vx_frames.specs.Frames.{top_of};
 ghost use Rattle.vx_image.specs.Local.{place_of};
 ghost use Rattle.vx_image.specs.Storage.{buffer_at, status_at};
-ghost use Rattle.vx_base.specs.Frames.{active_mode};
-ghost use Rattle.vx_record.specs.State.{IsProcess, process_at, decl_in, decl_of, image_in, image_of, limits_of, current};
+ghost use Rattle.vx_record.specs.State.{IsProcess, process_at, decl_in, decl_of, image_in, image_of, current};
 ghost use Rattle.vx_record.specs.Asts.{deliverable_ast, entry_place, entry_prm, new_frame};
 ghost use Rattle.vx_record.specs.Charges.{exceeds};
 ghost use Rattle.vx_record.specs.Control.{decl_at, is_deleted};
@@ -99,29 +98,12 @@ impl<R: Routine> Core<R> {
         image_in(self.system.get(), self.process_of(p).decl)
     }
 
-    /// The limits of a process's quotas.
-    pub fn limits(&self, p: Pid) -> Need
-        requires made { IsProcess self.now.state p }
-        requires declared { HasDecl self.now.state p }
-        ensures { result ≡ limits_of self.now.state p }
-    {
-        self.declaration(p).limits
-    }
-
     /// The mode in which a process runs: that of its top frame, user mode where it has none.
     pub fn current_mode(&self, p: Pid) -> Mode
         requires { IsProcess self.now.state p }
         ensures { result ≡ current self.now.state p }
     {
         self.process_of(p).mode()
-    }
-
-    /// The innermost mode in which a process has an active AST.
-    pub fn active_ast_mode(&self, p: Pid) -> Option<Mode>
-        requires { IsProcess self.now.state p }
-        ensures { result ≡ active_mode (process_at self.now.state p).frames }
-    {
-        self.process_of(p).frames.active_ast_mode()
     }
 
     /// How far a process is on its way out.
@@ -262,10 +244,7 @@ impl<R: Routine> Core<R> {
         requires { IsProcess self.now.state p }
         ensures { result ≡ top_of (process_at self.now.state p).frames }
     {
-        match self.process_of(p).frames.top() {
-            Some(frame) => Some(*frame),
-            None => None,
-        }
+        self.process_of(p).frames.top().copied()
     }
 
     /// Whether one of its I/O status blocks, 1 to 32, is filled.
@@ -275,7 +254,7 @@ impl<R: Routine> Core<R> {
         requires within { iosb ≤ 32 }
         ensures { result ≡ is_filled (status_at (process_at self.now.state p).store iosb) }
     {
-        self.process_of(p).store.iosb(iosb).0.is_some()
+        self.process_of(p).is_filled(iosb)
     }
 
     /// The 2,048 bytes of one of its buffers, 0 to 31.

@@ -44,8 +44,7 @@ pub fn moved_bytes(func: Func, len: u32) -> u32
     ensures { result ≡ moved_bytes func len }
 {
     match func {
-        Func::Eof => 0,
-        Func::EofNow => 0,
+        Func::Eof | Func::EofNow => 0,
         _ => len,
     }
 }
@@ -54,11 +53,7 @@ pub fn moved_bytes(func: Func, len: u32) -> u32
 pub fn is_attention(func: Func) -> bool
     ensures { result ≡ is_attention func }
 {
-    match func {
-        Func::ReadAttn => true,
-        Func::WrtAttn => true,
-        _ => false,
-    }
+    matches!(func, Func::ReadAttn | Func::WrtAttn)
 }
 
 // What a request needs, on a device of this system.

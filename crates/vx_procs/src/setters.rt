@@ -53,7 +53,7 @@ impl<R: Routine> Core<R> {
         self.procs.at_mut(p).suspended = on;
     }
 
-    /// A process is so far on its way out.
+    /// Sets how far a process is on its way out.
     pub fn set_phase(&mut self, p: Pid, phase: Phase)
         requires { IsProcess self.old.state p }
         ensures { self.new ≡ changed self.old p (in_phase phase) }

@@ -73,13 +73,6 @@ impl Account {
     {
         self.used
     }
-
-    /// The limits.
-    pub fn limits(&self) -> Need
-        ensures { result ≡ self.now.limits }
-    {
-        self.limits
-    }
 }
 
 /// Two amounts of one account together, where that is within its limit.

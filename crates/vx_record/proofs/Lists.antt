@@ -5,16 +5,13 @@ use Rattle.std.specs.Prelude.{option_map}
 use Rattle.std.proofs.lemmas.Bool.{eq-eqb, eqb-true, or_parts}
 use Rattle.vx_base.specs.Lists.{less, amend}
 use Rattle.vx_record.specs.Sound.{AreOrdered}
+pub use Rattle.vx_base.proofs.Any.{none_any}
+pub use Rattle.vx_base.proofs.Bools.{either_by}
 
 -- what holds of both holds of the one that is chosen
 pub either : {A : Type 0} (P : A → Type 0) (b : Bool) (x y : A) → P x → P y → P (cond b x y)
 either P true x y h k = h
 either P false x y h k = k
-
--- with the test's outcome
-pub either_by : {A : Type 0} (P : A → Type 0) (b : Bool) (x y : A) → (b ≡ true → P x) → (b ≡ false → P y) → P (cond b x y)
-either_by P true x y h k = h refl
-either_by P false x y h k = k refl
 
 pub all_weaker : {A : Type 0} (P Q : A → Type 0) → ((x : A) → P x → Q x) → (xs : List A) → AllByRecursion P xs → AllByRecursion Q xs
 all_weaker P Q f [] h = tt
@@ -85,10 +82,6 @@ mapped_some f (Some x) = refl
 pub found_any : {A : Type 0} (p : A → Bool) (xs : List A) (x : A) → find p xs ≡ Some x → list_any p xs ≡ true
 found_any p [] x e = cc
 found_any p (y ∷ ys) x e = let rest = found_any p ys x in grind arith
-
-pub none_any : {A : Type 0} (p : A → Bool) (xs : List A) → find p xs ≡ None → list_any p xs ≡ false
-none_any p [] e = refl
-none_any p (y ∷ ys) e = let rest = none_any p ys in grind arith
 
 pub none_found : {A : Type 0} (p : A → Bool) (xs : List A) → find p xs ≡ None → AllByRecursion (λ x. p x ≡ false) xs
 none_found p [] e = tt

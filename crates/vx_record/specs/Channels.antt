@@ -2,6 +2,7 @@
 use Rattle.std.specs.Prelude.{ℕ, ◌-◌, List, [], Bool, true, false, ◌&&◌, ◌||◌, ◌==◌, not, nat_lt, if◌then◌else◌, Option, Some, None, Result, Ok, Err, bytes_eq, is_some, is_none, position, slice_set}
 use Rattle.std.specs.List.{list_any}
 use Rattle.vx_base.specs.Channels.{is_channel_number, channel_at, least_free}
+pub use Rattle.vx_base.specs.Channels.{is_channel_to}
 use Rattle.vx_base.specs.Modes.{outer, is_inner}
 use Rattle.vx_base.specs.Pieces.{Channel, Mailbox}
 use Rattle.vx_base.specs.declared.cond.Cond.{Cond}
@@ -15,7 +16,7 @@ use Rattle.vx_base.specs.declared.request.Device.TheVariants as device
 use Rattle.vx_image.specs.declared.unit.UnitDecl.{UnitDecl}
 use Rattle.vx_record.specs.State.{Process, State, process_at, change, current, with_box}
 use Rattle.vx_record.specs.Parts.{Part, Outcome, nothing, tells, and_then, part_if, answered, refused, refused_value, at_tested}
-use Rattle.vx_record.specs.Mailboxes.{is_box, mailbox_at}
+use Rattle.vx_record.specs.Mailboxes.{mailbox_at}
 
 -- Channel test: IVCHAN for a number that is none, NOPRIV for a free channel or one of a mode inner than the caller's.
 
@@ -138,10 +139,6 @@ abbrev pub delmbx : State → Pid → ℕ → Outcome Cond
 delmbx s p n = at_channel s p n (delmbx_at s p)
 
 -- Freeing a channel: its mailbox goes with the last channel to it, where it is temporary or marked; its messages are lost.
-
-abbrev pub is_channel_to : BoxNo → Option Channel → Bool
-is_channel_to b None = false
-is_channel_to b (Some ch) = is_box b ch.device
 
 abbrev pub has_channel_to : BoxNo → Process → Bool
 has_channel_to b pr = list_any (is_channel_to b) pr.channels

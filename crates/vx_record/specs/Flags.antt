@@ -1,7 +1,8 @@
 -- Event flags and waits: the cell that a number names, and the services on flags and common clusters.
-use Rattle.std.specs.Prelude.{ℕ, ◌-◌, ◌%◌, ◌^◌, List, Bool, true, false, ◌&&◌, ◌||◌, ◌==◌, not, nat_lt, nat_le, if◌then◌else◌, is_some, Option, Some, None, Result, Ok, Err}
+use Rattle.std.specs.Prelude.{ℕ, ◌-◌, ◌%◌, ◌^◌, List, Bool, true, false, ◌&&◌, ◌||◌, ◌==◌, not, nat_lt, if◌then◌else◌, is_some, Option, Some, None, Result, Ok, Err}
 use Rattle.std.specs.List.{find}
 use Rattle.vx_base.specs.Clusters.{is_association, is_cluster, cluster_number, stands, associated, dissociated, marked}
+pub use Rattle.vx_base.specs.Clusters.{is_common}
 use Rattle.vx_base.specs.Flags.{is_set, with_flag, any_set, all_set}
 use Rattle.vx_base.specs.Lists.{amend}
 use Rattle.vx_base.specs.Pieces.{Association, Cluster, Status}
@@ -155,9 +156,6 @@ abbrev pub wfland : State → Pid → ℕ → ℕ → Outcome Served
 wfland s p efn mask = at_flag s p efn (refused_wait s) (waits_on s p (wait.Flags efn mask true))
 
 -- Common clusters.
-
-abbrev pub is_common : ℕ → Bool
-is_common efn = nat_le 64 efn && nat_le efn 127
 
 -- a new permanent cluster wants PRMCEB
 abbrev pub wants_prmceb : State → Process → List ℕ → ℕ → Bool

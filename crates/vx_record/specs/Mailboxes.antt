@@ -1,6 +1,7 @@
 -- Mailboxes: what an accepted write, end of file, read or attention entry does.
 use Rattle.std.specs.Prelude.{List, [], ◌∷◌, ◌++◌, Bool, true, false, ◌&&◌, ◌==◌, not, nat_lt, if◌then◌else◌, length, take, Option, Some, None}
 use Rattle.std.specs.List.{find, filter, list_any}
+pub use Rattle.vx_base.specs.Channels.{is_box}
 use Rattle.vx_base.specs.Lists.{less}
 use Rattle.vx_base.specs.Pieces.{Request, Attention, Mailbox}
 use Rattle.vx_base.specs.Queues.{body_bytes}
@@ -10,7 +11,6 @@ use Rattle.vx_base.specs.declared.number.BoxNo.{BoxNo}
 use Rattle.vx_base.specs.declared.number.Id.{Id}
 use Rattle.vx_base.specs.declared.request.Body.{Body}
 use Rattle.vx_base.specs.declared.request.Body.TheVariants as body
-use Rattle.vx_base.specs.declared.request.Device.{Device}
 use Rattle.vx_base.specs.declared.request.Device.TheVariants as device
 use Rattle.vx_base.specs.declared.request.Func.{Func}
 use Rattle.vx_base.specs.declared.request.Func.TheVariants.{Read, Write, Eof, ReadAttn, WrtAttn}
@@ -36,10 +36,6 @@ mailbox_at s b = or_no_box (box_at s b)
 
 abbrev pub with_messages : State → BoxNo → List Msg → State
 with_messages s b messages = with_box s b (Some (record (mailbox_at s b) { messages = messages }))
-
-abbrev pub is_box : BoxNo → Device → Bool
-is_box b (device.Unit u) = false
-is_box b (device.Mailbox c) = b.0 == c.0
 
 abbrev pub is_waiting_func : Func → Bool
 is_waiting_func Read = true

@@ -3,9 +3,11 @@ use Rattle.std.specs.Prelude.{ℕ, List, [], ◌∷◌, Bool, true, false, ◌&&
 use Rattle.std.specs.List.{find, filter, list_any}
 use Rattle.vx_base.specs.Channels.{channels_of}
 use Rattle.vx_base.specs.Clusters.{dissociated}
+pub use Rattle.vx_base.specs.Handlers.{is_handler_of, any_handler}
 use Rattle.vx_base.specs.Lists.{less}
-use Rattle.vx_base.specs.Modes.{rank, reaches, is_kernel}
+use Rattle.vx_base.specs.Modes.{reaches, is_kernel}
 use Rattle.vx_base.specs.Pieces.{Handler, Queued, Request, Timer, Alarm, OfTimer, OfWake}
+pub use Rattle.vx_base.specs.Queues.{is_ast_reached}
 use Rattle.vx_base.specs.declared.cond.Cond.{Cond}
 use Rattle.vx_base.specs.declared.cond.Cond.TheVariants.{Normal, IvSsRq, NoHandler}
 use Rattle.vx_base.specs.declared.effects.Effect.TheVariants as effect
@@ -65,9 +67,6 @@ exit s p code = answered Normal (exited s p code)
 abbrev pub this_handler : Id → Handler → Bool
 this_handler id h = h.id.0 == id.0
 
-abbrev pub is_handler_of : Mode → Handler → Bool
-is_handler_of m h = rank h.mode == rank m
-
 abbrev pub is_handler_with : Mode → Entry → Handler → Bool
 is_handler_with m tag h = is_handler_of m h && is_same_entry h.tag tag
 
@@ -93,9 +92,6 @@ drop_handler p s h = tells (effect.Drop h.id) (change s p (without_handler h.id)
 -- those that pass, the newest first
 abbrev pub drop_handlers : State → Pid → (Handler → Bool) → Part
 drop_handlers s p passes = each (drop_handler p) (filter passes (process_at s p).handlers) s
-
-abbrev pub any_handler : Handler → Bool
-any_handler h = true
 
 abbrev pub cancel_found : State → Pid → Option Handler → Outcome Cond
 cancel_found s p None = refused s NoHandler
@@ -165,9 +161,6 @@ without_ast id pr = record pr { asts = less (λ q. q.id.0 == id.0) pr.asts }
 
 abbrev pub drop_ast : Pid → State → Queued → Part
 drop_ast p s q = tells (effect.Drop q.id) (change s p (without_ast q.id))
-
-abbrev pub is_ast_reached : Mode → Queued → Bool
-is_ast_reached m q = reaches q.mode m
 
 abbrev pub drop_asts : Pid → Mode → State → Part
 drop_asts p m s = each (drop_ast p) (filter (is_ast_reached m) (process_at s p).asts) s

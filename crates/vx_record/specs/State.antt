@@ -19,6 +19,7 @@ use Rattle.vx_image.specs.declared.decl.ProcDecl.{ProcDecl}
 use Rattle.vx_image.specs.declared.image.Image.{Image}
 use Rattle.vx_image.specs.declared.system.System.{System}
 use Rattle.vx_image.specs.declared.unit.UnitDecl.{UnitDecl}
+pub use Rattle.vx_base.specs.Quotas.{no_privs}
 
 -- A process: the place of its declaration, from 0; its group, member and privileges; what it stores; its frames, the top
 -- first; its AST enables and queued ASTs, the first queued first; its channels by number; its exit handlers, the newest
@@ -59,9 +60,6 @@ pub record State : Type 0 where
   pub units : List DeviceUnit
 
 -- What stands where nothing does.
-
-abbrev pub no_privs : Privs
-no_privs = record { cmexec = false; cmkrnl = false; group = false; prmceb = false; prmmbx = false; world = false }
 
 abbrev pub empty_store : Storage
 empty_store = record { vars = []; r0 = 0; buffers = []; statuses = [] }

@@ -78,14 +78,6 @@ pub live_kept : (xs : List Place) → live (filter is_held xs) ≡ live xs
 live_kept [] = refl
 live_kept (x ∷ xs) = kept_in x.id x.request xs (live_kept xs)
 
-pub amend_nothing : {X : Type 0} (p : X → Bool) (g : X → X) (xs : List X) → None ≡ find p xs → xs ≡ amend p g xs
-amend_nothing p g [] e = refl
-amend_nothing p g (x ∷ xs) e =
-    elim (p x) as (λ b. None ≡ cond b (Some x) (find p xs) → x ∷ xs ≡ cond b (g x ∷ xs) (x ∷ amend p g xs)) [
-      | true ↦ λ found. absurd (cc)
-      | false ↦ λ found. ap (λ ys. x ∷ ys) (amend_nothing p g xs found)
-    ] e
-
 pub any_found : {X : Type 0} (p : X → Bool) (xs : List X) → list_any p xs ≡ is_some (find p xs)
 any_found p [] = refl
 any_found p (x ∷ xs) =

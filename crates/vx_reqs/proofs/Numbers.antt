@@ -11,6 +11,7 @@ use Rattle.vx_base.specs.declared.request.Device.TheVariants as device
 use Rattle.vx_reqs.specs.Places.{Place, holds, is_held, changed, Keeps, AllKeep, Rises}
 use Rattle.vx_reqs.proofs.Rising.{rises_from}
 use Rattle.vx_record.specs.Requests.{taken_up}
+use Rattle.vx_base.proofs.Bools.{and_false, both_left}
 
 pub keep_at : (u : UnitNo) (from served : ℕ) (xs : List Place) → AllKeep u from served xs → (k : ℕ) (d : Place) → k < length xs → Keeps u from served (get_or xs k d)
 keep_at u from served [] h k d lt = absurd (omega arith)
@@ -57,23 +58,14 @@ keep_unserved u from served other (x ∷ xs) none h =
     let here = none_in (holds (is_served_by u)) x xs none in
     (record { waits = h.0.waits; serves = λ _. here.0 }, keep_unserved u from served other xs here.1 h.1)
 
--- what is served waits no more
-pub not_both : (b : Bool) → (b && false) ≡ false
-not_both true = refl
-not_both false = refl
-
 no_wait : (u : UnitNo) (i : Id) (o : Option Request) → holds (waits_for u) (changed taken_up (record { id = i; request = o })) ≡ false
 no_wait u i None = refl
-no_wait u i (Some r) = not_both (is_on u r)
-
-pub first_of_two : (a b : Bool) → (a && b) ≡ true → a ≡ true
-first_of_two true b e = refl
-first_of_two false b e = e
+no_wait u i (Some r) = and_false (is_on u r)
 
 elsewhere : (u other : UnitNo) (d : Device) (b : Bool) → u.0 ≢ other.0 → (is_unit u d && b) ≡ true → (is_unit other d && true) ≡ false
 elsewhere u other (device.Mailbox box) b differs on = refl
 elsewhere u other (device.Unit v) b differs on =
-    let here : u.0 ≡ v.0 = eqb-true u.0 v.0 (first_of_two (u.0 == v.0) b on) in
+    let here : u.0 ≡ v.0 = eqb-true u.0 v.0 (both_left (u.0 == v.0) b on) in
     ap (λ (c : Bool). c && true) (ne_eqb other.0 v.0 (λ e. differs (here ∙ sym e)))
 
 no_service : (u other : UnitNo) (i : Id) (o : Option Request) → u.0 ≢ other.0 → holds (waits_for u) (record { id = i; request = o }) ≡ true → holds (is_served_by other) (changed taken_up (record { id = i; request = o })) ≡ false

@@ -8,10 +8,11 @@ use Rattle.vx_base.specs.declared.number.Id.{Id}
 use Rattle.vx_base.specs.declared.number.UnitNo.{UnitNo}
 use Rattle.vx_base.specs.declared.request.Device.{Device}
 use Rattle.vx_reqs.specs.Places.{Place, holds, is_held, emptied, changed, AllKeep, IsOrdered}
-use Rattle.vx_reqs.proofs.Numbers.{keep_put, keep_lower, keep_begun, keep_begun_elsewhere, keep_settled, keep_idle, keep_amend, keep_kept, not_both}
+use Rattle.vx_reqs.proofs.Numbers.{keep_put, keep_lower, keep_begun, keep_begun_elsewhere, keep_settled, keep_idle, keep_amend, keep_kept}
 use Rattle.vx_reqs.proofs.Rising.{rises_put, rises_amend, rises_kept, own_changed}
 use Rattle.vx_record.specs.Requests.{taken_up}
 use Rattle.vx_record.specs.Cancel.{with_abort}
+use Rattle.vx_base.proofs.Bools.{and_false}
 
 -- what holds of one unit and of the others
 by_unit : (P : UnitNo → Type 0) (u : UnitNo) → (u.0 < 32 → P u) → ((v : UnitNo) → u.0 ≢ v.0 → v.0 < 32 → P v) → (v : UnitNo) → v.0 < 32 → P v
@@ -31,7 +32,7 @@ accepted places r id d next from lower served same on unserved above here all or
       | true ↦ λ e. let bound = here u lt e in absurd (omega (arith, bound, below))
       | false ↦ λ e. ap (λ (b : Bool). b && not r.served) (ap (is_unit u) on ∙ e)
     ] refl;
-    serves = λ _. ap (λ (b : Bool). is_unit u r.req.device && b) unserved ∙ not_both (is_unit u r.req.device);
+    serves = λ _. ap (λ (b : Bool). is_unit u r.req.device && b) unserved ∙ and_false (is_unit u r.req.device);
   });
 }
 

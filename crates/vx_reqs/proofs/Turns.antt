@@ -6,8 +6,9 @@ use Rattle.vx_base.specs.Pieces.{Request}
 use Rattle.vx_base.specs.Queues.{front, in_service, is_served_by, waits_for}
 use Rattle.vx_base.specs.declared.number.UnitNo.{UnitNo}
 use Rattle.vx_reqs.specs.Requests.{begun}
-use Rattle.vx_reqs.proofs.Live.{amend_nothing, any_found}
+use Rattle.vx_reqs.proofs.Live.{any_found}
 use Rattle.vx_record.specs.Requests.{taken_up}
+use Rattle.vx_base.proofs.First.{amend_nowhere}
 
 -- it serves one
 pub front_busy : (u : UnitNo) (rs : List Request) (r : Request) → Some r ≡ in_service u rs → None ≡ front u rs
@@ -26,7 +27,7 @@ pub begun_none : (u : UnitNo) (rs : List Request) → None ≡ front u rs → rs
 begun_none u rs none =
     elim (list_any (is_served_by u) rs) as (λ b. None ≡ cond b None (find (waits_for u) rs) → rs ≡ cond b rs (amend (waits_for u) taken_up rs)) [
       | true ↦ λ is. refl
-      | false ↦ λ is. amend_nothing (waits_for u) taken_up rs is
+      | false ↦ λ is. amend_nowhere (waits_for u) taken_up rs is
     ] none
 
 -- the first that waits is taken, and none was served

@@ -5,11 +5,11 @@ use Rattle.std.proofs.lemmas.Slice.Eq.{bytes_eq-Decides}
 use Rattle.std.proofs.lemmas.Bool.{lt-ltb, not-true, or_parts, and_parts}
 use Rattle.std.proofs.lemmas.List.Folds.{list_any-append}
 use Rattle.vx_image.specs.WellFormed.{is_among, are_distinct}
-use Rattle.vx_grammar.proofs.Fields.{name_is, same_name}
+use Rattle.vx_base.proofs.Texts.{same_bytes, bytes_are}
 
 other_by : (a b : List ℕ) (t : Bool) → bytes_eq b a ≡ t → bytes_eq a b ≡ false → t ≡ false
 other_by a b true e h =
-    let same : bytes_eq a b ≡ true = (bytes_eq-Decides a b).1 (sym (name_is b a e)) in
+    let same : bytes_eq a b ≡ true = (bytes_eq-Decides a b).1 (sym (bytes_are b a e)) in
     cc
 other_by a b false e h = refl
 
@@ -59,7 +59,7 @@ among_at n a (x ∷ xs) (suc k) d h lt = among_at n a xs k d (or_parts (bytes_eq
 
 place_len : {A : Type 0} (n : A → List ℕ) (xs : List A) (k : ℕ) (d : A) → k < length xs → are_distinct (map n xs) ≡ true → position_or_len (λ x. bytes_eq (n (get_or xs k d)) (n x)) xs ≡ k
 place_len n [] k d lt h = absurd (omega arith)
-place_len n (x ∷ xs) zero d lt h = rw (same_name (n x)) refl
+place_len n (x ∷ xs) zero d lt h = rw (same_bytes (n x)) refl
 place_len n (x ∷ xs) (suc k) d lt h =
     let parts = and_parts (not (is_among (n x) (map n xs))) (are_distinct (map n xs)) h in
     let within : k < length xs = omega arith in

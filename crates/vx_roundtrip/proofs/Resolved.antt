@@ -24,8 +24,8 @@ use Rattle.vx_roundtrip.proofs.Outer.{bare}
 use Rattle.vx_roundtrip.proofs.Process.{image_name, line_of}
 use Rattle.vx_roundtrip.proofs.Told.{plain_input, plain_fault, plain_decl, Said, Told}
 use Rattle.vx_roundtrip.proofs.Units.{input_told, fault_told, inputs_told, faults_told, unit_names, unit_test}
-use Rattle.vx_grammar.proofs.Fields.{name_is, same_name}
 use Rattle.vx_grammar.proofs.LinesBack.{none_found}
+use Rattle.vx_base.proofs.Texts.{same_bytes, bytes_are}
 
 -- What statements create is there.
 
@@ -79,7 +79,7 @@ inputs_known : (all units : List UnitDecl) → ((name : List ℕ) → list_any (
 inputs_known all [] within h = refl
 inputs_known all (u ∷ units) within h =
     let p = and_parts (is_unit u) (list_all is_unit units) h in
-    let known : (u.blocks == 0) ≡ true → list_any (is_line_unit u.name) (map bare all) ≡ true = λ e. within u.name (rw (same_name u.name, e) refl) in
+    let known : (u.blocks == 0) ≡ true → list_any (is_line_unit u.name) (map bare all) ≡ true = λ e. within u.name (rw (same_bytes u.name, e) refl) in
     let first = line_unit_by all u.name u.inputs (u.blocks == 0) (unit_test u p.0).kinds known in
     list_all-append (λ i. not (names_no_line_unit (map bare all) i)) (inputs_told u) (flat_map inputs_told units) ∙ rw (first, inputs_known all units (λ name e. within name (or_right (is_line_unit name (bare u)) _ e)) p.1) refl
 
@@ -90,7 +90,7 @@ faults_known_by all name (n ∷ ns) h = rw (placed_somewhere (λ (u : UnitDecl).
 faults_known : (all units : List UnitDecl) → ((name : List ℕ) → is_among name (unit_names units) ≡ true → is_among name (unit_names all) ≡ true) → list_all (λ f. not (names_no_unit all f)) (flat_map faults_told units) ≡ true
 faults_known all [] within = refl
 faults_known all (u ∷ units) within =
-    let first = faults_known_by all u.name u.faults (within u.name (rw (same_name u.name) refl)) in
+    let first = faults_known_by all u.name u.faults (within u.name (rw (same_bytes u.name) refl)) in
     list_all-append (λ f. not (names_no_unit all f)) (faults_told u) (flat_map faults_told units) ∙ rw (first, faults_known all units (λ name e. within name (or_right (bytes_eq name u.name) _ e))) refl
 
 bare_names : (units : List UnitDecl) → unit_names (map bare units) ≡ unit_names units
@@ -150,7 +150,7 @@ none_faults name (u ∷ units) h =
 -- a name among units is none that is not
 apart_by : (name other : List ℕ) (units : List UnitDecl) (t : Bool) → bytes_eq name other ≡ t → is_among name (unit_names units) ≡ true → is_among other (unit_names units) ≡ false → t ≡ false
 apart_by name other units true e h k =
-    let same : is_among name (unit_names units) ≡ is_among other (unit_names units) = ap (λ (n : List ℕ). is_among n (unit_names units)) (name_is name other e) in
+    let same : is_among name (unit_names units) ≡ is_among other (unit_names units) = ap (λ (n : List ℕ). is_among n (unit_names units)) (bytes_are name other e) in
     absurd (cc)
 apart_by name other units false e h k = refl
 
@@ -190,9 +190,9 @@ units_rebuilt inputs faults (u ∷ units) apart are g =
     let p = and_parts (not (is_among u.name (unit_names units))) (are_distinct (unit_names units)) apart in
     let q = and_parts (is_unit u) (list_all is_unit units) are in
     let new = not-true (is_among u.name (unit_names units)) p.0 in
-    let here : is_among u.name (unit_names (u ∷ units)) ≡ true = rw (same_name u.name) refl in
-    let texts : inputs u.name ≡ u.inputs = g.texts u.name here ∙ rw (same_name u.name, none_inputs u.name units new) (append-nil u.inputs) in
-    let numbers : faults u.name ≡ u.faults = g.numbers u.name here ∙ rw (same_name u.name, none_faults u.name units new) (append-nil u.faults) in
+    let here : is_among u.name (unit_names (u ∷ units)) ≡ true = rw (same_bytes u.name) refl in
+    let texts : inputs u.name ≡ u.inputs = g.texts u.name here ∙ rw (same_bytes u.name, none_inputs u.name units new) (append-nil u.inputs) in
+    let numbers : faults u.name ≡ u.faults = g.numbers u.name here ∙ rw (same_bytes u.name, none_faults u.name units new) (append-nil u.faults) in
     let rise : rising (faults u.name) ≡ u.faults = ap rising numbers ∙ rising_same 0 u.faults (unit_test u q.0).rises in
     rw (texts, rise, units_rebuilt inputs faults units p.1 q.1 (gives_tail inputs faults u units new g)) refl
 

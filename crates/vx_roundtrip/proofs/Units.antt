@@ -20,7 +20,7 @@ use Rattle.vx_roundtrip.proofs.Names.{Fresh}
 use Rattle.vx_roundtrip.proofs.Outer.{stays, step, and_then, shaped, bare, take_unit, take_input, take_fault}
 use Rattle.vx_roundtrip.proofs.Told.{plain_input, plain_fault, Said, Told, Comes, told_as}
 use Rattle.vx_grammar.proofs.LinesBack.{no_place}
-use Rattle.vx_grammar.proofs.Fields.{same_name}
+use Rattle.vx_base.proofs.Texts.{same_bytes}
 
 -- a unit's lines and faults, without the numbers of lines
 
@@ -70,7 +70,7 @@ Unused name low faults = (m : ℕ) → low < m → list_any (is_fault_of name m)
 unused_more : (name : List ℕ) (low n : ℕ) (faults : List FaultLine) → low < n → Unused name low faults → Unused name n (faults ++ fault_told name n ∷ [])
 unused_more name low n faults h unused m lt =
     let other : (m == n) ≡ false = grind (arith, nat_tests, lt) in
-    list_any-append (is_fault_of name m) faults (fault_told name n ∷ []) ∙ rw (unused m (omega (arith, h, lt)), same_name name, other) refl
+    list_any-append (is_fault_of name m) faults (fault_told name n ∷ []) ∙ rw (unused m (omega (arith, h, lt)), same_bytes name, other) refl
 
 plain_any : (name : List ℕ) (n : ℕ) (faults : List FaultLine) → list_any (is_fault_of name n) (map plain_fault faults) ≡ list_any (is_fault_of name n) faults
 plain_any name n [] = refl

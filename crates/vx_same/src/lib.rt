@@ -11,5 +11,5 @@ mod reserved;
 
 pub use digest::mix;
 pub use list::{duplicate_items, same_items};
-pub use option::{same_option, same_options};
+pub use option::same_options;
 pub use reserved::{ReservedSnapshot, duplicate_reserved};

@@ -4,8 +4,8 @@ ghost use Rattle.std.specs.Prelude.{◌≡◌, ◌↔◌, IsTrue};
 
 use vx_base::Same;
 
-/// Whether both are missing, or there are two and they are the same. Takes no memory.
-pub fn same_option<T: Same>(a: &Option<T>, b: &Option<T>) -> bool
+// Whether both are missing, or there are two and they are the same.
+fn same_option<T: Same>(a: &Option<T>, b: &Option<T>) -> bool
     ensures { IsTrue result ↔ (a.now ≡ b.now) }
 {
     match (a, b) {

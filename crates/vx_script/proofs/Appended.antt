@@ -1,14 +1,11 @@
 -- Lists of which all pass a test, and lists with one more at the end.
-use Rattle.std.proofs.Common.{◌≡◌, ℕ, suc, Bool, true, false, cond, not, ◌&&◌, ◌||◌, ◌==◌, nat_lt, nat_le, List, [], ◌∷◌, ◌++◌, length, map, flat_map, Option, Some, None, option_map, find, bytes_eq, refl, sym, ap, ◌∙◌, arith, length-append}
+use Rattle.std.proofs.Common.{◌≡◌, ℕ, suc, Bool, true, false, cond, not, ◌&&◌, ◌||◌, ◌==◌, nat_lt, nat_le, List, [], ◌∷◌, ◌++◌, length, map, flat_map, Some, None, find, bytes_eq, refl, sym, ap, ◌∙◌, arith, length-append}
 use Rattle.std.specs.List.{list_all, list_any}
 use Rattle.std.proofs.lemmas.Bool.{and_parts, and_from, or_parts, or_from, not_from_false, ltb-true, le-leb, eqb-true, eq-eqb, not-true}
 use Rattle.std.proofs.lemmas.List.Folds.{list_all-append, list_any-append}
 use Rattle.std.proofs.lemmas.Slice.Eq.{bytes_eq-Decides}
 use Rattle.vx_image.specs.WellFormed.{is_among, are_distinct, falls_nowhere}
-
-pub none_from : {A B : Type 0} (f : A → B) (o : Option A) → option_map f o ≡ None → o ≡ None
-none_from f None h = refl
-none_from f (Some x) h = cc
+use Rattle.vx_base.proofs.Bools.{same_bools}
 
 pub as_many : {A B : Type 0} (f : A → B) (xs : List A) → length (map f xs) ≡ length xs
 as_many f [] = refl
@@ -65,14 +62,9 @@ all_pairs r xs (y ∷ ys) h =
 
 -- Names.
 
-alike : (a b : Bool) → (a ≡ true → b ≡ true) → (b ≡ true → a ≡ true) → a ≡ b
-alike true b h k = sym (h refl)
-alike false true h k = k refl
-alike false false h k = refl
-
 pub same_back : (a b : List ℕ) → bytes_eq a b ≡ bytes_eq b a
 same_back a b =
-    alike (bytes_eq a b) (bytes_eq b a) (λ e. (bytes_eq-Decides b a).1 (sym ((bytes_eq-Decides a b).0 e)))
+    same_bools (bytes_eq a b) (bytes_eq b a) (λ e. (bytes_eq-Decides b a).1 (sym ((bytes_eq-Decides a b).0 e)))
     (λ e. (bytes_eq-Decides a b).1 (sym ((bytes_eq-Decides b a).0 e)))
 
 pub distinct_push : (names : List (List ℕ)) (name : List ℕ) → are_distinct names ≡ true → is_among name names ≡ false → are_distinct (names ++ name ∷ []) ≡ true
@@ -89,7 +81,7 @@ distinct_push (n ∷ ns) name h k =
 -- Numbers.
 
 pub equal_back : (a b : ℕ) → (a == b) ≡ (b == a)
-equal_back a b = alike (a == b) (b == a) (λ e. eq-eqb b a (sym (eqb-true a b e))) (λ e. eq-eqb a b (sym (eqb-true b a e)))
+equal_back a b = same_bools (a == b) (b == a) (λ e. eq-eqb b a (sym (eqb-true a b e))) (λ e. eq-eqb a b (sym (eqb-true b a e)))
 
 pub falls_push : (n : ℕ) (ps : List ℕ) (q : ℕ) → falls_nowhere n ps ≡ true → nat_le n q ≡ true → list_all (λ p. nat_le p q) ps ≡ true
     → falls_nowhere n (ps ++ q ∷ []) ≡ true

@@ -11,8 +11,9 @@ use Rattle.vx_script.proofs.Appended.{all_push, few_push, distinct_push}
 use Rattle.vx_script.proofs.Chains.{after, after_by}
 use Rattle.vx_script.proofs.KeysInRange.{are_keys, AreKeys, all_in_range, none_taken, keys}
 use Rattle.vx_script.proofs.OpenImages.{IsFresh, is_fresh, has_room}
-use Rattle.vx_script.proofs.Places.{any_map, no_place}
+use Rattle.vx_script.proofs.Places.{any_map}
 use Rattle.std.proofs.lemmas.List.{map_push}
+use Rattle.vx_base.proofs.Any.{no_position}
 
 -- few process declarations, with different names, and their keys in range
 pub record AreDecls (decls : List DeclLine) : Type 0 where
@@ -25,7 +26,7 @@ one_more : (decls : List DeclLine) (d : DeclLine) → AreDecls decls → decl_pl
 one_more decls d h new taken room =
     let name = λ (e : DeclLine). e.name in
     let absent : is_among d.name (map name decls) ≡ false =
-    any_map (bytes_eq d.name) name decls ∙ no_place (λ (e : DeclLine). bytes_eq d.name e.name) decls new in
+    any_map (bytes_eq d.name) name decls ∙ no_position (λ (e : DeclLine). bytes_eq d.name e.name) decls new in
     record {
       few = few_push 1000 decls d room;
       names = ap are_distinct (map_push name decls d) ∙ distinct_push (map name decls) d.name h.names absent;

@@ -5,8 +5,9 @@ use Rattle.vx_image.specs.WellFormed.{is_among, are_distinct}
 use Rattle.vx_script.specs.Places.{unit_place}
 use Rattle.vx_script.specs.Steps.{unit_names}
 use Rattle.vx_script.proofs.Appended.{distinct_push}
-use Rattle.vx_script.proofs.Places.{any_map, no_place}
+use Rattle.vx_script.proofs.Places.{any_map}
 use Rattle.std.proofs.lemmas.List.{map_push}
+use Rattle.vx_base.proofs.Any.{no_position}
 
 -- one unit more, of a new name
 pub one_more : (units : List UnitDecl) (u : UnitDecl) → are_distinct (unit_names units) ≡ true → unit_place u.name units ≡ None
@@ -14,7 +15,7 @@ pub one_more : (units : List UnitDecl) (u : UnitDecl) → are_distinct (unit_nam
 one_more units u h new =
     let name = λ (v : UnitDecl). v.name in
     let absent : is_among u.name (unit_names units) ≡ false =
-    any_map (bytes_eq u.name) name units ∙ no_place (λ (v : UnitDecl). bytes_eq u.name v.name) units new in
+    any_map (bytes_eq u.name) name units ∙ no_position (λ (v : UnitDecl). bytes_eq u.name v.name) units new in
     ap are_distinct (map_push name units u) ∙ distinct_push (unit_names units) u.name h absent
 
 -- one more, or none where memory ran out

@@ -20,11 +20,12 @@ use Rattle.vx_script.specs.declared.draft.Draft.TheVariants as draft
 use Rattle.vx_script.specs.declared.draft.DraftImage.{DraftImage}
 use Rattle.vx_script.specs.declared.draft.DraftLine.{DraftLine}
 use Rattle.vx_script.specs.declared.lines.Creation.{Creation}
-use Rattle.vx_script.proofs.Appended.{all_both, all_push, few_push, distinct_push, all_weaker, unfound, none_any, none_from, as_many}
+use Rattle.vx_script.proofs.Appended.{all_both, all_push, few_push, distinct_push, all_weaker, unfound, none_any, as_many}
 use Rattle.vx_script.proofs.InRange.{is_plain, is_draft}
 use Rattle.vx_script.proofs.OpenImages.{IsOpen}
 use Rattle.vx_script.proofs.Places.{any_map, has_place, placed}
 use Rattle.std.proofs.lemmas.List.{map_push}
+use Rattle.vx_base.proofs.Lists.{none_mapped}
 
 -- the process declaration that a statement names is one of these
 abbrev pub is_known : List (List ℕ) → Creation → Bool
@@ -115,7 +116,7 @@ image_is decls images image h labels known =
     let n : length i.stmts ≡ length image.lines = as_many (λ (d : DraftLine). settled image.labels d.draft) image.lines in
     let there =
     unfound (names_no_label image.labels) image.lines
-    (none_from (λ (d : DraftLine). d.line) (find (names_no_label image.labels) image.lines) labels) in
+    (none_mapped (λ (d : DraftLine). d.line) (find (names_no_label image.labels) image.lines) labels) in
     let few : nat_le (length i.stmts) 10000 ≡ true = ap (λ k. nat_le k 10000) n ∙ h.few in
     let within : list_all (λ place. nat_le place (length i.stmts)) (label_places i) ≡ true =
     ap (λ (k : ℕ). list_all (λ place. nat_le place k) (label_places i)) n ∙ h.within in

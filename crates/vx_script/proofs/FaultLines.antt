@@ -6,7 +6,6 @@ use Rattle.std.proofs.lemmas.List.Folds.{list_any-append}
 use Rattle.std.proofs.lemmas.Slice.Eq.{bytes_eq-Decides}
 use Rattle.vx_image.specs.WellFormed.{rises_above}
 use Rattle.vx_text.specs.declared.token.Tok.{Tok}
-use Rattle.vx_text.proofs.Runs.{by_test}
 use Rattle.vx_script.specs.Declarations.{is_fault_of, fresh_fault, fault_line}
 use Rattle.vx_script.specs.Fields.{end_at, name_at, number_at}
 use Rattle.vx_script.specs.Resolving.{fault_if, numbers_of}
@@ -16,6 +15,7 @@ use Rattle.vx_script.specs.declared.lines.FaultLine.{FaultLine}
 use Rattle.vx_script.proofs.Appended.{all_flat, all_push, all_weaker, same_back, equal_back}
 use Rattle.vx_script.proofs.Chains.{after, after_by}
 use Rattle.vx_script.proofs.InRange.{IsBetween, number}
+use Rattle.vx_base.proofs.Bools.{either_by}
 
 abbrev pub is_number : ℕ → Bool
 is_number n = nat_le 1 n && nat_le n 100000
@@ -56,7 +56,7 @@ IsFreshFault unit n faults number = (number ≡ n) × (list_any (is_fault_of uni
 
 fresh_fault_is : (unit : List ℕ) (n : ℕ) (faults : List FaultLine) → IfOk (fresh_fault unit n faults) (IsFreshFault unit n faults)
 fresh_fault_is unit n faults =
-    by_test {A = Result ℕ FaultKind} (λ r. IfOk r (IsFreshFault unit n faults)) (list_any (is_fault_of unit n) faults) _ _ (λ _. tt) (λ e. (refl, e))
+    either_by {A = Result ℕ FaultKind} (λ r. IfOk r (IsFreshFault unit n faults)) (list_any (is_fault_of unit n) faults) _ _ (λ _. tt) (λ e. (refl, e))
 
 pub fault_read : (line : ℕ) (faults : List FaultLine) (tokens : List Tok) → AreFaults faults → IfOk (fault_line line faults tokens) (WithFault faults)
 unfolding fault_line
@@ -93,7 +93,7 @@ different name (f ∷ fs) h =
     let parts = and_parts (not (list_any (is_fault_of f.unit f.number) fs)) (are_apart fs) h in
     let none = not-true (list_any (is_fault_of f.unit f.number) fs) parts.0 in
     let rest = different name fs parts.1 in
-    by_test (λ ns. are_different (ns ++ numbers_of name fs) ≡ true) (bytes_eq name f.unit) (f.number ∷ []) []
+    either_by (λ ns. are_different (ns ++ numbers_of name fs) ≡ true) (bytes_eq name f.unit) (f.number ∷ []) []
     (λ e. and_from (list_all (λ m. not (f.number == m)) (numbers_of name fs)) (are_different (numbers_of name fs))
     (number_absent name f.number fs (ap (λ unit. list_any (is_fault_of unit f.number) fs) ((bytes_eq-Decides name f.unit).0 e) ∙ none)) rest)
     (λ _. rest)
@@ -101,7 +101,7 @@ different name (f ∷ fs) h =
 numbers_are : (name : List ℕ) (fs : List FaultLine) → list_all is_numbered fs ≡ true → list_all is_number (numbers_of name fs) ≡ true
 numbers_are name fs h =
     all_flat is_numbered is_number (fault_if name)
-    (λ f k. by_test (λ ns. list_all is_number ns ≡ true) (bytes_eq name f.unit) (f.number ∷ []) [] (λ _. and_from (is_number f.number) true k refl) (λ _. refl))
+    (λ f k. either_by (λ ns. list_all is_number ns ≡ true) (bytes_eq name f.unit) (f.number ∷ []) [] (λ _. and_from (is_number f.number) true k refl) (λ _. refl))
     fs h
 
 -- Numbers in order.
@@ -110,7 +110,7 @@ all_in_place : (p : ℕ → Bool) (n : ℕ) (ms : List ℕ) → p n ≡ true →
 all_in_place p n [] h k = and_from (p n) true h refl
 all_in_place p n (m ∷ ms) h k =
     let parts = and_parts (p m) (list_all p ms) k in
-    by_test (λ ns. list_all p ns ≡ true) (nat_lt n m) (n ∷ m ∷ ms) (m ∷ in_place n ms) (λ _. and_from (p n) (p m && list_all p ms) h k)
+    either_by (λ ns. list_all p ns ≡ true) (nat_lt n m) (n ∷ m ∷ ms) (m ∷ in_place n ms) (λ _. and_from (p n) (p m && list_all p ms) h k)
     (λ _. and_from (p m) (list_all p (in_place n ms)) parts.0 (all_in_place p n ms h parts.1))
 
 all_rising : (p : ℕ → Bool) (ns : List ℕ) → list_all p ns ≡ true → list_all p (rising ns) ≡ true
@@ -133,7 +133,7 @@ rises_in_place k n [] h l none = and_from (nat_lt k n) true l refl
 rises_in_place k n (m ∷ ms) h l none =
     let parts = and_parts (nat_lt k m) (rises_above m ms) h in
     let other = and_parts (not (n == m)) (list_all (λ m. not (n == m)) ms) none in
-    by_test (λ ns. rises_above k ns ≡ true) (nat_lt n m) (n ∷ m ∷ ms) (m ∷ in_place n ms)
+    either_by (λ ns. rises_above k ns ≡ true) (nat_lt n m) (n ∷ m ∷ ms) (m ∷ in_place n ms)
     (λ e. and_from (nat_lt k n) (nat_lt n m && rises_above m ms) l (and_from (nat_lt n m) (rises_above m ms) e parts.1))
     (λ e. and_from (nat_lt k m) (rises_above m (in_place n ms)) parts.0 (rises_in_place m n ms parts.1 (above n m e other.0) other.1))
 

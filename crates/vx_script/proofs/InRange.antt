@@ -9,7 +9,6 @@ use Rattle.vx_image.specs.declared.stmt.Stmt.{Stmt}
 use Rattle.vx_image.specs.declared.stmt.Stmt.TheVariants as stmt
 use Rattle.vx_text.specs.declared.token.Tok.{Tok}
 use Rattle.vx_text.specs.declared.token.Tok.TheVariants as tok
-use Rattle.vx_text.proofs.Runs.{by_test}
 use Rattle.vx_table.specs.Reading.{operand_of, operand_word, target_word, read_call}
 use Rattle.vx_table.specs.declared.fail.CallFail.{CallFail}
 use Rattle.vx_table.proofs.Calls.{IsOperandOr, IsTargetOr, operand_is, target_is, read_is}
@@ -21,6 +20,7 @@ use Rattle.vx_script.specs.declared.draft.Draft.TheVariants as draft
 use Rattle.vx_script.specs.declared.fault.FaultKind.{FaultKind}
 use Rattle.vx_script.specs.declared.fault.FaultKind.TheVariants as kind
 use Rattle.vx_script.proofs.Chains.{after, after_by}
+use Rattle.vx_base.proofs.Bools.{either_by}
 
 -- a statement that names no label, but for a call
 abbrev pub is_plain : Stmt → Bool
@@ -89,7 +89,7 @@ target tokens = after (first_of tokens) target_in IsTarget λ t _. target_of t
 
 between : (low high n : ℕ) → IfOk (within low high n) (IsBetween low high)
 between low high n =
-    by_test (λ r. IfOk r (IsBetween low high)) (nat_le low n && nat_le n high) (Ok n) (Err kind.Range)
+    either_by (λ r. IfOk r (IsBetween low high)) (nat_le low n && nat_le n high) (Ok n) (Err kind.Range)
     (λ e. let parts = and_parts (nat_le low n) (nat_le n high) e in (leb-true low n parts.0, leb-true n high parts.1))
     (λ _. tt)
 
@@ -99,7 +99,7 @@ number low high tokens =
     between low high n
 
 text_of : (t : Tok) → IfOk (text_in t) IsText
-text_of (tok.Quote bytes) = by_test (λ r. IfOk r IsText) (nat_le (length bytes) 2048) (Ok bytes) (Err kind.Range) (λ e. e) (λ _. tt)
+text_of (tok.Quote bytes) = either_by (λ r. IfOk r IsText) (nat_le (length bytes) 2048) (Ok bytes) (Err kind.Range) (λ e. e) (λ _. tt)
 text_of (tok.Num n) = tt
 text_of _ = tt
 
@@ -123,8 +123,8 @@ subtracted_is v x tokens h k =
 let_rest_is : (v : Target) (x : Operand) (tokens : List Tok) → IsTarget v → IsOperand x → IfOk (let_rest v x tokens) IsDraft
 let_rest_is v x [] h k = and_from (is_target v) (is_operand x) h k
 let_rest_is v x (t ∷ tokens) h k =
-    by_test IsDraftOr (is_sign 43 t) _ _ (λ _. added_is v x tokens h k) (λ _.
-    by_test IsDraftOr (is_sign 45 t) _ _ (λ _. subtracted_is v x tokens h k) (λ _. tt))
+    either_by IsDraftOr (is_sign 43 t) _ _ (λ _. added_is v x tokens h k) (λ _.
+    either_by IsDraftOr (is_sign 45 t) _ _ (λ _. subtracted_is v x tokens h k) (λ _. tt))
 
 let_is : (tokens : List Tok) → IfOk (let_stmt tokens) IsDraft
 unfolding let_stmt
@@ -184,13 +184,13 @@ return_is tokens = after (end_at tokens) _ IsDraft λ _ _. refl
 local_is : (word : List ℕ) (tokens : List Tok) → IfOk (local_stmt word tokens) IsDraft
 unfolding local_stmt
 local_is word tokens =
-    by_test IsDraftOr (bytes_eq word (codes "LET")) _ _ (λ _. let_is tokens) (λ _.
-    by_test IsDraftOr (bytes_eq word (codes "GOTO")) _ _ (λ _. goto_is tokens) (λ _.
-    by_test IsDraftOr (bytes_eq word (codes "IF")) _ _ (λ _. if_is tokens) (λ _.
-    by_test IsDraftOr (bytes_eq word (codes "PUT")) _ _ (λ _. put_is tokens) (λ _.
-    by_test IsDraftOr (bytes_eq word (codes "BYTE")) _ _ (λ _. byte_is tokens) (λ _.
-    by_test IsDraftOr (bytes_eq word (codes "IOSB")) _ _ (λ _. iosb_is tokens) (λ _.
-    by_test IsDraftOr (bytes_eq word (codes "RETURN")) _ _ (λ _. return_is tokens) (λ _. tt)))))))
+    either_by IsDraftOr (bytes_eq word (codes "LET")) _ _ (λ _. let_is tokens) (λ _.
+    either_by IsDraftOr (bytes_eq word (codes "GOTO")) _ _ (λ _. goto_is tokens) (λ _.
+    either_by IsDraftOr (bytes_eq word (codes "IF")) _ _ (λ _. if_is tokens) (λ _.
+    either_by IsDraftOr (bytes_eq word (codes "PUT")) _ _ (λ _. put_is tokens) (λ _.
+    either_by IsDraftOr (bytes_eq word (codes "BYTE")) _ _ (λ _. byte_is tokens) (λ _.
+    either_by IsDraftOr (bytes_eq word (codes "IOSB")) _ _ (λ _. iosb_is tokens) (λ _.
+    either_by IsDraftOr (bytes_eq word (codes "RETURN")) _ _ (λ _. return_is tokens) (λ _. tt)))))))
 
 called_is : (r : Result Call CallFail) → IfOk r (λ c. IsTrue (is_call c)) → IfOk (called r) IsDraft
 called_is (Ok c) h = h

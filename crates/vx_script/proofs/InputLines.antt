@@ -6,7 +6,6 @@ use Rattle.std.proofs.lemmas.Slice.Eq.{bytes_eq-Decides}
 use Rattle.vx_image.specs.declared.unit.UnitDecl.{UnitDecl}
 use Rattle.vx_image.specs.WellFormed.{is_among, are_distinct}
 use Rattle.vx_text.specs.declared.token.Tok.{Tok}
-use Rattle.vx_text.proofs.Runs.{by_test}
 use Rattle.vx_script.specs.Declarations.{input_line}
 use Rattle.vx_script.specs.Fields.{end_at, name_at, text_at}
 use Rattle.vx_script.specs.Resolving.{names_no_line_unit, input_if, inputs_of}
@@ -16,6 +15,7 @@ use Rattle.vx_script.proofs.Appended.{all_weaker, all_flat, all_pairs, all_push,
 use Rattle.vx_script.proofs.Chains.{after, after_by}
 use Rattle.vx_script.proofs.InRange.{IsText, text}
 use Rattle.vx_script.proofs.Places.{any_map}
+use Rattle.vx_base.proofs.Bools.{either_by}
 
 -- texts of at most 2,048 bytes
 abbrev pub AreInputs : List InputLine → Type 0
@@ -94,6 +94,6 @@ no_block_lines us is h k =
 pub lines_are : (name : List ℕ) (is : List InputLine) → AreInputs is → list_all (λ line. nat_le (length line) 2048) (inputs_of name is) ≡ true
 lines_are name is h =
     all_flat (λ (i : InputLine). nat_le (length i.text) 2048) (λ line. nat_le (length line) 2048) (input_if name)
-    (λ i k. by_test (λ lines. list_all (λ line. nat_le (length line) 2048) lines ≡ true) (bytes_eq name i.unit) (i.text ∷ []) []
+    (λ i k. either_by (λ lines. list_all (λ line. nat_le (length line) 2048) lines ≡ true) (bytes_eq name i.unit) (i.text ∷ []) []
     (λ _. and_from (nat_le (length i.text) 2048) true k refl) (λ _. refl))
     is h

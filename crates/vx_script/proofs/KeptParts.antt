@@ -4,7 +4,6 @@ use Rattle.vx_image.specs.declared.image.Image.{Image}
 use Rattle.vx_text.specs.Lex.{lex}
 use Rattle.vx_text.specs.declared.token.Tok.{Tok}
 use Rattle.vx_text.specs.declared.token.Tok.TheVariants as tok
-use Rattle.vx_text.proofs.Runs.{by_test}
 use Rattle.vx_script.specs.Fields.{begins_with_sign, end_at, with_kind}
 use Rattle.vx_script.specs.Declarations.{unit_line, input_line, fault_line, image_line, process_line}
 use Rattle.vx_script.specs.Resolving.{with_image}
@@ -20,6 +19,7 @@ use Rattle.vx_script.proofs.FaultLines.{AreFaults, WithFault, fault_read}
 use Rattle.vx_script.proofs.InputLines.{AreInputs, WithInput, input_read}
 use Rattle.vx_script.proofs.OpenImages.{IsOpen, stmt_read, label_read, image_read}
 use Rattle.vx_script.proofs.UnitLines.{AreUnits, WithUnit, unit_read}
+use Rattle.vx_base.proofs.Bools.{either_by}
 
 -- What was read, kind by kind.
 pub record AreParts (p : Parts) : Type 0 where
@@ -56,9 +56,9 @@ gone_on p r h k = after_by r (λ i. Ok (goes_on p i)) (IsOpen p.images) IsRead k
 word_kept : (line : ℕ) (p : Parts) (image : DraftImage) (word : List ℕ) (tokens : List Tok) → AreParts p → IsOpen p.images image
     → IfOk (word_line line p image word tokens) IsRead
 word_kept line p image word tokens h o =
-    by_test IsReadOr (begins_with_sign 58 (drop 1 tokens)) _ _
+    either_by IsReadOr (begins_with_sign 58 (drop 1 tokens)) _ _
     (λ _. gone_on p (labelled line image word (drop 2 tokens)) h (label_read p.images line image word (drop 2 tokens) o)) (λ _.
-    by_test IsReadOr (bytes_eq word (codes "END")) _ _ (λ _. after (end_at (drop 1 tokens)) _ IsRead λ _ _. record {
+    either_by IsReadOr (bytes_eq word (codes "END")) _ _ (λ _. after (end_at (drop 1 tokens)) _ IsRead λ _ _. record {
       parts =
           ended_is p image h o;
       current = tt;
@@ -77,19 +77,19 @@ without_image p h = record { parts = h; current = tt }
 
 outer_kept : (line : ℕ) (p : Parts) (word : List ℕ) (tokens : List Tok) → AreParts p → IfOk (outer_line line p word tokens) IsRead
 outer_kept line p word tokens h =
-    by_test IsReadOr (bytes_eq word (codes "UNIT")) _ _
+    either_by IsReadOr (bytes_eq word (codes "UNIT")) _ _
     (λ _. after_by (unit_line p.units tokens) _ (WithUnit p.units) IsRead (unit_read p.units tokens h.units) λ u k.
     without_image _ (record { units = k; inputs = h.inputs; faults = h.faults; images = h.images; decls = h.decls })) (λ _.
-    by_test IsReadOr (bytes_eq word (codes "INPUT")) _ _
+    either_by IsReadOr (bytes_eq word (codes "INPUT")) _ _
     (λ _. after_by (input_line line tokens) _ (WithInput p.inputs) IsRead (input_read line p.inputs tokens h.inputs) λ i k.
     without_image _ (record { units = h.units; inputs = k; faults = h.faults; images = h.images; decls = h.decls })) (λ _.
-    by_test IsReadOr (bytes_eq word (codes "FAULT")) _ _
+    either_by IsReadOr (bytes_eq word (codes "FAULT")) _ _
     (λ _. after_by (fault_line line p.faults tokens) _ (WithFault p.faults) IsRead (fault_read line p.faults tokens h.faults) λ f k.
     without_image _ (record { units = h.units; inputs = h.inputs; faults = k; images = h.images; decls = h.decls })) (λ _.
-    by_test IsReadOr (bytes_eq word (codes "IMAGE")) _ _
+    either_by IsReadOr (bytes_eq word (codes "IMAGE")) _ _
     (λ _. after_by (image_line p.images tokens) _ (IsOpen p.images) IsRead (image_read p.images tokens) λ image o.
     record { parts = h; current = o }) (λ _.
-    by_test IsReadOr (bytes_eq word (codes "PROCESS")) _ _
+    either_by IsReadOr (bytes_eq word (codes "PROCESS")) _ _
     (λ _. after_by (process_line line p.decls tokens) _ (WithDecl p.decls) IsRead (decl_read line p.decls tokens h.decls) λ d k.
     without_image _ (record { units = h.units; inputs = h.inputs; faults = h.faults; images = h.images; decls = k })) (λ _. tt)))))
 

@@ -12,7 +12,8 @@ use Rattle.vx_script.specs.Steps.{unit_names, with_inputs, with_line_if}
 use Rattle.vx_script.specs.declared.lines.InputLine.{InputLine}
 use Rattle.vx_script.specs.declared.parts.Parts.{Parts}
 use Rattle.vx_script.proofs.Appended.{same_back}
-use Rattle.vx_script.proofs.Places.{any_map, first_placed, no_place, place_map}
+use Rattle.vx_script.proofs.Places.{any_map, first_placed, place_map}
+use Rattle.vx_base.proofs.Any.{no_position}
 
 -- their names stay
 pub same_names : (parts : Parts) (units : List UnitDecl) → unit_names (map (unit_of parts) units) ≡ unit_names units
@@ -92,4 +93,4 @@ pub line_nowhere : (input : InputLine) (places units : List UnitDecl) → unit_n
     → units ≡ map (with_line_if input) units
 line_nowhere input places units names nowhere =
     sym (to_none input units (any_map (bytes_eq input.unit) (λ (u : UnitDecl). u.name) units
-    ∙ no_place (is_its input) units (place_of input.unit places units names ∙ nowhere)))
+    ∙ no_position (is_its input) units (place_of input.unit places units names ∙ nowhere)))

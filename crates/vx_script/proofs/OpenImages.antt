@@ -17,8 +17,9 @@ use Rattle.vx_script.specs.declared.fault.FaultKind.TheVariants as kind
 use Rattle.vx_script.proofs.Appended.{all_push, all_weaker, few_push, distinct_push, falls_push}
 use Rattle.vx_script.proofs.Chains.{after, after_by}
 use Rattle.vx_script.proofs.InRange.{is_draft, IsDraft, statement}
-use Rattle.vx_script.proofs.Places.{any_map, no_place}
+use Rattle.vx_script.proofs.Places.{any_map}
 use Rattle.std.proofs.lemmas.List.{map_push}
+use Rattle.vx_base.proofs.Any.{no_position}
 
 -- the image is new among those that have ended, and its lines are in range
 pub record IsOpen (images : List Image) (image : DraftImage) : Type 0 where
@@ -89,7 +90,7 @@ one_label_more images image name h new =
     let more_names : map (λ (l : Label). l.name) (image.labels ++ l ∷ []) ≡ names ++ name ∷ [] = map_push (λ (l : Label). l.name) image.labels l in
     let more_places : map (λ (l : Label). l.place) (image.labels ++ l ∷ []) ≡ places ++ n ∷ [] = map_push (λ (l : Label). l.place) image.labels l in
     let absent : is_among name names ≡ false =
-    any_map (bytes_eq name) (λ (l : Label). l.name) image.labels ∙ no_place (λ (l : Label). bytes_eq name l.name) image.labels new in
+    any_map (bytes_eq name) (λ (l : Label). l.name) image.labels ∙ no_position (λ (l : Label). bytes_eq name l.name) image.labels new in
     record {
       room = h.room;
       new = h.new;
@@ -113,7 +114,7 @@ nothing_in : (images : List Image) (name : List ℕ) → nat_lt (length images) 
     → IsOpen images (record { name = name; labels = []; lines = [] })
 nothing_in images name room new = record {
   room = room;
-  new = any_map (bytes_eq name) (λ (i : Image). i.name) images ∙ no_place (λ (i : Image). bytes_eq name i.name) images new;
+  new = any_map (bytes_eq name) (λ (i : Image). i.name) images ∙ no_position (λ (i : Image). bytes_eq name i.name) images new;
   few = refl;
   names = refl;
   places = refl;

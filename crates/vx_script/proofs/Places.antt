@@ -1,10 +1,10 @@
 -- Where a name stands in a list.
-use Rattle.std.proofs.Common.{◌≡◌, ℕ, suc, ◌+◌, ◌<◌, Bool, true, false, cond, not, ◌||◌, nat_lt, List, [], ◌∷◌, length, map, Option, Some, None, is_some, position, refl, sym, ap, ◌∙◌}
+use Rattle.std.proofs.Common.{◌≡◌, ℕ, suc, ◌+◌, ◌<◌, Bool, true, false, cond, not, ◌||◌, nat_lt, List, [], ◌∷◌, length, map, Option, Some, None, is_some, position, refl, ap, ◌∙◌}
 use Rattle.std.specs.List.{list_any, position_from, position_or_len}
 use Rattle.std.proofs.lemmas.Bool.{ltb-true}
 use Rattle.std.proofs.lemmas.Iterator.Adapters.{position_from-zero}
-use Rattle.vx_text.proofs.Runs.{by_test}
 use Rattle.vx_script.specs.Resolving.{place_or_zero}
+use Rattle.vx_base.proofs.Bools.{either_by}
 
 some_from : {A : Type 0} (p : A → Bool) (i : ℕ) (xs : List A) → is_some (position_from p i xs) ≡ list_any p xs
 some_from p i [] = refl
@@ -22,19 +22,16 @@ any_map p f (x ∷ xs) = ap (λ t. p (f x) || t) (any_map p f xs)
 pub has_place : {A : Type 0} (p : A → Bool) (xs : List A) → is_some (position p xs) ≡ list_any p xs
 has_place p xs = ap (λ (o : Option ℕ). is_some o) (position_from-zero p xs) ∙ some_from p 0 xs
 
-pub no_place : {A : Type 0} (p : A → Bool) (xs : List A) → position p xs ≡ None → list_any p xs ≡ false
-no_place p xs h = sym (has_place p xs) ∙ ap (λ (o : Option ℕ). is_some o) h
-
 -- a place that is there is below the length
 pub placed : {A : Type 0} (p : A → Bool) (xs : List A) → is_some (position p xs) ≡ true → nat_lt (place_or_zero (position p xs)) (length xs) ≡ true
 placed p xs =
-    by_test (λ (o : Option ℕ). is_some o ≡ true → nat_lt (place_or_zero o) (length xs) ≡ true) (nat_lt (position_or_len p xs) (length xs))
+    either_by (λ (o : Option ℕ). is_some o ≡ true → nat_lt (place_or_zero o) (length xs) ≡ true) (nat_lt (position_or_len p xs) (length xs))
     (Some (position_or_len p xs)) None (λ e h. e) (λ e h. cc)
 
 -- a place that is there is that of the first that passes
 pub first_placed : {A : Type 0} (p : A → Bool) (xs : List A) (k : ℕ) → position p xs ≡ Some k → (position_or_len p xs ≡ k) × (position_or_len p xs < length xs)
 first_placed p xs k =
-    by_test (λ (o : Option ℕ). o ≡ Some k → (position_or_len p xs ≡ k) × (position_or_len p xs < length xs)) (nat_lt (position_or_len p xs) (length xs))
+    either_by (λ (o : Option ℕ). o ≡ Some k → (position_or_len p xs ≡ k) × (position_or_len p xs < length xs)) (nat_lt (position_or_len p xs) (length xs))
     (Some (position_or_len p xs)) None (λ e h. (cc, ltb-true (position_or_len p xs) (length xs) e)) (λ e h. cc)
 
 -- a place is read off what is made of each

@@ -14,13 +14,14 @@ use Rattle.vx_script.specs.declared.lines.Creation.{Creation}
 use Rattle.vx_script.specs.declared.lines.DeclLine.{DeclLine}
 use Rattle.vx_script.specs.declared.lines.InputLine.{InputLine}
 use Rattle.vx_script.specs.declared.parts.Parts.{Parts}
-use Rattle.vx_script.proofs.Appended.{all_weaker, unfound, none_from, as_many}
+use Rattle.vx_script.proofs.Appended.{all_weaker, unfound, as_many}
 use Rattle.vx_script.proofs.EndedImages.{is_formed, is_known, neither}
 use Rattle.vx_script.proofs.FaultLines.{faults_rise, faults_within}
 use Rattle.vx_script.proofs.InputLines.{no_block_lines, lines_are}
 use Rattle.vx_script.proofs.KeptParts.{AreParts}
 use Rattle.vx_script.proofs.KeysInRange.{are_keys}
 use Rattle.vx_script.proofs.Places.{any_map, has_place, placed}
+use Rattle.vx_base.proofs.Lists.{none_mapped}
 
 there : (o : Option ℕ) → not (is_none o) ≡ true → is_some o ≡ true
 there None h = cc
@@ -96,9 +97,9 @@ well_formed p h e =
     let run = neither (unknown_image p) (least_line (unknown_input p) (unknown_fault p)) made.1 in
     let fed = neither (unknown_input p) (unknown_fault p) run.1 in
     let names : decl_names (system_of p) ≡ map (λ (d : DeclLine). d.name) p.decls = map_twice (decl_of p.images) (λ (d : ProcDecl). d.name) p.decls in
-    let creations = unfound (names_no_decl p.decls) p.creations (none_from (λ (c : Creation). c.line) (find (names_no_decl p.decls) p.creations) made.0) in
-    let images = unfound (names_no_image p.images) p.decls (none_from (λ (d : DeclLine). d.line) (find (names_no_image p.images) p.decls) run.0) in
-    let inputs = unfound (names_no_line_unit p.units) p.inputs (none_from (λ (i : InputLine). i.line) (find (names_no_line_unit p.units) p.inputs) fed.0) in
+    let creations = unfound (names_no_decl p.decls) p.creations (none_mapped (λ (c : Creation). c.line) (find (names_no_decl p.decls) p.creations) made.0) in
+    let images = unfound (names_no_image p.images) p.decls (none_mapped (λ (d : DeclLine). d.line) (find (names_no_image p.images) p.decls) run.0) in
+    let inputs = unfound (names_no_line_unit p.units) p.inputs (none_mapped (λ (i : InputLine). i.line) (find (names_no_line_unit p.units) p.inputs) fed.0) in
     let known =
     all_weaker (λ c. not (names_no_decl p.decls c)) (is_known (map (λ (d : DeclLine). d.name) p.decls)) (creation_known p.decls) p.creations
     creations in

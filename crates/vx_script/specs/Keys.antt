@@ -21,6 +21,7 @@ use Rattle.vx_script.specs.declared.keys.Uic.{Uic}
 use Rattle.vx_script.specs.declared.privileges.Privilege.{Privilege}
 use Rattle.vx_script.specs.declared.privileges.Privilege.TheVariants as privilege
 use Rattle.vx_script.specs.declared.privileges.TakenPrivs.{TakenPrivs}
+pub use Rattle.vx_base.specs.Quotas.{no_privs}
 
 -- Privileges: NONE, or names joined by +.
 
@@ -57,9 +58,6 @@ granted privs privilege.Group = record privs { group = true }
 granted privs privilege.PrmCeb = record privs { prmceb = true }
 granted privs privilege.PrmMbx = record privs { prmmbx = true }
 granted privs privilege.World = record privs { world = true }
-
-abbrev pub no_privs : Privs
-no_privs = record { cmexec = false; cmkrnl = false; group = false; prmceb = false; prmmbx = false; world = false }
 
 -- one more, each once
 abbrev pub with_privilege : Privs → Privilege → Result Privs FaultKind

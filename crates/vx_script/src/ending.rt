@@ -9,9 +9,10 @@ use crate::draft::{Draft, DraftImage, DraftLine};
 use crate::lines::Creation;
 use crate::parts::Parts;
 use std::alloc::Global;
-use vx_base::{Arg, Args, Call, Name, NoMemory, Sequence, Service};
+use vx_base::{Arg, Call, Name, NoMemory, Sequence, Service};
 use vx_image::{Image, Label, Labels, Stmt, Stmts};
 use vx_names::Register;
+use vx_table::args_list;
 
 /// The earlier of two lines.
 pub fn least_line(a: Option<u32>, b: Option<u32>) -> Option<u32>
@@ -40,18 +41,10 @@ fn arg_names_none(labels: &Register<Label>, arg: &Arg) -> bool
     }
 }
 
-fn args_of(args: &Args) -> [Arg; 9]
-    ensures { result ≡ args_list args.now }
-{
-    [
-        args.a0, args.a1, args.a2, args.a3, args.a4, args.a5, args.a6, args.a7, args.a8,
-    ]
-}
-
 fn call_names_none(labels: &Register<Label>, call: &Call) -> bool
     ensures { result ≡ spec.call_names_none labels.now call.now }
 {
-    args_of(&call.args)
+    args_list(&call.args)
         .iter()
         .any(|arg| arg_names_none(labels, arg))
 }

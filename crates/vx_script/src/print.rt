@@ -11,20 +11,20 @@ use std::alloc::Global;
 use vx_base::{Bytes, NoMemory};
 use vx_image::{Image, ProcDecl, System, UnitDecl};
 
-fn print_units(alloc: Global, units: &[UnitDecl], out: &mut Bytes) -> Result<(), NoMemory>
+fn print_units(units: &[UnitDecl], out: &mut Bytes) -> Result<(), NoMemory>
     ensures { OnOk result (out.new ≡ out.old ++ ended_lines (flat_map spec.unit_lines units.now)) }
 {
     for unit in units {
-        print_unit(alloc, unit, out)?;
+        print_unit(unit, out)?;
     }
     Ok(())
 }
 
-fn print_images(alloc: Global, images: &[Image], out: &mut Bytes) -> Result<(), NoMemory>
+fn print_images(images: &[Image], out: &mut Bytes) -> Result<(), NoMemory>
     ensures { OnOk result (out.new ≡ out.old ++ ended_lines (flat_map spec.image_lines images.now)) }
 {
     for image in images {
-        print_image(alloc, image, out)?;
+        print_image(image, out)?;
     }
     Ok(())
 }
@@ -49,8 +49,8 @@ pub fn print_script(alloc: Global, system: &System) -> Result<Bytes, NoMemory>
 {
     let mut out = Bytes::new(alloc);
     let images = system.images.as_slice();
-    print_units(alloc, system.units.as_slice(), &mut out)?;
-    print_images(alloc, images, &mut out)?;
+    print_units(system.units.as_slice(), &mut out)?;
+    print_images(images, &mut out)?;
     print_processes(alloc, images, system.decls.as_slice(), &mut out)?;
     Ok(out)
 }

@@ -5,7 +5,6 @@ ghost use Rattle.vx_script.specs.Script as spec;
 ghost use Rattle.vx_script.specs.Script.{ended_lines};
 
 use crate::print_stmt::print_stmt;
-use std::alloc::Global;
 use vx_base::{Bytes, NoMemory};
 use vx_image::{Image, Label, Stmts};
 
@@ -37,12 +36,7 @@ fn labels_up_to(place: usize, labels: &[Label]) -> usize
 }
 
 /// Appends the statements, each behind its labels, and the labels of the end.
-fn print_body(
-    alloc: Global,
-    labels: &[Label],
-    stmts: &Stmts,
-    out: &mut Bytes,
-) -> Result<(), NoMemory>
+fn print_body(labels: &[Label], stmts: &Stmts, out: &mut Bytes) -> Result<(), NoMemory>
     ensures { OnOk result (out.new ≡ out.old
         ++ ended_lines (spec.body_lines labels.now 0 labels.now stmts.now)) }
 {
@@ -50,19 +44,19 @@ fn print_body(
     for place in 0..stmts.len() {
         let (own, behind) = left.split_at(labels_up_to(place, left));
         print_labels(own, out)?;
-        print_stmt(alloc, labels, &stmts.at(place), out)?;
+        print_stmt(labels, &stmts.at(place), out)?;
         left = behind;
     }
     print_labels(left, out)
 }
 
 /// Appends an image, from IMAGE to END.
-pub fn print_image(alloc: Global, image: &Image, out: &mut Bytes) -> Result<(), NoMemory>
+pub fn print_image(image: &Image, out: &mut Bytes) -> Result<(), NoMemory>
     ensures { OnOk result (out.new ≡ out.old ++ ended_lines (spec.image_lines image.now)) }
 {
     out.push_all(b"IMAGE ")?;
     out.push_all(image.name.text())?;
     out.push_all(b"\n")?;
-    print_body(alloc, image.labels.as_slice(), &image.stmts, out)?;
+    print_body(image.labels.as_slice(), &image.stmts, out)?;
     out.push_all(b"END\n")
 }

@@ -9,7 +9,6 @@ ghost use Rattle.vx_image.specs.declared.stmt.Stmt.TheVariants as stmt;
 ghost use Rattle.vx_table.specs.Spelling.{call_text, operand_text};
 
 use crate::print_word::{print_number, print_place, print_text, print_value, print_word};
-use std::alloc::Global;
 use vx_base::{Bytes, Call, NoMemory, Operand, Target};
 use vx_image::{Field, Label, Rel, StmtRef};
 use vx_table::append_call;
@@ -99,12 +98,12 @@ fn print_if(
 }
 
 // PUT, a buffer and a quoted text.
-fn print_put(alloc: Global, buffer: u8, bytes: &[u8], out: &mut Bytes) -> Result<(), NoMemory>
+fn print_put(buffer: u8, bytes: &[u8], out: &mut Bytes) -> Result<(), NoMemory>
     ensures { OnOk result (out.new ≡ out.old ++ spaced (spec.stmt_words [] (stmt.Put buffer bytes.now))) }
 {
     print_word(b"PUT", out)?;
     print_number(u32::from(buffer), out)?;
-    print_text(alloc, bytes, out)
+    print_text(bytes, out)
 }
 
 // BYTE, a target, a buffer and a value.
@@ -136,12 +135,7 @@ fn print_call(call: &Call, out: &mut Bytes) -> Result<(), NoMemory>
 }
 
 // The words of a statement, each behind a space.
-fn print_words(
-    alloc: Global,
-    labels: &[Label],
-    stmt: &StmtRef<'_>,
-    out: &mut Bytes,
-) -> Result<(), NoMemory>
+fn print_words(labels: &[Label], stmt: &StmtRef<'_>, out: &mut Bytes) -> Result<(), NoMemory>
     ensures { OnOk result (out.new ≡ out.old ++ spaced (spec.stmt_words labels.now (meant stmt.now))) }
 {
     match stmt {
@@ -150,7 +144,7 @@ fn print_words(
         StmtRef::Sub(t, x, y) => print_sum(*t, *x, b"-", *y, out),
         StmtRef::Goto(k) => print_goto(labels, *k, out),
         StmtRef::If(x, r, y, k) => print_if(labels, *x, *r, *y, *k, out),
-        StmtRef::Put(b, bytes) => print_put(alloc, *b, bytes, out),
+        StmtRef::Put(b, bytes) => print_put(*b, bytes, out),
         StmtRef::Byte(t, b, x) => print_byte(*t, *b, *x, out),
         StmtRef::Iosb(t, i, f) => print_iosb(*t, *i, *f, out),
         StmtRef::Return => print_word(b"RETURN", out),
@@ -159,15 +153,10 @@ fn print_words(
 }
 
 /// Appends a statement's line, where the image has these labels.
-pub fn print_stmt(
-    alloc: Global,
-    labels: &[Label],
-    stmt: &StmtRef<'_>,
-    out: &mut Bytes,
-) -> Result<(), NoMemory>
+pub fn print_stmt(labels: &[Label], stmt: &StmtRef<'_>, out: &mut Bytes) -> Result<(), NoMemory>
     ensures { OnOk result (out.new ≡ out.old ++ (spec.stmt_line labels.now (meant stmt.now) ++ 10 ∷ [])) }
 {
     out.push_all(b" ")?;
-    print_words(alloc, labels, stmt, out)?;
+    print_words(labels, stmt, out)?;
     out.push_all(b"\n")
 }

@@ -5,7 +5,6 @@ ghost use Rattle.vx_script.specs.Script as spec;
 ghost use Rattle.vx_script.specs.Script.{ended_lines, spaced};
 
 use crate::print_word::{print_number, print_text, print_word};
-use std::alloc::Global;
 use vx_base::{Bytes, Name, NoMemory};
 use vx_image::UnitDecl;
 
@@ -28,25 +27,20 @@ fn print_head(unit: &UnitDecl, out: &mut Bytes) -> Result<(), NoMemory>
     out.push_all(b"\n")
 }
 
-fn print_input(alloc: Global, name: &Name, bytes: &[u8], out: &mut Bytes) -> Result<(), NoMemory>
+fn print_input(name: &Name, bytes: &[u8], out: &mut Bytes) -> Result<(), NoMemory>
     ensures { OnOk result (out.new ≡ out.old ++ (spec.input_line name.now bytes.now ++ 10 ∷ [])) }
 {
     out.push_all(b"INPUT")?;
     print_word(name.text(), out)?;
-    print_text(alloc, bytes, out)?;
+    print_text(bytes, out)?;
     out.push_all(b"\n")
 }
 
-fn print_inputs(
-    alloc: Global,
-    name: &Name,
-    inputs: &[Bytes],
-    out: &mut Bytes,
-) -> Result<(), NoMemory>
+fn print_inputs(name: &Name, inputs: &[Bytes], out: &mut Bytes) -> Result<(), NoMemory>
     ensures { OnOk result (out.new ≡ out.old ++ ended_lines (map (spec.input_line name.now) inputs.now)) }
 {
     for bytes in inputs {
-        print_input(alloc, name, bytes.as_slice(), out)?;
+        print_input(name, bytes.as_slice(), out)?;
     }
     Ok(())
 }
@@ -70,10 +64,10 @@ fn print_faults(name: &Name, faults: &[u32], out: &mut Bytes) -> Result<(), NoMe
 }
 
 /// Appends a unit, the lines that it reads and its faults.
-pub fn print_unit(alloc: Global, unit: &UnitDecl, out: &mut Bytes) -> Result<(), NoMemory>
+pub fn print_unit(unit: &UnitDecl, out: &mut Bytes) -> Result<(), NoMemory>
     ensures { OnOk result (out.new ≡ out.old ++ ended_lines (spec.unit_lines unit.now)) }
 {
     print_head(unit, out)?;
-    print_inputs(alloc, &unit.name, unit.inputs.as_slice(), out)?;
+    print_inputs(&unit.name, unit.inputs.as_slice(), out)?;
     print_faults(&unit.name, unit.faults.as_slice(), out)
 }

@@ -4,7 +4,6 @@ ghost use Rattle.std.specs.Prelude.{OnOk, ◌++◌, ◌∷◌, ◌≡◌, decima
 ghost use Rattle.vx_table.specs.Spelling.{operand_text, target_text};
 ghost use Rattle.vx_text.specs.Quote.{quote_text};
 
-use std::alloc::Global;
 use vx_base::{Bytes, NoMemory, Operand, Target};
 use vx_table::{print_operand, print_target};
 use vx_text::{print_num, print_quote};
@@ -26,11 +25,11 @@ pub fn print_number(n: u32, out: &mut Bytes) -> Result<(), NoMemory>
 }
 
 /// Appends a quoted text behind a space.
-pub fn print_text(alloc: Global, bytes: &[u8], out: &mut Bytes) -> Result<(), NoMemory>
+pub fn print_text(bytes: &[u8], out: &mut Bytes) -> Result<(), NoMemory>
     ensures { OnOk result (out.new ≡ out.old ++ 32 ∷ quote_text bytes.now) }
 {
     out.push_all(b" ")?;
-    print_quote(alloc, out, bytes)
+    print_quote(out, bytes)
 }
 
 /// Appends a value behind a space.

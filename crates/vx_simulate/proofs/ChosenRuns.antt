@@ -9,7 +9,7 @@ use Rattle.vx_image.specs.declared.system.System.{System}
 use Rattle.vx_record.specs.State.{State}
 use Rattle.vx_record.specs.Events.{enabled, step}
 use Rattle.vx_record.specs.Runs.{AreSteps, IsRun, after_from, are_deleted, choose, chosen, chosen_from, end_after, end_of, end_with, first, next_seed, pick, picked, record_of}
-use Rattle.vx_exec.proofs.Runs.{get_default}
+use Rattle.vx_base.proofs.Lists.{any_default}
 
 -- records that are at most n steps of the machine from a state on, behind so many that were taken, and end there
 record EndsFrom (limit taken n : ℕ) (s : State) (recs : List Rec) : Type 0 where
@@ -22,7 +22,7 @@ pick_there : (x : ℕ) (e : Event) (es : List Event) → Contains (e ∷ es) (pi
 pick_there x e es =
     let i = picked (next_seed x) (length (e ∷ es)) in
     let within : i < length (e ∷ es) = omega arith in
-    (i, within, get_default (e ∷ es) i (pick x e es) e within)
+    (i, within, any_default (e ∷ es) i (pick x e es) e within)
 
 -- at the limit a run has ended
 ended_with : (limit taken : ℕ) (deleted : Bool) (es : List Event) → limit ≤ taken → (end : End) × (end_with limit taken deleted es ≡ Some end)

@@ -43,7 +43,7 @@ fn transcript(alloc: Global, system: System, picks: &Picks) -> Result<(Bytes, En
     let mut text = print_script(alloc, &system)?;
     let places = picks.places.as_slice();
     let (exec, recs, end) = run_picks::<Scripted>(alloc, system, places, picks.limit)?;
-    let printed = print_run(alloc, &exec, recs.as_slice(), end, &mut text);
+    let printed = print_run(&exec, recs.as_slice(), end, &mut text);
     drop(exec);
     drop(recs);
     match printed {

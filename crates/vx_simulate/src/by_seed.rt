@@ -69,12 +69,7 @@ fn front_text(alloc: Global, system: &System) -> Result<Bytes, NoMemory>
 }
 
 /// Takes an enabled event, and appends its record.
-fn take_step(
-    alloc: Global,
-    exec: &mut Exec<Scripted>,
-    event: Event,
-    pending: &mut Bytes,
-) -> Result<(), NoMemory>
+fn take_step(exec: &mut Exec<Scripted>, event: Event, pending: &mut Bytes) -> Result<(), NoMemory>
     requires enabled { Contains (enabled exec.old.state) event }
     requires going { end_of exec.old.limit exec.old.taken exec.old.state ≡ None }
     ensures after { OnOk result (exec.new ≡ after_step exec.old event) }
@@ -84,11 +79,11 @@ fn take_step(
 {
     let rec = exec.step(event)?;
     let units = exec.system().units.as_slice();
-    print_record(alloc, units, u64::from(exec.taken()), &rec, pending)
+    print_record(units, u64::from(exec.taken()), &rec, pending)
 }
 
 /// Writes the bytes that wait, if they are a piece.
-fn send_piece<K: Sink>(alloc: Global, pending: &mut Bytes, sink: &mut K) -> Result<(), Failed>
+fn send_piece<K: Sink>(pending: &mut Bytes, sink: &mut K) -> Result<(), Failed>
     ensures ok { OnOk result (Sends (K.held sink.old) (K.held sink.new) pending.old pending.new) }
     ensures err { OnErr result (AppendsFront (K.held sink.old) (K.held sink.new) pending.old) }
     ensures cause { HasCause (K.faults sink.old) (K.faults sink.new) result }
@@ -97,7 +92,7 @@ fn send_piece<K: Sink>(alloc: Global, pending: &mut Bytes, sink: &mut K) -> Resu
         return Ok(());
     }
     write_all(sink, pending.as_slice())?;
-    *pending = Bytes::new(alloc);
+    pending.truncate(0);
     Ok(())
 }
 
@@ -127,14 +122,14 @@ fn write_journal<K: Sink>(
     let mut next = Seed { x: options.seed };
     'steps: loop {
         if let Some(end) = exec.ended() {
-            print_trailer(alloc, exec, end, &mut pending)?;
+            print_trailer(exec, end, &mut pending)?;
             write_all(sink, pending.as_slice())?;
             return Ok(end);
         }
         match exec.pick(&mut next) {
             Some(event) => {
-                take_step(alloc, exec, event, &mut pending)?;
-                send_piece(alloc, &mut pending, sink)?;
+                take_step(exec, event, &mut pending)?;
+                send_piece(&mut pending, sink)?;
             }
             None => unreachable!(),
         }

@@ -31,7 +31,7 @@ use Rattle.vx_spelled.specs.Held.{AreHeldRecs, AreNamed, IsHeldAnswer, IsHeldCel
 use Rattle.vx_spelled.specs.Law.{RunsAreSpelled}
 use Rattle.vx_spelled.proofs.Fine.{AreFine, IsFine, IsFineCell}
 use Rattle.vx_spelled.proofs.Heads.{IsAnswerOf, IsDue, enabled_due, step_good}
-use Rattle.vx_lines.proofs.EffectsBack.{bytes_same}
+use Rattle.vx_base.proofs.Texts.{same_bytes}
 
 -- Effects.
 
@@ -58,7 +58,7 @@ among_at a (u ∷ us) (suc k) h lt = among_at a us k (or_parts (bytes_eq a u.nam
 
 place_len : (us : List UnitDecl) (k : ℕ) → k < length us → are_distinct (map (λ u. u.name) us) ≡ true → position_or_len (λ u. bytes_eq u.name (get_or us k no_unit).name) us ≡ k
 place_len [] k lt h = absurd (omega arith)
-place_len (u ∷ us) zero lt h = rw (bytes_same u.name) refl
+place_len (u ∷ us) zero lt h = rw (same_bytes u.name) refl
 place_len (u ∷ us) (suc k) lt h =
     let parts = and_parts (not (is_among u.name (map (λ u. u.name) us))) (are_distinct (map (λ u. u.name) us)) h in
     let within : k < length us = omega arith in

@@ -22,11 +22,11 @@ use Rattle.vx_base.specs.Name.{is_capital}
 use Rattle.vx_base.specs.Services.{ServiceRow, service_name, service_rows, service_row, all_services, params_of, is_operand, is_target, is_of_kind, are_args, kind_of, is_call, has_right_default}
 use Rattle.vx_text.specs.declared.token.Tok.{Tok}
 use Rattle.vx_text.specs.declared.token.Tok.TheVariants as tok
-use Rattle.vx_text.proofs.Runs.{by_test}
 use Rattle.vx_table.specs.declared.fail.CallFail.{CallFail}
 use Rattle.vx_table.specs.Reading.{letter, long_operand, operand_word, target_word, word_arg, token_arg, arg_or, read_arg, and_args, read_args, first_piece, more_pieces, pieces, as_args, call_with, read_named, read_call}
 use Rattle.vx_table.proofs.Back.{firsts}
 use Rattle.std.proofs.lemmas.Bool.{and_parts}
+use Rattle.vx_base.proofs.Bools.{either_by}
 
 abbrev pub IsOperandOr : Option Operand → Type 0
 IsOperandOr None = Unit {0}
@@ -41,22 +41,22 @@ IsArgOr k None = Unit {0}
 IsArgOr k (Some a) = is_of_kind k a ≡ true
 
 variable : (b : ℕ) → IsOperandOr (option_map operand.Var (letter b))
-variable b = by_test (λ (o : Option ℕ). IsOperandOr (option_map operand.Var o)) (is_capital b) (Some b) None (λ h. h) (λ _. tt)
+variable b = either_by (λ (o : Option ℕ). IsOperandOr (option_map operand.Var o)) (is_capital b) (Some b) None (λ h. h) (λ _. tt)
 
 long : (word : List ℕ) → IsOperandOr (long_operand word)
 long word =
-    by_test IsOperandOr (bytes_eq word (codes "R0")) _ _ (λ _. refl) (λ _.
-    by_test IsOperandOr (bytes_eq word (codes "PID")) _ _ (λ _. refl) (λ _.
-    by_test IsOperandOr (bytes_eq word (codes "PRM")) _ _ (λ _. refl) (λ _. tt)))
+    either_by IsOperandOr (bytes_eq word (codes "R0")) _ _ (λ _. refl) (λ _.
+    either_by IsOperandOr (bytes_eq word (codes "PID")) _ _ (λ _. refl) (λ _.
+    either_by IsOperandOr (bytes_eq word (codes "PRM")) _ _ (λ _. refl) (λ _. tt)))
 
 pub operand_is : (word : List ℕ) → IsOperandOr (operand_word word)
-operand_is word = by_test IsOperandOr (length word == 1) _ _ (λ _. variable (slice_index word 0)) (λ _. long word)
+operand_is word = either_by IsOperandOr (length word == 1) _ _ (λ _. variable (slice_index word 0)) (λ _. long word)
 
 target_variable : (b : ℕ) → IsTargetOr (option_map target.Var (letter b))
-target_variable b = by_test (λ (o : Option ℕ). IsTargetOr (option_map target.Var o)) (is_capital b) (Some b) None (λ h. h) (λ _. tt)
+target_variable b = either_by (λ (o : Option ℕ). IsTargetOr (option_map target.Var o)) (is_capital b) (Some b) None (λ h. h) (λ _. tt)
 
 pub target_is : (word : List ℕ) → IsTargetOr (target_word word)
-target_is word = by_test IsTargetOr (length word == 1) _ _ (λ _. target_variable (slice_index word 0)) (λ _. by_test IsTargetOr (bytes_eq word (codes "R0")) _ _ (λ _. refl) (λ _. tt))
+target_is word = either_by IsTargetOr (length word == 1) _ _ (λ _. target_variable (slice_index word 0)) (λ _. either_by IsTargetOr (bytes_eq word (codes "R0")) _ _ (λ _. refl) (λ _. tt))
 
 value_arg : (o : Option Operand) → IsOperandOr o → IsArgOr kind.Value (option_map arg.Value o)
 value_arg None h = tt
@@ -92,7 +92,7 @@ cond_kind kind.Value c = refl
 cond_kind _ c = tt
 
 sign_kind : (k : Kind) (s : ℕ) → IsArgOr k (token_arg k (tok.Sign s))
-sign_kind kind.LabelOrNone s = by_test (IsArgOr kind.LabelOrNone) (s == 45) _ _ (λ _. refl) (λ _. tt)
+sign_kind kind.LabelOrNone s = either_by (IsArgOr kind.LabelOrNone) (s == 45) _ _ (λ _. refl) (λ _. tt)
 sign_kind _ s = tt
 
 -- what a token is read as is of the kind
@@ -162,7 +162,7 @@ call_is s (Err e) h = tt
 
 named_is : (services : List Service) (name : List ℕ) (args : List Tok) → IsCallOr (read_named (map service_row services) name args)
 named_is [] name args = tt
-named_is (s ∷ services) name args = by_test IsCallOr (bytes_eq (service_name s) name) _ _ (λ _. call_is s _ (args_kinds 1 (params_of s) (pieces args) (defaults s))) (λ _. named_is services name args)
+named_is (s ∷ services) name args = either_by IsCallOr (bytes_eq (service_name s) name) _ _ (λ _. call_is s _ (args_kinds 1 (params_of s) (pieces args) (defaults s))) (λ _. named_is services name args)
 
 tokens_is : (tokens : List Tok) → IsCallOr (read_call service_rows tokens)
 tokens_is [] = tt

@@ -16,6 +16,5 @@ mod table;
 
 pub use arg::{mode_word, operand_of, target_word};
 pub use fail::CallFail;
-pub use print::{append_call, mode_name, print_operand, print_target};
+pub use print::{append_call, args_list, mode_name, print_operand, print_target};
 pub use table::{ServiceTable, service_table};
-pub use vx_base::Kind;

@@ -122,8 +122,8 @@ fn print_args(args: &[Arg], out: &mut Bytes) -> Result<(), NoMemory>
     Ok(())
 }
 
-/// The arguments in order.
-fn args_list(args: &Args) -> [Arg; 9]
+/// The nine arguments of a call in order.
+pub fn args_list(args: &Args) -> [Arg; 9]
     ensures { result ≡ args_list args.now }
 {
     [

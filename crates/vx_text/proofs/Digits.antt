@@ -2,7 +2,7 @@
 use Rattle.std.proofs.Common.{◌≡◌, ℕ, ◌<◌, ◌≤◌, List, [], ◌∷◌, false, nat_le, None, arith, refl, rules}
 use Rattle.std.specs.List.{fold}
 use Rattle.vx_text.specs.Bytes.{with_digit, digits_value, decimal_of, with_hex_digit, hex_digits_value, hex_of}
-use Rattle.vx_text.proofs.Runs.{and_false}
+use Rattle.vx_base.proofs.Bools.{and_false}
 
 pub fold-grows : (n : ℕ) (ds : List ℕ) → n ≤ fold with_digit n ds
 fold-grows n [] = omega arith

@@ -16,8 +16,9 @@ use Rattle.vx_text.specs.declared.first.First.TheVariants.{Found}
 use Rattle.vx_text.specs.Bytes.{to_upper, is_letter, is_word_byte, is_service_byte}
 use Rattle.vx_text.specs.First.{first, word, word_of, service}
 use Rattle.vx_text.specs.Lex.{lex_from, with_front, token_at}
-use Rattle.vx_text.proofs.Runs.{and_false, stops, run_of}
+use Rattle.vx_text.proofs.Runs.{stops, run_of}
 use Rattle.vx_text.proofs.Leading.{first-cons, letter_leads}
+use Rattle.vx_base.proofs.Bools.{and_false}
 
 capital_letter : (b : ℕ) → is_capital b ≡ true → is_letter b ≡ true
 capital_letter b h = rw h refl

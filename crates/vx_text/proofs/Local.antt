@@ -20,8 +20,9 @@ use Rattle.vx_text.specs.Bytes.{to_upper, is_letter, is_digit, is_hex_digit, is_
 use Rattle.vx_text.specs.Quoted.{step_of, behind, by_step, quoted, quoted_text}
 use Rattle.vx_text.specs.First.{first, first_by, found_or, word_of, word, service_of, service, number, hex_number, quote, text_found}
 use Rattle.vx_text.specs.Lex.{IsReading}
-use Rattle.vx_text.proofs.Runs.{by_test, run_cons, run_twice}
+use Rattle.vx_text.proofs.Runs.{run_cons, run_twice}
 use Rattle.vx_text.proofs.Leading.{first-cons, letter_leads, digit_leads}
+use Rattle.vx_base.proofs.Bools.{either_by}
 
 found_or-reading : (bytes : List ℕ) (kind : LexFail) (t : Option Tok) (len : ℕ) → 0 < len → len ≤ length bytes → first (take len bytes) ≡ found_or kind t len → IsReading bytes (found_or kind t len)
 found_or-reading bytes kind None len p q e = tt
@@ -78,7 +79,7 @@ take-2 n b x bs =
 hex_reading : (bs : List ℕ) → IsReading (37 ∷ bs) (hex_number (37 ∷ bs))
 hex_reading [] = tt
 hex_reading (x ∷ bs) =
-    by_test (IsReading (37 ∷ x ∷ bs)) (to_upper x == 88) _ _
+    either_by (IsReading (37 ∷ x ∷ bs)) (to_upper x == 88) _ _
     (λ h.
     let cut : take (2 + length (take_while is_hex_digit bs)) (37 ∷ x ∷ bs) ≡ 37 ∷ x ∷ take_while is_hex_digit bs = take-2 _ 37 x bs ∙ ap (λ run. 37 ∷ x ∷ run) (own is_hex_digit bs) in
     let leads : (run : List ℕ) → hex_number (37 ∷ x ∷ run) ≡ found_or fail.Number (option_map tok.Num (hex_of (take_while is_hex_digit run))) (2 + length (take_while is_hex_digit run)) = λ run. rw h refl in
@@ -113,14 +114,14 @@ first_by-reading : (b : ℕ) (bs : List ℕ) → IsReading (b ∷ bs) (first_by 
 first_by-reading b bs =
     let P : First → Type 0 = IsReading (b ∷ bs) in
     let at : (k : ℕ) → (b == k) ≡ true → k ≡ b = λ k h. sym (eqb-true b k h) in
-    by_test P (b == 34) _ _ (λ h. subst (λ (k : ℕ). IsReading (k ∷ bs) (quote (k ∷ bs))) (at 34 h) (text_reading bs (quoted_text bs) (quoted-spelled bs Plain))) (λ n34.
-    by_test P (is_gap b) _ _ (λ _. tt) (λ n32.
-    by_test P (b == 33) _ _ (λ _. tt) (λ n33.
-    by_test P (b == 37) _ _ (λ h. subst (λ (k : ℕ). IsReading (k ∷ bs) (hex_number (k ∷ bs))) (at 37 h) (hex_reading bs)) (λ n37.
-    by_test P (b == 36) _ _ (λ h. subst (λ (k : ℕ). IsReading (k ∷ bs) (service (k ∷ bs))) (at 36 h) (service_reading bs)) (λ n36.
-    by_test P (is_letter b) _ _ (λ h. word_reading b bs h) (λ no_letter.
-    by_test P (is_digit b) _ _ (λ h. number_reading b bs h) (λ no_digit.
-    by_test P (is_sign b) _ _ (λ h. (omega arith, omega arith, first-cons b [] ∙ rw (n34, n32, n33, n37, n36, no_letter, no_digit, h) refl)) (λ _. tt))))))))
+    either_by P (b == 34) _ _ (λ h. subst (λ (k : ℕ). IsReading (k ∷ bs) (quote (k ∷ bs))) (at 34 h) (text_reading bs (quoted_text bs) (quoted-spelled bs Plain))) (λ n34.
+    either_by P (is_gap b) _ _ (λ _. tt) (λ n32.
+    either_by P (b == 33) _ _ (λ _. tt) (λ n33.
+    either_by P (b == 37) _ _ (λ h. subst (λ (k : ℕ). IsReading (k ∷ bs) (hex_number (k ∷ bs))) (at 37 h) (hex_reading bs)) (λ n37.
+    either_by P (b == 36) _ _ (λ h. subst (λ (k : ℕ). IsReading (k ∷ bs) (service (k ∷ bs))) (at 36 h) (service_reading bs)) (λ n36.
+    either_by P (is_letter b) _ _ (λ h. word_reading b bs h) (λ no_letter.
+    either_by P (is_digit b) _ _ (λ h. number_reading b bs h) (λ no_digit.
+    either_by P (is_sign b) _ _ (λ h. (omega arith, omega arith, first-cons b [] ∙ rw (n34, n32, n33, n37, n36, no_letter, no_digit, h) refl)) (λ _. tt))))))))
 
 pub first-reading : (bytes : List ℕ) → IsReading bytes (first bytes)
 first-reading [] = tt

@@ -1,6 +1,6 @@
 //! Canonical spellings.
 
-ghost use Rattle.std.specs.Prelude.{◌≡◌, ◌<◌, ◌++◌, ℕ, List, OnOk, OnErr, IfOk, decimal};
+ghost use Rattle.std.specs.Prelude.{◌≡◌, ◌<◌, ◌++◌, ℕ, List, OnOk, OnErr, IfOk, decimal, length, take};
 ghost use Rattle.vx_text.specs.Quote as spec;
 
 use crate::bytes::is_plain;
@@ -25,9 +25,10 @@ fn hex_digit(n: u8) -> u8
     if n < 10 { b'0' + n } else { 55 + n }
 }
 
-// Appends a byte of a quoted text.
+// Appends a byte of a quoted text, or changes nothing.
 fn print_byte(out: &mut Bytes, b: u8) -> Result<(), NoMemory>
-    ensures { OnOk result (out.new ≡ out.old ++ spec.byte_text b) }
+    ensures ok { OnOk result (out.new ≡ out.old ++ spec.byte_text b) }
+    ensures err { OnErr result (out.new ≡ out.old) }
 {
     if is_plain(b) {
         out.push_all(&[b])
@@ -36,9 +37,10 @@ fn print_byte(out: &mut Bytes, b: u8) -> Result<(), NoMemory>
     }
 }
 
-// Appends the bytes of a quoted text.
+// Appends the bytes of a quoted text. If memory runs out, it may have appended the start of them.
 fn print_inside(out: &mut Bytes, bytes: &[u8]) -> Result<(), NoMemory>
-    ensures { OnOk result (out.new ≡ out.old ++ spec.inside_text bytes.now) }
+    ensures ok { OnOk result (out.new ≡ out.old ++ spec.inside_text bytes.now) }
+    ensures front { take (length out.old) out.new ≡ out.old }
 {
     for b in bytes {
         print_byte(out, *b)?;
@@ -46,25 +48,37 @@ fn print_inside(out: &mut Bytes, bytes: &[u8]) -> Result<(), NoMemory>
     Ok(())
 }
 
+// Appends a text between quotes. If memory runs out, it may have appended the start of it.
+fn append_quote(out: &mut Bytes, bytes: &[u8]) -> Result<(), NoMemory>
+    ensures ok { OnOk result (out.new ≡ out.old ++ spec.quote_text bytes.now) }
+    ensures front { take (length out.old) out.new ≡ out.old }
+{
+    out.push_all(b"\"")?;
+    print_inside(out, bytes)?;
+    out.push_all(b"\"")
+}
+
+/// Appends a text between quotes, or changes nothing: a byte from 32 to 126 but `"` and `\` stands for itself, any
+/// other as `\` and its two hexadecimal digits.
+pub fn print_quote(out: &mut Bytes, bytes: &[u8]) -> Result<(), NoMemory>
+    ensures ok { OnOk result (out.new ≡ out.old ++ spec.quote_text bytes.now) }
+    ensures err { OnErr result (out.new ≡ out.old) }
+{
+    let before = out.len();
+    let done = append_quote(out, bytes);
+    if done.is_err() {
+        out.truncate(before);
+    }
+    done
+}
+
 // The canonical spelling of a text.
 fn spelled(alloc: Global, bytes: &[u8]) -> Result<Bytes, NoMemory>
     ensures { IfOk result (λ text. text ≡ spec.quote_text bytes.now) }
 {
     let mut text = Bytes::new(alloc);
-    text.push_all(b"\"")?;
-    print_inside(&mut text, bytes)?;
-    text.push_all(b"\"")?;
+    append_quote(&mut text, bytes)?;
     Ok(text)
-}
-
-/// Appends a text between quotes, or changes nothing: a byte from 32 to 126 but `"` and `\` stands for itself, any
-/// other as `\` and its two hexadecimal digits.
-pub fn print_quote(alloc: Global, out: &mut Bytes, bytes: &[u8]) -> Result<(), NoMemory>
-    ensures ok { OnOk result (out.new ≡ out.old ++ spec.quote_text bytes.now) }
-    ensures err { OnErr result (out.new ≡ out.old) }
-{
-    let text = spelled(alloc, bytes)?;
-    out.push_all(text.as_slice())
 }
 
 /// Reads what `print_quote` writes, and nothing else: None for every other text.

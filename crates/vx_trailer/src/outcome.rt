@@ -9,7 +9,6 @@ ghost use Rattle.vx_lines.specs.Records.{unit_name};
 ghost use Rattle.vx_journal.specs.Transcript.{output_lines, process_line, process_lines, unit_lines};
 ghost use Rattle.vx_trailer.specs.Outcome.{led_lines, outcome_text};
 
-use std::alloc::Global;
 use vx_base::{Bytes, NoMemory, Pid, Scripted, UnitNo};
 use vx_exec::Exec;
 use vx_journal::{print_output, print_standing};
@@ -39,7 +38,6 @@ fn print_processes(exec: &Exec<Scripted>, lead: &[u8], out: &mut Bytes) -> Resul
 
 // Appends the OUT lines of a unit.
 fn print_outputs(
-    alloc: Global,
     name: &[u8],
     outputs: &[Bytes],
     lead: &[u8],
@@ -49,14 +47,13 @@ fn print_outputs(
 {
     for bytes in outputs {
         out.push_all(lead)?;
-        print_output(alloc, name, bytes.as_slice(), out)?;
+        print_output(name, bytes.as_slice(), out)?;
     }
     Ok(())
 }
 
 // Appends the OUT lines of unit u.
 fn print_unit(
-    alloc: Global,
     exec: &Exec<Scripted>,
     u: UnitNo,
     lead: &[u8],
@@ -69,34 +66,24 @@ fn print_unit(
         (outputs_of (unit_at exec.now.state u).contents))) }
 {
     let name = unit_name(exec.system().units.as_slice(), u);
-    print_outputs(alloc, name, exec.outputs(u), lead, out)
+    print_outputs(name, exec.outputs(u), lead, out)
 }
 
 // Appends the OUT lines.
-fn print_units(
-    alloc: Global,
-    exec: &Exec<Scripted>,
-    lead: &[u8],
-    out: &mut Bytes,
-) -> Result<(), NoMemory>
+fn print_units(exec: &Exec<Scripted>, lead: &[u8], out: &mut Bytes) -> Result<(), NoMemory>
     ensures { OnOk result (out.new ≡ out.old
         ++ led_lines lead.now (unit_lines exec.now.state.system.units 0 exec.now.state.units)) }
 {
     for u in 0..exec.unit_count() {
-        print_unit(alloc, exec, UnitNo(u), lead, out)?;
+        print_unit(exec, UnitNo(u), lead, out)?;
     }
     Ok(())
 }
 
 /// Appends the PROCESS lines and then the OUT lines, each behind a lead.
-pub fn print_outcome(
-    alloc: Global,
-    exec: &Exec<Scripted>,
-    lead: &[u8],
-    out: &mut Bytes,
-) -> Result<(), NoMemory>
+pub fn print_outcome(exec: &Exec<Scripted>, lead: &[u8], out: &mut Bytes) -> Result<(), NoMemory>
     ensures { OnOk result (out.new ≡ out.old ++ outcome_text lead.now exec.now.state) }
 {
     print_processes(exec, lead, out)?;
-    print_units(alloc, exec, lead, out)
+    print_units(exec, lead, out)
 }

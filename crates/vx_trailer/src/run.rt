@@ -5,14 +5,12 @@ ghost use Rattle.vx_journal.specs.Transcript.{trailer_lines};
 ghost use Rattle.vx_lines.specs.Records.{ended_lines, records_lines};
 
 use crate::trailer::print_trailer;
-use std::alloc::Global;
 use vx_base::{Bytes, End, NoMemory, Rec, Scripted};
 use vx_exec::Exec;
 use vx_lines::print_records;
 
 /// Appends what stands behind the script in the transcript of a run that has ended so.
 pub fn print_run(
-    alloc: Global,
     exec: &Exec<Scripted>,
     recs: &[Rec],
     end: End,
@@ -24,6 +22,6 @@ pub fn print_run(
 {
     text.push_all(b"$JOURNAL 1\n")?;
     let units = exec.system().units.as_slice();
-    print_records(alloc, units, recs, text)?;
-    print_trailer(alloc, exec, end, text)
+    print_records(units, recs, text)?;
+    print_trailer(exec, end, text)
 }

@@ -42,6 +42,8 @@ mod judge;
 #[cfg(test)]
 mod judge_boxes;
 #[cfg(test)]
+mod judge_completions;
+#[cfg(test)]
 mod mailbox;
 #[cfg(test)]
 mod meeting;

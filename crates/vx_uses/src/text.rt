@@ -24,7 +24,7 @@ fn numbers_and_quotes_have_one_spelling(rt: HostRuntime) -> Result<(), Fail> {
     print_num(&mut text, 18_446_744_073_709_551_615)
         .ok()
         .ok_or("memory")?;
-    print_quote(rt.alloc(), &mut text, b"A~ \"\\\n\xff")
+    print_quote(&mut text, b"A~ \"\\\n\xff")
         .ok()
         .ok_or("memory")?;
     assert_eq!(rt;

@@ -46,6 +46,9 @@ pub enum Report {
 /// The most records that a run may have.
 const MOST_RECORDS: u64 = 100_000;
 
+/// How many records a run of `sim` or `run` may have if the words do not say it.
+pub(crate) const USUAL_LIMIT: u64 = 10_000;
+
 /// The most producers that a generated system may have.
 const MOST_PRODUCERS: u64 = 200;
 
@@ -74,7 +77,7 @@ fn options_in(words: &[Bytes]) -> Option<Options>
     ensures within { IfSome result (λ options. options.limit ≤ 100000) }
 {
     let seed = Numbered::new(b"--seed".as_slice(), 0, u64::MAX, 0);
-    let limit = limit_option(10_000);
+    let limit = limit_option(USUAL_LIMIT);
     let (seed, limit) = numbers_in(&seed, &limit, words)?;
     Some(Options {
         seed,

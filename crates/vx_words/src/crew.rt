@@ -3,7 +3,7 @@
 ghost use Rattle.std.specs.Prelude.{◌≡◌, IfSome};
 ghost use Rattle.vx_words.specs.Crew as spec;
 
-use crate::command::limit_option;
+use crate::command::{USUAL_LIMIT, limit_option};
 use crate::options::{Numbered, numbers_in};
 use vx_base::Bytes;
 
@@ -19,7 +19,7 @@ fn crew_in(words: &[Bytes]) -> Option<Crew>
     ensures limited { IfSome result spec.IsCrew }
 {
     let cpus = Numbered::new(b"--cpus".as_slice(), 1, 16, 4);
-    let limit = limit_option(10_000);
+    let limit = limit_option(USUAL_LIMIT);
     let (cpus, limit) = numbers_in(&cpus, &limit, words)?;
     Some(Crew {
         cpus: cpus as u32,

@@ -3,7 +3,7 @@
 ghost use Rattle.std.specs.Prelude.{◌≡◌, ◌≤◌, IfErr, IfOk, IfSome, IsSome, Some};
 ghost use Rattle.vx_words.specs.Words as spec;
 
-use crate::command::limit_in;
+use crate::command::{USUAL_LIMIT, limit_in};
 use crate::places::{Places, places_in};
 use std::alloc::Global;
 use vx_base::{Bytes, NoMemory};
@@ -14,9 +14,6 @@ pub struct Picks {
     pub places: Places,
     pub limit: u32,
 }
-
-/// How many records a run may have if the words do not say it.
-const USUAL_LIMIT: u32 = 10_000;
 
 fn picks_of(alloc: Global, list: &[u8], limit: u32) -> Result<Option<Picks>, NoMemory>
     requires above { 1 ≤ limit }
@@ -53,7 +50,7 @@ pub fn picks_in(alloc: Global, words: &[Bytes]) -> Result<Option<Picks>, NoMemor
 {
     match words {
         [name, list] if name.as_slice() == b"--picks".as_slice() => {
-            picks_of(alloc, list.as_slice(), USUAL_LIMIT)
+            picks_of(alloc, list.as_slice(), USUAL_LIMIT as u32)
         }
         [first, list, second, number]
             if first.as_slice() == b"--picks".as_slice()

@@ -6,4 +6,4 @@ pub returns-then-len-lt-PIECE-clause-ok : goal.returns-then-len-lt-PIECE-clause-
 returns-then-len-lt-PIECE-clause-ok g c = kept refl
 
 pub returns-clause-ok : goal.returns-clause-ok
-returns-clause-ok g c = rw c.new.ensures (sent (rw c.as_slice.ensures at c.in_ok-write_all.ensures.ok))
+returns-clause-ok g c = rw c.truncate.ensures (sent (rw c.as_slice.ensures at c.in_ok-write_all.ensures.ok))

@@ -1,5 +1,5 @@
 use Rattle.vx_io.proofs.Freed.{cancellable, channel_cancelled, entries_after, entries_room, requests_room}
-use Rattle.vx_io.proofs.cancelling.cancel_asked.Goals as goal
+use Rattle.vx_io.proofs.cancelling.cancel_channel.Goals as goal
 
 pub cancel_requests-requires-clause-open : goal.cancel_requests-requires-clause-open
 cancel_requests-requires-clause-open g c = cancellable c.args.core.now.state c.requires.requests c.requires.entries

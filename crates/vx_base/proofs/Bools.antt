@@ -1,5 +1,5 @@
 -- Tests, and what is chosen by them.
-use Rattle.std.proofs.Common.{◌≡◌, Bool, true, false, cond, ◌&&◌, ◌||◌, refl, sym}
+use Rattle.std.proofs.Common.{◌≡◌, Bool, true, false, cond, not, ◌&&◌, ◌||◌, refl, sym}
 use Rattle.std.proofs.lemmas.Bool.{and_parts}
 
 pub by_bool : (P : Bool → Type 0) (b : Bool) → (b ≡ true → P true) → (b ≡ false → P false) → P b
@@ -12,6 +12,11 @@ same_bools false false f g = refl
 same_bools true false f g = sym (f refl)
 same_bools false true f g = g refl
 
+-- with the test's outcome
+pub either_by : {A : Type 0} (P : A → Type 0) (b : Bool) (x y : A) → (b ≡ true → P x) → (b ≡ false → P y) → P (cond b x y)
+either_by P true x y h k = h refl
+either_by P false x y h k = k refl
+
 pub either_same : {A : Type 0} (b : Bool) (x : A) → cond b x x ≡ x
 either_same true x = refl
 either_same false x = refl
@@ -19,6 +24,10 @@ either_same false x = refl
 pub and_true : (b : Bool) → (b && true) ≡ b
 and_true true = refl
 and_true false = refl
+
+pub and_false : (b : Bool) → (b && false) ≡ false
+and_false true = refl
+and_false false = refl
 
 pub or_true : (b : Bool) → (b || true) ≡ true
 or_true true = refl
@@ -30,3 +39,7 @@ or_false false = refl
 
 pub both_left : (a b : Bool) → (a && b) ≡ true → a ≡ true
 both_left a b h = (and_parts a b h).0
+
+pub not_twice : (b : Bool) → not (not b) ≡ b
+not_twice true = refl
+not_twice false = refl

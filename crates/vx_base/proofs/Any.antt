@@ -1,0 +1,33 @@
+-- Whether an item of a list passes a test.
+use Rattle.std.proofs.Common.{◌≡◌, List, [], ◌∷◌, ◌++◌, Bool, true, false, cond, ◌||◌, None, position, refl, sym, ◌∙◌, arith}
+use Rattle.std.specs.List.{find, list_any}
+use Rattle.std.proofs.lemmas.List.Folds.{list_any-append}
+use Rattle.vx_base.proofs.Bools.{by_bool}
+use Rattle.vx_base.proofs.First.{none_at}
+use Rattle.vx_base.specs.Lists.{less}
+
+-- none does, if none is found
+pub none_any : {A : Type 0} (p : A → Bool) (xs : List A) → find p xs ≡ None → list_any p xs ≡ false
+none_any p [] e = refl
+none_any p (y ∷ ys) e = let rest = none_any p ys in grind arith
+
+pub no_position : {A : Type 0} (p : A → Bool) (xs : List A) → position p xs ≡ None → list_any p xs ≡ false
+no_position p xs e = none_any p xs (sym (none_at p xs (sym e)).0)
+
+-- nor of those that are left when one is taken out
+pub none_less : {A : Type 0} (p q : A → Bool) (xs : List A) → list_any q xs ≡ false → list_any q (less p xs) ≡ false
+none_less p q [] h = refl
+none_less p q (x ∷ xs) h =
+    by_bool (λ (b : Bool). (b || list_any q xs) ≡ false → list_any q (cond (p x) xs (x ∷ less p xs)) ≡ false) (q x)
+    (λ t k. absurd (let never : true ≡ false = k in cc))
+    (λ f k. elim (p x) as (λ (c : Bool). list_any q (cond c xs (x ∷ less p xs)) ≡ false) [ true ↦ k | false ↦ rw f (none_less p q xs k) ]) h
+
+-- with one more item
+pub any_more : {A : Type 0} (q : A → Bool) (xs : List A) (y : A) → list_any q (xs ++ y ∷ []) ≡ cond (q y) true (list_any q xs)
+any_more q xs y = list_any-append q xs (y ∷ []) ∙ by_cases (list_any q xs) (q y)
+  where
+    by_cases : (a b : Bool) → (a || (b || false)) ≡ cond b true a
+    by_cases true true = refl
+    by_cases true false = refl
+    by_cases false true = refl
+    by_cases false false = refl
