@@ -1,7 +1,8 @@
 -- Whether an item of a list passes a test.
-use Rattle.std.proofs.Common.{◌≡◌, List, [], ◌∷◌, ◌++◌, Bool, true, false, cond, ◌||◌, None, position, refl, sym, ◌∙◌, arith}
-use Rattle.std.specs.List.{find, list_any}
-use Rattle.std.proofs.lemmas.List.Folds.{list_any-append}
+use Rattle.std.proofs.Common.{◌≡◌, List, [], ◌∷◌, ◌++◌, Bool, true, false, cond, ◌||◌, None, position, refl, sym, ◌∙◌, arith, Some, ◌&&◌, map, ap}
+use Rattle.std.specs.List.{find, list_any, list_all}
+use Rattle.std.proofs.lemmas.List.Folds.{list_any-append, list_all-append}
+use Rattle.std.proofs.lemmas.Bool.{and_parts, and_from}
 use Rattle.vx_base.proofs.Bools.{by_bool}
 use Rattle.vx_base.proofs.First.{none_at}
 use Rattle.vx_base.specs.Lists.{less}
@@ -10,6 +11,11 @@ use Rattle.vx_base.specs.Lists.{less}
 pub none_any : {A : Type 0} (p : A → Bool) (xs : List A) → find p xs ≡ None → list_any p xs ≡ false
 none_any p [] e = refl
 none_any p (y ∷ ys) e = let rest = none_any p ys in grind arith
+
+pub none_found : {A : Type 0} (p : A → Bool) (xs : List A) → list_any p xs ≡ false → find p xs ≡ None
+none_found p [] h = refl
+none_found p (x ∷ xs) h =
+    by_bool (λ (b : Bool). (b || list_any p xs) ≡ false → cond b (Some x) (find p xs) ≡ None) (p x) (λ t k. absurd (let never : true ≡ false = k in cc)) (λ f k. none_found p xs k) h
 
 pub no_position : {A : Type 0} (p : A → Bool) (xs : List A) → position p xs ≡ None → list_any p xs ≡ false
 no_position p xs e = none_any p xs (sym (none_at p xs (sym e)).0)
@@ -31,3 +37,20 @@ any_more q xs y = list_any-append q xs (y ∷ []) ∙ by_cases (list_any q xs) (
     by_cases true false = refl
     by_cases false true = refl
     by_cases false false = refl
+
+-- what all pass by one test they pass by a weaker one
+pub all_weaker : {A : Type 0} (p q : A → Bool) → ((x : A) → p x ≡ true → q x ≡ true) → (xs : List A) → list_all p xs ≡ true → list_all q xs ≡ true
+all_weaker p q k [] h = refl
+all_weaker p q k (x ∷ xs) h =
+    let parts = and_parts (p x) (list_all p xs) h in
+    and_from (q x) (list_all q xs) (k x parts.0) (all_weaker p q k xs parts.1)
+
+pub all_push : {A : Type 0} (p : A → Bool) (xs : List A) (x : A) → list_all p xs ≡ true → p x ≡ true → list_all p (xs ++ x ∷ []) ≡ true
+all_push p xs x h k = list_all-append p xs (x ∷ []) ∙ and_from (list_all p xs) (p x && true) h (and_from (p x) true k refl)
+
+pub any_map : {A B : Type 0} (p : B → Bool) (f : A → B) (xs : List A) → list_any p (map f xs) ≡ list_any (λ x. p (f x)) xs
+any_map p f [] = refl
+any_map p f (x ∷ xs) = ap (λ t. p (f x) || t) (any_map p f xs)
+
+pub both_pass : {A : Type 0} (p : A → Bool) (xs ys : List A) → list_all p xs ≡ true → list_all p ys ≡ true → list_all p (xs ++ ys) ≡ true
+both_pass p xs ys h k = list_all-append p xs ys ∙ rw (h, k) refl

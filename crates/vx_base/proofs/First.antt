@@ -1,7 +1,9 @@
 -- The first item that passes a test: found, taken out and changed.
-use Rattle.std.proofs.Common.{◌≡◌, ℕ, ◌+◌, ◌<◌, ◌≤◌, List, [], ◌∷◌, Bool, true, false, cond, not, Some, None, length, remove, position, slice_index_or, slice_set, refl, ap, sym, ◌∙◌, arith, suc, nat_lt}
-use Rattle.std.specs.List.{find, position_or_len}
+use Rattle.std.proofs.Common.{◌≡◌, ℕ, ◌+◌, ◌<◌, ◌≤◌, List, [], ◌∷◌, Bool, true, false, cond, not, Some, None, length, remove, position, slice_index_or, slice_set, refl, ap, sym, ◌∙◌, arith, suc, nat_lt, map}
+use Rattle.std.specs.List.{find, position_or_len, AllByRecursion}
 use Rattle.std.proofs.lemmas.Bool.{ltb-true, ltb-false}
+use Rattle.std.proofs.lemmas.Option.{cond_some, same_Some}
+use Rattle.std.proofs.lemmas.List.{length-map}
 use Rattle.vx_base.specs.Lists.{less, amend}
 
 -- a step past an item that does not pass
@@ -42,23 +44,19 @@ none_first p (x ∷ xs) h =
     ] h
 
 -- what a place that was looked for tells
-some_place : (b : Bool) (n i : ℕ) → Some i ≡ cond b (Some n) None → (b ≡ true) × (i ≡ n)
-some_place true n i e = (refl, cc)
-some_place false n i e = absurd (cc)
-
 pub none_place : (b : Bool) (n : ℕ) → None ≡ cond b (Some n) None → b ≡ false
 none_place true n e = absurd (cc)
 none_place false n e = refl
 
 pub found_at : {X : Type 0} (p : X → Bool) (xs : List X) (i : ℕ) (r : X) → Some i ≡ position p xs → r ≡ slice_index_or xs i r → Some r ≡ find p xs
 found_at p xs i r place is =
-    let there = some_place (nat_lt (position_or_len p xs) (length xs)) (position_or_len p xs) i place in
-    found_first p xs r (ltb-true _ _ there.0) (is ∙ ap (λ n. slice_index_or xs n r) there.1)
+    let there = cond_some (nat_lt (position_or_len p xs) (length xs)) (position_or_len p xs) i (sym place) in
+    found_first p xs r (ltb-true _ _ there.0) (is ∙ ap (λ n. slice_index_or xs n r) (sym there.1))
 
 pub less_at : {X : Type 0} (p : X → Bool) (xs : List X) (i : ℕ) → Some i ≡ position p xs → remove xs i ≡ less p xs
 less_at p xs i place =
-    let there = some_place (nat_lt (position_or_len p xs) (length xs)) (position_or_len p xs) i place in
-    ap (remove xs) there.1 ∙ remove_first p xs (ltb-true _ _ there.0)
+    let there = cond_some (nat_lt (position_or_len p xs) (length xs)) (position_or_len p xs) i (sym place) in
+    ap (remove xs) (sym there.1) ∙ remove_first p xs (ltb-true _ _ there.0)
 
 pub none_at : {X : Type 0} (p : X → Bool) (xs : List X) → None ≡ position p xs → (None ≡ find p xs) × (xs ≡ less p xs)
 none_at p xs place = none_first p xs (ltb-false _ _ (none_place (nat_lt (position_or_len p xs) (length xs)) (position_or_len p xs) place))
@@ -97,8 +95,8 @@ amend_first p g (x ∷ xs) d y h e =
 -- the first that passes changed at its place
 pub amend_at : {X : Type 0} (p : X → Bool) (g : X → X) (xs : List X) (i : ℕ) (d y : X) → Some i ≡ position p xs → y ≡ g (slice_index_or xs i d) → slice_set xs i y ≡ amend p g xs
 amend_at p g xs i d y place is =
-    let there = some_place (nat_lt (position_or_len p xs) (length xs)) (position_or_len p xs) i place in
-    ap (λ n. slice_set xs n y) there.1 ∙ amend_first p g xs d y (ltb-true _ _ there.0) (is ∙ ap (λ n. g (slice_index_or xs n d)) there.1)
+    let there = cond_some (nat_lt (position_or_len p xs) (length xs)) (position_or_len p xs) i (sym place) in
+    ap (λ n. slice_set xs n y) (sym there.1) ∙ amend_first p g xs d y (ltb-true _ _ there.0) (is ∙ ap (λ n. g (slice_index_or xs n d)) (sym there.1))
 
 pub amend_nowhere : {X : Type 0} (p : X → Bool) (g : X → X) (xs : List X) → None ≡ find p xs → xs ≡ amend p g xs
 amend_nowhere p g [] e = refl
@@ -120,3 +118,20 @@ amend_same p g (y ∷ ys) x e same =
       | true ↦ λ found. let is : g y ≡ y = cc in ap (λ z. z ∷ ys) (sym is)
       | false ↦ λ found. ap (λ zs. y ∷ zs) (amend_same p g ys x found same)
     ] e
+
+pub amend_found : {A : Type 0} (P : A → Type 0) (p : A → Bool) (f : A → A) (xs : List A) (y : A) → find p xs ≡ Some y → P (f y) → AllByRecursion P xs → AllByRecursion P (amend p f xs)
+amend_found P p f [] y e k h = tt
+amend_found {A} P p f (x ∷ xs) y e k h = at (p x) e (λ g. amend_found P p f xs y g k h.1)
+  where
+    at : (b : Bool) → cond b (Some x) (find p xs) ≡ Some y → (find p xs ≡ Some y → AllByRecursion P (amend p f xs)) → AllByRecursion P (cond b (f x ∷ xs) (x ∷ amend p f xs))
+    at true g m = (rw (same_Some x y g) k, h.1)
+    at false g m = (h.0, m g)
+
+-- a place is read off what is made of each
+
+first_map : {A B : Type 0} (p : B → Bool) (f : A → B) (xs : List A) → position_or_len p (map f xs) ≡ position_or_len (λ x. p (f x)) xs
+first_map p f [] = refl
+first_map p f (x ∷ xs) = ap (λ n. cond (not (p (f x))) (1 + n) 0) (first_map p f xs)
+
+pub place_map : {A B : Type 0} (p : B → Bool) (f : A → B) (xs : List A) → position (λ x. p (f x)) xs ≡ position p (map f xs)
+place_map p f xs = rw (first_map p f xs, length-map xs f) refl

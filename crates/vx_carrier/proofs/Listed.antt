@@ -18,15 +18,6 @@ amended_found {A} p f (x ∷ xs) y e k = at (p x) refl e (λ g. amended_found p 
     at true t g m = rw (same_Some x y g) (rw k refl)
     at false t g m = rw t (m g)
 
--- what holds of all, and of what is found and changed, holds of all then
-pub amended_holds : {A : Type 0} (P : A → Type 0) (p : A → Bool) (f : A → A) (xs : List A) (y : A) → find p xs ≡ Some y → P (f y) → AllByRecursion P xs → AllByRecursion P (amend p f xs)
-amended_holds {A} P p f [] y e k h = tt
-amended_holds {A} P p f (x ∷ xs) y e k h = at (p x) e (λ g. amended_holds P p f xs y g k h.1)
-  where
-    at : (b : Bool) → cond b (Some x) (find p xs) ≡ Some y → (find p xs ≡ Some y → AllByRecursion P (amend p f xs)) → AllByRecursion P (cond b (f x ∷ xs) (x ∷ amend p f xs))
-    at true g m = (rw (same_Some x y g) k, h.1)
-    at false g m = (h.0, m g)
-
 -- where nothing passes, what is changed so that it passes is found
 pub amended_first : {A : Type 0} (q p : A → Bool) (f : A → A) (xs : List A) (y : A) → find p xs ≡ Some y → q (f y) ≡ true → AllByRecursion (λ x. q x ≡ false) xs → find q (amend p f xs) ≡ Some (f y)
 amended_first {A} q p f [] y e k h = absurd (let never : None ≡ Some y = e in cc)

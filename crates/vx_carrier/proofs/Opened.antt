@@ -1,6 +1,7 @@
 -- What a turn leaves at the desk.
 use Rattle.std.proofs.Common.{◌≡◌, ◌≢◌, ℕ, ◌+◌, ◌≤◌, List, [], ◌∷◌, ◌++◌, Bool, true, false, ◌==◌, Option, Some, None, Result, Ok, Err, is_err, OnOk, Contains, IsSome, is_some, OnSome, IfSome, IfNone, option_map, length, length-append, length-set, slice_index_or, slice_set, get_or-set_other, get_or-set_same, ◌<◌, not, append-nil, refl, sym, ap, ◌∙◌, subst, arith}
 use Rattle.std.proofs.lemmas.Bool.{eqb-true, eq-eqb}
+use Rattle.vx_exec.proofs.Cancels.{tally_length}
 use Rattle.vx_base.specs.Pieces.{Request}
 use Rattle.vx_base.specs.Queues.{front, in_service}
 use Rattle.vx_base.specs.declared.number.UnitNo.{UnitNo}
@@ -20,7 +21,7 @@ use Rattle.vx_carrier.specs.Desk.{AreOut, Desk, HasRun, IsGoing, IsKept, advance
 use Rattle.vx_carrier.specs.Turns.{HandsOut, Opens, Takes}
 use Rattle.vx_carrier.specs.declared.turn.Turn.{Turn}
 use Rattle.vx_carrier.specs.declared.turn.Turn.TheVariants.{Took, Nothing, Stale, Ended, NoMemory}
-use Rattle.vx_carrier.proofs.Running.{desk_base, end_is, home_set, open_enabled, open_no_don, run_advanced, tally_most}
+use Rattle.vx_carrier.proofs.Running.{desk_base, end_is, home_set, open_enabled, open_no_don, run_advanced}
 use Rattle.vx_carrier.proofs.Still.{BeginsNone, begun_serves, serves_before}
 use Rattle.vx_record.proofs.Fixed.{step_keeps_count, step_keeps_unit}
 use Rattle.vx_record.proofs.Allowed.{enabled_there}
@@ -145,7 +146,7 @@ kept_opened plan d e capacity room h going f space =
     let c = open_enabled s e f in
     let parts = opened_parts d e in
     let count = stands_count d e in
-    let most = tally_most (opened d e).leasing.stands in
+    let most = tally_length is_out (opened d e).leasing.stands in
     let more = ap (λ (xs : List Rec). length xs) parts.0 ∙ length-append d.recs (record_of s e ∷ []) in
     record {
       run = opened_run plan d e (run_advanced plan d e h.run h.few going c);

@@ -20,7 +20,6 @@ use Rattle.vx_exec.proofs.Enabled.{unit_iff}
 use Rattle.vx_exec.proofs.Runs.{after_more, going_below, steps_more}
 use Rattle.vx_carrier.specs.Desk.{Desk, HasRun, IsGoing, advanced}
 use Rattle.vx_carrier.specs.Turns.{end}
-use Rattle.vx_procs.proofs.Booked.{one_few}
 use Rattle.vx_base.proofs.First.{found_passes}
 
 -- Events that are enabled.
@@ -95,10 +94,6 @@ home_set ks u = at ks u.0
     at [] i = refl
     at (x ∷ xs) zero = refl
     at (x ∷ xs) (suc i) = at xs i
-
-pub tally_most : (ks : List Stand) → tally is_out ks ≤ length ks
-tally_most [] = omega arith
-tally_most (k ∷ ks) = let a = tally_most ks in let b = one_few (is_out k) in omega (arith, a, b)
 
 -- one that is out no more
 pub tally_less : (ks : List Stand) (i : ℕ) (k : Stand) → is_out k ≡ false → tally is_out (slice_set ks i k) ≤ tally is_out ks

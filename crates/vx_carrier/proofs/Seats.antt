@@ -1,5 +1,6 @@
 -- What a seat knows after a turn.
 use Rattle.std.proofs.Common.{◌≡◌, ℕ, List, [], ◌∷◌, ◌++◌, append_assoc, append-nil, length, Option, Some, None, refl, sym, ap, ◌∙◌, subst}
+use Rattle.std.proofs.lemmas.List.{append_cancel_left}
 use Rattle.vx_base.specs.declared.record.Event.{Event}
 use Rattle.vx_base.specs.declared.record.Event.TheVariants as event
 use Rattle.vx_base.specs.declared.record.Rec.{Rec}
@@ -14,18 +15,9 @@ use Rattle.vx_carrier.specs.Turns.{AtEnd, Gives, HandsOut, IsLeaseAt, SawBeg, Sa
 use Rattle.vx_carrier.specs.declared.turn.Turn.{Turn}
 use Rattle.vx_carrier.specs.declared.turn.Turn.TheVariants.{Took, Nothing, Stale, Ended, NoMemory}
 
-behind : Rec → List Rec → List Rec
-behind r [] = []
-behind r (x ∷ xs) = xs
-
-cancelled : (xs ys zs : List Rec) → xs ++ ys ≡ xs ++ zs → ys ≡ zs
-unfolding behind
-cancelled [] ys zs e = e
-cancelled (x ∷ xs) ys zs e = cancelled xs ys zs (ap (behind x) e)
-
 saw : (plan : Plan) (v u w : View Rec) (found more after_it : List Rec) → IsRun plan.system found → u.seen ≡ found → StartsWith found v.seen → Keeps v u → after_it ≡ found ++ more → Adds u w after_it → SeatSaw plan v found more w
 saw plan v u w found more after_it run seen later keeps grew adds =
-    let same : adds.more ≡ more = cancelled found adds.more more (sym (adds.log_is ∙ ap (λ (xs : List Rec). xs ++ adds.more) seen) ∙ grew) in
+    let same : adds.more ≡ more = append_cancel_left found adds.more more (sym (adds.log_is ∙ ap (λ (xs : List Rec). xs ++ adds.more) seen) ∙ grew) in
     record {
       run = run;
       later = later;

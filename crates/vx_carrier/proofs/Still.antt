@@ -1,7 +1,7 @@
 -- A unit holds what it held at a BEG, and the request is the one that was taken up, for as long as that request is outstanding.
-use Rattle.std.proofs.Common.{◌≡◌, ◌≢◌, ◌⊎◌, inl, inr, ℕ, ◌+◌, ◌≤◌, List, [], ◌∷◌, Bool, true, false, cond, ◌==◌, ◌&&◌, not, Option, Some, None, is_some, option_map, refl, sym, ap, ◌∙◌, subst, arith}
+use Rattle.std.proofs.Common.{◌≡◌, ◌≢◌, ◌⊎◌, inl, inr, ℕ, ◌+◌, ◌≤◌, List, [], ◌∷◌, Bool, true, false, cond, ◌==◌, not, Option, Some, None, is_some, option_map, refl, sym, ap, ◌∙◌, subst, arith}
 use Rattle.std.specs.List.{AllByRecursion, find, list_any}
-use Rattle.std.proofs.lemmas.Bool.{and_parts, eq-eqb, eqb-true, false_from_ne_true}
+use Rattle.std.proofs.lemmas.Bool.{and_parts, eq-eqb, eqb-true, false_from_ne_true, and_right}
 use Rattle.vx_base.specs.Lists.{less}
 use Rattle.vx_base.specs.Pieces.{DeviceUnit, Queued, Request}
 use Rattle.vx_base.specs.Queues.{front, in_service, is_on, is_served_by, is_unit, waits_for}
@@ -30,9 +30,9 @@ use Rattle.vx_record.proofs.Moves.{HasRequest}
 use Rattle.vx_record.proofs.Steps.{IsThere, is_headed}
 use Rattle.vx_record.proofs.Told.{started_moves, step_moves}
 use Rattle.vx_carrier.proofs.Lasting.{HoldOfAll, Lasts, moves_hold}
-use Rattle.vx_carrier.proofs.Listed.{amended_first, amended_found, amended_holds, not_found}
+use Rattle.vx_carrier.proofs.Listed.{amended_first, amended_found, not_found}
 use Rattle.vx_record.proofs.Fixed.{Spares, step_keeps_unit}
-use Rattle.vx_base.proofs.First.{found_passes}
+use Rattle.vx_base.proofs.First.{found_passes, amend_found}
 use Rattle.std.proofs.lemmas.Option.{same_Some}
 
 -- What lasts, along an event that is no BEG.
@@ -80,7 +80,7 @@ beg_holds n P s v b k h = at (front v s.requests) refl
         let has = front_has s v r b e in
         record {
           above = h.above;
-          all = amended_holds P (this_request r.req.id) taken_up s.requests r has (k r e (all_find P (this_request r.req.id) s.requests r h.all has)) h.all;
+          all = amend_found P (this_request r.req.id) taken_up s.requests r has (k r e (all_find P (this_request r.req.id) s.requests r h.all has)) h.all;
         }
 
 -- Which unit a request is on.
@@ -96,11 +96,7 @@ waits_on : (u : UnitNo) (r : Request) → waits_for u r ≡ true → is_on u r �
 waits_on u r e = (and_parts (is_on u r) (not r.served) e).0
 
 unserved : (u : UnitNo) (r : Request) → r.served ≡ false → is_served_by u r ≡ false
-unserved u r f = at (is_on u r) r.served f
-  where
-    at : (a b : Bool) → b ≡ false → (a && b) ≡ false
-    at true b e = e
-    at false b e = refl
+unserved u r f = and_right (is_on u r) r.served f
 
 -- No service of a unit begins but by its BEG.
 
@@ -298,7 +294,7 @@ begun_at s u r b e =
     let found : find (this_request r.req.id) t.requests ≡ Some (taken_up r) = amended_found (this_request r.req.id) taken_up s.requests r has (eq-eqb r.req.id.0 r.req.id.0 refl) in
     let idle : AllByRecursion (λ x. is_served_by u x ≡ false) s.requests = none_found (is_served_by u) s.requests (idle_unit f.0) in
     let alone : AllByRecursion (λ x. is_served_by u x ≡ true → request_id x ≡ r.req.id.0) t.requests =
-    amended_holds (λ x. is_served_by u x ≡ true → request_id x ≡ r.req.id.0) (this_request r.req.id) taken_up s.requests r has (λ on. refl)
+    amend_found (λ x. is_served_by u x ≡ true → request_id x ≡ r.req.id.0) (this_request r.req.id) taken_up s.requests r has (λ on. refl)
     (all_weaker (λ x. is_served_by u x ≡ false) (λ x. is_served_by u x ≡ true → request_id x ≡ r.req.id.0) (λ x off on. absurd (let never : true ≡ false = sym on ∙ off in cc)) s.requests idle) in
     let only : AllByRecursion (IsOnly u r.req) t.requests =
     all_weaker (λ x. HasRequest t x × (is_served_by u x ≡ true → request_id x ≡ r.req.id.0)) (IsOnly u r.req)

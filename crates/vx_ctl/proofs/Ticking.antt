@@ -2,6 +2,7 @@
 use Rattle.std.proofs.Common.{◌≡◌, ℕ, ◌+◌, ◌<◌, ◌≤◌, ◌-◌, List, [], ◌∷◌, ◌++◌, Bool, true, false, cond, ◌==◌, length, length-set, Option, Some, None, is_some, refl, ap, sym, subst, ◌∙◌, arith}
 use Rattle.std.specs.List.{AllByRecursion, filter, find}
 use Rattle.std.proofs.lemmas.Bool.{eqb-false, leb-true, false_from_ne_true}
+use Rattle.vx_base.proofs.Lists.{not_some}
 use Rattle.vx_base.specs.Lists.{amend, less}
 use Rattle.vx_base.specs.Pieces.{Queued, Timer, Alarm, OfTimer, OfWake}
 use Rattle.vx_base.specs.declared.effects.Cell.{Cell}
@@ -180,10 +181,6 @@ found_some : (o : Option Timer) → true ≡ is_some o → (t : Timer) × (o ≡
 found_some None e = absurd (cc)
 found_some (Some t) e = (t, refl)
 
-found_none : (o : Option Timer) → false ≡ is_some o → o ≡ None
-found_none None e = refl
-found_none (Some t) e = absurd (cc)
-
 firing_at : (s : State) (now : ℕ) (o : Option Timer) → find (is_due now) s.timers ≡ o → firing s now ≡ fired_first s now o
 firing_at s now o found = ap (fired_first s now) found
 
@@ -215,7 +212,7 @@ firing_fewer now first k l some h did =
 
 pub firing_end : (now : ℕ) (first k l : Kernel) → false ≡ is_some (find (is_due now) k.state.timers) → IsFiring now first k → Acts (firing k.state now) k l → Acts (due_part now first.state) first l
 firing_end now first k l none h did =
-    let at = found_none (find (is_due now) k.state.timers) none in
+    let at = not_some (find (is_due now) k.state.timers) (sym none) in
     doing_end (due_part now first.state) first k l (due_part now k.state) (fired_none k.state now at) (did ∙ (ap (acted k) (firing_at k.state now None at) ∙ sym (told_none k))) h.doing
 
 -- processes are there still when a wake is off

@@ -4,8 +4,9 @@ use Rattle.std.proofs.Math.ListN.{drop_of_length-le}
 use Rattle.std.proofs.Math.Nat.{add-zero}
 use Rattle.std.proofs.lemmas.Bool.{cases_lt}
 use Rattle.std.proofs.lemmas.Grind.{div_ceil_times}
-use Rattle.std.proofs.lemmas.List.{append_assoc, drop_more, drop-drop, length-take-le, take-append-drop}
+use Rattle.std.proofs.lemmas.List.{append_assoc, drop_more, drop-drop, length-take-le, take-append-drop, nil_from_length}
 use Rattle.std.specs.List.{AllByRecursion, find}
+use Rattle.vx_base.proofs.Lists.{get_front}
 use Rattle.vx_base.specs.declared.number.Pid.{Pid}
 use Rattle.vx_base.specs.declared.record.Event.{Event}
 use Rattle.vx_record.specs.State.{Process, State, IsProcess, nobody, pid}
@@ -15,7 +16,7 @@ use Rattle.vx_procs.specs.Own.{block_of}
 use Rattle.vx_exec.specs.Blocks.{events_from, events_in}
 use Rattle.vx_exec.specs.Leases.{is_open}
 use Rattle.vx_exec.specs.Sound.{IsWhole}
-use Rattle.vx_exec.proofs.Enabled.{empty_of, some_here}
+use Rattle.vx_exec.proofs.Enabled.{some_here}
 
 -- How many blocks there are, and how long one is.
 
@@ -127,11 +128,6 @@ seek_end s b place i left past so_far = omega (arith, so_far.passed, ap (λ (es 
 
 -- One block further, with the events of units and of time behind.
 
-get_left : (xs ys : List Event) (i : ℕ) (e : Event) → slice_get xs i ≡ Some e → slice_get (xs ++ ys) i ≡ Some e
-get_left [] ys i e is = absurd (cc)
-get_left (x ∷ xs) ys zero e is = is
-get_left (x ∷ xs) ys (suc i) e is = get_left xs ys i e is
-
 abbrev pub from_block : State → ℕ → List Event → List Event
 from_block s b ys = events_from s b ++ ys
 
@@ -142,7 +138,7 @@ from_end : (s : State) (b : ℕ) (ys : List Event) → length s.procs ≤ 32 * b
 from_end s b ys past = ap (λ (es : List Event). es ++ ys) (past_blocks s b past)
 
 pub block_has : (s : State) (b : ℕ) (ys : List Event) (left : ℕ) (e : Event) (found : Option Event) → slice_get (events_in s b) left ≡ Some e → slice_get (from_block s b ys) left ≡ found → Some e ≡ found
-block_has s b ys left e found has so_far = sym (get_left (events_in s b) (from_block s (b + 1) ys) left e has) ∙ (ap (λ (es : List Event). slice_get es left) (sym (from_now s b ys)) ∙ so_far)
+block_has s b ys left e found has so_far = sym (get_front (events_in s b) (from_block s (b + 1) ys) left e has) ∙ (ap (λ (es : List Event). slice_get es left) (sym (from_now s b ys)) ∙ so_far)
 
 pub block_passed : (s : State) (b : ℕ) (ys : List Event) (left behind : ℕ) (found : Option Event) → left ≡ length (events_in s b) + behind → slice_get (from_block s b ys) left ≡ found → slice_get (from_block s (b + 1) ys) behind ≡ found
 block_passed s b ys left behind found is so_far = sym (get_right (events_in s b) (from_block s (b + 1) ys) left behind is) ∙ (ap (λ (es : List Event). slice_get es left) (sym (from_now s b ys)) ∙ so_far)
@@ -167,7 +163,7 @@ pub block_opens : (s : State) (b : ℕ) (ys : List Event) (e : Event) (found : O
 block_opens s b ys e found has so_far = sym (first_opens (events_in s b) (from_block s (b + 1) ys) e (opens_from s (32 * b + 1) (block_of b s.procs)) has) ∙ (ap (find is_open) (sym (from_now s b ys)) ∙ so_far)
 
 pub block_closed : (s : State) (b : ℕ) (ys : List Event) (behind : ℕ) (found : Option Event) → 0 ≡ length (events_in s b) + behind → find is_open (from_block s b ys) ≡ found → find is_open (from_block s (b + 1) ys) ≡ found
-block_closed s b ys behind found is so_far = grind (arith, empty_of, from_now)
+block_closed s b ys behind found is so_far = grind (arith, nil_from_length, from_now)
 
 pub blocks_closed : (s : State) (b : ℕ) (ys : List Event) (found : Option Event) → length s.procs ≤ 32 * b → find is_open (from_block s b ys) ≡ found → find is_open ys ≡ found
 blocks_closed s b ys found past so_far = ap (find is_open) (sym (from_end s b ys past)) ∙ so_far

@@ -62,7 +62,7 @@ on_falls p s chan =
     let b : Falls p 0 (length xs) t (each drop_attention xs t) = each_falls p 0 1 drop_attention (drop_falls p) xs t (omega arith) (omega arith) in
     falls_more (length rs + 0) _ (6 * length rs + length xs) _ (omega (arith, few)) (omega (arith, few, fewer, none_more)) (falls_then (length rs) 0 (6 * length rs) (length xs) a b)
 
-tally_length : {A : Type 0} (test : A → Bool) (xs : List A) → tally test xs ≤ length xs
+pub tally_length : {A : Type 0} (test : A → Bool) (xs : List A) → tally test xs ≤ length xs
 tally_length test [] = omega arith
 tally_length test (x ∷ xs) = let rest = tally_length test xs in grind arith
 

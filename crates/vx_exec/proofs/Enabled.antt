@@ -183,10 +183,6 @@ pick_there x (e ∷ es) some = get_some (e ∷ es) (picked (next_seed x) (length
 
 -- Counting events, and looking for the one at a place.
 
-pub empty_of : (es : List Event) → length es ≡ 0 → es ≡ []
-empty_of [] none = refl
-empty_of (e ∷ es) none = absurd (omega (arith, none))
-
 pub count_step : (now here later : List Event) (count n all : ℕ) → now ≡ here ++ later → n ≡ length here → count + length now ≡ all → count + n + length later ≡ all
 count_step now here later count n all split is so_far = omega (arith, ap (λ (es : List Event). length es) split, length-append here later, is, so_far)
 

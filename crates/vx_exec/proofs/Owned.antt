@@ -1,6 +1,7 @@
 -- What a process alone tells of its event is what the machine has of it.
 use Rattle.std.proofs.Common.{◌≡◌, ℕ, zero, suc, ◌+◌, ◌*◌, ◌<◌, List, [], ◌∷◌, length, length-append, length-drop, drop, take, nat_lt, is_some, Option, Some, None, Bool, true, false, if◌then◌else◌, refl, sym, ap, subst, ◌∙◌, arith}
 use Rattle.std.specs.List.{AllByRecursion}
+use Rattle.std.proofs.lemmas.List.{nil_from_length}
 use Rattle.vx_base.specs.Flags.{one}
 use Rattle.vx_base.specs.Lists.{tally}
 use Rattle.vx_base.specs.declared.effects.Cell.{Cell}
@@ -14,7 +15,7 @@ use Rattle.vx_record.specs.Events.{can_run, can_run_down, is_satisfied, process_
 use Rattle.vx_record.specs.Flags.{cell, wait_condition, where_named}
 use Rattle.vx_procs.specs.Own.{AreOwn, block_of, has_own, is_own, own_event, own_run, own_wait, own_wait_if}
 use Rattle.vx_exec.specs.Blocks.{events_in}
-use Rattle.vx_exec.proofs.Enabled.{empty_of, procs_step}
+use Rattle.vx_exec.proofs.Enabled.{procs_step}
 
 -- One process.
 
@@ -41,7 +42,7 @@ one_known s p e = sym (own_told s p true e)
 
 -- known to have none
 pub none_known : (s : State) (p : Pid) → own_event (process_at s p) ≡ Some false → [] ≡ process_events s p
-none_known s p e = sym (empty_of (process_events s p) (own_told s p false e))
+none_known s p e = sym (nil_from_length (process_events s p) (own_told s p false e))
 
 -- Those of a block.
 

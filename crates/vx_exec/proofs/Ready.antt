@@ -1,8 +1,7 @@
 -- What an event relies on, once room was made; and what the executive keeps.
-use Rattle.std.proofs.Common.{◌≡◌, ℕ, ◌+◌, ◌<◌, ◌≤◌, List, [], ◌∷◌, Bool, true, ◌&&◌, nat_lt, nat_le, length, map, Some, None, IsTrue, Contains, refl, sym, subst, arith}
+use Rattle.std.proofs.Common.{◌≡◌, ℕ, ◌+◌, ◌<◌, ◌≤◌, List, [], ◌∷◌, true, ◌&&◌, nat_lt, nat_le, length, map, Some, IsTrue, Contains, refl, sym, subst, arith}
 use Rattle.std.specs.List.{AllByRecursion}
 use Rattle.std.proofs.lemmas.Bool.{and_parts, leb-true, ltb-true}
-use Rattle.std.proofs.lemmas.Bool.Decides.{nat_tests}
 use Rattle.vx_base.specs.Pieces.{DeviceUnit}
 use Rattle.vx_base.specs.Queues.{front, in_service}
 use Rattle.vx_base.specs.declared.number.Pid.{Pid}
@@ -16,7 +15,7 @@ use Rattle.vx_image.specs.declared.system.System.{System}
 use Rattle.vx_image.specs.declared.unit.UnitDecl.{UnitDecl}
 use Rattle.vx_record.specs.Asts.{deliverable_ast}
 use Rattle.vx_record.specs.Events.{enabled, step}
-use Rattle.vx_record.specs.Runs.{are_deleted, born_from, end_of, end_with, first}
+use Rattle.vx_record.specs.Runs.{born_from, first}
 use Rattle.vx_record.specs.State.{State, IsProcess, decl_of, image_of, process_at, no_image, no_decl, no_unit}
 use Rattle.vx_record.proofs.Changes.{stands_at}
 use Rattle.vx_record.proofs.Lists.{all_at, all_get}
@@ -115,14 +114,6 @@ going_after k t e limit taken going begun there below leaves =
       within = omega arith;
       limited = going.limited;
     })
-
--- while a run goes on, the limit is not reached
-goes_below : (limit taken : ℕ) (deleted : Bool) (es : List Event) → end_with limit taken deleted es ≡ None → taken < limit
-goes_below limit taken deleted [] h = absurd (cc)
-goes_below limit taken deleted (e ∷ es) h = grind (arith, nat_tests, h)
-
-pub below_limit : (limit taken : ℕ) (s : State) → end_of limit taken s ≡ None → taken < limit
-below_limit limit taken s h = goes_below limit taken (are_deleted s) (enabled s) h
 
 -- At first.
 

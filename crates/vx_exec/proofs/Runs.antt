@@ -35,6 +35,7 @@ picked_there x (f ∷ es) e is =
     let within : i < length (f ∷ es) = omega arith in
     (i, within, any_default (f ∷ es) i e f within ∙ sym same)
 
+-- while a run goes on, the limit is not reached
 goes_below : (limit taken : ℕ) (deleted : Bool) (es : List Event) → None ≡ end_with limit taken deleted es → taken < limit
 goes_below limit taken deleted [] h = absurd (cc)
 goes_below limit taken deleted (e ∷ es) h = grind (arith, nat_tests, h)

@@ -117,9 +117,6 @@ last_of-push d e (suc n) ds within =
     ap (λ k. cond (eqb k d) (Some n) (last_of d (ds ++ e ∷ []) n)) (get_or_append_left ds (e ∷ []) 0 n (omega arith))
     ∙ ap (λ o. cond (eqb (get_or ds n 0) d) (Some n) o) (last_of-push d e n ds (omega arith))
 
-get_or-push-below : {X : Type 0} (xs : List X) (y d : X) (i : ℕ) → i < length xs → get_or (xs ++ y ∷ []) i d ≡ get_or xs i d
-get_or-push-below xs y d i within = get_or_append_left xs (y ∷ []) d i within
-
 pub IsIndex-push : (ds : List ℕ) (older : List (Option ℕ)) (latest latest' : ℕ → Option ℕ) (d : ℕ) (before : Option ℕ) → IsIndex ds older latest
     → before ≡ latest d → ((k : ℕ) → latest' k ≡ cond (eqb d k) (Some (length ds)) (latest k))
     → IsIndex (ds ++ d ∷ []) (older ++ before ∷ []) latest'
@@ -141,8 +138,8 @@ IsIndex-push ds older latest latest' d before index is_before updates = record {
           | inr other ↦
               let below : i < length ds = omega arith in
               let inside : i < length older = omega (arith, index.len) in
-              get_or-push-below older before None i inside ∙ index.behind i below
-              ∙ sym (ap (λ k. last_of k (ds ++ d ∷ []) i) (get_or-push-below ds d 0 i below) ∙ last_of-push (get_or ds i 0) d i ds (omega arith))
+              get_or_append_left older (before ∷ []) None i inside ∙ index.behind i below
+              ∙ sym (ap (λ k. last_of k (ds ++ d ∷ []) i) (get_or_append_left ds (d ∷ []) 0 i below) ∙ last_of-push (get_or ds i 0) d i ds (omega arith))
         ]
 
     last_at : (k : ℕ) → latest' k ≡ last_of k (ds ++ d ∷ []) (length (ds ++ d ∷ []))
@@ -178,11 +175,11 @@ different-push ss s apart new i j d below within =
     elim (cases_eq j (length ss)) [
       | inl at_end ↦
           let under : i < length ss = omega arith in
-          λ same. new i d under (sym (get_or-push-below ss s d i under) ∙ same ∙ get_or_push ss s d j (sym at_end))
+          λ same. new i d under (sym (get_or_append_left ss (s ∷ []) d i under) ∙ same ∙ get_or_push ss s d j (sym at_end))
       | inr other ↦
           let under : j < length ss = omega arith in
           let lower : i < length ss = omega arith in
-          λ same. apart i j d below under (sym (get_or-push-below ss s d i lower) ∙ same ∙ get_or-push-below ss s d j under)
+          λ same. apart i j d below under (sym (get_or_append_left ss (s ∷ []) d i lower) ∙ same ∙ get_or_append_left ss (s ∷ []) d j under)
     ]
 
 pub whats-different : {S : Type 0} (xs : List (Found S)) (x : Found S) → AllPairs (λ a b. a ≢ b) (whats xs)

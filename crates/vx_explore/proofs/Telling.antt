@@ -1,4 +1,5 @@
 -- What the rows of a summary are (`Tells`). It determines them, and each change of the code keeps it.
+use mathlib.Core.Bool.{and-true}
 use Rattle.std.proofs.Common.{◌≡◌, ℕ, zero, suc, ◌+◌, ◌*◌, ◌<◌, ◌≤◌, min, List, [], ◌∷◌, ◌++◌, length, get_or, set, Bool, true, false, cond, not, Option, Some, None, refl, sym, ap, ◌∙◌, arith}
 use Rattle.std.specs.Prelude.{◌||◌, ◌&&◌, map, count_by}
 use Rattle.std.specs.List.{list_any}
@@ -252,11 +253,7 @@ module _ {E : Type 0} (same : E → E → Bool) where
 
       pub Tells-told : (rs : List (Run S)) → Tells same 18446744073709551615 (summary ending_of same rs) (as_endings rs)
       Tells-told rs = record {
-        firsts = λ q. first-rows_of rs rs [] q ∙ first-same (unseen [] q) q (λ d. all_unseen (q d)) (as_endings rs);
+        firsts = λ q. first-rows_of rs rs [] q ∙ first-same (unseen [] q) q (λ d. and-true (q d)) (as_endings rs);
         counted = Counted-told rs (firsts ending_of same [] rs);
         apart = AreApart-rows_of rs rs [];
       }
-        where
-          all_unseen : (b : Bool) → (b && true) ≡ b
-          all_unseen true = refl
-          all_unseen false = refl

@@ -3,10 +3,11 @@ use Rattle.std.proofs.Common.{◌≡◌, ℕ, ◌+◌, ◌/◌, ◌%◌, ◌<◌
 use Rattle.std.specs.List.{list_all, range_with_len}
 use Rattle.std.specs.Prelude.{IsTrue, decimal}
 use Rattle.std.proofs.lemmas.Fmt.{decimal_by_steps, decimal_injective}
-use Rattle.std.proofs.lemmas.Bool.{le-leb, lt-ltb, and_from, and_parts, or_from, not_from_false, false_from_ne_true}
+use Rattle.std.proofs.lemmas.Bool.{le-leb, lt-ltb, and_from, or_from, not_from_false, false_from_ne_true}
 use Rattle.std.proofs.lemmas.Bool.Decides.{nat_tests}
 use Rattle.std.proofs.lemmas.List.FromFn.{map-range_with_len_more}
 use Rattle.std.proofs.lemmas.Slice.Eq.{bytes_eq-Decides}
+use Rattle.vx_base.proofs.Any.{all_push}
 use Rattle.vx_base.specs.Name.{is_capital, is_name, is_name_byte}
 use Rattle.vx_image.specs.declared.decl.ProcDecl.{ProcDecl}
 use Rattle.vx_image.specs.WellFormed.{are_distinct, is_among}
@@ -26,10 +27,6 @@ a_digit m h = grind (arith, nat_tests, h)
 one_digit : (n : ℕ) → n < 10 → IsShort n ((48 + n) ∷ [])
 one_digit n h = record { one = λ k. omega arith; two = λ k. omega arith; three = λ k. omega arith; bytes = rw (a_digit n h) refl }
 
-all_more : (d : ℕ) (ds : List ℕ) → list_all is_name_byte ds ≡ true → is_name_byte d ≡ true → list_all is_name_byte (ds ++ d ∷ []) ≡ true
-all_more d [] h k = rw k refl
-all_more d (x ∷ xs) h k = let p = and_parts (is_name_byte x) (list_all is_name_byte xs) h in rw (p.0, all_more d xs p.1 k) refl
-
 more_digits : (n : ℕ) (ds : List ℕ) → 10 ≤ n → IsShort (n / 10) ds → IsShort n (ds ++ (48 + n % 10) ∷ [])
 more_digits n ds h s =
     let len = length-append ds ((48 + n % 10) ∷ []) in
@@ -37,7 +34,7 @@ more_digits n ds h s =
       one = λ k. absurd (omega (arith, h, k));
       two = λ k. let few = s.one (omega (arith, k)) in omega (arith, len, few);
       three = λ k. let few = s.two (omega (arith, k)) in omega (arith, len, few);
-      bytes = all_more (48 + n % 10) ds s.bytes (a_digit (n % 10) (omega arith));
+      bytes = all_push is_name_byte ds (48 + n % 10) s.bytes (a_digit (n % 10) (omega arith));
     }
 
 short : (n : ℕ) → n < 2 ^ 64 → IsShort n (decimal n)

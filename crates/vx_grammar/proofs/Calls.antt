@@ -1,6 +1,7 @@
 -- Calls: what is read of their tokens is what the grammar says, and the other way round.
-use Rattle.std.proofs.Common.{◌≡◌, ℕ, ◌+◌, ◌==◌, Bool, true, false, cond, List, [], ◌∷◌, ◌++◌, map, Option, Some, None, Result, Ok, Err, option_map, bytes_eq, refl, sym, subst, ap, ◌∙◌}
+use Rattle.std.proofs.Common.{◌≡◌, ℕ, ◌+◌, ◌==◌, Bool, true, false, cond, List, [], ◌∷◌, ◌++◌, map, Option, Some, None, Result, Ok, Err, bytes_eq, refl, sym, subst, ap, ◌∙◌}
 use Rattle.std.proofs.lemmas.Bool.{eqb-true}
+use Rattle.vx_base.proofs.Lists.{some_mapped}
 use Rattle.vx_base.specs.declared.call.Arg.{Arg}
 use Rattle.vx_base.specs.declared.call.Arg.TheVariants as arg
 use Rattle.vx_base.specs.declared.call.Args.{Args}
@@ -103,10 +104,6 @@ call_read c ps args h e =
 
 -- Arguments, spelled.
 
-mapped : {A B : Type 0} (f : A → B) (o : Option A) (y : B) → option_map f o ≡ Some y → (x : A) × (o ≡ Some x) × (f x ≡ y)
-mapped f None y h = absurd (cc)
-mapped f (Some x) y h = (x, refl, (let e : f x ≡ y = cc in e))
-
 -- a token is that of an argument of a kind
 abbrev IsTokenOf : Kind → Tok → Arg → Type 0
 IsTokenOf k t a = (t ≡ arg_token a) × (is_of_kind k a ≡ true)
@@ -119,16 +116,16 @@ known_target o x h e = subst IsTargetOr e h
 
 word_spelled : (k : Kind) (w : List ℕ) (a : Arg) → word_arg k w ≡ Some a → IsTokenOf k (tok.Word w) a
 word_spelled kind.Value w a h =
-    let m = mapped arg.Value (operand_word w) a h in
+    let m = some_mapped arg.Value (operand_word w) a h in
     subst (λ (b : Arg). IsTokenOf kind.Value (tok.Word w) b) m.2 (operand_name w m.0 m.1, known_operand (operand_word w) m.0 (operand_is w) m.1)
 word_spelled kind.Target w a h =
-    let m = mapped arg.Target (target_word w) a h in
+    let m = some_mapped arg.Target (target_word w) a h in
     subst (λ (b : Arg). IsTokenOf kind.Target (tok.Word w) b) m.2 (target_name w m.0 m.1, known_target (target_word w) m.0 (target_is w) m.1)
 word_spelled kind.Mode w a h =
-    let m = mapped arg.Mode (mode_word w) a h in
+    let m = some_mapped arg.Mode (mode_word w) a h in
     subst (λ (b : Arg). IsTokenOf kind.Mode (tok.Word w) b) m.2 (ap tok.Word (found_name mode_name (Kernel ∷ Exec ∷ Super ∷ User ∷ []) w m.0 m.1), refl)
 word_spelled kind.Func w a h =
-    let m = mapped arg.Func (func_word w) a h in
+    let m = some_mapped arg.Func (func_word w) a h in
     subst (λ (b : Arg). IsTokenOf kind.Func (tok.Word w) b) m.2 (ap tok.Word (found_name func_name (Read ∷ ReadNow ∷ Write ∷ WriteNow ∷ Eof ∷ EofNow ∷ ReadAttn ∷ WrtAttn ∷ []) w m.0 m.1), refl)
 word_spelled kind.Name w a h = subst (λ (b : Arg). IsTokenOf kind.Name (tok.Word w) b) (let e : arg.Name w ≡ a = cc in e) (refl, refl)
 word_spelled kind.Label w a h = subst (λ (b : Arg). IsTokenOf kind.Label (tok.Word w) b) (let e : arg.Label (Some w) ≡ a = cc in e) (refl, refl)

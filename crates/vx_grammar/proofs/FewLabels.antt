@@ -2,13 +2,13 @@
 use Rattle.std.proofs.Common.{◌≡◌, ◌≢◌, ℕ, ◌+◌, ◌<◌, ◌≤◌, Bool, true, nat_le, nat_lt, List, [], ◌∷◌, ◌++◌, length, flat_map, codes, Result, Ok, refl, sym, subst, ap, ◌∙◌, arith, length-append}
 use Rattle.std.specs.List.{list_all}
 use Rattle.std.proofs.lemmas.Bool.{and_parts, and_from, leb-true, le-leb, lt-ltb}
+use Rattle.std.proofs.lemmas.List.{length-map}
 use Rattle.vx_image.specs.declared.image.Image.{Image}
 use Rattle.vx_image.specs.declared.image.Label.{Label}
 use Rattle.vx_image.specs.declared.system.System.{System}
 use Rattle.vx_image.specs.WellFormed.{IsWellFormed, decl_names, is_image}
 use Rattle.vx_text.specs.declared.token.Tok.{Tok}
 use Rattle.vx_text.specs.declared.token.Tok.TheVariants as tok
-use Rattle.vx_script.proofs.Appended.{as_many}
 use Rattle.vx_script.proofs.EndedImages.{is_formed}
 use Rattle.vx_script.proofs.ResolvedSystem.{IsFormed}
 use Rattle.vx_grammar.specs.Grammar.{Said, BodyLine, empty_line, statement_line, label_line, labelled_line, Body, no_lines, and_line, labels_in, ImageOf, Item, Line, a_line_unit, a_block_unit, an_input, a_fault, a_process, Lines, none_left, an_empty_line, a_line, an_image, image_in, IsLines, no_text, last_line, fed_line, returned_line, tokens_of, Spells}
@@ -75,7 +75,7 @@ are_images decls n (i ∷ images) bound formed few =
 -- a system that a short text is spelled as is well formed
 pub well_formed : (text : List ℕ) (s : System) → length text < 4294967295 → Spells text s → IsFormed s → IsWellFormed s
 well_formed text s short g f =
-    let same : length g.tokens ≡ length g.lines = sym (as_many Ok g.tokens) ∙ ap (λ (xs : List (Result (List Tok) _)). length xs) (sym g.lexed) ∙ as_many tokens_of g.lines in
+    let same : length g.tokens ≡ length g.lines = sym (length-map g.tokens Ok) ∙ ap (λ (xs : List (Result (List Tok) _)). length xs) (sym g.lexed) ∙ length-map g.lines tokens_of in
     let few = few_lines text g.lines g.cut in
     let images : flat_map image_in g.items ≡ s.images = ap (λ (t : System). t.images) (sym g.system) in
     let labels = subst (λ (is : List Image). list_all (has_few (length text)) is ≡ true) images (images_few (length text) s g.tokens g.items g.script (omega (arith, same, few))) in

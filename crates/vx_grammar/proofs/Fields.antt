@@ -27,6 +27,13 @@ pub bind_ok : {A B E : Type 0} (r : Result A E) (f : A → Result B E) (y : B) �
 bind_ok (Ok x) f y h = (x, refl, h)
 bind_ok (Err e) f y h = absurd (cc)
 
+-- a result is one thing only
+pub one_ok : {A E : Type 0} (r : Result A E) (x y : A) → r ≡ Ok x → r ≡ Ok y → x ≡ y
+one_ok r x y h k = cc
+
+pub one_err : {A E : Type 0} (r : Result A E) (d e : E) → r ≡ Err d → r ≡ Err e → d ≡ e
+one_err r d e h k = cc
+
 pub given_ok : {A : Type 0} (k : FaultKind) (o : Option A) (x : A) → given k o ≡ Ok x → o ≡ Some x
 given_ok k (Some y) x h = cc
 given_ok k None x h = absurd (cc)

@@ -1,6 +1,9 @@
 -- The fault of a line is that with which the reader refuses it.
+use mathlib.Core.Bool.{and_comm}
 use Rattle.std.proofs.Common.{◌≡◌, ℕ, not, Bool, true, false, cond, List, [], ◌∷◌, length, drop, map, codes, ◌||◌, ◌==◌, Option, Some, None, is_some, Result, Ok, Err, bytes_eq, refl, sym, ap, ◌∙◌}
 use Rattle.std.specs.List.{list_any}
+use Rattle.std.proofs.lemmas.List.{length-map}
+use Rattle.vx_base.proofs.Any.{any_map}
 use Rattle.vx_image.specs.declared.image.Image.{Image}
 use Rattle.vx_image.specs.declared.image.Label.{Label}
 use Rattle.vx_image.specs.declared.unit.UnitDecl.{UnitDecl}
@@ -22,12 +25,10 @@ use Rattle.vx_script.specs.declared.lines.DeclLine.{DeclLine}
 use Rattle.vx_script.specs.declared.lines.FaultLine.{FaultLine}
 use Rattle.vx_script.specs.declared.parts.Parts.{Parts}
 use Rattle.vx_script.specs.declared.parts.Reading.{Reading}
-use Rattle.vx_script.proofs.Appended.{as_many}
-use Rattle.vx_script.proofs.Places.{any_map, has_place}
+use Rattle.vx_script.proofs.Places.{has_place}
 use Rattle.vx_grammar.specs.LineFault.{Verdict, new_among, unit_fault, input_fault, number_fault, image_fault, process_fault, outer_fault, outside_fault, statement_fault, word_fault, inside_fault, fault_at, line_fault}
 use Rattle.vx_grammar.proofs.LinesFit.{open_of, declared_by, declared}
 use Rattle.vx_grammar.proofs.SaidSoFar.{fault_key}
-use Rattle.vx_grammar.proofs.LinesBack.{both_ways}
 
 -- what a reading refuses, without what it gives
 abbrev pub verdict : {A : Type 0} → Result A FaultKind → Verdict
@@ -60,7 +61,7 @@ new_name : {A B : Type 0} (name : A → List ℕ) (n : List ℕ) (xs : List A) (
 new_name name n xs f g o e h = new_by o (is_among n (map name xs)) n f g (e ∙ sym (any_map (bytes_eq n) name xs)) h
 
 room_by : {A B : Type 0} (most : ℕ) (name : A → List ℕ) (xs : List A) (y : B) → verdict (room_for most (length xs) >>= λ _. Ok y) ≡ room_for most (length (map name xs))
-room_by most name xs y = last (room_for most (length xs)) y ∙ ap (room_for most) (sym (as_many name xs))
+room_by most name xs y = last (room_for most (length xs)) y ∙ ap (room_for most) (sym (length-map xs name))
 
 -- Lines outside images.
 
@@ -84,7 +85,7 @@ input_same line ts =
 same_faults : (unit : List ℕ) (n : ℕ) (fs : List FaultLine) → list_any (is_fault_of unit n) fs ≡ is_among (n ∷ unit) (map fault_key fs)
 same_faults unit n [] = refl
 same_faults unit n (f ∷ fs) =
-    ap (λ (t : Bool). t || list_any (is_fault_of unit n) fs) (both_ways (bytes_eq unit f.unit) (n == f.number))
+    ap (λ (t : Bool). t || list_any (is_fault_of unit n) fs) (and_comm (bytes_eq unit f.unit) (n == f.number))
     ∙ ap (λ (t : Bool). bytes_eq (n ∷ unit) (fault_key f) || t) (same_faults unit n fs)
 
 number_by : {B : Type 0} (t u : Bool) (n : ℕ) (f : ℕ → Result B FaultKind) (g : Verdict) → t ≡ u → verdict (f n) ≡ g

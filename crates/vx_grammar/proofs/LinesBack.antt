@@ -1,9 +1,12 @@
 -- Lines that are spelled are read.
-use Rattle.std.proofs.Common.{◌≡◌, ℕ, ◌+◌, ◌≤◌, ◌==◌, ◌&&◌, not, Bool, true, false, cond, nat_le, nat_lt, List, [], ◌∷◌, ◌++◌, length, map, flat_map, find, codes, Option, Some, None, is_some, position, Result, Ok, bytes_eq, refl, sym, subst, ap, ◌∙◌, arith, append-nil, append_assoc, length-append}
+use mathlib.Core.Bool.{and_comm}
+use Rattle.std.proofs.Common.{◌≡◌, ℕ, ◌+◌, ◌≤◌, ◌==◌, not, Bool, true, false, cond, nat_le, nat_lt, List, [], ◌∷◌, ◌++◌, length, map, flat_map, find, codes, Option, Some, None, is_some, position, Result, Ok, bytes_eq, refl, sym, subst, ap, ◌∙◌, arith, append-nil, append_assoc, length-append}
 use Rattle.std.specs.List.{list_all, list_any}
 use Rattle.std.proofs.lemmas.Bool.{and_parts, and_from, or_parts, or_from, not_from_false, le-leb, lt-ltb, not-true}
-use Rattle.std.proofs.lemmas.List.{map-append, map_push}
+use Rattle.std.proofs.lemmas.List.{map-append, map_push, length-map}
 use Rattle.std.proofs.lemmas.List.Folds.{list_all-append, list_any-append}
+use Rattle.vx_base.proofs.Any.{all_push, any_map}
+use Rattle.vx_base.proofs.Lists.{not_some}
 use Rattle.vx_image.specs.declared.image.Image.{Image}
 use Rattle.vx_image.specs.declared.image.Label.{Label}
 use Rattle.vx_image.specs.declared.stmt.Stmt.{Stmt}
@@ -32,9 +35,9 @@ use Rattle.vx_script.specs.declared.lines.FaultLine.{FaultLine}
 use Rattle.vx_script.specs.declared.lines.InputLine.{InputLine}
 use Rattle.vx_script.specs.declared.parts.Parts.{Parts}
 use Rattle.vx_script.specs.declared.parts.Reading.{Reading}
-use Rattle.vx_script.proofs.Appended.{all_push, same_back, as_many}
+use Rattle.vx_script.proofs.Appended.{same_back}
 use Rattle.vx_script.proofs.EndedImages.{is_known}
-use Rattle.vx_script.proofs.Places.{any_map, has_place}
+use Rattle.vx_script.proofs.Places.{has_place}
 use Rattle.vx_grammar.specs.Grammar.{Between, Said, Names, Does, BodyLine, empty_line, statement_line, label_line, labelled_line, Body, no_lines, and_line, stmts_in, labels_in, ImageOf, plain_decl, Item, OfUnit, OfInput, OfFault, OfImage, OfProcess, Line, a_line_unit, a_block_unit, an_input, a_fault, a_process, Lines, none_left, an_empty_line, a_line, an_image, fault_in, colon}
 use Rattle.vx_grammar.proofs.ReadStatements.{Reads, ReadsAs, stmt_reads}
 use Rattle.vx_grammar.proofs.ProcessKeys.{has, decl_with, KeysRead, settings_read}
@@ -74,15 +77,11 @@ room_next most xs zs n ys e r =
 room_left : {A : Type 0} (most : ℕ) (name : A → List ℕ) (xs : List A) (n : List ℕ) (ys : List (List ℕ)) → Room most (map name xs) (n ∷ ys) → nat_lt (length xs) most ≡ true
 room_left most name xs n ys r =
     let few = r.few in
-    let many : length (map name xs) ≡ length xs = as_many name xs in
+    let many : length (map name xs) ≡ length xs = length-map xs name in
     lt-ltb (length xs) most (omega (arith, few, many, length-append (map name xs) (n ∷ ys)))
 
-none_some : (o : Option ℕ) → is_some o ≡ false → o ≡ None
-none_some None h = refl
-none_some (Some k) h = absurd (cc)
-
 pub no_place : {A : Type 0} (name : A → List ℕ) (n : List ℕ) (xs : List A) → is_among n (map name xs) ≡ false → position (λ x. bytes_eq n (name x)) xs ≡ None
-no_place name n xs h = none_some (position (λ x. bytes_eq n (name x)) xs) (has_place (λ x. bytes_eq n (name x)) xs ∙ sym (any_map (bytes_eq n) name xs) ∙ h)
+no_place name n xs h = not_some (position (λ x. bytes_eq n (name x)) xs) (has_place (λ x. bytes_eq n (name x)) xs ∙ sym (any_map (bytes_eq n) name xs) ∙ h)
 
 room_new : {A : Type 0} (most : ℕ) (name : A → List ℕ) (xs : List A) (n : List ℕ) (ys : List (List ℕ)) → Room most (map name xs) (n ∷ ys) → position (λ x. bytes_eq n (name x)) xs ≡ None
 room_new most name xs n ys r = no_place name n xs (here_new (map name xs) n ys r.apart)
@@ -141,8 +140,8 @@ grows_nothing decls i image g = record { name = refl; labels = sym (append-nil i
 
 as_long : (decls : List (List ℕ)) (i : Image) (image more : DraftImage) (said : List Said) → Grows decls i image more said → length more.lines ≡ length image.lines + length (stmts_in said)
 as_long decls i image more said g =
-    let a : length (map (settle i) more.lines) ≡ length more.lines = as_many (settle i) more.lines in
-    let b : length (map (settle i) image.lines) ≡ length image.lines = as_many (settle i) image.lines in
+    let a : length (map (settle i) more.lines) ≡ length more.lines = length-map more.lines (settle i) in
+    let b : length (map (settle i) image.lines) ≡ length image.lines = length-map image.lines (settle i) in
     let c : length (map (settle i) more.lines) ≡ length (map (settle i) image.lines ++ stmts_in said) = ap (λ (ss : List Stmt). length ss) g.stmts in
     omega (arith, a, b, c, length-append (map (settle i) image.lines) (stmts_in said))
 
@@ -370,17 +369,11 @@ an_input_read line parts unit text h =
     let few : nat_le (length text) 2048 ≡ true = le-leb _ _ h in
     rw few refl
 
-pub both_ways : (a b : Bool) → a && b ≡ b && a
-both_ways true true = refl
-both_ways true false = refl
-both_ways false true = refl
-both_ways false false = refl
-
 pub fault_new : (unit : List ℕ) (n : ℕ) (faults : List FaultLine) → is_among (n ∷ unit) (map fault_key faults) ≡ false → list_any (is_fault_of unit n) faults ≡ false
 fault_new unit n [] h = refl
 fault_new unit n (f ∷ faults) h =
     let p = or_parts (bytes_eq (n ∷ unit) (fault_key f)) (is_among (n ∷ unit) (map fault_key faults)) h in
-    or_from (is_fault_of unit n f) (list_any (is_fault_of unit n) faults) (both_ways (bytes_eq unit f.unit) (n == f.number) ∙ p.0) (fault_new unit n faults p.1)
+    or_from (is_fault_of unit n f) (list_any (is_fault_of unit n) faults) (and_comm (bytes_eq unit f.unit) (n == f.number) ∙ p.0) (fault_new unit n faults p.1)
 
 pub a_fault_read : (line : ℕ) (parts : Parts) (unit : List ℕ) (n : ℕ) → Between 1 100000 n → list_any (is_fault_of unit n) parts.faults ≡ false
     → outside line parts (tok.Word (codes "FAULT") ∷ tok.Word unit ∷ tok.Num n ∷ []) ≡ Ok (between_images (and_fault parts (record { line = line; unit = unit; number = n })))

@@ -1,7 +1,7 @@
 -- A line is read exactly where a production fits it behind the lines before it.
-use Rattle.std.proofs.Common.{◌≡◌, ℕ, ◌+◌, ◌<◌, ◌==◌, ◌&&◌, Bool, true, false, cond, nat_le, nat_lt, List, [], ◌∷◌, ◌++◌, length, drop, map, flat_map, fold, codes, Option, Some, None, is_some, Result, Ok, Err, bytes_eq, refl, sym, subst, ap, ◌∙◌, arith, append-nil, length-append}
+use Rattle.std.proofs.Common.{◌≡◌, ℕ, ◌+◌, ◌<◌, ◌==◌, ◌&&◌, true, false, cond, nat_le, nat_lt, List, [], ◌∷◌, ◌++◌, length, drop, map, flat_map, fold, codes, Option, Some, None, is_some, Result, Ok, Err, bytes_eq, refl, sym, subst, ap, ◌∙◌, arith, append-nil, length-append}
 use Rattle.std.specs.List.{AllByRecursion}
-use Rattle.std.proofs.lemmas.Bool.{leb-true, lt-ltb, ltb-true, or_left}
+use Rattle.std.proofs.lemmas.Bool.{leb-true, lt-ltb, ltb-true, or_left, and_from}
 use Rattle.vx_image.specs.declared.decl.ProcDecl.{ProcDecl}
 use Rattle.vx_image.specs.declared.image.Image.{Image}
 use Rattle.vx_image.specs.declared.image.Label.{Label}
@@ -27,7 +27,6 @@ use Rattle.vx_script.specs.declared.lines.FaultLine.{FaultLine}
 use Rattle.vx_script.specs.declared.lines.InputLine.{InputLine}
 use Rattle.vx_script.specs.declared.parts.Parts.{Parts}
 use Rattle.vx_script.specs.declared.parts.Reading.{Reading}
-use Rattle.vx_script.proofs.Appended.{as_many}
 use Rattle.vx_script.proofs.KeptParts.{AreParts, IsRead}
 use Rattle.vx_script.proofs.OpenImages.{IsOpen}
 use Rattle.vx_script.proofs.Places.{has_place}
@@ -43,7 +42,7 @@ use Rattle.vx_grammar.proofs.LinesBack.{here_new, no_place, with_draft, stmt_tak
 use Rattle.vx_grammar.proofs.Looking.{faults_differ}
 use Rattle.vx_grammar.proofs.OuterSpelled.{unit_spelled, input_spelled, fault_spelled, image_spelled, process_spelled}
 use Rattle.vx_grammar.proofs.Somewhere.{some_statement}
-use Rattle.std.proofs.lemmas.List.{map_push}
+use Rattle.std.proofs.lemmas.List.{map_push, length-map}
 use Rattle.vx_base.proofs.Texts.{same_bytes, bytes_are}
 use Rattle.vx_base.proofs.Bools.{either_by}
 
@@ -94,7 +93,7 @@ ended_more parts image =
     ap (λ (ns : List (List ℕ)). record (declared_by parts None) { images = ns; ended = map ended_of (parts.images ++ image_of image ∷ []) }) (map_push (λ (i : Image). i.name) parts.images (image_of image))
     ∙ ap (λ (os : List DeclaredImage). record (declared_by parts None) { images = map (λ (i : Image). i.name) parts.images ++ image.name ∷ []; ended = os }) (map_push ended_of parts.images (image_of image))
     ∙ ap (λ (n : ℕ). record (declared_by parts None) { images = map (λ (i : Image). i.name) parts.images ++ image.name ∷ []; ended = map ended_of parts.images ++ record (open_of image) { stmts = n } ∷ [] })
-    (as_many (λ (d : DraftLine). settled image.labels d.draft) image.lines)
+    (length-map image.lines (λ (d : DraftLine). settled image.labels d.draft))
 
 -- What fits is read.
 
@@ -105,7 +104,7 @@ pub record ReadAs (line : ℕ) (parts : Parts) (current : Option DraftImage) (ts
   pub same : declared next ≡ d
 
 room_in : {A : Type 0} (most : ℕ) (name : A → List ℕ) (xs : List A) → length (map name xs) < most → nat_lt (length xs) most ≡ true
-room_in most name xs h = let e : length (map name xs) ≡ length xs = as_many name xs in lt-ltb (length xs) most (omega (arith, e, h))
+room_in most name xs h = let e : length (map name xs) ≡ length xs = length-map xs name in lt-ltb (length xs) most (omega (arith, e, h))
 
 item_read : (line : ℕ) (parts : Parts) (s : System) (ts : List Tok) (item : Item) → Line s ts item → IsNew (declared_by parts None) item → ReadAs line parts None ts (and_item (declared_by parts None) item)
 item_read line parts s _ _ (a_line_unit name) new = record {
@@ -250,7 +249,7 @@ pushed_new name xs x h = here_new (map name xs) (name x) [] (sym (ap are_distinc
 
 pushed_room : {A : Type 0} (most : ℕ) (name : A → List ℕ) (xs : List A) (x : A) → nat_le (length (xs ++ x ∷ [])) most ≡ true → length (map name xs) < most
 pushed_room most name xs x h =
-    let e : length (map name xs) ≡ length xs = as_many name xs in
+    let e : length (map name xs) ≡ length xs = length-map xs name in
     omega (arith, e, leb-true (length (xs ++ x ∷ [])) most h, length-append xs (x ∷ []))
 
 abbrev bare : System
@@ -272,11 +271,7 @@ unit_fits parts u ts h k =
 input_fits : (line : ℕ) (parts : Parts) (i : InputLine) (ts : List Tok) → input_line line ts ≡ Ok i → FitsTo parts None (tok.Word (codes "INPUT") ∷ ts) (between_images (and_input parts i))
 input_fits line parts i ts h =
     let s : System = record { units = bare_unit i.unit 0 ∷ []; images = []; decls = [] } in
-    line_fits s _ (OfInput i.unit i.text) refl (input_spelled line ts i h s (or_left ((bytes_eq i.unit i.unit) && (0 == 0)) false (both (bytes_eq i.unit i.unit) (same_bytes i.unit)))) tt
-  where
-    both : (b : Bool) → b ≡ true → b && true ≡ true
-    both true k = refl
-    both false k = k
+    line_fits s _ (OfInput i.unit i.text) refl (input_spelled line ts i h s (or_left ((bytes_eq i.unit i.unit) && (0 == 0)) false (and_from (bytes_eq i.unit i.unit) true (same_bytes i.unit) refl))) tt
 
 fault_fits : (line : ℕ) (parts : Parts) (f : FaultLine) (ts : List Tok) → fault_line line parts.faults ts ≡ Ok f → AreParts (and_fault parts f) → FitsTo parts None (tok.Word (codes "FAULT") ∷ ts) (between_images (and_fault parts f))
 fault_fits line parts f ts h k =
@@ -306,7 +301,7 @@ image_fits parts image ts h o =
     let i : Image = record { name = n.0; labels = []; stmts = [] } in
     let name = λ (i : Image). i.name in
     let new : is_among n.0 (map name parts.images) ≡ false = subst (λ (j : DraftImage). is_among j.name (map name parts.images) ≡ false) (sym n.2) o.new in
-    let e : length (map name parts.images) ≡ length parts.images = as_many name parts.images in
+    let e : length (map name parts.images) ≡ length parts.images = length-map parts.images name in
     let room = o.room in
     fits_as (declared_by parts None) _ (tok.Word (codes "IMAGE") ∷ tok.Word n.0 ∷ []) _ (declared_by parts (Some image)) (ap (λ (us : List Tok). tok.Word (codes "IMAGE") ∷ us) (sym n.1))
     (ap (λ (j : DraftImage). declared_by parts (Some j)) n.2) (opening_fits i refl (new, omega (arith, e, ltb-true (length parts.images) 256 room)))

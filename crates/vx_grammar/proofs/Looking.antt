@@ -1,6 +1,9 @@
 -- What is read names only what is there; and the system that was read is the one that the lines stand for.
+use mathlib.Core.List.{map-map}
+use mathlib.Core.Bool.{not-not, and_comm}
 use Rattle.std.proofs.Common.{◌≡◌, ℕ, ◌==◌, ◌&&◌, not, Bool, true, false, List, [], ◌∷◌, map, flat_map, find, Option, Some, None, option_map, is_some, is_none, position, bytes_eq, refl, sym, ap, ◌∙◌}
 use Rattle.std.specs.List.{list_all, list_any}
+use Rattle.vx_base.proofs.Any.{any_map}
 use Rattle.vx_image.specs.declared.decl.ProcDecl.{ProcDecl}
 use Rattle.vx_image.specs.declared.image.Image.{Image}
 use Rattle.vx_image.specs.declared.system.System.{System}
@@ -19,13 +22,11 @@ use Rattle.vx_script.specs.declared.parts.Parts.{Parts}
 use Rattle.vx_script.proofs.Appended.{unfound}
 use Rattle.vx_script.proofs.EndedImages.{is_known, neither}
 use Rattle.vx_script.proofs.FaultLines.{are_apart}
-use Rattle.vx_script.proofs.Places.{any_map, has_place}
+use Rattle.vx_script.proofs.Places.{has_place}
 use Rattle.std.proofs.lemmas.Bool.{and_parts, and_from, or_parts, or_from, not_from_false, not-true}
 use Rattle.vx_grammar.specs.Grammar.{Item, OfUnit, OfInput, OfFault, OfImage, OfProcess, unit_in, input_of, number_of, image_in, decl_in, system_of}
 use Rattle.vx_grammar.proofs.SaidSoFar.{fault_key, plain_unit, Extends, Known, has_image, has_line_unit, has_unit}
-use Rattle.vx_grammar.proofs.LinesBack.{none_found, both_ways}
-use Rattle.vx_script.proofs.ResolvedSystem.{map_twice}
-use Rattle.vx_base.proofs.Bools.{not_twice}
+use Rattle.vx_grammar.proofs.LinesBack.{none_found}
 use Rattle.vx_base.proofs.Lists.{none_mapped}
 
 -- Names, as the second pass looks for them.
@@ -41,18 +42,18 @@ placed_among name n xs = has_place (λ x. bytes_eq n (name x)) xs ∙ sym (any_m
 creation_same : (all : Parts) (c : Creation) → not (names_no_decl all.decls c) ≡ is_known (decl_names (resolving.system_of all)) c
 creation_same all c =
     not_none (decl_place c.name all.decls) ∙ placed_among (λ (d : DeclLine). d.name) c.name all.decls
-    ∙ ap (is_among c.name) (sym (map_twice (decl_of all.images) (λ (d : ProcDecl). d.name) all.decls))
+    ∙ ap (is_among c.name) (sym (map-map (λ (d : ProcDecl). d.name) (decl_of all.images) all.decls))
 
 image_same : (all : Parts) (d : DeclLine) → not (names_no_image all.images d) ≡ has_image (resolving.system_of all) d
 image_same all d = not_none (image_place d.image all.images)
 
 input_same : (all : Parts) (i : InputLine) → not (names_no_line_unit all.units i) ≡ has_line_unit (resolving.system_of all) i
-input_same all i = not_twice (list_any (is_line_unit i.unit) all.units) ∙ sym (any_map (is_line_unit i.unit) (unit_of all) all.units)
+input_same all i = not-not (list_any (is_line_unit i.unit) all.units) ∙ sym (any_map (is_line_unit i.unit) (unit_of all) all.units)
 
 fault_same : (all : Parts) (f : FaultLine) → not (names_no_unit all.units f) ≡ has_unit (resolving.system_of all) f
 fault_same all f =
     not_none (unit_place f.unit all.units) ∙ placed_among (λ (u : UnitDecl). u.name) f.unit all.units
-    ∙ ap (is_among f.unit) (sym (map_twice (unit_of all) (λ (u : UnitDecl). u.name) all.units))
+    ∙ ap (is_among f.unit) (sym (map-map (λ (u : UnitDecl). u.name) (unit_of all) all.units))
 
 all_same : {A : Type 0} (p q : A → Bool) → ((x : A) → p x ≡ q x) → (xs : List A) → list_all p xs ≡ list_all q xs
 all_same p q h [] = refl
@@ -127,7 +128,7 @@ fault_among : (unit : List ℕ) (n : ℕ) (fs : List FaultLine) → list_any (is
 fault_among unit n [] h = refl
 fault_among unit n (f ∷ fs) h =
     let p = or_parts (is_fault_of unit n f) (list_any (is_fault_of unit n) fs) h in
-    or_from (bytes_eq (n ∷ unit) (fault_key f)) (is_among (n ∷ unit) (map fault_key fs)) (both_ways (n == f.number) (bytes_eq unit f.unit) ∙ p.0) (fault_among unit n fs p.1)
+    or_from (bytes_eq (n ∷ unit) (fault_key f)) (is_among (n ∷ unit) (map fault_key fs)) (and_comm (n == f.number) (bytes_eq unit f.unit) ∙ p.0) (fault_among unit n fs p.1)
 
 -- faults of which none stands twice differ
 pub faults_differ : (fs : List FaultLine) → are_apart fs ≡ true → are_distinct (map fault_key fs) ≡ true

@@ -1,5 +1,5 @@
 -- The keys of a PROCESS line: what is read of them is what the grammar says, and the other way round.
-use Rattle.std.proofs.Common.{◌≡◌, ℕ, zero, suc, ◌+◌, ◌==◌, ◌||◌, Bool, true, false, nat_le, List, [], ◌∷◌, ◌++◌, drop, fold, codes, Option, Some, None, is_some, Result, Ok, bytes_eq, refl, sym, subst, ap, ◌∙◌, arith, add-one}
+use Rattle.std.proofs.Common.{◌≡◌, ℕ, zero, suc, ◌+◌, ◌==◌, ◌||◌, Bool, true, false, nat_le, List, [], ◌∷◌, ◌++◌, drop, fold, codes, Option, Some, None, is_some, Result, Ok, bytes_eq, refl, sym, subst, ap, ◌∙◌, arith, add-one, unwrap_or}
 use Rattle.std.specs.List.{list_any}
 use Rattle.std.proofs.lemmas.Bool.{le-leb}
 use Rattle.std.proofs.lemmas.List.{drop-drop}
@@ -12,7 +12,7 @@ use Rattle.vx_text.specs.declared.token.Tok.TheVariants as tok
 use Rattle.vx_table.specs.Spelling.{mode_name}
 use Rattle.vx_script.specs.Results.{◌>>=◌, given}
 use Rattle.vx_script.specs.Fields.{is_word, begins_with_sign, sign_at, number_at}
-use Rattle.vx_script.specs.Keys.{privilege_name, holds, granted, no_privs, privs_from, privs_of, privs_at, uic_at, mode_in, mode_at, limit_at, start_at, key_name, all_keys, key_word, key_in, once, limit_in, with_limit_in, with_uic, with_mode, with_limit, with_privs, with_start, with_key, taken_key, keys_from, or, first_uic, limits_of}
+use Rattle.vx_script.specs.Keys.{privilege_name, holds, granted, no_privs, privs_from, privs_of, privs_at, uic_at, mode_in, mode_at, limit_at, start_at, key_name, all_keys, key_word, key_in, once, limit_in, with_limit_in, with_uic, with_mode, with_limit, with_privs, with_start, with_key, taken_key, keys_from, first_uic, limits_of}
 use Rattle.vx_script.specs.declared.fault.FaultKind.{FaultKind}
 use Rattle.vx_script.specs.declared.fault.FaultKind.TheVariants as kind
 use Rattle.vx_script.specs.declared.keys.Key.{Key}
@@ -46,12 +46,12 @@ abbrev pub decl_with : List ℕ → ℕ → Keys → ProcDecl
 decl_with name image keys = record {
   name = name;
   image = image;
-  group = (or first_uic keys.uic).group;
-  member = (or first_uic keys.uic).member;
-  mode = or User keys.mode;
+  group = (unwrap_or keys.uic first_uic).group;
+  member = (unwrap_or keys.uic first_uic).member;
+  mode = unwrap_or keys.mode User;
   limits = limits_of keys;
-  privs = or no_privs keys.privs;
-  start = or true keys.start;
+  privs = unwrap_or keys.privs no_privs;
+  start = unwrap_or keys.start true;
 }
 
 abbrev One : Key → Keys → Keys → Type 0

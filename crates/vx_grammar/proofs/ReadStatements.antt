@@ -2,6 +2,7 @@
 use Rattle.std.proofs.Common.{◌≡◌, ℕ, ◌≤◌, not, true, false, nat_le, List, [], ◌∷◌, length, codes, Option, Some, None, is_some, Ok, bytes_eq, refl, sym, ap, ◌∙◌}
 use Rattle.std.specs.List.{list_all, list_any}
 use Rattle.std.proofs.lemmas.Bool.{and_parts, and_from, le-leb}
+use Rattle.vx_base.proofs.Any.{any_map}
 use Rattle.vx_base.specs.declared.call.Arg.{Arg}
 use Rattle.vx_base.specs.declared.call.Arg.TheVariants as arg
 use Rattle.vx_base.specs.declared.call.Operand.{Operand}
@@ -34,7 +35,7 @@ use Rattle.vx_script.specs.declared.draft.Draft.TheVariants as draft
 use Rattle.vx_script.specs.declared.draft.DraftImage.{DraftImage}
 use Rattle.vx_script.specs.declared.parts.Parts.{Parts}
 use Rattle.vx_script.proofs.EndedImages.{is_known}
-use Rattle.vx_script.proofs.Places.{any_map, has_place}
+use Rattle.vx_script.proofs.Places.{has_place}
 use Rattle.vx_grammar.specs.Grammar.{Between, Statement, let_value, let_sum, let_difference, goto_label, if_goto, put_text, get_byte, get_iosb, returns, call_service}
 use Rattle.vx_grammar.proofs.Calls.{call_read}
 

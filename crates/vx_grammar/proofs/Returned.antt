@@ -1,5 +1,6 @@
 -- What the reader returned, in words of the grammar.
 use Rattle.std.proofs.Common.{◌≡◌, ◌⊎◌, inl, inr, ℕ, ◌<◌, List, length, Result, Ok, Err, IfOk, refl, subst}
+use Rattle.vx_grammar.proofs.Fields.{one_err}
 use Rattle.vx_image.specs.declared.system.System.{System}
 use Rattle.vx_image.specs.WellFormed.{IsWellFormed}
 use Rattle.vx_script.specs.Reading.{read_script}
@@ -39,11 +40,8 @@ some text = by (read_script text) refl
     by (Ok s) e = inl (s, read_is_spelled text s e)
     by (Err fault) e = inr (fault, first_fault text fault e)
 
-same_fault : (f g : ScriptFault) (r : Result System ScriptFault) → r ≡ Err f → r ≡ Err g → f ≡ g
-same_fault f g r h k = cc
-
 pub one_fault : (text : List ℕ) (f g : ScriptFault) → Tells text f → Tells text g → f ≡ g
-one_fault text f g h k = same_fault f g (read_script text) (only_fault text f h) (only_fault text g k)
+one_fault text f g h k = one_err (read_script text) f g (only_fault text f h) (only_fault text g k)
 
 apart : (s : System) (f : ScriptFault) (r : Result System ScriptFault) → r ≡ Ok s → r ≡ Err f → ⊥
 apart s f r h k = cc

@@ -3,6 +3,7 @@ use Rattle.std.proofs.Common.{◌≡◌, ℕ, Bool, true, List, [], ◌∷◌, �
 use Rattle.std.specs.List.{list_all, list_any}
 use Rattle.std.proofs.lemmas.Bool.{and_parts, and_from}
 use Rattle.std.proofs.lemmas.List.Folds.{list_all-append}
+use Rattle.vx_base.proofs.Any.{all_push}
 use Rattle.vx_image.specs.declared.decl.ProcDecl.{ProcDecl}
 use Rattle.vx_image.specs.declared.image.Image.{Image}
 use Rattle.vx_image.specs.declared.system.System.{System}
@@ -15,7 +16,7 @@ use Rattle.vx_script.specs.declared.lines.DeclLine.{DeclLine}
 use Rattle.vx_script.specs.declared.lines.FaultLine.{FaultLine}
 use Rattle.vx_script.specs.declared.lines.InputLine.{InputLine}
 use Rattle.vx_script.specs.declared.parts.Parts.{Parts}
-use Rattle.vx_script.proofs.Appended.{all_both, all_push}
+use Rattle.vx_script.proofs.Appended.{all_both}
 use Rattle.vx_script.proofs.EndedImages.{is_known, neither}
 use Rattle.vx_grammar.specs.Grammar.{Item, OfUnit, OfInput, OfFault, OfImage, OfProcess, input_of, number_of, image_in, decl_in, fault_in}
 use Rattle.std.proofs.lemmas.List.{map_push}

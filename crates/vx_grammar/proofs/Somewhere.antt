@@ -1,9 +1,10 @@
 -- What is read as a statement is spelled as one of some image, which has the labels that it names.
-use Rattle.std.proofs.Common.{◌≡◌, ℕ, ◌||◌, not, Bool, true, false, nat_lt, List, [], ◌∷◌, ◌++◌, map, Some, None, Ok, bytes_eq, refl, ap, ◌∙◌}
+use Rattle.std.proofs.Common.{◌≡◌, ℕ, ◌||◌, not, true, false, nat_lt, List, [], ◌∷◌, ◌++◌, map, Some, None, Ok, bytes_eq, refl, ap, ◌∙◌}
 use Rattle.std.specs.List.{list_all}
 use Rattle.std.proofs.lemmas.Bool.{and_parts, and_from, or_right, or_left}
 use Rattle.std.proofs.lemmas.Result.{IfOk-at_ok}
 use Rattle.std.proofs.lemmas.List.Folds.{list_any-append}
+use Rattle.std.proofs.lemmas.List.{map-append}
 use Rattle.vx_base.specs.declared.call.Arg.{Arg}
 use Rattle.vx_base.specs.declared.call.Arg.TheVariants as arg
 use Rattle.vx_base.specs.declared.call.Call.{Call}
@@ -45,11 +46,7 @@ pub record SomeStatement (ts : List Tok) : Type 0 where
 -- One label.
 
 its_label : (name : List ℕ) → is_label (label_of name ∷ []) name ≡ true
-its_label name = has_place (λ (l : Label). bytes_eq name l.name) (label_of name ∷ []) ∙ or_first (bytes_eq name name) (same_bytes name)
-  where
-    or_first : (b : Bool) → b ≡ true → b || false ≡ true
-    or_first true h = refl
-    or_first false h = h
+its_label name = has_place (λ (l : Label). bytes_eq name l.name) (label_of name ∷ []) ∙ or_left (bytes_eq name name) false (same_bytes name)
 
 goes_there : (name : List ℕ) → nat_lt (place_or_zero (label_place name (label_of name ∷ []))) 1 ≡ true
 goes_there name = placed (λ (l : Label). bytes_eq name l.name) (label_of name ∷ []) (its_label name)
@@ -64,12 +61,8 @@ abbrev labels_in_args : List Arg → List Label
 labels_in_args [] = []
 labels_in_args (a ∷ args) = label_in a ++ labels_in_args args
 
-names_both : (xs ys : List Label) → map (λ (l : Label). l.name) (xs ++ ys) ≡ map (λ (l : Label). l.name) xs ++ map (λ (l : Label). l.name) ys
-names_both [] ys = refl
-names_both (x ∷ xs) ys = ap (λ (ns : List (List ℕ)). x.name ∷ ns) (names_both xs ys)
-
 among_both : (name : List ℕ) (xs ys : List Label) → is_among name (label_names (with_labels (xs ++ ys))) ≡ (is_among name (label_names (with_labels xs)) || is_among name (label_names (with_labels ys)))
-among_both name xs ys = ap (is_among name) (names_both xs ys) ∙ list_any-append (bytes_eq name) (map (λ (l : Label). l.name) xs) (map (λ (l : Label). l.name) ys)
+among_both name xs ys = ap (is_among name) (map-append (λ (l : Label). l.name) xs ys) ∙ list_any-append (bytes_eq name) (map (λ (l : Label). l.name) xs) (map (λ (l : Label). l.name) ys)
 
 -- labels in front of others change nothing
 still_has : (xs ys : List Label) (a : Arg) → has_its_label (with_labels ys) a ≡ true → has_its_label (with_labels (xs ++ ys)) a ≡ true

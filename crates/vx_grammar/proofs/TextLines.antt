@@ -1,10 +1,10 @@
 -- The lines of a text are those that the reader cuts.
+use mathlib.Core.Bool.{and-false}
 use Rattle.std.proofs.Common.{◌≡◌, ◌≢◌, ℕ, ◌==◌, ◌&&◌, not, Bool, true, false, cond, List, [], ◌∷◌, ◌++◌, refl, sym, subst, ap, ◌∙◌}
 use Rattle.std.specs.List.{list_all}
 use Rattle.std.proofs.lemmas.Bool.{and_parts, and_from, not_from_false, eqb-true, eq-eqb, not-true}
 use Rattle.vx_script.specs.Lines.{onto_first, begins_with, lines_of}
 use Rattle.vx_grammar.specs.Grammar.{IsFeedless, IsLines, no_text, last_line, fed_line, returned_line}
-use Rattle.vx_base.proofs.Bools.{and_false}
 
 abbrev no_feed : ℕ → Bool
 no_feed b = not (b == 10)
@@ -30,7 +30,7 @@ return_cut bytes = cut_byte 13 (10 ∷ bytes) ∙ feed_cut bytes
 
 -- a line goes on behind a byte
 goes_on : (b c : ℕ) (bytes : List ℕ) → (b == 10) ≡ false → (c == 10) ≡ false → lines_of (b ∷ c ∷ bytes) ≡ onto_first b (lines_of (c ∷ bytes))
-goes_on b c bytes h k = kept b (c ∷ bytes) h (ap (λ t. (b == 13) && t) k ∙ and_false (b == 13))
+goes_on b c bytes h k = kept b (c ∷ bytes) h (ap (λ t. (b == 13) && t) k ∙ and-false (b == 13))
 
 front_of : (b : ℕ) (line : List ℕ) → IsFeedless (b ∷ line) → ((b == 10) ≡ false) × IsFeedless line
 front_of b line h = let p = and_parts (no_feed b) (list_all no_feed line) h in (not-true (b == 10) p.0, p.1)
@@ -43,7 +43,7 @@ is_return b false e h = refl
 
 last_cut : (line : List ℕ) → IsFeedless line → line ≢ [] → lines_of line ≡ line ∷ []
 last_cut [] h some = absurd (some refl)
-last_cut (b ∷ []) h some = kept b [] (front_of b [] h).0 (and_false (b == 13)) ∙ ap (onto_first b) cut_nothing
+last_cut (b ∷ []) h some = kept b [] (front_of b [] h).0 (and-false (b == 13)) ∙ ap (onto_first b) cut_nothing
 last_cut (b ∷ c ∷ line) h some =
     let p = front_of b (c ∷ line) h in
     goes_on b c line p.0 (front_of c line p.1).0 ∙ ap (onto_first b) (last_cut (c ∷ line) p.1 (λ e. cc))
@@ -117,7 +117,7 @@ last_byte b false h = last_line (b ∷ []) (one_byte b [] h refl) (λ e. cc)
 
 last_lines : (b : ℕ) (feed : Bool) → (b == 10) ≡ feed → lines_of (b ∷ []) ≡ cond feed ([] ∷ []) ((b ∷ []) ∷ [])
 last_lines b true h = cut_byte b [] ∙ rw h (ap (λ (ls : List (List ℕ)). [] ∷ ls) cut_nothing)
-last_lines b false h = kept b [] h (and_false (b == 13)) ∙ ap (onto_first b) cut_nothing
+last_lines b false h = kept b [] h (and-false (b == 13)) ∙ ap (onto_first b) cut_nothing
 
 -- what is cut are the text's lines
 pub cut_lines : (text : List ℕ) → IsLines text (lines_of text)

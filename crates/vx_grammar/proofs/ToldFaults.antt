@@ -1,7 +1,6 @@
 -- A fault that is told of a text is the one that the reader answers.
 use Rattle.std.proofs.Common.{◌≡◌, ℕ, ◌+◌, true, false, List, [], ◌∷◌, ◌++◌, length, Option, Some, None, Result, Ok, Err, refl, sym, subst, ap, ◌∙◌, arith, append-nil, append_assoc, length-append}
 use Rattle.std.proofs.lemmas.Result.{IfOk-at_ok}
-use Rattle.vx_text.specs.declared.token.LexFail.{LexFail}
 use Rattle.vx_text.specs.declared.token.Tok.{Tok}
 use Rattle.vx_script.specs.Lines.{lines_of}
 use Rattle.vx_script.specs.Results.{◌>>=◌, at_line}
@@ -19,7 +18,7 @@ use Rattle.vx_grammar.specs.Declared.{DeclaredImage, Declared}
 use Rattle.vx_grammar.specs.FirstFault.{Fit, FirstFaulty, AllKnown, none_known, one_known, FirstUnknown, TellsFault, of_a_line, of_the_end, of_a_name, Tells}
 use Rattle.vx_grammar.specs.LineFault.{line_fault}
 use Rattle.vx_grammar.specs.UnknownName.{names_unknown}
-use Rattle.vx_grammar.proofs.Fields.{bind_ok}
+use Rattle.vx_grammar.proofs.Fields.{bind_ok, one_ok, one_err}
 use Rattle.vx_grammar.proofs.TextLines.{lines_cut}
 use Rattle.vx_grammar.proofs.Least.{least, Nothing, least_is, none_moves, seen_moves}
 use Rattle.vx_grammar.proofs.LineFaults.{refused}
@@ -97,12 +96,6 @@ record Walked (e : Reading) (front : List (List ℕ)) (d : Declared) (ls : List 
   nothing : Nothing (firsts_of e.parts q)
   rest : reads (1 + length front) q ls ≡ Ok e
 
-next_same : (r s t : Reading) (x : Result Reading FaultKind) → x ≡ Ok s → x ≡ Ok t → s ≡ t
-next_same r s t x h k = cc
-
-same_tokens : (x : Result (List Tok) LexFail) (ts us : List Tok) → x ≡ Ok ts → x ≡ Ok us → ts ≡ us
-same_tokens x ts us h k = cc
-
 walk : (e : Reading) (front : List (List ℕ)) (d : Declared) → AllKnown (declared_by e.parts None) front d → (ls : List (List ℕ)) → reads 1 nothing_read (front ++ ls) ≡ Ok e → Walked e front d ls
 walk e _ _ none_known ls h = record { q = nothing_read; same = refl; is = nothing_kept; nothing = nothing_yet e.parts; rest = ap (λ (k : ℕ). reads k nothing_read ls) (let one : 1 + 0 ≡ 1 = omega arith in one) ∙ h }
 walk e _ _ (one_known lines line tokens d f known lexed fits flag) ls h =
@@ -111,10 +104,10 @@ walk e _ _ (one_known lines line tokens d f known lexed fits flag) ls h =
     let kept = IfOk-at_ok IsRead n.1 (line_kept (1 + length lines) w.q line w.is) in
     let images = more_images (1 + length lines + 1) n.0 ls e kept n.2 in
     let t = line_taken e.parts (1 + length lines) w.q n.0 line w.is n.1 in
-    let tokens_are : t.ts ≡ tokens = same_tokens (tokens_of line) t.ts tokens t.lexed lexed in
+    let tokens_are : t.ts ≡ tokens = one_ok (tokens_of line) t.ts tokens t.lexed lexed in
     let x = fits_read d tokens f fits (1 + length lines) w.q.parts w.q.current w.same in
     let read : by_place (1 + length lines) w.q.parts w.q.current tokens ≡ Ok n.0 = ap (by_place (1 + length lines) w.q.parts w.q.current) (sym tokens_are) ∙ t.read in
-    let next : x.next ≡ n.0 = next_same w.q x.next n.0 _ x.read read in
+    let next : x.next ≡ n.0 = one_ok _ x.next n.0 x.read read in
     let here : names_unknown (declared_by e.parts None) (declared w.q).image t.ts ≡ false =
     ap (λ (us : List Tok). names_unknown (declared_by e.parts None) (declared w.q).image us) tokens_are ∙ ap (λ (g : Declared). names_unknown (declared_by e.parts None) g.image tokens) w.same ∙ flag in
     let place : 1 + length lines + 1 ≡ 1 + length (lines ++ line ∷ []) = omega (arith, length-append lines (line ∷ [])) in
@@ -135,7 +128,7 @@ name_told lines number u e h all =
     let kept = IfOk-at_ok IsRead n.1 (line_kept line w.q u.line w.is) in
     let images = more_images (line + 1) n.0 u.behind e kept n.2 in
     let t = line_taken e.parts line w.q n.0 u.line w.is n.1 in
-    let tokens_are : t.ts ≡ u.tokens = same_tokens (tokens_of u.line) t.ts u.tokens t.lexed u.lexed in
+    let tokens_are : t.ts ≡ u.tokens = one_ok (tokens_of u.line) t.ts u.tokens t.lexed u.lexed in
     let flag : names_unknown (declared_by e.parts None) (declared w.q).image t.ts ≡ true =
     ap (λ (us : List Tok). names_unknown (declared_by e.parts None) (declared w.q).image us) tokens_are
     ∙ ap (λ (g : Declared). names_unknown (declared_by e.parts None) g.image u.tokens) w.same ∙ ap (λ (a : Declared). names_unknown a u.declared.image u.tokens) all ∙ u.unknown in
@@ -149,13 +142,10 @@ name_told lines number u e h all =
 of_kind : (number : ℕ) (kind : FaultKind) (f : ScriptFault) → number ≡ f.line → kind ≡ f.kind → record { line = number; kind = kind } ≡ f
 of_kind number kind f h k = ap (λ (n : ℕ). record { line = n; kind = kind }) h ∙ ap (λ (x : FaultKind). record { line = f.line; kind = x }) k
 
-same_kind : (x : Result (Unit {0}) FaultKind) (a b : FaultKind) → x ≡ Err a → x ≡ Err b → a ≡ b
-same_kind x a b h k = cc
-
 tells_only : (text : List ℕ) (f : ScriptFault) → TellsFault (lines_of text) f → read_script text ≡ Err f
 tells_only text f (of_a_line faulty kind) =
     let t = line_of_fault text f.line faulty in
-    t.told ∙ ap Err (of_kind f.line t.kind f refl (same_kind (line_fault faulty.declared faulty.line) t.kind f.kind t.is kind))
+    t.told ∙ ap Err (of_kind f.line t.kind f refl (one_err (line_fault faulty.declared faulty.line) t.kind f.kind t.is kind))
 tells_only text f (of_the_end n kind) =
     let r = fit_read (lines_of text) n.declared n.fit in
     let opened : (declared r.r).image ≡ Some n.image = ap (λ (d : Declared). d.image) r.same ∙ n.not_ended in

@@ -1,7 +1,9 @@
 -- What a line that is read adds to the names that are looked up in the end.
+use mathlib.Core.Bool.{or-false}
 use Rattle.std.proofs.Common.{◌≡◌, ℕ, ◌==◌, ◌&&◌, ◌||◌, not, Bool, true, false, cond, if◌then◌else◌, List, [], ◌∷◌, ◌++◌, length, drop, map, flat_map, find, codes, Option, Some, None, is_some, is_none, option_map, Result, Ok, Err, bytes_eq, refl, sym, subst, ap, ◌∙◌, append-nil, append_assoc}
 use Rattle.std.specs.List.{list_any}
 use Rattle.std.proofs.lemmas.Bool.{or_parts}
+use Rattle.vx_base.proofs.Any.{any_map}
 use Rattle.vx_base.specs.Services.{args_list}
 use Rattle.vx_base.specs.declared.call.Arg.{Arg}
 use Rattle.vx_base.specs.declared.call.Arg.TheVariants as arg
@@ -34,7 +36,7 @@ use Rattle.vx_script.specs.declared.parts.Parts.{Parts}
 use Rattle.vx_script.specs.declared.parts.Reading.{Reading}
 use Rattle.vx_script.proofs.KeptParts.{IsOpenOr}
 use Rattle.vx_script.proofs.OpenImages.{IsOpen}
-use Rattle.vx_script.proofs.Places.{any_map, has_place}
+use Rattle.vx_script.proofs.Places.{has_place}
 use Rattle.vx_grammar.specs.Declared.{Declared}
 use Rattle.vx_grammar.specs.UnknownName.{outside_unknown, label_unknown, draft_unknown, labels_of, statement_unknown, inside_unknown, names_unknown}
 use Rattle.vx_grammar.proofs.Fields.{bind_ok, name_found, end_is}
@@ -43,7 +45,7 @@ use Rattle.vx_grammar.proofs.LinesBack.{with_draft}
 use Rattle.vx_grammar.proofs.LinesFit.{open_of, ended_of, line_of, declared_by}
 use Rattle.vx_grammar.proofs.SaidSoFar.{and_unit, and_input, and_fault, and_decl, flat_pushed}
 use Rattle.vx_base.proofs.Texts.{same_bytes, bytes_are}
-use Rattle.vx_base.proofs.Bools.{or_false, either_by}
+use Rattle.vx_base.proofs.Bools.{either_by}
 
 -- What is unknown of the names looked up in the end.
 
@@ -170,7 +172,7 @@ input_stepped fin line p ts i h =
     let t = names_no_line_unit fin.units i in
     let os = firsts fin p None in
     let flag : any_of (false ∷ false ∷ false ∷ false ∷ t ∷ []) ≡ outside_unknown (all_of fin) (tok.Word (codes "INPUT") ∷ ts) =
-    or_false t ∙ ap not (sym (line_units i.unit fin.units)) ∙ ap (λ (us : List Tok). outside_unknown (all_of fin) (tok.Word (codes "INPUT") ∷ us)) (sym n.shape) in
+    or-false t ∙ ap not (sym (line_units i.unit fin.units)) ∙ ap (λ (us : List Tok). outside_unknown (all_of fin) (tok.Word (codes "INPUT") ∷ us)) (sym n.shape) in
     let same : marked line (false ∷ false ∷ false ∷ false ∷ t ∷ []) os ≡ firsts fin (and_input p i) None =
     ap (λ (o : Option ℕ). p.unlabelled ∷ None ∷ made_at fin p.creations ∷ run_at fin p.decls ∷ o ∷ failed_at fin p.faults ∷ [])
     (ap (λ (k : ℕ). mark k t (fed_at fin p.inputs)) (sym n.place) ∙ sym (found_push (names_no_line_unit fin.units) (λ (i : InputLine). i.line) p.inputs i)) in
@@ -206,7 +208,7 @@ fault_stepped fin line p ts f h =
     let os = firsts fin p None in
     let ms = false ∷ false ∷ false ∷ false ∷ false ∷ t ∷ [] in
     let flag : any_of ms ≡ outside_unknown (all_of fin) (tok.Word (codes "FAULT") ∷ ts) =
-    or_false t ∙ sym (nowhere (λ (u : UnitDecl). u.name) f.unit fin.units (unit_place f.unit fin.units) (has_place (λ (u : UnitDecl). bytes_eq f.unit u.name) fin.units))
+    or-false t ∙ sym (nowhere (λ (u : UnitDecl). u.name) f.unit fin.units (unit_place f.unit fin.units) (has_place (λ (u : UnitDecl). bytes_eq f.unit u.name) fin.units))
     ∙ ap (λ (us : List Tok). outside_unknown (all_of fin) (tok.Word (codes "FAULT") ∷ us)) (sym n.shape) in
     let same : marked line ms os ≡ firsts fin (and_fault p f) None =
     ap (λ (o : Option ℕ). p.unlabelled ∷ None ∷ made_at fin p.creations ∷ run_at fin p.decls ∷ fed_at fin p.inputs ∷ o ∷ [])
@@ -246,7 +248,7 @@ process_stepped fin line p ts d h =
     let os = firsts fin p None in
     let ms = false ∷ false ∷ false ∷ t ∷ [] in
     let flag : any_of ms ≡ outside_unknown (all_of fin) (tok.Word (codes "PROCESS") ∷ ts) =
-    or_false t ∙ sym (nowhere (λ (i : Image). i.name) d.image fin.images (image_place d.image fin.images) (has_place (λ (i : Image). bytes_eq d.image i.name) fin.images))
+    or-false t ∙ sym (nowhere (λ (i : Image). i.name) d.image fin.images (image_place d.image fin.images) (has_place (λ (i : Image). bytes_eq d.image i.name) fin.images))
     ∙ ap (λ (us : List Tok). outside_unknown (all_of fin) (tok.Word (codes "PROCESS") ∷ us)) (sym n.shape) in
     let same : marked line ms os ≡ firsts fin (and_decl p d) None =
     ap (λ (o : Option ℕ). p.unlabelled ∷ None ∷ made_at fin p.creations ∷ o ∷ fed_at fin p.inputs ∷ failed_at fin p.faults ∷ [])
@@ -349,13 +351,13 @@ args_flag labels (a ∷ args) =
 
 made_flag : (decls : List DeclLine) (line : ℕ) (service : Service) (a : Arg) → list_any (names_no_decl decls) (created_by line service a) || false ≡ not (has_its_decl (map (λ (d : DeclLine). d.name) decls) service a)
 made_flag decls line CrePrc (arg.Name name) =
-    or_false (is_none (decl_place name decls) || false) ∙ or_false (is_none (decl_place name decls))
+    or-false (is_none (decl_place name decls) || false) ∙ or-false (is_none (decl_place name decls))
     ∙ sym (nowhere (λ (d : DeclLine). d.name) name decls (decl_place name decls) (has_place (λ (d : DeclLine). bytes_eq name d.name) decls))
 made_flag decls line CrePrc _ = refl
 made_flag decls line _ a = refl
 
 goes_flag : (labels : List Label) (label : List ℕ) → not (is_label labels label) || false ≡ not (is_among label (map (λ (l : Label). l.name) labels))
-goes_flag labels label = or_false (not (is_label labels label)) ∙ ap not (label_there labels label)
+goes_flag labels label = or-false (not (is_label labels label)) ∙ ap not (label_there labels label)
 
 draft_flag : (fin : Parts) (line : ℕ) (labels : List Label) (d : Draft) → draft_names_none labels d || (list_any (names_no_decl fin.decls) (created_in line d) || false)
     ≡ draft_unknown (all_of fin) (map (λ (l : Label). l.name) labels) (Ok d)
@@ -380,7 +382,7 @@ made_nothing fin xs = ap (made_at fin) (append-nil xs)
 made_push : (fin : Parts) (xs : List Creation) (line : ℕ) (service : Service) (a : Arg) → made_at fin (xs ++ created_by line service a) ≡ mark line (list_any (names_no_decl fin.decls) (created_by line service a)) (made_at fin xs)
 made_push fin xs line CrePrc (arg.Name name) =
     let c : Creation = record { line = line; name = name } in
-    found_push (names_no_decl fin.decls) (λ (c : Creation). c.line) xs c ∙ ap (λ (t : Bool). mark line t (made_at fin xs)) (sym (or_false (names_no_decl fin.decls c)))
+    found_push (names_no_decl fin.decls) (λ (c : Creation). c.line) xs c ∙ ap (λ (t : Bool). mark line t (made_at fin xs)) (sym (or-false (names_no_decl fin.decls c)))
 made_push fin xs line CrePrc _ = made_nothing fin xs
 made_push fin xs line _ a = made_nothing fin xs
 

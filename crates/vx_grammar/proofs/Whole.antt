@@ -1,6 +1,8 @@
 -- What is read of a text is exactly what the grammar spells.
-use Rattle.std.proofs.Common.{◌≡◌, ℕ, ◌≤◌, true, List, [], ◌∷◌, length, map, flat_map, Option, Some, None, Result, Ok, refl, sym, subst, ap, ◌∙◌, arith}
+use Rattle.std.proofs.Common.{◌≡◌, ℕ, ◌≤◌, true, List, [], ◌∷◌, length, map, flat_map, Option, Some, None, Ok, refl, sym, subst, ap, ◌∙◌, arith}
 use Rattle.std.proofs.lemmas.Bool.{leb-true}
+use Rattle.std.proofs.lemmas.List.{length-map}
+use Rattle.vx_grammar.proofs.Fields.{one_ok}
 use Rattle.vx_image.specs.declared.decl.ProcDecl.{ProcDecl}
 use Rattle.vx_image.specs.declared.image.Image.{Image}
 use Rattle.vx_image.specs.declared.system.System.{System}
@@ -10,10 +12,8 @@ use Rattle.vx_script.specs.Lines.{lines_of}
 use Rattle.vx_script.specs.Reading.{nothing_read, read_script}
 use Rattle.vx_script.specs.Resolving.{first_unknown, resolved}
 use Rattle.vx_script.specs.Resolving as resolving
-use Rattle.vx_script.specs.declared.fault.ScriptFault.{ScriptFault}
 use Rattle.vx_script.specs.declared.parts.Parts.{Parts}
 use Rattle.vx_script.proofs.Accepted.{accepted}
-use Rattle.vx_script.proofs.Appended.{as_many}
 use Rattle.vx_script.proofs.KeptParts.{nothing_kept}
 use Rattle.vx_script.proofs.ResolvedSystem.{IsFormed}
 use Rattle.vx_grammar.specs.Grammar.{Item, OfUnit, OfInput, OfFault, OfImage, OfProcess, unit_in, image_in, decl_in, Spells, tokens_of}
@@ -88,7 +88,7 @@ decl_names_in (OfProcess d ∷ some) = ap (λ (ns : List (List ℕ)). d.name ∷
 room_of : {A : Type 0} (most : ℕ) (name : A → List ℕ) (xs ys : List A) (ns : List (List ℕ)) → xs ≡ ys → map name ys ≡ ns → are_distinct (map name xs) ≡ true → length xs ≤ most → Room most [] ns
 room_of most name xs ys ns e f apart few =
     let same : map name xs ≡ ns = ap (map name) e ∙ f in
-    let long : length (map name xs) ≡ length xs = as_many name xs in
+    let long : length (map name xs) ≡ length xs = length-map xs name in
     let bound : length (map name xs) ≤ most = omega (arith, long, few) in
     record { apart = subst (λ (us : List (List ℕ)). are_distinct us ≡ true) same apart; few = subst (λ (us : List (List ℕ)). length us ≤ most) same bound }
 
@@ -112,8 +112,5 @@ spelled_is_read text s g =
 
 -- a text says one system
 
-same_ok : (a b : System) (r : Result System ScriptFault) → r ≡ Ok a → r ≡ Ok b → a ≡ b
-same_ok a b r h k = cc
-
 pub at_most_one : (text : List ℕ) (s t : System) → Spells text s → Spells text t → s ≡ t
-at_most_one text s t g h = same_ok s t (read_script text) (spelled_is_read text s g) (spelled_is_read text t h)
+at_most_one text s t g h = one_ok (read_script text) s t (spelled_is_read text s g) (spelled_is_read text t h)

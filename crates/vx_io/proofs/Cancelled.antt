@@ -1,7 +1,9 @@
 -- The requests of a channel, cancelled one after another.
+use mathlib.Core.Bool.{and-false}
 use Rattle.std.proofs.Common.{◌≡◌, ◌<◌, ℕ, List, [], ◌∷◌, ◌++◌, Bool, true, false, cond, not, ◌&&◌, length, Option, Some, None, option_map, refl, ap, sym, subst, ◌∙◌, arith}
 use Rattle.std.specs.List.{AllByRecursion, filter, find}
 use Rattle.std.proofs.lemmas.Bool.{and_parts, not-true, not-false}
+use Rattle.vx_base.proofs.Lists.{some_mapped, none_mapped}
 use Rattle.vx_base.specs.Lists.{amend, less}
 use Rattle.vx_base.specs.Pieces.{Request}
 use Rattle.vx_base.specs.declared.cond.Cond.TheVariants.{Cancel}
@@ -16,7 +18,6 @@ use Rattle.vx_record.proofs.Cancelled.{cancelled_requests}
 use Rattle.vx_record.proofs.Lists.{all_amend, all_find, all_less, all_weaker, either, either_by, ordered_amend}
 use Rattle.vx_reqs.specs.Requests.{is_to_cancel}
 use Rattle.vx_procs.specs.Kernel.{Acts, Fits, Kernel}
-use Rattle.vx_procs.proofs.Ended.{found_id, found_none}
 use Rattle.vx_procs.proofs.Firsts.{amend_like, filter_found, filter_none, find_same, less_same}
 use Rattle.vx_procs.proofs.Rest.{IsDoing, acted, doing_begun, doing_end, doing_on, doing_room}
 use Rattle.vx_io.specs.Cancelling.{AreCancellable, IsToCancel, cancel_found, cancel_requests}
@@ -99,11 +100,7 @@ amend_gone test f (y ∷ ys) x e gone =
 -- one that is served and was marked now is not to be cancelled
 marked_out : (p : Pid) (chan : ℕ) (r : Request) → r.served ≡ true → is_to_cancel p chan (with_abort r) ≡ false
 marked_out p chan r served =
-    ap (λ b. is_request_on p chan r && not (b && true)) served ∙ never (is_request_on p chan r)
-  where
-    never : (b : Bool) → (b && false) ≡ false
-    never true = refl
-    never false = refl
+    ap (λ b. is_request_on p chan r && not (b && true)) served ∙ and-false (is_request_on p chan r)
 
 is_going : (p : Pid) (chan : ℕ) (r : Request) → is_to_cancel p chan r ≡ true → (r.served && r.marked) ≡ false
 is_going p chan r e = not-true (r.served && r.marked) (and_parts (is_request_on p chan r) (not (r.served && r.marked)) e).1
@@ -153,11 +150,11 @@ record IsNext (p : Pid) (chan : ℕ) (s : State) (id : Id) : Type 0 where
 
 next_found : (p : Pid) (chan : ℕ) (s : State) (id : Id) → AreOrdered request_id 0 s.next s.requests → Some id ≡ option_map (λ r. r.req.id) (find (is_to_cancel p chan) s.requests) → IsNext p chan s id
 next_found p chan s id order given =
-    let found = found_id (λ (r : Request). r.req.id) (find (is_to_cancel p chan) s.requests) id given in
+    let found = some_mapped (λ (r : Request). r.req.id) (find (is_to_cancel p chan) s.requests) id (sym given) in
     record {
       r = found.0;
-      found = found.1.0;
-      by_id = ap (λ (i : Id). find (this_request i) s.requests) (sym found.1.1) ∙ find_same request_id (is_to_cancel p chan) 0 s.next s.requests found.0 order found.1.0;
+      found = found.1;
+      by_id = ap (λ (i : Id). find (this_request i) s.requests) (sym found.2) ∙ find_same request_id (is_to_cancel p chan) 0 s.next s.requests found.0 order found.1;
     }
 
 pub cancelling_begun : (p : Pid) (chan : ℕ) (k : Kernel) → AreCancellable k.state → Fits k (cancel_requests p chan k.state).effects → IsCancelling p chan k k
@@ -208,5 +205,5 @@ cancelling_fewer p chan first k l id h given did =
 
 pub cancelling_end : (p : Pid) (chan : ℕ) (first k : Kernel) → IsCancelling p chan first k → None ≡ option_map (λ r. r.req.id) (find (is_to_cancel p chan) k.state.requests) → Acts (cancel_requests p chan first.state) first k
 cancelling_end p chan first k h given =
-    let none = found_none (λ (r : Request). r.req.id) (find (is_to_cancel p chan) k.state.requests) given in
+    let none = none_mapped (λ (r : Request). r.req.id) (find (is_to_cancel p chan) k.state.requests) (sym given) in
     doing_end (cancel_requests p chan first.state) first k k (cancel_rest p chan k.state) (ap (λ xs. each cancel_request xs k.state) (filter_none (is_to_cancel p chan) k.state.requests none)) refl h.doing

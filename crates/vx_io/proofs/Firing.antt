@@ -2,6 +2,7 @@
 use Rattle.std.proofs.Common.{◌≡◌, ◌<◌, List, [], ◌∷◌, Bool, true, length, Option, Some, None, is_some, option_map, refl, ap, sym, subst, ◌∙◌, arith}
 use Rattle.std.specs.List.{filter, find}
 use Rattle.std.proofs.lemmas.Bool.{eqb-true}
+use Rattle.vx_base.proofs.Lists.{some_mapped, none_mapped}
 use Rattle.vx_base.specs.Lists.{less}
 use Rattle.vx_base.specs.Pieces.{Attention}
 use Rattle.vx_base.specs.declared.effects.Effect.{Effect}
@@ -16,7 +17,6 @@ use Rattle.vx_record.proofs.Lists.{ordered_less}
 use Rattle.vx_procs.specs.Attention.{fired_attention, fired_attention_if, without_attention}
 use Rattle.vx_procs.specs.Kernel.{Acts, Fits, Kernel, told, with_state}
 use Rattle.vx_procs.proofs.Booked.{length-less}
-use Rattle.vx_procs.proofs.Ended.{found_id, found_none}
 use Rattle.vx_procs.proofs.Firsts.{filter_found, filter_none, find_same, less_same}
 use Rattle.vx_procs.proofs.Rest.{IsDoing, acted, doing_begun, doing_end, doing_on, doing_room}
 use Rattle.vx_io.specs.Boxes.{fire_found}
@@ -58,12 +58,12 @@ record IsFirst (test : Attention → Bool) (s : State) (id : Id) : Type 0 where
 
 first_found : (test : Attention → Bool) (s : State) (id : Id) → AreOrdered attention_id 0 s.next s.attention → Some id ≡ option_map (λ a. a.id) (find test s.attention) → IsFirst test s id
 first_found test s id order given =
-    let found = found_id (λ (a : Attention). a.id) (find test s.attention) id given in
+    let found = some_mapped (λ (a : Attention). a.id) (find test s.attention) id (sym given) in
     record {
       a = found.0;
-      found = found.1.0;
-      is = found.1.1;
-      by_id = ap (λ (i : Id). find (this_attention i) s.attention) (sym found.1.1) ∙ find_same attention_id test 0 s.next s.attention found.0 order found.1.0;
+      found = found.1;
+      is = found.2;
+      by_id = ap (λ (i : Id). find (this_attention i) s.attention) (sym found.2) ∙ find_same attention_id test 0 s.next s.attention found.0 order found.1;
     }
 
 pub entries_begun : (f : State → Attention → Part) (test : Attention → Bool) (k : Kernel) → AreOrdered attention_id 0 k.state.next k.state.attention → Fits k (entries_rest f test k.state).effects → AreEnding f test k k
@@ -93,7 +93,7 @@ entry_fewer f outs test k l id order x did =
 
 pub entries_end : (f : State → Attention → Part) (test : Attention → Bool) (first k : Kernel) → AreEnding f test first k → None ≡ option_map (λ a. a.id) (find test k.state.attention) → Acts (entries_rest f test first.state) first k
 entries_end f test first k h given =
-    let none = found_none (λ (a : Attention). a.id) (find test k.state.attention) given in
+    let none = none_mapped (λ (a : Attention). a.id) (find test k.state.attention) (sym given) in
     doing_end (entries_rest f test first.state) first k k (entries_rest f test k.state) (ap (λ xs. each f xs k.state) (filter_none test k.state.attention none)) refl h.doing
 
 -- Entries fire.

@@ -2,6 +2,7 @@
 use Rattle.std.proofs.Common.{◌≡◌, ℕ, ◌+◌, ◌-◌, ◌≤◌, List, [], ◌∷◌, ◌++◌, Bool, true, false, cond, length, length-set, not, ◌==◌, Option, Some, None, is_some, slice_index_or, if◌then◌else◌, refl, ap, sym, subst, ◌∙◌, arith}
 use Rattle.std.specs.List.{find, list_any}
 use Rattle.std.proofs.lemmas.Bool.{eq-eqb, ne_eqb}
+use Rattle.vx_record.proofs.Apart.{need_as}
 use Rattle.vx_base.specs.Lists.{tally}
 use Rattle.vx_base.specs.Pieces.{Mailbox, Queued, Request, Status, cleared}
 use Rattle.vx_base.specs.Quotas.{is_within, together}
@@ -48,10 +49,6 @@ same_device : (s t : State) (dev : Device) → length t.units ≡ length s.units
 same_device s t (device.Unit u) units boxes h = omega (arith, units, h)
 same_device s t (device.Mailbox b) units boxes h = subst (λ (xs : List (Option Mailbox)). is_some (slice_index_or xs b.0 None) ≡ true) (sym boxes) h
 
-same_need : (s t : State) (dev : Device) (func : Func) (b : Bool) (len : ℕ) → t.system ≡ s.system → request_need t dev func b len ≡ request_need s dev func b len
-same_need s t (device.Unit u) func b len e = rw e refl
-same_need s t (device.Mailbox c) func b len e = refl
-
 -- a flag is cleared
 flag_cleared : (k : Kernel) (p : Pid) (dev : Device) (func : Func) (b : Bool) (len : ℕ) (c : Cell) → IsOpening k p dev func b len → IsOpening (with_state k (with_cell k.state c false)) p dev func b len
 flag_cleared k p dev func b len (Local q n) h =
@@ -67,7 +64,7 @@ flag_cleared k p dev func b len (Local q n) h =
       ids = h.ids;
       steady = steady_in t (length s.procs) s.next s.requests s.attention (length-set s.procs (q.0 - 1) _) refl refl refl h.steady;
       device = same_device s t dev refl refl h.device;
-      within = ap (exceeds t p) (same_need s t dev func b len refl) ∙ (flagged_exceeds s c false p (request_need s dev func b len) ∙ h.within);
+      within = ap (exceeds t p) (need_as s t dev func b len refl) ∙ (flagged_exceeds s c false p (request_need s dev func b len) ∙ h.within);
     }
 flag_cleared k p dev func b len (Common group name n) h =
     let c = Common group name n in
@@ -82,7 +79,7 @@ flag_cleared k p dev func b len (Common group name n) h =
       ids = h.ids;
       steady = h.steady;
       device = same_device s t dev refl refl h.device;
-      within = ap (exceeds t p) (same_need s t dev func b len refl) ∙ (flagged_exceeds s c false p (request_need s dev func b len) ∙ h.within);
+      within = ap (exceeds t p) (need_as s t dev func b len refl) ∙ (flagged_exceeds s c false p (request_need s dev func b len) ∙ h.within);
     }
 
 -- a status block is cleared
@@ -115,7 +112,7 @@ status_cleared k p dev func b len i es h =
       ids = h.ids;
       steady = steady_in t (length s.procs) s.next s.requests s.attention many refl refl refl h.steady;
       device = same_device s t dev refl refl h.device;
-      within = ap (exceeds t p) (same_need s t dev func b len refl) ∙ (status_exceeds s p p i cleared (request_need s dev func b len) ∙ h.within);
+      within = ap (exceeds t p) (need_as s t dev func b len refl) ∙ (status_exceeds s p p i cleared (request_need s dev func b len) ∙ h.within);
     }
 
 block_cleared : (k : Kernel) (p : Pid) (dev : Device) (func : Func) (b : Bool) (len i : ℕ) (es : List Effect) (named : Bool) → IsOpening k p dev func b len → IsOpening (told (with_state k (part_if named (put_status k.state p i cleared) k.state).after) es) p dev func b len

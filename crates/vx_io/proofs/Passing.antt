@@ -1,6 +1,7 @@
 -- What a message does, as the machine has it by requests, and as the code does it by ids.
 use Rattle.std.proofs.Common.{◌≡◌, ℕ, List, [], ◌∷◌, ◌++◌, not, length, Option, Some, None, option_map, refl, ap, sym, subst, ◌∙◌}
 use Rattle.std.specs.List.{find}
+use Rattle.vx_base.proofs.Lists.{some_mapped, none_mapped}
 use Rattle.vx_base.specs.Lists.{less}
 use Rattle.vx_base.specs.Pieces.{Request}
 use Rattle.vx_base.specs.Queues.{body_bytes}
@@ -20,7 +21,6 @@ use Rattle.vx_record.specs.Parts.{Part, and_then, part_if}
 use Rattle.vx_record.specs.Sound.{AreOrdered, request_id}
 use Rattle.vx_record.specs.State.{State}
 use Rattle.vx_procs.specs.Kernel.{Acts, Fits, Kernel}
-use Rattle.vx_procs.proofs.Ended.{found_id, found_none}
 use Rattle.vx_procs.proofs.Firsts.{find_same}
 use Rattle.vx_procs.proofs.Rest.{acted, acts_both, room_second}
 use Rattle.vx_io.specs.Boxes.{done_by, keep_by, len_found, pass_by, read_by, read_reply}
@@ -71,12 +71,12 @@ record IsWaiting (s : State) (b : BoxNo) (id : Id) : Type 0 where
 
 waiting : (s : State) (b : BoxNo) (id : Id) → AreOrdered request_id 0 s.next s.requests → Some id ≡ option_map (λ r. r.req.id) (find (waits_at b) s.requests) → IsWaiting s b id
 waiting s b id order given =
-    let found = found_id (λ (r : Request). r.req.id) (find (waits_at b) s.requests) id given in
+    let found = some_mapped (λ (r : Request). r.req.id) (find (waits_at b) s.requests) id (sym given) in
     record {
       r = found.0;
-      found = found.1.0;
-      is = found.1.1;
-      by_id = ap (λ (i : Id). find (this_request i) s.requests) (sym found.1.1) ∙ find_same request_id (waits_at b) 0 s.next s.requests found.0 order found.1.0;
+      found = found.1;
+      is = found.2;
+      by_id = ap (λ (i : Id). find (this_request i) s.requests) (sym found.2) ∙ find_same request_id (waits_at b) 0 s.next s.requests found.0 order found.1;
     }
 
 abbrev handed : BoxNo → Msg → State → Part
@@ -97,7 +97,7 @@ passed_part k l b m id reply len count order given lens replies counts did =
 -- none waits
 pub kept_same : (s : State) (b : BoxNo) (m : Msg) → None ≡ option_map (λ r. r.req.id) (find (waits_at b) s.requests) → keep_by s b m ≡ write_box s b m
 kept_same s b m given =
-    let none = found_none (λ (r : Request). r.req.id) (find (waits_at b) s.requests) given in
+    let none = none_mapped (λ (r : Request). r.req.id) (find (waits_at b) s.requests) (sym given) in
     let put = mput_part s b m in
     let joined : Part → Part = λ y. record { effects = put.effects ++ y.effects; after = y.after } in
     ap (λ (o : Option Request). joined (hand_over put.after b m o)) (sym none)

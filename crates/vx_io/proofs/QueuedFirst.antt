@@ -1,6 +1,7 @@
 -- A request finishes alike whether its AST is queued last, as the machine has it, or first, as the code does.
 use Rattle.std.proofs.Common.{◌≡◌, ℕ, ◌-◌, ◌%◌, List, [], ◌++◌, Bool, true, false, cond, not, ◌&&◌, ◌==◌, nat_lt, slice_set, Option, Some, None, is_some, refl, ap, sym, ◌∙◌}
 use Rattle.std.specs.List.{find}
+use Rattle.vx_base.proofs.Bools.{both_mapped}
 use Rattle.vx_base.specs.Clusters.{cluster_number, is_association}
 use Rattle.vx_base.specs.Pieces.{Association, Promised, Queued, Request, Status}
 use Rattle.vx_base.specs.declared.effects.Cell.TheVariants.{Local}
@@ -42,11 +43,7 @@ status_apart (Some q) i status pr = refl
 
 flag_apart : (o : Option Queued) (n : ℕ) (pr : Process) → with_local_flag n true (with_queued_if o pr) ≡ with_queued_if o (with_local_flag n true pr)
 flag_apart None n pr = refl
-flag_apart (Some q) n pr = pushed (nat_lt n 32) _ _
-  where
-    pushed : (b : Bool) (x y : Process) → cond b (with_queued_if (Some q) x) (with_queued_if (Some q) y) ≡ with_queued_if (Some q) (cond b x y)
-    pushed true x y = refl
-    pushed false x y = refl
+flag_apart (Some q) n pr = sym (both_mapped (with_queued_if (Some q)) (nat_lt n 32) _ _)
 
 -- each part, with the AST queued before it
 

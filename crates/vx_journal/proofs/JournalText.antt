@@ -1,24 +1,19 @@
 -- A text that is read as a journal is the journal's text.
-use Rattle.std.proofs.Common.{◌≡◌, ℕ, ◌+◌, ◌==◌, Bool, true, false, cond, List, [], ◌∷◌, ◌++◌, length, drop, nat_eq, Result, Ok, Err, refl, sym, ap, ◌∙◌, arith}
+use Rattle.std.proofs.Common.{◌≡◌, ℕ, ◌+◌, ◌==◌, Bool, true, false, cond, List, [], ◌∷◌, ◌++◌, length, drop, nat_eq, Ok, Err, refl, sym, ap, ◌∙◌, arith}
 use Rattle.std.specs.List.{starts_with}
 use Rattle.std.proofs.lemmas.Bool.Decides.{nat_tests, Decides-eqb}
 use Rattle.std.proofs.lemmas.Slice.Eq.{starts_is}
+use Rattle.vx_grammar.proofs.Fields.{bind_ok}
 use Rattle.vx_image.specs.declared.system.System.{System}
 use Rattle.vx_lines.specs.ReadRecords.{read_records}
 use Rattle.vx_lines.specs.Records.{ended_lines, records_lines}
 use Rattle.vx_lines.specs.declared.read.Records.{Records}
-use Rattle.vx_script.specs.Results.{◌>>=◌}
 use Rattle.vx_script.specs.Script.{script}
 use Rattle.vx_journal.proofs.RecordsSpelled.{records_spelled}
 use Rattle.vx_journal.specs.ReadJournal.{behind_header, behind_records, behind_script, header, journal_of, journal_text, line_behind, next_line, IsJournal}
 use Rattle.vx_journal.specs.TrailerLines.{read_trailer}
 use Rattle.vx_journal.specs.declared.journal.Journal.{Journal}
 use Rattle.vx_journal.specs.declared.journal.Part.{Part}
-
--- what the first of two readings gives, where the second gives something
-first_read : {A B : Type 0} (r : Result A ℕ) (f : A → Result B ℕ) (b : B) → (r >>= f) ≡ Ok b → (a : A) × (r ≡ Ok a) × (f a ≡ Ok b)
-first_read (Ok a) f b h = (a, refl, h)
-first_read (Err e) f b h = absurd (cc)
 
 front_by : (line f b : ℕ) (front text : List ℕ) (m : ℕ) (t : Bool) → (f == b) ≡ t → ((k : ℕ) → line_behind k front text ≡ Ok m → text ≡ front ++ drop (length front) text) → cond t (line_behind (next_line line f) front text) (Err line) ≡ Ok m → b ∷ text ≡ (f ∷ front) ++ drop (length (f ∷ front)) (b ∷ text)
 front_by line f b front text m true is rest h =
@@ -35,9 +30,9 @@ front_there line (f ∷ front) (b ∷ text) m h = front_by line f b front text m
 
 pub records_there : (system : System) (line : ℕ) (text : List ℕ) (j : Journal) → behind_header system line text ≡ Ok j → (j.system ≡ system) × (text ≡ ended_lines (records_lines system.units 1 j.recs) ++ j.trailer)
 records_there system line text j h =
-    let one = first_read (read_records system.units line text) (λ (r : Records). behind_records system r (drop r.len text)) j h in
+    let one = bind_ok (read_records system.units line text) (λ (r : Records). behind_records system r (drop r.len text)) j h in
     let records : Records = one.0 in
-    let two = first_read (read_trailer system.units records.line (drop records.len text)) (λ (part : Part). Ok (record { system = system; recs = records.recs; part = part; trailer = drop records.len text })) j one.2 in
+    let two = bind_ok (read_trailer system.units records.line (drop records.len text)) (λ (part : Part). Ok (record { system = system; recs = records.recs; part = part; trailer = drop records.len text })) j one.2 in
     let made : record { system = system; recs = records.recs; part = two.0; trailer = drop records.len text } ≡ j = cc two.2 in
     (ap (λ (z : Journal). z.system) (sym made), records_spelled system.units line text records one.1 ∙ ap (λ (z : Journal). ended_lines (records_lines system.units 1 z.recs) ++ z.trailer) made)
 
@@ -52,7 +47,7 @@ header_by system line text j false is h = absurd (cc)
 pub whole_text : (system : System) (text : List ℕ) (j : Journal) → journal_of system text ≡ Ok j → (j.system ≡ system) × (text ≡ script system ++ (header ++ (ended_lines (records_lines system.units 1 j.recs) ++ j.trailer)))
 unfolding journal_of
 whole_text system text j h =
-    let one = first_read (line_behind 1 (script system) text) (λ (line : ℕ). behind_script system line (drop (length (script system)) text)) j h in
+    let one = bind_ok (line_behind 1 (script system) text) (λ (line : ℕ). behind_script system line (drop (length (script system)) text)) j h in
     let rest = header_by system one.0 (drop (length (script system)) text) j (starts_with nat_eq (drop (length (script system)) text) header) refl one.2 in
     (rest.0, front_there 1 (script system) text one.0 one.1 ∙ ap (λ z. script system ++ z) rest.1)
 

@@ -75,7 +75,7 @@ head_spelled units n line r h = head_by units n line (head_of units (from_space 
 
 -- One more line is the printed text of one more head or effect.
 
-records_more : (units : List UnitDecl) (n : ℕ) (xs ys : List Rec) → records_lines units n (xs ++ ys) ≡ records_lines units n xs ++ records_lines units (n + length xs) ys
+pub records_more : (units : List UnitDecl) (n : ℕ) (xs ys : List Rec) → records_lines units n (xs ++ ys) ≡ records_lines units n xs ++ records_lines units (n + length xs) ys
 records_more units n [] ys = ap (λ (k : ℕ). records_lines units k ys) (omega arith)
 records_more units n (x ∷ xs) ys =
     let next : (n + 1) + length xs ≡ n + length (x ∷ xs) = omega arith in

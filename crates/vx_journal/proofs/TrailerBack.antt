@@ -2,6 +2,7 @@
 use Rattle.std.proofs.Common.{◌≡◌, ℕ, ◌+◌, true, false, List, [], ◌∷◌, ◌++◌, Option, Some, None, Ok, refl, sym, ap, ◌∙◌, append-nil}
 use Rattle.std.specs.Prelude.{decimal}
 use Rattle.std.specs.List.{AllByRecursion, list_all}
+use Rattle.vx_base.proofs.Any.{both_pass}
 use Rattle.vx_base.specs.Name.{is_name}
 use Rattle.vx_base.specs.declared.number.Pid.{Pid}
 use Rattle.vx_base.specs.declared.number.UnitNo.{UnitNo}
@@ -31,7 +32,6 @@ use Rattle.vx_journal.specs.declared.trailer.Place.TheVariants as place
 use Rattle.vx_journal.specs.declared.trailer.TrailerLine.{TrailerLine}
 use Rattle.vx_journal.specs.declared.trailer.TrailerLine.TheVariants as trailer
 use Rattle.vx_journal.proofs.TrailerPart.{begins, first_line, over}
-use Rattle.vx_lines.proofs.HeadsLaw.{no_feed_append}
 use Rattle.vx_base.proofs.Texts.{same_bytes}
 
 -- Words.
@@ -78,7 +78,7 @@ process_back units p name st code h i j =
     let rest : List ℕ = decimal p.0 ++ 32 ∷ (name ++ 32 ∷ (standing_word st ++ 32 ∷ decimal code)) in
     let same : 32 ∷ rest ≡ spaced words = ap (λ z. 32 ∷ (decimal p.0 ++ 32 ∷ (name ++ 32 ∷ (standing_word st ++ 32 ∷ z)))) (sym (append-nil (decimal code))) in
     record {
-      feed = no_feed_append (decimal p.0) (32 ∷ (name ++ 32 ∷ (standing_word st ++ 32 ∷ decimal code))) (feedless (decimal p.0) a) (no_feed_append name (32 ∷ (standing_word st ++ 32 ∷ decimal code)) (feedless name b) (no_feed_append (standing_word st) (32 ∷ decimal code) (feedless (standing_word st) c) (feedless (decimal code) d)));
+      feed = both_pass is_no_feed (decimal p.0) (32 ∷ (name ++ 32 ∷ (standing_word st ++ 32 ∷ decimal code))) (feedless (decimal p.0) a) (both_pass is_no_feed name (32 ∷ (standing_word st ++ 32 ∷ decimal code)) (feedless name b) (both_pass is_no_feed (standing_word st) (32 ∷ decimal code) (feedless (standing_word st) c) (feedless (decimal code) d)));
       read = ap process_in same ∙ process_words (spaced words) p name st code h i j
           (first_back (decimal p.0) (name ∷ standing_word st ∷ decimal code ∷ []) (whole (decimal p.0) a))
           (second_back (decimal p.0) name (standing_word st ∷ decimal code ∷ []) (whole (decimal p.0) a) (whole name b))
@@ -95,7 +95,7 @@ output_back units u bytes h i =
     let same : 32 ∷ (name ++ 32 ∷ text) ≡ spaced words = ap (λ z. 32 ∷ (name ++ 32 ∷ z)) (sym (append-nil text)) in
     let behind : behind_word (spaced words) ≡ spaced (text ∷ []) = behind_back name (text ∷ []) (whole name a) in
     record {
-      feed = no_feed_append name (32 ∷ text) (feedless name a) (text_feed bytes);
+      feed = both_pass is_no_feed name (32 ∷ text) (feedless name a) (text_feed bytes);
       read = ap (λ (z : List ℕ). output_in units z (text_of (behind_word z))) same
           ∙ ap (λ (z : List ℕ). output_in units (spaced words) (text_of z)) behind
           ∙ ap (output_in units (spaced words)) (text_back bytes i)
@@ -110,7 +110,7 @@ end_line_back units end n h =
     let words : List (List ℕ) = word ∷ decimal n ∷ [] in
     let same : 32 ∷ (word ++ 32 ∷ decimal n) ≡ spaced words = ap (λ z. 32 ∷ (word ++ 32 ∷ z)) (sym (append-nil (decimal n))) in
     record {
-      feed = no_feed_append word (32 ∷ decimal n) (feedless word a) (feedless (decimal n) b);
+      feed = both_pass is_no_feed word (32 ∷ decimal n) (feedless word a) (feedless (decimal n) b);
       read = ap end_in same ∙ end_words (spaced words) end n h (first_back word (decimal n ∷ []) (whole word a)) (second_back word (decimal n) [] (whole word a) (whole (decimal n) b));
     }
 

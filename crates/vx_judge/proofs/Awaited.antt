@@ -2,6 +2,7 @@
 use Rattle.std.proofs.Common.{◌≡◌, ℕ, zero, suc, ◌+◌, ◌-◌, ◌<◌, false, cond, ◌&&◌, ◌==◌, List, [], ◌∷◌, Option, Some, None, map, refl, ap, ap₂, sym, ◌∙◌, arith, add-one, eq-eqb}
 use Rattle.std.proofs.lemmas.Bool.{ne_eqb, eqb-true}
 use Rattle.std.specs.HashMap.{get}
+use Rattle.vx_laws.specs.Agrees.{waited}
 use Rattle.vx_base.specs.declared.call.Call.{Call}
 use Rattle.vx_base.specs.declared.cond.Cond.{Cond}
 use Rattle.vx_base.specs.declared.number.Pid.{Pid}
@@ -10,7 +11,7 @@ use Rattle.vx_base.specs.declared.frame.Wait.{Wait}
 use Rattle.vx_laws.specs.Frames.{with_first}
 use Rattle.vx_laws.specs.Items.{Item}
 use Rattle.vx_laws.specs.StatusLaw.{resumes_right, resumes_wait}
-use Rattle.vx_judge.specs.Asked.{asked, top_of}
+use Rattle.vx_judge.specs.Asked.{top_of}
 use Rattle.vx_judge.specs.Pairs.{pair_eq}
 use Rattle.vx_judge.specs.Waits.{waits_below, waits_in, count_in, wait_at}
 use Rattle.vx_judge.specs.declared.waits.Waits.{Waits}
@@ -99,7 +100,7 @@ pub top_below : (f : ℕ → Option Wait) (count : ℕ) → 0 < count → f (cou
 top_below f zero k = absurd (omega (arith, k))
 top_below f (suc n) k = let e : suc n - 1 ≡ n = omega arith in ap f e
 
-pub by_top : (past : List Item) (p : Pid) (c : Cond) (ws : List (Option Call)) → resumes_wait past p c (top_of (map asked ws)) ≡ resumes_right past p c ws
+pub by_top : (past : List Item) (p : Pid) (c : Cond) (ws : List (Option Call)) → resumes_wait past p c (top_of (map waited ws)) ≡ resumes_right past p c ws
 by_top past p c [] = refl
 by_top past p c (None ∷ ws) = refl
 by_top past p c (Some call ∷ ws) = refl

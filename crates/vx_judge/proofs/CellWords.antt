@@ -3,6 +3,7 @@ use Rattle.std.proofs.Common.{◌≡◌, ℕ, Bool, true, false, cond, not, ◌&
 use Rattle.std.proofs.lemmas.Bool.{and_parts, eqb-true}
 use Rattle.std.proofs.lemmas.Slice.Eq.{bytes_eq-Decides}
 use Rattle.std.specs.List.{filter, find}
+use Rattle.vx_record.proofs.SoundFlags.{both_names}
 use Rattle.vx_base.specs.Flags.{with_flag}
 use Rattle.vx_base.specs.Lists.{less}
 use Rattle.vx_base.specs.declared.effects.Cell.{Cell}
@@ -16,19 +17,18 @@ use Rattle.vx_judge.specs.Words.{IsWord, clear_word}
 use Rattle.vx_judge.specs.declared.cells.Cells.{Cells}
 use Rattle.vx_judge.specs.declared.common_word.CommonWord.{CommonWord}
 use Rattle.vx_judge.specs.declared.word.Word.{Word}
-use Rattle.vx_judge.proofs.Loops.{find_apart}
 use Rattle.vx_judge.proofs.OpenIds.{by_cases}
 use Rattle.vx_laws.proofs.Stands.{agreed}
-use Rattle.vx_laws.proofs.Common.{same_name}
+use Rattle.vx_laws.proofs.Common.{find_other}
 
 -- it is not of another cluster
 other_cluster : (g h : ℕ) (a b : List ℕ) (x : CommonWord) → is_word_of g a x ≡ true → ((g == h) && bytes_eq a b) ≡ false → is_word_of h b x ≡ false
-other_cluster g h a b x is apart = let both = same_name x.group g x.name a is in rw (both.0, both.1) apart
+other_cluster g h a b x is apart = let both = both_names x.group g x.name a is in rw (both.0, both.1) apart
 
 put_where : (new : CommonWord) (b : Bool) (h : ℕ) (name : List ℕ) (xs : List CommonWord) → ((new.group == h) && bytes_eq new.name name) ≡ b →
     word_found (find (is_word_of h name) (new ∷ less (is_word_of new.group new.name) xs)) ≡ cond b new.word (word_found (find (is_word_of h name) xs))
 put_where new true h name xs e = rw e refl
-put_where new false h name xs e = rw e (ap word_found (find_apart (is_word_of h name) (is_word_of new.group new.name) (λ x is. other_cluster new.group h new.name name x is e) xs))
+put_where new false h name xs e = rw e (ap word_found (find_other (is_word_of new.group new.name) (is_word_of h name) xs (λ x is. other_cluster new.group h new.name name x is e)))
 
 pub common_put : (old new : Cells) (n : ℕ) (x : CommonWord) → new.lower ≡ old.lower → new.upper ≡ old.upper → new.common.items ≡ x ∷ less (is_word_of x.group x.name) old.common.items →
     (c : Cell) → word_in new c ≡ cond (is_beside (Common x.group x.name n) c) x.word (word_in old c)
@@ -55,11 +55,11 @@ other_found P s apart (x ∷ xs) = other_where P (s x) x (filter (λ y. not (s y
 gone_where : (g h : ℕ) (a b : List ℕ) (xs : List CommonWord) →
     word_found (find (is_word_of h b) (filter (λ x. not (is_word_of g a x)) xs)) ≡ cond ((h == g) && bytes_eq b a) clear_word (word_found (find (is_word_of h b) xs))
 gone_where g h a b xs = by_cases ((h == g) && bytes_eq b a)
-    (λ e. let both = same_name h g b a e in rw (e, both.0, both.1) (ap word_found (none_found (is_word_of g a) xs)))
+    (λ e. let both = both_names h g b a e in rw (e, both.0, both.1) (ap word_found (none_found (is_word_of g a) xs)))
     (λ e. rw e (ap word_found (other_found (is_word_of h b) (is_word_of g a) (λ x is. by_cases (is_word_of h b x)
     (λ k.
-    let mine = same_name x.group g x.name a is in
-    let other = same_name x.group h x.name b k in
+    let mine = both_names x.group g x.name a is in
+    let other = both_names x.group h x.name b k in
     let group : (h == g) ≡ true = eq-eqb h g (sym other.0 ∙ mine.0) in
     let name : bytes_eq b a ≡ true = (bytes_eq-Decides b a).1 (sym other.1 ∙ mine.1) in
     absurd (let never : true ≡ false = sym (rw (group, name) refl) ∙ e in cc))
@@ -74,7 +74,7 @@ beside_same : (t : Cells) (d c : Cell) → is_beside d c ≡ true → word_in t 
 beside_same t (Local p m) (Local q n) e =
     let both = and_parts (p.0 == q.0) (agree (nat_lt m 32) (nat_lt n 32)) e in
     rw (eqb-true p.0 q.0 both.0, agreed (nat_lt m 32) (nat_lt n 32) both.1) refl
-beside_same t (Common g a m) (Common h b n) e = let both = same_name g h a b e in rw (both.0, both.1) refl
+beside_same t (Common g a m) (Common h b n) e = let both = both_names g h a b e in rw (both.0, both.1) refl
 beside_same t (Local p m) (Common h b n) e = absurd (let never : false ≡ true = e in cc)
 beside_same t (Common g a m) (Local q n) e = absurd (let never : false ≡ true = e in cc)
 

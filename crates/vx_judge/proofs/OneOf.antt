@@ -1,4 +1,5 @@
 -- One of a kind, and that one: by what stands from the first of the kind on.
+use mathlib.Core.Bool.{or-false, and-true, and-false}
 use Rattle.std.proofs.Common.{◌≡◌, ℕ, ◌<◌, Bool, true, false, cond, not, ◌&&◌, ◌||◌, ◌==◌, List, [], ◌∷◌, ◌++◌, length, Option, Some, None, option_map, subst, reverse, refl, ap, sym, ◌∙◌, arith, length-append}
 use Rattle.std.proofs.lemmas.Bool.{ne_eqb}
 use Rattle.std.proofs.lemmas.List.{reverse-append}
@@ -15,7 +16,6 @@ use Rattle.vx_laws.specs.Items.{Calling}
 use Rattle.vx_record.specs.Services.{number}
 use Rattle.vx_judge.proofs.Passes.{list_any_reverse}
 use Rattle.vx_record.proofs.Lists.{either_by}
-use Rattle.vx_base.proofs.Bools.{or_false}
 
 is_one : (n : ℕ) → 1 < n → (n == 1) ≡ false
 is_one n h = ne_eqb n 1 (λ e. omega (arith, e, h))
@@ -35,7 +35,7 @@ any_of of is sub (x ∷ xs) = any_where of is (of x) x (list_any is xs) (filter 
 
 only_one : (is : Effect → Bool) (fs : List Effect) → ((length fs == 1) && list_any is fs) ≡ is_only is fs
 only_one is [] = refl
-only_one is (x ∷ []) = or_false (is x)
+only_one is (x ∷ []) = or-false (is x)
 only_one is (x ∷ (y ∷ fs)) = rw (is_one (length (x ∷ (y ∷ fs))) (omega arith)) refl
 
 only_by : (of is : Effect → Bool) (es : List Effect) → ((x : Effect) → is x ≡ true → of x ≡ true) → ((length (filter of es) == 1) && list_any is es) ≡ only of is es
@@ -75,17 +75,9 @@ some_any : (of : Effect → Bool) (es : List Effect) (y : Effect) (ys : List Eff
 some_any of [] y ys e = cc
 some_any of (x ∷ es) y ys e = some_where of (of x) x es y ys (some_any of es y ys) e
 
-and_true : (b : Bool) → b ≡ (b && true)
-and_true true = refl
-and_true false = refl
-
-and_false : (b : Bool) → false ≡ (b && false)
-and_false true = refl
-and_false false = refl
-
 only_first : (of is : Effect → Bool) (x : Effect) (more fs : List Effect) → filter of more ≡ fs → is_only is (x ∷ fs) ≡ (is x && not (list_any of more))
-only_first of is x more [] e = rw (empty_none of more e) (and_true (is x))
-only_first of is x more (y ∷ ys) e = rw (some_any of more y ys e) (and_false (is x))
+only_first of is x more [] e = rw (empty_none of more e) (sym (and-true (is x)))
+only_first of is x more (y ∷ ys) e = rw (some_any of more y ys e) (sym (and-false (is x)))
 
 only_kept : (of is : Effect → Bool) (b : Bool) (x : Effect) (more : List Effect) → b ≡ true → is_only is (cond b (x ∷ filter of more) (filter of more)) ≡ (is x && not (list_any of more))
 only_kept of is true x more e = only_first of is x more (filter of more) refl
@@ -96,10 +88,6 @@ only_here of is es x more e = from_same of is es ∙ (ap (only of is) e ∙ only
 
 pub only_none : (of is : Effect → Bool) (es : List Effect) → from_first of es ≡ [] → only of is es ≡ false
 only_none of is es e = from_same of is es ∙ ap (only of is) e
-
-pub empty_is : (es : List Effect) → length es ≡ 0 → es ≡ []
-empty_is [] e = refl
-empty_is (x ∷ es) e = absurd (omega (arith, e))
 
 -- The same from behind: by how many there are, and whether one passes.
 

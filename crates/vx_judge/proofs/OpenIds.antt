@@ -1,6 +1,7 @@
 -- The ids of which something may be open: what holds of each of them holds of each id up to the highest.
+use mathlib.Core.Bool.{and-false}
 use Rattle.std.proofs.Common.{◌≡◌, ℕ, zero, suc, ◌<◌, ◌≤◌, Bool, true, false, cond, not, ◌&&◌, ◌||◌, ◌==◌, nat_lt, List, [], ◌∷◌, Option, Some, None, refl, sym, ap, ◌∙◌, arith, eq-eqb, option_map}
-use Rattle.std.proofs.lemmas.Bool.{ne_eqb, eqb-true, and_parts, lt-ltb, ltb-true, ltb-false}
+use Rattle.std.proofs.lemmas.Bool.{ne_eqb, eqb-true, and_parts, lt-ltb, ltb-true, ltb-false, or_left}
 use Rattle.std.specs.List.{list_all, list_any, filter}
 use Rattle.vx_base.specs.declared.effects.Effect.TheVariants as effect
 use Rattle.vx_base.specs.declared.number.Id.{Id}
@@ -14,7 +15,6 @@ use Rattle.vx_judge.specs.OpenIds.{HasOpen, has_open, is_open_in}
 use Rattle.vx_judge.specs.declared.lives.Lives.{Lives}
 use Rattle.vx_laws.proofs.Shares.{lived_none, still_none}
 use Rattle.vx_laws.proofs.Openings.{is_open_item}
-use Rattle.vx_base.proofs.Bools.{both_left}
 
 pub by_cases : {A : Type 0} (b : Bool) → (b ≡ true → A) → (b ≡ false → A) → A
 by_cases true f g = f refl
@@ -123,11 +123,7 @@ all_ids_fails test (suc n) id above within f =
     rw g refl)
     (λ other.
     let apart : (suc n ≡ id.0) → ⊥ = λ e. let t = eq-eqb (suc n) id.0 e in let never : true ≡ false = sym t ∙ other in cc in
-    rw (all_ids_fails test n id above (omega (arith, within, apart)) f) (either_false (test (id_of (suc n)))))
-  where
-    either_false : (b : Bool) → (b && false) ≡ false
-    either_false true = refl
-    either_false false = refl
+    rw (all_ids_fails test n id above (omega (arith, within, apart)) f) (and-false (test (id_of (suc n)))))
 
 bool_same : (a b : Bool) → (a ≡ true → b ≡ true) → (a ≡ false → b ≡ false) → a ≡ b
 bool_same true b h k = sym (h refl)
@@ -175,15 +171,11 @@ all_of_open bad past ids has opened = bool_same _ _ every some
 
 pub left_is_open : (p : Pid) (l : Option Life) → lives (is_left_of p) l ≡ true → lives is_open l ≡ true
 left_is_open p None h = h
-left_is_open p (Some l) h = both_left (is_open l) (is_of p l) h
+left_is_open p (Some l) h = (and_parts (is_open l) (is_of p l) h).0
 
 pub later_is_open : (id : Id) (l : Life) (j : Id) (k : Option Life) → lives (is_later_handler id l j) k ≡ true → lives is_open k ≡ true
 later_is_open id l j None h = h
 later_is_open id l j (Some k) h =
     let more = (and_parts (nat_lt id.0 j.0) _ h).1 in
     let body = (and_parts (is_handler k.kind) _ more).1 in
-    or_open k.body k.routine (both_left k.body _ body)
-  where
-    or_open : (a b : Bool) → a ≡ true → (a || b) ≡ true
-    or_open true b h = refl
-    or_open false b h = absurd (let never : false ≡ true = h in cc)
+    or_left k.body k.routine (and_parts k.body _ body).0

@@ -1,6 +1,6 @@
 -- The lists of reads follow the past.
 use Rattle.std.proofs.Common.{◌≡◌, ℕ, Bool, true, false, cond, not, ◌&&◌, ◌||◌, nat_lt, List, [], ◌∷◌, ◌++◌, Option, Some, None, option_map, refl, sym, ap, ◌∙◌, bytes_eq}
-use Rattle.std.proofs.lemmas.Bool.{and_parts, eqb-true, eq-eqb, ltb-true, ltb-false, or_left}
+use Rattle.std.proofs.lemmas.Bool.{and_parts, eqb-true, eq-eqb, ltb-true, ltb-false, or_left, or_right}
 use Rattle.std.proofs.lemmas.List.Folds.{list_any-append}
 use Rattle.std.specs.Cmp.Lexicographic.{bytes_decides}
 use Rattle.std.specs.List.{list_any, filter}
@@ -87,10 +87,6 @@ reads_left old new t u name past is are set h = λ other id e.
 
 -- An id that is opened is put last at its box.
 
-any_last : (a b : Bool) → b ≡ true → (a || (b || false)) ≡ true
-any_last true b h = refl
-any_last false b h = rw h refl
-
 -- what is opened and waits at a box has it as its box
 opened_at : (kind : Opened) (bare : Bool) (a : Option (List ℕ)) (w : Bool) (name : List ℕ) → ((is_request kind && bare) && (is_at name a && w)) ≡ true → (cond (is_request kind && w) a None ≡ a) × (is_at name a ≡ true)
 opened_at kind bare a w name h =
@@ -120,7 +116,7 @@ module _ (past : List Item) (i : Id) (kind : Opened) (p : Pid) (mode : Option Mo
       let now : reads_at other born ≡ true = rw same at e in
       let two = opened_at kind (not (is_bare kind)) born.device (asks is_waiting_func born.by) other now in
       let there : bytes_eq name other ≡ true = at_name born.device name other (sym two.0 ∙ boxed) two.1 in
-      rw (set other, there) (list_any-append (is_id id) (listed old other) (i ∷ []) ∙ any_last (list_any (is_id id) (listed old other)) (is_id id i) (eq-eqb id.0 i.0 (sym (eqb-true i.0 id.0 same)))))
+      rw (set other, there) (list_any-append (is_id id) (listed old other) (i ∷ []) ∙ or_right (list_any (is_id id) (listed old other)) (is_id id i || false) (or_left (is_id id i) false (eq-eqb id.0 i.0 (sym (eqb-true i.0 id.0 same))))))
       (λ apart.
       let before : lives (reads_at other) (life past id) ≡ true = rw apart at e in
       by_cases (bytes_eq name other)

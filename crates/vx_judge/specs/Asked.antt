@@ -1,15 +1,10 @@
 -- What the frames of a process wait for, each as what its call asks for.
-use Rattle.std.specs.Prelude.{List, [], ◌∷◌, Option, Some, None}
-use Rattle.vx_base.specs.declared.call.Call.{Call}
+use Rattle.std.specs.Prelude.{List, [], ◌∷◌, Option, None}
 use Rattle.vx_base.specs.declared.frame.Wait.{Wait}
 use Rattle.vx_base.specs.declared.record.Answer.{Answer}
 use Rattle.vx_base.specs.declared.record.Answer.TheVariants as answer
 use Rattle.vx_laws.specs.Frames.{Turn, Enters, Returns, Clears, Stays, below, with_first}
 use Rattle.vx_laws.specs.Values.{wait_of}
-
-abbrev pub asked : Option Call → Option Wait
-asked None = None
-asked (Some c) = wait_of c
 
 abbrev pub waits_changed : Turn → List (Option Wait) → List (Option Wait)
 waits_changed (Enters e) ws = None ∷ ws

@@ -5,8 +5,8 @@ use Rattle.std.specs.HashMap.{get}
 use Rattle.vx_base.specs.declared.frame.Wait.{Wait}
 use Rattle.vx_base.specs.declared.number.Pid.{Pid}
 use Rattle.vx_laws.specs.Items.{Item}
+use Rattle.vx_laws.specs.Agrees.{waited}
 use Rattle.vx_laws.specs.Frames.{awaited}
-use Rattle.vx_judge.specs.Asked.{asked}
 use Rattle.vx_judge.specs.Pairs.{pair_eq}
 use Rattle.vx_judge.specs.declared.waits.Waits.{Waits}
 
@@ -26,4 +26,4 @@ waits_in t p = waits_below (wait_at t p) (count_in t p)
 
 -- they are those that the past leaves
 abbrev pub AreAwaited : Waits → List Item → Type 0
-AreAwaited t past = (p : Pid) → waits_in t p ≡ map asked (awaited past p)
+AreAwaited t past = (p : Pid) → waits_in t p ≡ map waited (awaited past p)

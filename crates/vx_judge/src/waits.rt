@@ -4,10 +4,11 @@ ghost use Rattle.std.specs.Prelude.{◌≡◌, ℕ, List, [], ◌∷◌, OnOk, i
 ghost use Rattle.vx_base.specs.declared.number.Pid.{Pid as PidOf};
 ghost use Rattle.vx_record.specs.Charges.{is_same};
 ghost use Rattle.vx_laws.specs.Items.{Item, Head, Did};
+ghost use Rattle.vx_laws.specs.Agrees.{waited};
 ghost use Rattle.vx_laws.specs.Frames.{awaited, with_first, below};
 ghost use Rattle.vx_judge.specs.Lives.{IsOf};
 ghost use Rattle.vx_judge.specs.Frames.{as_turn};
-ghost use Rattle.vx_judge.specs.Asked.{asked, top_of, waits_changed, waits_answered};
+ghost use Rattle.vx_judge.specs.Asked.{top_of, waits_changed, waits_answered};
 
 use crate::frames::{process_turned, turn_of};
 use crate::lives::Lives;
@@ -50,7 +51,7 @@ impl Waits {
 
     /// What the top frame of a process waits for.
     pub fn top(&self, p: Pid) -> Option<Wait>
-        ensures { (past : List Item) → AreAwaited self.now past → result ≡ top_of (map asked (awaited past p)) }
+        ensures { (past : List Item) → AreAwaited self.now past → result ≡ top_of (map waited (awaited past p)) }
     {
         let count = self.count(p);
         if count == 0 {

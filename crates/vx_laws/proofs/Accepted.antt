@@ -1,7 +1,8 @@
 -- Requests are opened on mailboxes and units as the law of mailboxes asks, by $QIO and $QIOW.
 use Rattle.std.proofs.Common.{◌≡◌, ℕ, ◌+◌, List, [], ◌∷◌, ◌++◌, false, not, Option, Some, None, Result, Ok, map, refl, sym, ap, ◌∙◌, subst, inl, inr, nat_lt, ◌≤◌, arith, true, IsTrue, is_some, append-nil, ◌||◌, Bool}
-use Rattle.std.proofs.lemmas.Bool.{eq-eqb, ne_eqb, leb-true, and_parts}
+use Rattle.std.proofs.lemmas.Bool.{eq-eqb, ne_eqb, leb-true, and_parts, both_ways}
 use Rattle.std.specs.List.{list_any}
+use Rattle.vx_laws.proofs.Calls.{at_most}
 use Rattle.vx_base.specs.Lists.{less}
 use Rattle.vx_base.specs.Pieces.{Channel, Request, Mailbox}
 use Rattle.vx_base.specs.declared.cond.Cond.{Cond}
@@ -18,7 +19,7 @@ use Rattle.vx_base.specs.declared.request.Device.TheVariants as device
 use Rattle.vx_base.specs.declared.request.Device.{Device}
 use Rattle.vx_base.specs.declared.request.Func.{Func}
 use Rattle.vx_base.specs.declared.request.Msg.{Msg}
-use Rattle.vx_record.proofs.Lists.{either, either_by, all_append, apart_bools, ordered_more}
+use Rattle.vx_record.proofs.Lists.{either, either_by, all_append, ordered_more}
 use Rattle.vx_record.proofs.SoundRequests.{tested_channel, on_cell_row}
 use Rattle.vx_record.specs.Channels.{channel_test}
 use Rattle.vx_record.specs.Charges.{is_direct, is_attention}
@@ -147,12 +148,8 @@ open_right s p q ch past k mode n left is g takes =
 less_last : (n : ℕ) (low : ℕ) (xs : List Request) (r : Request) → r.req.id.0 ≡ n → AreOrdered request_id low n xs → less (this_request r.req.id) (xs ++ r ∷ []) ≡ xs
 less_last n low [] r e o = rw (eq-eqb r.req.id.0 r.req.id.0 refl) refl
 less_last n low (x ∷ xs) r e o =
-    let below = most (request_id x + 1) n xs o.1 in
+    let below = at_most (request_id x + 1) n xs o.1 in
     rw (ne_eqb x.req.id.0 r.req.id.0 (λ same. omega (arith, below, same, e)), less_last n (request_id x + 1) xs r e o.1) refl
-  where
-    most : (low high : ℕ) (xs : List Request) → AreOrdered request_id low high xs → low ≤ high
-    most low high [] h = h
-    most low high (x ∷ xs) h = let k = most (request_id x + 1) high xs h.1 in omega (arith, k, h.0)
 
 -- A request on a mailbox.
 box_serving : (s : State) (p : Pid) (q : Asked) (ch : Channel) (past : List Item) (k : Opened) (mode : Option Mode) (n : ℕ) (b : BoxNo) (box : Mailbox) → ch.device ≡ device.Mailbox b → box_at s b ≡ Some box → is_request k ≡ true → Ready s past p q ch →
@@ -167,7 +164,7 @@ box_serving s p q ch past k mode n b box on is req g moves =
     (λ writes.
     let rest = write_serving t after b box r (written writes) calm boxed in
     let es = (write_box t b (message_of r.req)).effects in
-    record { boxed = rest.boxed; lawful = (open_right s p q ch past k mode n (es ++ []) req g (λ j. absurd (apart_bools (is_read q.func) j writes)), rest.lawful); single = rest.single })
+    record { boxed = rest.boxed; lawful = (open_right s p q ch past k mode n (es ++ []) req g (λ j. absurd (both_ways (is_read q.func) writes j)), rest.lawful); single = rest.single })
   where
     r : Request
     r = new_request s p q ch
@@ -211,7 +208,7 @@ box_serving s p q ch past k mode n b box on is req g moves =
     single_now writes c e =
         elim (last_any (waits_at c) s.requests (new_request s p q ch) e) [
           | inl x ↦ g.single c x
-          | inr x ↦ absurd (apart_bools (is_read q.func) (waiting_reads q.func (and_parts (is_box c ch.device) (is_waiting_func q.func) x).1) writes)
+          | inr x ↦ absurd (both_ways (is_read q.func) writes (waiting_reads q.func (and_parts (is_box c ch.device) (is_waiting_func q.func) x).1))
         ]
 
     written : is_read q.func ≡ false → Writes (with_request (past_id s) (new_request s p q ch)) (Did (effect.Open (next_id s) k p mode n) ∷ past) b box (new_request s p q ch)

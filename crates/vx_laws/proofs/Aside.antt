@@ -1,7 +1,8 @@
 -- What most services and events do lies aside of mailboxes: no channel, no mailbox and no request is other than before.
-use Rattle.std.proofs.Common.{◌≡◌, ℕ, ◌%◌, ◌^◌, List, [], ◌∷◌, ◌++◌, Bool, true, false, cond, not, ◌||◌, ◌==◌, nat_lt, nat_le, length, Option, Some, None, Result, Ok, Err, refl, ◌∙◌, ap, zero, suc, get_or, arith, ◌≤◌, ◌-◌, replicate}
+use Rattle.std.proofs.Common.{◌≡◌, ℕ, ◌%◌, ◌^◌, List, [], ◌∷◌, ◌++◌, Bool, true, false, cond, not, ◌||◌, ◌==◌, nat_lt, nat_le, length, Option, Some, None, Result, Ok, Err, refl, ◌∙◌, ap, zero, suc, get_or, arith, ◌≤◌, ◌-◌}
 use Rattle.std.specs.List.{AllByRecursion, filter, find}
 use Rattle.std.specs.Prelude.{⊤, is_some}
+use Rattle.vx_base.proofs.Lists.{alike_at}
 use Rattle.vx_base.specs.Channels.{channel_at}
 use Rattle.vx_base.specs.Clusters.{Change, cluster_number, associated, dissociated, marked, is_cluster}
 use Rattle.vx_base.specs.Modes.{inner, is_kernel}
@@ -280,11 +281,6 @@ started_aside s p q (entry.Host prm) = changed s p (with_frame (new_frame s p (k
 
 -- a new process has no channel
 
-pub free_rows : (k n : ℕ) → get_or (replicate k None) n None ≡ (let o : Option Channel = None in o)
-free_rows zero n = refl
-free_rows (suc k) zero = refl
-free_rows (suc k) (suc n) = free_rows k n
-
 made_rows : (x : Process) (n : ℕ) → ((m : ℕ) → channel_at x.channels m ≡ None) → (l : List Process) (i : ℕ) → channel_at (get_or (l ++ x ∷ []) i nobody).channels n ≡ channel_at (get_or l i nobody).channels n
 made_rows x n free [] zero = free n
 made_rows x n free [] (suc i) = refl
@@ -292,7 +288,7 @@ made_rows x n free (y ∷ l) zero = refl
 made_rows x n free (y ∷ l) (suc i) = made_rows x n free l i
 
 new_aside : (s : State) (p : Pid) (place : ℕ) → PartAside s (new_part s p place)
-new_aside s p place = record { system = refl; boxes = refl; requests = refl; rows = λ q n. made_rows (created s p place) n (λ m. free_rows 64 (m - 1)) s.procs (q.0 - 1); next = omega arith; effects = (tt, tt) }
+new_aside s p place = record { system = refl; boxes = refl; requests = refl; rows = λ q n. made_rows (created s p place) n (λ m. alike_at {A = Option Channel} None 64 (m - 1)) s.procs (q.0 - 1); next = omega arith; effects = (tt, tt) }
 
 -- Services.
 

@@ -2,6 +2,7 @@
 use Rattle.std.proofs.Common.{◌≡◌, ◌∙◌, ℕ, ◌+◌, ◌-◌, List, [], ◌∷◌, Bool, true, false, cond, not, ◌&&◌, Option, Some, None, Result, Ok, Err, refl, sym, ap, subst, position, is_none}
 use Rattle.std.specs.List.{AllByRecursion}
 use Rattle.std.proofs.lemmas.Bool.{and_parts, leb-true}
+use Rattle.vx_base.proofs.Bools.{by_bool}
 use Rattle.vx_base.specs.Channels.{channel_at}
 use Rattle.vx_base.specs.Modes.{outer}
 use Rattle.vx_base.specs.Pieces.{Queued, Channel, Request, Attention, Mailbox, cleared}
@@ -23,13 +24,13 @@ use Rattle.vx_base.specs.declared.service.Service.TheVariants.{Assign, Dassgn, C
 use Rattle.vx_record.specs.Cancel.{cancel_channel, dassgn_at}
 use Rattle.vx_record.specs.Channels.{with_channel, channel_test, free_channel_of, assign_at, assign_to, assign, device_named, is_bad_box, new_box, box_named, box_made, box_number, make_box, make_box_in, find_or_create, crembx}
 use Rattle.vx_record.specs.Charges.{is_attention}
-use Rattle.vx_record.specs.Finish.{iosb_part, finish}
+use Rattle.vx_record.specs.Finish.{iosb_part}
 use Rattle.vx_record.specs.Flags.{cell, flag_part, flag_where_named, awaited_at, wait_condition, with_wait}
 use Rattle.vx_record.specs.Mailboxes.{this_attention, is_answered_now, fire_attention}
 use Rattle.vx_record.specs.Parts.{Part, Outcome, nothing, at_tested, part_of}
-use Rattle.vx_record.specs.Requests.{Asked, new_attention, attention_set, attention_opened, attention_on, transfer, accepted, done_at_once, request_test, qio_tested, qiow_tested, cleared_part, begun, unit_ending, with_unit}
+use Rattle.vx_record.specs.Requests.{Asked, new_attention, attention_set, attention_opened, attention_on, transfer, accepted, done_at_once, request_test, qio_tested, qiow_tested, cleared_part, begun}
 use Rattle.vx_record.specs.Services.{number, place, access_mode, text, asked, numbered_at, service_of, with_variable}
-use Rattle.vx_record.specs.State.{Process, State, process_at, change, current, nobody, image_of, unit_at}
+use Rattle.vx_record.specs.State.{Process, State, process_at, change, current, nobody, image_of}
 use Rattle.vx_record.proofs.Apart.{Here, flag_attention, here_after, iosb_attention}
 use Rattle.vx_record.proofs.Base.{Base}
 use Rattle.vx_record.proofs.Cancelled.{cancel_channel_attention, cancel_channel_all}
@@ -44,24 +45,23 @@ use Rattle.vx_laws.proofs.Aside.{row, changed, service_aside, Aside, returned_as
 use Rattle.vx_laws.proofs.Emptied.{AllSeated, Seated, IsOfLists, moves_held, seated_on, kept_rows, seat_rows}
 use Rattle.vx_laws.proofs.Leftover.{freed_seated, seated_change}
 use Rattle.vx_laws.proofs.Phases.{service_seats}
-use Rattle.vx_laws.proofs.Untouched.{service_plainly, cancel_channel_keeps, finish_keeps}
+use Rattle.vx_laws.proofs.Untouched.{service_plainly, cancel_channel_keeps}
 use Rattle.vx_base.specs.Cond.{number_of}
 use Rattle.vx_base.specs.Queues.{front, in_service}
-use Rattle.vx_base.specs.Serving.{serve, settled}
 use Rattle.vx_base.specs.declared.record.Event.{Event}
 use Rattle.vx_base.specs.declared.record.Event.TheVariants as event
 use Rattle.vx_image.specs.Local.{advanced}
 use Rattle.vx_image.specs.declared.stop.Stop.{Stop}
 use Rattle.vx_image.specs.declared.stop.Stop.TheVariants as stop
 use Rattle.vx_record.specs.Asts.{deliverable_ast}
-use Rattle.vx_record.specs.Events.{moved_to, moved_behind, returned, served_call, run_on, reader, run_frame, run, resumed_with, with_r0, or_normal, started, delivered, beg, don, step}
+use Rattle.vx_record.specs.Events.{moved_to, moved_behind, returned, served_call, run_on, reader, run_frame, run, resumed_with, with_r0, or_normal, started, delivered, beg, step}
 use Rattle.vx_record.specs.Rundown.{without_ast}
 use Rattle.vx_record.specs.declared.served.Served.{Served}
 use Rattle.vx_record.specs.declared.served.Served.TheVariants.{Answered, Waits}
 use Rattle.vx_record.proofs.Locals.{advanced_statuses}
 use Rattle.vx_record.proofs.Steps.{IsThere, returned_moves}
 use Rattle.vx_laws.proofs.Rests.{is_rundown}
-use Rattle.vx_laws.proofs.Courses.{uses_channels, all_untimed, Untimed}
+use Rattle.vx_laws.proofs.Courses.{uses_channels, all_untimed, Untimed, don_rows}
 use Rattle.vx_laws.specs.Agrees.{is_attending}
 
 -- Rows that are assigned stay.
@@ -160,7 +160,7 @@ accepted_held Q s p q to is here k h =
     let one = (flag_part s to.0 false).after in
     let t = (cleared_part s p q to.0).after in
     let same : t.attention ≡ s.attention = iosb_attention one p q.iosb cleared ∙ flag_attention s (Some to.0) false in
-    by_bool (AllByRecursion Q (accepted s p q to.0 to.1).after.attention) (is_attention q.func)
+    by_bool (λ _. AllByRecursion Q (accepted s p q to.0 to.1).after.attention) (is_attention q.func)
     (λ y. subst (λ (x : Part). AllByRecursion Q x.after.attention) (sym (ap (λ (b : Bool). cond b (attention_on t p q to.1.device q.ast) (transfer t p q to.1)) y)) (on_held Q t p q to.1.device q.ast k (subst (AllByRecursion Q) (sym same) h)))
     (λ n.
     let ok = no_attention in
@@ -168,10 +168,6 @@ accepted_held Q s p q to is here k h =
     let f = transferred_allowed {ok = ok} s p q to.0 to.1 n refl refl in
     (moves_held Untimed Q ok (record { due = λ n t k. tt; timer = λ t is e. tt; wake = λ t e. tt; attention = λ a e. absurd (let never : false ≡ true = e in cc) }) s None (accepted s p q to.0 to.1).effects (accepted s p q to.0 to.1).after None j
     f.all (all_untimed s.timers, h)).1)
-  where
-    by_bool : (P : Type 0) (b : Bool) → (b ≡ true → P) → (b ≡ false → P) → P
-    by_bool P true f g = f refl
-    by_bool P false f g = g refl
 
 -- Services.
 
@@ -274,13 +270,6 @@ step_seated s (event.Rdn p) other made b h = absurd (let never : true ≡ false 
 step_seated s (event.Beg u) other made b h = beg_seated s (front u s.requests) h
 step_seated s (event.Don u) other made b h = don_seated (in_service u s.requests)
   where
-    don_rows : (o : Option Request) (q : Pid) (k : ℕ) → row (don s u o).after q k ≡ row s q k
-    don_rows None q k = refl
-    don_rows (Some r) q k =
-        let t = with_unit s u (settled (unit_at s u) r.req) in
-        let e = unit_ending r (serve (unit_at s u) r.req).reply in
-        kept_rows t (finish t r e).after (finish_keeps t r e) q k
-
     don_seated : (o : Option Request) → AllSeated (step s (event.Don u)).after
-    don_seated o = let x = step s (event.Don u) in grown s x.after (grows_same s x.after (don_rows (in_service u s.requests))) (plain_held (Seated s) s x.effects x.after (step_moves s (event.Don u) refl made b) (don_allowed s u (in_service u s.requests)) h)
+    don_seated o = let x = step s (event.Don u) in grown s x.after (grows_same s x.after (λ q k. don_rows q s u (in_service u s.requests) k)) (plain_held (Seated s) s x.effects x.after (step_moves s (event.Don u) refl made b) (don_allowed s u (in_service u s.requests)) h)
 step_seated s event.Tick other made b h = let o = step s event.Tick in aside_seated s o.after o.effects (step_moves s event.Tick refl made b) (tick_allowed s) (tick_aside s) h

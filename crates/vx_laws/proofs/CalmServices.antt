@@ -43,7 +43,7 @@ use Rattle.vx_laws.specs.Agrees.{is_exit, IsEntry, is_main, entered_frames, AreE
 use Rattle.vx_laws.specs.Frames.{Entry as Entered, Turn, Enters, Clears, Stays, below, after_turn, service_turn, turned_by}
 use Rattle.vx_laws.proofs.Stands.{field_at}
 use Rattle.vx_record.proofs.Apart.{associated_only, dissociated_only, marked_at_only}
-use Rattle.vx_record.proofs.Steps.{test_made}
+use Rattle.vx_record.proofs.Steps.{test_made, left_after}
 use Rattle.vx_laws.proofs.Calm.{AreFrames, AreTagged, Calmed, Fine, IsBare, OutcomeCalm, PartCalm, Tags, Turned, assign_to_calm, at_flag_calm, at_tested_calm, by_turn, calm_none, calm_or, calm_then, cancel_channel_calm, cancel_handlers_calm, change_calm, change_tags, clusters_calm, crembx_calm, delmbx_calm, drop_handlers_calm, drop_timers_calm, flag_calm, free_channel_calm, handler_calm, held_at, is_exit_entry, is_fine, lists_calm, plain_calm, qio_calm, qiow_calm, que_calm, same, scheduled_calm, setimr_calm, still_made, waited_calm, waits_calm}
 use Rattle.vx_base.proofs.Bools.{either_same}
 
@@ -238,21 +238,11 @@ inner_exec User = omega arith
 
 -- leaving
 
-leave_state : (s : State) (k : FrameKind) → (leave_kind s k).after ≡ s
-leave_state s (kind.Ast id) = refl
-leave_state s kind.Main = refl
-leave_state s kind.Change = refl
-leave_state s kind.Handler = refl
-
 leave_fine : (s : State) (k : FrameKind) → Fine false (leave_kind s k).effects
 leave_fine s (kind.Ast id) = (refl, tt)
 leave_fine s kind.Main = tt
 leave_fine s kind.Change = tt
 leave_fine s kind.Handler = tt
-
-pub leave_all_state : (fs : List Frame) (s : State) → (leave_all fs s).after ≡ s
-leave_all_state [] s = refl
-leave_all_state (f ∷ fs) s = rw (leave_state s f.kind) (leave_all_state fs s)
 
 pub leave_all_fine : (fs : List Frame) (s : State) → Fine false (leave_all fs s).effects
 leave_all_fine [] s = tt
@@ -262,14 +252,14 @@ pub exited_calm : (s : State) (p : Pid) (code : ℕ) → IsProcess s p → Tags 
 exited_calm s p code made h =
     let a = change s p (without_frames code) in
     let fs = (process_at s p).frames in
-    rw (leave_all_state fs a) (turn_calm s p (without_frames code) Clears (leave_all fs a).effects (leave_all_fine fs a) made (λ l k. (tt, tt)) (λ k. k) (λ e. (refl, e.1)) h)
+    rw (left_after fs a) (turn_calm s p (without_frames code) Clears (leave_all fs a).effects (leave_all_fine fs a) made (λ l k. (tt, tt)) (λ k. k) (λ e. (refl, e.1)) h)
 
 deleted_calm : (s : State) (q : Pid) → IsProcess s q → Tags s → Calmed false (by_turn q Clears) s (deleted_by s q).effects (deleted_by s q).after
 deleted_calm s q made h =
     let a = change s q named_for_deletion in
     let fs = (process_at s q).frames in
     let b = leave_all fs a in
-    let first : Calmed false (by_turn q Clears) s b.effects b.after = rw (leave_all_state fs a) (turn_calm s q named_for_deletion Clears b.effects (leave_all_fine fs a) made (λ l k. (tt, tt)) (λ k. k) (λ e. (refl, e.1)) h) in
+    let first : Calmed false (by_turn q Clears) s b.effects b.after = rw (left_after fs a) (turn_calm s q named_for_deletion Clears b.effects (leave_all_fine fs a) made (λ l k. (tt, tt)) (λ k. k) (λ e. (refl, e.1)) h) in
     let c = drop_handlers b.after q any_handler in
     let second = drop_handlers_calm false b.after q any_handler first.tags in
     record {

@@ -1,11 +1,13 @@
 -- Completions: behind a FIN, and before the next, stand the status block and the flag that its call named, and no other. It is told
 -- from the end of a record backwards: what follows writes neither before its own first FIN.
+use mathlib.Core.Bool.{or-false}
 use Rattle.std.proofs.Common.{Bool, List, None, Option, Some, [], ap, append-nil, cond, false, map, nat_lt, not, refl, subst, sym, true, ℕ, ◌&&◌, ◌++◌, ◌==◌, ◌∙◌, ◌∷◌, ◌≡◌}
 use Rattle.std.proofs.lemmas.Bool.{and_from}
 use Rattle.std.proofs.lemmas.List.Elements.{filter-append}
 use Rattle.std.proofs.lemmas.List.Folds.{list_any-append}
 use Rattle.std.specs.List.{AllByRecursion, filter, list_any}
 use Rattle.std.specs.Prelude.{option_map}
+use Rattle.vx_laws.proofs.Cleared.{map_both}
 use Rattle.vx_base.specs.Clusters.{cluster_number}
 use Rattle.vx_base.specs.Pieces.{Promised, Request}
 use Rattle.vx_base.specs.declared.cond.Cond.{Cond}
@@ -31,7 +33,6 @@ use Rattle.vx_record.specs.Finish.{Ending, buf_part, done_ast_part, done_flag_pa
 use Rattle.vx_record.specs.Flags.{cell, flag_part, flag_where_named}
 use Rattle.vx_record.specs.Parts.{Part, and_then, each, nothing}
 use Rattle.vx_record.specs.State.{State}
-use Rattle.vx_base.proofs.Bools.{or_false}
 
 -- no status block is written and no flag is set before the first FIN
 abbrev pub Still : List Effect → Type 0
@@ -56,10 +57,6 @@ pub record Ends (past : List Item) (es : List Effect) : Type 0 where
   pub still : Still es
   pub unasked : Unasked es
   pub told : Told past es
-
-pub map_both : (es fs : List Effect) (more : List Item) → map Did (es ++ fs) ++ more ≡ map Did es ++ (map Did fs ++ more)
-map_both [] fs more = refl
-map_both (e ∷ es) fs more = rw (map_both es fs more) refl
 
 pub effects_left_more : (es : List Effect) (more : List Item) → effects_left (map Did es ++ more) ≡ es ++ effects_left more
 effects_left_more [] more = refl
@@ -254,7 +251,7 @@ filter_more : (of : Effect → Bool) (es zs : List Effect) → filter of zs ≡ 
 filter_more of es zs e = filter-append of es zs ∙ rw e (append-nil (filter of es))
 
 any_more : (of : Effect → Bool) (es zs : List Effect) → list_any of zs ≡ false → list_any of (es ++ zs) ≡ list_any of es
-any_more of es zs e = list_any-append of es zs ∙ rw e (or_false (list_any of es))
+any_more of es zs e = list_any-append of es zs ∙ rw e (or-false (list_any of es))
 
 iosb_more : (p : Pid) (i : ℕ) (c : Cond) (es zs : List Effect) → NoneBehind zs → tells_iosb p i c es ≡ true → tells_iosb p i c (es ++ zs) ≡ true
 iosb_more p i c es zs n h = rw (any_more is_iosb es zs n.any_block, filter_more is_iosb es zs n.blocks) h

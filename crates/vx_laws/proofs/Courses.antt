@@ -163,7 +163,7 @@ beg_spares : (q : Pid) (s : State) (o : Option Request) → Spares q s (beg s o)
 beg_spares q s None = record { held = λ P Q i h. h; rows = λ k. refl }
 beg_spares q s (Some r) = record { held = λ P Q i h. h; rows = λ k. refl }
 
-don_rows : (q : Pid) (s : State) (u : Rattle.vx_base.specs.declared.number.UnitNo.UnitNo) (o : Option Request) (k : ℕ) → row (don s u o).after q k ≡ row s q k
+pub don_rows : (q : Pid) (s : State) (u : Rattle.vx_base.specs.declared.number.UnitNo.UnitNo) (o : Option Request) (k : ℕ) → row (don s u o).after q k ≡ row s q k
 don_rows q s u None k = refl
 don_rows q s u (Some r) k =
     let t = with_unit s u (settled (unit_at s u) r.req) in

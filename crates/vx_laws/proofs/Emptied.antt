@@ -1,7 +1,9 @@
 -- What rundown leaves of a process in the lists of timers and attention entries.
 use Rattle.std.proofs.Common.{◌≡◌, ◌≢◌, ◌∙◌, ℕ, zero, suc, ◌+◌, ◌-◌, ◌≤◌, List, [], ◌∷◌, Bool, true, false, ◌==◌, ◌&&◌, ◌||◌, Option, Some, None, refl, sym, ap, subst, arith, get_or, ⊎_elim}
 use Rattle.std.specs.List.{AllByRecursion, filter, list_any}
-use Rattle.std.proofs.lemmas.Bool.{and_from, eqb-true, eq-eqb, ne_eqb, cases_eq, false_from_ne_true}
+use Rattle.std.proofs.lemmas.Bool.{and_from, eqb-true, eq-eqb, ne_eqb, cases_eq, false_from_ne_true, or_left, or_right}
+use Rattle.vx_record.proofs.Steps.{each_cancel_one_clear}
+use Rattle.vx_base.proofs.Lists.{alike_at}
 use Rattle.vx_base.specs.Channels.{channel_at, is_reached, reached_from, channels_of}
 use Rattle.vx_base.specs.Lists.{less}
 use Rattle.vx_base.specs.Modes.{reaches}
@@ -23,11 +25,11 @@ use Rattle.vx_record.specs.State.{Process, State, process_at, nobody}
 use Rattle.vx_record.specs.Timers.{this_timer, drop_timer, drop_timers, due_again, after_wake}
 use Rattle.vx_record.specs.Sound.{AreOrdered, timer_id}
 use Rattle.vx_record.proofs.Base.{Base, moves_keep}
-use Rattle.vx_record.proofs.Cancelled.{cancel_channel_all, cancel_channel_attention, cancel_channel_moves, each_keeps}
+use Rattle.vx_record.proofs.Cancelled.{cancel_channel_all, cancel_channel_moves, each_keeps}
 use Rattle.vx_record.proofs.Lists.{either, all_weaker, all_both, all_append, all_less, all_amend, removed, ordered_less, all_first, all_last}
 use Rattle.vx_record.proofs.Moves.{Loose, IsOfTimer, Moves, PartMoves, both, flag, end_asts, end_handlers, open_attention, attention_fires, end_attention, open_timer, open_wake, timer_fires, wake_fires, end_timer}
 use Rattle.vx_laws.proofs.Allowed.{Test, is_allowed}
-use Rattle.vx_laws.proofs.Aside.{row, free_rows}
+use Rattle.vx_laws.proofs.Aside.{row}
 use Rattle.vx_laws.proofs.Untouched.{Keeps, seat_in, keep_seats, cancel_modes_keeps}
 
 -- what is said of timers and attention entries, if it is so of those that a test allows
@@ -71,12 +73,8 @@ any_kept passes (t ∷ ts) = (first, all_weaker (λ x. passes x ≡ true → lis
     first : passes t ≡ true → list_any (λ x. timer_id t == timer_id x) (filter passes (t ∷ ts)) ≡ true
     first e = rw (e, eq-eqb (timer_id t) (timer_id t) refl) refl
 
-    or_true : (a b : Bool) → b ≡ true → (a || b) ≡ true
-    or_true true b e = refl
-    or_true false b e = e
-
     more : (x : Timer) → (passes x ≡ true → list_any (λ y. timer_id x == timer_id y) (filter passes ts) ≡ true) → passes x ≡ true → list_any (λ y. timer_id x == timer_id y) (filter passes (t ∷ ts)) ≡ true
-    more x k e = either (λ (l : List Timer). list_any (λ y. timer_id x == timer_id y) l ≡ true) (passes t) (t ∷ filter passes ts) (filter passes ts) (or_true (timer_id x == timer_id t) _ (k e)) (k e)
+    more x k e = either (λ (l : List Timer). list_any (λ y. timer_id x == timer_id y) l ≡ true) (passes t) (t ∷ filter passes ts) (filter passes ts) (or_right (timer_id x == timer_id t) _ (k e)) (k e)
 
 drop_clear : (passes : Timer → Bool) (high : ℕ) (xs : List Timer) (s : State) → AreOrdered timer_id 0 high s.timers → AllByRecursion (λ t. passes t ≡ true → list_any (λ x. timer_id t == timer_id x) xs ≡ true) s.timers → AllByRecursion (λ t. passes t ≡ false) (each drop_timer xs s).after.timers
 drop_clear passes high [] s o h = all_weaker (λ t. passes t ≡ true → false ≡ true) (λ t. passes t ≡ false) (λ t k. false_from_ne_true (passes t) (λ e. let never : false ≡ true = k e in cc)) s.timers h
@@ -122,44 +120,23 @@ each_cancel_all P p s (n ∷ ns) k = each_cancel_all P p (cancel_channel s p n).
 cancelled_base : (s : State) (p : Pid) (n : ℕ) → Base s → Base (cancel_channel s p n).after
 cancelled_base s p n h = let one : PartMoves s (cancel_channel s p n) = cancel_channel_moves s p n h in (moves_keep s None _ (cancel_channel s p n).after None one h).base
 
-each_cancel_clear : (p : Pid) (s : State) (ns : List ℕ) → Base s → AllByRecursion (λ a. list_any (λ n. is_attention_on p n a) ns ≡ false) (each (cancel_one p) ns s).after.attention
-each_cancel_clear p s [] h = trivial s.attention
-  where
-    trivial : (xs : List Attention) → AllByRecursion (λ a. list_any (λ n. is_attention_on p n a) [] ≡ false) xs
-    trivial [] = tt
-    trivial (x ∷ xs) = (refl, trivial xs)
-each_cancel_clear p s (n ∷ ns) h =
-    let a = (cancel_channel s p n).after in
-    let t = (each (cancel_one p) ns a).after in
-    all_weaker (λ x. (is_attention_on p n x ≡ false) × (list_any (λ n. is_attention_on p n x) ns ≡ false)) (λ x. list_any (λ n. is_attention_on p n x) (n ∷ ns) ≡ false) (λ x e. rw (e.0, e.1) refl) t.attention
-    (all_both (λ x. is_attention_on p n x ≡ false) (λ x. list_any (λ n. is_attention_on p n x) ns ≡ false) t.attention
-    (each_cancel_all (λ x. is_attention_on p n x ≡ false) p a ns (cancel_channel_attention s p n h)) (each_cancel_clear p a ns (cancelled_base s p n h)))
-
 -- a channel of the mode is among those that are cancelled
 reached_in : (test : ℕ → Bool) (k : ℕ) (m : Mode) (rows : List (Option Channel)) (n : ℕ) → k ≤ n → is_reached m (get_or rows (n - k) None) ≡ true → test n ≡ true → list_any test (reached_from k m rows) ≡ true
 reached_in test k m [] n above e t = absurd (let never : false ≡ true = e in cc)
 reached_in test k m (r ∷ rows) n above e t =
     ⊎_elim
-    (λ (same : k ≡ n). let first : n - k ≡ zero = omega (arith, same) in let r_is : is_reached m r ≡ true = subst (λ (i : ℕ). is_reached m (get_or (r ∷ rows) i None) ≡ true) first e in rw r_is (or_first (test k) (list_any test (reached_from (k + 1) m rows)) (subst (λ (i : ℕ). test i ≡ true) (sym same) t)))
+    (λ (same : k ≡ n). let first : n - k ≡ zero = omega (arith, same) in let r_is : is_reached m r ≡ true = subst (λ (i : ℕ). is_reached m (get_or (r ∷ rows) i None) ≡ true) first e in rw r_is (or_left (test k) (list_any test (reached_from (k + 1) m rows)) (subst (λ (i : ℕ). test i ≡ true) (sym same) t)))
     (λ (apart : k ≡ n → ⊥).
     let later : k + 1 ≤ n = omega (arith, above, apart) in
     let place : n - k ≡ suc (n - (k + 1)) = omega (arith, later) in
     let rest = reached_in test (k + 1) m rows n later (subst (λ (i : ℕ). is_reached m (get_or (r ∷ rows) i None) ≡ true) place e) t in
-    either (λ (l : List ℕ). list_any test l ≡ true) (is_reached m r) (k ∷ reached_from (k + 1) m rows) (reached_from (k + 1) m rows) (or_true (test k) (list_any test (reached_from (k + 1) m rows)) rest) rest)
+    either (λ (l : List ℕ). list_any test l ≡ true) (is_reached m r) (k ∷ reached_from (k + 1) m rows) (reached_from (k + 1) m rows) (or_right (test k) (list_any test (reached_from (k + 1) m rows)) rest) rest)
     (cases_eq k n)
-  where
-    or_first : (a b : Bool) → a ≡ true → (a || b) ≡ true
-    or_first true b e = refl
-    or_first false b e = absurd (let never : false ≡ true = e in cc)
-
-    or_true : (a b : Bool) → b ≡ true → (a || b) ≡ true
-    or_true true b e = refl
-    or_true false b e = e
 
 -- Rows.
 
 row_in : (l : List Process) (i n : ℕ) → channel_at (get_or l i nobody).channels n ≡ channel_at (seat_in l i).1 n
-row_in [] i n = sym (free_rows 64 (n - 1))
+row_in [] i n = sym (alike_at {A = Option Channel} None 64 (n - 1))
 row_in (x ∷ xs) zero n = refl
 row_in (x ∷ xs) (suc i) n = row_in xs i n
 
@@ -213,7 +190,7 @@ cancelled_unreached s p m b h =
     subst (AllByRecursion (Unreached p m t)) (sym same)
     (all_weaker (λ a. Seated s a × clear a) (Unreached p m t)
     (λ a k e. ap (is_reached m) (rows a.p a.chan) ∙ false_from_ne_true (is_reached m (row s a.p a.chan)) (λ r. let is : a.p ≡ p = ap (λ (n : ℕ). let x : Pid = record { 0 = n } in x) (eqb-true a.p.0 p.0 e) in let never : true ≡ false = sym (reached_in (λ n. is_attention_on p n a) 1 m (process_at s p).channels a.chan k.0.number (subst (λ (q : Pid). is_reached m (row s q a.chan) ≡ true) is r) (and_from (is_same a.p p) (a.chan == a.chan) e (eq-eqb a.chan a.chan refl))) ∙ k.1 in cc))
-    one.attention (all_both (Seated s) clear one.attention (each_cancel_all (Seated s) p s ns h) (each_cancel_clear p s ns b)))
+    one.attention (all_both (Seated s) clear one.attention (each_cancel_all (Seated s) p s ns h) (each_cancel_one_clear p s ns b)))
 
 pub cancelled_seated : (s : State) (p : Pid) (m : Mode) → AllSeated s → AllSeated (cancel_modes s p m).after
 cancelled_seated s p m h =

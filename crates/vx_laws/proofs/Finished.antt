@@ -1,8 +1,9 @@
 -- In a run whose end is DONE no id is open, and each request has exactly one FIN.
-use Rattle.std.proofs.Common.{◌≡◌, ◌≢◌, ◌∙◌, ℕ, zero, suc, ◌+◌, ◌-◌, ◌<◌, ◌≤◌, List, [], ◌∷◌, Bool, true, false, cond, ◌==◌, ◌&&◌, ◌||◌, Option, Some, None, map, refl, sym, ap, subst, arith, length, get_or, ⊎_elim}
+use Rattle.std.proofs.Common.{◌≡◌, ◌≢◌, ◌∙◌, ℕ, zero, suc, ◌+◌, ◌-◌, ◌<◌, ◌≤◌, List, [], ◌∷◌, Bool, true, false, cond, ◌==◌, ◌&&◌, Option, Some, None, map, refl, sym, ap, subst, arith, length, get_or, ⊎_elim}
 use Rattle.std.specs.Prelude.{Contains, nat_le}
 use Rattle.std.specs.List.{AllByRecursion, list_all, list_any}
-use Rattle.std.proofs.lemmas.Bool.{and_parts, and_from, eq-eqb, cases_eq, leb-true, le-leb, false_from_ne_true, or_right}
+use Rattle.std.proofs.lemmas.Bool.{and_parts, and_from, eq-eqb, cases_eq, leb-true, le-leb, false_from_ne_true, or_right, or_parts}
+use Rattle.std.specs.Cmp.{both_ways as same_bools}
 use Rattle.vx_base.specs.Pieces.{Request, Timer, Attention}
 use Rattle.vx_base.specs.declared.effects.Effect.{Effect}
 use Rattle.vx_base.specs.declared.effects.Effect.TheVariants as effect
@@ -53,7 +54,6 @@ use Rattle.vx_laws.proofs.Steps.{step_tags, first_tags}
 use Rattle.vx_laws.proofs.Turns.{later_items}
 use Rattle.vx_laws.proofs.Unowned.{open_seated, pid_of}
 use Rattle.vx_laws.proofs.Vacant.{every_run_down}
-use Rattle.vx_base.proofs.Bools.{same_bools}
 
 -- Who is deleted is gone in the records.
 
@@ -277,11 +277,7 @@ done_open system recs limit id run end = by_life (life (past_of recs) id) refl (
 
 closed_fins : (o : Option Life) → lives is_open o ≡ false → lives (λ l. is_request l.kind) o ≡ true → told_fins o ≡ 1
 closed_fins None h r = absurd (let never : false ≡ true = r in cc)
-closed_fins (Some l) h r = rw (r, body l.body l.routine h) refl
-  where
-    body : (a b : Bool) → (a || b) ≡ false → a ≡ false
-    body true b e = e
-    body false b e = refl
+closed_fins (Some l) h r = rw (r, (or_parts l.body l.routine h).0) refl
 
 pub done_finished : (system : System) (recs : List Rec) (limit : ℕ) (id : Id) → IsRun system recs → end_after system recs limit ≡ Some Done → lives (λ l. is_request l.kind) (life (past_of recs) id) ≡ true → fins (past_of recs) id ≡ 1
 done_finished system recs limit id run end request = (records_whole recs (every_run_ends_right system recs run)).finished id ∙ closed_fins (life (past_of recs) id) (done_open system recs limit id run end) request

@@ -27,12 +27,12 @@ use Rattle.vx_record.specs.Requests.{unit_ending, with_unit}
 use Rattle.vx_record.specs.Rundown.{without_ast, without_frames}
 use Rattle.vx_record.specs.State.{Process, State, IsProcess, process_at, change, unit_at, nobody}
 use Rattle.vx_record.proofs.Base.{Base}
-use Rattle.vx_record.proofs.Steps.{IsThere}
+use Rattle.vx_record.proofs.Steps.{IsThere, left_after}
 use Rattle.vx_laws.specs.Frames.{turned, turned_by, turn}
 use Rattle.vx_laws.specs.Items.{Item}
 use Rattle.vx_laws.proofs.Awaited.{frame_waits}
 use Rattle.vx_laws.proofs.Untouched.{Keeps, waits_of, keep_waits, finish_keeps, tick_keeps}
-use Rattle.vx_laws.proofs.CalmServices.{call_turn, leave_all_state}
+use Rattle.vx_laws.proofs.CalmServices.{call_turn}
 use Rattle.vx_laws.proofs.Courses.{acts_apart, place_apart}
 use Rattle.vx_laws.proofs.Pauses.{shifted, heard, made_waits, run_waits}
 use Rattle.vx_laws.proofs.Rests.{IsAwake, is_rundown}
@@ -64,7 +64,7 @@ pub frames_apart : (s : State) (p q : Pid) (f : Process → Process) → (p.0 - 
 frames_apart s p q f off e = ap (λ (x : Process). x.frames) (get_or-set_other s.procs (p.0 - 1) (q.0 - 1) (f (process_at s p)) nobody (λ same. off (sym same))) ∙ e
 
 started_idle : (s : State) (p : Pid) (x : Queued) (tag : Entry) (q : Pid) → (p.0 - 1 ≡ q.0 - 1 → ⊥) → (process_at s q).frames ≡ [] → (process_at (started s p x tag).after q).frames ≡ []
-started_idle s p x (entry.Exit code) q off e = subst (λ (t : State). (process_at t q).frames ≡ []) (sym (leave_all_state (process_at s p).frames (change s p (without_frames code)))) (frames_apart s p q (without_frames code) off e)
+started_idle s p x (entry.Exit code) q off e = subst (λ (t : State). (process_at t q).frames ≡ []) (sym (left_after (process_at s p).frames (change s p (without_frames code)))) (frames_apart s p q (without_frames code) off e)
 started_idle s p x (entry.Label k prm) q off e = frames_apart s p q (with_frame (new_frame s p (kind.Ast x.id) x.mode (entry.Label k prm) (r0_of s p))) off e
 started_idle s p x (entry.Host prm) q off e = frames_apart s p q (with_frame (new_frame s p (kind.Ast x.id) x.mode (entry.Host prm) (r0_of s p))) off e
 

@@ -1,6 +1,6 @@
 -- Rundown, as the law of mailboxes asks.
 use Rattle.std.proofs.Common.{◌≡◌, ℕ, zero, suc, ◌+◌, ◌-◌, ◌≤◌, List, [], ◌∷◌, ◌++◌, true, false, ◌==◌, ◌&&◌, Option, Some, None, map, refl, sym, ap, ◌∙◌, subst, arith, get_or}
-use Rattle.std.proofs.lemmas.Bool.{eqb-true, and_parts, and_from, false_from_ne_true}
+use Rattle.std.proofs.lemmas.Bool.{eqb-true, and_parts, and_from, false_from_ne_true, both_ways}
 use Rattle.std.specs.List.{AllByRecursion, find}
 use Rattle.vx_base.specs.Channels.{channel_at, is_reached, reached_from, channels_of}
 use Rattle.vx_base.specs.Modes.{reaches}
@@ -14,7 +14,7 @@ use Rattle.vx_base.specs.declared.number.Pid.{Pid}
 use Rattle.vx_base.specs.declared.record.Answer.{Answer}
 use Rattle.vx_base.specs.declared.request.Device.TheVariants as device
 use Rattle.vx_base.specs.declared.request.Device.{Device}
-use Rattle.vx_record.proofs.Lists.{either_by, all_weaker, all_both, none_passes, apart_bools}
+use Rattle.vx_record.proofs.Lists.{either_by, all_weaker, all_both, none_passes}
 use Rattle.vx_record.proofs.SoundChannels.{is_on_box}
 use Rattle.vx_record.specs.Cancel.{is_request_on}
 use Rattle.vx_record.specs.Channels.{free_channel}
@@ -70,7 +70,7 @@ clear_one s past p m n r freed root quiet =
         let one : r.req.p.0 ≡ p.0 = eqb-true r.req.p.0 p.0 both.0 in
         let two : r.req.chan ≡ n = eqb-true r.req.chan n both.1 in
         let its : row s r.req.p r.req.chan ≡ row s p n = ap (λ (i : ℕ). channel_at (get_or s.procs (i - 1) nobody).channels r.req.chan) one ∙ ap (λ (i : ℕ). row s p i) two in
-        apart_bools (is_same r.req.p p && reaches r.req.chan_mode m) (and_from (is_same r.req.p p) (reaches r.req.chan_mode m) both.0 (freed.1 c (sym its ∙ k))) quiet
+        both_ways (is_same r.req.p p && reaches r.req.chan_mode m) quiet (and_from (is_same r.req.p p) (reaches r.req.chan_mode m) both.0 (freed.1 c (sym its ∙ k)))
 
 each_free_walk : (ns : List ℕ) (s : State) (past : List Item) (p : Pid) (m : Mode) (more : List Effect) → 1 ≤ p.0 → AllByRecursion (IsFreed s p m) ns → IsQuiet s p m → IsPlainCall past → Boxed s past → Walk s past (each (free_one p) ns s) more
 each_free_walk [] s past p m more above k quiet calm h = walk_nothing s past more h

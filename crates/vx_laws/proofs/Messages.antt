@@ -1,11 +1,12 @@
 -- In every run messages are put, handed out and withdrawn as the law of mailboxes asks.
-use Rattle.std.proofs.Common.{◌≡◌, ℕ, ◌+◌, List, [], ◌∷◌, ◌++◌, false, not, Option, Some, None, Result, Ok, Err, map, refl, sym, ap, ◌∙◌, subst, replicate, ◌-◌, ◌≤◌, arith, true, IsTrue, is_some, cond, zero, suc, append-nil, ◌&&◌, ◌||◌, Bool, position, is_none, get_or}
+use Rattle.std.proofs.Common.{◌≡◌, ℕ, ◌+◌, List, [], ◌∷◌, ◌++◌, false, not, Option, Some, None, Result, Ok, Err, map, refl, sym, ap, ◌∙◌, subst, replicate, ◌-◌, ◌≤◌, arith, true, IsTrue, is_some, zero, suc, append-nil, ◌&&◌, ◌||◌, Bool, position, is_none, get_or}
 use Rattle.std.proofs.lemmas.Bool.{or_right, leb-true, and_parts, and_from, or_parts}
 use Rattle.std.proofs.lemmas.List.Quantifiers.{position-Some}
 use Rattle.std.proofs.lemmas.Slice.Eq.{bytes_eq-Decides}
 use Rattle.std.specs.List.{AllByRecursion, find, list_any}
 use Rattle.std.specs.Prelude.{Contains, option_map}
-use Rattle.vx_base.proofs.First.{found_passes}
+use Rattle.vx_base.proofs.Lists.{not_some, none_there, alike_at}
+use Rattle.vx_base.proofs.First.{found_passes, amend_found}
 use Rattle.vx_base.specs.Channels.{channel_at}
 use Rattle.vx_base.specs.Cond.{number_of}
 use Rattle.vx_base.specs.Lists.{amend}
@@ -66,7 +67,7 @@ use Rattle.vx_record.specs.declared.served.Served.TheVariants.{Answered, Waits}
 use Rattle.vx_record.specs.declared.served.Served.{Served}
 use Rattle.vx_laws.proofs.Accepted.{IsAsking, Going, accepted_serving}
 use Rattle.vx_record.proofs.Apart.{Here, here_after}
-use Rattle.vx_laws.proofs.Aside.{row, Aside, awaited_aside, changed, PartAside, free_rows, then, same, is_near, service_aside, returned_aside, started_aside, tick_aside}
+use Rattle.vx_laws.proofs.Aside.{row, Aside, awaited_aside, changed, PartAside, then, same, is_near, service_aside, returned_aside, started_aside, tick_aside}
 use Rattle.vx_record.proofs.Base.{Base}
 use Rattle.vx_laws.proofs.Boxed.{Origin, IsThere, Rooted, Boxed, Carried, carry, all_rooted, there_as, title_as, head_boxed, origin, owner_of, restock, put_there, kept_at, message_id}
 use Rattle.vx_laws.proofs.Cleared.{headed}
@@ -200,17 +201,10 @@ make_serving s p mode box b (Some n) t c past at free empty fresh unit names tit
     let named : named_in (latest_call zero_past) ≡ Some (device_title u d) = rw names (ap (λ (l : List ℕ). Some l) (title ∙ sym titled)) in
     record {
       boxed = assigned_boxed u y.after p t n ch one_past refl refl refl refl k.rows above row_is.0 row_is.1 (ap (λ (z : Option Mailbox). is_some z) here) named
-          (made_boxed s (box_number b) box zero_past (none_there s.boxes b place_is.1) place_is.0 empty fresh unit (head_boxed s past (event.Run p) (served_call p c y y.answer).answer h));
+          (made_boxed s (box_number b) box zero_past (none_there (get_or s.boxes b None) place_is.1) place_is.0 empty fresh unit (head_boxed s past (event.Run p) (served_call p c y y.answer).answer h));
       lawful = ((λ rest left. refl), ((λ rest left. refl), tt));
       single = λ g e. at_set (λ (v w : Option Mailbox). (or_no_box v).messages ≡ [] → (or_no_box w).messages ≡ []) (λ v j. j) s.boxes b g.0 (Some box) None (λ j. empty) (single g e);
     }
-  where
-    none_there : (l : List (Option Mailbox)) (i : ℕ) → is_none (get_or l i None) ≡ true → get_or l i None ≡ None
-    none_there l i e = by_option (get_or l i None) e
-      where
-        by_option : (o : Option Mailbox) → is_none o ≡ true → o ≡ None
-        by_option None e = refl
-        by_option (Some m) e = absurd (let never : false ≡ true = e in cc)
 
 make_in_serving : (s : State) (p : Pid) (mode : Mode) (box : Mailbox) (o : Option ℕ) (t : Target) (c : Call) (past : List Item) → position is_none s.boxes ≡ o → box.messages ≡ [] → list_any (is_box_of box.name) s.boxes ≡ false → list_any (is_unit_of box.name) s.system.units ≡ false →
     names_device c.service ≡ true → text c.args.a1 ≡ box.name → 1 ≤ p.0 → Boxed s past → IsSingle s → let x = make_box_in s p mode box o in let y = numbered_at p t (part_of x) x.answer in Serving (headed p c y y.answer past) (part_of y)
@@ -241,11 +235,7 @@ crembx_serving s p a past above h single =
     either_by (Numbered s p (place a.a0) c past) (is_bad_box s name (number a.a3) (number a.a4)) _ _ (λ e. refused_numbered s p (place a.a0) c past _ h single)
     (λ e.
     let unit = (or_parts (is_some (unit_named s name)) _ e).0 in
-    find_or_create_serving s p (outer (access_mode a.a5) (current s p)) (new_box name (number a.a2) (number a.a3) (number a.a4)) (box_named s name) (place a.a0) c past refl refl (no_position (is_unit_of name) s.system.units (none_of (unit_named s name) unit)) refl refl above h single)
-  where
-    none_of : (o : Option ℕ) → is_some o ≡ false → o ≡ None
-    none_of None e = refl
-    none_of (Some n) e = absurd (let never : true ≡ false = e in cc)
+    find_or_create_serving s p (outer (access_mode a.a5) (current s p)) (new_box name (number a.a2) (number a.a3) (number a.a4)) (box_named s name) (place a.a0) c past refl refl (no_position (is_unit_of name) s.system.units (not_some (unit_named s name) unit)) refl refl above h single)
 
 -- $DELMBX.
 
@@ -426,14 +416,6 @@ don_serving s past u (Some r) is g =
     let w = finish_walk t (x ∷ past) r e [] refl may h in
     record { boxed = w.boxed; lawful = w.lawful; single = single_on t (finish t r e).after w.fewer g.single }
 
-amend_found : (P : Request → Type 0) (p : Request → Bool) (f : Request → Request) (xs : List Request) (r : Request) → find p xs ≡ Some r → AllByRecursion P xs → P (f r) → AllByRecursion P (amend p f xs)
-amend_found P p f [] r e h k = tt
-amend_found P p f (x ∷ xs) r e h k = at (p x) e (λ j. amend_found P p f xs r j h.1 k)
-  where
-    at : (b : Bool) → cond b (Some x) (find p xs) ≡ Some r → (find p xs ≡ Some r → AllByRecursion P (amend p f xs)) → AllByRecursion P (cond b (f x ∷ xs) (x ∷ amend p f xs))
-    at true j g = let it : x ≡ r = cc in (subst (λ (y : Request). P (f y)) (sym it) k, h.1)
-    at false j g = (h.0, g j)
-
 any_taken : (b : BoxNo) (p : Request → Bool) (xs : List Request) → list_any (waits_at b) (amend p taken_up xs) ≡ list_any (waits_at b) xs
 any_taken b p [] = refl
 any_taken b p (x ∷ xs) = either (λ (l : List Request). list_any (waits_at b) l ≡ list_any (waits_at b) (x ∷ xs)) (p x) (taken_up x ∷ xs) (x ∷ amend p taken_up xs) refl (ap (λ (y : Bool). waits_at b x || y) (any_taken b p xs))
@@ -453,7 +435,7 @@ beg_serving s past u (Some r) is g =
     let new : Rooted t (x ∷ past) (taken_up r) = record { from = k.from; below = k.below; above = k.above; numbered = k.numbered; there = k.there; on = k.on; free = subst (λ (d : Device). MayBeServed true d) (sym unit.1) tt; call = k.call; is = k.is; func = k.func; len = k.len } in
     record {
       boxed = carry s t (x ∷ past) (x ∷ past) c refl (λ p n. refl) (λ name. refl) (λ name. refl) (ordered_amend request_id (this_request r.req.id) taken_up (λ y. refl) 0 s.next s.requests h.ordered)
-          (amend_found (Rooted t (x ∷ past)) (this_request r.req.id) taken_up s.requests r found all new) h;
+          (amend_found (Rooted t (x ∷ past)) (this_request r.req.id) taken_up s.requests r found new all) h;
       lawful = tt;
       single = λ b e. g.single b (sym (any_taken b (this_request r.req.id) s.requests) ∙ e);
     }
@@ -498,11 +480,6 @@ run_messages s past (r ∷ rs) k b f g =
 
 -- before the first record there is nothing
 
-no_box_at : (k i : ℕ) → get_or (replicate k None) i None ≡ (let o : Option Mailbox = None in o)
-no_box_at zero i = refl
-no_box_at (suc k) zero = refl
-no_box_at (suc k) (suc i) = no_box_at k i
-
 no_box_named : (k : ℕ) (name : List ℕ) → list_any (is_box_of name) (replicate k None) ≡ false
 no_box_named zero name = refl
 no_box_named (suc k) name = no_box_named k name
@@ -512,7 +489,7 @@ HasNone x = (n : ℕ) → channel_at x.channels n ≡ None
 
 born_free : (at : ℕ) (ds : List ProcDecl) → AllByRecursion HasNone (born_from at ds)
 born_free at [] = tt
-born_free at (d ∷ ds) = either (AllByRecursion HasNone) d.start (born_of at d ∷ born_from (at + 1) ds) (born_from (at + 1) ds) ((λ n. free_rows 64 (n - 1)), born_free (at + 1) ds) (born_free (at + 1) ds)
+born_free at (d ∷ ds) = either (AllByRecursion HasNone) d.start (born_of at d ∷ born_from (at + 1) ds) (born_from (at + 1) ds) ((λ n. alike_at {A = Option Channel} None 64 (n - 1)), born_free (at + 1) ds) (born_free (at + 1) ds)
 
 first_row : (system : System) (p : Pid) (n : ℕ) → row (first system) p n ≡ None
 first_row system p n = all_get HasNone (born_from 0 system.decls) (p.0 - 1) nobody (λ n. refl) (born_free 0 system.decls) n
@@ -526,7 +503,7 @@ first_going system = record {
     ordered = omega arith;
     rows = λ p n ch above one e. absurd (let never : None ≡ Some ch = sym (first_row system p n) ∙ e in cc);
     requests = tt;
-    boxes = λ b box e. absurd (let never : None ≡ Some box = sym (no_box_at 64 b.0) ∙ e in cc);
+    boxes = λ b box e. absurd (let never : None ≡ Some box = sym (alike_at {A = Option Mailbox} None 64 b.0) ∙ e in cc);
     others = λ name e. refl;
     stands = no_box_named 64;
   };

@@ -1,5 +1,6 @@
 -- Records in which nothing finishes, and those of $QIO and $QIOW: what finishes there was opened in the record, or a message was
 -- moved from it or to it before.
+use mathlib.Core.Bool.{or-true}
 use Rattle.std.proofs.Common.{◌≡◌, ℕ, List, [], ◌∷◌, Bool, true, false, not, ◌==◌, ◌&&◌, nat_lt, length, Option, Some, None, Result, Ok, Err, refl, ◌++◌, sym, ap, subst, append-nil}
 use Rattle.std.specs.List.{filter, find, list_any}
 use Rattle.vx_base.specs.Pieces.{Channel, Request, Promised, Status, cleared}
@@ -34,7 +35,6 @@ use Rattle.vx_laws.proofs.Calm.{is_fine, Fine}
 use Rattle.vx_laws.specs.Once.{ends_where, is_requesting, moves, is_done_first}
 use Rattle.vx_base.specs.declared.request.Body.{Body}
 use Rattle.vx_base.specs.declared.request.Body.TheVariants as body
-use Rattle.vx_base.proofs.Bools.{or_true}
 use Rattle.vx_base.proofs.First.{found_passes}
 
 abbrev pub AllWhere : List Item → List Effect → Type 0
@@ -119,14 +119,14 @@ onto before [] = before
 onto before (x ∷ xs) = onto (x ∷ before) xs
 
 has_more : (id : Id) (x : Effect) (before : List Effect) → Has id before → Has id (x ∷ before)
-has_more id x before h = rw h (or_true (moves id x))
+has_more id x before h = rw h (or-true (moves id x))
 
 has_onto : (id : Id) (before es : List Effect) → Has id before → Has id (onto before es)
 has_onto id before [] h = h
 has_onto id before (x ∷ xs) h = has_onto id (x ∷ before) xs (has_more id x before h)
 
 moved_one : (past : List Item) (x : Effect) → is_requesting (latest_call past) ≡ true → IsMoved (effects_before past) x → (rest : List Item) → ends_where past (Did x) rest ≡ true
-moved_one past (effect.Fin id c) asks k rest = rw (k.0, asks, k.1) (or_true (is_done_first past id))
+moved_one past (effect.Fin id c) asks k rest = rw (k.0, asks, k.1) (or-true (is_done_first past id))
 moved_one past x asks k rest = refl
 
 pub moved_where : (past : List Item) (es : List Effect) → is_requesting (latest_call past) ≡ true → AllMoved (effects_before past) es → AllWhere past es

@@ -1,16 +1,17 @@
 -- The oldest read that waits at a mailbox is the first in the machine's list.
 use Rattle.std.proofs.Common.{◌≡◌, ℕ, zero, suc, ◌+◌, ◌<◌, ◌≤◌, List, [], ◌∷◌, Bool, true, false, cond, ◌==◌, ◌&&◌, ◌||◌, nat_lt, Option, Some, None, refl, sym, ap, ◌∙◌, subst, arith, inl, inr, IsTrue, get_or, is_some}
-use Rattle.std.proofs.lemmas.Bool.{eq-eqb, eqb-true, and_parts, cases_eq, ltb-true, ltb-false, false_from_ne_true}
+use Rattle.std.proofs.lemmas.Bool.{eq-eqb, eqb-true, and_parts, cases_eq, ltb-true, ltb-false, false_from_ne_true, both_ways}
 use Rattle.std.proofs.lemmas.Slice.Eq.{bytes_eq-Decides}
 use Rattle.std.specs.List.{AllByRecursion, find, list_any}
 use Rattle.std.specs.Prelude.{option_map, bytes_eq}
+use Rattle.std.specs.Cmp.{both_ways as same_bools}
 use Rattle.vx_base.specs.Pieces.{Request, Mailbox}
 use Rattle.vx_base.specs.declared.effects.Effect.TheVariants as effect
 use Rattle.vx_base.specs.declared.number.BoxNo.{BoxNo}
 use Rattle.vx_base.specs.declared.number.Id.{Id}
 use Rattle.vx_base.specs.declared.request.Device.TheVariants as device
 use Rattle.vx_base.specs.declared.request.Device.{Device}
-use Rattle.vx_record.proofs.Lists.{either_by, all_weaker, all_from, all_find, apart_bools, none_passes, all_both, none_any, found_any}
+use Rattle.vx_record.proofs.Lists.{either_by, all_weaker, all_from, all_find, none_passes, all_both, none_any, found_any}
 use Rattle.vx_record.specs.Channels.{is_unit_of}
 use Rattle.vx_record.specs.Finish.{this_request}
 use Rattle.vx_record.specs.Mailboxes.{mailbox_at, is_box, is_waiting_func, waits_at}
@@ -24,7 +25,6 @@ use Rattle.vx_laws.specs.Agrees.{device_title}
 use Rattle.vx_laws.specs.Boxes.{is_at, asks, reads_at, oldest_read}
 use Rattle.vx_laws.specs.Items.{Item, Head, Did}
 use Rattle.vx_laws.specs.Lives.{Life, life, lives, highest, is_outstanding, least_id, id_of}
-use Rattle.vx_base.proofs.Bools.{same_bools}
 use Rattle.vx_base.proofs.First.{found_passes}
 use Rattle.std.proofs.lemmas.List.Folds.{list_any_at}
 
@@ -64,7 +64,7 @@ not_above (Did x ∷ past) id g e = not_above past id g (sym (origin_on (Did x) 
 
 titled : (s : State) (past : List Item) (b : BoxNo) (box : Mailbox) (d : Device) → box_at s b ≡ Some box → IsThere s d → Boxed s past → bytes_eq (device_title s d) box.name ≡ is_box b d
 titled s past b box (device.Unit u) is there h =
-    false_from_ne_true _ (λ e. apart_bools _ (list_any_at (is_unit_of box.name) s.system.units u.0 no_unit_decl there e) (h.boxes b box is).unit)
+    false_from_ne_true _ (λ e. both_ways _ (h.boxes b box is).unit (list_any_at (is_unit_of box.name) s.system.units u.0 no_unit_decl there e))
 titled s past b box (device.Mailbox c) is there h = by_box (box_at s c) refl there
   where
     by_box : (o : Option Mailbox) → box_at s c ≡ o → IsTrue (is_some o) → bytes_eq (mailbox_at s c).name box.name ≡ (b.0 == c.0)
@@ -110,7 +110,7 @@ first_of_all p low high (x ∷ xs) r o e = at (p x) refl (λ k. first_of_all p (
           (λ t. let e : x.req.id.0 ≡ r.req.id.0 = ap (λ (y : Request). y.req.id.0) same in omega (arith, e)),
           all_weaker (λ (y : Request). request_id x + 1 ≤ y.req.id.0) (λ (y : Request). p y ≡ true → r.req.id.0 ≤ y.req.id.0) (λ y low t. let e : x.req.id.0 ≡ r.req.id.0 = ap (λ (y : Request). y.req.id.0) same in omega (arith, e, low)) xs (all_from request_id (request_id x + 1) high xs o.1),
         )
-    at false is f k = ((λ t. absurd (apart_bools (p x) t is)), f k)
+    at false is f k = ((λ t. absurd (both_ways (p x) is t)), f k)
 
 abbrev test_of : List Item → Mailbox → Id → Bool
 test_of past box id = lives (reads_at box.name) (life past id)
@@ -147,7 +147,7 @@ oldest_is s past b box is base listed h = by_first (find (waits_at b) s.requests
         (all_both (SameAs s past b box) (λ (r : Request). waits_at b r ≡ false) s.requests all_same (none_passes (waits_at b) s.requests (none_any (waits_at b) s.requests e))) in
         let same : found.0.req.id.0 ≡ k = eqb-true found.0.req.id.0 k found.1 in
         let yes : (test_of past box) found.0.req.id ≡ true = subst (λ (n : ℕ). (test_of past box) (id_of n) ≡ true) (sym same) t in
-        apart_bools (waits_at b found.0) (sym found.2.0.0 ∙ yes) found.2.1))
+        both_ways (waits_at b found.0) found.2.1 (sym found.2.0.0 ∙ yes)))
     by_first (Some r) e =
         let mine = all_find (SameAs s past b box) (waits_at b) s.requests r all_same e in
         let waits = found_passes (waits_at b) s.requests r e in

@@ -16,7 +16,7 @@ use Rattle.vx_base.specs.declared.number.Pid.{Pid}
 use Rattle.vx_base.specs.declared.number.UnitNo.{UnitNo}
 use Rattle.vx_base.specs.declared.request.Device.TheVariants as device
 use Rattle.vx_base.specs.declared.request.Msg.{Msg}
-use Rattle.vx_record.proofs.Lists.{either, either_by, all_less, apart_bools, ordered_below, ordered_less}
+use Rattle.vx_record.proofs.Lists.{either, either_by, all_less, ordered_below, ordered_less}
 use Rattle.vx_record.specs.Asts.{charged_ast}
 use Rattle.vx_record.specs.Channels.{is_box_of, is_unit_of}
 use Rattle.vx_record.specs.Finish.{Ending, is_read, this_request, fin_part, with_stored_bytes, buf_part, status_of, iosb_part, done_ast_part, finish, finish_found}
@@ -33,7 +33,7 @@ use Rattle.vx_laws.specs.Boxes.{this_stored, stored}
 use Rattle.vx_laws.specs.Items.{Item, Did, Calling, later, latest_call, effects_left, is_cond}
 use Rattle.vx_laws.specs.Lives.{Life, life, lives, named_in}
 use Rattle.vx_laws.specs.MessageLaw.{handles_messages, is_stored_nowhere}
-use Rattle.std.proofs.lemmas.Bool.{false_from_ne_true}
+use Rattle.std.proofs.lemmas.Bool.{false_from_ne_true, or_right, both_ways}
 use Rattle.std.proofs.lemmas.List.Folds.{list_any_at}
 
 -- An effect is as the law asks, by what is left of its record.
@@ -109,17 +109,13 @@ walk_nothing s past more h = record { boxed = h; lawful = tt; fewer = fewer_same
 
 -- Finish: its FIN, and what lies aside.
 
+or_more : (a b c : Bool) → (b ≡ true → c ≡ true) → (a || b) ≡ true → (a || c) ≡ true
+or_more true b c f h = refl
+or_more false b c f h = f h
+
 any_less : {A : Type 0} (p q : A → Bool) (xs : List A) → list_any p (less q xs) ≡ true → list_any p xs ≡ true
 any_less p q [] e = e
-any_less p q (x ∷ xs) e = either (λ (l : List _). list_any p l ≡ true → (p x || list_any p xs) ≡ true) (q x) xs (x ∷ less q xs) (or_second (p x) (list_any p xs)) (or_more (p x) (list_any p (less q xs)) (list_any p xs) (any_less p q xs)) e
-  where
-    or_second : (a b : Bool) → b ≡ true → (a || b) ≡ true
-    or_second true b h = refl
-    or_second false b h = h
-
-    or_more : (a b c : Bool) → (b ≡ true → c ≡ true) → (a || b) ≡ true → (a || c) ≡ true
-    or_more true b c f h = refl
-    or_more false b c f h = f h
+any_less p q (x ∷ xs) e = either (λ (l : List _). list_any p l ≡ true → (p x || list_any p xs) ≡ true) (q x) xs (x ∷ less q xs) (or_right (p x) (list_any p xs)) (or_more (p x) (list_any p (less q xs)) (list_any p xs) (any_less p q xs)) e
 
 pub buf_aside : (s : State) (r : Request) (e : Ending) → PartAside s (buf_part s r.req e)
 buf_aside s r e = either (PartAside s) (is_read r.req.func && nat_lt 0 e.0.count) _ (nothing s) (changed s r.req.p (with_stored_bytes r.req.buf e.0.bytes) _ refl (tt, tt)) (idle s)
@@ -213,7 +209,7 @@ unit_no_box s past name unit h =
     by_box b (Some box) is e =
         let same : box.name ≡ name = (bytes_eq-Decides box.name name).0 e in
         let none : list_any (is_unit_of name) s.system.units ≡ false = subst (λ (n : List ℕ). list_any (is_unit_of n) s.system.units ≡ false) same (h.boxes b box is).unit in
-        apart_bools _ unit none
+        both_ways _ none unit
 
 pub unit_stores : (s : State) (past : List Item) (u : UnitNo) → IsThere s (device.Unit u) → Boxed s past → stored past (device_title s (device.Unit u)) ≡ []
 unit_stores s past u there h =

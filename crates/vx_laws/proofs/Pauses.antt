@@ -29,11 +29,11 @@ use Rattle.vx_image.specs.Local.{advanced}
 use Rattle.vx_image.specs.declared.stop.Stop.TheVariants as stop
 use Rattle.vx_image.specs.declared.stop.Stop.{Stop}
 use Rattle.vx_record.proofs.Apart.{Here, here_after}
-use Rattle.vx_record.proofs.Steps.{test_made}
+use Rattle.vx_record.proofs.Steps.{test_made, left_after}
 use Rattle.vx_record.proofs.Told.{accepted_after}
 use Rattle.vx_laws.proofs.Awaited.{WaitsKept, frame_waits, waits_none, waits_of_kept, waits_plainly}
 use Rattle.vx_laws.proofs.Untouched.{Keeps, Plainly, accepted_keeps, drop_handlers_keeps, keep_moved, keep_none, keep_same, keep_waits, newcomer, waits_of}
-use Rattle.vx_laws.proofs.CalmServices.{call_turn, leave_all_state, no_turn, refusal_turn, test_is, turns}
+use Rattle.vx_laws.proofs.CalmServices.{call_turn, no_turn, refusal_turn, test_is, turns}
 use Rattle.vx_laws.proofs.Events.{some_moved, start_turn, turn_is}
 use Rattle.vx_laws.proofs.Kept.{made_on}
 use Rattle.vx_record.proofs.Locals.{advanced_statuses}
@@ -154,13 +154,13 @@ after_keeps : (s t u : State) (p : Pid) (a : Args) (v : Service) (x : Served) �
 after_keeps s t u p a v x h k = record { waits = λ q above. keep_waits k (q.0 - 1) ∙ h.waits q above; fit = h.fit }
 
 exited_is : (s : State) (p : Pid) (code : ℕ) → (exited s p code).after ≡ change s p (without_frames code)
-exited_is s p code = leave_all_state (process_at s p).frames (change s p (without_frames code))
+exited_is s p code = left_after (process_at s p).frames (change s p (without_frames code))
 
 deleted_waits : (s : State) (p q : Pid) (a : Args) → named_process p (number a.a0) ≡ q → IsProcess s q → ServiceWaits s p a service.DelPrc (Answered Normal) (deleted_by s q).after
 deleted_waits s p q a who made =
     let t = change s q named_for_deletion in
     let b = (leave_all (process_at s q).frames t).after in
-    let one : ServiceWaits s p a service.DelPrc (Answered Normal) b = subst (ServiceWaits s p a service.DelPrc (Answered Normal)) (sym (leave_all_state (process_at s q).frames t)) (turned_waits s p q a service.DelPrc named_for_deletion Clears who refl made refl) in
+    let one : ServiceWaits s p a service.DelPrc (Answered Normal) b = subst (ServiceWaits s p a service.DelPrc (Answered Normal)) (sym (left_after (process_at s q).frames t)) (turned_waits s p q a service.DelPrc named_for_deletion Clears who refl made refl) in
     after_keeps s b (deleted_by s q).after p a service.DelPrc (Answered Normal) one (drop_handlers_keeps b q any_handler)
 
 delprc_waits : (s : State) (p : Pid) (a : Args) (r : Result Pid Cond) → process_test s p (number a.a0) ≡ r → ServesWaits s p a service.DelPrc (at_once (at_tested s (deleted_by s) r))

@@ -1,5 +1,6 @@
 -- The phases of processes and their channels: what leaves them as they were, and how phases go on.
 use Rattle.std.proofs.Common.{◌∙◌, ◌≡◌, ℕ, List, [], ◌∷◌, true, false, nat_lt, Option, Some, None, Result, Ok, Err, refl, ◌-◌, ◌+◌, ap, ◌%◌, ◌^◌, ◌||◌, sym, subst}
+use Rattle.vx_record.proofs.Steps.{left_after}
 use Rattle.vx_base.specs.Modes.{inner}
 use Rattle.vx_base.specs.Pieces.{Queued, Channel, Request}
 use Rattle.vx_base.specs.declared.call.Args.{Args}
@@ -42,7 +43,6 @@ use Rattle.vx_base.specs.Serving.{serve, settled}
 use Rattle.vx_image.specs.Local.{advanced}
 use Rattle.vx_image.specs.declared.stop.Stop.{Stop}
 use Rattle.vx_image.specs.declared.stop.Stop.TheVariants as stop
-use Rattle.vx_laws.proofs.CalmServices.{leave_all_state}
 use Rattle.vx_laws.proofs.Untouched.{seat_of, seat_in, phase_in, Keeps, keep_seats, keep_phases, keep_none, keep_then, keep_procs, keep_same, keep_moved, at_flag_by, finish_keeps, accepted_keeps, tick_keeps, drop_handlers_keeps, assign_shifts, crembx_service_shifts, dassgn_shifts, is_leaving, service_plainly, one_changed, set_views}
 
 -- all processes are in the phases that they were in, with the channels that they had
@@ -146,7 +146,7 @@ leaving_passes (phase.Draining n) m = refl
 leaving_passes phase.Deleted m = refl
 
 leave_all_keeps : (frames : List Frame) (s : State) → Keeps s (leave_all frames s).after
-leave_all_keeps frames s = keep_procs s (leave_all frames s).after (ap (λ (t : State). t.procs) (leave_all_state frames s))
+leave_all_keeps frames s = keep_procs s (leave_all frames s).after (ap (λ (t : State). t.procs) (left_after frames s))
 
 exited_ages : (s : State) (p : Pid) (code : ℕ) → Ages s (exited s p code).after
 exited_ages s p code =

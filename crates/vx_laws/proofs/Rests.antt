@@ -45,7 +45,7 @@ use Rattle.vx_laws.specs.Items.{Item, Head, Did, flat, later, at_each, latest_ca
 use Rattle.vx_laws.specs.Lives.{is_wake}
 use Rattle.vx_laws.specs.RundownLaw.{is_gone, woken}
 use Rattle.vx_laws.specs.RundownParts.{stays, gone_rest}
-use Rattle.vx_laws.proofs.Allowed.{Test, is_allowed, Allowed, MayOpen, nil, one, tick_allowed, service_allowed, returned_allowed, delivered_allowed, beg_allowed, don_allowed}
+use Rattle.vx_laws.proofs.Allowed.{Test, is_allowed, Allowed, MayOpen, nil, tick_allowed, service_allowed, returned_allowed, delivered_allowed, beg_allowed, don_allowed}
 use Rattle.vx_laws.proofs.Calm.{Tags, IsBare, Still, still_made, held_at}
 use Rattle.vx_laws.proofs.Lowers.{IsLowering, Low, Lowers, Others, closed, stops, goes, rundown_lowers}
 use Rattle.vx_laws.proofs.Named.{step_still}

@@ -1,6 +1,6 @@
 -- Channels and mailboxes come and go: what agrees goes on.
 use Rattle.std.proofs.Common.{◌⊎◌, inl, inr, ◌≡◌, ◌≢◌, ℕ, ◌-◌, ◌<◌, ◌≤◌, List, [], ◌∷◌, Bool, true, false, ◌==◌, ◌&&◌, length, Option, Some, None, refl, sym, ap, ◌∙◌, subst, arith, get_or, set, is_some, IsTrue}
-use Rattle.std.proofs.lemmas.Bool.{eq-eqb, eqb-true, and_parts, and_from, cases_eq, false_from_ne_true}
+use Rattle.std.proofs.lemmas.Bool.{eq-eqb, eqb-true, and_parts, and_from, cases_eq, false_from_ne_true, both_ways}
 use Rattle.std.proofs.lemmas.List.{get_or-set_other}
 use Rattle.std.proofs.lemmas.Slice.Eq.{bytes_eq-Decides}
 use Rattle.std.specs.List.{AllByRecursion, list_any}
@@ -15,7 +15,7 @@ use Rattle.vx_base.specs.declared.number.Pid.{Pid}
 use Rattle.vx_base.specs.declared.request.Device.TheVariants as device
 use Rattle.vx_base.specs.declared.request.Device.{Device}
 use Rattle.vx_record.proofs.Ground.{at_set}
-use Rattle.vx_record.proofs.Lists.{either_by, all_weaker, all_both, all_get, none_passes, apart_bools}
+use Rattle.vx_record.proofs.Lists.{either_by, all_weaker, all_both, all_get, none_passes}
 use Rattle.vx_record.proofs.SoundChannels.{is_on_box}
 use Rattle.vx_record.specs.Cancel.{is_request_on}
 use Rattle.vx_record.specs.Channels.{with_channel, is_box_of, is_unit_of, is_channel_to, has_channel_to, is_assigned}
@@ -38,7 +38,7 @@ row_elsewhere s p q n m ch a b c d other =
     let f = with_channel n ch in
     elim (cases_eq m n) [
       | inl same ↦
-          let apart : q.0 - 1 ≢ p.0 - 1 = λ e. let yes : (is_same q p && (m == n)) ≡ true = and_from (is_same q p) (m == n) (eq-eqb q.0 p.0 (omega (arith, a, b, e))) (eq-eqb m n same) in apart_bools _ yes other in
+          let apart : q.0 - 1 ≢ p.0 - 1 = λ e. let yes : (is_same q p && (m == n)) ≡ true = and_from (is_same q p) (m == n) (eq-eqb q.0 p.0 (omega (arith, a, b, e))) (eq-eqb m n same) in both_ways _ other yes in
           ap (λ (x : Process). channel_at x.channels m) (get_or-set_other s.procs (p.0 - 1) (q.0 - 1) (f (process_at s p)) nobody apart)
       | inr ne ↦
           let apart : m - 1 ≢ n - 1 = λ e. ne (omega (arith, c, d, e)) in
@@ -85,11 +85,11 @@ no_row_to s b p n none =
 
 gone_there : (s : State) (b : BoxNo) (d : Device) → is_box b d ≡ false → IsThere s d → IsThere (with_box s b None) d
 gone_there s b (device.Unit u) other k = k
-gone_there s b (device.Mailbox c) other k = subst (λ (o : Option Mailbox). IsTrue (is_some o)) (sym (get_or-set_other s.boxes b.0 c.0 None None (λ e. apart_bools _ (eq-eqb b.0 c.0 (sym e)) other))) k
+gone_there s b (device.Mailbox c) other k = subst (λ (o : Option Mailbox). IsTrue (is_some o)) (sym (get_or-set_other s.boxes b.0 c.0 None None (λ e. both_ways _ other (eq-eqb b.0 c.0 (sym e))))) k
 
 gone_title : (s : State) (b : BoxNo) (d : Device) → is_box b d ≡ false → device_title (with_box s b None) d ≡ device_title s d
 gone_title s b (device.Unit u) other = refl
-gone_title s b (device.Mailbox c) other = ap (λ (o : Option Mailbox). (or_no_box o).name) (get_or-set_other s.boxes b.0 c.0 None None (λ e. apart_bools _ (eq-eqb b.0 c.0 (sym e)) other))
+gone_title s b (device.Mailbox c) other = ap (λ (o : Option Mailbox). (or_no_box o).name) (get_or-set_other s.boxes b.0 c.0 None None (λ e. both_ways _ other (eq-eqb b.0 c.0 (sym e))))
 
 on_other : (s : State) (b : BoxNo) (p : Pid) (n : ℕ) (mode : Mode) (d : Device) → is_assigned s b ≡ false → IsOn s p n mode d → is_box b d ≡ false
 on_other s b p n mode (device.Unit u) none k = refl
@@ -187,7 +187,7 @@ made_boxed s b box past free within empty fresh unit h =
       requests = all_rooted s t past after c (λ p n. refl) s.requests h.requests;
       boxes = λ d other e. elim (cases_eq d.0 b.0) [ inl same ↦ at_here d other same e | inr apart ↦ at_other d other apart (was_there s b d (Some box) other apart e) ];
       others = λ name e.
-          let differ : bytes_eq box.name name ≡ false = false_from_ne_true _ (λ yes. apart_bools _ (list_any_at (is_box_of name) t.boxes b.0 None (subst (λ (n : ℕ). b.0 < n) (sym (Rattle.std.proofs.Math.ListN.length-set s.boxes b.0 (Some box))) within) (rw (put_there s b b (Some box) (refl {a = b.0}) within) yes)) e) in
+          let differ : bytes_eq box.name name ≡ false = false_from_ne_true _ (λ yes. both_ways _ e (list_any_at (is_box_of name) t.boxes b.0 None (subst (λ (n : ℕ). b.0 < n) (sym (Rattle.std.proofs.Math.ListN.length-set s.boxes b.0 (Some box))) within) (rw (put_there s b b (Some box) (refl {a = b.0}) within) yes))) in
           rw differ (h.others name (sym (any_kept (is_box_of name) s.boxes b.0 (Some box) None (rw (free, differ) refl)) ∙ e));
       stands = λ name.
           either_by (λ (y : Bool). list_any (is_box_of name) t.boxes ≡ y) (bytes_eq box.name name) true (box_stands past name)
@@ -203,7 +203,7 @@ made_boxed s b box past free within empty fresh unit h =
 
     -- no other has its name
     other_name : (d : BoxNo) (other : Mailbox) → box_at s d ≡ Some other → other.name ≡ box.name → ⊥
-    other_name d other e same = apart_bools _ (list_any_at (is_box_of box.name) s.boxes d.0 None (some_within s.boxes d.0 other e) (rw e ((bytes_eq-Decides other.name box.name).1 same))) fresh
+    other_name d other e same = both_ways _ fresh (list_any_at (is_box_of box.name) s.boxes d.0 None (some_within s.boxes d.0 other e) (rw e ((bytes_eq-Decides other.name box.name).1 same)))
 
     at_here : (d : BoxNo) (other : Mailbox) → d.0 ≡ b.0 → box_at (with_box s b (Some box)) d ≡ Some other → BoxIs (with_box s b (Some box)) (Did (effect.Mbx box.name true) ∷ past) d other
     at_here d other same e = subst (BoxIs (with_box s b (Some box)) (Did (effect.Mbx box.name true) ∷ past) d) (named d other same e) (record {
@@ -256,7 +256,7 @@ assigned_boxed s u p v n ch past a b c d same above one free there named h = rec
 
     at_other : (q : Pid) (m : ℕ) (x : Channel) → 1 ≤ q.0 → 1 ≤ m → (is_same p q && (n == m)) ≡ false → row (change s p (with_channel n (Some ch))) q m ≡ Some x → IsThere u x.device × (device_name past q m ≡ Some (device_title u x.device))
     at_other q m x up low f e =
-        let turned : (is_same q p && (m == n)) ≡ false = false_from_ne_true _ (λ yes. let both = and_parts (is_same q p) (m == n) yes in apart_bools _ (and_from (is_same p q) (n == m) (eq-eqb p.0 q.0 (sym (eqb-true q.0 p.0 both.0))) (eq-eqb n m (sym (eqb-true m n both.1)))) f) in
+        let turned : (is_same q p && (m == n)) ≡ false = false_from_ne_true _ (λ yes. let both = and_parts (is_same q p) (m == n) yes in both_ways _ f (and_from (is_same p q) (n == m) (eq-eqb p.0 q.0 (sym (eqb-true q.0 p.0 both.0))) (eq-eqb n m (sym (eqb-true m n both.1))))) in
         let k = h.rows q m x up low (sym (row_elsewhere s p q n m (Some ch) above up one low turned) ∙ e) in
         (there_as s u a b x.device k.0, k.1 ∙ ap (λ (l : List ℕ). Some l) (sym (title_as s u a b x.device)))
 

@@ -1,6 +1,6 @@
 -- What a mailbox does for a read, a write and an end of file.
 use Rattle.std.proofs.Common.{◌⊎◌, inl, inr, ◌≡◌, ◌≢◌, ℕ, zero, suc, ◌+◌, ◌<◌, List, [], ◌∷◌, ◌++◌, Bool, true, false, not, ◌==◌, ◌&&◌, ◌||◌, nat_lt, length, take, Option, Some, None, map, refl, sym, ap, ◌∙◌, subst, append-nil}
-use Rattle.std.proofs.lemmas.Bool.{eq-eqb, eqb-true, and_parts, and_from, cases_eq, or_cases}
+use Rattle.std.proofs.lemmas.Bool.{eq-eqb, eqb-true, and_parts, and_from, cases_eq, or_cases, or_right, both_ways}
 use Rattle.std.proofs.lemmas.List.{get_or-set_other}
 use Rattle.std.proofs.lemmas.Slice.Eq.{bytes_eq-Decides}
 use Rattle.std.specs.List.{AllByRecursion, find, list_any, list_all}
@@ -23,7 +23,7 @@ use Rattle.vx_base.specs.declared.request.Func.TheVariants.{Read, ReadAttn, WrtA
 use Rattle.vx_base.specs.declared.request.Func.{Func}
 use Rattle.vx_base.specs.declared.request.Msg.{Msg}
 use Rattle.vx_base.specs.declared.request.Req.{Req}
-use Rattle.vx_record.proofs.Lists.{either, all_weaker, all_append, all_find, apart_bools, none_any, found_any}
+use Rattle.vx_record.proofs.Lists.{either, all_weaker, all_append, all_find, none_any, found_any}
 use Rattle.vx_record.specs.Finish.{Ending, ending, is_read, this_request, finish, finish_found}
 use Rattle.vx_record.specs.Mailboxes.{mailbox_at, or_no_box, is_box, is_waiting_func, waits_at, this_message, message_of, mput_part, mget_part, read_ending, received, write_done, write_ending, call_attention, store_message, hand_over, write_box, wait_for_message, take_message, read_box}
 use Rattle.vx_record.specs.Parts.{Part, nothing, and_then, part_if}
@@ -189,11 +189,7 @@ same_box b c e = ap (λ (n : ℕ). let x : BoxNo = record { 0 = n } in x) e
 
 pub last_any : (p : Request → Bool) (old : List Request) (r : Request) → list_any p (old ++ r ∷ []) ≡ true → (list_any p old ≡ true) ⊎ (p r ≡ true)
 last_any p [] r e = elim (or_cases (p r) false e) [ inl x ↦ inr x | inr x ↦ absurd (let never : false ≡ true = x in cc) ]
-last_any p (y ∷ old) r e = elim (or_cases (p y) (list_any p (old ++ r ∷ [])) e) [ inl x ↦ inl (rw x refl) | inr x ↦ elim (last_any p old r x) [ inl z ↦ inl (or_second (p y) (list_any p old) z) | inr z ↦ inr z ] ]
-  where
-    or_second : (a b : Bool) → b ≡ true → (a || b) ≡ true
-    or_second true b h = refl
-    or_second false b h = h
+last_any p (y ∷ old) r e = elim (or_cases (p y) (list_any p (old ++ r ∷ [])) e) [ inl x ↦ inl (rw x refl) | inr x ↦ elim (last_any p old r x) [ inl z ↦ inl (or_right (p y) (list_any p old) z) | inr z ↦ inr z ] ]
 
 read_single : (s : State) (b : BoxNo) (r : Request) (old : List Request) → r.req.device ≡ device.Mailbox b → (mailbox_at s b).messages ≡ [] → Newest s old r → IsSingle s
 read_single s b r old on none k c e =
@@ -294,7 +290,7 @@ write_serving s past b box r w calm h = by_reader (find (waits_at b) s.requests)
         let put = put_walk s past b box r None e w h in
         let single : IsSingle a.after = λ c k.
         elim (cases_eq c.0 b.0) [
-          | inl same ↦ absurd (apart_bools (list_any (waits_at b) s.requests) (subst (λ (d : BoxNo). list_any (waits_at d) s.requests ≡ true) (same_box c b same) k) (none_any (waits_at b) s.requests e))
+          | inl same ↦ absurd (both_ways (list_any (waits_at b) s.requests) (none_any (waits_at b) s.requests e) (subst (λ (d : BoxNo). list_any (waits_at d) s.requests ≡ true) (same_box c b same) k))
           | inr apart ↦ ap (λ (y : Mailbox). y.messages) (other_messages s b c (Some (one_more s b m)) apart) ∙ w.single c k
         ] in
         let rest = store_serving a.after (Did x ∷ past) b m calm single put in

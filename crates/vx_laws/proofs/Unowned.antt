@@ -1,7 +1,7 @@
 -- Where nothing stands in the lists for a process, no id of it is open in the records.
 use Rattle.std.proofs.Common.{◌≡◌, ◌∙◌, ℕ, List, Bool, true, false, cond, not, ◌==◌, ◌||◌, Option, Some, None, refl, sym, ap, subst}
 use Rattle.std.specs.List.{AllByRecursion, list_any}
-use Rattle.std.proofs.lemmas.Bool.{and_parts, eqb-true}
+use Rattle.std.proofs.lemmas.Bool.{and_parts, eqb-true, false_from_ne_true}
 use Rattle.vx_base.specs.Pieces.{Request, Timer, Attention}
 use Rattle.vx_base.specs.declared.effects.Opened.{Opened}
 use Rattle.vx_base.specs.declared.effects.Opened.TheVariants as opened
@@ -73,14 +73,10 @@ open_seated false false q k e = absurd (let never : false ≡ true = e in cc)
 pub nothing_owned : (s : State) (past : List Item) (p : Pid) (id : Id) → Cleared p s → Still s p → Stands s None past → Listed s None past → lives (is_open_of p) (life past id) ≡ false
 nothing_owned s past p id c w g h = by_life (life past id) refl (h id)
   where
-    false_by : (b : Bool) → (b ≡ true → ⊥) → b ≡ false
-    false_by true k = absurd (k refl)
-    false_by false k = refl
-
     by_life : (o : Option Life) → life past id ≡ o → holds s None id o ≡ true → lives (is_open_of p) o ≡ false
     by_life None is k = refl
     by_life (Some l) is k =
-        false_by (is_open_of p l) (λ e.
+        false_from_ne_true (is_open_of p l) (λ e.
         let parts = and_parts (is_open l) (is_same l.p p) e in
         let there : holds_in s None id p (seat l) ≡ true = subst (λ (q : Pid). holds_in s None id q (seat l) ≡ true) (pid_of l.p p parts.1) k in
         let own : lives (is_not_of p) (life past id) ≡ false = ap (lives (is_not_of p)) is ∙ ap not parts.1 in

@@ -1,8 +1,9 @@
 -- At GONE nothing is left: no id of the process is open in the records, and no wake is for it. Of every run.
+use mathlib.Core.Bool.{and-false}
 use Rattle.std.proofs.Common.{◌≡◌, ◌∙◌, ℕ, ◌+◌, ◌-◌, List, [], ◌∷◌, ◌++◌, Bool, true, false, not, ◌&&◌, ◌||◌, Option, Some, None, map, refl, sym, ap, subst, arith, ⊎_elim}
 use Rattle.std.specs.Prelude.{Contains}
 use Rattle.std.specs.List.{AllByRecursion, list_any}
-use Rattle.std.proofs.lemmas.Bool.{and_parts, and_from, eqb-true, cases_eq, false_from_ne_true}
+use Rattle.std.proofs.lemmas.Bool.{and_parts, and_from, eqb-true, cases_eq, false_from_ne_true, not_from_false, and_left, not-true}
 use Rattle.vx_base.specs.Pieces.{Timer, Alarm, OfTimer, OfWake}
 use Rattle.vx_base.specs.declared.effects.Effect.{Effect}
 use Rattle.vx_base.specs.declared.effects.Effect.TheVariants as effect
@@ -63,21 +64,13 @@ use Rattle.vx_laws.proofs.Wakes.{no_wake, is_for, has_woken, IsTold, Targeted, W
 -- A wake that is open stands among the timers, and none that stands there is for the process.
 
 no_wake_apart : (p : Pid) (l : Life) → not (is_wake l.kind) ≡ true → not (is_wake_for p l) ≡ true
-no_wake_apart p l e = two (is_wake l.kind) (is_same (woken l.by l.p) p) e
-  where
-    two : (a b : Bool) → not a ≡ true → not (a && b) ≡ true
-    two false b e = refl
-    two true b e = absurd (let never : false ≡ true = e in cc)
+no_wake_apart p l e = not_from_false _ (and_left (is_wake l.kind) (is_same (woken l.by l.p) p) (not-true (is_wake l.kind) e))
 
 for_other : (p target : Pid) (l : Life) → is_same target p ≡ false → is_same (woken l.by l.p) target ≡ true → not (is_wake_for p l) ≡ true
 for_other p target l e k =
     let is : woken l.by l.p ≡ target = ap (λ (n : ℕ). let x : Pid = record { 0 = n } in x) (eqb-true (woken l.by l.p).0 target.0 k) in
     let off : is_same (woken l.by l.p) p ≡ false = ap (λ (r : Pid). is_same r p) is ∙ e in
-    rw off (two (is_wake l.kind))
-  where
-    two : (a : Bool) → not (a && false) ≡ true
-    two true = refl
-    two false = refl
+    rw off (ap not (and-false (is_wake l.kind)))
 
 timer_apart : (p : Pid) (past : List Item) (t : Timer) → TimerLives past t → Targeted past t → wakes p t.what ≡ false → lives (λ l. not (is_wake_for p l)) (life past t.id) ≡ true
 timer_apart p past t h k e =

@@ -2,12 +2,11 @@
 use Rattle.std.proofs.Common.{◌≡◌, ◌∙◌, ℕ, ◌+◌, ◌<◌, ◌≤◌, List, [], ◌∷◌, ◌++◌, Bool, true, false, cond, not, ◌==◌, ◌&&◌, Option, Some, None, Result, Ok, Err, map, refl, sym, ap, subst, arith, ⊎_elim}
 use Rattle.std.specs.Prelude.{Contains, option_map, is_some}
 use Rattle.std.specs.List.{AllByRecursion}
-use Rattle.std.proofs.lemmas.Bool.{and_parts, eq-eqb, eqb-true, cases_lt}
+use Rattle.std.proofs.lemmas.Bool.{and_parts, eq-eqb, eqb-true, cases_lt, not_from_false, and_left, not-true}
 use Rattle.vx_base.specs.Pieces.{Queued, Request, Timer, Alarm, OfTimer, OfWake}
 use Rattle.vx_base.specs.Queues.{front, in_service}
 use Rattle.vx_base.specs.declared.call.Call.{Call}
 use Rattle.vx_base.specs.declared.cond.Cond.{Cond}
-use Rattle.vx_base.specs.declared.effects.Cell.TheVariants.{Local}
 use Rattle.vx_base.specs.declared.effects.Effect.{Effect}
 use Rattle.vx_base.specs.declared.effects.Effect.TheVariants as effect
 use Rattle.vx_base.specs.declared.effects.Opened.{Opened}
@@ -166,11 +165,7 @@ unwoken_on (Head (event.Beg u) (answer.Unit i)) past e h = λ id. woken_at (i.0 
 unwoken_on x past e h = h
 
 fits_effect : (x : Effect) → is_allowed no_wake x ≡ true → fits (Did x) ≡ true
-fits_effect (effect.Open i k p mode n) e = two (is_wake k) (is_some mode) e
-  where
-    two : (x y : Bool) → not x ≡ true → not (x && y) ≡ true
-    two false y e = refl
-    two true y e = absurd (let never : false ≡ true = e in cc)
+fits_effect (effect.Open i k p mode n) e = not_from_false _ (and_left (is_wake k) (is_some mode) (not-true (is_wake k) e))
 fits_effect x e = refl
 
 unwoken_all : (es : List Effect) (past : List Item) → AllByRecursion (λ x. is_allowed no_wake x ≡ true) es → Unwoken past → Unwoken (later past (map Did es))

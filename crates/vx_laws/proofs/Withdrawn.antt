@@ -1,6 +1,6 @@
 -- Cancelled channels and freed ones, as the law of mailboxes asks.
 use Rattle.std.proofs.Common.{inl, inr, ◌≡◌, ◌≢◌, ℕ, ◌+◌, ◌≤◌, List, [], ◌∷◌, ◌++◌, Bool, true, false, not, ◌==◌, ◌&&◌, ◌||◌, Option, Some, None, map, refl, sym, ap, ◌∙◌, subst, arith, is_some, IsTrue}
-use Rattle.std.proofs.lemmas.Bool.{eq-eqb, eqb-true, ne_eqb, and_parts, and_from, or_cases, or_left, or_right, false_from_ne_true, not-true, not_from_false}
+use Rattle.std.proofs.lemmas.Bool.{eq-eqb, eqb-true, ne_eqb, and_parts, and_from, or_cases, or_left, or_right, false_from_ne_true, not-true, not_from_false, both_ways}
 use Rattle.std.specs.List.{AllByRecursion, filter, list_any}
 use Rattle.vx_base.specs.Lists.{less}
 use Rattle.vx_base.specs.Pieces.{Channel, Request, Mailbox}
@@ -15,7 +15,7 @@ use Rattle.vx_base.specs.declared.request.Device.TheVariants as device
 use Rattle.vx_base.specs.declared.request.Device.{Device}
 use Rattle.vx_base.specs.declared.request.Msg.{Msg}
 use Rattle.vx_record.proofs.Ground.{at_set}
-use Rattle.vx_record.proofs.Lists.{either, either_by, all_weaker, all_both, all_less, all_amend, all_filter, all_find, all_from, ordered_less, ordered_amend, removed, apart_bools}
+use Rattle.vx_record.proofs.Lists.{either, either_by, all_weaker, all_both, all_less, all_amend, all_filter, all_find, all_from, ordered_less, ordered_amend, removed}
 use Rattle.vx_record.proofs.SoundChannels.{is_on_box}
 use Rattle.vx_record.specs.Cancel.{with_abort, mark_part, withdraw, withdraw_from, cancelled_request, cancel_request, is_request_on, is_attention_on, drop_attention, cancel_channel}
 use Rattle.vx_record.specs.Channels.{with_channel, is_assigned, goes_unused, box_gone, swept_device, swept_box, free_channel}
@@ -152,7 +152,7 @@ past_served : (p : Pid) (n : ℕ) (t : Request) (ts : List Request) → t.served
 unfolding takes Covered
 past_served p n t ts served r k e =
     elim (or_cases (takes r t) (list_any (takes r) ts) (k e)) [
-      | inl here ↦ absurd (apart_bools t.served served (not-true t.served (and_parts (this_request t.req.id r) (not t.served) here).1))
+      | inl here ↦ absurd (both_ways t.served (not-true t.served (and_parts (this_request t.req.id r) (not t.served) here).1) served)
       | inr there ↦ there
     ]
 
@@ -213,7 +213,7 @@ covered_here p n r ts k e =
 
 covered_not : (p : Pid) (n : ℕ) (r : Request) (ts : List Request) → is_request_on p n r ≡ false → Covered p n ts r
 unfolding Covered
-covered_not p n r ts other e = absurd (apart_bools (is_request_on p n r) (and_parts (is_on_box r.req.device) (is_request_on p n r) e).1 other)
+covered_not p n r ts other e = absurd (both_ways (is_request_on p n r) other (and_parts (is_on_box r.req.device) (is_request_on p n r) e).1)
 
 all_covered : (s : State) (past : List Item) (p : Pid) (n : ℕ) (xs : List Request) → AllByRecursion (Rooted s past) xs → AllByRecursion (Covered p n (filter (is_request_on p n) xs)) xs
 all_covered s past p n [] k = tt

@@ -4,6 +4,7 @@ use Rattle.std.specs.Prelude.{decimal}
 use Rattle.std.specs.List.{list_all}
 use Rattle.std.proofs.lemmas.List.Folds.{list_all-append}
 use Rattle.std.proofs.lemmas.Bool.Decides.{nat_tests}
+use Rattle.vx_base.proofs.Any.{all_weaker}
 use Rattle.vx_base.specs.Cond.{name_of}
 use Rattle.vx_base.specs.Name.{is_name, is_digit, is_name_byte, is_capital}
 use Rattle.vx_base.specs.Services.{is_target}
@@ -39,15 +40,11 @@ is_tight b = is_inner b && is_no_feed b
 abbrev pub Tight : List ℕ → Type 0
 Tight word = list_all is_tight word ≡ true
 
-weaken : (p q : ℕ → Bool) (bs : List ℕ) → ((b : ℕ) → p b ≡ true → q b ≡ true) → list_all p bs ≡ true → list_all q bs ≡ true
-weaken p q [] i h = refl
-weaken p q (b ∷ bs) i h = let parts = and_parts (p b) (list_all p bs) h in rw (i b parts.0, weaken p q bs i parts.1) refl
-
 pub whole : (word : List ℕ) → Tight word → Whole word
-whole word h = weaken is_tight is_inner word (λ b k. (and_parts (is_inner b) (is_no_feed b) k).0) h
+whole word h = all_weaker is_tight is_inner (λ b k. (and_parts (is_inner b) (is_no_feed b) k).0) word h
 
 pub feedless : (word : List ℕ) → Tight word → list_all is_no_feed word ≡ true
-feedless word h = weaken is_tight is_no_feed word (λ b k. (and_parts (is_inner b) (is_no_feed b) k).1) h
+feedless word h = all_weaker is_tight is_no_feed (λ b k. (and_parts (is_inner b) (is_no_feed b) k).1) word h
 
 digit_tight : (b : ℕ) → is_digit b ≡ true → is_tight b ≡ true
 digit_tight b h = grind (arith, nat_tests, h)

@@ -2,8 +2,8 @@
 use Rattle.std.proofs.Common.{◌≡◌, ℕ, ◌<◌, ◌^◌, Bool, true, false, cond, List, [], ◌∷◌, ◌++◌, drop, codes, bytes_eq, Option, Some, None, option_map, refl, sym, ap, ◌∙◌, arith, append-nil}
 use Rattle.std.specs.Prelude.{decimal}
 use Rattle.std.specs.List.{list_all}
-use Rattle.std.proofs.lemmas.List.Folds.{list_all-append}
 use Rattle.std.proofs.lemmas.Bool.Decides.{nat_tests}
+use Rattle.vx_base.proofs.Any.{both_pass}
 use Rattle.vx_base.specs.Cond.{name_of}
 use Rattle.vx_base.specs.Name.{is_digit}
 use Rattle.vx_base.specs.Services.{service_name, params_of, is_of_kind, is_unused, are_args, kind_of, args_list, is_operand}
@@ -50,9 +50,6 @@ use Rattle.vx_base.proofs.Texts.{same_bytes}
 
 -- No line feed stands in a head.
 
-pub no_feed_append : (xs ys : List ℕ) → list_all is_no_feed xs ≡ true → list_all is_no_feed ys ≡ true → list_all is_no_feed (xs ++ ys) ≡ true
-no_feed_append xs ys h k = list_all-append is_no_feed xs ys ∙ rw (h, k) refl
-
 service_feed : (s : Service) → list_all is_no_feed (service_name s) ≡ true
 service_feed SetEf = refl
 service_feed _ = refl
@@ -82,7 +79,7 @@ arg_feed _ _ h held = absurd (cc)
 
 args_by : (before : ℕ) (k : Kind) (a : Arg) (args : List Arg) (u : Bool) → is_no_feed before ≡ true → is_of_kind k a ≡ true → held_unless u a (AreHeld args) → (AreHeld args → list_all is_no_feed (args_text 44 args) ≡ true) → list_all is_no_feed (cond u [] (before ∷ (arg_text a ++ args_text 44 args))) ≡ true
 args_by before k a args true c h held more = refl
-args_by before k a args false c h held more = rw (c, no_feed_append (arg_text a) (args_text 44 args) (arg_feed k a h held.0) (more held.1)) refl
+args_by before k a args false c h held more = rw (c, both_pass is_no_feed (arg_text a) (args_text 44 args) (arg_feed k a h held.0) (more held.1)) refl
 
 none_by : (u : Bool) (text : List ℕ) → u ≡ true → list_all is_no_feed (cond u [] text) ≡ true
 none_by true text h = refl
@@ -97,7 +94,7 @@ args_feed before (p ∷ params) (a ∷ args) c h held =
     args_by before (kind_of p) a args (is_unused a) c parts.0 held (λ more. args_feed 44 params args refl parts.1 more)
 
 call_feed : (c : Call) → IsSpelledCall c → list_all is_no_feed (call_text c) ≡ true
-call_feed c h = no_feed_append (service_name c.service) (args_text 32 (args_list c.args)) (service_feed c.service) (args_feed 32 (params_of c.service) (args_list c.args) refl h.0 h.1)
+call_feed c h = both_pass is_no_feed (service_name c.service) (args_text 32 (args_list c.args)) (service_feed c.service) (args_feed 32 (params_of c.service) (args_list c.args) refl h.0 h.1)
 
 digit_feed : (b : ℕ) → is_digit b ≡ true → is_no_feed b ≡ true
 digit_feed b h = grind (arith, nat_tests, h)
@@ -119,7 +116,7 @@ unfolding read_head
 whole_head units n e a h is =
     let rest : List ℕ = event_text units e ++ 32 ∷ answer_text a in
     let line : List ℕ = decimal n ++ 32 ∷ rest in
-    let clean : list_all is_no_feed line ≡ true = no_feed_append (decimal n) (32 ∷ rest) (number_all is_no_feed n digit_feed h) is.feed in
+    let clean : list_all is_no_feed line ≡ true = both_pass is_no_feed (decimal n) (32 ∷ rest) (number_all is_no_feed n digit_feed h) is.feed in
     let cut : unfed (line ++ 10 ∷ []) ≡ line = run_first is_no_feed line (10 ∷ []) clean refl in
     let behind : from_space line ≡ 32 ∷ rest = run_behind is_inner (decimal n) (32 ∷ rest) (number_all is_inner n digit_inner h) refl in
     ap (λ (z : List ℕ). head_of units (from_space z) >>= if_head units n (line ++ 10 ∷ [])) cut
@@ -135,7 +132,7 @@ run_behind_number units p a h is feed =
     let rest : List ℕ = answer_text a in
     record {
       read = run_head units p (two_words (codes "RUN") (decimal p.0) rest) (Some a) (first_two (codes "RUN") (decimal p.0) rest refl) (second_two (codes "RUN") (decimal p.0) rest refl (whole (decimal p.0) number)) h is;
-      feed = no_feed_append (decimal p.0) (32 ∷ rest) (feedless (decimal p.0) number) feed;
+      feed = both_pass is_no_feed (decimal p.0) (32 ∷ rest) (feedless (decimal p.0) number) feed;
     }
 
 -- RUN and a fixed word
@@ -145,10 +142,10 @@ run_word units p a h is feed =
     run_behind_number units p a h (ap (λ (z : List ℕ). ran_in z line) (third_two (codes "RUN") (decimal p.0) (answer_text a) refl (whole (decimal p.0) (tight_number p.0 h))) ∙ is line) feed
 
 run_call : (units : List UnitDecl) (p : Pid) (c : Call) (cond : Cond) → IsWord p.0 → IsSpelledCall c → Behind units (event.Run p) (answer.Service c cond)
-run_call units p c cond h k = run_behind_number units p (answer.Service c cond) h (ran_call p.0 (drop 1 (call_text c)) (name_of cond) h (whole (name_of cond) (tight_cond cond)) ∙ served_back c cond k.0 k.1 k.2) (no_feed_append (call_text c) (32 ∷ name_of cond) (call_feed c k) (feedless (name_of cond) (tight_cond cond)))
+run_call units p c cond h k = run_behind_number units p (answer.Service c cond) h (ran_call p.0 (drop 1 (call_text c)) (name_of cond) h (whole (name_of cond) (tight_cond cond)) ∙ served_back c cond k.0 k.1 k.2) (both_pass is_no_feed (call_text c) (32 ∷ name_of cond) (call_feed c k) (feedless (name_of cond) (tight_cond cond)))
 
 run_wait : (units : List UnitDecl) (p : Pid) (c : Call) → IsWord p.0 → IsSpelledCall c → Behind units (event.Run p) (answer.Wait c)
-run_wait units p c h k = run_behind_number units p (answer.Wait c) h (ran_call p.0 (drop 1 (call_text c)) (codes "WAIT") h refl ∙ waits_back c k.0 k.1 k.2) (no_feed_append (call_text c) (codes " WAIT") (call_feed c k) refl)
+run_wait units p c h k = run_behind_number units p (answer.Wait c) h (ran_call p.0 (drop 1 (call_text c)) (codes "WAIT") h refl ∙ waits_back c k.0 k.1 k.2) (both_pass is_no_feed (call_text c) (codes " WAIT") (call_feed c k) refl)
 
 -- one word behind two
 alone : (word : List ℕ) → Whole word → first_word (32 ∷ word) ≡ word
@@ -197,7 +194,7 @@ ast_behind units p id h k =
     let own = whole (id_text id) (tight_id id k) in
     record {
       read = other units (codes "AST") (decimal p.0) (id_text id) refl refl ∙ ast_words (two_words (codes "AST") (decimal p.0) (id_text id)) p id h k (second_two (codes "AST") (decimal p.0) (id_text id) refl number) (third_alone (codes "AST") (decimal p.0) (id_text id) refl number own);
-      feed = no_feed_append (decimal p.0) (32 ∷ id_text id) (feedless (decimal p.0) (tight_number p.0 h)) (feedless (id_text id) (tight_id id k));
+      feed = both_pass is_no_feed (decimal p.0) (32 ∷ id_text id) (feedless (decimal p.0) (tight_number p.0 h)) (feedless (id_text id) (tight_id id k));
     }
 
 rdn_behind : (units : List UnitDecl) (p : Pid) (a : Answer) → IsWord p.0 → Whole (answer_text a) → down_in (answer_text a) ≡ Some a → list_all is_no_feed (answer_text a) ≡ true → Behind units (event.Rdn p) a
@@ -206,7 +203,7 @@ rdn_behind units p a h own is feed =
     let word : List ℕ = answer_text a in
     record {
       read = other units (codes "RDN") (decimal p.0) word refl refl ∙ rdn_words (two_words (codes "RDN") (decimal p.0) word) word p a h (second_two (codes "RDN") (decimal p.0) word refl number) (third_alone (codes "RDN") (decimal p.0) word refl number own) is;
-      feed = no_feed_append (decimal p.0) (32 ∷ word) (feedless (decimal p.0) (tight_number p.0 h)) feed;
+      feed = both_pass is_no_feed (decimal p.0) (32 ∷ word) (feedless (decimal p.0) (tight_number p.0 h)) feed;
     }
 
 beg_behind : (units : List UnitDecl) (u : UnitNo) (id : Id) → IsSpelledUnit units u → IsWord id.0 → Behind units (event.Beg u) (answer.Unit id)
@@ -216,7 +213,7 @@ beg_behind units u id h k =
     let own = whole (id_text id) (tight_id id k) in
     record {
       read = other units (codes "BEG") name (id_text id) refl refl ∙ beg_words units (two_words (codes "BEG") name (id_text id)) u id h.1 k (second_two (codes "BEG") name (id_text id) refl (whole name named)) (third_alone (codes "BEG") name (id_text id) refl (whole name named) own);
-      feed = no_feed_append name (32 ∷ id_text id) (feedless name named) (feedless (id_text id) (tight_id id k));
+      feed = both_pass is_no_feed name (32 ∷ id_text id) (feedless name named) (feedless (id_text id) (tight_id id k));
     }
 
 don_behind : (units : List UnitDecl) (u : UnitNo) (id : Id) → IsSpelledUnit units u → IsWord id.0 → Behind units (event.Don u) (answer.Unit id)
@@ -226,7 +223,7 @@ don_behind units u id h k =
     let own = whole (id_text id) (tight_id id k) in
     record {
       read = other units (codes "DON") name (id_text id) refl refl ∙ don_words units (two_words (codes "DON") name (id_text id)) u id h.1 k (second_two (codes "DON") name (id_text id) refl (whole name named)) (third_alone (codes "DON") name (id_text id) refl (whole name named) own);
-      feed = no_feed_append name (32 ∷ id_text id) (feedless name named) (feedless (id_text id) (tight_id id k));
+      feed = both_pass is_no_feed name (32 ∷ id_text id) (feedless name named) (feedless (id_text id) (tight_id id k));
     }
 
 tick_behind : (units : List UnitDecl) (t : ℕ) → t < 2 ^ 64 → Behind units event.Tick (answer.Time t)
@@ -261,4 +258,4 @@ pub heads_back : HeadsReadBack
 heads_back units n e a m h = whole_head units n e a m (behind_of units e a h)
 
 pub head_feed : (units : List UnitDecl) (n : ℕ) (e : Event) (a : Answer) → n < 2 ^ 64 → IsSpelledHead units e a → list_all is_no_feed (head_line units n (as_head e a)) ≡ true
-head_feed units n e a m h = no_feed_append (decimal n) (32 ∷ (event_text units e ++ 32 ∷ answer_text a)) (number_all is_no_feed n digit_feed m) (behind_of units e a h).feed
+head_feed units n e a m h = both_pass is_no_feed (decimal n) (32 ∷ (event_text units e ++ 32 ∷ answer_text a)) (number_all is_no_feed n digit_feed m) (behind_of units e a h).feed

@@ -2,9 +2,9 @@
 use Rattle.std.proofs.Common.{◌≡◌, ℕ, ◌+◌, ◌/◌, ◌%◌, ◌<◌, ◌≤◌, ◌^◌, ◌==◌, nat_lt, nat_le, Bool, true, false, cond, List, [], ◌∷◌, ◌++◌, length, drop, codes, bytes_eq, Option, Some, None, option_map, Ok, refl, sym, ap, ◌∙◌, arith, append-nil, append_assoc}
 use Rattle.std.specs.Prelude.{decimal}
 use Rattle.std.specs.List.{list_all}
-use Rattle.std.proofs.lemmas.List.Folds.{list_all-append}
 use Rattle.std.proofs.lemmas.Bool.{le-leb, and_parts}
 use Rattle.std.proofs.lemmas.Bool.Decides.{nat_tests}
+use Rattle.vx_base.proofs.Any.{both_pass}
 use Rattle.vx_base.specs.Name.{is_name, is_digit, is_name_byte}
 use Rattle.vx_base.specs.declared.effects.Cell.{Cell}
 use Rattle.vx_base.specs.declared.effects.Cell.TheVariants.{Local, Common}
@@ -26,9 +26,6 @@ use Rattle.vx_lines.specs.Spelled.{IsWord, IsSpelledCell, IsSpelledCluster, IsSp
 use Rattle.vx_lines.specs.Words.{◌>>=◌, is_no_colon, first_part, from_colon, behind_part}
 use Rattle.vx_lines.proofs.WordsBack.{run_first, run_behind, value_back, number_all, name_all}
 use Rattle.vx_lines.proofs.EffectsBack.{is_tight, Tight, tight_number, tight_name, number_back, pid_back, name_back}
-
-both : (p : ℕ → Bool) (xs ys : List ℕ) → list_all p xs ≡ true → list_all p ys ≡ true → list_all p (xs ++ ys) ≡ true
-both p xs ys h k = list_all-append p xs ys ∙ rw (h, k) refl
 
 digit_apart : (b : ℕ) → is_digit b ≡ true → is_no_colon b ≡ true
 digit_apart b h = grind (arith, nat_tests, h)
@@ -97,11 +94,11 @@ cell_back (Common group name n) h =
     ∙ common_back group name n h.0 h.1 h.2
 
 pub tight_cluster : (group : ℕ) (name : List ℕ) → IsWord group → is_name name ≡ true → Tight (cluster_text group name)
-tight_cluster group name h k = both is_tight (decimal group) (58 ∷ name) (tight_number group h) (tight_name name k)
+tight_cluster group name h k = both_pass is_tight (decimal group) (58 ∷ name) (tight_number group h) (tight_name name k)
 
 pub tight_cell : (cell : Cell) → IsSpelledCell cell → Tight (cell_text cell)
-tight_cell (Local p efn) h = both is_tight (decimal p.0) (58 ∷ decimal efn) (tight_number p.0 h.0) (tight_number efn h.1)
-tight_cell (Common group name n) h = both is_tight (cluster_text group name) (58 ∷ decimal n) (tight_cluster group name h.0 h.1) (tight_number n (omega (arith, h.2)))
+tight_cell (Local p efn) h = both_pass is_tight (decimal p.0) (58 ∷ decimal efn) (tight_number p.0 h.0) (tight_number efn h.1)
+tight_cell (Common group name n) h = both_pass is_tight (cluster_text group name) (58 ∷ decimal n) (tight_cluster group name h.0 h.1) (tight_number n (omega (arith, h.2)))
 
 abbrev cluster_parts : List ℕ → List ℕ → Option (ℕ × List ℕ)
 cluster_parts first second = number_of first >>= λ group. name_in second >>= λ name. Some (group, name)
@@ -159,10 +156,10 @@ byte_feed b false e = rw (digit_feed (b / 16) (nat_lt (b / 16) 10), digit_feed (
 
 inside_feed : (bytes : List ℕ) → list_all is_no_feed (inside_text bytes) ≡ true
 inside_feed [] = refl
-inside_feed (b ∷ bytes) = both is_no_feed (byte_text b) (inside_text bytes) (byte_feed b (is_plain b) refl) (inside_feed bytes)
+inside_feed (b ∷ bytes) = both_pass is_no_feed (byte_text b) (inside_text bytes) (byte_feed b (is_plain b) refl) (inside_feed bytes)
 
 pub text_feed : (bytes : List ℕ) → list_all is_no_feed (quote_text bytes) ≡ true
-text_feed bytes = both is_no_feed (inside_text bytes) (34 ∷ []) (inside_feed bytes) refl
+text_feed bytes = both_pass is_no_feed (inside_text bytes) (34 ∷ []) (inside_feed bytes) refl
 
 pub text_back : (bytes : List ℕ) → AreBytes bytes → text_of (spaced (quote_text bytes ∷ [])) ≡ Some bytes
 text_back bytes h =

@@ -3,7 +3,8 @@ use Rattle.std.proofs.Common.{◌≡◌, ℕ, ◌+◌, ◌<◌, ◌≤◌, ◌^�
 use Rattle.std.specs.Prelude.{decimal}
 use Rattle.std.specs.List.{list_all, prefix_len}
 use Rattle.std.proofs.Math.Seq.{take-append_seam, drop-append_seam}
-use Rattle.std.proofs.lemmas.Bool.{le-leb, and_parts}
+use Rattle.std.proofs.lemmas.Bool.{le-leb}
+use Rattle.vx_base.proofs.Any.{all_weaker}
 use Rattle.vx_base.specs.Name.{is_name, is_digit, is_name_byte}
 use Rattle.vx_text.proofs.Runs.{stops, run_len}
 use Rattle.vx_text.proofs.Lexing.{name_bytes}
@@ -57,16 +58,8 @@ value_back most n h k =
 
 -- a test that digits pass is passed by a number
 pub number_all : (p : ℕ → Bool) (n : ℕ) → ((b : ℕ) → is_digit b ≡ true → p b ≡ true) → n < 2 ^ 64 → list_all p (decimal n) ≡ true
-number_all p n q h = each (decimal n) (spells n h).digits
-  where
-    each : (ds : List ℕ) → list_all is_digit ds ≡ true → list_all p ds ≡ true
-    each [] k = refl
-    each (d ∷ ds) k = let parts = and_parts (is_digit d) (list_all is_digit ds) k in rw (q d parts.0, each ds parts.1) refl
+number_all p n q h = all_weaker is_digit p q (decimal n) (spells n h).digits
 
 -- and one that the bytes of names pass, by a name
 pub name_all : (p : ℕ → Bool) (name : List ℕ) → ((b : ℕ) → is_name_byte b ≡ true → p b ≡ true) → is_name name ≡ true → list_all p name ≡ true
-name_all p name q h = each name (name_bytes name h)
-  where
-    each : (bs : List ℕ) → list_all is_name_byte bs ≡ true → list_all p bs ≡ true
-    each [] k = refl
-    each (b ∷ bs) k = let parts = and_parts (is_name_byte b) (list_all is_name_byte bs) k in rw (q b parts.0, each bs parts.1) refl
+name_all p name q h = all_weaker is_name_byte p q name (name_bytes name h)

@@ -1,11 +1,12 @@
 -- The mailboxes of the table, as one place changes.
-use Rattle.std.proofs.Common.{◌≡◌, ◌≢◌, ℕ, replicate, ◌-◌, ◌+◌, ◌<◌, ◌≤◌, List, [], ◌∷◌, Bool, true, cond, not, Option, Some, None, IfSome, IsTrue, is_some, is_none, option_map, length, map, position, slice_index_or, slice_set, take, ◌++◌, inl, inr, refl, ap, sym, subst, arith, ◌∙◌, drop, max}
-use Rattle.std.specs.List.{position_or_len}
+use Rattle.std.proofs.Common.{◌≡◌, ◌≢◌, ℕ, replicate, ◌-◌, ◌+◌, ◌<◌, ◌≤◌, List, [], ◌∷◌, Bool, true, Option, Some, None, IfSome, IsTrue, is_some, is_none, option_map, length, map, position, slice_index_or, slice_set, take, ◌++◌, inl, inr, refl, ap, sym, subst, arith, ◌∙◌, drop, max}
 use Rattle.std.proofs.Math.Nat.{le-max_left, le-max_right}
 use Rattle.std.proofs.lemmas.List.{get_or_default, drop_at, take-append-drop, take-map, get_or-map, get_or_past, get_or-set_same, get_or-set_other, length-map, length-set, map-set, take_more, take_more_set}
 use Rattle.std.proofs.lemmas.Bool.{cases_eq, cases_lt, false≢true}
 use Rattle.std.proofs.lemmas.List.Quantifiers.{position-Some}
 use Rattle.std.proofs.Math.Seq.{map-set_same}
+use Rattle.vx_base.proofs.Lists.{none_there}
+use Rattle.vx_base.proofs.First.{place_map}
 use Rattle.vx_base.specs.Pieces.{Mailbox}
 use Rattle.vx_base.specs.declared.number.BoxNo.{BoxNo}
 use Rattle.vx_record.specs.Channels.{is_box_of}
@@ -17,18 +18,10 @@ use Rattle.vx_mailbox.specs.Places.{Place, HasRoomFor, IsTable, box_at, no_place
 
 -- What is found.
 
-place_or_len_map : {A B : Type 0} (f : A → B) (p : B → Bool) (xs : List A) → position_or_len p (map f xs) ≡ position_or_len (λ x. p (f x)) xs
-place_or_len_map f p [] = refl
-place_or_len_map f p (x ∷ xs) = ap (λ n. cond (not (p (f x))) (1 + n) 0) (place_or_len_map f p xs)
-
-position_map : {A B : Type 0} (f : A → B) (p : B → Bool) (xs : List A) → position (λ x. p (f x)) xs ≡ position p (map f xs)
-position_map f p xs =
-    rw (place_or_len_map f p xs, length-map xs f) refl
-
 -- the number of the first place that passes
 pub number_is : (test : Option Mailbox → Bool) (places slice : List Place) (k : Boxes) (place : Option ℕ) (b : Option BoxNo) → table_of places ≡ k → slice ≡ places → option_map (λ b. b.0) b ≡ place → place ≡ position (λ x. test x.box) slice → option_map (λ b. b.0) b ≡ position test k.boxes
 number_is test places slice k place b view same number is =
-    number ∙ (is ∙ (ap (position (λ (x : Place). test x.box)) same ∙ (position_map box_at test places ∙ ap (λ (x : Boxes). position test x.boxes) view)))
+    number ∙ (is ∙ (ap (position (λ (x : Place). test x.box)) same ∙ (place_map test box_at places ∙ ap (λ (x : Boxes). position test x.boxes) view)))
 
 box_stands : (name : List ℕ) (box : Option Mailbox) → is_box_of name box ≡ true → IsTrue (is_some box)
 box_stands name None e = absurd (cc)
@@ -39,14 +32,10 @@ pub named_stands : (name : List ℕ) (boxes : List (Option Mailbox)) (b : Option
 named_stands name boxes None e = tt
 named_stands name boxes (Some b) e = box_stands name (slice_index_or boxes b.0 None) (position-Some (is_box_of name) boxes b.0 None (sym e)).1
 
-free_here : (box : Option Mailbox) → is_none box ≡ true → box ≡ None
-free_here None e = refl
-free_here (Some box) e = absurd (cc)
-
 -- there is no mailbox of a number that is free
 pub free_there : (boxes : List (Option Mailbox)) (b : Option BoxNo) → option_map (λ b. b.0) b ≡ position is_none boxes → IfSome b (λ b. slice_index_or boxes b.0 None ≡ None)
 free_there boxes None e = tt
-free_there boxes (Some b) e = free_here (slice_index_or boxes b.0 None) (position-Some is_none boxes b.0 None (sym e)).1
+free_there boxes (Some b) e = none_there (slice_index_or boxes b.0 None) (position-Some is_none boxes b.0 None (sym e)).1
 
 -- Places.
 

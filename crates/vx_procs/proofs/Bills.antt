@@ -12,9 +12,8 @@ use Rattle.vx_base.specs.declared.request.Req.{Req}
 use Rattle.vx_record.specs.Charges.{ast_need, bears_ast, buffered_bytes, buffered_need, direct_need, is_attention, is_buffered_of, is_direct, is_direct_of, is_same, moved_bytes, request_need}
 use Rattle.vx_record.specs.Parts.{total}
 use Rattle.vx_record.specs.State.{State}
-use Rattle.vx_record.proofs.Lists.{either}
 use Rattle.vx_procs.proofs.Booked.{tally-append, tally-less}
-use Rattle.vx_record.proofs.OwnIds.{total_append, tally_amend}
+use Rattle.vx_record.proofs.OwnIds.{total_append, tally_amend, total_amend}
 
 -- Totals.
 
@@ -25,10 +24,6 @@ total-less f test (y ∷ ys) x e =
       | true ↦ λ found. let same : y ≡ x = cc in let e = ap f same in omega (arith, e)
       | false ↦ λ found. let rest = total-less f test ys x found in omega (arith, rest)
     ] e
-
-total-amend : {A : Type 0} (f : A → ℕ) (test : A → Bool) (g : A → A) → ((x : A) → f (g x) ≡ f x) → (xs : List A) → total f (amend test g xs) ≡ total f xs
-total-amend f test g same [] = refl
-total-amend f test g same (x ∷ xs) = let rest = total-amend f test g same xs in either (λ ys. total f ys ≡ f x + total f xs) (test x) (g x ∷ xs) (x ∷ amend test g xs) (rw (same x) refl) (omega (arith, rest))
 
 -- What one request is charged to a process: what it needs if it is that process's, and else nothing.
 
@@ -122,5 +117,5 @@ alike_amend s q test g same_req same_ast rs = record {
   ast = tally_amend (bears_ast q) test g (λ r. ap (λ (x : Req). is_same x.p q && is_some (g r).ast) (same_req r) ∙ ap (λ (x : Option Promised). is_same r.req.p q && is_some x) (same_ast r)) rs;
   bio = tally_amend (is_buffered_of s q) test g (λ r. ap (λ (x : Req). is_same x.p q && not (is_direct s x.device)) (same_req r)) rs;
   dio = tally_amend (is_direct_of s q) test g (λ r. ap (λ (x : Req). is_same x.p q && is_direct s x.device) (same_req r)) rs;
-  byt = total-amend (buffered_bytes s q) test g (λ r. ap (λ (x : Req). cond (is_same x.p q && not (is_direct s x.device)) (moved_bytes x.func x.len) 0) (same_req r)) rs;
+  byt = total_amend (buffered_bytes s q) test g rs (λ r. ap (λ (x : Req). cond (is_same x.p q && not (is_direct s x.device)) (moved_bytes x.func x.len) 0) (same_req r));
 }

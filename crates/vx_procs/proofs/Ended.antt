@@ -1,6 +1,7 @@
 -- Timers and wakes that end, the first of them at a time.
-use Rattle.std.proofs.Common.{◌≡◌, ◌<◌, [], ◌∷◌, List, Bool, length, Option, Some, None, option_map, refl, ap, sym, subst, ◌∙◌, arith}
+use Rattle.std.proofs.Common.{◌≡◌, ◌<◌, [], ◌∷◌, List, Bool, length, Some, None, option_map, ap, sym, subst, ◌∙◌, arith}
 use Rattle.std.specs.List.{filter, find}
+use Rattle.vx_base.proofs.Lists.{none_mapped, some_mapped}
 use Rattle.vx_base.specs.Lists.{less}
 use Rattle.vx_base.proofs.First.{less_none}
 use Rattle.vx_base.specs.Pieces.{Timer}
@@ -19,14 +20,6 @@ use Rattle.vx_procs.proofs.Rest.{IsDoing, acted, doing_begun, doing_end, doing_o
 
 -- What was found, by its id.
 
-pub found_id : {A : Type 0} (key : A → Id) (o : Option A) (id : Id) → Some id ≡ option_map key o → (x : A) × ((o ≡ Some x) × (key x ≡ id))
-found_id key None id e = absurd (cc)
-found_id key (Some x) id e = (x, (refl, let same : id ≡ key x = cc in sym same))
-
-pub found_none : {A : Type 0} (key : A → Id) (o : Option A) → None ≡ option_map key o → o ≡ None
-found_none key None e = refl
-found_none key (Some x) e = absurd (cc)
-
 timer_first : (s : State) (test : Timer → Bool) (t : Timer) → AreOrdered timer_id 0 s.next s.timers → find test s.timers ≡ Some t → drop_timers test s ≡ and_then (tells (effect.Drop t.id) (without_timer test s)) (drop_timers test)
 timer_first s test t order found =
     let rest = filter test (less test s.timers) in
@@ -44,27 +37,27 @@ ending_begun test k order room = record { order = order; doing = doing_begun (dr
 
 pub ending_room : (test : Timer → Bool) (first k l : Kernel) (id : Id) → IsEnding test first k → Some id ≡ option_map (λ t. t.id) (find test k.state.timers) → l ≡ with_state k (without_timer test k.state) → Fits l (effect.Drop id ∷ [])
 ending_room test first k l id h given there =
-    let found = found_id (λ (t : Timer). t.id) (find test k.state.timers) id given in
-    let room = doing_room (drop_timers test first.state) first k (drop_timers test k.state) (tells (effect.Drop found.0.id) (without_timer test k.state)) (drop_timers test) (timer_first k.state test found.0 h.order found.1.0) h.doing in
+    let found = some_mapped (λ (t : Timer). t.id) (find test k.state.timers) id (sym given) in
+    let room = doing_room (drop_timers test first.state) first k (drop_timers test k.state) (tells (effect.Drop found.0.id) (without_timer test k.state)) (drop_timers test) (timer_first k.state test found.0 h.order found.1) h.doing in
     rw there room
 
 pub ending_more : (test : Timer → Bool) (first k l n : Kernel) (id : Id) → IsEnding test first k → Some id ≡ option_map (λ t. t.id) (find test k.state.timers) → l ≡ with_state k (without_timer test k.state) → n ≡ told l (effect.Drop id ∷ []) → IsEnding test first n
 ending_more test first k l n id h given there tells_it =
-    let found = found_id (λ (t : Timer). t.id) (find test k.state.timers) id given in
+    let found = some_mapped (λ (t : Timer). t.id) (find test k.state.timers) id (sym given) in
     let a : Part = tells (effect.Drop found.0.id) (without_timer test k.state) in
-    let did : n ≡ acted k a = tells_it ∙ (ap (λ (x : Kernel). told x (effect.Drop id ∷ [])) there ∙ ap (λ (i : Id). told (with_state k (without_timer test k.state)) (effect.Drop i ∷ [])) (sym found.1.1)) in
+    let did : n ≡ acted k a = tells_it ∙ (ap (λ (x : Kernel). told x (effect.Drop id ∷ [])) there ∙ ap (λ (i : Id). told (with_state k (without_timer test k.state)) (effect.Drop i ∷ [])) (sym found.2)) in
     record {
       order = subst (λ (x : Kernel). AreOrdered timer_id 0 x.state.next x.state.timers) (sym did) (ordered_less timer_id test 0 k.state.next k.state.timers h.order);
-      doing = doing_on (drop_timers test first.state) first k n (drop_timers test k.state) a (drop_timers test) (timer_first k.state test found.0 h.order found.1.0) did h.doing;
+      doing = doing_on (drop_timers test first.state) first k n (drop_timers test k.state) a (drop_timers test) (timer_first k.state test found.0 h.order found.1) did h.doing;
     }
 
 pub ending_fewer : (test : Timer → Bool) (k l : Kernel) (id : Id) → Some id ≡ option_map (λ t. t.id) (find test k.state.timers) → l ≡ with_state k (without_timer test k.state) → length l.state.timers < length k.state.timers
 ending_fewer test k l id given there =
-    let found = found_id (λ (t : Timer). t.id) (find test k.state.timers) id given in
-    let fewer = length-less test k.state.timers found.0 found.1.0 in
+    let found = some_mapped (λ (t : Timer). t.id) (find test k.state.timers) id (sym given) in
+    let fewer = length-less test k.state.timers found.0 found.1 in
     rw there (omega (arith, fewer))
 
 pub ending_end : (test : Timer → Bool) (first k l : Kernel) → IsEnding test first k → None ≡ option_map (λ t. t.id) (find test k.state.timers) → l ≡ with_state k (without_timer test k.state) → Acts (drop_timers test first.state) first l
 ending_end test first k l h given there =
-    let none = found_none (λ (t : Timer). t.id) (find test k.state.timers) given in
+    let none = none_mapped (λ (t : Timer). t.id) (find test k.state.timers) (sym given) in
     doing_end (drop_timers test first.state) first k l (drop_timers test k.state) (ap (λ ts. each drop_timer ts k.state) (filter_none test k.state.timers none)) (there ∙ ap (λ (ts : List Timer). with_state k (record k.state { timers = ts })) (less_none test k.state.timers none)) h.doing

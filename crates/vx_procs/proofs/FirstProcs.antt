@@ -1,6 +1,7 @@
 -- The processes that are there from the start, one declaration after another.
 use Rattle.std.proofs.Common.{◌≡◌, ℕ, zero, suc, ◌+◌, ◌-◌, ◌<◌, ◌≤◌, None, Option, arith, List, [], ◌∷◌, ◌++◌, true, false, if◌then◌else◌, map, drop, length, slice_index_or, refl, ap, sym, subst, ◌∙◌}
 use Rattle.std.proofs.lemmas.List.{append_assoc, drop_more}
+use Rattle.vx_base.proofs.Lists.{any_default}
 use Rattle.vx_image.specs.declared.decl.ProcDecl.{ProcDecl}
 use Rattle.std.specs.List.{AllByRecursion}
 use Rattle.vx_base.specs.Pieces.{DeviceUnit, Queued}
@@ -35,12 +36,7 @@ born_more before after place d items ds all same within is more so_far =
 pub fresh_more : (items ds : List ProcDecl) (place : ℕ) (d : ProcDecl) → items ≡ ds → place < length items → d ≡ slice_index_or items place d → slice_index_or ds place no_decl ≡ d
 fresh_more items ds place d same within is =
     let here : place < length ds = subst (λ xs. place < length xs) same within in
-    get_or-default ds place no_decl d here ∙ sym (is ∙ ap (λ xs. slice_index_or xs place d) same)
-  where
-    get_or-default : (xs : List ProcDecl) (i : ℕ) (x y : ProcDecl) → i < length xs → slice_index_or xs i x ≡ slice_index_or xs i y
-    get_or-default [] i x y h = absurd (omega arith)
-    get_or-default (z ∷ zs) zero x y h = refl
-    get_or-default (z ∷ zs) (suc i) x y h = get_or-default zs i x y (omega arith)
+    any_default ds place no_decl d here ∙ sym (is ∙ ap (λ xs. slice_index_or xs place d) same)
 
 -- Processes before their first statement are held.
 

@@ -3,6 +3,7 @@ use Rattle.std.proofs.Common.{◌≡◌, ◌<◌, List, Bool, true, false, lengt
 use Rattle.std.specs.Vec.{with_item}
 use Rattle.std.proofs.lemmas.Bool.{and_parts}
 use Rattle.std.proofs.lemmas.List.{length-map, set-get_or}
+use Rattle.vx_base.proofs.Lists.{some_mapped}
 use Rattle.vx_base.specs.Pieces.{Request}
 use Rattle.vx_base.specs.Queues.{in_service, is_on, is_served_by}
 use Rattle.vx_base.specs.declared.number.Id.{Id}
@@ -18,7 +19,6 @@ use Rattle.vx_procs.specs.Requests.{IsOwnRequest}
 use Rattle.vx_procs.specs.Units.{Ending, IsIn, IsTakenOf, Kept, asked_of, stand_of, stood}
 use Rattle.vx_procs.specs.View.{IsHeld, ending_of, ends, kernel, state, unit_of}
 use Rattle.vx_procs.specs.declared.procs.Core.TheInside.{Inside}
-use Rattle.vx_procs.proofs.Ended.{found_id}
 use Rattle.vx_procs.proofs.Inside.{stand_here}
 use Rattle.vx_procs.proofs.Requested.{ending_there, held_unit, prepared_as, seen_unit, unit_device}
 
@@ -96,16 +96,12 @@ busy_by c u r h found =
     }
 
 pub busy_id : {R : Type 0} (c : Inside R) (u : UnitNo) (id : Id) → IsHeld c → Some id ≡ option_map (λ (r : Request). r.req.id) (in_service u c.requests.items) → (r : Request) × IsBusy c u r
-busy_id c u id h e = let found = found_id (λ (r : Request). r.req.id) (in_service u c.requests.items) id e in (found.0, busy_by c u found.0 h found.1.0)
-
-some_req : (o : Option Request) (q : Req) → option_map (λ (r : Request). r.req) o ≡ Some q → (r : Request) × ((o ≡ Some r) × (r.req ≡ q))
-some_req None q e = absurd (cc)
-some_req (Some r) q e = (r, (refl, cc))
+busy_id c u id h e = let found = some_mapped (λ (r : Request). r.req.id) (in_service u c.requests.items) id (sym e) in (found.0, busy_by c u found.0 h found.1)
 
 pub busy_req : {R : Type 0} (c : Inside R) (k : Kernel) (u : UnitNo) (q : Req) → kernel c ≡ k → IsHeld c → served_by k u ≡ Some q → (r : Request) × (IsBusy c u r × (r.req ≡ q))
 busy_req c k u q view h e =
-    let found = some_req (in_service u c.requests.items) q (ap (λ (x : Kernel). served_by x u) view ∙ e) in
-    (found.0, (busy_by c u found.0 h found.1.0, found.1.1))
+    let found = some_mapped (λ (r : Request). r.req) (in_service u c.requests.items) q (ap (λ (x : Kernel). served_by x u) view ∙ e) in
+    (found.0, (busy_by c u found.0 h found.1, found.2))
 
 some_asked : (o : Option Ending) (q : Req) → asked_of o ≡ Some q → IsSome o
 some_asked None q e = absurd (cc)

@@ -2,7 +2,6 @@ pub mod Again
 pub mod Bills
 pub mod Blocks
 pub mod Booked
-pub mod Assigned
 pub mod Called
 pub mod Cells
 pub mod Changed

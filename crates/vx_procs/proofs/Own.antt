@@ -2,16 +2,11 @@
 use Rattle.std.proofs.Common.{◌≡◌, List, [], ◌∷◌, Bool, true, false, cond, not, ◌==◌, eq-eqb, IsTrue, Some, ap, sym, refl, ◌∙◌}
 use Rattle.std.specs.List.{find, list_any}
 use Rattle.std.proofs.lemmas.Bool.{and_from, and_parts, not-true, or_parts, not_from_false}
+use Rattle.vx_base.proofs.Any.{none_less}
 use Rattle.vx_base.specs.Lists.{less}
 use Rattle.vx_base.specs.declared.number.Id.{Id}
 use Rattle.vx_record.proofs.Lists.{either}
 use Rattle.vx_procs.specs.Words.{have_own}
-
-any_less : {A : Type 0} (g p : A → Bool) (xs : List A) → list_any g xs ≡ false → list_any g (less p xs) ≡ false
-any_less g p [] e = refl
-any_less g p (x ∷ xs) e =
-    let parts = or_parts (g x) (list_any g xs) e in
-    either (λ ys. list_any g ys ≡ false) (p x) xs (x ∷ less p xs) parts.1 (rw parts.0 (any_less g p xs parts.1))
 
 -- what does not hold of any does not hold of the one that is found
 none_found : {A : Type 0} (p g : A → Bool) (xs : List A) (q : A) → list_any g xs ≡ false → find p xs ≡ Some q → g q ≡ false
@@ -30,7 +25,7 @@ own_less {A = A} id p (x ∷ xs) own =
     let same : A → Bool = λ y. (id x).0 == (id y).0 in
     let parts = and_parts (not (list_any same xs)) (have_own id xs) own in
     either (λ ys. IsTrue (have_own id ys)) (p x) xs (x ∷ less p xs) parts.1
-    (and_from (not (list_any same (less p xs))) (have_own id (less p xs)) (not_from_false _ (any_less same p xs (not-true _ parts.0))) (own_less id p xs parts.1))
+    (and_from (not (list_any same (less p xs))) (have_own id (less p xs)) (not_from_false _ (none_less p same xs (not-true _ parts.0))) (own_less id p xs parts.1))
 
 -- the list without what is found is the list without the first with its id
 pub less_own : {A : Type 0} (id : A → Id) (p : A → Bool) (xs : List A) (q : A) → IsTrue (have_own id xs) → find p xs ≡ Some q → less (λ y. (id y).0 == (id q).0) xs ≡ less p xs

@@ -5,6 +5,7 @@ use Rattle.std.specs.Vec.{with_item}
 use Rattle.std.proofs.lemmas.Bool.Decides.{nat_tests}
 use Rattle.std.proofs.lemmas.Bool.{and_parts, cases_eq, eq-eqb, eqb-true, false_from_ne_true, or_parts, and_right}
 use Rattle.std.proofs.lemmas.List.{get_or-map, length-map, map-set, set-get_or}
+use Rattle.vx_base.proofs.Lists.{some_mapped}
 use Rattle.vx_base.specs.Flags.{one}
 use Rattle.vx_base.specs.Lists.{amend, less, tally}
 use Rattle.vx_base.specs.Log.{Log}
@@ -47,7 +48,6 @@ use Rattle.vx_procs.specs.declared.requests.Finished.{Finished}
 use Rattle.vx_procs.proofs.Bills.{IsAlike, IsMore, alike_amend, alike_less, alike_more, its_charge, one_less, one_more, own_charge}
 use Rattle.vx_procs.proofs.Booked.{counts_of, here_by, one_few, spare_used, spared, tally-append, tally-less}
 use Rattle.vx_procs.proofs.Changed.{held_there, requests_as, seen}
-use Rattle.vx_procs.proofs.Ended.{found_id}
 use Rattle.vx_procs.proofs.Firsts.{amend_like, find_same}
 use Rattle.vx_procs.proofs.Inside.{stand_here}
 use Rattle.vx_procs.proofs.Ops.{booked_here, charged_limits, counts_here, left_for, queued_decl, queued_frames, spares_here, spares_in}
@@ -507,21 +507,21 @@ serving c k u id view h order is = subst (λ (x : Kernel). IsServing x u id) vie
     here : AreOrdered request_id 0 c.next c.requests.items → IsServing (kernel c) u id
     here ids =
         let rs = c.requests.items in
-        let found = found_id (λ (r : Request). r.req.id) (in_service u rs) id is in
+        let found = some_mapped (λ (r : Request). r.req.id) (in_service u rs) id (sym is) in
         let r = found.0 in
-        let its = all_find (λ x. IsOwnRequest (state c) x.req) (is_served_by u) rs r h.requests found.1.0 in
-        let passes = found_passes (is_served_by u) rs r found.1.0 in
+        let its = all_find (λ x. IsOwnRequest (state c) x.req) (is_served_by u) rs r h.requests found.1 in
+        let passes = found_passes (is_served_by u) rs r found.1 in
         let fits = unit_device u (length (state c).units) r.req r.req.device (and_parts (is_on u r) r.served passes).0 its.device in
         let asked = slice_index_or (ends c) u.0 None in
-        let there = one_there (tally (is_served_by u) (less (is_served_by u) rs)) (is_some (asked_of asked)) (omega (arith, (h.served u).few, tally-less (is_served_by u) (is_served_by u) rs r found.1.0, ap one passes)) in
+        let there = one_there (tally (is_served_by u) (less (is_served_by u) rs)) (is_some (asked_of asked)) (omega (arith, (h.served u).few, tally-less (is_served_by u) (is_served_by u) rs r found.1, ap one passes)) in
         record {
           r = r;
-          found = found.1.0;
-          by_id = ap (λ (i : Id). find (this_request i) rs) (sym found.1.1) ∙ find_same request_id (is_served_by u) 0 c.next rs r ids found.1.0;
+          found = found.1;
+          by_id = ap (λ (i : Id). find (this_request i) rs) (sym found.2) ∙ find_same request_id (is_served_by u) 0 c.next rs r ids found.1;
           fits = fits.1;
           within = fits.0;
-          asked = all_find (λ x. is_served_by u x ≡ true → asked_of asked ≡ Some x.req) (is_served_by u) rs r (h.served u).only found.1.0 passes;
-          single = omega (arith, there.1, tally-less (is_served_by u) (is_served_by u) rs r found.1.0, ap one passes);
+          asked = all_find (λ x. is_served_by u x ≡ true → asked_of asked ≡ Some x.req) (is_served_by u) rs r (h.served u).only found.1 passes;
+          single = omega (arith, there.1, tally-less (is_served_by u) (is_served_by u) rs r found.1, ap one passes);
         }
 
 pub serving_there : (k : Kernel) (u : UnitNo) (id : Id) (x : IsServing k u id) → None ≡ option_map finished (find (this_request id) k.state.requests) → ⊥

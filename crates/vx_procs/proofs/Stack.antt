@@ -67,10 +67,6 @@ left_kind_part kind.Change s = (refl, refl)
 left_kind_part (kind.Ast id) s = (refl, refl)
 left_kind_part kind.Handler s = (refl, refl)
 
-pub left_after : (fs : List Frame) (s : State) → (leave_all fs s).after ≡ s
-left_after [] s = refl
-left_after (f ∷ fs) s = let here = left_kind_part f.kind s in left_after fs (leave_kind s f.kind).after ∙ here.1
-
 pub left_effects : (fs : List Frame) (s : State) → (leave_all fs s).effects ≡ left fs
 left_effects [] s = refl
 left_effects (f ∷ fs) s =

@@ -279,6 +279,10 @@ newest key low high xs x e h = last_of (λ y. find (λ z. key z == key y) (xs ++
 abbrev pub HasRoom : State → Pid → Asked → Channel → Type 0
 HasRoom s p q ch = exceeds s p (request_need s ch.device q.func (is_some q.ast) q.len) ≡ false
 
+pub need_as : (s t : State) (dev : Device) (func : Func) (b : Bool) (len : ℕ) → t.system ≡ s.system → request_need t dev func b len ≡ request_need s dev func b len
+need_as s t (device.Unit u) func b len e = rw e refl
+need_as s t (device.Mailbox c) func b len e = refl
+
 new_is : (s : State) (p : Pid) (q : Asked) (ch : Channel) → IsProcess s p → is_attention q.func ≡ false → HasRoom s p q ch → IsNew s p (mode_of_ast (current s p) q.ast) (new_request s p q ch)
 new_is s p q ch m plain room = grind arith
 

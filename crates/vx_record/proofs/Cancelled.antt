@@ -20,10 +20,10 @@ use Rattle.vx_record.specs.Mailboxes.{mailbox_at, this_message, mcut_part, this_
 use Rattle.vx_record.specs.Channels.{box_named, with_channel, free_channel_of, assign_at, assign_to, is_bad_box, new_box, make_box, make_box_in, find_or_create, crembx, delmbx_on, swept_device, swept_box, free_channel, box_number, box_made, is_box_of}
 use Rattle.vx_record.specs.Cancel.{mark_part, withdraw, cancelled_request, cancel_request, is_request_on, is_attention_on, drop_attention, cancel_channel, with_abort}
 use Rattle.vx_record.specs.Control.{with_wake}
-use Rattle.vx_record.specs.Timers.{drop_timer, drop_timers, setimr_at, setimr, scheduled, que_timer, fired, fire, is_due, at_time, next_time, tick, mode_of_ast, this_timer, due_again, after_wake, new_timer, new_wake, timer_set}
+use Rattle.vx_record.specs.Timers.{drop_timer, drop_timers, setimr_at, setimr, scheduled, que_timer, fired, fire, is_due, at_time, next_time, tick, mode_of_ast, this_timer, after_wake, new_timer, new_wake, timer_set}
 use Rattle.vx_base.specs.Channels.{channel_at}
-use Rattle.vx_record.proofs.Lists.{either, either_by, all_weaker, all_both, all_filter, all_find, all_less, all_amend, ordered_amend, ordered_less, removed, apart_bools}
-use Rattle.std.proofs.lemmas.Bool.{eq-eqb, and_parts, and_from, or_left, or_right, false_from_ne_true, not-true}
+use Rattle.vx_record.proofs.Lists.{either, either_by, all_weaker, all_both, all_filter, all_find, all_less, all_amend, ordered_amend, ordered_less, removed}
+use Rattle.std.proofs.lemmas.Bool.{eq-eqb, and_parts, and_from, or_left, or_right, false_from_ne_true, not-true, both_ways}
 use Rattle.std.proofs.Math.ListN.{length-set}
 use Rattle.std.specs.Prelude.{option_map}
 use Rattle.vx_base.specs.Lists.{less}
@@ -143,7 +143,7 @@ all_to_do on test takes k (x ∷ xs) =
     let ys = filter test xs in
     either_by (λ todo. AllByRecursion (IsToDo on takes todo) (x ∷ xs)) (test x) (x ∷ ys) ys
     (λ e. ((λ o. or_left (takes x x) (list_any (takes x) ys) (k x o).1), all_weaker (IsToDo on takes ys) (IsToDo on takes (x ∷ ys)) (λ y h o. or_right (takes y x) (list_any (takes y) ys) (h o)) xs rest))
-    (λ e. ((λ o. absurd (apart_bools (test x) (k x o).0 e)), rest))
+    (λ e. ((λ o. absurd (both_ways (test x) e (k x o).0)), rest))
 
 past : {A : Type 0} (on : A → Bool) (takes : A → A → Bool) (t : A) (ts : List A) (x : A) → takes x t ≡ false → IsToDo on takes (t ∷ ts) x → IsToDo on takes ts x
 past on takes t ts x other k e = rw other at (k e)
@@ -253,7 +253,7 @@ cancel_channel_clears s p n h i =
           (λ r k. false_from_ne_true _
           (λ e.
           let both = and_parts (is_on_box r.req.device) (is_request_on p n r) e in
-          apart_bools (not r.served && is_request_on p n r) (and_from (not r.served) (is_request_on p n r) (box_unserved r.served r.req.device k.0.served both.0) both.1) k.1)) t.requests
+          both_ways (not r.served && is_request_on p n r) k.1 (and_from (not r.served) (is_request_on p n r) (box_unserved r.served r.req.device k.0.served both.0) both.1))) t.requests
           (all_both (RequestStands (ground t)) Served t.requests i.requests served);
       attention = cancel_channel_attention s p n h;
     }

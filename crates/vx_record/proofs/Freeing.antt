@@ -1,7 +1,7 @@
 -- The channels of a mode that is drained are freed: nothing hangs on them.
 use Rattle.std.proofs.Common.{◌≡◌, ℕ, zero, suc, ◌+◌, ◌-◌, ◌<◌, ◌≤◌, List, [], ◌∷◌, true, false, ◌==◌, ◌&&◌, nat_le, length, Option, Some, None, get_or, set, refl, sym, ap, ◌∙◌, arith, subst, get_or-set_same}
 use Rattle.std.proofs.Math.ListN.{length-set}
-use Rattle.std.proofs.lemmas.Bool.{and_parts, and_from, eqb-true, le-leb, false_from_ne_true}
+use Rattle.std.proofs.lemmas.Bool.{and_parts, and_from, eqb-true, le-leb, false_from_ne_true, both_ways}
 use Rattle.std.specs.List.{AllByRecursion}
 use Rattle.vx_base.specs.Channels.{channel_at, is_reached, reached_from, channels_of}
 use Rattle.vx_base.specs.Modes.{reaches}
@@ -20,7 +20,7 @@ use Rattle.vx_record.specs.Cancel.{is_request_on, is_attention_on}
 use Rattle.vx_record.specs.Rundown.{in_phase, keeps_busy, free_one, drop_ast, release, without_ast}
 use Rattle.vx_record.specs.Sound.{ground, process_of, IsRooted, RequestStands, is_drained, AttentionStands}
 use Rattle.vx_record.proofs.Firm.{IsFirm}
-use Rattle.vx_record.proofs.Lists.{either_by, all_weaker, all_both, apart_bools}
+use Rattle.vx_record.proofs.Lists.{either_by, all_weaker, all_both}
 use Rattle.vx_record.proofs.Ground.{at_set}
 use Rattle.vx_record.proofs.Changes.{firm_at}
 use Rattle.vx_record.proofs.SoundChannels.{is_on_box, IsClear}
@@ -89,14 +89,14 @@ row_of s p q m n k ch row c e = grind arith
 
 clear_request : (s : State) (p : Pid) (m : Mode) (n : ℕ) (q : Pid) (k : ℕ) (mode : Mode) (d : Device) → RowReached m (channel_at (process_at s p).channels n) → IsRooted (ground s) q k mode d → (is_same q p && reaches mode m) ≡ false → (is_on_box d && (is_same q p && (k == n))) ≡ true → ⊥
 clear_request s p m n q k mode (device.Unit u) row c idle e = cc
-clear_request s p m n q k mode (device.Mailbox b) row c idle e = apart_bools (is_same q p && reaches mode m) (and_from (is_same q p) (reaches mode m) (and_parts (is_same q p) (k == n) e).0 (row_of s p q m n k (record { device = device.Mailbox b; mode = mode }) row c.row e)) idle
+clear_request s p m n q k mode (device.Mailbox b) row c idle e = both_ways (is_same q p && reaches mode m) idle (and_from (is_same q p) (reaches mode m) (and_parts (is_same q p) (k == n) e).0 (row_of s p q m n k (record { device = device.Mailbox b; mode = mode }) row c.row e))
 
 clear_attention : (s : State) (p : Pid) (m : Mode) (n : ℕ) (a : Attention) → (process_at s p).phase ≡ phase.Draining m → RowReached m (channel_at (process_at s p).channels n) → AttentionStands (ground s) a → is_attention_on p n a ≡ true → ⊥
 clear_attention s p m n a drained row k e =
     let one : a.p.0 ≡ p.0 = eqb-true a.p.0 p.0 (and_parts (is_same a.p p) (a.chan == n) e).0 in
     let ph : (process_of (ground s) a.p).phase ≡ phase.Draining m = ap (λ (i : ℕ). (get_or s.procs (i - 1) nobody).phase) one ∙ drained in
     let going : is_drained (phase.Draining m) k.channel_mode ≡ false = subst (λ (x : Phase). is_drained x k.channel_mode ≡ false) ph k.going in
-    apart_bools (reaches k.channel_mode m) (row_of s p a.p m n a.chan (record { device = device.Mailbox a.box; mode = k.channel_mode }) row k.channel.row e) going
+    both_ways (reaches k.channel_mode m) going (row_of s p a.p m n a.chan (record { device = device.Mailbox a.box; mode = k.channel_mode }) row k.channel.row e)
 
 pub freeing_row : (s : State) (p : Pid) (m : Mode) (n : ℕ) (ns : List ℕ) → IsFreeing s p m (n ∷ ns) → IsFirm s → IsRow s p n None
 unfolding IsFreed

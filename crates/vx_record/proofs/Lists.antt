@@ -1,5 +1,5 @@
 -- Facts that hold of each of a list, and ids that rise.
-use Rattle.std.proofs.Common.{◌≡◌, ◌≢◌, ℕ, zero, suc, ◌+◌, ◌<◌, ◌≤◌, List, [], ◌∷◌, ◌++◌, Bool, true, false, cond, ◌==◌, length, Option, Some, None, is_some, IfSome, get_or, set, refl, sym, ◌∙◌, arith}
+use Rattle.std.proofs.Common.{◌≡◌, ◌≢◌, ℕ, zero, suc, ◌+◌, ◌<◌, ◌≤◌, List, [], ◌∷◌, ◌++◌, Bool, true, false, cond, ◌==◌, length, Option, Some, None, is_some, IfSome, get_or, set, refl, arith}
 use Rattle.std.specs.List.{AllByRecursion, filter, find, list_any}
 use Rattle.std.specs.Prelude.{option_map}
 use Rattle.std.proofs.lemmas.Bool.{eq-eqb, eqb-true, or_parts}
@@ -88,9 +88,6 @@ none_found p [] e = tt
 none_found p (y ∷ ys) e = let rest = none_found p ys in grind arith
 
 -- Tests.
-
-pub apart_bools : (b : Bool) → b ≡ true → b ≡ false → ⊥
-apart_bools b e f = let no : true ≡ false = sym e ∙ f in cc
 
 pub none_passes : {A : Type 0} (p : A → Bool) (xs : List A) → list_any p xs ≡ false → AllByRecursion (λ x. p x ≡ false) xs
 none_passes p [] h = tt

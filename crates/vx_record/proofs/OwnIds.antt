@@ -54,6 +54,10 @@ pub total_append : {A : Type 0} (f : A → ℕ) (xs : List A) (y : A) → total 
 total_append f [] y = omega arith
 total_append f (x ∷ xs) y = let rest = total_append f xs y in omega (arith, rest)
 
+pub total_amend : {A : Type 0} (f : A → ℕ) (p : A → Bool) (g : A → A) (xs : List A) → ((x : A) → f (g x) ≡ f x) → total f (amend p g xs) ≡ total f xs
+total_amend f p g [] k = refl
+total_amend {A} f p g (x ∷ xs) k = either (λ (l : List A). total f l ≡ f x + total f xs) (p x) (g x ∷ xs) (x ∷ amend p g xs) (rw (k x) refl) (rw (total_amend f p g xs k) refl)
+
 -- What bears an id, with what is promised.
 
 abbrev pub loose_bears : Option Loose → ℕ → ℕ

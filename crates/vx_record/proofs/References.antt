@@ -1,6 +1,6 @@
 -- References stand after each move.
 use Rattle.std.proofs.Common.{◌≡◌, ℕ, ◌-◌, ◌+◌, ◌<◌, ◌≤◌, List, [], ◌∷◌, ◌++◌, ◌≢◌, ◌==◌, Bool, true, false, Option, Some, None, IfSome, refl, sym, ap, ◌∙◌, subst, length, arith, inl, inr, get_or-set_other, set, zero, suc, nat_le, get_or}
-use Rattle.std.proofs.lemmas.Bool.{cases_eq, and_parts, and_from, eq-eqb, or_left, or_right, leb-true, false_from_ne_true}
+use Rattle.std.proofs.lemmas.Bool.{cases_eq, and_parts, and_from, eq-eqb, or_left, or_right, leb-true, false_from_ne_true, both_ways}
 use Rattle.std.specs.List.{list_any}
 use Rattle.vx_base.specs.Channels.{channels_of, channel_at, is_reached, reached_from}
 use Rattle.vx_base.specs.Pieces.{Attention, Request, Promised, Timer, Alarm, OfTimer, Channel}
@@ -19,7 +19,7 @@ use Rattle.vx_record.specs.Rundown.{in_phase, draining, new_handler}
 use Rattle.vx_record.specs.Timers.{this_timer}
 use Rattle.vx_record.specs.Sound.{Ground, ground, IsMade, IsRoutineOf, RequestStands, TimerStands, AlarmStands, AttentionStands, ProcessStands, is_drained, IsIdle as Idles, HasChannel, IsRooted}
 use Rattle.vx_record.proofs.Firm.{IsFirm}
-use Rattle.vx_record.proofs.Lists.{all_weaker, all_both, all_append, all_set, all_find, either, apart_bools}
+use Rattle.vx_record.proofs.Lists.{all_weaker, all_both, all_append, all_set, all_find, either}
 use Rattle.vx_record.proofs.Ground.{Base, attention_moves, rebuilt, made_base, routine_of_moves, request_moves, process_moves, Still, moved as with_procs, common_still, later_still, past_id_still, at_set, change_sound, change_base}
 use Rattle.vx_record.proofs.Changes.{Quiet, quiet_still, with_queued_still, with_handler_still, without_handler_still, entering_sound, in_phase_still, moved_to_quiet, with_delivery_quiet, with_stored_bytes_quiet, with_stored_status_quiet, with_variable_quiet}
 use Rattle.vx_record.proofs.Moves.{Loose, passed, loosed, loosed_timer, IsAlarmMade, IsTame, calm, drains, IsSilent, IsRow, AreUnattended, MovesBy, both, quiet, channel, newly, clusters, open_ast, open_force, open_handler, enter, open_request, fin, box_ends, open_attention, attention_fires, open_timer, open_wake, timer_fires}
@@ -96,7 +96,7 @@ still_going s p m a made k same away =
     let above = leb-true 1 a.chan (and_parts (nat_le 1 a.chan) (nat_le a.chan 64) k.channel.number).0 in
     let there = reached_there 1 a.chan m rows above reached in
     let on = any_weaker (λ j. a.chan == j) (λ n. is_attention_on p n a) (λ j f. and_from (is_same a.p p) (a.chan == j) (eq-eqb a.p.0 p.0 same) f) (channels_of m rows) there in
-    apart_bools _ on away)
+    both_ways _ away on)
 
 draining_rooted : (s : State) (p q : Pid) (m : Mode) (n : ℕ) (b : BoxNo) (mode : Mode) → HasChannel (ground s) q n b mode → HasChannel (ground (draining p m s)) q n b mode
 draining_rooted s p q m n b mode c = record { number = c.number; row = at_set (λ (x y : Process). channel_at x.channels n ≡ Some (record { device = device.Mailbox b; mode = mode }) → channel_at y.channels n ≡ Some (record { device = device.Mailbox b; mode = mode })) (λ x e. e) s.procs (p.0 - 1) (q.0 - 1) (in_phase (phase.Draining m) (process_at s p)) nobody (λ e. e) c.row }

@@ -20,7 +20,7 @@ use Rattle.vx_base.proofs.First.{found_passes}
 
 -- Lists.
 
-any_append : {A : Type 0} (p : A → Bool) (xs ys : List A) → list_any p xs ≡ true → list_any p (xs ++ ys) ≡ true
+pub any_append : {A : Type 0} (p : A → Bool) (xs ys : List A) → list_any p xs ≡ true → list_any p (xs ++ ys) ≡ true
 any_append p [] ys h = cc
 any_append p (x ∷ xs) ys h = let rest = any_append p xs ys in grind arith
 
@@ -47,7 +47,7 @@ clusters_move n c clusters f h = grind (arith, all_weaker)
 is_itself : (group : ℕ) (name : List ℕ) → (group == group && bytes_eq name name) ≡ true
 is_itself group name = and_from (group == group) (bytes_eq name name) (eq-eqb group group refl) ((bytes_eq-Decides name name).1 refl)
 
-both_names : (g h : ℕ) (x y : List ℕ) → (g == h && bytes_eq x y) ≡ true → (g ≡ h) × (x ≡ y)
+pub both_names : (g h : ℕ) (x y : List ℕ) → (g == h && bytes_eq x y) ≡ true → (g ≡ h) × (x ≡ y)
 both_names g h x y e = let parts = and_parts (g == h) (bytes_eq x y) e in (eqb-true g h parts.0, (bytes_eq-Decides x y).0 parts.1)
 
 apart : (a : Association) (group : ℕ) (name : List ℕ) → is_user group name a ≡ false → (cl : Cluster) → is_cluster group name cl ≡ true → is_cluster a.group a.name cl ≡ true → ⊥

@@ -84,6 +84,14 @@ leave_kind_moves : {refs : Bool} (s : State) (k : FrameKind) → PartBy refs s (
 leave_kind_moves s (kind.Ast id) = leave s None id tt
 leave_kind_moves s k = none s None
 
+left_kind : (s : State) (k : FrameKind) → (leave_kind s k).after ≡ s
+left_kind s (kind.Ast id) = refl
+left_kind s k = refl
+
+pub left_after : (fs : List Frame) (s : State) → (leave_all fs s).after ≡ s
+left_after [] s = refl
+left_after (f ∷ fs) s = rw (left_kind s f.kind) (left_after fs s)
+
 exited_moves : {refs : Bool} (s : State) (p : Pid) (code : ℕ) → PartBy refs s (exited s p code)
 exited_moves s p code =
     let a = change s p (without_frames code) in
@@ -277,7 +285,7 @@ cancel_modes_kept s p m q =
 
 -- What is attended no more.
 
-each_cancel_one_clear : (p : Pid) (s : State) (ns : List ℕ) → Base s → AreUnattended (each (cancel_one p) ns s).after p ns
+pub each_cancel_one_clear : (p : Pid) (s : State) (ns : List ℕ) → Base s → AreUnattended (each (cancel_one p) ns s).after p ns
 each_cancel_one_clear p s [] h = all_weaker (λ a. IsProcess s a.p) (λ a. list_any (λ n. is_attention_on p n a) [] ≡ false) (λ a k. refl) s.attention h.attention_owners
 each_cancel_one_clear p s (n ∷ ns) h =
     let a = (cancel_channel s p n).after in

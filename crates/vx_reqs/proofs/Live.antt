@@ -1,5 +1,5 @@
 -- The requests that stand in places: found, taken out, changed and added.
-use Rattle.std.proofs.Common.{◌≡◌, ℕ, ◌+◌, ◌<◌, drop, get_or, sym, ◌∙◌, List, [], ◌∷◌, ◌++◌, Bool, true, false, cond, ◌||◌, Option, Some, None, length, refl, ap, option_to_list, option_map, is_some, Result, Ok, Err, OnOk, OnErr}
+use Rattle.std.proofs.Common.{◌≡◌, ℕ, ◌+◌, ◌<◌, drop, get_or, sym, ◌∙◌, List, [], ◌∷◌, ◌++◌, Bool, true, false, cond, ◌||◌, Option, Some, None, length, refl, ap, option_to_list, is_some, Result, Ok, Err, OnOk, OnErr}
 use Rattle.std.specs.List.{find, list_any, filter}
 use Rattle.std.proofs.lemmas.List.{drop_more}
 use Rattle.vx_base.specs.Lists.{less, amend}
@@ -86,18 +86,6 @@ any_found p (x ∷ xs) =
       | true ↦ refl
       | false ↦ rest
     ]
-
-pub none_any : {X : Type 0} (p : X → Bool) (xs : List X) → list_any p xs ≡ false → None ≡ find p xs
-none_any p [] e = refl
-none_any p (x ∷ xs) e =
-    elim (p x) as (λ b. (b || list_any p xs) ≡ false → None ≡ cond b (Some x) (find p xs)) [
-      | true ↦ λ any. absurd (cc)
-      | false ↦ λ any. none_any p xs any
-    ] e
-
-pub is_some_map : {X Y : Type 0} (f : X → Y) (o : Option X) → is_some o ≡ is_some (option_map f o)
-is_some_map f None = refl
-is_some_map f (Some x) = refl
 
 -- what stands at the first place that is left comes first
 pub live_next : (xs : List Place) (i : ℕ) (o : Option Request) → i < length xs → ((d : Place) → o ≡ (get_or xs i d).request) → live (drop i xs) ≡ option_to_list o ++ live (drop (i + 1) xs)

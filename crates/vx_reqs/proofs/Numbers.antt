@@ -1,6 +1,8 @@
 -- What the numbers of a unit say of places.
-use Rattle.std.proofs.Common.{◌≡◌, ◌≢◌, ℕ, ◌+◌, ◌<◌, ◌≤◌, ◌==◌, ◌&&◌, List, [], ◌∷◌, ◌++◌, Bool, true, false, cond, not, Option, Some, None, length, get_or, refl, ap, sym, subst, ◌∙◌, arith, suc, zero, eqb-true, ne_eqb, true≢false}
+use mathlib.Core.Bool.{and-false}
+use Rattle.std.proofs.Common.{◌≡◌, ◌≢◌, ℕ, ◌+◌, ◌<◌, ◌≤◌, ◌==◌, ◌&&◌, List, [], ◌∷◌, ◌++◌, Bool, true, false, cond, not, Option, Some, None, length, get_or, refl, ap, sym, subst, ◌∙◌, arith, suc, zero, eqb-true, ne_eqb}
 use Rattle.std.specs.List.{filter, find}
+use Rattle.std.proofs.lemmas.Bool.{and_parts}
 use Rattle.vx_base.specs.Lists.{amend}
 use Rattle.vx_base.specs.Pieces.{Request}
 use Rattle.vx_base.specs.Queues.{is_on, is_unit, is_served_by, waits_for}
@@ -11,7 +13,6 @@ use Rattle.vx_base.specs.declared.request.Device.TheVariants as device
 use Rattle.vx_reqs.specs.Places.{Place, holds, is_held, changed, Keeps, AllKeep, Rises}
 use Rattle.vx_reqs.proofs.Rising.{rises_from}
 use Rattle.vx_record.specs.Requests.{taken_up}
-use Rattle.vx_base.proofs.Bools.{and_false, both_left}
 
 pub keep_at : (u : UnitNo) (from served : ℕ) (xs : List Place) → AllKeep u from served xs → (k : ℕ) (d : Place) → k < length xs → Keeps u from served (get_or xs k d)
 keep_at u from served [] h k d lt = absurd (omega arith)
@@ -60,12 +61,12 @@ keep_unserved u from served other (x ∷ xs) none h =
 
 no_wait : (u : UnitNo) (i : Id) (o : Option Request) → holds (waits_for u) (changed taken_up (record { id = i; request = o })) ≡ false
 no_wait u i None = refl
-no_wait u i (Some r) = and_false (is_on u r)
+no_wait u i (Some r) = and-false (is_on u r)
 
 elsewhere : (u other : UnitNo) (d : Device) (b : Bool) → u.0 ≢ other.0 → (is_unit u d && b) ≡ true → (is_unit other d && true) ≡ false
 elsewhere u other (device.Mailbox box) b differs on = refl
 elsewhere u other (device.Unit v) b differs on =
-    let here : u.0 ≡ v.0 = eqb-true u.0 v.0 (both_left (u.0 == v.0) b on) in
+    let here : u.0 ≡ v.0 = eqb-true u.0 v.0 (and_parts (u.0 == v.0) b on).0 in
     ap (λ (c : Bool). c && true) (ne_eqb other.0 v.0 (λ e. differs (here ∙ sym e)))
 
 no_service : (u other : UnitNo) (i : Id) (o : Option Request) → u.0 ≢ other.0 → holds (waits_for u) (record { id = i; request = o }) ≡ true → holds (is_served_by other) (changed taken_up (record { id = i; request = o })) ≡ false
@@ -104,7 +105,3 @@ keep_idle u from other served [] none h = tt
 keep_idle u from other served (x ∷ xs) none h =
     let here = none_in (holds (waits_for u)) x xs none in
     (record { waits = λ _. here.0; serves = h.0.serves }, keep_idle u from other served xs here.1 h.1)
-
-pub second_of_two : (a b : Bool) → (a && b) ≡ true → b ≡ true
-second_of_two true b e = e
-second_of_two false b e = absurd (true≢false (sym e))

@@ -1,4 +1,5 @@
 -- The order of places, kept by each change.
+use mathlib.Core.Bool.{and-false}
 use Rattle.std.proofs.Common.{◌≡◌, ◌≢◌, ℕ, ◌+◌, ◌<◌, ◌≤◌, ◌==◌, ◌&&◌, List, [], ◌∷◌, ◌++◌, Bool, true, false, not, Option, Some, None, option_map, get_or, refl, ap, sym, subst, ◌∙◌, arith, eqb-true, eq-eqb, true≢false}
 use Rattle.std.specs.List.{filter, find}
 use Rattle.vx_base.specs.Lists.{amend}
@@ -12,7 +13,6 @@ use Rattle.vx_reqs.proofs.Numbers.{keep_put, keep_lower, keep_begun, keep_begun_
 use Rattle.vx_reqs.proofs.Rising.{rises_put, rises_amend, rises_kept, own_changed}
 use Rattle.vx_record.specs.Requests.{taken_up}
 use Rattle.vx_record.specs.Cancel.{with_abort}
-use Rattle.vx_base.proofs.Bools.{and_false}
 
 -- what holds of one unit and of the others
 by_unit : (P : UnitNo → Type 0) (u : UnitNo) → (u.0 < 32 → P u) → ((v : UnitNo) → u.0 ≢ v.0 → v.0 < 32 → P v) → (v : UnitNo) → v.0 < 32 → P v
@@ -32,7 +32,7 @@ accepted places r id d next from lower served same on unserved above here all or
       | true ↦ λ e. let bound = here u lt e in absurd (omega (arith, bound, below))
       | false ↦ λ e. ap (λ (b : Bool). b && not r.served) (ap (is_unit u) on ∙ e)
     ] refl;
-    serves = λ _. ap (λ (b : Bool). is_unit u r.req.device && b) unserved ∙ and_false (is_unit u r.req.device);
+    serves = λ _. ap (λ (b : Bool). is_unit u r.req.device && b) unserved ∙ and-false (is_unit u r.req.device);
   });
 }
 

@@ -5,6 +5,7 @@ use Rattle.std.proofs.lemmas.List.{set-get_or}
 use Rattle.std.proofs.lemmas.List.Sums.{sum_by-set}
 use Rattle.slab.specs.Slab.{Slab, ContainsKey, Updates, get, slab_len, with_value}
 use Rattle.slab.proofs.SlabLemmas.{ContainsKey-within, Updates-with_value}
+use Rattle.std.proofs.lemmas.Option.{same_Some}
 use Rattle.vx_base.specs.Pieces.{Request}
 use Rattle.vx_base.specs.Roomy.{Roomy}
 use Rattle.vx_base.specs.declared.number.Id.{Id}
@@ -72,10 +73,7 @@ module _ (old new : Slab Request) (key : ℕ) (v : Option Request) (updates : Up
 
   fresh_key : (o : Option ℕ) (P : ℕ → Type 0) → get old key ≡ None → IfSome o (λ k. ContainsKey old k × P k) → o ≢ Some key
   fresh_key None P free keys = λ same. absurd (cc)
-  fresh_key (Some k) P free keys = λ same. let there : get old k ≡ None = ap (get old) (some_same k key same) ∙ free in absurd (let h : is_some (get old k) ≡ false = ap is_some there in cc)
-    where
-      some_same : (k j : ℕ) → Some k ≡ Some j → k ≡ j
-      some_same k j e = cc
+  fresh_key (Some k) P free keys = λ same. let there : get old k ≡ None = ap (get old) (same_Some k key same) ∙ free in absurd (let h : is_some (get old k) ≡ false = ap is_some there in cc)
 
   all_fresh : (xs : List SlotOf) → get old key ≡ None → AreKeys old xs → AllByRecursion (IsOther key) xs
   all_fresh [] free keys = tt

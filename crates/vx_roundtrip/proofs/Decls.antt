@@ -3,7 +3,7 @@ use Rattle.std.proofs.Common.{◌≡◌, ℕ, zero, suc, ◌+◌, ◌<◌, ◌�
 use Rattle.std.specs.Prelude.{slice_index_or}
 use Rattle.std.specs.List.{AllByRecursion, list_all}
 use Rattle.std.proofs.lemmas.Bool.{lt-ltb, ltb-true, and_parts}
-use Rattle.std.proofs.lemmas.List.{map-append}
+use Rattle.std.proofs.lemmas.List.{map-append, length-map}
 use Rattle.vx_base.specs.Name.{is_name}
 use Rattle.vx_image.specs.WellFormed.{is_among, is_decl}
 use Rattle.vx_image.specs.declared.decl.ProcDecl.{ProcDecl}
@@ -34,16 +34,12 @@ plain_names : (decls : List DeclLine) → line_names (map plain_decl decls) ≡ 
 plain_names [] = refl
 plain_names (d ∷ decls) = ap (λ (ns : List (List ℕ)). d.name ∷ ns) (plain_names decls)
 
-plain_length : (decls : List DeclLine) → length (map plain_decl decls) ≡ length decls
-plain_length [] = refl
-plain_length (d ∷ decls) = omega (arith, plain_length decls)
-
 -- the names of declarations that were read
 pub told_names : (decls told : List DeclLine) → map plain_decl decls ≡ told → line_names decls ≡ line_names told
 told_names decls told e = sym (plain_names decls) ∙ ap line_names e
 
 told_length : (decls told : List DeclLine) → map plain_decl decls ≡ told → length decls ≡ length told
-told_length decls told e = sym (plain_length decls) ∙ ap (λ (ds : List DeclLine). length ds) e
+told_length decls told e = sym (length-map decls plain_decl) ∙ ap (λ (ds : List DeclLine). length ds) e
 
 abbrev pub with_decls : Said → List DeclLine → Said
 with_decls said decls = record said { decls = said.decls ++ decls }

@@ -2,6 +2,7 @@
 use Rattle.std.proofs.Common.{◌≡◌, ◌==◌, ◌<◌, List, [], ◌∷◌, Bool, length, arith, IsTrue, Option, Some, None, option_map, refl, ap, sym, subst, ◌∙◌}
 use Rattle.std.specs.List.{filter, find}
 use Rattle.std.proofs.lemmas.List.{set-get_or}
+use Rattle.vx_base.proofs.Lists.{some_mapped, none_mapped}
 use Rattle.vx_base.specs.Lists.{less}
 use Rattle.vx_base.proofs.First.{less_none}
 use Rattle.vx_base.specs.Pieces.{Handler, Queued}
@@ -17,7 +18,6 @@ use Rattle.vx_record.specs.State.{Process, State, IsProcess, process_at, change}
 use Rattle.vx_procs.specs.Kernel.{Acts, Does, Fits, Kernel, changed, told, with_state}
 use Rattle.vx_procs.specs.Words.{handlers_have_own_ids, have_own}
 use Rattle.vx_procs.proofs.Booked.{length-less}
-use Rattle.vx_procs.proofs.Ended.{found_id, found_none}
 use Rattle.vx_procs.proofs.Firsts.{filter_found, filter_none}
 use Rattle.vx_procs.proofs.Own.{less_own, own_less}
 use Rattle.vx_procs.proofs.Rest.{IsDoing, acted, doing_begun, doing_end, doing_on, doing_room, told_none}
@@ -72,28 +72,28 @@ drop_first sh p test s x made own found =
     split ∙ (ap (λ u. more u (filter test (less test xs))) here ∙ ap (more t) left)
 
 pub drop_room : {A : Type 0} (sh : Shelf A) (p : Pid) (test : A → Bool) (first k l : Kernel) (id : Id) → IsDropping sh p test first k → Some id ≡ option_map sh.id (find test (sh.get (process_at k.state p))) → l ≡ changed k p (without sh test) → Fits l (effect.Drop id ∷ [])
-drop_room sh p test first k l id h given there = grind (arith, found_id, doing_room, drop_first)
+drop_room sh p test first k l id h given there = grind (arith, some_mapped, doing_room, drop_first)
 
 pub drop_more : {A : Type 0} (sh : Shelf A) (p : Pid) (test : A → Bool) (first k l n : Kernel) (id : Id) → IsDropping sh p test first k → Some id ≡ option_map sh.id (find test (sh.get (process_at k.state p))) → l ≡ changed k p (without sh test) → n ≡ told l (effect.Drop id ∷ []) → IsDropping sh p test first n
 drop_more sh p test first k l n id h given there tells_it =
-    let found = found_id sh.id (find test (sh.get (process_at k.state p))) id given in
+    let found = some_mapped sh.id (find test (sh.get (process_at k.state p))) id (sym given) in
     let a : Part = tells (effect.Drop (sh.id found.0)) (change k.state p (without sh test)) in
-    let did : n ≡ acted k a = tells_it ∙ (ap (λ (x : Kernel). told x (effect.Drop id ∷ [])) there ∙ ap (λ (i : Id). told (changed k p (without sh test)) (effect.Drop i ∷ [])) (sym found.1.1)) in
+    let did : n ≡ acted k a = tells_it ∙ (ap (λ (x : Kernel). told x (effect.Drop id ∷ [])) there ∙ ap (λ (i : Id). told (changed k p (without sh test)) (effect.Drop i ∷ [])) (sym found.2)) in
     record {
       made = subst (λ (x : Kernel). IsProcess x.state p) (sym did) (made_still k.state p p (without sh test) h.made);
       own = subst (λ (x : Kernel). IsTrue (have_own sh.id (sh.get (process_at x.state p)))) (sym did) (subst (λ xs. IsTrue (have_own sh.id xs)) (sym (there_got sh p test k.state h.made)) (own_less sh.id test (sh.get (process_at k.state p)) h.own));
-      doing = doing_on (drop_all sh p test first.state) first k n (drop_all sh p test k.state) a (drop_all sh p test) (drop_first sh p test k.state found.0 h.made h.own found.1.0) did h.doing;
+      doing = doing_on (drop_all sh p test first.state) first k n (drop_all sh p test k.state) a (drop_all sh p test) (drop_first sh p test k.state found.0 h.made h.own found.1) did h.doing;
     }
 
 pub drop_fewer : {A : Type 0} (sh : Shelf A) (p : Pid) (test : A → Bool) (k l : Kernel) (id : Id) → IsProcess k.state p → Some id ≡ option_map sh.id (find test (sh.get (process_at k.state p))) → l ≡ changed k p (without sh test) → length (sh.get (process_at l.state p)) < length (sh.get (process_at k.state p))
-drop_fewer sh p test k l id made given there = grind (arith, found_id, length-less, there_got)
+drop_fewer sh p test k l id made given there = grind (arith, some_mapped, length-less, there_got)
 
 -- nothing is taken out where none is found
 still : {A : Type 0} (sh : Shelf A) (p : Pid) (test : A → Bool) (s : State) → find test (sh.get (process_at s p)) ≡ None → change s p (without sh test) ≡ s
 still sh p test s none = grind (arith, less_none, set-get_or)
 
 pub drop_end : {A : Type 0} (sh : Shelf A) (p : Pid) (test : A → Bool) (first k l : Kernel) → IsDropping sh p test first k → None ≡ option_map sh.id (find test (sh.get (process_at k.state p))) → l ≡ changed k p (without sh test) → Acts (drop_all sh p test first.state) first l
-drop_end sh p test first k l h given there = grind (arith, found_none, doing_end, filter_none, still)
+drop_end sh p test first k l h given there = grind (arith, none_mapped, doing_end, filter_none, still)
 
 -- $CANEXH of one.
 
@@ -103,10 +103,10 @@ cancel_room p m tag k l id given there room = grind arith
 pub cancel_done : (p : Pid) (m : Mode) (tag : Entry) (k l n : Kernel) (id : Id) → IsTrue (handlers_have_own_ids (process_at k.state p).handlers) → Some id ≡ option_map (λ h. h.id) (find (is_handler_with m tag) (process_at k.state p).handlers) → l ≡ changed k p (without handlers (is_handler_with m tag)) → n ≡ told l (effect.Drop id ∷ []) → Does (cancel_found k.state p (find (is_handler_with m tag) (process_at k.state p).handlers)) Normal k n
 cancel_done p m tag k l n id own given there tells_it =
     let o = find (is_handler_with m tag) (process_at k.state p).handlers in
-    let found = found_id (λ (h : Handler). h.id) o id given in
-    let here = ap (λ ys. change k.state p (λ pr. handlers.put ys pr)) (less_own handlers.id (is_handler_with m tag) (process_at k.state p).handlers found.0 own found.1.0) in
-    let acts : n ≡ acted k (drop_handler p k.state found.0) = tells_it ∙ (ap (λ (y : Kernel). told y (effect.Drop id ∷ [])) there ∙ (ap (λ (i : Id). told (changed k p (without handlers (is_handler_with m tag))) (effect.Drop i ∷ [])) (sym found.1.1) ∙ ap (λ (s : State). told (with_state k s) (effect.Drop found.0.id ∷ [])) (sym here))) in
-    subst (λ (x : Option Handler). Does (cancel_found k.state p x) Normal k n) (sym found.1.0) (record { answers = refl; leaves = acts })
+    let found = some_mapped (λ (h : Handler). h.id) o id (sym given) in
+    let here = ap (λ ys. change k.state p (λ pr. handlers.put ys pr)) (less_own handlers.id (is_handler_with m tag) (process_at k.state p).handlers found.0 own found.1) in
+    let acts : n ≡ acted k (drop_handler p k.state found.0) = tells_it ∙ (ap (λ (y : Kernel). told y (effect.Drop id ∷ [])) there ∙ (ap (λ (i : Id). told (changed k p (without handlers (is_handler_with m tag))) (effect.Drop i ∷ [])) (sym found.2) ∙ ap (λ (s : State). told (with_state k s) (effect.Drop found.0.id ∷ [])) (sym here))) in
+    subst (λ (x : Option Handler). Does (cancel_found k.state p x) Normal k n) (sym found.1) (record { answers = refl; leaves = acts })
 
 pub cancel_none : (p : Pid) (m : Mode) (tag : Entry) (k l : Kernel) → None ≡ option_map (λ h. h.id) (find (is_handler_with m tag) (process_at k.state p).handlers) → l ≡ k → Does (cancel_found k.state p (find (is_handler_with m tag) (process_at k.state p).handlers)) NoHandler k l
-cancel_none p m tag k l given kept = grind (arith, found_none, told_none)
+cancel_none p m tag k l given kept = grind (arith, none_mapped, told_none)

@@ -7,13 +7,12 @@ use Rattle.vx_script.specs.Fields.{name_at, room_for}
 use Rattle.vx_script.specs.Declarations.{decl_place, unused_name, process_line}
 use Rattle.vx_script.specs.Keys.{no_keys, keys_from}
 use Rattle.vx_script.specs.declared.lines.DeclLine.{DeclLine}
-use Rattle.vx_script.proofs.Appended.{all_push, few_push, distinct_push}
+use Rattle.vx_script.proofs.Appended.{few_push, distinct_push}
 use Rattle.vx_script.proofs.Chains.{after, after_by}
 use Rattle.vx_script.proofs.KeysInRange.{are_keys, AreKeys, all_in_range, none_taken, keys}
 use Rattle.vx_script.proofs.OpenImages.{IsFresh, is_fresh, has_room}
-use Rattle.vx_script.proofs.Places.{any_map}
 use Rattle.std.proofs.lemmas.List.{map_push}
-use Rattle.vx_base.proofs.Any.{no_position}
+use Rattle.vx_base.proofs.Any.{no_position, all_push, any_map}
 
 -- few process declarations, with different names, and their keys in range
 pub record AreDecls (decls : List DeclLine) : Type 0 where

@@ -5,9 +5,8 @@ use Rattle.vx_image.specs.WellFormed.{is_among, are_distinct}
 use Rattle.vx_script.specs.Places.{unit_place}
 use Rattle.vx_script.specs.Steps.{unit_names}
 use Rattle.vx_script.proofs.Appended.{distinct_push}
-use Rattle.vx_script.proofs.Places.{any_map}
 use Rattle.std.proofs.lemmas.List.{map_push}
-use Rattle.vx_base.proofs.Any.{no_position}
+use Rattle.vx_base.proofs.Any.{no_position, any_map}
 
 -- one unit more, of a new name
 pub one_more : (units : List UnitDecl) (u : UnitDecl) → are_distinct (unit_names units) ≡ true → unit_place u.name units ≡ None

@@ -2,6 +2,7 @@
 use Rattle.std.proofs.Common.{◌≡◌, ◌∙◌, ℕ, Bool, true, false, not, ◌&&◌, nat_lt, nat_le, List, [], ◌∷◌, ◌++◌, length, map, find, Option, Some, None, bytes_eq, refl, sym, ap}
 use Rattle.std.specs.List.{list_all}
 use Rattle.std.proofs.lemmas.Bool.{and_parts, and_from, not-true, not-false}
+use Rattle.vx_base.proofs.Any.{all_weaker, all_push, any_map}
 use Rattle.vx_base.specs.Services.{is_call, is_operand, args_list}
 use Rattle.vx_base.specs.declared.call.Arg.{Arg}
 use Rattle.vx_base.specs.declared.call.Arg.TheVariants as arg
@@ -20,11 +21,11 @@ use Rattle.vx_script.specs.declared.draft.Draft.TheVariants as draft
 use Rattle.vx_script.specs.declared.draft.DraftImage.{DraftImage}
 use Rattle.vx_script.specs.declared.draft.DraftLine.{DraftLine}
 use Rattle.vx_script.specs.declared.lines.Creation.{Creation}
-use Rattle.vx_script.proofs.Appended.{all_both, all_push, few_push, distinct_push, all_weaker, unfound, none_any, as_many}
+use Rattle.vx_script.proofs.Appended.{all_both, few_push, distinct_push, unfound, none_any}
 use Rattle.vx_script.proofs.InRange.{is_plain, is_draft}
 use Rattle.vx_script.proofs.OpenImages.{IsOpen}
-use Rattle.vx_script.proofs.Places.{any_map, has_place, placed}
-use Rattle.std.proofs.lemmas.List.{map_push}
+use Rattle.vx_script.proofs.Places.{has_place, placed}
+use Rattle.std.proofs.lemmas.List.{map_push, length-map}
 use Rattle.vx_base.proofs.Lists.{none_mapped}
 
 -- the process declaration that a statement names is one of these
@@ -113,7 +114,7 @@ image_is : (decls : List (List ℕ)) (images : List Image) (image : DraftImage) 
     → list_all (is_known decls) (creations_of image.lines) ≡ true → is_formed decls (image_of image) ≡ true
 image_is decls images image h labels known =
     let i : Image = image_of image in
-    let n : length i.stmts ≡ length image.lines = as_many (λ (d : DraftLine). settled image.labels d.draft) image.lines in
+    let n : length i.stmts ≡ length image.lines = length-map image.lines (λ (d : DraftLine). settled image.labels d.draft) in
     let there =
     unfound (names_no_label image.labels) image.lines
     (none_mapped (λ (d : DraftLine). d.line) (find (names_no_label image.labels) image.lines) labels) in

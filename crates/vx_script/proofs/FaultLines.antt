@@ -1,9 +1,10 @@
 -- The FAULT lines, and the numbers of one unit in order.
 use Rattle.std.proofs.Common.{◌≡◌, ◌∙◌, ℕ, Bool, true, false, cond, not, ◌&&◌, ◌||◌, ◌==◌, nat_lt, nat_le, List, [], ◌∷◌, ◌++◌, bytes_eq, refl, ap, arith, drop, IfOk, Result}
 use Rattle.std.specs.List.{list_all, list_any}
-use Rattle.std.proofs.lemmas.Bool.{and_parts, and_from, or_parts, or_from, not_from_false, ltb-false, lt-ltb, le-leb, leb-true, eq-eqb, not-true}
+use Rattle.std.proofs.lemmas.Bool.{and_parts, and_from, or_parts, or_from, not_from_false, ltb-false, lt-ltb, le-leb, leb-true, eq-eqb, not-true, both_ways}
 use Rattle.std.proofs.lemmas.List.Folds.{list_any-append}
 use Rattle.std.proofs.lemmas.Slice.Eq.{bytes_eq-Decides}
+use Rattle.vx_base.proofs.Any.{all_weaker, all_push}
 use Rattle.vx_image.specs.WellFormed.{rises_above}
 use Rattle.vx_text.specs.declared.token.Tok.{Tok}
 use Rattle.vx_script.specs.Declarations.{is_fault_of, fresh_fault, fault_line}
@@ -12,7 +13,7 @@ use Rattle.vx_script.specs.Resolving.{fault_if, numbers_of}
 use Rattle.vx_script.specs.Places.{in_place, rising}
 use Rattle.vx_script.specs.declared.fault.FaultKind.{FaultKind}
 use Rattle.vx_script.specs.declared.lines.FaultLine.{FaultLine}
-use Rattle.vx_script.proofs.Appended.{all_flat, all_push, all_weaker, same_back, equal_back}
+use Rattle.vx_script.proofs.Appended.{all_flat, same_back, equal_back}
 use Rattle.vx_script.proofs.Chains.{after, after_by}
 use Rattle.vx_script.proofs.InRange.{IsBetween, number}
 use Rattle.vx_base.proofs.Bools.{either_by}
@@ -121,11 +122,7 @@ above : (n m : ℕ) → nat_lt n m ≡ false → not (n == m) ≡ true → nat_l
 above n m h k = lt-ltb m n (omega (arith, ltb-false n m h, unequal))
   where
     unequal : n ≡ m → ⊥
-    unequal e = clash (n == m) (eq-eqb n m e) k
-      where
-        clash : (t : Bool) → t ≡ true → not t ≡ true → ⊥
-        clash true a b = absurd (cc b)
-        clash false a b = absurd (cc a)
+    unequal e = both_ways (n == m) (not-true (n == m) k) (eq-eqb n m e)
 
 rises_in_place : (k n : ℕ) (ms : List ℕ) → rises_above k ms ≡ true → nat_lt k n ≡ true → list_all (λ m. not (n == m)) ms ≡ true
     → rises_above k (in_place n ms) ≡ true

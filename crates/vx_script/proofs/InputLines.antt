@@ -3,6 +3,7 @@ use Rattle.std.proofs.Common.{◌≡◌, ◌∙◌, ℕ, Bool, true, false, not,
 use Rattle.std.specs.List.{list_all, list_any}
 use Rattle.std.proofs.lemmas.Bool.{and_parts, and_from, or_parts, or_from, or_right, and_left, not-true, not-false}
 use Rattle.std.proofs.lemmas.Slice.Eq.{bytes_eq-Decides}
+use Rattle.vx_base.proofs.Any.{all_weaker, all_push, any_map}
 use Rattle.vx_image.specs.declared.unit.UnitDecl.{UnitDecl}
 use Rattle.vx_image.specs.WellFormed.{is_among, are_distinct}
 use Rattle.vx_text.specs.declared.token.Tok.{Tok}
@@ -11,10 +12,9 @@ use Rattle.vx_script.specs.Fields.{end_at, name_at, text_at}
 use Rattle.vx_script.specs.Resolving.{names_no_line_unit, input_if, inputs_of}
 use Rattle.vx_script.specs.Places.{is_line_unit}
 use Rattle.vx_script.specs.declared.lines.InputLine.{InputLine}
-use Rattle.vx_script.proofs.Appended.{all_weaker, all_flat, all_pairs, all_push, none_any, same_back}
+use Rattle.vx_script.proofs.Appended.{all_flat, all_pairs, none_any, same_back}
 use Rattle.vx_script.proofs.Chains.{after, after_by}
 use Rattle.vx_script.proofs.InRange.{IsText, text}
-use Rattle.vx_script.proofs.Places.{any_map}
 use Rattle.vx_base.proofs.Bools.{either_by}
 
 -- texts of at most 2,048 bytes

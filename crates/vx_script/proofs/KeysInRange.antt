@@ -1,12 +1,12 @@
 -- The keys of a PROCESS line are in range.
-use Rattle.std.proofs.Common.{◌≡◌, ℕ, zero, suc, Bool, true, ◌&&◌, nat_le, List, [], ◌∷◌, drop, IfOk, refl}
+use Rattle.std.proofs.Common.{◌≡◌, ℕ, zero, suc, Bool, true, ◌&&◌, nat_le, List, [], ◌∷◌, drop, IfOk, refl, unwrap_or}
 use Rattle.std.proofs.lemmas.Bool.{and_from, le-leb}
 use Rattle.std.proofs.lemmas.Result.{IfOk-weaker}
 use Rattle.vx_image.specs.WellFormed.{are_limits}
 use Rattle.vx_text.specs.declared.token.Tok.{Tok}
 use Rattle.vx_script.specs.Results.{given}
 use Rattle.vx_script.specs.Fields.{sign_at, number_at}
-use Rattle.vx_script.specs.Keys.{uic_at, mode_at, limit_at, privs_at, start_at, key_in, no_keys, once, limit_in, with_limit_in, with_uic, with_mode, with_limit, with_privs, with_start, with_key, taken_key, keys_from, or, first_uic, limits_of}
+use Rattle.vx_script.specs.Keys.{uic_at, mode_at, limit_at, privs_at, start_at, key_in, no_keys, once, limit_in, with_limit_in, with_uic, with_mode, with_limit, with_privs, with_start, with_key, taken_key, keys_from, first_uic, limits_of}
 use Rattle.vx_script.specs.declared.fault.FaultKind.TheVariants as kind
 use Rattle.vx_script.specs.declared.keys.Key.{Key}
 use Rattle.vx_script.specs.declared.keys.Key.TheVariants as key
@@ -21,8 +21,8 @@ use Rattle.vx_script.proofs.InRange.{IsBetween, number}
 -- what a process declaration with these keys has in range
 abbrev pub are_keys : Keys → Bool
 are_keys k =
-    nat_le 1 (or first_uic k.uic).group &&
-    (nat_le (or first_uic k.uic).group 16382 && (nat_le (or first_uic k.uic).member 65534 && are_limits (limits_of k)))
+    nat_le 1 (unwrap_or k.uic first_uic).group &&
+    (nat_le (unwrap_or k.uic first_uic).group 16382 && (nat_le (unwrap_or k.uic first_uic).member 65534 && are_limits (limits_of k)))
 
 abbrev IsLimit : ℕ → Type 0
 IsLimit n = nat_le n 1000000 ≡ true
@@ -34,19 +34,19 @@ pub record IsUic (u : Uic) : Type 0 where
 
 -- the same, number by number
 pub record AreKeys (k : Keys) : Type 0 where
-  pub uic : IsUic (or first_uic k.uic)
-  pub ast : IsLimit (or 24 k.ast)
-  pub bio : IsLimit (or 18 k.bio)
-  pub dio : IsLimit (or 18 k.dio)
-  pub byt : IsLimit (or 8192 k.byt)
-  pub tqe : IsLimit (or 10 k.tqe)
+  pub uic : IsUic (unwrap_or k.uic first_uic)
+  pub ast : IsLimit (unwrap_or k.ast 24)
+  pub bio : IsLimit (unwrap_or k.bio 18)
+  pub dio : IsLimit (unwrap_or k.dio 18)
+  pub byt : IsLimit (unwrap_or k.byt 8192)
+  pub tqe : IsLimit (unwrap_or k.tqe 10)
 
 pub all_in_range : (k : Keys) → AreKeys k → are_keys k ≡ true
 all_in_range k h =
     let l = limits_of k in
-    and_from (nat_le 1 (or first_uic k.uic).group) _ h.uic.first (
-    and_from (nat_le (or first_uic k.uic).group 16382) _ h.uic.group (
-    and_from (nat_le (or first_uic k.uic).member 65534) _ h.uic.member (
+    and_from (nat_le 1 (unwrap_or k.uic first_uic).group) _ h.uic.first (
+    and_from (nat_le (unwrap_or k.uic first_uic).group 16382) _ h.uic.group (
+    and_from (nat_le (unwrap_or k.uic first_uic).member 65534) _ h.uic.member (
     and_from (nat_le l.ast 1000000) _ h.ast (
     and_from (nat_le l.bio 1000000) _ h.bio (
     and_from (nat_le l.dio 1000000) _ h.dio (

@@ -4,6 +4,7 @@ use Rattle.std.specs.List.{position_or_len}
 use Rattle.std.proofs.lemmas.Bool.{and_parts, or_parts, not-true}
 use Rattle.std.proofs.lemmas.List.{append-nil, flat_map_more}
 use Rattle.std.proofs.lemmas.Slice.Eq.{bytes_eq-Decides}
+use Rattle.vx_base.proofs.First.{place_map}
 use Rattle.vx_image.specs.declared.unit.UnitDecl.{UnitDecl}
 use Rattle.vx_image.specs.WellFormed.{is_among, are_distinct}
 use Rattle.vx_script.specs.Places.{unit_place}
@@ -12,8 +13,8 @@ use Rattle.vx_script.specs.Steps.{unit_names, with_inputs, with_line_if}
 use Rattle.vx_script.specs.declared.lines.InputLine.{InputLine}
 use Rattle.vx_script.specs.declared.parts.Parts.{Parts}
 use Rattle.vx_script.proofs.Appended.{same_back}
-use Rattle.vx_script.proofs.Places.{any_map, first_placed, place_map}
-use Rattle.vx_base.proofs.Any.{no_position}
+use Rattle.vx_script.proofs.Places.{first_placed}
+use Rattle.vx_base.proofs.Any.{no_position, any_map}
 
 -- their names stay
 pub same_names : (parts : Parts) (units : List UnitDecl) → unit_names (map (unit_of parts) units) ≡ unit_names units

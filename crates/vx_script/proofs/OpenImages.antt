@@ -14,12 +14,11 @@ use Rattle.vx_script.specs.Reading.{with_stmt, with_label, labelled}
 use Rattle.vx_script.specs.declared.draft.DraftImage.{DraftImage}
 use Rattle.vx_script.specs.declared.draft.DraftLine.{DraftLine}
 use Rattle.vx_script.specs.declared.fault.FaultKind.TheVariants as kind
-use Rattle.vx_script.proofs.Appended.{all_push, all_weaker, few_push, distinct_push, falls_push}
+use Rattle.vx_script.proofs.Appended.{few_push, distinct_push, falls_push}
 use Rattle.vx_script.proofs.Chains.{after, after_by}
 use Rattle.vx_script.proofs.InRange.{is_draft, IsDraft, statement}
-use Rattle.vx_script.proofs.Places.{any_map}
 use Rattle.std.proofs.lemmas.List.{map_push}
-use Rattle.vx_base.proofs.Any.{no_position}
+use Rattle.vx_base.proofs.Any.{no_position, all_weaker, all_push, any_map}
 
 -- the image is new among those that have ended, and its lines are in range
 pub record IsOpen (images : List Image) (image : DraftImage) : Type 0 where

@@ -1,5 +1,5 @@
 -- Where a name stands in a list.
-use Rattle.std.proofs.Common.{◌≡◌, ℕ, suc, ◌+◌, ◌<◌, Bool, true, false, cond, not, ◌||◌, nat_lt, List, [], ◌∷◌, length, map, Option, Some, None, is_some, position, refl, ap, ◌∙◌}
+use Rattle.std.proofs.Common.{◌≡◌, ℕ, ◌+◌, ◌<◌, Bool, true, false, cond, ◌||◌, nat_lt, List, [], ◌∷◌, length, Option, Some, None, is_some, position, refl, ap, ◌∙◌}
 use Rattle.std.specs.List.{list_any, position_from, position_or_len}
 use Rattle.std.proofs.lemmas.Bool.{ltb-true}
 use Rattle.std.proofs.lemmas.Iterator.Adapters.{position_from-zero}
@@ -13,10 +13,6 @@ some_from p i (x ∷ xs) = by (p x) (some_from p (i + 1) xs)
     by : (t : Bool) → is_some (position_from p (i + 1) xs) ≡ list_any p xs → is_some (cond t (Some i) (position_from p (i + 1) xs)) ≡ t || list_any p xs
     by true h = refl
     by false h = h
-
-pub any_map : {A B : Type 0} (p : B → Bool) (f : A → B) (xs : List A) → list_any p (map f xs) ≡ list_any (λ x. p (f x)) xs
-any_map p f [] = refl
-any_map p f (x ∷ xs) = ap (λ t. p (f x) || t) (any_map p f xs)
 
 -- there is a place where one passes
 pub has_place : {A : Type 0} (p : A → Bool) (xs : List A) → is_some (position p xs) ≡ list_any p xs
@@ -33,17 +29,3 @@ pub first_placed : {A : Type 0} (p : A → Bool) (xs : List A) (k : ℕ) → pos
 first_placed p xs k =
     either_by (λ (o : Option ℕ). o ≡ Some k → (position_or_len p xs ≡ k) × (position_or_len p xs < length xs)) (nat_lt (position_or_len p xs) (length xs))
     (Some (position_or_len p xs)) None (λ e h. (cc, ltb-true (position_or_len p xs) (length xs) e)) (λ e h. cc)
-
--- a place is read off what is made of each
-
-first_map : {A B : Type 0} (p : B → Bool) (f : A → B) (xs : List A) → position_or_len (λ x. p (f x)) xs ≡ position_or_len p (map f xs)
-first_map p f [] = refl
-first_map p f (x ∷ xs) = ap (λ n. cond (not (p (f x))) (1 + n) 0) (first_map p f xs)
-
-as_long : {A B : Type 0} (f : A → B) (xs : List A) → length xs ≡ length (map f xs)
-as_long f [] = refl
-as_long f (x ∷ xs) = ap (λ n. suc n) (as_long f xs)
-
-pub place_map : {A B : Type 0} (p : B → Bool) (f : A → B) (xs : List A) → position (λ x. p (f x)) xs ≡ position p (map f xs)
-place_map p f xs = ap (λ n. cond (nat_lt n (length xs)) (Some n) None) (first_map p f xs)
-    ∙ ap (λ n. cond (nat_lt (position_or_len p (map f xs)) n) (Some (position_or_len p (map f xs))) None) (as_long f xs)

@@ -1,7 +1,10 @@
 -- The system of parts that name nothing unknown is well formed.
+use mathlib.Core.List.{map-map}
 use Rattle.std.proofs.Common.{◌≡◌, ◌∙◌, ℕ, Bool, true, not, ◌||◌, ◌==◌, nat_lt, nat_le, List, [], ◌∷◌, length, map, find, Option, Some, None, is_some, is_none, bytes_eq, refl, sym, ap}
 use Rattle.std.specs.List.{list_all}
 use Rattle.std.proofs.lemmas.Bool.{and_parts, and_from}
+use Rattle.std.proofs.lemmas.List.{length-map}
+use Rattle.vx_base.proofs.Any.{all_weaker, any_map}
 use Rattle.vx_image.specs.declared.decl.ProcDecl.{ProcDecl}
 use Rattle.vx_image.specs.declared.image.Image.{Image}
 use Rattle.vx_image.specs.declared.unit.UnitDecl.{UnitDecl}
@@ -14,22 +17,18 @@ use Rattle.vx_script.specs.declared.lines.Creation.{Creation}
 use Rattle.vx_script.specs.declared.lines.DeclLine.{DeclLine}
 use Rattle.vx_script.specs.declared.lines.InputLine.{InputLine}
 use Rattle.vx_script.specs.declared.parts.Parts.{Parts}
-use Rattle.vx_script.proofs.Appended.{all_weaker, unfound, as_many}
+use Rattle.vx_script.proofs.Appended.{unfound}
 use Rattle.vx_script.proofs.EndedImages.{is_formed, is_known, neither}
 use Rattle.vx_script.proofs.FaultLines.{faults_rise, faults_within}
 use Rattle.vx_script.proofs.InputLines.{no_block_lines, lines_are}
 use Rattle.vx_script.proofs.KeptParts.{AreParts}
 use Rattle.vx_script.proofs.KeysInRange.{are_keys}
-use Rattle.vx_script.proofs.Places.{any_map, has_place, placed}
+use Rattle.vx_script.proofs.Places.{has_place, placed}
 use Rattle.vx_base.proofs.Lists.{none_mapped}
 
 there : (o : Option ℕ) → not (is_none o) ≡ true → is_some o ≡ true
 there None h = cc
 there (Some k) h = refl
-
-pub map_twice : {A B C : Type 0} (f : A → B) (g : B → C) (xs : List A) → map g (map f xs) ≡ map (λ x. g (f x)) xs
-map_twice f g [] = refl
-map_twice f g (x ∷ xs) = ap (λ ys. g (f x) ∷ ys) (map_twice f g xs)
 
 -- Process declarations.
 
@@ -96,7 +95,7 @@ well_formed p h e =
     let made = neither (unknown_creation p) (least_line (unknown_image p) (least_line (unknown_input p) (unknown_fault p))) labels.1 in
     let run = neither (unknown_image p) (least_line (unknown_input p) (unknown_fault p)) made.1 in
     let fed = neither (unknown_input p) (unknown_fault p) run.1 in
-    let names : decl_names (system_of p) ≡ map (λ (d : DeclLine). d.name) p.decls = map_twice (decl_of p.images) (λ (d : ProcDecl). d.name) p.decls in
+    let names : decl_names (system_of p) ≡ map (λ (d : DeclLine). d.name) p.decls = map-map (λ (d : ProcDecl). d.name) (decl_of p.images) p.decls in
     let creations = unfound (names_no_decl p.decls) p.creations (none_mapped (λ (c : Creation). c.line) (find (names_no_decl p.decls) p.creations) made.0) in
     let images = unfound (names_no_image p.images) p.decls (none_mapped (λ (d : DeclLine). d.line) (find (names_no_image p.images) p.decls) run.0) in
     let inputs = unfound (names_no_line_unit p.units) p.inputs (none_mapped (λ (i : InputLine). i.line) (find (names_no_line_unit p.units) p.inputs) fed.0) in
@@ -104,10 +103,10 @@ well_formed p h e =
     all_weaker (λ c. not (names_no_decl p.decls c)) (is_known (map (λ (d : DeclLine). d.name) p.decls)) (creation_known p.decls) p.creations
     creations in
     record {
-      few_units = ap (λ n. nat_le n 32) (as_many (unit_of p) p.units) ∙ h.units.few;
+      few_units = ap (λ n. nat_le n 32) (length-map p.units (unit_of p)) ∙ h.units.few;
       few_images = h.images.few;
-      few_decls = ap (λ n. nat_le n 1000) (as_many (decl_of p.images) p.decls) ∙ h.decls.few;
-      unit_names = ap are_distinct (map_twice (unit_of p) (λ (u : UnitDecl). u.name) p.units) ∙ h.units.names;
+      few_decls = ap (λ n. nat_le n 1000) (length-map p.decls (decl_of p.images)) ∙ h.decls.few;
+      unit_names = ap are_distinct (map-map (λ (u : UnitDecl). u.name) (unit_of p) p.units) ∙ h.units.names;
       image_names = h.images.names;
       process_names = ap are_distinct names ∙ h.decls.names;
       units = units_are p p.units h h.units.blocks (no_block_lines p.units p.inputs h.units.names inputs);

@@ -2,6 +2,7 @@
 use Rattle.std.proofs.Common.{◌≡◌, ℕ, true, nat_le, nat_lt, List, [], ◌∷◌, ◌++◌, length, map, drop, None, IfOk, refl}
 use Rattle.std.specs.List.{list_all}
 use Rattle.std.proofs.lemmas.Bool.{le-leb}
+use Rattle.vx_base.proofs.Any.{all_push}
 use Rattle.vx_image.specs.declared.unit.UnitDecl.{UnitDecl}
 use Rattle.vx_image.specs.WellFormed.{are_distinct}
 use Rattle.vx_text.specs.declared.token.Tok.{Tok}
@@ -10,7 +11,7 @@ use Rattle.vx_script.specs.Declarations.{unused_name, unit_line}
 use Rattle.vx_script.specs.Places.{unit_place}
 use Rattle.vx_script.specs.declared.declaration.Device.{Device}
 use Rattle.vx_script.specs.declared.declaration.Device.TheVariants as device
-use Rattle.vx_script.proofs.Appended.{all_push, few_push}
+use Rattle.vx_script.proofs.Appended.{few_push}
 use Rattle.vx_script.proofs.Chains.{after, after_by}
 use Rattle.vx_script.proofs.DistinctUnits.{one_more}
 use Rattle.vx_script.proofs.InRange.{IsBetween, number}

@@ -1,5 +1,5 @@
 -- The keys of a PROCESS line.
-use Rattle.std.specs.Prelude.{ℕ, zero, suc, ◌+◌, ◌==◌, Bool, true, false, List, [], ◌∷◌, drop, codes, Option, Some, None, Result, Ok, Err, bytes_eq, if◌then◌else◌}
+use Rattle.std.specs.Prelude.{ℕ, zero, suc, ◌+◌, ◌==◌, Bool, true, false, List, [], ◌∷◌, drop, codes, Option, Some, None, Result, Ok, Err, bytes_eq, if◌then◌else◌, unwrap_or}
 use Rattle.std.specs.List.{find}
 use Rattle.vx_base.specs.declared.mode.Mode.{Mode}
 use Rattle.vx_base.specs.declared.quota.Need.{Need}
@@ -198,12 +198,8 @@ keys_from zero keys (t ∷ tokens) = taken_key keys t tokens >>= λ taken. keys_
 
 -- The settings that keys give, each with its default.
 
-abbrev pub or : {A : Type 0} → A → Option A → A
-or x None = x
-or x (Some y) = y
-
 abbrev pub first_uic : Uic
 first_uic = record { group = 1; member = 1 }
 
 abbrev pub limits_of : Keys → Need
-limits_of keys = record { ast = or 24 keys.ast; bio = or 18 keys.bio; dio = or 18 keys.dio; byt = or 8192 keys.byt; tqe = or 10 keys.tqe }
+limits_of keys = record { ast = unwrap_or keys.ast 24; bio = unwrap_or keys.bio 18; dio = unwrap_or keys.dio 18; byt = unwrap_or keys.byt 8192; tqe = unwrap_or keys.tqe 10 }

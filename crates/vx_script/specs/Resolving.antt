@@ -1,5 +1,5 @@
 -- The second pass: what the lines name is looked up, and the system is put together.
-use Rattle.std.specs.Prelude.{ℕ, not, Bool, true, false, nat_le, List, [], ◌∷◌, ◌++◌, map, flat_map, Option, Some, None, is_some, is_none, option_map, Result, Ok, Err, bytes_eq, if◌then◌else◌}
+use Rattle.std.specs.Prelude.{ℕ, not, Bool, true, false, nat_le, List, [], ◌∷◌, ◌++◌, map, flat_map, Option, Some, None, is_some, is_none, option_map, Result, Ok, Err, bytes_eq, if◌then◌else◌, unwrap_or}
 use Rattle.std.specs.List.{find, list_any}
 use Rattle.vx_base.specs.Services.{args_list}
 use Rattle.vx_base.specs.declared.call.Arg.{Arg}
@@ -17,7 +17,7 @@ use Rattle.vx_image.specs.declared.system.System.{System}
 use Rattle.vx_image.specs.declared.unit.UnitDecl.{UnitDecl}
 use Rattle.vx_script.specs.Declarations.{decl_place}
 use Rattle.vx_script.specs.Places.{unit_place, image_place, label_place, is_line_unit, rising}
-use Rattle.vx_script.specs.Keys.{or, first_uic, limits_of, no_privs}
+use Rattle.vx_script.specs.Keys.{first_uic, limits_of, no_privs}
 use Rattle.vx_script.specs.declared.draft.Draft.{Draft}
 use Rattle.vx_script.specs.declared.draft.Draft.TheVariants as draft
 use Rattle.vx_script.specs.declared.draft.DraftImage.{DraftImage}
@@ -157,12 +157,12 @@ abbrev pub decl_of : List Image → DeclLine → ProcDecl
 decl_of images d = record {
   name = d.name;
   image = place_or_zero (image_place d.image images);
-  group = (or first_uic d.keys.uic).group;
-  member = (or first_uic d.keys.uic).member;
-  mode = or User d.keys.mode;
+  group = (unwrap_or d.keys.uic first_uic).group;
+  member = (unwrap_or d.keys.uic first_uic).member;
+  mode = unwrap_or d.keys.mode User;
   limits = limits_of d.keys;
-  privs = or no_privs d.keys.privs;
-  start = or true d.keys.start;
+  privs = unwrap_or d.keys.privs no_privs;
+  start = unwrap_or d.keys.start true;
 }
 
 abbrev pub system_of : Parts → System

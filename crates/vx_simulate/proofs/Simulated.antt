@@ -4,6 +4,7 @@ use Rattle.std.proofs.KnownBytes.{Appends-nil, Appends-trans}
 use Rattle.std.proofs.Math.Seq.{take-append_seam}
 use Rattle.std.proofs.lemmas.Grind.{flat_map-append}
 use Rattle.std.specs.Io.KnownBytes.{Appends}
+use Rattle.vx_journal.proofs.RecordsSpelled.{records_more}
 use Rattle.vx_base.specs.declared.record.End.{End}
 use Rattle.vx_base.specs.declared.record.Event.{Event}
 use Rattle.vx_base.specs.declared.record.Rec.{Rec}
@@ -14,7 +15,6 @@ use Rattle.vx_exec.specs.View.{Executive, Plan, after_step, plan}
 use Rattle.vx_host.specs.Causes.{Rose}
 use Rattle.vx_host.specs.Streams.{AppendsFront}
 use Rattle.vx_image.specs.declared.system.System.{System}
-use Rattle.vx_image.specs.declared.unit.UnitDecl.{UnitDecl}
 use Rattle.vx_journal.specs.Transcript.{trailer_lines, transcript}
 use Rattle.vx_lines.specs.Records.{record_lines, records_lines}
 use Rattle.vx_record.specs.Events.{enabled}
@@ -43,14 +43,6 @@ front_behind a b c xs ys zs text is before now =
     record { n = length front; grown = subst (λ (l : List ℕ). Appends a c l) (sym same) (Appends-trans a b c xs (take now.n ys) before now.grown) }
 
 -- The lines of a transcript.
-
-records_more : (units : List UnitDecl) (n : ℕ) (rs ss : List Rec) → records_lines units n (rs ++ ss) ≡ records_lines units n rs ++ records_lines units (n + length rs) ss
-records_more units n [] ss = ap (λ (k : ℕ). records_lines units k ss) (omega arith)
-records_more units n (r ∷ rs) ss =
-    let behind = records_more units (n + 1) rs ss in
-    let number : (n + 1) + length rs ≡ n + length (r ∷ rs) = omega arith in
-    ap (λ ls. record_lines units n r ++ ls) (behind ∙ ap (λ (k : ℕ). records_lines units (n + 1) rs ++ records_lines units k ss) number)
-    ∙ sym (append_assoc (record_lines units n r) (records_lines units (n + 1) rs) (records_lines units (n + length (r ∷ rs)) ss))
 
 joined : (xs rs ss : List (List ℕ)) (line : List ℕ) → ended_lines (xs ++ line ∷ rs) ++ ended_lines ss ≡ ended_lines xs ++ ended_lines (line ∷ (rs ++ ss))
 joined xs rs ss line = simp (flat_map-append, append_assoc)

@@ -1,10 +1,10 @@
 -- Tokens that are cut at the commas, piece by piece.
-use Rattle.std.proofs.Common.{◌≡◌, ℕ, suc, ◌+◌, ◌-◌, ◌<◌, ◌≤◌, ◌⊎◌, Bool, true, false, List, [], ◌∷◌, length, take, drop, nat_lt, refl, sym, ap, ◌∙◌, arith, rules, inl, inr}
-use borrow.Author.Tests.{ltb-true, ltb-false}
+use Rattle.std.proofs.Common.{◌≡◌, ℕ, suc, ◌+◌, ◌-◌, ◌<◌, ◌≤◌, Bool, true, false, List, [], ◌∷◌, length, take, drop, nat_lt, refl, sym, ap, ◌∙◌, arith, rules, inl, inr}
 use Rattle.std.specs.List.{prefix_len}
 use Rattle.std.proofs.Math.Seq.{drop-cons}
-use Rattle.std.proofs.lemmas.List.{drop-drop, drop_all, length-drop, take_all}
+use Rattle.std.proofs.lemmas.List.{drop-drop, drop_all, length-drop, take_rest}
 use Rattle.std.proofs.lemmas.List.Sums.{prefix_len-le-length}
+use Rattle.std.proofs.lemmas.Bool.{cases_lt}
 use Rattle.vx_text.specs.declared.token.Tok.{Tok}
 use Rattle.vx_text.specs.declared.token.Token.{Token}
 use Rattle.vx_table.specs.Spelling.{comma}
@@ -51,29 +51,22 @@ behind_within m tokens h =
 behind_past : (m : ℕ) (tokens : List Token) → length tokens ≤ m → behind_comma (drop m tokens) ≡ left (m + 1) tokens
 behind_past m tokens h = rw (drop_all m tokens h) (sym (left_none (m + 1) tokens (omega arith)))
 
-lt_by : (m n : ℕ) (t : Bool) → nat_lt m n ≡ t → (m < n) ⊎ (n ≤ m)
-lt_by m n true h = inl (ltb-true m n h)
-lt_by m n false h = inr (ltb-false m n h)
-
 -- what is left behind the comma at a place
 pub behind_left : (m : ℕ) (tokens : List Token) → behind_comma (drop m tokens) ≡ left (m + 1) tokens
-behind_left m tokens = elim (lt_by m (length tokens) (nat_lt m (length tokens)) refl) [ inl h ↦ behind_within m tokens h | inr h ↦ behind_past m tokens h ]
-
-rest_of : (at : ℕ) (tokens : List Token) → take (length tokens - at) (drop at tokens) ≡ drop at tokens
-rest_of at tokens = take_all (length tokens - at) (drop at tokens) (omega (arith, length-drop at tokens))
+behind_left m tokens = elim (cases_lt m (length tokens)) [ inl h ↦ behind_within m tokens h | inr h ↦ behind_past m tokens h ]
 
 -- the first piece that is left at a place, and what is left behind it
 pub left_first : (at n : ℕ) (tokens : List Token) → at ≤ length tokens → n ≡ lead (take (length tokens - at) (drop at tokens)) → toks (take n (take (length tokens - at) (drop at tokens))) ≡ first_piece (left at tokens)
-left_first at n tokens h e = rw (e, rest_of at tokens, left_at at tokens h, cut_first (drop at tokens)) refl
+left_first at n tokens h e = rw (e, take_rest tokens at, left_at at tokens h, cut_first (drop at tokens)) refl
 
 pub left_more : (at n : ℕ) (tokens : List Token) → at ≤ length tokens → n ≡ lead (take (length tokens - at) (drop at tokens)) → left (at + n + 1) tokens ≡ more_pieces (left at tokens)
 left_more at n tokens h e =
-    let is : n ≡ lead (drop at tokens) = e ∙ ap lead (rest_of at tokens) in
+    let is : n ≡ lead (drop at tokens) = e ∙ ap lead (take_rest tokens at) in
     let place : drop n (drop at tokens) ≡ drop (at + n) tokens = drop-drop n at tokens in
     sym (behind_left (at + n) tokens) ∙ ap behind_comma (sym place) ∙ ap (λ (k : ℕ). behind_comma (drop k (drop at tokens))) is ∙ ap more_pieces (sym (left_at at tokens h ∙ cut_first (drop at tokens)))
 
 -- a piece ends within the tokens
 pub lead_within : (at n : ℕ) (tokens : List Token) → n ≡ lead (take (length tokens - at) (drop at tokens)) → at ≤ length tokens → at + n ≤ length tokens
 lead_within at n tokens e h =
-    let is : n ≡ lead (drop at tokens) = e ∙ ap lead (rest_of at tokens) in
+    let is : n ≡ lead (drop at tokens) = e ∙ ap lead (take_rest tokens at) in
     omega (arith, prefix_len-le-length stays (drop at tokens), length-drop at tokens)

@@ -1,6 +1,6 @@
 -- The arguments one by one, as the reader goes over them.
 use Rattle.std.proofs.Common.{◌≡◌, ℕ, zero, suc, ◌+◌, ◌-◌, ◌<◌, ◌≤◌, List, [], ◌∷◌, ◌++◌, length, take, drop, get_or, replicate, Option, None, Some, Result, Ok, Err, refl, sym, ap, ◌∙◌, arith, append-nil, append_assoc, add-one}
-use Rattle.std.proofs.Math.Seq.{drop-cons, take-suc-set}
+use Rattle.std.proofs.Math.Seq.{drop-cons}
 use Rattle.std.proofs.Math.ListN.{set}
 use Rattle.std.proofs.lemmas.List.{drop-drop, drop_all, drop-replicate, drop-set-lt, take-append-drop}
 use Rattle.vx_base.specs.declared.call.Arg.{Arg}
@@ -51,9 +51,6 @@ stepped front a k p params all here next piece whole read is more params_are e =
     let rest = read_args (k + 1 + 1) params (more_pieces here) in
     let first : and_args (read_arg (k + 1) p (first_piece here)) rest ≡ behind_args (a ∷ []) rest = ap (λ (r : Result Arg CallFail). and_args r rest) (ap (read_arg (k + 1) p) (sym is) ∙ sym read) in
     ap (λ (n : List (List Tok)). behind_args (front ++ a ∷ []) (read_args (k + 1 + 1) params n)) more ∙ behind_behind front a rest ∙ ap (behind_args front) (sym first) ∙ ap (λ (ps : List Param). behind_args front (read_args (k + 1) ps here)) (sym params_are) ∙ e
-
-pub taken : (args : List Arg) (k : ℕ) (a : Arg) → k < length args → take (k + 1) (set args k a) ≡ take k args ++ a ∷ []
-taken args k a h = rw add-one (take-suc-set args k a h)
 
 pub still_unused : (args : List Arg) (k : ℕ) (a : Arg) → drop k args ≡ replicate (9 - k) arg.Unused → drop (k + 1) (set args k a) ≡ replicate (9 - (k + 1)) arg.Unused
 still_unused args k a e =

@@ -4,8 +4,8 @@ use Rattle.std.specs.Cmp.Lexicographic.{pointwise}
 use Rattle.std.proofs.lemmas.Bool.Decides.{Decides-eqb, not_from_Decides}
 use Rattle.std.proofs.lemmas.Slice.Eq.{slice_eq-Decides}
 use borrow.Author.Tests.{ltb-true, ltb-false}
-use Rattle.vx_text.proofs.Turns.{rest_of}
 use Rattle.std.proofs.lemmas.Bool.Decides.{nat_tests}
+use Rattle.std.proofs.lemmas.List.{take_rest}
 use Rattle.vx_text.specs.declared.quoted.Place.TheVariants.{Plain}
 use Rattle.vx_text.specs.declared.quoted.Step.TheVariants.{Byte}
 use Rattle.vx_text.specs.declared.quoted.Text.{Text}
@@ -85,7 +85,7 @@ first-quote bytes rest h =
 pub spelled_read : (text bytes : List ℕ) (read : Option Text) → AreBytes bytes → text ≡ quote_text bytes → read ≡ quoted_text (take (length text - 1) (drop 1 text)) → read ≡ Some (record { bytes = bytes; len = length (inside_text bytes) + 1 })
 spelled_read text bytes read h e is =
     let inside = inside_text bytes in
-    let cut : take (length text - 1) (drop 1 text) ≡ inside ++ 34 ∷ [] = rest_of 1 text ∙ ap (drop 1) e in
+    let cut : take (length text - 1) (drop 1 text) ≡ inside ++ 34 ∷ [] = take_rest text 1 ∙ ap (drop 1) e in
     is ∙ ap quoted_text cut ∙ text_read bytes h
 
 -- texts that `==` tells apart are two

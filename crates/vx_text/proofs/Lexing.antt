@@ -1,10 +1,12 @@
 -- The tokens of canonical pieces.
+use mathlib.Core.Bool.{and-false}
 use Rattle.std.proofs.Common.{◌≡◌, ℕ, ◌+◌, ◌-◌, ◌<◌, ◌≤◌, true, false, List, [], ◌∷◌, ◌++◌, length, map, slice_index, nat_lt, nat_le, nat_eq, codes, refl, sym, ap, ◌∙◌, arith, Some, Ok, append-nil}
 use Rattle.std.specs.List.{list_all, take_while, starts_with}
 use Rattle.std.proofs.Math.Seq.{drop-append_seam}
 use Rattle.std.proofs.lemmas.Bool.Decides.{nat_tests}
 use Rattle.std.proofs.lemmas.Bool.{le-ltb, and_parts}
 use borrow.Author.Tests.{ltb-true, leb-true}
+use Rattle.vx_base.proofs.Any.{all_weaker}
 use Rattle.vx_text.proofs.Turns.{lex_from-skip, lex_nothing}
 use Rattle.vx_base.specs.declared.cond.Cond.{Cond}
 use Rattle.vx_base.specs.declared.cond.Cond.TheVariants.{Normal}
@@ -18,7 +20,6 @@ use Rattle.vx_text.specs.First.{first, word, word_of, service}
 use Rattle.vx_text.specs.Lex.{lex_from, with_front, token_at}
 use Rattle.vx_text.proofs.Runs.{stops, run_of}
 use Rattle.vx_text.proofs.Leading.{first-cons, letter_leads}
-use Rattle.vx_base.proofs.Bools.{and_false}
 
 capital_letter : (b : ℕ) → is_capital b ≡ true → is_letter b ≡ true
 capital_letter b h = rw h refl
@@ -34,12 +35,6 @@ names_upper [] h = refl
 names_upper (b ∷ bs) h =
     let parts = and_parts (is_name_byte b) (list_all is_name_byte bs) h in
     rw (name_byte_upper b parts.0, names_upper bs parts.1) refl
-
-all_word : (bs : List ℕ) → list_all is_name_byte bs ≡ true → list_all is_word_byte bs ≡ true
-all_word [] h = refl
-all_word (b ∷ bs) h =
-    let parts = and_parts (is_name_byte b) (list_all is_name_byte bs) h in
-    rw (name_byte_word b parts.0, all_word bs parts.1) refl
 
 -- the parts of the test of a name
 record Named (name : List ℕ) : Type 0 where
@@ -61,13 +56,13 @@ no_dollar b h = grind (arith, nat_tests, h)
 
 no_cond : (name : List ℕ) → list_all is_name_byte name ≡ true → starts_with nat_eq name (codes "SS$_") ≡ false
 no_cond [] h = refl
-no_cond (a ∷ []) h = and_false (nat_eq 83 a)
-no_cond (a ∷ b ∷ []) h = rw (and_false (nat_eq 83 b)) (and_false (nat_eq 83 a))
+no_cond (a ∷ []) h = and-false (nat_eq 83 a)
+no_cond (a ∷ b ∷ []) h = rw (and-false (nat_eq 83 b)) (and-false (nat_eq 83 a))
 no_cond (a ∷ b ∷ c ∷ rest) h =
     let one = and_parts (is_name_byte a) _ h in
     let two = and_parts (is_name_byte b) _ one.1 in
     let three = and_parts (is_name_byte c) _ two.1 in
-    rw (no_dollar c three.0, and_false (nat_eq 83 b)) (and_false (nat_eq 83 a))
+    rw (no_dollar c three.0, and-false (nat_eq 83 b)) (and-false (nat_eq 83 a))
 
 word_of-name : (name : List ℕ) → is_name name ≡ true → word_of name ≡ Some (tok.Word name)
 word_of-name name h =
@@ -84,7 +79,7 @@ word-run run rest t bytes s capitals is =
 word-name : (name rest : List ℕ) → is_name name ≡ true → stops is_word_byte rest → word (name ++ rest) ≡ Found (tok.Word name) (length name)
 word-name name rest h s =
     let n = named name h in
-    word-run name rest (tok.Word name) (all_word name n.bytes) s (names_upper name n.bytes) (word_of-name name h)
+    word-run name rest (tok.Word name) (all_weaker is_name_byte is_word_byte name_byte_word name n.bytes) s (names_upper name n.bytes) (word_of-name name h)
 
 abbrev cond_text : Cond → List ℕ
 cond_text c = codes "SS$_" ++ name_of c
@@ -127,18 +122,11 @@ pub lex_gap : (at : ℕ) (rest : List ℕ) → lex_from 0 at (32 ∷ rest) ≡ l
 unfolding lex_from
 lex_gap at rest = rw (first-cons 32 rest) refl
 
-service_bytes : (bs : List ℕ) → list_all is_name_byte bs ≡ true → list_all is_service_byte bs ≡ true
-service_bytes [] h = refl
-service_bytes (b ∷ bs) h =
-    let parts = and_parts (is_name_byte b) (list_all is_name_byte bs) h in
-    let s : is_service_byte b ≡ true = grind (arith, nat_tests, parts.0) in
-    rw (s, service_bytes bs parts.1) refl
-
 service-name : (name rest : List ℕ) → is_name name ≡ true → length name ≤ 30 → stops is_service_byte rest → service (36 ∷ (name ++ rest)) ≡ Found (tok.Service name) (1 + length name)
 service-name name rest h short s =
     let n = named name h in
     let fits : nat_lt 30 (length name) ≡ false = le-ltb _ _ short in
-    rw (run_of is_service_byte name rest (service_bytes name n.bytes) s, names_upper name n.bytes, fits, h) refl
+    rw (run_of is_service_byte name rest (all_weaker is_name_byte is_service_byte (λ b k. grind (arith, nat_tests, k)) name n.bytes) s, names_upper name n.bytes, fits, h) refl
 
 -- a service stands first where '$' and its name do
 pub first-service : (name rest : List ℕ) → is_name name ≡ true → length name ≤ 30 → stops is_service_byte rest → first (36 ∷ (name ++ rest)) ≡ Found (tok.Service name) (1 + length name)

@@ -1,24 +1,18 @@
 -- Decimal spellings are read back.
 use Rattle.std.proofs.Common.{◌≡◌, ℕ, ◌+◌, ◌/◌, ◌%◌, ◌<◌, ◌≤◌, ◌^◌, true, List, [], ◌∷◌, ◌++◌, length, nat_le, refl, ◌∙◌, arith, Some, length-append}
-use Rattle.std.specs.List.{list_all, fold}
+use Rattle.std.specs.List.{list_all}
 use Rattle.std.specs.Prelude.{decimal}
 use Rattle.std.proofs.lemmas.Fmt.{decimal_by_steps}
 use Rattle.std.proofs.lemmas.Bool.{le-leb, and_parts}
 use Rattle.std.proofs.lemmas.Bool.Decides.{nat_tests}
+use Rattle.std.proofs.lemmas.List.Sums.{fold_push}
+use Rattle.vx_base.proofs.Any.{all_push, all_weaker}
 use Rattle.vx_text.specs.declared.token.Tok.TheVariants as tok
 use Rattle.vx_text.specs.declared.first.First.TheVariants.{Found}
 use Rattle.vx_text.specs.Bytes.{with_digit, digits_value, is_digit, is_alphanumeric, decimal_of}
 use Rattle.vx_text.specs.First.{first, number}
 use Rattle.vx_text.proofs.Runs.{stops, run_of}
 use Rattle.vx_text.proofs.Leading.{first-cons, digit_leads}
-
-fold_more : (n d : ℕ) (ds : List ℕ) → fold with_digit n (ds ++ d ∷ []) ≡ with_digit (fold with_digit n ds) d
-fold_more n d [] = refl
-fold_more n d (x ∷ xs) = fold_more (with_digit n x) d xs
-
-all_more : (d : ℕ) (ds : List ℕ) → list_all is_digit ds ≡ true → is_digit d ≡ true → list_all is_digit (ds ++ d ∷ []) ≡ true
-all_more d [] h k = rw k refl
-all_more d (x ∷ xs) h k = let p = and_parts (is_digit x) (list_all is_digit xs) h in rw (p.0, all_more d xs p.1 k) refl
 
 pub record Spells (n : ℕ) (ds : List ℕ) : Type 0 where
   pub some : 0 < length ds
@@ -34,19 +28,12 @@ one n h = record { some = omega arith; digits = rw (a_digit n h) refl; value = o
 more : (n : ℕ) (ds : List ℕ) → 10 ≤ n → Spells (n / 10) ds → Spells n (ds ++ (48 + n % 10) ∷ [])
 more n ds h s = record {
   some = omega (arith, length-append ds ((48 + n % 10) ∷ []));
-  digits = all_more (48 + n % 10) ds s.digits (a_digit (n % 10) (omega arith));
-  value = rw (fold_more 0 (48 + n % 10) ds, s.value) (omega arith);
+  digits = all_push is_digit ds (48 + n % 10) s.digits (a_digit (n % 10) (omega arith));
+  value = rw (fold_push with_digit 0 ds (48 + n % 10), s.value) (omega arith);
 }
 
 pub spells : (n : ℕ) → n < 2 ^ 64 → Spells n (decimal n)
 spells n h = decimal_by_steps Spells one more n h
-
-all_alphanumeric : (ds : List ℕ) → list_all is_digit ds ≡ true → list_all is_alphanumeric ds ≡ true
-all_alphanumeric [] h = refl
-all_alphanumeric (x ∷ xs) h =
-    let p = and_parts (is_digit x) (list_all is_digit xs) h in
-    let a : is_alphanumeric x ≡ true = grind (arith, nat_tests, p.0) in
-    rw (a, all_alphanumeric xs p.1) refl
 
 decimal_of-digits : (n : ℕ) (ds : List ℕ) → n < 2 ^ 32 → Spells n ds → decimal_of ds ≡ Some n
 decimal_of-digits n ds h s =
@@ -54,7 +41,7 @@ decimal_of-digits n ds h s =
     rw (s.digits, s.value, small) refl
 
 number-digits : (n : ℕ) (ds rest : List ℕ) → n < 2 ^ 32 → Spells n ds → stops is_alphanumeric rest → number (ds ++ rest) ≡ Found (tok.Num n) (length ds)
-number-digits n ds rest h s k = rw (run_of is_alphanumeric ds rest (all_alphanumeric ds s.digits) k, decimal_of-digits n ds h s) refl
+number-digits n ds rest h s k = rw (run_of is_alphanumeric ds rest (all_weaker is_digit is_alphanumeric (λ d k. grind (arith, nat_tests, k)) ds s.digits) k, decimal_of-digits n ds h s) refl
 
 first-digits : (n : ℕ) (ds rest : List ℕ) → n < 2 ^ 32 → Spells n ds → stops is_alphanumeric rest → first (ds ++ rest) ≡ Found (tok.Num n) (length ds)
 first-digits n [] rest h s k = absurd (omega (arith, s.some))

@@ -1,12 +1,12 @@
 -- Tokens in order, and one more.
 use Rattle.std.proofs.Common.{◌≡◌, ℕ, ◌+◌, ◌-◌, ◌<◌, ◌≤◌, List, [], ◌∷◌, ◌++◌, length, take, drop, arith}
 use Rattle.std.specs.List.{AllByRecursion}
+use Rattle.std.proofs.lemmas.List.{take_rest}
 use Rattle.vx_text.specs.declared.token.Tok.{Tok}
 use Rattle.vx_text.specs.declared.token.Token.{Token}
 use Rattle.vx_text.specs.declared.first.First.TheVariants.{Found}
 use Rattle.vx_text.specs.First.{first}
 use Rattle.vx_text.specs.Lex.{IsToken, AreInOrder, token_at}
-use Rattle.vx_text.proofs.Turns.{rest_of}
 
 pub in_order-later : (tokens : List Token) (from a b : ℕ) → a ≤ b → AreInOrder from a tokens → AreInOrder from b tokens
 in_order-later [] from a b h order = omega arith
@@ -24,4 +24,4 @@ all_more P (u ∷ more) t all one = (all.0, all_more P more t all.1 one)
 pub is_token : (line : List ℕ) (at len : ℕ) (t : Tok) → first (take len (take (length line - at) (drop at line))) ≡ Found t len → IsToken line (token_at at t len)
 is_token line at len t h =
     let e : at + len - at ≡ len = omega arith in
-    rw (e, ← rest_of at line) h
+    rw (e, ← take_rest line at) h

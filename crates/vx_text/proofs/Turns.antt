@@ -7,7 +7,7 @@ use Rattle.std.proofs.Common.{true, false, nat_lt, nat_eq, codes, Option, rules}
 use Rattle.std.specs.List.{starts_with}
 use Rattle.vx_text.specs.declared.token.Tok.{Tok}
 use Rattle.vx_text.specs.First.{first, word_of, cond_of}
-use Rattle.std.proofs.lemmas.List.{drop_all, drop-drop, take_all, length-drop}
+use Rattle.std.proofs.lemmas.List.{drop_all, drop-drop, take_rest}
 use Rattle.vx_text.specs.declared.first.First.{First}
 use Rattle.vx_text.specs.declared.first.First.TheVariants.{End, Gap, Found, Bad}
 use Rattle.vx_text.specs.Lex.{lex_from, by_first, with_front, token_at, Fails}
@@ -34,15 +34,11 @@ turn_cons : (at b : ℕ) (rest : List ℕ) → lex_from 0 at (b ∷ rest) ≡ by
 unfolding lex_from
 turn_cons at b rest = by_first-skip at (first (b ∷ rest)) rest
 
--- what is left of a line, as the code cuts it
-pub rest_of : (at : ℕ) (line : List ℕ) → take (length line - at) (drop at line) ≡ drop at line
-rest_of at line = take_all (length line - at) (drop at line) (omega (arith, length-drop at line))
-
 -- what is read from a place on, by what stands first there
 pub turn : (at : ℕ) (line : List ℕ) (f : First) → at < length line → f ≡ first (take (length line - at) (drop at line)) → lex_from 0 at (drop at line) ≡ by_first at f (λ skip. lex_from 0 (at + 1 + skip) (drop skip (drop (suc at) line)))
 turn at line f h e =
     let cut : drop at line ≡ get_or line at 0 ∷ drop (suc at) line = drop-cons line at 0 h in
-    rw (e, rest_of at line, cut) (turn_cons at (get_or line at 0) (drop (suc at) line))
+    rw (e, take_rest line at, cut) (turn_cons at (get_or line at 0) (drop (suc at) line))
 
 pub turn_end : (at : ℕ) (line : List ℕ) → length line ≤ at → lex_from 0 at (drop at line) ≡ Ok []
 turn_end at line h = rw (drop_all at line h) (lex_nothing at)
@@ -69,4 +65,4 @@ fails _ r h = h
 pub word_of-cond : (t : List ℕ) (r : Option Tok) → length t ≤ 31 → true ≡ starts_with nat_eq t (codes "SS$_") → r ≡ cond_of (take (length t - 4) (drop 4 t)) → r ≡ word_of t
 word_of-cond t r short h e =
     let no : nat_lt 31 (length t) ≡ false = search (rules, arith) in
-    rw (no, ← h) (rw (rest_of 4 t) at e)
+    rw (no, ← h) (rw (take_rest t 4) at e)

@@ -1,4 +1,5 @@
 -- A round and the next one: the least, the first that has come, and one that is changed.
+use mathlib.Core.Bool.{or-false}
 use Rattle.std.proofs.Common.{◌≡◌, ℕ, zero, suc, ◌+◌, ◌*◌, ◌/◌, ◌-◌, ◌<◌, ◌≤◌, List, [], ◌∷◌, true, false, ◌||◌, Option, Some, None, IfSome, length, position, replicate, slice_index_or, slice_set, nat_le, refl, ap, sym, ◌∙◌, arith, subst, inl, inr}
 use Rattle.std.proofs.lemmas.Bool.{cases_eq, cases_lt, false≢true, or_parts}
 use Rattle.std.proofs.lemmas.Bool.Decides.{nat_tests}
@@ -6,7 +7,6 @@ use Rattle.std.proofs.lemmas.List.{ext_get_or, get_or-set_same, get_or-set_other
 use Rattle.std.proofs.lemmas.List.Quantifiers.{position-Some}
 use Rattle.vx_timers.proofs.Position.{none_passes, none_position, some_position}
 use Rattle.vx_timers.specs.Rounds.{IsNext, is_by, least_of, lesser_of, winners}
-use Rattle.vx_base.proofs.Bools.{or_false}
 
 -- The lesser of two.
 
@@ -29,7 +29,7 @@ by_lesser_two now a b = grind (arith, nat_tests)
 -- the lesser of two has come where one of them has
 by_lesser : (now : ℕ) (a b : Option ℕ) → is_by now (lesser_of a b) ≡ (is_by now a || is_by now b)
 by_lesser now None b = refl
-by_lesser now (Some a) None = sym (or_false (nat_le a now))
+by_lesser now (Some a) None = sym (or-false (nat_le a now))
 by_lesser now (Some a) (Some b) = by_lesser_two now a b
 
 -- A round and the next.

@@ -7,6 +7,7 @@ use lib.ListN.{get_elem?}
 use Rattle.atomic_table.proofs.Lists.{at_set, one_turn}
 use Rattle.std.specs.Prelude.{All, IfSome, Option, option_to_list}
 use Rattle.std.proofs.lemmas.List.Elements.{All-pop}
+use Rattle.vx_base.proofs.Lists.{get_front}
 use Rattle.vx_turn.specs.declared.view.View.{View}
 use Rattle.vx_turn.specs.Rule.{total, once_below, StartsWith, numbered, times, Stands, owned, glued}
 
@@ -45,11 +46,6 @@ module _ {A : Type 0} where
       (λ (x : (i ≡ id) × (w ≡ u)). subst (λ (y : ℕ × A). P y.0 y.1) (λ k. (sym x.0 k, x.1 k)) mine)
       (λ (x : (i ≢ id) × (get_elem? xs i ≡ some u)). others i u x.0 x.1)
       (at_set xs id i w u e)
-
-  pub slice_get_front : (xs ys : List A) (k : ℕ) (p : A) → slice_get xs k ≡ Some p → slice_get (xs ++ ys) k ≡ Some p
-  slice_get_front [] ys k p e = absurd (cc)
-  slice_get_front (x ∷ xs) ys zero p e = e
-  slice_get_front (x ∷ xs) ys (suc k) p e = slice_get_front xs ys k p e
 
   pub starts_further : (log seen more : List A) → StartsWith log seen → StartsWith (log ++ more) seen
   starts_further log seen more s = (s.0 ++ more, ap (λ (l : List A). l ++ more) s.1 ∙ append_assoc seen s.0 more)
@@ -105,7 +101,7 @@ module _ {A : Type 0} where
 
 module _ {E : Type 0} where
   pub stands_further : (log more : List E) (ps : List (ℕ × E)) → Stands log ps → Stands (log ++ more) ps
-  stands_further log more ps h i p e = slice_get_front log more p.0 p.1 (h i p e)
+  stands_further log more ps h i p e = get_front log more p.0 p.1 (h i p e)
 
   pub stands_append : (log : List E) (ps qs : List (ℕ × E)) → Stands log ps → Stands log qs → Stands log (ps ++ qs)
   stands_append log ps qs h k i p e = ⊎_elim (λ (x : get_elem? ps i ≡ some p). h i p x) (λ (x : (j : ℕ) × (get_elem? qs j ≡ some p)). k x.0 p x.1) (at_append ps qs i p e)

@@ -1,5 +1,5 @@
 use Rattle.std.proofs.Common.{◌≡◌, ◌+◌, ◌<◌, ◌≤◌, ℕ, List, true, false, None, Some, Option, drop, take, length, refl, sym, subst, ◌∙◌, arith, length-drop}
-use Rattle.vx_text.proofs.Turns.{rest_of}
+use Rattle.std.proofs.lemmas.List.{take_rest}
 use Rattle.vx_image.specs.declared.unit.UnitDecl.{UnitDecl}
 use Rattle.vx_lines.specs.Cutting.{fed_len}
 use Rattle.vx_lines.specs.ReadRecords.{is_of_record, read_line}
@@ -24,7 +24,7 @@ returns-in_default-clause-follows c =
     let l = c.loop-alloc in
     let s = c.args.exec.now.state in
     let whole = c.args.text.now in
-    let same = rest_of l.at whole in
+    let same = take_rest whole l.at in
     let line : is_of_record (drop l.at whole) ≡ true = rw same at (sym c.loop-alloc-test.ensures) in
     let len : c.fed_len-len.result ≡ fed_len (drop l.at whole) = rw same at c.fed_len-len.ensures.len in
     let there = l.invariant.there in
@@ -37,7 +37,7 @@ returns-clause-follows c =
     let l = c.loop-alloc in
     let s = c.args.exec.now.state in
     let whole = c.args.text.now in
-    let over : is_of_record (drop l.at whole) ≡ false = rw (rest_of l.at whole) at (sym c.loop-alloc-test.ensures) in
+    let over : is_of_record (drop l.at whole) ≡ false = rw (take_rest whole l.at) at (sym c.loop-alloc-test.ensures) in
     at_end s l.exec l.progress l.line l.at c.args.line whole _ l.invariant.there over refl refl c.first_wrong_of.ensures.right (λ n is. subst (λ (k : ℕ). IsWrong k l.progress.course n) c.taken.ensures (c.first_wrong_of.ensures.wrong n is))
 
 pub loop-alloc-preserved : goal.loop-alloc-preserved
@@ -45,7 +45,7 @@ loop-alloc-preserved c =
     let l = c.loop-alloc in
     let s = c.args.exec.now.state in
     let whole = c.args.text.now in
-    let same = rest_of l.at whole in
+    let same = take_rest whole l.at in
     let line : is_of_record (drop l.at whole) ≡ true = rw same at (sym c.loop-alloc-test.ensures) in
     let len : c.fed_len-len.result ≡ fed_len (drop l.at whole) = rw same at c.fed_len-len.ensures.len in
     let within : c.fed_len-len.result ≤ length (drop l.at whole) = rw same at c.fed_len-len.ensures.within in

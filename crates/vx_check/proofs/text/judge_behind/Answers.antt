@@ -1,5 +1,5 @@
 use Rattle.std.proofs.Common.{◌≡◌, ◌∙◌, List, Ok, drop, ap, sym}
-use Rattle.vx_text.proofs.Turns.{rest_of}
+use Rattle.std.proofs.lemmas.List.{take_rest}
 use Rattle.vx_image.specs.declared.system.System.{System}
 use Rattle.vx_image.specs.declared.unit.UnitDecl.{UnitDecl}
 use Rattle.vx_journal.specs.TrailerLines.{read_trailer}
@@ -11,7 +11,7 @@ pub returns-in-Ok-verdict_on : goal.returns-in-Ok-verdict_on
 returns-in-Ok-verdict_on c = λ system line same follows.
     let text = c.args.text.now in
     let f = c.args.followed in
-    let rest = rest_of f.len text in
+    let rest = take_rest text f.len in
     let units : c.as_slice-units.result.now ≡ system.units = c.as_slice-units.ensures ∙ ap (λ (s : System). s.units) (c.system.ensures ∙ same) in
     let read : read_trailer c.as_slice-units.result.now f.line (drop f.len text) ≡ Ok c.in-Ok.part = rw rest at c.in-Ok.ensures in
     let is : c.in-Ok-verdict_on.verdict ≡ verdict_on c.args.exec.now f.wrong c.in-Ok.part (drop f.len text) = rw rest at c.in-Ok-verdict_on.ensures in

@@ -1,6 +1,5 @@
 use Rattle.std.proofs.Common.{◌≡◌, ◌+◌, ◌<◌, ◌≤◌, true, false, drop, take, length, sym, ap, ◌∙◌, arith, length-drop, drop-drop}
-use Rattle.std.proofs.lemmas.List.{drop_all}
-use Rattle.vx_text.proofs.Turns.{rest_of}
+use Rattle.std.proofs.lemmas.List.{drop_all, take_rest}
 use Rattle.vx_lines.specs.Cutting.{fed_len}
 use Rattle.vx_lines.specs.ReadRecords.{fed_lines}
 use Rattle.vx_journal.proofs.ScriptPart.{begins, found, over, passed}
@@ -14,7 +13,7 @@ pub returns-then-starts_with-clause-len : goal.returns-then-starts_with-clause-l
 returns-then-starts_with-clause-len c =
     let at = c.loop-at.at in
     let whole = c.args.text.now in
-    let same = rest_of at whole in
+    let same = take_rest whole at in
     let some : 0 < length (drop at whole) = omega (arith, c.loop-at-test.true, length-drop at whole) in
     let len : c.fed_len-len.result ≡ fed_len (drop at whole) = rw same at c.fed_len-len.ensures.len in
     let line : is_journal_line (take c.fed_len-len.result (drop at whole)) ≡ true = rw same at (sym c.starts_with.ensures.value ∙ c.if-starts_with.true) in
@@ -24,7 +23,7 @@ pub loop-at-preserved : goal.loop-at-preserved
 loop-at-preserved c =
     let at = c.loop-at.at in
     let whole = c.args.text.now in
-    let same = rest_of at whole in
+    let same = take_rest whole at in
     let some : 0 < length (drop at whole) = omega (arith, c.loop-at-test.true, length-drop at whole) in
     let len : c.fed_len-len.result ≡ fed_len (drop at whole) = rw same at c.fed_len-len.ensures.len in
     let within : c.fed_len-len.result ≤ length (drop at whole) = rw same at c.fed_len-len.ensures.within in

@@ -1,6 +1,5 @@
 use Rattle.std.proofs.Common.{◌≡◌, ◌+◌, ◌<◌, ◌≤◌, None, Some, drop, take, length, sym, ap, ◌∙◌, arith, length-drop, drop-drop}
-use Rattle.std.proofs.lemmas.List.{drop_all}
-use Rattle.vx_text.proofs.Turns.{rest_of}
+use Rattle.std.proofs.lemmas.List.{drop_all, take_rest}
 use Rattle.vx_lines.specs.Cutting.{fed_len}
 use Rattle.vx_lines.proofs.Cutting.{len_some}
 use Rattle.vx_lines.specs.ReadRecords.{fed_lines}
@@ -15,7 +14,7 @@ pub returns-in_default : goal.returns-in_default
 returns-in_default c =
     let at = c.loop-at.at in
     let whole = c.args.text.now in
-    let same = rest_of at whole in
+    let same = take_rest whole at in
     let some : 0 < length (drop at whole) = omega (arith, c.loop-at-test.true, length-drop at whole) in
     let len : c.fed_len-len.result ≡ fed_len (drop at whole) = rw same at c.fed_len-len.ensures.len in
     let none : None ≡ place_after c.args.units.now c.loop-at.place (take c.fed_len-len.result (drop at whole)) = rw same at (sym c.in_default.is ∙ c.in_ok-next.ensures) in
@@ -25,7 +24,7 @@ pub loop-at-preserved : goal.loop-at-preserved
 loop-at-preserved c =
     let at = c.loop-at.at in
     let whole = c.args.text.now in
-    let same = rest_of at whole in
+    let same = take_rest whole at in
     let some : 0 < length (drop at whole) = omega (arith, c.loop-at-test.true, length-drop at whole) in
     let len : c.fed_len-len.result ≡ fed_len (drop at whole) = rw same at c.fed_len-len.ensures.len in
     let within : c.fed_len-len.result ≤ length (drop at whole) = rw same at c.fed_len-len.ensures.within in

@@ -1,8 +1,9 @@
 use Rattle.std.proofs.Common.{◌≡◌, true, false, [], ◌∷◌, refl, sym, ◌∙◌}
 use Rattle.std.specs.List.{list_any}
+use Rattle.std.proofs.lemmas.List.{nil_from_length}
 use Rattle.vx_laws.specs.StatusLaw.{is_flag, is_flag_set}
 use Rattle.vx_judge.specs.Lists.{from_first}
-use Rattle.vx_judge.proofs.OneOf.{empty_is, only_here, only_none}
+use Rattle.vx_judge.proofs.OneOf.{only_here, only_none}
 use Rattle.vx_judge.proofs.behind.is_only_flag.Goals as goal
 
 pub returns-then-is_flag_set : goal.returns-then-is_flag_set
@@ -20,5 +21,5 @@ returns-else-is_flag_set c =
 
 pub returns-in-None : goal.returns-in-None
 returns-in-None c =
-    let from : from_first is_flag c.args.effects.now ≡ [] = sym c.from_flag.ensures ∙ empty_is c.from_flag.result.now c.in-None.ensures.cases in
+    let from : from_first is_flag c.args.effects.now ≡ [] = sym c.from_flag.ensures ∙ nil_from_length c.from_flag.result.now c.in-None.ensures.cases in
     sym (only_none is_flag (is_flag_set c.args.c.now) c.args.effects.now from)

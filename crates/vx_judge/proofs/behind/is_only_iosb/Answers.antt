@@ -1,8 +1,9 @@
 use Rattle.std.proofs.Common.{◌≡◌, true, false, [], ◌∷◌, refl, sym, ◌∙◌}
 use Rattle.std.specs.List.{list_any}
+use Rattle.std.proofs.lemmas.List.{nil_from_length}
 use Rattle.vx_laws.specs.StatusLaw.{is_iosb, is_iosb_with}
 use Rattle.vx_judge.specs.Lists.{from_first}
-use Rattle.vx_judge.proofs.OneOf.{empty_is, only_here, only_none}
+use Rattle.vx_judge.proofs.OneOf.{only_here, only_none}
 use Rattle.vx_judge.proofs.behind.is_only_iosb.Goals as goal
 
 pub returns-then-is_iosb_with : goal.returns-then-is_iosb_with
@@ -20,5 +21,5 @@ returns-else-is_iosb_with c =
 
 pub returns-in-None : goal.returns-in-None
 returns-in-None c =
-    let from : from_first is_iosb c.args.effects.now ≡ [] = sym c.from_iosb.ensures ∙ empty_is c.from_iosb.result.now c.in-None.ensures.cases in
+    let from : from_first is_iosb c.args.effects.now ≡ [] = sym c.from_iosb.ensures ∙ nil_from_length c.from_iosb.result.now c.in-None.ensures.cases in
     sym (only_none is_iosb (is_iosb_with c.args.p c.args.i c.args.c) c.args.effects.now from)

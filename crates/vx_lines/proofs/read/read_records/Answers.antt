@@ -1,5 +1,5 @@
 use Rattle.std.proofs.Common.{◌≡◌, ◌+◌, ◌<◌, ◌≤◌, true, false, None, Some, drop, take, length, refl, sym, ap, ◌∙◌, arith, length-drop, drop-drop}
-use Rattle.vx_text.proofs.Turns.{rest_of}
+use Rattle.std.proofs.lemmas.List.{take_rest}
 use Rattle.vx_lines.specs.Cutting.{fed_len}
 use Rattle.vx_lines.specs.ReadRecords.{is_of_record, read_line, read_lines, fed_lines}
 use Rattle.vx_lines.proofs.Cutting.{ended, bad, read_on, begins, begun, len_some}
@@ -9,7 +9,7 @@ pub returns-then-not-branch-clause-read : goal.returns-then-not-branch-clause-re
 returns-then-not-branch-clause-read c =
     let at = c.loop-alloc.at in
     let whole = c.args.text.now in
-    let same = rest_of at whole in
+    let same = take_rest whole at in
     let line : is_of_record (drop at whole) ≡ true = rw same at (sym c.loop-alloc-test.ensures) in
     let len : c.fed_len-len.result ≡ fed_len (drop at whole) = rw same at c.fed_len-len.ensures.len in
     let none : None ≡ read_line c.args.units.now c.loop-alloc.reading (take c.fed_len-len.result (drop at whole)) = sym (rw (same, c.if-not-branch.true) at c.in_ok-read_line.ensures) in
@@ -19,7 +19,7 @@ pub returns-clause-read : goal.returns-clause-read
 returns-clause-read c =
     let at = c.loop-alloc.at in
     let whole = c.args.text.now in
-    let over : is_of_record (drop at whole) ≡ false = rw (rest_of at whole) at (sym c.loop-alloc-test.ensures) in
+    let over : is_of_record (drop at whole) ≡ false = rw (take_rest whole at) at (sym c.loop-alloc-test.ensures) in
     begins c.args.units.now c.args.line whole ∙ sym c.loop-alloc.invariant.read ∙ ended c.args.units.now c.loop-alloc.line at c.loop-alloc.reading (drop at whole) over ∙ rw c.in_ok-turn_to.ensures refl
 
 pub loop-alloc-preserved : goal.loop-alloc-preserved
@@ -28,7 +28,7 @@ loop-alloc-preserved c =
     let whole = c.args.text.now in
     let text = drop at whole in
     let next = c.read_line.new.reading in
-    let same = rest_of at whole in
+    let same = take_rest whole at in
     let line : is_of_record text ≡ true = rw same at (sym c.loop-alloc-test.ensures) in
     let len : c.fed_len-len.result ≡ fed_len text = rw same at c.fed_len-len.ensures.len in
     let within : c.fed_len-len.result ≤ length text = rw same at c.fed_len-len.ensures.within in

@@ -1,9 +1,9 @@
 use Rattle.std.proofs.Common.{◌≡◌, IsTrue, ap, subst, sym, ◌∙◌}
+use Rattle.vx_record.proofs.Steps.{left_after}
 use Rattle.vx_record.specs.State.{Process, State, IsProcess, change, process_at}
 use Rattle.vx_record.specs.Rundown.{named_for_deletion}
 use Rattle.vx_procs.specs.Kernel.{Kernel}
 use Rattle.vx_procs.specs.Words.{handlers_have_own_ids}
-use Rattle.vx_procs.proofs.Stack.{left_after}
 use Rattle.vx_io.proofs.Changed.{made_still, process_there}
 use Rattle.vx_rundown.proofs.deletion.delete.Goals as goal
 

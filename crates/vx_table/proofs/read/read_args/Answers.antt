@@ -1,6 +1,7 @@
 use Rattle.std.proofs.Common.{◌+◌, ◌-◌, take, arith, ◌∙◌}
+use Rattle.std.proofs.lemmas.List.{take_more_set}
 use Rattle.vx_table.specs.Cutting.{left}
-use Rattle.vx_table.proofs.Steps.{args_of-front, finished, no_param, a_param, params_end, stepped, taken, still_unused}
+use Rattle.vx_table.proofs.Steps.{args_of-front, finished, no_param, a_param, params_end, stepped, still_unused}
 use Rattle.vx_table.proofs.read.read_args.Goals as goal
 
 pub returns-in_default : goal.returns-in_default
@@ -20,7 +21,7 @@ loop-k-preserved c =
     record {
       within = c.after-at.ensures.within;
       unused = still_unused args k a c.loop-k.invariant.unused;
-      same = rw (taken args k a (omega arith)) (stepped (take k args) a k p _ _ (left c.loop-k.at c.args.tokens.now) _ _ _ c.in_ok-args.ensures c.piece.ensures c.after-at.ensures.left some c.loop-k.invariant.same);
+      same = rw (take_more_set args k a (omega arith)) (stepped (take k args) a k p _ _ (left c.loop-k.at c.args.tokens.now) _ _ _ c.in_ok-args.ensures c.piece.ensures c.after-at.ensures.left some c.loop-k.invariant.same);
     }
 
 pub returns : goal.returns

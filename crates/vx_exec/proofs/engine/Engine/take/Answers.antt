@@ -1,4 +1,5 @@
 use Rattle.std.proofs.Common.{◌+◌, List, Contains, ap, sym, subst, ◌∙◌}
+use Rattle.vx_exec.proofs.Runs.{going_below}
 use Rattle.vx_image.specs.declared.system.System.{System}
 use Rattle.vx_record.specs.State.{State}
 use Rattle.vx_record.specs.Events.{enabled, step}
@@ -10,7 +11,7 @@ use Rattle.vx_exec.specs.Sound.{IsGoing}
 use Rattle.vx_exec.specs.View.{Plan}
 use Rattle.vx_exec.proofs.Enabled.{enabled_owned}
 use Rattle.vx_exec.proofs.Engines.{home_kept, stepped_stands}
-use Rattle.vx_exec.proofs.Ready.{below_limit, going_after, ready_for, step_open}
+use Rattle.vx_exec.proofs.Ready.{going_after, ready_for, step_open}
 use Rattle.vx_exec.proofs.engine.Engine.take.Goals as goal
 
 pub make_room-requires : goal.make_room-requires
@@ -41,7 +42,7 @@ returns-clause-on g c =
     let going = subst (λ (u : State). IsGoing u limit taken) (sym made.same) c.requires.on in
     let there = subst (λ (u : State). Contains (enabled u) e) (sym made.same) c.requires.enabled in
     let leaves = ap (λ (k : Kernel). k.state) c.settle.ensures ∙ ap (λ (k : Kernel). k.state) c.step-answer.ensures.does.leaves in
-    going_after c.make_room.new.core c.settle.new.self.state e limit taken going made.made there (below_limit limit taken c.args.self.now.core.state c.requires.going) leaves
+    going_after c.make_room.new.core c.settle.new.self.state e limit taken going made.made there (going_below limit taken c.args.self.now.core.state (sym c.requires.going)) leaves
 
 pub returns-clause-after : goal.returns-clause-after
 returns-clause-after g c =

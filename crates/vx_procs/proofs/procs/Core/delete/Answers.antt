@@ -1,4 +1,5 @@
 use Rattle.std.proofs.Common.{List, length, refl, arith, ap, sym, subst, ◌∙◌}
+use Rattle.vx_record.proofs.Steps.{left_after}
 use Rattle.vx_base.specs.Log.{HasRoom, logged}
 use Rattle.vx_base.specs.declared.effects.Effect.{Effect}
 use Rattle.vx_record.specs.State.{Process, State, change, process_at}
@@ -6,7 +7,7 @@ use Rattle.vx_record.specs.Rundown.{named_for_deletion}
 use Rattle.vx_procs.specs.Kernel.{Kernel, changed}
 use Rattle.vx_procs.specs.Words.{frames_deleted, left}
 use Rattle.vx_procs.proofs.Changed.{changed_as, held_as, seen_in}
-use Rattle.vx_procs.proofs.Stack.{left_after, left_effects}
+use Rattle.vx_procs.proofs.Stack.{left_effects}
 use Rattle.vx_procs.proofs.procs.Core.delete.Goals as goal
 
 pub delete-requires : goal.delete-requires

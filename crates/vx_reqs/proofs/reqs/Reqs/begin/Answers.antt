@@ -1,12 +1,13 @@
 use Rattle.std.proofs.Common.{◌≡◌, ◌∙◌, List, None, Some, Bor, option_map, position, refl, ap, sym, subst}
 use Rattle.std.specs.List.{find}
+use Rattle.vx_base.proofs.Any.{none_found}
 use Rattle.vx_base.specs.Lists.{amend}
 use Rattle.vx_base.specs.Pieces.{Request}
 use Rattle.vx_base.specs.Queues.{front, is_served_by, waits_for}
 use Rattle.vx_base.specs.Roomy.{with_items}
 use Rattle.vx_reqs.specs.Places.{Place, AreFrom, IsOrdered, changed, holds, live}
 use Rattle.vx_reqs.specs.Requests.{Requests}
-use Rattle.vx_reqs.proofs.Live.{amend_live, any_live, none_any, same_room}
+use Rattle.vx_reqs.proofs.Live.{amend_live, any_live, same_room}
 use Rattle.vx_reqs.proofs.Turns.{begun_none, begun_some}
 use Rattle.vx_reqs.proofs.Waiting.{reads_changed}
 use Rattle.vx_reqs.proofs.reqs.Reqs.begin.Goals as goal
@@ -29,7 +30,7 @@ settle_unit-requires g c = λ rising.
     let taken = begun_some u (live places) c.in_ok-front.field-0.now some in
     let first : c.id_at-first.result ≡ option_map (λ (y : Place). y.id) (find (holds (waits_for u)) places) =
     c.id_at-first.ensures (holds (waits_for u)) place in
-    let none : None ≡ find (holds (is_served_by u)) places = none_any (holds (is_served_by u)) places (any_live (is_served_by u) places ∙ taken.0) in
+    let none : None ≡ find (holds (is_served_by u)) places = sym (none_found (holds (is_served_by u)) places (any_live (is_served_by u) places ∙ taken.0)) in
     let order = c.begin.new.self in
     subst (λ (xs : List Place). IsOrdered order.next order.from order.served xs) (sym after) (c.begin.ensures places none first c.self.invariant.order rising)
 
