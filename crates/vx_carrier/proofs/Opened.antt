@@ -13,7 +13,7 @@ use Rattle.vx_record.specs.Runs.{record_of}
 use Rattle.vx_record.specs.State.{State}
 use Rattle.vx_record.proofs.Base.{Base}
 use Rattle.vx_record.proofs.Steps.{IsThere}
-use Rattle.vx_units.specs.Leases.{Lease, Stand, Home, Out}
+use Rattle.vx_units.specs.Leases.{Lease, Stand, Home, Out, is_out}
 use Rattle.vx_exec.specs.Leases.{IsLeaseOf, IsToLease, Leasing, first_open, stand_at, with_stand}
 use Rattle.vx_exec.specs.View.{Plan, is_don}
 use Rattle.vx_exec.proofs.Enabled.{abled_of, enabled_owned}
