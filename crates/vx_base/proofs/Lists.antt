@@ -1,6 +1,7 @@
 -- What is read of a list or an option.
-use Rattle.std.proofs.Common.{◌≡◌, ℕ, zero, suc, ◌<◌, List, [], ◌∷◌, Option, Some, None, length, slice_index_or, refl, arith, false, is_some, true, is_none, ◌++◌, slice_get, get_or, replicate}
+use Rattle.std.proofs.Common.{◌≡◌, ℕ, zero, suc, ◌+◌, ◌<◌, List, [], ◌∷◌, Option, Some, None, length, slice_index_or, refl, arith, false, is_some, true, is_none, ◌++◌, slice_get, get_or, replicate}
 use Rattle.std.specs.Prelude.{option_map}
+use Rattle.vx_base.specs.Lists.{total}
 
 -- the default does not matter within a list
 pub any_default : {A : Type 0} (xs : List A) (i : ℕ) (d e : A) → i < length xs → slice_index_or xs i d ≡ slice_index_or xs i e
@@ -35,3 +36,11 @@ pub alike_at : {A : Type 0} (x : A) (k i : ℕ) → get_or (replicate k x) i x �
 alike_at x zero i = refl
 alike_at x (suc k) zero = refl
 alike_at x (suc k) (suc i) = alike_at x k i
+
+-- what two lists come to together, and a list with one more
+pub total_append : {A : Type 0} (f : A → ℕ) (xs ys : List A) → total f (xs ++ ys) ≡ total f xs + total f ys
+total_append f [] ys = omega arith
+total_append f (x ∷ xs) ys = let more = total_append f xs ys in omega (arith, more)
+
+pub total_push : {A : Type 0} (f : A → ℕ) (xs : List A) (y : A) → total f (xs ++ y ∷ []) ≡ total f xs + f y
+total_push f xs y = let both = total_append f xs (y ∷ []) in omega (arith, both)

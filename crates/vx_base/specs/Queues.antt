@@ -10,6 +10,7 @@ use Rattle.vx_base.specs.declared.request.Body.{Body}
 use Rattle.vx_base.specs.declared.request.Body.TheVariants as body
 use Rattle.vx_base.specs.declared.request.Msg.{Msg}
 use Rattle.vx_base.specs.declared.request.Device.{Device}
+use Rattle.std.specs.Option.{option_or}
 use Rattle.vx_base.specs.declared.request.Device.TheVariants as device
 
 -- ASTs.
@@ -34,16 +35,12 @@ is_ast_reached m q = reaches q.mode m
 abbrev pub first_of_mode : Enables → Mode → Option Mode → List Queued → Mode → Option Queued
 first_of_mode enables current active asts m = if may_start enables current active m then find (is_of_mode m) asts else None
 
-abbrev pub or_else : {A : Type 0} → Option A → Option A → Option A
-or_else None b = b
-or_else (Some a) b = Some a
-
 -- the AST that may start: of the innermost mode that has one, the first
 abbrev pub deliverable : Enables → Mode → Option Mode → List Queued → Option Queued
 deliverable enables current active asts =
-    or_else (first_of_mode enables current active asts Kernel) (
-    or_else (first_of_mode enables current active asts Exec) (
-    or_else (first_of_mode enables current active asts Super) (
+    option_or (first_of_mode enables current active asts Kernel) (
+    option_or (first_of_mode enables current active asts Exec) (
+    option_or (first_of_mode enables current active asts Super) (
     first_of_mode enables current active asts User)))
 
 -- Requests.

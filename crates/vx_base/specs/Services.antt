@@ -16,6 +16,7 @@ use Rattle.vx_base.specs.declared.service.Param.TheVariants.{Required, Optional}
 use Rattle.vx_base.specs.declared.service.Service.{Service}
 use Rattle.vx_base.specs.declared.service.Service.TheVariants.{SetEf, ClrEf, ReadEf, WaitFr, WflOr, WflAnd, AscEfc, DacEfc, DlcEfc, DclAst, SetAst, CmExec, CmKrnl, SetImr, CanTim, SchdWk, CanWak, Hiber, Wake, Suspnd, Resume, ForceX, CrePrc, DelPrc, Exit, DclExh, CanExh, Assign, Dassgn, CreMbx, DelMbx, Qio, QioW, Synch, Cancel, GetTim}
 use Rattle.vx_base.specs.Name.{is_capital}
+use Rattle.vx_base.specs.Lists.{rest}
 
 -- A service with the arguments that it takes.
 pub record ServiceRow : Type 0 where
@@ -161,6 +162,16 @@ service_rows = map service_row all_services
 
 -- Arguments.
 
+-- the number that one is, 0 where it is none
+abbrev pub number : Arg → ℕ
+number (arg.Value (operand.Num n)) = n
+number _ = 0
+
+-- the variable that one is, R0 where it is none
+abbrev pub place : Arg → Target
+place (arg.Target t) = t
+place _ = target.R0
+
 -- the arguments as a list of nine
 abbrev pub args_list : Args → List Arg
 args_list a = a.a0 ∷ a.a1 ∷ a.a2 ∷ a.a3 ∷ a.a4 ∷ a.a5 ∷ a.a6 ∷ a.a7 ∷ a.a8 ∷ []
@@ -170,13 +181,9 @@ abbrev pub arg_first : List Arg → Arg
 arg_first [] = arg.Unused
 arg_first (a ∷ more) = a
 
-abbrev pub arg_rest : List Arg → List Arg
-arg_rest [] = []
-arg_rest (a ∷ more) = more
-
 abbrev pub arg_at : ℕ → List Arg → Arg
 arg_at zero args = arg_first args
-arg_at (suc n) args = arg_at n (arg_rest args)
+arg_at (suc n) args = arg_at n (rest args)
 
 -- the arguments of a list of at most nine, and none after them
 abbrev pub args_of : List Arg → Args

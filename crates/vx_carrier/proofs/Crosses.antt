@@ -10,7 +10,7 @@ use denote.Struct.Tuple.{TupleAt}
 use mir.Syntax.{Sym}
 use mathlib.Core.List.{[], ◌∷◌}
 use Rattle.std.proofs.Crossing.{crosses}
-use Rattle.vx_base.specs.declared.routine.Routine.{Ghosts}
+use Rattle.vx_record.specs.Types.{Ghosts}
 use Rattle.vx_base.proofs.effects.Effects.TheSendSync as effects
 use Rattle.vx_clusters.proofs.clusters.Clusters.TheSendSync as clusters
 use Rattle.vx_timers.specs.contracts.round.Round as round

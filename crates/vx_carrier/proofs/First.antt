@@ -2,7 +2,7 @@
 use Rattle.std.proofs.Common.{◌≡◌, ℕ, zero, suc, ◌≤◌, List, [], ◌∷◌, true, false, is_some, length, slice_index_or, sym, ap, ◌∙◌, subst, arith}
 use Rattle.vx_base.specs.Lists.{tally}
 use Rattle.vx_base.specs.Queues.{in_service}
-use Rattle.vx_base.specs.declared.number.UnitNo.{UnitNo}
+use Rattle.vx_record.specs.Types.{UnitNo}
 use Rattle.vx_record.specs.Runs.{first}
 use Rattle.vx_record.specs.State.{State}
 use Rattle.vx_units.specs.Leases.{Stand, Home, is_out}

@@ -1,11 +1,8 @@
 -- What holds of all requests, and no event but a BEG takes away.
 use Rattle.std.proofs.Common.{◌≡◌, ℕ, ◌≤◌, List, [], ◌∷◌, Bool, false, ◌==◌, Option, refl, subst, sym, arith}
 use Rattle.std.specs.List.{AllByRecursion, filter}
-use Rattle.vx_base.specs.Pieces.{Queued, Handler, Request}
-use Rattle.vx_base.specs.declared.effects.Cell.{Cell}
+use Rattle.vx_record.specs.Types.{Cell, Effect, Handler, Pid, Queued, Request}
 use Rattle.vx_base.specs.declared.effects.Cell.TheVariants.{Local, Common as Shared}
-use Rattle.vx_base.specs.declared.effects.Effect.{Effect}
-use Rattle.vx_base.specs.declared.number.Pid.{Pid}
 use Rattle.vx_record.specs.Cancel.{with_abort}
 use Rattle.vx_record.specs.Finish.{this_request}
 use Rattle.vx_record.specs.Flags.{with_cell}

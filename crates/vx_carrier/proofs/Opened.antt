@@ -2,20 +2,17 @@
 use Rattle.std.proofs.Common.{◌≡◌, ◌≢◌, ℕ, ◌+◌, ◌≤◌, List, [], ◌∷◌, ◌++◌, Bool, true, false, ◌==◌, Option, Some, None, Result, Ok, Err, is_err, OnOk, Contains, IsSome, is_some, OnSome, IfSome, IfNone, option_map, length, length-append, length-set, slice_index_or, slice_set, get_or-set_other, get_or-set_same, ◌<◌, not, append-nil, refl, sym, ap, ◌∙◌, subst, arith}
 use Rattle.std.proofs.lemmas.Bool.{eqb-true, eq-eqb}
 use Rattle.vx_exec.proofs.Cancels.{tally_length}
-use Rattle.vx_base.specs.Pieces.{Request}
+use Rattle.vx_record.specs.Types.{Event, Rec, Request, UnitNo}
 use Rattle.vx_base.specs.Queues.{front, in_service}
-use Rattle.vx_base.specs.declared.number.UnitNo.{UnitNo}
-use Rattle.vx_base.specs.declared.record.Event.{Event}
 use Rattle.vx_base.specs.declared.record.Event.TheVariants as event
-use Rattle.vx_base.specs.declared.record.Rec.{Rec}
-use Rattle.vx_record.specs.Events.{enabled, step}
+use Rattle.vx_record.specs.Events.{enabled, step, is_don}
 use Rattle.vx_record.specs.Runs.{record_of}
 use Rattle.vx_record.specs.State.{State}
 use Rattle.vx_record.proofs.Base.{Base}
 use Rattle.vx_record.proofs.Steps.{IsThere}
 use Rattle.vx_units.specs.Leases.{Lease, Stand, Home, Out, is_out}
 use Rattle.vx_exec.specs.Leases.{IsLeaseOf, IsToLease, Leasing, first_open, stand_at, with_stand}
-use Rattle.vx_exec.specs.View.{Plan, is_don}
+use Rattle.vx_exec.specs.View.{Plan}
 use Rattle.vx_exec.proofs.Enabled.{abled_of, enabled_owned}
 use Rattle.vx_carrier.specs.Desk.{AreOut, Desk, HasRun, IsGoing, IsKept, advanced, opened}
 use Rattle.vx_carrier.specs.Turns.{HandsOut, Opens, Takes}

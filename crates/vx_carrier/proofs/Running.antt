@@ -4,18 +4,16 @@ use Rattle.std.specs.List.{find}
 use Rattle.vx_base.specs.Lists.{tally}
 use Rattle.vx_base.specs.Flags.{one}
 use Rattle.vx_base.specs.Queues.{in_service}
-use Rattle.vx_base.specs.declared.number.UnitNo.{UnitNo}
-use Rattle.vx_base.specs.declared.record.Event.{Event}
+use Rattle.vx_record.specs.Types.{Event, Request, UnitNo}
 use Rattle.vx_base.specs.declared.record.Event.TheVariants as event
-use Rattle.vx_base.specs.Pieces.{Request}
-use Rattle.vx_record.specs.Events.{don_or_beg, enabled, step, unit_events}
+use Rattle.vx_record.specs.Events.{don_or_beg, enabled, step, unit_events, is_don}
 use Rattle.vx_record.specs.Runs.{IsStep, after, end_of, first, record_of}
 use Rattle.vx_record.specs.State.{State}
 use Rattle.vx_record.proofs.Base.{Base}
 use Rattle.vx_record.proofs.Along.{first_base, run_base}
 use Rattle.vx_units.specs.Leases.{Stand, Home, Out, is_out}
 use Rattle.vx_exec.specs.Leases.{IsInFor, Leasing, first_open}
-use Rattle.vx_exec.specs.View.{Plan, is_don}
+use Rattle.vx_exec.specs.View.{Plan}
 use Rattle.vx_exec.proofs.Enabled.{unit_iff}
 use Rattle.vx_exec.proofs.Runs.{after_more, going_below, steps_more}
 use Rattle.vx_carrier.specs.Desk.{Desk, HasRun, IsGoing, advanced}

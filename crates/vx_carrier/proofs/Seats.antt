@@ -1,9 +1,8 @@
 -- What a seat knows after a turn.
 use Rattle.std.proofs.Common.{◌≡◌, ℕ, List, [], ◌∷◌, ◌++◌, append_assoc, append-nil, length, Option, Some, None, refl, sym, ap, ◌∙◌, subst}
 use Rattle.std.proofs.lemmas.List.{append_cancel_left}
-use Rattle.vx_base.specs.declared.record.Event.{Event}
+use Rattle.vx_record.specs.Types.{Event, Rec}
 use Rattle.vx_base.specs.declared.record.Event.TheVariants as event
-use Rattle.vx_base.specs.declared.record.Rec.{Rec}
 use Rattle.vx_record.specs.Runs.{IsRun, record_of}
 use Rattle.vx_units.specs.Leases.{Lease, LeaseServed}
 use Rattle.vx_exec.specs.View.{Plan}

@@ -2,10 +2,8 @@
 use Rattle.std.specs.Prelude.{◌≡◌, ℕ, ◌+◌, ◌≤◌, List, [], ◌∷◌, ◌++◌, None, IsSome, length}
 use Rattle.vx_base.specs.Lists.{tally}
 use Rattle.vx_base.specs.Queues.{in_service}
-use Rattle.vx_base.specs.declared.number.UnitNo.{UnitNo}
-use Rattle.vx_base.specs.declared.record.Event.{Event}
+use Rattle.vx_record.specs.Types.{Event, Rec, UnitNo}
 use Rattle.vx_base.specs.declared.record.Event.TheVariants as event
-use Rattle.vx_base.specs.declared.record.Rec.{Rec}
 use Rattle.vx_record.specs.Runs.{IsRun, after, end_of, record_of}
 use Rattle.vx_units.specs.Leases.{Out, is_out}
 use Rattle.vx_exec.specs.Leases.{Leasing, leasing_after, stand_at, with_stand}

@@ -1,7 +1,6 @@
 -- What a pool of threads comes to.
 use Rattle.std.specs.Prelude.{◌≡◌, List, Some, length}
-use Rattle.vx_base.specs.declared.record.End.{End}
-use Rattle.vx_base.specs.declared.record.Rec.{Rec}
+use Rattle.vx_record.specs.Types.{End, Rec}
 use Rattle.vx_record.specs.Runs.{IsRun, after, end_after}
 use Rattle.vx_exec.specs.View.{Executive, Plan}
 

@@ -1,12 +1,8 @@
 -- What a turn at the lock does to the history, and how a seat knows.
 use Rattle.std.specs.Prelude.{◌≡◌, List, [], ◌∷◌, ◌++◌, Option, Some, None, length, option_map}
-use Rattle.vx_base.specs.Pieces.{Request}
+use Rattle.vx_record.specs.Types.{End, Event, Rec, Request, UnitNo}
 use Rattle.vx_base.specs.Queues.{front, in_service}
-use Rattle.vx_base.specs.declared.number.UnitNo.{UnitNo}
-use Rattle.vx_base.specs.declared.record.End.{End}
-use Rattle.vx_base.specs.declared.record.Event.{Event}
 use Rattle.vx_base.specs.declared.record.Event.TheVariants as event
-use Rattle.vx_base.specs.declared.record.Rec.{Rec}
 use Rattle.vx_record.specs.Runs.{IsRun, after, end_after, record_of}
 use Rattle.vx_record.specs.State.{State, unit_at}
 use Rattle.vx_units.specs.Leases.{Lease, LeaseServed}

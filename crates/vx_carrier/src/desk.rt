@@ -2,11 +2,11 @@
 
 ghost use Rattle.std.specs.Prelude.{◌≡◌, ◌≤◌, ◌↔◌, ◌+◌, ◌++◌, [], Some, None, OnOk, OnErr, IsOk, IsTrue, Contains, List, length};
 ghost use Rattle.vx_base.specs.Roomy.{HasSpace};
-ghost use Rattle.vx_base.specs.declared.record.Rec.{Rec as RecOf};
-ghost use Rattle.vx_record.specs.Events.{enabled};
+ghost use Rattle.vx_record.specs.Types.{Rec as RecOf};
+ghost use Rattle.vx_record.specs.Events.{enabled, is_don};
 ghost use Rattle.vx_record.specs.Runs.{first};
 ghost use Rattle.vx_exec.specs.Leases.{IsInFor, IsOutFor, first_open};
-ghost use Rattle.vx_exec.specs.View.{Plan as PlanOf, is_don, plan};
+ghost use Rattle.vx_exec.specs.View.{Plan as PlanOf, plan};
 ghost use Rattle.vx_carrier.specs.Desk.{HasRun, IsGoing, advanced};
 ghost use Rattle.vx_carrier.specs.Turns.{Gives, Opens, SawBeg, Takes};
 

@@ -4,11 +4,7 @@ use Rattle.std.proofs.lemmas.Bool.{lt-ltb, ltb-true, ltb-false}
 use Rattle.std.proofs.lemmas.Bool.Decides.{nat_tests}
 use Rattle.std.proofs.lemmas.List.{length-take-le, take-append-le, take_all}
 use Rattle.std.specs.Prelude.{option_to_list}
-use Rattle.vx_base.specs.declared.bytes.NoMemory.{NoMemory}
-use Rattle.vx_base.specs.declared.effects.Effect.{Effect}
-use Rattle.vx_base.specs.declared.record.Answer.{Answer}
-use Rattle.vx_base.specs.declared.record.Event.{Event}
-use Rattle.vx_base.specs.declared.record.Rec.{Rec}
+use Rattle.vx_record.specs.Types.{Answer, Effect, Event, NoMemory, Rec}
 use Rattle.vx_lines.specs.ReadRecords.{read_so_far, with_effect as read_with_effect}
 use Rattle.vx_lines.specs.Words.{◌>>=◌}
 use Rattle.vx_lines.specs.declared.read.Reading.{Reading}

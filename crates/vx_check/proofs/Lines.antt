@@ -1,8 +1,6 @@
 -- The lines of a text's records, followed one after another.
 use Rattle.std.proofs.Common.{◌≡◌, ℕ, ◌+◌, ◌≤◌, true, false, List, [], length, take, drop, Option, None, Some, Result, Ok, Err, IfOk, IfSome, refl, sym, ap, subst, ◌∙◌, drop-drop}
-use Rattle.vx_base.specs.declared.bytes.NoMemory.{NoMemory}
-use Rattle.vx_base.specs.declared.record.Rec.{Rec}
-use Rattle.vx_image.specs.declared.unit.UnitDecl.{UnitDecl}
+use Rattle.vx_record.specs.Types.{NoMemory, Rec, UnitDecl}
 use Rattle.vx_lines.proofs.Cutting.{bad, begins, ended, read_on}
 use Rattle.vx_lines.specs.Cutting.{fed_len}
 use Rattle.vx_lines.specs.ReadEffect.{read_effect}

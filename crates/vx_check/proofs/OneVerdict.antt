@@ -1,7 +1,6 @@
 -- No journal has two verdicts.
 use Rattle.std.proofs.Common.{◌≡◌, ℕ, zero, suc, ◌<◌, ◌≤◌, List, [], ◌∷◌, ◌++◌, length, length-append, refl, sym, ap, subst, ◌∙◌, arith, append_assoc}
-use Rattle.vx_base.specs.declared.record.Rec.{Rec}
-use Rattle.vx_image.specs.declared.system.System.{System}
+use Rattle.vx_record.specs.Types.{Rec, System}
 use Rattle.vx_record.specs.Runs.{IsRun, first}
 use Rattle.vx_journal.specs.declared.journal.Journal.{Journal}
 use Rattle.vx_check.proofs.Judging.{front_steps}

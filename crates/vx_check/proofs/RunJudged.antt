@@ -1,9 +1,8 @@
 -- The journal of a run that has ended is judged as it has ended.
 use Rattle.std.proofs.Common.{◌≡◌, ℕ, zero, suc, ◌≤◌, nat_le, Bool, true, false, cond, List, [], ◌∷◌, length, Some, None, refl, sym, ap, subst, ◌∙◌, arith}
 use Rattle.std.proofs.lemmas.Bool.{leb-true, le-leb}
-use Rattle.vx_base.specs.declared.record.End.{End}
+use Rattle.vx_record.specs.Types.{End, Event}
 use Rattle.vx_base.specs.declared.record.End.TheVariants.{Limit}
-use Rattle.vx_base.specs.declared.record.Event.{Event}
 use Rattle.vx_lines.specs.Records.{ended_lines}
 use Rattle.vx_record.specs.Events.{enabled}
 use Rattle.vx_record.specs.Runs.{after, are_deleted, end_after, end_with}

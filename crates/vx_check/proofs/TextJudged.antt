@@ -3,9 +3,7 @@ use Rattle.std.proofs.Common.{◌≡◌, ℕ, zero, suc, ◌==◌, ◌≤◌, na
 use Rattle.std.proofs.lemmas.Bool.{le-leb}
 use Rattle.std.proofs.lemmas.Bool.Decides.{nat_tests}
 use Rattle.vx_base.specs.declared.record.End.TheVariants.{Limit}
-use Rattle.vx_base.specs.declared.record.Event.{Event}
-use Rattle.vx_base.specs.declared.record.Rec.{Rec}
-use Rattle.vx_image.specs.declared.system.System.{System}
+use Rattle.vx_record.specs.Types.{Event, Rec, System}
 use Rattle.vx_lines.specs.ReadRecords.{read_records}
 use Rattle.vx_lines.specs.declared.read.LinesFail.TheVariants as lines_fail
 use Rattle.vx_lines.specs.declared.read.Records.{Records}

@@ -1,8 +1,6 @@
 -- What is known of the records of a transcript while its lines are read. Private contracts cite this alone.
 use Rattle.std.specs.Prelude.{◌≡◌, ◌⊎◌, ℕ, suc, ◌+◌, ◌<◌, ◌≤◌, ◌==◌, nat_lt, List, [], ◌∷◌, ◌++◌, length, take, if◌then◌else◌, Option, None, Some, Result, Ok, Err, Contains}
-use Rattle.vx_base.specs.declared.effects.Effect.{Effect}
-use Rattle.vx_base.specs.declared.record.Rec.{Rec}
-use Rattle.vx_image.specs.declared.system.System.{System}
+use Rattle.vx_record.specs.Types.{Effect, Rec, System}
 use Rattle.vx_lines.specs.ReadRecords.{Fails, nothing_read, read_records, read_so_far}
 use Rattle.vx_lines.specs.declared.read.LinesFail.{LinesFail}
 use Rattle.vx_lines.specs.declared.read.Reading.{Reading}

@@ -1,8 +1,7 @@
 -- How the records are taken. Private contracts cite this alone.
 use Rattle.std.specs.Prelude.{◌≡◌, ℕ, ◌+◌, ◌≤◌, ◌==◌, nat_lt, List, [], ◌∷◌, ◌++◌, length, if◌then◌else◌, Option, None, Some}
-use Rattle.vx_base.specs.declared.record.End.{End}
+use Rattle.vx_record.specs.Types.{End, Rec}
 use Rattle.vx_base.specs.declared.record.End.TheVariants.{Limit}
-use Rattle.vx_base.specs.declared.record.Rec.{Rec}
 use Rattle.vx_record.specs.State.{State}
 use Rattle.vx_record.specs.Runs.{AreSteps, end_of}
 use Rattle.vx_exec.specs.Taken.{TakesRun}

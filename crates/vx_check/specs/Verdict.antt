@@ -1,9 +1,7 @@
 -- The verdict on a transcript that was read: whether its records are the machine's, and its trailer.
 use Rattle.std.specs.Prelude.{◌≡◌, ℕ, zero, suc, ◌+◌, List, [], ◌∷◌, ◌++◌, length, bytes_eq, if◌then◌else◌, Option, None, Some}
-use Rattle.vx_base.specs.declared.record.End.{End}
+use Rattle.vx_record.specs.Types.{End, Rec, System}
 use Rattle.vx_base.specs.declared.record.End.TheVariants as end
-use Rattle.vx_base.specs.declared.record.Rec.{Rec}
-use Rattle.vx_image.specs.declared.system.System.{System}
 use Rattle.vx_lines.specs.Records.{ended_lines}
 use Rattle.vx_record.specs.State.{State}
 use Rattle.vx_record.specs.Runs.{IsRun, after, end_after}

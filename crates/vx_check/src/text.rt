@@ -2,7 +2,7 @@
 
 ghost use Rattle.std.specs.Prelude.{◌≡◌, ◌+◌, ◌-◌, ◌<◌, ◌≤◌, ℕ, IfOk, None, length};
 ghost use Rattle.vx_image.specs.WellFormed.{IsWellFormed};
-ghost use Rattle.vx_image.specs.declared.system.System.{System as SystemOf};
+ghost use Rattle.vx_record.specs.Types.{System as SystemOf};
 ghost use Rattle.vx_journal.specs.ReadJournal.{IsFront, TellsIfFailed};
 ghost use Rattle.vx_record.specs.Runs.{end_of, first};
 ghost use Rattle.vx_check.specs.Following as follow_spec;

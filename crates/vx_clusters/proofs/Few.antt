@@ -1,9 +1,9 @@
 -- How many effects a change has at most.
 use Rattle.std.proofs.Common.{◌≤◌, ◌+◌, ℕ, List, [], Bool, true, false, ◌&&◌, not, if◌then◌else◌, Option, Some, None, length, length-append, arith}
 use Rattle.std.specs.List.{find}
-use Rattle.vx_base.specs.Clusters.{Common, Change, unchanged, followed, is_cluster, is_association, stands, is_used, made, gone, parted, swept_at, swept, dissociated_at, dissociated, has_already, made_where_new, joined, associated, with_mark, marked_at, marked, cluster_number}
+use Rattle.vx_base.specs.Clusters.{Common, Change, unchanged, followed, is_cluster, is_association, stands, is_used, made, gone, parted, swept_at, swept, dissociated_at, dissociated, has_already, made_where_new, joined, associated, with_mark, marked_at, cluster_number}
 use Rattle.vx_base.specs.Lists.{amend}
-use Rattle.vx_base.specs.Pieces.{Cluster, Association}
+use Rattle.vx_base.specs.Pieces.{Association, Cluster}
 use Rattle.vx_base.specs.declared.number.Pid.{Pid}
 use Rattle.vx_clusters.specs.Clusters.{associate, dissociate, associate_refusal, dissociate_refusal, unless}
 use Rattle.vx_clusters.specs.declared.fail.AscFail.{AscFail}

@@ -1,10 +1,8 @@
 -- A run that threads took.
 use Rattle.std.proofs.Common.{◌≡◌, ℕ, List, ◌++◌, subst, codes}
-use Rattle.vx_base.specs.declared.record.End.{End}
-use Rattle.vx_base.specs.declared.record.Rec.{Rec}
+use Rattle.vx_record.specs.Types.{End, Rec, System}
 use Rattle.vx_carrier.specs.Pool.{IsPoolRun}
 use Rattle.vx_exec.specs.View.{Executive}
-use Rattle.vx_image.specs.declared.system.System.{System}
 use Rattle.vx_journal.specs.Transcript.{trailer_lines}
 use Rattle.vx_lines.specs.Records.{ended_lines, records_lines}
 use Rattle.vx_record.specs.Runs.{first}

@@ -6,7 +6,7 @@ use Rattle.vx_endings.specs.Endings.{endings}
 use Rattle.vx_endings.specs.EndsSo.{IsWitnessed}
 use Rattle.vx_endings.specs.declared.ending.RunEnding.{RunEnding}
 use Rattle.vx_explore.specs.declared.found.Found.{Found}
-use Rattle.vx_image.specs.declared.system.System.{System}
+use Rattle.vx_record.specs.Types.{System}
 use Rattle.vx_commands.specs.Explored.{AreEndings}
 
 -- the summary of all runs tells of each run that has ended, and of no other

@@ -3,7 +3,7 @@ use Rattle.std.proofs.Common.{◌≡◌, ℕ, List, Ok, ap, sym, ◌∙◌}
 use Rattle.vx_check.specs.Verdict.{IsJudged}
 use Rattle.vx_check.specs.declared.verdict.Verdict.{Verdict}
 use Rattle.vx_grammar.specs.Grammar.{Spells}
-use Rattle.vx_image.specs.declared.system.System.{System}
+use Rattle.vx_record.specs.Types.{System}
 use Rattle.vx_journal.specs.ReadJournal.{script_part, journal_of, IsJournal}
 use Rattle.vx_journal.specs.declared.journal.Journal.{Journal}
 use Rattle.vx_words.specs.declared.command.Report.{Report}

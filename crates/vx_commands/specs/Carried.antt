@@ -1,8 +1,6 @@
 -- What the threads of `run` take of a system.
 use Rattle.std.specs.Prelude.{◌≡◌, ℕ, List, Some}
-use Rattle.vx_base.specs.declared.record.End.{End}
-use Rattle.vx_base.specs.declared.record.Rec.{Rec}
-use Rattle.vx_image.specs.declared.system.System.{System}
+use Rattle.vx_record.specs.Types.{End, Rec, System}
 use Rattle.vx_journal.specs.Transcript.{transcript}
 use Rattle.vx_record.specs.Runs.{IsRun, end_after}
 use Rattle.vx_tell.specs.Code.{status_of_end}

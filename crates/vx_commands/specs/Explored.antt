@@ -1,8 +1,7 @@
 -- What exploring a system comes to: how all its runs end, or that there are too many states.
 use Rattle.std.specs.Prelude.{◌≡◌, ℕ, List, [], ◌∷◌, ◌++◌, Contains, map}
 use Rattle.std.specs.List.{AllByRecursion}
-use Rattle.vx_base.specs.declared.record.End.{End}
-use Rattle.vx_base.specs.declared.record.Rec.{Rec}
+use Rattle.vx_record.specs.Types.{End, Rec, System}
 use Rattle.vx_endings.specs.Endings.{endings}
 use Rattle.vx_endings.specs.EndsSo.{EndsSo, IsWitnessed}
 use Rattle.vx_endings.specs.Interleavings.{IsTooWide}
@@ -10,7 +9,6 @@ use Rattle.vx_endings.specs.Text.{cut_line, endings_text}
 use Rattle.vx_endings.specs.Worst.{worst_end}
 use Rattle.vx_endings.specs.declared.ending.RunEnding.{RunEnding}
 use Rattle.vx_explore.specs.declared.found.Found.{Found}
-use Rattle.vx_image.specs.declared.system.System.{System}
 use Rattle.vx_tell.specs.Code.{status_of_end}
 use Rattle.vx_tell.specs.declared.status.Status.{Status}
 use Rattle.vx_tell.specs.declared.status.Status.TheVariants as status

@@ -1,6 +1,6 @@
 -- What showing a system comes to.
 use Rattle.std.specs.Prelude.{ℕ, List}
-use Rattle.vx_image.specs.declared.system.System.{System}
+use Rattle.vx_record.specs.Types.{System}
 use Rattle.vx_script.specs.Script.{script}
 use Rattle.vx_tell.specs.declared.status.Status.{Status}
 use Rattle.vx_tell.specs.declared.status.Status.TheVariants as status

@@ -1,12 +1,10 @@
 -- What the program's call answers and writes: for `run`, whose schedule its threads choose, and for the words of `quiet_call`.
 use Rattle.std.specs.Prelude.{◌≡◌, ℕ, List, Option, None, Some}
 use Rattle.std.specs.Io.KnownBytes.{Appends}
-use Rattle.vx_base.specs.declared.record.End.{End}
-use Rattle.vx_base.specs.declared.record.Rec.{Rec}
+use Rattle.vx_record.specs.Types.{End, Rec, System}
 use Rattle.vx_commands.specs.Top.{IsAnswer, IsLawful}
 use Rattle.vx_grammar.specs.Grammar.{Spells}
 use Rattle.vx_host.specs.Streams.{TakesAll}
-use Rattle.vx_image.specs.declared.system.System.{System}
 use Rattle.vx_journal.specs.Transcript.{transcript}
 use Rattle.vx_laws.specs.Laws.{KeepLaws}
 use Rattle.vx_commands.specs.Carried.{IsRunText}

@@ -1,13 +1,12 @@
 -- What the call of all commands but `run` answers and writes, and what it read for it.
 use Rattle.std.specs.Prelude.{◌≡◌, ℕ, List, Option, None, Some}
 use Rattle.std.specs.Io.KnownBytes.{Appends, Keeps}
-use Rattle.vx_base.specs.declared.record.Rec.{Rec}
+use Rattle.vx_record.specs.Types.{Rec, System}
 use Rattle.vx_check.specs.declared.verdict.Verdict.TheVariants as verdict
 use Rattle.vx_commands.specs.Shown.{IsShowText}
 use Rattle.vx_gen.specs.Generated.{generated}
 use Rattle.vx_grammar.specs.Grammar.{Spells}
 use Rattle.vx_host.specs.Streams.{TakesAll}
-use Rattle.vx_image.specs.declared.system.System.{System}
 use Rattle.vx_journal.specs.ReadJournal.{IsJournal}
 use Rattle.vx_journal.specs.declared.journal.Journal.{Journal}
 use Rattle.vx_laws.specs.Laws.{KeepLaws}

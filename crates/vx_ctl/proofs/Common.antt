@@ -2,7 +2,7 @@
 use Rattle.std.proofs.Common.{◌≡◌, ℕ, List, Bool, true, false, ◌&&◌, ◌==◌, not, if◌then◌else◌, Some, None, refl}
 use Rattle.vx_base.specs.Clusters.{Change, associated, cluster_number, dissociated, is_common, marked, stands}
 use Rattle.vx_base.specs.declared.cond.Cond.TheVariants.{Normal, IllEfc, NoPriv}
-use Rattle.vx_base.specs.declared.number.Pid.{Pid}
+use Rattle.vx_record.specs.Types.{Pid}
 use Rattle.vx_clusters.specs.Clusters.{answer, unless}
 use Rattle.vx_clusters.specs.declared.fail.AscFail.TheVariants as fail
 use Rattle.vx_record.specs.Flags.{ascefc, dacefc, dlcefc}

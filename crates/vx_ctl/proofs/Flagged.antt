@@ -1,14 +1,10 @@
 -- An event flag that is set or cleared leaves processes, their rooms and charges, and timers as they were.
 use Rattle.std.proofs.Common.{◌≡◌, ℕ, ◌+◌, ◌-◌, List, [], ◌∷◌, Bool, length, length-set, not, slice_index_or, refl, ap, sym, subst, ◌∙◌, arith}
 use Rattle.vx_base.specs.Lists.{tally}
-use Rattle.vx_base.specs.Pieces.{Queued}
+use Rattle.vx_record.specs.Types.{Cell, Effect, Need, Pid, Queued}
 use Rattle.vx_base.specs.Quotas.{is_within, together}
-use Rattle.vx_base.specs.declared.effects.Cell.{Cell}
 use Rattle.vx_base.specs.declared.effects.Cell.TheVariants.{Local, Common}
-use Rattle.vx_base.specs.declared.effects.Effect.{Effect}
 use Rattle.vx_base.specs.declared.effects.Effect.TheVariants as effect
-use Rattle.vx_base.specs.declared.number.Pid.{Pid}
-use Rattle.vx_base.specs.declared.quota.Need.{Need}
 use Rattle.vx_record.specs.Charges.{bears_ast, charge, charged_timer, exceeds, is_attention_of, is_charged}
 use Rattle.vx_record.specs.Flags.{flag_part, with_cell, with_local_flag}
 use Rattle.vx_record.specs.State.{State, IsProcess, change, limits_of, no_decl, nobody, process_at}

@@ -1,8 +1,7 @@
 -- Frames go inward, or stay in their mode.
 use Rattle.std.proofs.Common.{List, [], ◌∷◌, IsTrue, refl}
 use Rattle.vx_base.specs.Modes.{inner, reaches}
-use Rattle.vx_base.specs.declared.frame.Frame.{Frame}
-use Rattle.vx_base.specs.declared.mode.Mode.{Mode}
+use Rattle.vx_record.specs.Types.{Frame, Mode}
 use Rattle.vx_base.specs.declared.mode.Mode.TheVariants.{Kernel, Exec, Super, User}
 use Rattle.vx_frames.specs.Frames.{may_stand_on}
 use Rattle.vx_record.specs.State.{top_mode}

@@ -1,9 +1,8 @@
 -- What calls of services answer.
 use Rattle.std.specs.Prelude.{ℕ, Bool, Result, Ok, Err}
-use Rattle.vx_base.specs.declared.cond.Cond.{Cond}
+use Rattle.vx_record.specs.Types.{Cond, Pid}
 use Rattle.vx_base.specs.declared.cond.Cond.TheVariants.{Normal, IllEfc, NoPriv}
 use Rattle.vx_base.specs.declared.frame.Wait.TheVariants as wait
-use Rattle.vx_base.specs.declared.number.Pid.{Pid}
 use Rattle.vx_clusters.specs.declared.fail.AscFail.{AscFail}
 use Rattle.vx_clusters.specs.declared.fail.AscFail.TheVariants as fail
 use Rattle.vx_record.specs.State.{State}

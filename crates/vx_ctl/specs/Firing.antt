@@ -1,7 +1,7 @@
 -- Entries that fire, as the code takes them: the first that is due, again and again.
 use Rattle.std.specs.Prelude.{◌≡◌, ℕ, ◌<◌, ◌≤◌, true, ◌==◌, if◌then◌else◌, Option, Some, None}
 use Rattle.std.specs.List.{AllByRecursion, filter, find}
-use Rattle.vx_base.specs.Pieces.{Queued, Timer}
+use Rattle.vx_record.specs.Types.{Queued, Timer}
 use Rattle.vx_base.specs.declared.effects.Effect.TheVariants as effect
 use Rattle.vx_record.specs.State.{State, change}
 use Rattle.vx_record.specs.Control.{with_wake}

@@ -1,12 +1,13 @@
 -- The bars of a process's frames: an AST routine stands on what it interrupts.
 use Rattle.std.specs.Prelude.{ℕ, ◌+◌, ◌-◌, ◌*◌, nat_lt, Bool, false, List, [], ◌∷◌, ◌++◌, codes, length, if◌then◌else◌, slice_index_or, slice_set}
 use Rattle.vx_base.specs.declared.mode.Mode.{Mode}
-use Rattle.vx_base.specs.declared.mode.Mode.TheVariants.{Kernel, Exec, Super, User}
 use Rattle.vx_base.specs.declared.number.Pid.{Pid}
+use Rattle.vx_base.specs.declared.mode.Mode.TheVariants.{Kernel, Exec, Super, User}
 use Rattle.vx_draw.specs.Places.{process_x}
 use Rattle.vx_draw.specs.Shapes.{bar}
 use Rattle.vx_draw.specs.declared.frames.Bar.{Bar}
 use Rattle.vx_draw.specs.declared.frames.Move.{Move}
+use Rattle.vx_base.specs.Lists.{rest}
 use Rattle.vx_draw.specs.declared.frames.Move.TheVariants as move
 
 abbrev pub mode_class : Mode → List ℕ
@@ -61,15 +62,11 @@ abbrev pub inward : Mode → ℕ → List Bar → List Bar
 inward mode at [] = []
 inward mode at (b ∷ bs) = record { mode = further_in b.mode mode; since = at; waits = false } ∷ b ∷ bs
 
-abbrev pub below_top : List Bar → List Bar
-below_top [] = []
-below_top (b ∷ bs) = bs
-
 -- the frames after a move, the top first
 abbrev pub moved : Move → List Bar → List Bar
 moved move.Stay bars' = bars'
 moved (move.Turn at waits) bars' = turned at waits bars'
-moved (move.Leave at) bars' = below_top bars'
+moved (move.Leave at) bars' = rest bars'
 moved (move.LeaveAll at) bars' = []
 moved (move.Enter b) bars' = b ∷ bars'
 moved (move.Inward mode at) bars' = inward mode at bars'

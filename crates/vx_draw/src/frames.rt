@@ -148,7 +148,7 @@ impl Stack {
     fn leave(&mut self, x: u128, at: u128, out: &mut Bytes) -> Result<(), NoMemory>
         requires { x < 2 ^ 100 }
         ensures text { OnOk result (out.new ≡ out.old ++ spec.top_bar x at self.old) }
-        ensures frames { OnOk result (self.new ≡ spec.below_top self.old) }
+        ensures frames { OnOk result (self.new ≡ rest self.old) }
     {
         match self.pop() {
             Some(bar) => print_bar_on(x, self.items.len(), bar, at, out),

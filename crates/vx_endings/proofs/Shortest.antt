@@ -3,8 +3,7 @@ use Rattle.std.proofs.Common.{◌≡◌, ℕ, zero, suc, ◌≤◌, List, [], �
 use Rattle.std.specs.Prelude.{◌==◌, Contains}
 use Rattle.std.specs.List.{AllByRecursion, list_any}
 use Rattle.std.proofs.lemmas.Bool.{or_left, or_right}
-use Rattle.vx_base.specs.declared.record.Rec.{Rec}
-use Rattle.vx_image.specs.declared.system.System.{System}
+use Rattle.vx_record.specs.Types.{Rec, System}
 use Rattle.vx_record.specs.State.{State}
 use Rattle.vx_explore.specs.declared.found.Found.{Found}
 use Rattle.vx_explore.specs.Runs.{Run, firsts, of_length, row_of, shortest_first}

@@ -1,8 +1,7 @@
 -- A run that stops has ended as it says.
 use Rattle.std.proofs.Common.{◌≡◌, ℕ, ◌+◌, ◌≤◌, List, [], ◌∷◌, Bool, Some, refl, arith, ◌⊎◌, inl, inr}
 use Rattle.std.proofs.lemmas.Bool.Decides.{nat_tests}
-use Rattle.vx_base.specs.declared.record.End.{End}
-use Rattle.vx_base.specs.declared.record.Event.{Event}
+use Rattle.vx_record.specs.Types.{End, Event}
 use Rattle.vx_record.specs.Events.{enabled}
 use Rattle.vx_record.specs.Runs.{are_deleted, end_of, end_with}
 use Rattle.vx_record.specs.State.{State}

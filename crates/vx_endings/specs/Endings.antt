@@ -1,9 +1,7 @@
 -- How all runs of a system end.
 use Rattle.std.specs.Prelude.{ℕ, List, [], ◌∷◌, Bool, true, false, ◌&&◌, bytes_eq, if◌then◌else◌}
-use Rattle.vx_base.specs.declared.record.End.{End}
+use Rattle.vx_record.specs.Types.{End, Event, System}
 use Rattle.vx_base.specs.declared.record.End.TheVariants.{Done, Hung, Limit}
-use Rattle.vx_base.specs.declared.record.Event.{Event}
-use Rattle.vx_image.specs.declared.system.System.{System}
 use Rattle.vx_record.specs.Events.{enabled}
 use Rattle.vx_record.specs.Runs.{are_deleted}
 use Rattle.vx_record.specs.State.{State}

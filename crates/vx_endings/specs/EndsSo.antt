@@ -1,7 +1,6 @@
 -- A run of the machine that has ended.
 use Rattle.std.specs.Prelude.{◌≡◌, ℕ, ◌≤◌, List, Some, length}
-use Rattle.vx_base.specs.declared.record.Rec.{Rec}
-use Rattle.vx_image.specs.declared.system.System.{System}
+use Rattle.vx_record.specs.Types.{Rec, System}
 use Rattle.vx_record.specs.Runs.{IsRun, after, end_after}
 use Rattle.vx_explore.specs.declared.found.Found.{Found}
 use Rattle.vx_endings.specs.declared.ending.RunEnding.{RunEnding}

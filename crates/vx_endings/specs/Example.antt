@@ -3,12 +3,9 @@ use Rattle.std.specs.Prelude.{ℕ, zero, suc, List, [], ◌∷◌, codes, true, 
 use Rattle.vx_base.specs.declared.call.Arg.TheVariants.{Value, Unused}
 use Rattle.vx_base.specs.declared.call.Operand.TheVariants.{Num}
 use Rattle.vx_base.specs.declared.mode.Mode.TheVariants.{User}
-use Rattle.vx_base.specs.declared.service.Service.{Service}
+use Rattle.vx_record.specs.Types.{ProcDecl, Service, Stmt, System}
 use Rattle.vx_base.specs.declared.service.Service.TheVariants.{Exit, SetEf}
-use Rattle.vx_image.specs.declared.decl.ProcDecl.{ProcDecl}
-use Rattle.vx_image.specs.declared.stmt.Stmt.{Stmt}
 use Rattle.vx_image.specs.declared.stmt.Stmt.TheVariants as stmt
-use Rattle.vx_image.specs.declared.system.System.{System}
 
 -- a call with one argument
 abbrev pub calls : Service → ℕ → Stmt

@@ -1,6 +1,6 @@
 -- An executive as a machine whose runs are explored. The private machine cites these, and no public contract does.
 use Rattle.std.specs.Prelude.{ℕ, ◌+◌, Option, Some, None}
-use Rattle.vx_base.specs.declared.record.End.{End}
+use Rattle.vx_record.specs.Types.{End}
 use Rattle.vx_record.specs.Runs.{end_of, first}
 use Rattle.vx_endings.specs.declared.ending.RunEnding.{RunEnding}
 use Rattle.vx_exec.specs.View.{Executive}

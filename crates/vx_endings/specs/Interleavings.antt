@@ -1,7 +1,6 @@
 -- All runs of a system: every order in which its events may come.
 use Rattle.std.specs.Prelude.{ℕ, List, Option, Some, None, length, slice_get}
-use Rattle.vx_base.specs.declared.record.Event.{Event}
-use Rattle.vx_image.specs.declared.system.System.{System}
+use Rattle.vx_record.specs.Types.{Event, System}
 use Rattle.vx_record.specs.Events.{enabled, step}
 use Rattle.vx_record.specs.Runs.{first}
 use Rattle.vx_record.specs.State.{State}

@@ -1,7 +1,7 @@
 -- The worst end of all runs.
 use Rattle.std.specs.Prelude.{List, Bool, if◌then◌else◌}
 use Rattle.std.specs.List.{list_any}
-use Rattle.vx_base.specs.declared.record.End.{End}
+use Rattle.vx_record.specs.Types.{End}
 use Rattle.vx_base.specs.declared.record.End.TheVariants.{Done, Hung, Limit}
 use Rattle.vx_explore.specs.declared.found.Found.{Found}
 use Rattle.vx_endings.specs.declared.ending.RunEnding.{RunEnding}

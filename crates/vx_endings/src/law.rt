@@ -2,8 +2,7 @@
 
 ghost use Rattle.std.specs.Prelude.{ℕ, ◌≤◌, Contains, List, length, map};
 ghost use Rattle.std.specs.List.{AllByRecursion};
-ghost use Rattle.vx_base.specs.declared.record.Rec.{Rec as RecOf};
-ghost use Rattle.vx_image.specs.declared.system.System.{System as SystemOf};
+ghost use Rattle.vx_record.specs.Types.{Rec as RecOf, System as SystemOf};
 ghost use Rattle.vx_endings.specs.Endings.{endings};
 ghost use Rattle.vx_endings.specs.EndsSo.{EndsSo, IsWitnessed};
 ghost use Rattle.vx_endings.specs.declared.ending.RunEnding.{RunEnding as EndingOf};

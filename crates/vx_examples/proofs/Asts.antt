@@ -1,13 +1,12 @@
 -- ASTs and modes: declaring, enabling, changing mode, and which AST may start. RunAstsInTurn, RunAstsByMode and
 -- RunAstQuota show whole runs.
 use Rattle.std.specs.Prelude.{◌≡◌, ◌∷◌, [], ◌++◌, ℕ, List, None, Option, Some, codes, false, refl, replicate, true}
-use Rattle.vx_base.specs.Pieces.{Enables, Queued, all_on}
+use Rattle.vx_record.specs.Types.{Enables, Frame, Mode, Queued}
+use Rattle.vx_base.specs.Pieces.{all_on}
 use Rattle.vx_base.specs.declared.cond.Cond.TheVariants as cond
 use Rattle.vx_base.specs.declared.effects.Opened.TheVariants as opened
-use Rattle.vx_base.specs.declared.frame.Frame.{Frame}
 use Rattle.vx_base.specs.declared.frame.FrameKind.TheVariants as kind
 use Rattle.vx_base.specs.declared.mode.Mode.TheVariants as mode
-use Rattle.vx_base.specs.declared.mode.Mode.{Mode}
 use Rattle.vx_base.specs.declared.routine.Entry.TheVariants as entry
 use Rattle.vx_base.specs.declared.service.Service.TheVariants as service
 use Rattle.vx_examples.specs.Script.{call, enb, id, in_mode, no_privs, opens, process, que, routine, value}

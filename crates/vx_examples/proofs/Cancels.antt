@@ -1,12 +1,11 @@
 -- Cancelling a channel, by $CANCEL and $DASSGN. RunCancel shows a whole run.
 use Rattle.std.specs.Prelude.{◌∷◌, [], ℕ, List, None, Some, codes, false, refl, replicate, true}
-use Rattle.vx_base.specs.Pieces.{Attention, Request, cleared}
+use Rattle.vx_record.specs.Types.{Attention, Func, Msg, Request}
+use Rattle.vx_base.specs.Pieces.{cleared}
 use Rattle.vx_base.specs.declared.cond.Cond.TheVariants as cond
 use Rattle.vx_base.specs.declared.mode.Mode.TheVariants as mode
 use Rattle.vx_base.specs.declared.request.Body.TheVariants as body
 use Rattle.vx_base.specs.declared.request.Func.TheVariants as func
-use Rattle.vx_base.specs.declared.request.Func.{Func}
-use Rattle.vx_base.specs.declared.request.Msg.{Msg}
 use Rattle.vx_base.specs.declared.routine.Entry.TheVariants as entry
 use Rattle.vx_base.specs.declared.service.Service.TheVariants as service
 use Rattle.vx_examples.specs.Script.{box, call, drops, fin, flag, id, mark, mbx, mcut, process, que, status, value}

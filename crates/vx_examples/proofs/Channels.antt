@@ -1,11 +1,10 @@
 -- Channels and mailboxes: assigning, creating, freeing and deleting. RunChannelTest, RunFullMailbox and
 -- RunMailboxRefused show whole runs.
 use Rattle.std.specs.Prelude.{◌≡◌, ◌∷◌, [], ◌++◌, ℕ, List, None, Option, Some, codes, false, refl, replicate, true}
-use Rattle.vx_base.specs.Pieces.{Channel, Mailbox}
+use Rattle.vx_record.specs.Types.{Channel, Mailbox, Msg}
 use Rattle.vx_base.specs.declared.cond.Cond.TheVariants as cond
 use Rattle.vx_base.specs.declared.mode.Mode.TheVariants as mode
 use Rattle.vx_base.specs.declared.request.Body.TheVariants as body
-use Rattle.vx_base.specs.declared.request.Msg.{Msg}
 use Rattle.vx_base.specs.declared.service.Service.TheVariants as service
 use Rattle.vx_examples.specs.Script.{call, id, in_mode, mailbox, mbx, named, no_privs, process, puts, value, variable}
 use Rattle.vx_examples.specs.Small.{Answers, Comes, Refuses, alone, box_holding, on_box, on_unit, small_store, somebody, somebody_in, with, with_both}

@@ -1,9 +1,9 @@
 -- What is charged along a run: `RunDeletion`, in which a process is deleted.
 use Rattle.std.specs.Prelude.{◌≡◌, ◌∷◌, [], ℕ, List, None, Some, false, refl, take, true}
-use Rattle.vx_base.specs.Pieces.{Alarm, Attention, OfTimer, OfWake, Queued, Request, Timer}
+use Rattle.vx_record.specs.Types.{Alarm, Attention, Need, Queued, Request, Timer}
+use Rattle.vx_base.specs.Pieces.{OfTimer, OfWake}
 use Rattle.vx_base.specs.Quotas.{no_need}
 use Rattle.vx_base.specs.declared.mode.Mode.TheVariants as mode
-use Rattle.vx_base.specs.declared.quota.Need.{Need}
 use Rattle.vx_base.specs.declared.request.Func.TheVariants as func
 use Rattle.vx_base.specs.declared.routine.Entry.TheVariants as entry
 use Rattle.vx_examples.proofs.RunDeletion as deletion

@@ -1,6 +1,6 @@
 -- Common event flag clusters: associating, dissociating and marking. RunCommonFlags shows a whole run.
 use Rattle.std.specs.Prelude.{◌∷◌, [], codes, false, refl, true}
-use Rattle.vx_base.specs.Pieces.{Cluster}
+use Rattle.vx_record.specs.Types.{Cluster}
 use Rattle.vx_base.specs.declared.cond.Cond.TheVariants as cond
 use Rattle.vx_base.specs.declared.service.Service.TheVariants as service
 use Rattle.vx_examples.specs.Script.{call, cef, clu, named, no_clu, no_privs, value}

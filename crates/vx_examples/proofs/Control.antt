@@ -1,20 +1,17 @@
 -- Control of processes: who may control whom, hibernation, suspension, forced exits, creation and deletion.
 -- RunHibernation, RunCreation, RunNoPrivilege, RunForcedExit and RunDeletion show whole runs.
 use Rattle.std.specs.Prelude.{◌≡◌, ◌∷◌, [], ℕ, List, None, Some, codes, false, map, refl, replicate, true}
-use Rattle.vx_base.specs.declared.call.Call.{Call}
+use Rattle.vx_record.specs.Types.{Call, Mode, Privs, ProcDecl}
 use Rattle.vx_base.specs.declared.cond.Cond.TheVariants as cond
 use Rattle.vx_base.specs.declared.effects.Opened.TheVariants as opened
 use Rattle.vx_base.specs.declared.frame.Phase.TheVariants as phase
 use Rattle.vx_base.specs.declared.frame.Wait.TheVariants as wait
 use Rattle.vx_base.specs.declared.mode.Mode.TheVariants as mode
-use Rattle.vx_base.specs.declared.mode.Mode.{Mode}
-use Rattle.vx_base.specs.declared.quota.Privs.{Privs}
 use Rattle.vx_base.specs.declared.routine.Entry.TheVariants as entry
 use Rattle.vx_base.specs.declared.service.Service.TheVariants as service
 use Rattle.vx_examples.specs.Script.{call, declared, id, in_r0, named, new, no_privs, opens, process, puts, que, value, variable}
 use Rattle.vx_examples.specs.Small.{Answers, Comes, Refuses, Suspends, alone, both, small_store, small_system, somebody, somebody_in, waiting, with, with_all, with_both}
 use Rattle.vx_image.specs.Storage.{no_storage}
-use Rattle.vx_image.specs.declared.decl.ProcDecl.{ProcDecl}
 use Rattle.vx_record.specs.Services.{service}
 use Rattle.vx_record.specs.State.{Process, State}
 

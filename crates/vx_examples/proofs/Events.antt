@@ -1,13 +1,12 @@
 -- Events: what is enabled, and what RUN and AST do. TICK stands in Timers, BEG and DON in Units, RDN in Rundown.
 use Rattle.std.specs.Prelude.{◌≡◌, ◌∷◌, [], ℕ, List, None, Some, codes, false, refl, true}
-use Rattle.vx_base.specs.Pieces.{OfTimer, Request, Timer, all_on}
+use Rattle.vx_record.specs.Types.{Frame, Phase, Request, Stmt, Timer}
+use Rattle.vx_base.specs.Pieces.{OfTimer, all_on}
 use Rattle.vx_base.specs.declared.call.Operand.TheVariants as operand
 use Rattle.vx_base.specs.declared.call.Target.TheVariants as target
 use Rattle.vx_base.specs.declared.cond.Cond.TheVariants as cond
-use Rattle.vx_base.specs.declared.frame.Frame.{Frame}
 use Rattle.vx_base.specs.declared.frame.FrameKind.TheVariants as kind
 use Rattle.vx_base.specs.declared.frame.Phase.TheVariants as phase
-use Rattle.vx_base.specs.declared.frame.Phase.{Phase}
 use Rattle.vx_base.specs.declared.frame.Wait.TheVariants as wait
 use Rattle.vx_base.specs.declared.mode.Mode.TheVariants as mode
 use Rattle.vx_base.specs.declared.record.Answer.TheVariants as answer
@@ -20,7 +19,6 @@ use Rattle.vx_examples.specs.Script.{call, calls, flag, held_in, id, in_r0, leav
 use Rattle.vx_examples.specs.Small.{alone, block_unit, both, frame_of, line_unit, outstanding, small_image, small_store, small_system, somebody, waiting, with, with_both}
 use Rattle.vx_image.specs.declared.stmt.Rel.TheVariants as rel
 use Rattle.vx_image.specs.declared.stmt.Stmt.TheVariants as stmt
-use Rattle.vx_image.specs.declared.stmt.Stmt.{Stmt}
 use Rattle.vx_record.specs.Events.{enabled, step}
 use Rattle.vx_record.specs.Runs.{end_of}
 use Rattle.vx_record.specs.Services.{place}

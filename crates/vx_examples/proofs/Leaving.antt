@@ -1,14 +1,12 @@
 -- Exit, exit handlers and deletion, up to the rundown. RunExitHandlers, RunHandlerInKernel, RunNoHandler and
 -- RunDeletion show whole runs.
 use Rattle.std.specs.Prelude.{◌∷◌, [], ℕ, List, Some, codes, refl, true}
-use Rattle.vx_base.specs.Pieces.{Handler}
+use Rattle.vx_record.specs.Types.{Frame, Handler, Mode}
 use Rattle.vx_base.specs.declared.cond.Cond.TheVariants as cond
 use Rattle.vx_base.specs.declared.effects.Opened.TheVariants as opened
-use Rattle.vx_base.specs.declared.frame.Frame.{Frame}
 use Rattle.vx_base.specs.declared.frame.FrameKind.TheVariants as kind
 use Rattle.vx_base.specs.declared.frame.Phase.TheVariants as phase
 use Rattle.vx_base.specs.declared.mode.Mode.TheVariants as mode
-use Rattle.vx_base.specs.declared.mode.Mode.{Mode}
 use Rattle.vx_base.specs.declared.routine.Entry.TheVariants as entry
 use Rattle.vx_base.specs.declared.service.Service.TheVariants as service
 use Rattle.vx_examples.specs.Script.{call, drops, id, leaves, no_routine, opens, routine, value}

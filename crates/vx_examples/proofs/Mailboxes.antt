@@ -1,16 +1,14 @@
 -- Mailboxes: what accepted writes, ends of file, reads and attention entries do. RunMessages, RunAttention and
 -- RunFullMailbox show whole runs. Process 1 calls; channel 3 is mailbox 0.
 use Rattle.std.specs.Prelude.{◌≡◌, ◌∷◌, [], ◌++◌, ℕ, Bool, List, None, Some, codes, false, refl, replicate, true}
-use Rattle.vx_base.specs.Pieces.{Attention, Queued, Request, cleared}
-use Rattle.vx_base.specs.declared.call.Call.{Call}
+use Rattle.vx_record.specs.Types.{Attention, Call, Func, Msg, Queued, Request}
+use Rattle.vx_base.specs.Pieces.{cleared}
 use Rattle.vx_base.specs.declared.cond.Cond.TheVariants as cond
 use Rattle.vx_base.specs.declared.effects.Opened.TheVariants as opened
 use Rattle.vx_base.specs.declared.frame.FrameKind.TheVariants as kind
 use Rattle.vx_base.specs.declared.mode.Mode.TheVariants as mode
 use Rattle.vx_base.specs.declared.request.Body.TheVariants as body
 use Rattle.vx_base.specs.declared.request.Func.TheVariants as func
-use Rattle.vx_base.specs.declared.request.Func.{Func}
-use Rattle.vx_base.specs.declared.request.Msg.{Msg}
 use Rattle.vx_base.specs.declared.routine.Entry.TheVariants as entry
 use Rattle.vx_base.specs.declared.service.Service.TheVariants as service
 use Rattle.vx_examples.specs.Script.{box, bytes_put, call, cleared_status, fin, fires, flag, id, mget, mput, no_routine, opens, process, que, request, routine, status, value}

@@ -1,7 +1,7 @@
 -- The picks of a seed.
 use Rattle.std.specs.Prelude.{◌≡◌, ◌∷◌, [], List, refl}
 use Rattle.vx_base.specs.declared.record.Event.TheVariants as event
-use Rattle.vx_base.specs.declared.record.Event.{Event}
+use Rattle.vx_record.specs.Types.{Event}
 use Rattle.vx_examples.specs.Script.{process}
 use Rattle.vx_record.specs.Runs.{next_seed, pick, picked}
 

@@ -2,7 +2,7 @@
 use Rattle.std.specs.Prelude.{◌≡◌, refl, [], ◌∷◌, codes, Some}
 use Rattle.vx_base.specs.declared.record.End.TheVariants as end
 use Rattle.vx_examples.specs.Script.{declared, ends, gone, is_gone}
-use Rattle.vx_image.specs.declared.system.System.{System}
+use Rattle.vx_record.specs.Types.{System}
 use Rattle.vx_record.specs.Picked.{IsMissing, picked}
 use Rattle.vx_record.specs.Runs.{end_after}
 

@@ -7,10 +7,9 @@ use Rattle.vx_base.specs.declared.effects.Opened.TheVariants as opened
 use Rattle.vx_base.specs.declared.frame.FrameKind.TheVariants as kind
 use Rattle.vx_base.specs.declared.frame.Wait.TheVariants as wait
 use Rattle.vx_base.specs.declared.mode.Mode.TheVariants as mode
-use Rattle.vx_base.specs.declared.quota.Need.{Need}
+use Rattle.vx_record.specs.Types.{Msg, Need}
 use Rattle.vx_base.specs.declared.request.Body.TheVariants as body
 use Rattle.vx_base.specs.declared.request.Func.TheVariants as func
-use Rattle.vx_base.specs.declared.request.Msg.{Msg}
 use Rattle.vx_base.specs.declared.routine.Entry.TheVariants as entry
 use Rattle.vx_base.specs.declared.service.Service.TheVariants as service
 use Rattle.vx_examples.specs.Script.{call, cleared_status, declared, fin, flag, id, mput, no_routine, opens, process, request, routine, usual_limits, value}

@@ -5,14 +5,11 @@ use Rattle.vx_base.specs.declared.effects.Opened.TheVariants as opened
 use Rattle.vx_base.specs.declared.mode.Mode.TheVariants as mode
 use Rattle.vx_base.specs.declared.record.End.TheVariants as end
 use Rattle.vx_base.specs.declared.record.Event.TheVariants as event
-use Rattle.vx_base.specs.declared.record.Event.{Event}
-use Rattle.vx_base.specs.declared.record.Rec.{Rec}
+use Rattle.vx_record.specs.Types.{Event, Image, Rec, System}
 use Rattle.vx_base.specs.declared.request.Func.TheVariants as func
 use Rattle.vx_base.specs.declared.service.Service.TheVariants as service
 use Rattle.vx_examples.specs.Along.{along, are_enabled, exit_codes, outputs}
 use Rattle.vx_examples.specs.Script.{process, unit, value, variable, named, no_routine, in_mode, call, calls, declared, runs, is_gone, begins, is_done, opens, fin, mark, flag, status, cleared_status, puts, gone, held_in, request}
-use Rattle.vx_image.specs.declared.image.Image.{Image}
-use Rattle.vx_image.specs.declared.system.System.{System}
 use Rattle.vx_record.specs.Runs.{first, end_after}
 
 abbrev image_main : Image

@@ -4,13 +4,11 @@ use Rattle.std.specs.Prelude.{◌≡◌, refl, List, [], ◌∷◌, true, codes,
 use Rattle.vx_base.specs.declared.cond.Cond.TheVariants as cond
 use Rattle.vx_base.specs.declared.mode.Mode.TheVariants as mode
 use Rattle.vx_base.specs.declared.record.End.TheVariants as end
-use Rattle.vx_base.specs.declared.record.Rec.{Rec}
+use Rattle.vx_record.specs.Types.{Image, Rec, System}
 use Rattle.vx_base.specs.declared.service.Service.TheVariants as service
 use Rattle.vx_examples.specs.Along.{exit_codes, outputs}
 use Rattle.vx_examples.specs.Script.{value, variable, named, routine, in_mode, call, calls, no_privs, declared, runs, returns, is_gone, puts, gone, held_in}
-use Rattle.vx_image.specs.declared.image.Image.{Image}
 use Rattle.vx_image.specs.declared.stmt.Stmt.TheVariants as stmt
-use Rattle.vx_image.specs.declared.system.System.{System}
 use Rattle.vx_record.specs.Runs.{chosen, end_after}
 
 abbrev image_main : Image

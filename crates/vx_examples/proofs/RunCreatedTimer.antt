@@ -3,12 +3,10 @@ use Rattle.std.specs.Prelude.{◌≡◌, refl, List, [], ◌∷◌, true, false,
 use Rattle.vx_base.specs.declared.cond.Cond.TheVariants as cond
 use Rattle.vx_base.specs.declared.effects.Opened.TheVariants as opened
 use Rattle.vx_base.specs.declared.record.End.TheVariants as end
-use Rattle.vx_base.specs.declared.record.Rec.{Rec}
+use Rattle.vx_record.specs.Types.{Image, Rec, System}
 use Rattle.vx_base.specs.declared.service.Service.TheVariants as service
 use Rattle.vx_examples.specs.Along.{exit_codes}
 use Rattle.vx_examples.specs.Script.{value, variable, named, no_routine, call, calls, usual_limits, declared, runs, waits, resumes, is_gone, ticks, opens, fires, drops, flag, puts, new, gone}
-use Rattle.vx_image.specs.declared.image.Image.{Image}
-use Rattle.vx_image.specs.declared.system.System.{System}
 use Rattle.vx_record.specs.Runs.{chosen, end_after}
 
 abbrev image_b : Image

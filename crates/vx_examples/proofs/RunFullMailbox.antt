@@ -4,14 +4,12 @@ use Rattle.vx_base.specs.declared.cond.Cond.TheVariants as cond
 use Rattle.vx_base.specs.declared.effects.Opened.TheVariants as opened
 use Rattle.vx_base.specs.declared.mode.Mode.TheVariants as mode
 use Rattle.vx_base.specs.declared.record.End.TheVariants as end
-use Rattle.vx_base.specs.declared.record.Rec.{Rec}
+use Rattle.vx_record.specs.Types.{Image, Rec, System}
 use Rattle.vx_base.specs.declared.request.Body.TheVariants as body
 use Rattle.vx_base.specs.declared.request.Func.TheVariants as func
 use Rattle.vx_base.specs.declared.service.Service.TheVariants as service
 use Rattle.vx_examples.specs.Along.{exit_codes}
 use Rattle.vx_examples.specs.Script.{value, no_routine, call, calls, declared, runs, ends, is_gone, opens, fin, flag, puts, mput, mbx, gone, held_in, request, mailbox}
-use Rattle.vx_image.specs.declared.image.Image.{Image}
-use Rattle.vx_image.specs.declared.system.System.{System}
 use Rattle.vx_record.specs.Runs.{chosen, end_after}
 
 abbrev image_main : Image

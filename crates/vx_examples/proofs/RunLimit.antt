@@ -3,11 +3,9 @@ use Rattle.std.specs.Prelude.{◌≡◌, refl, List, [], ◌∷◌, codes, Some}
 use Rattle.vx_base.specs.declared.call.Operand.TheVariants as operand
 use Rattle.vx_base.specs.declared.call.Target.TheVariants as target
 use Rattle.vx_base.specs.declared.record.End.TheVariants as end
-use Rattle.vx_base.specs.declared.record.Rec.{Rec}
+use Rattle.vx_record.specs.Types.{Image, Rec, System}
 use Rattle.vx_examples.specs.Script.{letter, declared, goes_on}
-use Rattle.vx_image.specs.declared.image.Image.{Image}
 use Rattle.vx_image.specs.declared.stmt.Stmt.TheVariants as stmt
-use Rattle.vx_image.specs.declared.system.System.{System}
 use Rattle.vx_record.specs.Runs.{chosen, end_after}
 
 abbrev image_main : Image

@@ -1,79 +1,18 @@
 -- A producer and a consumer as seed 1 picks.
 use Rattle.std.specs.Prelude.{◌≡◌, refl, List, [], ◌∷◌, true, false, codes, Some, None}
-use Rattle.vx_base.specs.declared.call.Operand.TheVariants as operand
-use Rattle.vx_base.specs.declared.call.Target.TheVariants as target
 use Rattle.vx_base.specs.declared.cond.Cond.TheVariants as cond
 use Rattle.vx_base.specs.declared.effects.Opened.TheVariants as opened
 use Rattle.vx_base.specs.declared.mode.Mode.TheVariants as mode
 use Rattle.vx_base.specs.declared.record.End.TheVariants as end
-use Rattle.vx_base.specs.declared.record.Rec.{Rec}
+use Rattle.vx_record.specs.Types.{Rec}
 use Rattle.vx_base.specs.declared.request.Body.TheVariants as body
 use Rattle.vx_base.specs.declared.request.Func.TheVariants as func
 use Rattle.vx_base.specs.declared.service.Service.TheVariants as service
 use Rattle.vx_examples.specs.Along.{exit_codes, outputs}
-use Rattle.vx_examples.specs.Script.{letter, value, variable, named, no_routine, in_mode, function, call, calls, declared, runs, waits, resumes, is_gone, begins, is_done, opens, fin, flag, status, cleared_status, bytes_put, puts, mput, mget, mbx, gone, held_in, request, mailbox}
-use Rattle.vx_image.specs.declared.image.Image.{Image}
-use Rattle.vx_image.specs.declared.stmt.Field.TheVariants as field
-use Rattle.vx_image.specs.declared.stmt.Rel.TheVariants as rel
-use Rattle.vx_image.specs.declared.stmt.Stmt.TheVariants as stmt
-use Rattle.vx_image.specs.declared.system.System.{System}
+pub use Rattle.vx_examples.proofs.RunProducer.{script}
+use Rattle.vx_examples.specs.Script.{value, variable, named, no_routine, in_mode, call, runs, waits, resumes, is_gone, begins, is_done, opens, fin, flag, status, cleared_status, bytes_put, puts, mput, mget, mbx, gone, request, mailbox}
 use Rattle.vx_record.specs.Runs.{chosen, end_after}
 
-abbrev image_prod : Image
-image_prod = record {
-  name = codes "PROD";
-  labels =
-      record { name = codes "NEXT"; place = 2 } ∷
-      record { name = codes "LAST"; place = 8 } ∷
-      [];
-  stmts =
-      calls service.Assign (variable (codes "T") ∷ named (codes "TT") ∷ in_mode mode.Kernel ∷ []) ∷
-      calls service.CreMbx (mailbox (codes "M") (codes "BOX") 0 256 1024 mode.Kernel) ∷
-      calls service.QioW (request 1 (held_in (codes "T")) func.Read 1 no_routine 0 0 80 0) ∷
-      stmt.Iosb (target.Var (letter (codes "S"))) 1 field.Status ∷
-      stmt.If (operand.Var (letter (codes "S"))) rel.Eq (operand.Cond cond.EndOfFile) 1 ∷
-      stmt.Iosb (target.Var (letter (codes "C"))) 1 field.Count ∷
-      calls service.QioW (value 1 ∷ held_in (codes "M") ∷ function func.Write ∷ value 1 ∷ no_routine ∷ value 0 ∷
-      value 0 ∷ held_in (codes "C") ∷ value 0 ∷ []) ∷
-      stmt.Goto 0 ∷
-      calls service.QioW (request 1 (held_in (codes "M")) func.Eof 1 no_routine 0 0 0 0) ∷
-      calls service.Exit (value 1 ∷ []) ∷
-      [];
-}
-
-abbrev image_cons : Image
-image_cons = record {
-  name = codes "CONS";
-  labels =
-      record { name = codes "NEXT"; place = 2 } ∷
-      record { name = codes "LAST"; place = 8 } ∷
-      [];
-  stmts =
-      calls service.CreMbx (mailbox (codes "M") (codes "BOX") 0 256 1024 mode.Kernel) ∷
-      calls service.Assign (variable (codes "D") ∷ named (codes "DK") ∷ in_mode mode.Kernel ∷ []) ∷
-      calls service.QioW (request 1 (held_in (codes "M")) func.Read 1 no_routine 0 0 80 0) ∷
-      stmt.Iosb (target.Var (letter (codes "S"))) 1 field.Status ∷
-      stmt.If (operand.Var (letter (codes "S"))) rel.Eq (operand.Cond cond.EndOfFile) 1 ∷
-      calls service.QioW (value 2 ∷ held_in (codes "D") ∷ function func.Write ∷ value 2 ∷ no_routine ∷ value 0 ∷
-      value 0 ∷ value 512 ∷ held_in (codes "B") ∷ []) ∷
-      stmt.Add (target.Var (letter (codes "B"))) (operand.Var (letter (codes "B"))) (operand.Num 1) ∷
-      stmt.Goto 0 ∷
-      calls service.Exit (value 1 ∷ []) ∷
-      [];
-}
-
-abbrev pub script : System
-script = record {
-  units = record { name = codes "TT"; blocks = 0; inputs = (codes "alpha") ∷ (codes "beta") ∷ []; faults = [] } ∷
-      record { name = codes "DK"; blocks = 16; inputs = []; faults = [] } ∷ [];
-  images = image_prod ∷ image_cons ∷ [];
-  decls =
-      declared (codes "PRODUCER") 0 ∷
-      declared (codes "CONSUMER") 1 ∷
-      [];
-}
-
--- its records
 abbrev pub records : List Rec
 records =
     runs 1 (call service.Assign (variable (codes "T") ∷ named (codes "TT") ∷ in_mode mode.Kernel ∷ [])) cond.Normal

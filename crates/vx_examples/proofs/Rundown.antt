@@ -1,16 +1,13 @@
 -- Rundown, step by step: handlers, cancelling, draining and the end. RunExitHandlers, RunDeletion, RunTimers and
 -- RunCommonFlags show whole runs.
 use Rattle.std.specs.Prelude.{◌≡◌, ◌∷◌, [], ℕ, List, None, Some, codes, false, refl, true}
-use Rattle.vx_base.specs.Pieces.{Handler, OfTimer, OfWake, Queued, Request, Timer}
+use Rattle.vx_record.specs.Types.{Answer, Frame, Handler, Mode, Phase, Queued, Request, Timer}
+use Rattle.vx_base.specs.Pieces.{OfTimer, OfWake}
 use Rattle.vx_base.specs.declared.cond.Cond.TheVariants as cond
-use Rattle.vx_base.specs.declared.frame.Frame.{Frame}
 use Rattle.vx_base.specs.declared.frame.FrameKind.TheVariants as kind
 use Rattle.vx_base.specs.declared.frame.Phase.TheVariants as phase
-use Rattle.vx_base.specs.declared.frame.Phase.{Phase}
 use Rattle.vx_base.specs.declared.mode.Mode.TheVariants as mode
-use Rattle.vx_base.specs.declared.mode.Mode.{Mode}
 use Rattle.vx_base.specs.declared.record.Answer.TheVariants as answer
-use Rattle.vx_base.specs.declared.record.Answer.{Answer}
 use Rattle.vx_base.specs.declared.record.Event.TheVariants as event
 use Rattle.vx_base.specs.declared.request.Func.TheVariants as func
 use Rattle.vx_base.specs.declared.routine.Entry.TheVariants as entry

@@ -1,14 +1,13 @@
 -- Timers, scheduled wakes and time. RunTimers, RunTimerQuota, RunTimerAstQuota and RunForcedExit show whole runs.
 use Rattle.std.specs.Prelude.{◌≡◌, ◌∷◌, [], ◌++◌, ℕ, List, None, Option, Some, codes, false, refl, replicate, true}
-use Rattle.vx_base.specs.Pieces.{OfTimer, OfWake, Timer}
+use Rattle.vx_record.specs.Types.{Entry, Mode, Timer}
+use Rattle.vx_base.specs.Pieces.{OfTimer, OfWake}
 use Rattle.vx_base.specs.declared.cond.Cond.TheVariants as cond
 use Rattle.vx_base.specs.declared.effects.Opened.TheVariants as opened
 use Rattle.vx_base.specs.declared.mode.Mode.TheVariants as mode
-use Rattle.vx_base.specs.declared.mode.Mode.{Mode}
 use Rattle.vx_base.specs.declared.record.Answer.TheVariants as answer
 use Rattle.vx_base.specs.declared.record.Event.TheVariants as event
 use Rattle.vx_base.specs.declared.routine.Entry.TheVariants as entry
-use Rattle.vx_base.specs.declared.routine.Entry.{Entry}
 use Rattle.vx_base.specs.declared.service.Service.TheVariants as service
 use Rattle.vx_examples.specs.Script.{call, drops, fires, flag, id, in_mode, no_routine, opens, process, puts, que, routine, value, variable}
 use Rattle.vx_examples.specs.Small.{Answers, Comes, Refuses, alone, both, small_store, somebody, somebody_in, with, with_both}

@@ -1,13 +1,12 @@
 -- Units: which request is begun, what a service replies, and how a request finishes. RunLineUnit, RunBlockUnit,
 -- RunLineFault and RunProducer show whole runs.
 use Rattle.std.specs.Prelude.{◌≡◌, ◌∷◌, [], ◌++◌, ℕ, List, Some, codes, false, refl, replicate, true}
-use Rattle.vx_base.specs.Pieces.{Blocks, Lines, Request, cleared}
+use Rattle.vx_record.specs.Types.{Cond, Device, Request}
+use Rattle.vx_base.specs.Pieces.{Blocks, Lines, cleared}
 use Rattle.vx_base.specs.declared.cond.Cond.TheVariants as cond
-use Rattle.vx_base.specs.declared.cond.Cond.{Cond}
 use Rattle.vx_base.specs.declared.mode.Mode.TheVariants as mode
 use Rattle.vx_base.specs.declared.record.Answer.TheVariants as answer
 use Rattle.vx_base.specs.declared.record.Event.TheVariants as event
-use Rattle.vx_base.specs.declared.request.Device.{Device}
 use Rattle.vx_base.specs.declared.request.Func.TheVariants as func
 use Rattle.vx_base.specs.declared.routine.Entry.TheVariants as entry
 use Rattle.vx_examples.specs.Script.{bytes_put, common_flag, fin, flag, id, que, status, unit}

@@ -1,11 +1,9 @@
 -- Runs along given events, where these are not those that a seed chooses.
 use Rattle.std.specs.Prelude.{ℕ, List, [], ◌∷◌, Bool, true, false, ◌&&◌, ◌==◌, map}
 use Rattle.std.specs.List.{list_any}
-use Rattle.vx_base.specs.Pieces.{Contents, Lines, Blocks}
-use Rattle.vx_base.specs.declared.record.Event.{Event}
+use Rattle.vx_record.specs.Types.{Contents, Event, Rec, System}
+use Rattle.vx_base.specs.Pieces.{Lines, Blocks}
 use Rattle.vx_base.specs.declared.record.Event.TheVariants as event
-use Rattle.vx_base.specs.declared.record.Rec.{Rec}
-use Rattle.vx_image.specs.declared.system.System.{System}
 use Rattle.vx_record.specs.State.{State}
 use Rattle.vx_record.specs.Events.{enabled, step}
 use Rattle.vx_record.specs.Runs.{after, record_of}

@@ -1,24 +1,13 @@
 -- Small states: one process, or two, with little in each, and words for what a call comes to on them.
 use Rattle.std.specs.Prelude.{◌≡◌, ℕ, List, [], ◌∷◌, Bool, false, codes, Some, None, replicate}
-use Rattle.vx_base.specs.Pieces.{Request, Status, Channel, Cluster, Association, Mailbox, Lines, Blocks, all_on, cleared}
-use Rattle.vx_base.specs.declared.call.Call.{Call}
-use Rattle.vx_base.specs.declared.cond.Cond.{Cond}
-use Rattle.vx_base.specs.declared.effects.Effect.{Effect}
-use Rattle.vx_base.specs.declared.frame.Frame.{Frame}
-use Rattle.vx_base.specs.declared.frame.FrameKind.{FrameKind}
+use Rattle.vx_record.specs.Types.{Association, Call, Channel, Cluster, Cond, Device, Effect, Frame, FrameKind, Func, Image, Mailbox, Mode, Msg, Request, Status, System, Wait}
+use Rattle.vx_base.specs.Pieces.{Lines, Blocks, all_on, cleared}
 use Rattle.vx_base.specs.declared.frame.FrameKind.TheVariants as kind
 use Rattle.vx_base.specs.declared.frame.Phase.TheVariants as phase
-use Rattle.vx_base.specs.declared.frame.Wait.{Wait}
-use Rattle.vx_base.specs.declared.mode.Mode.{Mode}
 use Rattle.vx_base.specs.declared.mode.Mode.TheVariants.{User}
-use Rattle.vx_base.specs.declared.request.Device.{Device}
 use Rattle.vx_base.specs.declared.request.Device.TheVariants as device
-use Rattle.vx_base.specs.declared.request.Func.{Func}
-use Rattle.vx_base.specs.declared.request.Msg.{Msg}
 use Rattle.vx_image.specs.Storage.{Storage}
-use Rattle.vx_image.specs.declared.image.Image.{Image}
 use Rattle.vx_image.specs.declared.stmt.Stmt.TheVariants as stmt
-use Rattle.vx_image.specs.declared.system.System.{System}
 use Rattle.vx_record.specs.Services.{service}
 use Rattle.vx_record.specs.State.{Process, State}
 use Rattle.vx_record.specs.declared.served.Served.TheVariants.{Answered, Waits}

@@ -1,14 +1,9 @@
 -- The services on channels, mailboxes and requests: how much they tell, and that they open one id at most.
 use Rattle.std.proofs.Common.{◌≡◌, ℕ, ◌+◌, false, length, length-set, Option, Some, Result, Ok, ◌*◌, arith}
-use Rattle.vx_base.specs.Pieces.{Channel, cleared}
-use Rattle.vx_base.specs.declared.cond.Cond.{Cond}
+use Rattle.vx_record.specs.Types.{Cell, Channel, Cond, Device, Entry, Pid, Wait}
+use Rattle.vx_base.specs.Pieces.{cleared}
 use Rattle.vx_base.specs.declared.cond.Cond.TheVariants.{Normal}
-use Rattle.vx_base.specs.declared.effects.Cell.{Cell}
-use Rattle.vx_base.specs.declared.frame.Wait.{Wait}
 use Rattle.vx_base.specs.declared.frame.Wait.TheVariants as wait
-use Rattle.vx_base.specs.declared.number.Pid.{Pid}
-use Rattle.vx_base.specs.declared.routine.Entry.{Entry}
-use Rattle.vx_base.specs.declared.request.Device.{Device}
 use Rattle.vx_base.specs.declared.request.Device.TheVariants as device
 use Rattle.vx_record.specs.State.{Process, State}
 use Rattle.vx_record.specs.Parts.{Part, answered, at_tested, part_of, and_then}

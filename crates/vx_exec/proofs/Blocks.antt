@@ -7,8 +7,7 @@ use Rattle.std.proofs.lemmas.Grind.{div_ceil_times}
 use Rattle.std.proofs.lemmas.List.{append_assoc, drop_more, drop-drop, length-take-le, take-append-drop, nil_from_length}
 use Rattle.std.specs.List.{AllByRecursion, find}
 use Rattle.vx_base.proofs.Lists.{get_front}
-use Rattle.vx_base.specs.declared.number.Pid.{Pid}
-use Rattle.vx_base.specs.declared.record.Event.{Event}
+use Rattle.vx_record.specs.Types.{Event, Pid}
 use Rattle.vx_record.specs.State.{Process, State, IsProcess, nobody, pid}
 use Rattle.vx_record.specs.Events.{process_events, processes_from}
 use Rattle.vx_record.proofs.Lists.{all_append}

@@ -2,15 +2,10 @@
 -- attention entries fire.
 use Rattle.std.proofs.Common.{ℕ, ◌+◌, ◌≤◌, List, ◌∷◌, length, length-set, Option, Some, None, ◌*◌, arith, [], not}
 use Rattle.std.specs.List.{filter, find}
-use Rattle.vx_base.specs.Pieces.{Request, Attention}
+use Rattle.vx_record.specs.Types.{Attention, BoxNo, Device, Func, Id, Msg, Request}
 use Rattle.vx_base.specs.declared.cond.Cond.TheVariants.{EndOfFile}
-use Rattle.vx_base.specs.declared.number.Id.{Id}
-use Rattle.vx_base.specs.declared.request.Device.{Device}
 use Rattle.vx_base.specs.declared.request.Device.TheVariants as device
-use Rattle.vx_base.specs.declared.number.BoxNo.{BoxNo}
-use Rattle.vx_base.specs.declared.request.Func.{Func}
 use Rattle.vx_base.specs.declared.request.Func.TheVariants.{ReadAttn, WrtAttn}
-use Rattle.vx_base.specs.declared.request.Msg.{Msg}
 use Rattle.vx_record.specs.State.{Process, State}
 use Rattle.vx_record.specs.Parts.{nothing}
 use Rattle.vx_record.specs.Finish.{Ending, is_read, ending, this_request, finish_found}

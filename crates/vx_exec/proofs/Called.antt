@@ -3,26 +3,13 @@
 use Rattle.std.proofs.Common.{ℕ, ◌-◌, ◌≤◌, List, ◌∷◌, Bool, length, length-set, length-append, Option, Some, None, Result, Ok, arith, [], ◌==◌, not, subst}
 use Rattle.std.proofs.lemmas.Bool.Decides.{nat_tests}
 use Rattle.vx_base.specs.Clusters.{Change}
-use Rattle.vx_base.specs.Pieces.{Timer, Mailbox, Queued}
-use Rattle.vx_base.specs.declared.call.Target.{Target}
-use Rattle.vx_base.specs.declared.cond.Cond.{Cond}
+use Rattle.vx_record.specs.Types.{Args, Call, Cond, Effect, Entry, Frame, FrameKind, Mailbox, Mode, Pid, Queued, Service, Stop, Target, Timer, Wait}
 use Rattle.vx_base.specs.declared.cond.Cond.TheVariants.{Normal}
-use Rattle.vx_base.specs.declared.effects.Effect.{Effect}
-use Rattle.vx_base.specs.declared.frame.Frame.{Frame}
-use Rattle.vx_base.specs.declared.frame.FrameKind.{FrameKind}
 use Rattle.vx_base.specs.declared.frame.FrameKind.TheVariants as kind
-use Rattle.vx_base.specs.declared.frame.Wait.{Wait}
-use Rattle.vx_base.specs.declared.mode.Mode.{Mode}
-use Rattle.vx_base.specs.declared.number.Pid.{Pid}
-use Rattle.vx_base.specs.declared.routine.Entry.{Entry}
 use Rattle.vx_base.specs.Modes.{is_kernel, outer}
-use Rattle.vx_base.specs.declared.call.Args.{Args}
-use Rattle.vx_base.specs.declared.call.Call.{Call}
 use Rattle.vx_base.specs.declared.routine.Entry.TheVariants as entry
-use Rattle.vx_base.specs.declared.service.Service.{Service}
 use Rattle.vx_base.specs.declared.service.Service.TheVariants.{Cancel, SetImr, CrePrc, Exit, AscEfc, DacEfc, DlcEfc, CanTim, CanWak, CanExh, Dassgn, CreMbx, Qio, QioW, DelPrc}
 use Rattle.vx_image.specs.Local.{advanced}
-use Rattle.vx_image.specs.declared.stop.Stop.{Stop}
 use Rattle.vx_image.specs.declared.stop.Stop.TheVariants as stop
 use Rattle.vx_record.specs.State.{Process, State, IsProcess, process_at, change, current, image_of}
 use Rattle.vx_record.specs.Parts.{Outcome, answered, at_tested, commonly}

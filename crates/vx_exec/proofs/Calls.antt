@@ -2,15 +2,12 @@
 use Rattle.std.proofs.Common.{◌≡◌, ℕ, zero, suc, ◌<◌, length, IsTrue, Option, Some, None, slice_get, refl}
 use Rattle.std.proofs.lemmas.Bool.{and_parts}
 use Rattle.vx_base.specs.Services.{are_args, args_list, is_of_kind, params_of}
-use Rattle.vx_base.specs.declared.call.Args.{Args}
+use Rattle.vx_record.specs.Types.{Args, Image, Stmt, Stop}
 use Rattle.vx_base.specs.declared.service.Kind.TheVariants as kind
 use Rattle.vx_base.specs.declared.service.Service.TheVariants.{AscEfc, CreMbx, DlcEfc}
 use Rattle.vx_image.specs.Local.{Reader, Moved, Advanced, local_at, stop_at, go_on, run_local, advanced}
 use Rattle.vx_image.specs.Storage.{Storage}
-use Rattle.vx_image.specs.declared.image.Image.{Image}
-use Rattle.vx_image.specs.declared.stmt.Stmt.{Stmt}
 use Rattle.vx_image.specs.declared.stmt.Stmt.TheVariants as stmt
-use Rattle.vx_image.specs.declared.stop.Stop.{Stop}
 use Rattle.vx_image.specs.declared.stop.Stop.TheVariants as stop
 use Rattle.std.proofs.lemmas.Option.{slice_get_within}
 

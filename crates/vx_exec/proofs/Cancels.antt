@@ -2,14 +2,11 @@
 use Rattle.std.proofs.Common.{◌≡◌, ℕ, ◌+◌, ◌≤◌, List, ◌∷◌, Bool, length, length-set, Option, None, refl, ◌*◌, arith, nat_le, [], ◌&&◌, ◌==◌, not}
 use Rattle.std.specs.List.{filter}
 use Rattle.std.proofs.lemmas.Bool.Decides.{nat_tests}
-use Rattle.vx_base.specs.Pieces.{Request, Attention, Channel}
+use Rattle.vx_record.specs.Types.{Attention, Channel, Device, Mode, Pid, Request}
 use Rattle.vx_base.specs.declared.cond.Cond.TheVariants.{Cancel}
-use Rattle.vx_base.specs.declared.mode.Mode.{Mode}
-use Rattle.vx_base.specs.declared.number.Pid.{Pid}
 use Rattle.vx_base.specs.Lists.{amend, tally}
 use Rattle.vx_base.specs.Channels.{channels_of, reached_from, channel_at}
 use Rattle.vx_base.specs.Flags.{one}
-use Rattle.vx_base.specs.declared.request.Device.{Device}
 use Rattle.vx_record.specs.State.{State, process_at}
 use Rattle.vx_record.specs.Parts.{each}
 use Rattle.vx_record.specs.Charges.{is_same}

@@ -4,13 +4,9 @@
 use Rattle.std.proofs.Common.{◌≡◌, ℕ, ◌+◌, ◌≤◌, List, ◌∷◌, length, Option, Some, None, ◌*◌, arith, [], sym, subst, suc}
 use Rattle.std.specs.List.{filter, find}
 use Rattle.std.proofs.Math.Nat.{mul-le-mul_left, suc-mul}
-use Rattle.vx_base.specs.Pieces.{Handler, Channel, Queued}
-use Rattle.vx_base.specs.declared.mode.Mode.{Mode}
-use Rattle.vx_base.specs.declared.number.Pid.{Pid}
+use Rattle.vx_record.specs.Types.{Answer, Channel, Handler, Mode, Phase, Pid, Queued}
 use Rattle.vx_base.specs.Channels.{channels_of, reached_from}
-use Rattle.vx_base.specs.declared.frame.Phase.{Phase}
 use Rattle.vx_base.specs.declared.frame.Phase.TheVariants as phase
-use Rattle.vx_base.specs.declared.record.Answer.{Answer}
 use Rattle.vx_record.specs.State.{State, IsProcess, process_at}
 use Rattle.vx_record.specs.Parts.{Outcome, part_of, each}
 use Rattle.vx_record.specs.Rundown.{drop_handlers, is_handler_of, cancel_one, any_handler, without_ast, cancelled_in, drop_ast, drop_asts, entering, free_one, gone, handler_frame, handling, in_phase, inner_modes, is_ast_reached, is_busy, is_timer_in, release, rundown, rundown_from, run_down, is_wake_by}

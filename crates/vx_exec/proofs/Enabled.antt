@@ -5,15 +5,9 @@ use Rattle.std.proofs.lemmas.Bool.{cases_eq, leb-true}
 use Rattle.std.proofs.lemmas.Bool.Decides.{nat_tests}
 use Rattle.std.proofs.lemmas.List.{drop_more}
 use Rattle.std.specs.List.{AllByRecursion, find}
-use Rattle.vx_base.specs.Pieces.{DeviceUnit, Timer}
+use Rattle.vx_record.specs.Types.{DeviceUnit, Event, Frame, Pid, Timer, UnitNo, Wait}
 use Rattle.vx_base.specs.Queues.{front, in_service}
-use Rattle.vx_base.specs.declared.frame.Frame.{Frame}
-use Rattle.vx_base.specs.declared.frame.Wait.{Wait}
-use Rattle.vx_base.specs.declared.number.Pid.{Pid}
-use Rattle.vx_base.specs.declared.number.UnitNo.{UnitNo}
-use Rattle.vx_base.specs.declared.record.Event.{Event}
 use Rattle.vx_base.specs.declared.record.Event.TheVariants as event
-use Rattle.vx_frames.specs.Frames.{top_of}
 use Rattle.vx_record.specs.State.{Process, State, IsProcess, process_at, no_unit, pid}
 use Rattle.vx_record.specs.Events.{enabled, process_events, processes_from, tick_events, unit_events, units_from}
 use Rattle.vx_record.specs.Runs.{next_seed, picked}
@@ -24,6 +18,7 @@ use Rattle.vx_exec.specs.Leases.{is_open}
 use Rattle.vx_exec.specs.Picks.{picked_event}
 use Rattle.vx_exec.specs.Ready.{HasOwner}
 use Rattle.vx_exec.specs.Sound.{IsWhole}
+use Rattle.vx_base.specs.Lists.{first}
 
 -- Each event that is enabled is the one of its process or its unit, or time's.
 
@@ -166,7 +161,7 @@ procs_step s place within = grind (arith, drop_more)
 
 -- The wait of the top frame.
 
-pub top_fits : (fs : List Frame) (f : Frame) (w : Wait) → WaitsStand fs → top_of fs ≡ Some f → f.wait ≡ Some w → WaitStands w
+pub top_fits : (fs : List Frame) (f : Frame) (w : Wait) → WaitsStand fs → first fs ≡ Some f → f.wait ≡ Some w → WaitStands w
 top_fits [] f w fits top waits = absurd (cc)
 top_fits (g ∷ fs) f w fits top waits = grind arith
 

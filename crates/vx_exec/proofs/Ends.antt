@@ -2,16 +2,10 @@
 use Rattle.std.proofs.Common.{◌≡◌, ℕ, ◌++◌, ◌+◌, ◌-◌, ◌≤◌, List, ◌∷◌, Bool, true, length, length-set, length-append, Option, Some, None, ap, ◌*◌, arith, nat_lt, slice_index_or, [], ◌&&◌, ◌==◌, not}
 use Rattle.std.specs.List.{filter}
 use Rattle.std.proofs.Math.Nat.{mul-suc}
-use Rattle.vx_base.specs.Pieces.{DeviceUnit, Handler, Timer, Promised, Request, Status, Alarm, Queued}
-use Rattle.vx_base.specs.declared.effects.Cell.{Cell}
+use Rattle.vx_record.specs.Types.{Alarm, Cell, DeviceUnit, Effect, Frame, Handler, Pid, Promised, Queued, Req, Request, Status, Timer, UnitNo}
 use Rattle.vx_base.specs.declared.effects.Cell.TheVariants.{Local}
-use Rattle.vx_base.specs.declared.effects.Effect.{Effect}
-use Rattle.vx_base.specs.declared.frame.Frame.{Frame}
-use Rattle.vx_base.specs.declared.number.Pid.{Pid}
-use Rattle.vx_base.specs.declared.number.UnitNo.{UnitNo}
 use Rattle.vx_base.specs.Lists.{tally}
 use Rattle.vx_base.specs.Serving.{serve, settled}
-use Rattle.vx_base.specs.declared.request.Req.{Req}
 use Rattle.vx_record.specs.State.{Process, State, process_at, change, no_unit, unit_at, nobody}
 use Rattle.vx_record.specs.Parts.{Part, nothing, each, and_then}
 use Rattle.vx_record.specs.Asts.{charged_ast, with_queued}

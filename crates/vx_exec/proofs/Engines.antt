@@ -1,8 +1,7 @@
 -- Where the contents of units are, as an event is taken.
 use Rattle.std.proofs.Common.{◌≡◌, ℕ, zero, suc, List, [], ◌∷◌, Option, Some, None, Result, Ok, Err, OnOk, OnErr, OnSome, IsSome, map, slice_index_or, slice_set, false, refl, ap, sym, subst, ◌∙◌}
 use Rattle.std.proofs.lemmas.List.{map-set}
-use Rattle.vx_base.specs.declared.number.UnitNo.{UnitNo}
-use Rattle.vx_base.specs.declared.record.Event.{Event}
+use Rattle.vx_record.specs.Types.{Event, UnitNo}
 use Rattle.vx_base.specs.declared.record.Event.TheVariants as event
 use Rattle.vx_units.specs.Leases.{Stand, Home, Out, Back, is_out}
 use Rattle.vx_procs.specs.Kernel.{Kernel, ending_for, stand_for, stands, with_stand}
@@ -11,8 +10,8 @@ use Rattle.vx_procs.proofs.Inside.{stand_here}
 use Rattle.vx_exec.specs.Engines.{IsHomeFor, leasing, stands_prepared}
 use Rattle.vx_exec.specs.Leases.{AreIn, IsInFor, Leasing, leasing_after, stand_at, stands_after, with_stand as lent}
 use Rattle.vx_exec.specs.Ready.{opened_for}
-use Rattle.vx_exec.specs.View.{is_don}
 use Rattle.vx_exec.specs.declared.engine.Engine.{Engine}
+use Rattle.vx_record.specs.Events.{is_don}
 
 -- a unit was prepared: its contents are home
 pub prepared_stands : (k l n : Kernel) (u : UnitNo) → l.ends ≡ k.ends → n.ends ≡ slice_set l.ends u.0 (ending_for n u) → stand_for n u ≡ Home → stands n ≡ slice_set (stands k) u.0 Home

@@ -1,10 +1,7 @@
 -- What an event does to the state: how many processes there are then, how many ids they open, and how much they tell.
 use Rattle.std.proofs.Common.{◌≡◌, ℕ, ◌+◌, ◌≤◌, List, ◌∷◌, Bool, length, length-set, ap, ◌*◌, arith, slice_index_or, []}
 use Rattle.std.specs.List.{filter}
-use Rattle.vx_base.specs.Pieces.{DeviceUnit}
-use Rattle.vx_base.specs.declared.effects.Effect.{Effect}
-use Rattle.vx_base.specs.declared.number.Pid.{Pid}
-use Rattle.vx_base.specs.declared.number.UnitNo.{UnitNo}
+use Rattle.vx_record.specs.Types.{DeviceUnit, Effect, Pid, UnitNo}
 use Rattle.vx_record.specs.State.{Process, State, process_at, change, no_unit, unit_at}
 use Rattle.vx_record.specs.Parts.{Outcome}
 use Rattle.vx_procs.specs.Words.{deepest}

@@ -2,10 +2,7 @@
 -- declaration are the same.
 use Rattle.std.proofs.Common.{◌≡◌, ℕ, ◌-◌, List, Option, length-set, refl, sym, subst, arith}
 use Rattle.std.specs.List.{AllByRecursion}
-use Rattle.vx_base.specs.Pieces.{Channel, Request}
-use Rattle.vx_base.specs.declared.mode.Mode.{Mode}
-use Rattle.vx_base.specs.declared.number.Pid.{Pid}
-use Rattle.vx_base.specs.declared.request.Device.{Device}
+use Rattle.vx_record.specs.Types.{Channel, Device, Mode, Pid, Request}
 use Rattle.vx_record.specs.Sound.{ChannelStands, Ground, IsRooted, RequestStands, ground, process_of}
 use Rattle.vx_record.specs.State.{Process, State, change, nobody, process_at}
 use Rattle.vx_record.proofs.Ground.{Base, at_set, device_moves, request_moves, row_moves}

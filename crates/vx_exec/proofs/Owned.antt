@@ -4,11 +4,8 @@ use Rattle.std.specs.List.{AllByRecursion}
 use Rattle.std.proofs.lemmas.List.{nil_from_length}
 use Rattle.vx_base.specs.Flags.{one}
 use Rattle.vx_base.specs.Lists.{tally}
-use Rattle.vx_base.specs.declared.effects.Cell.{Cell}
+use Rattle.vx_record.specs.Types.{Cell, Frame, Pid, Wait}
 use Rattle.vx_base.specs.declared.effects.Cell.TheVariants.{Local}
-use Rattle.vx_base.specs.declared.frame.Frame.{Frame}
-use Rattle.vx_base.specs.declared.frame.Wait.{Wait}
-use Rattle.vx_base.specs.declared.number.Pid.{Pid}
 use Rattle.vx_base.specs.declared.record.Event.TheVariants as event
 use Rattle.vx_record.specs.State.{Process, State, pid, process_at}
 use Rattle.vx_record.specs.Events.{can_run, can_run_down, is_satisfied, process_events, processes_from}

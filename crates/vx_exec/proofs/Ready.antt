@@ -2,17 +2,11 @@
 use Rattle.std.proofs.Common.{◌≡◌, ℕ, ◌+◌, ◌<◌, ◌≤◌, List, [], ◌∷◌, true, ◌&&◌, nat_lt, nat_le, length, map, Some, IsTrue, Contains, refl, sym, subst, arith}
 use Rattle.std.specs.List.{AllByRecursion}
 use Rattle.std.proofs.lemmas.Bool.{and_parts, leb-true, ltb-true}
-use Rattle.vx_base.specs.Pieces.{DeviceUnit}
+use Rattle.vx_record.specs.Types.{DeviceUnit, Event, Image, Pid, ProcDecl, System, UnitDecl}
 use Rattle.vx_base.specs.Queues.{front, in_service}
-use Rattle.vx_base.specs.declared.number.Pid.{Pid}
-use Rattle.vx_base.specs.declared.record.Event.{Event}
 use Rattle.vx_base.specs.declared.record.Event.TheVariants as event
 use Rattle.vx_image.specs.Units.{first_unit}
 use Rattle.vx_image.specs.WellFormed.{IsImage, IsWellFormed, are_limits, decl_names, is_decl, is_image}
-use Rattle.vx_image.specs.declared.decl.ProcDecl.{ProcDecl}
-use Rattle.vx_image.specs.declared.image.Image.{Image}
-use Rattle.vx_image.specs.declared.system.System.{System}
-use Rattle.vx_image.specs.declared.unit.UnitDecl.{UnitDecl}
 use Rattle.vx_record.specs.Asts.{deliverable_ast}
 use Rattle.vx_record.specs.Events.{enabled, step}
 use Rattle.vx_record.specs.Runs.{born_from, first}

@@ -2,23 +2,12 @@
 use Rattle.std.proofs.Common.{◌≡◌, ℕ, ◌-◌, ◌≤◌, List, [], ◌∷◌, cond, length, length-set, slice_index_or, IsTrue, Option, Some, None, refl, sym, ap, subst, ◌∙◌, arith}
 use Rattle.std.proofs.lemmas.Bool.{and_parts, eqb-true}
 use Rattle.vx_base.specs.Modes.{reaches}
-use Rattle.vx_base.specs.Pieces.{Enables, Handler, Queued}
-use Rattle.vx_base.specs.Queues.{deliverable, first_of_mode, or_else}
-use Rattle.vx_base.specs.declared.call.Args.{Args}
-use Rattle.vx_base.specs.declared.call.Call.{Call}
-use Rattle.vx_base.specs.declared.cond.Cond.{Cond}
-use Rattle.vx_base.specs.declared.frame.Frame.{Frame}
-use Rattle.vx_base.specs.declared.mode.Mode.{Mode}
+use Rattle.vx_record.specs.Types.{Args, Call, Cond, Enables, Entry, Frame, Handler, Image, Mode, Pid, Queued, Stop, System}
+use Rattle.vx_base.specs.Queues.{deliverable, first_of_mode}
 use Rattle.vx_base.specs.declared.mode.Mode.TheVariants.{Kernel as KernelMode, Exec, Super, User}
-use Rattle.vx_base.specs.declared.number.Pid.{Pid}
-use Rattle.vx_base.specs.declared.routine.Entry.{Entry}
-use Rattle.vx_frames.specs.Frames.{top_of}
 use Rattle.vx_image.specs.Storage.{Storage}
 use Rattle.vx_image.specs.WellFormed.{IsImage}
-use Rattle.vx_image.specs.declared.image.Image.{Image}
-use Rattle.vx_image.specs.declared.stop.Stop.{Stop}
 use Rattle.vx_image.specs.declared.stop.Stop.TheVariants as stop
-use Rattle.vx_image.specs.declared.system.System.{System}
 use Rattle.vx_record.specs.State.{Process, State, IsProcess, change, current, image_of, process_at, no_decl, no_image, nobody, top_mode}
 use Rattle.vx_record.specs.Parts.{Outcome}
 use Rattle.vx_record.specs.Asts.{deliverable_ast, deliverable_at}
@@ -48,6 +37,8 @@ use Rattle.vx_base.proofs.First.{found_passes}
 use Rattle.vx_procs.proofs.Ops.{started_decl}
 use Rattle.vx_procs.proofs.Quiet.{top_few}
 pub use Rattle.vx_procs.proofs.Rest.{told_none}
+use Rattle.std.specs.Option.{option_or}
+use Rattle.vx_base.specs.Lists.{first}
 
 pub quietly : {A : Type 0} (o : Outcome A) (a : A) (k l : Kernel) → DoesQuietly o a k l → Does o a k l
 quietly o a k l h = record { answers = h.answers; leaves = h.leaves ∙ (told_none (with_state k o.after) ∙ ap (λ es. told (with_state k o.after) es) (sym h.quiet)) }
@@ -136,10 +127,10 @@ call_made k l p c s set did = grind (arith, call_goes)
 
 -- The top frame goes on, where it waits for nothing.
 
-goes_from : (s : State) (p : Pid) (fs : List Frame) (f : Frame) → Some f ≡ top_of fs → None ≡ f.wait → run s p fs ≡ run_advanced s p (advanced_from (image_of s p) p (process_at s p).store fs)
+goes_from : (s : State) (p : Pid) (fs : List Frame) (f : Frame) → Some f ≡ first fs → None ≡ f.wait → run s p fs ≡ run_advanced s p (advanced_from (image_of s p) p (process_at s p).store fs)
 goes_from s p fs f top none = grind arith
 
-pub goes_at : (s : State) (p : Pid) (f : Frame) → Some f ≡ top_of (process_at s p).frames → None ≡ f.wait → run s p (process_at s p).frames ≡ run_advanced s p (advanced_at s p)
+pub goes_at : (s : State) (p : Pid) (f : Frame) → Some f ≡ first (process_at s p).frames → None ≡ f.wait → run s p (process_at s p).frames ≡ run_advanced s p (advanced_at s p)
 goes_at s p f top none = goes_from s p (process_at s p).frames f top none
 
 -- An AST that starts.
@@ -173,7 +164,7 @@ reached_by enables now active asts q e = either_of _ _ (of KernelMode) (either_o
     of : (m : Mode) → first_of_mode enables now active asts m ≡ Some q → IsTrue (reaches now q.mode)
     of m = of_mode enables now active asts m q
 
-    either_of : (a b : Option Queued) → (a ≡ Some q → IsTrue (reaches now q.mode)) → (b ≡ Some q → IsTrue (reaches now q.mode)) → or_else a b ≡ Some q → IsTrue (reaches now q.mode)
+    either_of : (a b : Option Queued) → (a ≡ Some q → IsTrue (reaches now q.mode)) → (b ≡ Some q → IsTrue (reaches now q.mode)) → option_or a b ≡ Some q → IsTrue (reaches now q.mode)
     either_of None b f g is = g is
     either_of a b f g is = f is
 

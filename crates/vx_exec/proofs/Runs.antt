@@ -2,10 +2,7 @@
 use Rattle.std.proofs.Common.{◌≡◌, ℕ, zero, suc, ◌+◌, ◌-◌, ◌<◌, ◌≤◌, List, [], ◌∷◌, ◌++◌, Bool, length, length-append, Some, None, Contains, refl, sym, ap, subst, ◌∙◌, arith}
 use Rattle.std.proofs.lemmas.Bool.Decides.{nat_tests}
 use Rattle.std.proofs.lemmas.List.{append_assoc, append-nil}
-use Rattle.vx_base.specs.declared.record.End.{End}
-use Rattle.vx_base.specs.declared.record.Event.{Event}
-use Rattle.vx_base.specs.declared.record.Rec.{Rec}
-use Rattle.vx_image.specs.declared.system.System.{System}
+use Rattle.vx_record.specs.Types.{End, Event, Rec, System}
 use Rattle.vx_record.specs.State.{State}
 use Rattle.vx_record.specs.Events.{enabled, step}
 use Rattle.vx_record.specs.Runs.{AreSteps, IsStep, after_from, are_deleted, choose, chosen_from, end_of, end_with, first, next_seed, pick, picked, record_of}

@@ -2,9 +2,8 @@
 use Rattle.std.proofs.Common.{◌<◌, length, ◌&&◌, nat_lt, nat_le}
 use Rattle.std.proofs.lemmas.Bool.{and_parts, ltb-true}
 use Rattle.std.specs.List.{list_all}
-use Rattle.vx_base.specs.declared.number.Pid.{Pid}
+use Rattle.vx_record.specs.Types.{Image, Pid}
 use Rattle.vx_image.specs.WellFormed.{are_distinct, falls_nowhere, is_stmt, label_names, label_places, IsImage}
-use Rattle.vx_image.specs.declared.image.Image.{Image}
 use Rattle.vx_record.specs.State.{image_of}
 use Rattle.vx_procs.specs.Kernel.{Kernel}
 use Rattle.vx_exec.specs.Ready.{IsSet}

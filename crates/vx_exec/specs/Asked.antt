@@ -1,5 +1,5 @@
 -- What a call of $QIO or $QIOW asks.
-use Rattle.vx_base.specs.declared.call.Args.{Args}
+use Rattle.vx_record.specs.Types.{Args}
 use Rattle.vx_record.specs.Services.{function, number}
 use Rattle.vx_io.specs.declared.asking.Asking.{Asking}
 

@@ -1,6 +1,6 @@
 -- Events of processes, by blocks of 32.
 use Rattle.std.specs.Prelude.{ℕ, ◌+◌, ◌*◌, List, drop}
-use Rattle.vx_base.specs.declared.record.Event.{Event}
+use Rattle.vx_record.specs.Types.{Event}
 use Rattle.vx_record.specs.Events.{processes_from}
 use Rattle.vx_record.specs.State.{State}
 use Rattle.vx_procs.specs.Own.{block_of}

@@ -1,6 +1,6 @@
 -- What both kinds of executive are made of.
 use Rattle.std.specs.Prelude.{◌≡◌, List, false, slice_set, ⊤}
-use Rattle.vx_base.specs.declared.record.Event.{Event}
+use Rattle.vx_record.specs.Types.{Event}
 use Rattle.vx_base.specs.declared.record.Event.TheVariants as event
 use Rattle.vx_units.specs.Leases.{Stand, Home, is_out}
 use Rattle.vx_procs.specs.Kernel.{Kernel, stand_for, stands}

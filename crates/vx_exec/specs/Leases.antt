@@ -1,16 +1,13 @@
 -- An executive whose units may be out on leases.
 use Rattle.std.specs.Prelude.{◌≡◌, List, Bool, false, not, Option, Some, IsSome, option_map, slice_index_or, slice_set, ⊤}
 use Rattle.std.specs.List.{find}
-use Rattle.vx_base.specs.Pieces.{Request}
+use Rattle.vx_record.specs.Types.{Event, Id, Request, UnitNo}
 use Rattle.vx_base.specs.Queues.{in_service}
-use Rattle.vx_base.specs.declared.number.Id.{Id}
-use Rattle.vx_base.specs.declared.number.UnitNo.{UnitNo}
-use Rattle.vx_base.specs.declared.record.Event.{Event}
 use Rattle.vx_base.specs.declared.record.Event.TheVariants as event
-use Rattle.vx_record.specs.Events.{enabled}
+use Rattle.vx_record.specs.Events.{enabled, is_don}
 use Rattle.vx_record.specs.State.{State, unit_at}
 use Rattle.vx_units.specs.Leases.{Lease, LeaseServed, Stand, Home, Out, is_out}
-use Rattle.vx_exec.specs.View.{Executive, after_step, is_don}
+use Rattle.vx_exec.specs.View.{Executive, after_step}
 
 -- an executive whose units may be out: the executive it stands for, and where each unit's contents are
 pub record Leasing : Type 0 where

@@ -1,6 +1,6 @@
 -- What a seed picks of a list of events, and the seed after it: the seed moves where there is an event to pick.
 use Rattle.std.specs.Prelude.{ℕ, List, [], ◌∷◌, Option, Some, None}
-use Rattle.vx_base.specs.declared.record.Event.{Event}
+use Rattle.vx_record.specs.Types.{Event}
 use Rattle.vx_record.specs.Runs.{next_seed, pick}
 
 abbrev pub picked_event : ℕ → List Event → Option Event

@@ -1,15 +1,9 @@
 -- What an event relies on, once room was made for it.
 use Rattle.std.specs.Prelude.{◌≡◌, ℕ, [], Option, Some, None, true, false, ◌+◌, ◌*◌, ◌≤◌, IsSome, IsTrue, length, ⊤, ◌^◌, ◌<◌}
 use Rattle.vx_base.specs.Queues.{front, in_service}
-use Rattle.vx_base.specs.declared.mode.Mode.{Mode}
-use Rattle.vx_base.specs.declared.number.Id.{Id}
-use Rattle.vx_base.specs.declared.number.Pid.{Pid}
-use Rattle.vx_base.specs.declared.number.UnitNo.{UnitNo}
-use Rattle.vx_base.specs.declared.record.Event.{Event}
+use Rattle.vx_record.specs.Types.{Entry, Event, Id, Mode, Pid, Stop, UnitNo}
 use Rattle.vx_base.specs.declared.record.Event.TheVariants as event
-use Rattle.vx_base.specs.declared.routine.Entry.{Entry}
 use Rattle.vx_base.specs.Services.{is_call}
-use Rattle.vx_image.specs.declared.stop.Stop.{Stop}
 use Rattle.vx_image.specs.declared.stop.Stop.TheVariants as stop
 use Rattle.vx_record.specs.State.{State, IsProcess, process_at, unit_at}
 use Rattle.vx_record.specs.Events.{started, step}

@@ -1,6 +1,6 @@
 -- What an executive keeps of its state.
 use Rattle.std.specs.Prelude.{ℕ, ◌+◌, ◌≤◌, length}
-use Rattle.vx_base.specs.declared.number.UnitNo.{UnitNo}
+use Rattle.vx_record.specs.Types.{UnitNo}
 use Rattle.vx_image.specs.WellFormed.{IsWellFormed}
 use Rattle.vx_record.specs.Sound.{IsSound}
 use Rattle.vx_record.specs.State.{State, unit_at}

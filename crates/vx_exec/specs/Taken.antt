@@ -1,8 +1,6 @@
 -- What an executive comes to by a run that it takes.
 use Rattle.std.specs.Prelude.{◌≡◌, ℕ, ◌+◌, ◌-◌, List, Some, length}
-use Rattle.vx_base.specs.declared.record.End.{End}
-use Rattle.vx_base.specs.declared.record.Rec.{Rec}
-use Rattle.vx_image.specs.declared.system.System.{System}
+use Rattle.vx_record.specs.Types.{End, Rec, System}
 use Rattle.vx_record.specs.Runs.{AreSteps, IsRun, after, after_from, chosen, chosen_from, end_after, end_of}
 use Rattle.vx_exec.specs.View.{Executive, plan}
 

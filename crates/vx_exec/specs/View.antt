@@ -1,8 +1,7 @@
 -- What an executive stands for.
-use Rattle.std.specs.Prelude.{◌≡◌, ℕ, ◌+◌, [], Bool, true, false}
-use Rattle.vx_base.specs.declared.record.Event.{Event}
+use Rattle.std.specs.Prelude.{◌≡◌, ℕ, ◌+◌, []}
+use Rattle.vx_record.specs.Types.{Event, System}
 use Rattle.vx_base.specs.declared.record.Event.TheVariants as event
-use Rattle.vx_image.specs.declared.system.System.{System}
 use Rattle.vx_record.specs.Events.{step}
 use Rattle.vx_record.specs.State.{State}
 
@@ -29,8 +28,3 @@ pub record LosesState (before after : Executive) : Type 0 where
   pub empty : after.state.procs ≡ []
   pub planned : plan after ≡ plan before
   pub counted : after.taken ≡ before.taken
-
--- whether an event ends the service of a unit
-abbrev pub is_don : Event → Bool
-is_don (event.Don u) = true
-is_don other = false

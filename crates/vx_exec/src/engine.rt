@@ -1,12 +1,12 @@
 //! What both kinds of executive are made of: the one whose units may be out, and the one that never has a unit out.
 
 ghost use Rattle.std.specs.Prelude.{◌≡◌, Contains, IfOk, None, OnErr, OnOk, false};
-ghost use Rattle.vx_record.specs.Events.{enabled, step};
+ghost use Rattle.vx_record.specs.Events.{enabled, step, is_don};
 ghost use Rattle.vx_record.specs.Runs.{end_of, record_of};
 ghost use Rattle.vx_exec.specs.Engines.{IsHomeFor, IsOn, leasing};
 ghost use Rattle.vx_exec.specs.Leases.{leasing_after};
 ghost use Rattle.vx_exec.specs.Sound.{IsWhole};
-ghost use Rattle.vx_exec.specs.View.{is_don, plan};
+ghost use Rattle.vx_exec.specs.View.{plan};
 
 use crate::events::{are_deleted, enabled_at};
 use crate::machine::step;

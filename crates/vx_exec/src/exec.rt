@@ -4,14 +4,14 @@ ghost use Rattle.std.specs.Prelude.{◌≡◌, ◌<◌, ◌≤◌, ◌↔◌, Co
 ghost use Rattle.vx_image.specs.WellFormed.{IsWellFormed};
 ghost use Rattle.vx_record.specs.State.{IsProcess, decl_of, process_at, unit_at};
 ghost use Rattle.vx_units.specs.Units.{outputs_of};
-ghost use Rattle.vx_record.specs.Events.{enabled};
+ghost use Rattle.vx_record.specs.Events.{enabled, is_don};
 ghost use Rattle.vx_record.specs.Runs.{end_of, first, record_of};
 ghost use Rattle.vx_procs.specs.Digest.{digest_of};
 ghost use Rattle.vx_exec.specs.Engines.{IsWithin, leasing};
 ghost use Rattle.vx_exec.specs.Picks.{moved_seed, picked_event};
 ghost use Rattle.vx_exec.specs.Sound.{IsGoing};
 ghost use Rattle.vx_record.specs.Standing.{code_of, standing_of};
-ghost use Rattle.vx_exec.specs.View.{LosesState, after_step, is_don, plan};
+ghost use Rattle.vx_exec.specs.View.{LosesState, after_step, plan};
 
 use crate::engine::Engine;
 use crate::events::{count, enabled_at, is_enabled};

@@ -1,11 +1,11 @@
 //! An executive whose units may be out to be served.
 
 ghost use Rattle.std.specs.Prelude.{◌≡◌, ◌≤◌, ◌↔◌, Contains, IfNone, IfOk, IfSome, IsTrue, None, OnErr, OnOk, OnSome, false, length};
-ghost use Rattle.vx_record.specs.Events.{enabled};
+ghost use Rattle.vx_record.specs.Events.{enabled, is_don};
 ghost use Rattle.vx_record.specs.Runs.{end_of, record_of};
 ghost use Rattle.vx_units.specs.Leases.{Back, Out};
 ghost use Rattle.vx_exec.specs.Leases.{AreIn, Fits, IsInFor, IsLeaseOf, IsOutFor, IsToLease, first_open, leasing_after, with_stand};
-ghost use Rattle.vx_exec.specs.View.{is_don, plan};
+ghost use Rattle.vx_exec.specs.View.{plan};
 
 use crate::engine::Engine;
 use crate::events::first_open;

@@ -2,11 +2,11 @@
 
 ghost use Rattle.std.specs.Prelude.{◌≡◌, ◌≤◌, IfSome, IsSome, OnErr, OnOk, false, slice_set};
 ghost use Rattle.vx_base.specs.Queues.{front};
+ghost use Rattle.vx_record.specs.Events.{is_don};
 ghost use Rattle.vx_units.specs.Leases.{Home};
 ghost use Rattle.vx_procs.specs.Kernel.{stands};
 ghost use Rattle.vx_exec.specs.Engines.{stands_prepared};
 ghost use Rattle.vx_exec.specs.Ready.{HasOwner, HasRoomFor, HasRooms, IsRoomMade, most};
-ghost use Rattle.vx_exec.specs.View.{is_don};
 ghost use Rattle.vx_base.specs.declared.record.Event.TheVariants.{Beg};
 
 use crate::events::process_of;

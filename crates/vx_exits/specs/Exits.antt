@@ -1,13 +1,10 @@
 -- The exit handlers of a process, the newest first.
-use Rattle.std.specs.Prelude.{◌∷◌, Bool, ◌&&◌, if◌then◌else◌, Option, Some, None, Result, Ok, Err}
-use Rattle.vx_base.specs.Handlers.{is_handler_of}
+use Rattle.std.specs.Prelude.{◌∷◌, ◌&&◌, if◌then◌else◌, Option, Some, None, Result, Ok, Err}
 use Rattle.vx_base.specs.Modes.{is_kernel}
 use Rattle.vx_base.specs.Pieces.{Handler}
-use Rattle.vx_base.specs.Roomy.{Roomy, with_items}
-use Rattle.vx_base.specs.declared.mode.Mode.{Mode}
 use Rattle.vx_base.specs.declared.number.Id.{Id}
 use Rattle.vx_base.specs.declared.routine.Entry.{Entry}
-use Rattle.vx_base.specs.Entries.{is_same_entry}
+use Rattle.vx_base.specs.Roomy.{Roomy, with_items}
 use Rattle.vx_exits.specs.declared.exits.ExitFail.{ExitFail}
 use Rattle.vx_exits.specs.declared.exits.ExitFail.TheVariants.{NoHandler}
 
@@ -18,9 +15,6 @@ Stack = Roomy Handler
 -- a handler declared: none in kernel mode
 abbrev pub declared : Stack → Handler → Stack
 declared s h = if is_kernel h.mode then s else with_items s (h ∷ s.items)
-
-abbrev pub is_tagged : Mode → Entry → Handler → Bool
-is_tagged mode tag h = is_handler_of mode h && is_same_entry h.tag tag
 
 -- what is known of a handler that is handed out: its id and its tag
 abbrev pub known : Handler → Id × Entry

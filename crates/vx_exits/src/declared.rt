@@ -2,8 +2,8 @@
 
 ghost use Rattle.std.specs.Prelude.{◌≡◌, IsTrue, ◌↔◌};
 ghost use Rattle.vx_base.specs.Entries.{is_same_entry};
-ghost use Rattle.vx_base.specs.Handlers.{is_handler_of};
-ghost use Rattle.vx_exits.specs.Exits.{is_tagged, known, handed};
+ghost use Rattle.vx_base.specs.Handlers.{is_handler_of, is_handler_with};
+ghost use Rattle.vx_exits.specs.Exits.{known, handed};
 
 use std::marker::Model;
 use vx_base::{Duplicate, Entry, Id, Mode, NoMemory, Routine, Same};
@@ -40,7 +40,7 @@ impl<R: Routine> Declared<R> {
 
     /// Whether it is of a mode and has a tag.
     pub(crate) fn is_tagged(&self, mode: Mode, tag: Entry) -> bool
-        ensures { result ≡ is_tagged mode tag self.now }
+        ensures { result ≡ is_handler_with mode tag self.now }
     {
         self.is_of_mode(mode) && is_same_entry(self.routine.tag(), tag)
     }

@@ -3,10 +3,10 @@
 ghost use Rattle.std.specs.Prelude.{◌≡◌, ◌↔◌, ◌<◌, ◌≤◌, [], length, IsTrue, IsErr, IfErr, IfSome, OnOk, OnErr};
 ghost use Rattle.std.specs.Prelude.{IfOk, option_map, position};
 ghost use Rattle.std.specs.List.{find};
-ghost use Rattle.vx_base.specs.Handlers.{any_handler, is_handler_of};
+ghost use Rattle.vx_base.specs.Handlers.{any_handler, is_handler_of, is_handler_with};
 ghost use Rattle.vx_base.specs.Lists.{less};
 ghost use Rattle.vx_base.specs.Modes.{is_kernel};
-ghost use Rattle.vx_exits.specs.Exits.{declared, is_tagged};
+ghost use Rattle.vx_exits.specs.Exits.{declared};
 ghost use Rattle.vx_exits.specs.Exits.{known, handed, handed_or, or_no_handler};
 
 use crate::declared::Declared;
@@ -77,8 +77,8 @@ impl<R: Routine> Exits<R> {
     /// Takes out the newest handler of a mode that has a tag ($CANEXH). NoHandler, and nothing changed, where there is
     /// none.
     pub fn cancel(&mut self, mode: Mode, tag: Entry) -> Result<(Id, R), ExitFail>
-        ensures answer { handed_or R.tagged result ≡ or_no_handler (option_map known (find (is_tagged mode tag) self.old.items)) }
-        ensures after { self.new ≡ record self.old { items = less (is_tagged mode tag) self.old.items } }
+        ensures answer { handed_or R.tagged result ≡ or_no_handler (option_map known (find (is_handler_with mode tag) self.old.items)) }
+        ensures after { self.new ≡ record self.old { items = less (is_handler_with mode tag) self.old.items } }
     {
         let place = place_of_tag(self.items.as_slice(), mode, tag);
         match self.items.take(place) {
@@ -133,7 +133,7 @@ fn place_of_mode<R: Routine>(items: &[Declared<R>], mode: Mode) -> Option<usize>
 
 /// Where the first handler of a mode is that has a tag.
 fn place_of_tag<R: Routine>(items: &[Declared<R>], mode: Mode, tag: Entry) -> Option<usize>
-    ensures place { result ≡ position (is_tagged mode tag) items.now }
+    ensures place { result ≡ position (is_handler_with mode tag) items.now }
     ensures within { IfSome result (λ i. i < length items.now) }
 {
     items

@@ -6,6 +6,7 @@ use Rattle.std.proofs.Common.{append_assoc, take}
 use Rattle.std.proofs.lemmas.List.{map-append, take_more}
 use Rattle.std.proofs.lemmas.List.Elements.{filter-append}
 use Rattle.vx_explore.specs.Alike.{total, first, Like, raised, one_after, open_to, all_after, stops, end_at, ends}
+use Rattle.std.specs.Option.{option_or}
 
 pub Like-refl : {K : Type 0} {m : ℕ} (xs : List (Found K)) → Like m xs xs
 Like-refl xs = record { totals = λ f. refl; firsts = λ q. refl }
@@ -19,27 +20,23 @@ pub total-push : {K : Type 0} (f : K → ℕ) (xs : List (Found K)) (x : Found K
 total-push f [] x = omega arith
 total-push f (y ∷ xs) x = omega (arith, total-push f xs x)
 
-abbrev pub or_else : {A : Type 0} → Option A → Option A → Option A
-or_else None b = b
-or_else (Some a) b = Some a
-
 pub total-append : {K : Type 0} (f : K → ℕ) (xs ys : List (Found K)) → total f (xs ++ ys) ≡ total f xs + total f ys
 total-append f [] ys = omega arith
 total-append f (x ∷ xs) ys = omega (arith, total-append f xs ys)
 
-or_none : {A : Type 0} (o : Option A) → o ≡ or_else o None
+or_none : {A : Type 0} (o : Option A) → o ≡ option_or o None
 or_none None = refl
 or_none (Some a) = refl
 
-or_else-cond : {A : Type 0} (b : Bool) (a : A) (o p : Option A) → cond b (Some a) (or_else o p) ≡ or_else (cond b (Some a) o) p
-or_else-cond true a o p = refl
-or_else-cond false a o p = refl
+option_or-cond : {A : Type 0} (b : Bool) (a : A) (o p : Option A) → cond b (Some a) (option_or o p) ≡ option_or (cond b (Some a) o) p
+option_or-cond true a o p = refl
+option_or-cond false a o p = refl
 
-pub first-append : {K : Type 0} (q : K → Bool) (xs ys : List (Found K)) → first q (xs ++ ys) ≡ or_else (first q xs) (first q ys)
+pub first-append : {K : Type 0} (q : K → Bool) (xs ys : List (Found K)) → first q (xs ++ ys) ≡ option_or (first q xs) (first q ys)
 first-append q [] ys = refl
 first-append q (x ∷ xs) ys =
     ap (λ o. cond (q x.what) (Some (x.what, x.picks)) o) (first-append q xs ys)
-    ∙ or_else-cond (q x.what) (x.what, x.picks) (first q xs) (first q ys)
+    ∙ option_or-cond (q x.what) (x.what, x.picks) (first q xs) (first q ys)
 
 capped-add : (m a b c d : ℕ) → min a m ≡ min b m → min c m ≡ min d m → min (a + c) m ≡ min (b + d) m
 capped-add m a b c d e h = omega arith
@@ -47,7 +44,7 @@ capped-add m a b c d e h = omega arith
 pub Like-append : {K : Type 0} {m : ℕ} {xs xs' ys ys' : List (Found K)} → Like m xs xs' → Like m ys ys' → Like m (xs ++ ys) (xs' ++ ys')
 Like-append {K} {m} {xs} {xs'} {ys} {ys'} a b = record {
   totals = λ f. rw (total-append f xs ys, total-append f xs' ys') (capped-add m _ _ _ _ (a.totals f) (b.totals f));
-  firsts = λ q. rw (first-append q xs ys, first-append q xs' ys') (ap (λ o. or_else o (first q ys)) (a.firsts q) ∙ ap (λ o. or_else (first q xs') o) (b.firsts q));
+  firsts = λ q. rw (first-append q xs ys, first-append q xs' ys') (ap (λ o. option_or o (first q ys)) (a.firsts q) ∙ ap (λ o. option_or (first q xs') o) (b.firsts q));
 }
 
 -- What is found again adds its runs to the entry.
@@ -145,15 +142,15 @@ module _ {S : Type 0} (enabled : S → ℕ) (after : S → ℕ → S) where
   first-all_after q [] = refl
   first-all_after q (x ∷ xs) =
       first-append q (map (one_after enabled after x) (open_to enabled after x.what)) (all_after enabled after xs)
-      ∙ ap (λ o. or_else o (first q (all_after enabled after xs))) (first-one_after q x (open_to enabled after x.what))
-      ∙ ap (λ o. or_else (behind_first q (x.what, x.picks)) o) (first-all_after q xs)
+      ∙ ap (λ o. option_or o (first q (all_after enabled after xs))) (first-one_after q x (open_to enabled after x.what))
+      ∙ ap (λ o. option_or (behind_first q (x.what, x.picks)) o) (first-all_after q xs)
       ∙ at_head (pick_for q x.what (open_to enabled after x.what)) refl
     where
       rest : Option (S × List ℕ)
       rest = first (λ s. is_some (pick_for q s (open_to enabled after s))) xs
 
       at_head : (o : Option ℕ) → pick_for q x.what (open_to enabled after x.what) ≡ o
-          → or_else (option_map (λ i. (after x.what i, x.picks ++ i ∷ [])) o) (option_and_then (behind_first q) rest)
+          → option_or (option_map (λ i. (after x.what i, x.picks ++ i ∷ [])) o) (option_and_then (behind_first q) rest)
           ≡ option_and_then (behind_first q) (cond (is_some o) (Some (x.what, x.picks)) rest)
       at_head None e = refl
       at_head (Some i) e = rw e refl

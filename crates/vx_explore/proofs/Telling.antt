@@ -7,8 +7,9 @@ use Rattle.std.proofs.lemmas.List.Sums.{sum_by-cons}
 use Rattle.vx_explore.specs.declared.found.Found.{Found}
 use Rattle.vx_explore.specs.Runs.{Run, firsts, row_of, summary}
 use Rattle.vx_explore.specs.Alike.{total, first, Like, raised, is, Counted, AreApart, Tells}
-use Rattle.vx_explore.proofs.Finding.{total-push, or_else, first-append, raised-first}
+use Rattle.vx_explore.proofs.Finding.{total-push, first-append, raised-first}
 use Rattle.vx_explore.proofs.Walks.{endings}
+use Rattle.std.specs.Option.{option_or}
 
 module _ {E : Type 0} (same : E → E → Bool) where
   Counted-Like : {m : ℕ} {xs ys : List (Found E)} → Like m xs ys → (rows : List (Found E)) → Counted same m xs rows → Counted same m ys rows
@@ -126,7 +127,7 @@ module _ {E : Type 0} (same : E → E → Bool) where
         (none-push (λ d. same d r.what) rows x a.0 (differ r.what x.what parts.0), AreApart-push rows x a.1 parts.1)
 
     firsts-push : (rows xs : List (Found E)) (x : Found E) → ((q : E → Bool) → first q rows ≡ first q xs) → (q : E → Bool) → first q (rows ++ x ∷ []) ≡ first q (xs ++ x ∷ [])
-    firsts-push rows xs x e q = first-append q rows (x ∷ []) ∙ ap (λ o. or_else o (first q (x ∷ []))) (e q) ∙ sym (first-append q xs (x ∷ []))
+    firsts-push rows xs x e q = first-append q rows (x ∷ []) ∙ ap (λ o. option_or o (first q (x ∷ []))) (e q) ∙ sym (first-append q xs (x ∷ []))
 
     -- an ending that is new
     pub Tells-pushed : {m : ℕ} {rows xs : List (Found E)} (x : Found E) → x.ways ≤ m → first (λ d. same d x.what) rows ≡ None → Tells same m rows xs → Tells same m (rows ++ x ∷ []) (xs ++ x ∷ [])

@@ -1,5 +1,5 @@
 -- The frames of a process, the top first.
-use Rattle.std.specs.Prelude.{ℕ, List, [], ◌∷◌, Bool, true, ◌&&◌, ◌||◌, not, Option, Some, None}
+use Rattle.std.specs.Prelude.{ℕ, List, [], ◌∷◌, Bool, true, ◌&&◌, ◌||◌, not, Option}
 use Rattle.std.specs.List.{list_all}
 use Rattle.vx_base.specs.Modes.{reaches}
 use Rattle.vx_base.specs.declared.frame.Frame.{Frame}
@@ -11,14 +11,6 @@ use Rattle.vx_base.specs.Frames.{is_ast}
 pub record Stack : Type 0 where
   pub items : List Frame
   pub capacity : ℕ
-
-abbrev pub top_of : List Frame → Option Frame
-top_of [] = None
-top_of (f ∷ fs) = Some f
-
-abbrev pub below_top : List Frame → List Frame
-below_top [] = []
-below_top (f ∷ fs) = fs
 
 -- the top frame goes on at a statement, and waits for something or for nothing
 abbrev pub gone_on : ℕ → Option Wait → List Frame → List Frame

@@ -3,7 +3,8 @@
 ghost use Rattle.std.specs.Prelude.{◌≡◌, ◌<◌, ◌≤◌, ◌∷◌, [], length, IfOk, IsTrue, OnOk, OnErr, IfSome, option_map, reverse};
 ghost use Rattle.std.specs.List.{find};
 ghost use Rattle.vx_base.specs.Frames.{active_mode, is_ast};
-ghost use Rattle.vx_frames.specs.Frames.{top_of, below_top, gone_on, may_stand_on, goes_inward};
+ghost use Rattle.vx_base.specs.Lists.{rest, first};
+ghost use Rattle.vx_frames.specs.Frames.{gone_on, may_stand_on, goes_inward};
 ghost use Rattle.vx_frames.specs.Frames.{is_inmost};
 
 use crate::snapshot::FramesSnapshot;
@@ -59,7 +60,7 @@ impl Frames {
 
     /// The top frame, if there is one.
     pub fn top(&self) -> Option<&Frame>
-        ensures { option_map (λ frame. frame.now) result ≡ top_of self.now.items }
+        ensures { option_map (λ frame. frame.now) result ≡ first self.now.items }
     {
         self.items.as_slice().last()
     }
@@ -77,8 +78,8 @@ impl Frames {
 
     /// Takes the top frame off, if there is one.
     pub fn pop(&mut self) -> Option<Frame>
-        ensures top { result ≡ top_of self.old.items }
-        ensures after { self.new ≡ record self.old { items = below_top self.old.items } }
+        ensures top { result ≡ first self.old.items }
+        ensures after { self.new ≡ record self.old { items = rest self.old.items } }
     {
         self.items.pop()
     }

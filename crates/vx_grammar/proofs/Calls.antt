@@ -3,25 +3,25 @@ use Rattle.std.proofs.Common.{◌≡◌, ℕ, ◌+◌, ◌==◌, Bool, true, fal
 use Rattle.std.proofs.lemmas.Bool.{eqb-true}
 use Rattle.vx_base.proofs.Lists.{some_mapped}
 use Rattle.vx_base.specs.declared.call.Arg.{Arg}
-use Rattle.vx_base.specs.declared.call.Arg.TheVariants as arg
 use Rattle.vx_base.specs.declared.call.Args.{Args}
 use Rattle.vx_base.specs.declared.call.Call.{Call}
 use Rattle.vx_base.specs.declared.call.Operand.{Operand}
-use Rattle.vx_base.specs.declared.call.Operand.TheVariants as operand
 use Rattle.vx_base.specs.declared.call.Target.{Target}
-use Rattle.vx_base.specs.declared.mode.Mode.TheVariants.{Kernel, Exec, Super, User}
-use Rattle.vx_base.specs.declared.request.Func.TheVariants.{Read, ReadNow, Write, WriteNow, Eof, EofNow, ReadAttn, WrtAttn}
 use Rattle.vx_base.specs.declared.cond.Cond.{Cond}
 use Rattle.vx_base.specs.declared.service.Kind.{Kind}
-use Rattle.vx_base.specs.declared.service.Kind.TheVariants as kind
 use Rattle.vx_base.specs.declared.service.Param.{Param}
-use Rattle.vx_base.specs.declared.service.Param.TheVariants.{Required, Optional}
 use Rattle.vx_base.specs.declared.service.Service.{Service}
+use Rattle.vx_base.specs.declared.call.Arg.TheVariants as arg
+use Rattle.vx_base.specs.declared.call.Operand.TheVariants as operand
+use Rattle.vx_base.specs.declared.mode.Mode.TheVariants.{Kernel, Exec, Super, User}
+use Rattle.vx_base.specs.declared.request.Func.TheVariants.{Read, ReadNow, Write, WriteNow, Eof, EofNow, ReadAttn, WrtAttn}
+use Rattle.vx_base.specs.declared.service.Kind.TheVariants as kind
+use Rattle.vx_base.specs.declared.service.Param.TheVariants.{Required, Optional}
 use Rattle.vx_base.specs.Services.{service_name, service_rows, service_row, all_services, params_of, args_of, is_of_kind, is_operand, is_target, kind_of}
 use Rattle.vx_text.specs.declared.token.Tok.{Tok}
 use Rattle.vx_text.specs.declared.token.Tok.TheVariants as tok
 use Rattle.vx_table.specs.declared.fail.CallFail.{CallFail}
-use Rattle.vx_table.specs.Reading.{operand_word, target_word, mode_word, func_word, word_arg, token_arg, arg_or, default_of, read_arg, is_comma, onto_first, cut, pieces, and_args, read_args, as_args, call_with, read_row, read_named, read_call}
+use Rattle.vx_table.specs.Reading.{operand_word, target_word, mode_word, func_word, word_arg, token_arg, arg_or, default_of, read_arg, is_comma, cut, pieces, and_args, read_args, as_args, call_with, read_row, read_named, read_call}
 use Rattle.vx_table.specs.Spelling.{mode_name, func_name, arg_token, comma}
 use Rattle.vx_table.proofs.Back.{no_comma, kind_used, token_back, named_back}
 use Rattle.vx_table.proofs.Calls.{IsOperandOr, IsTargetOr, operand_is, target_is}
@@ -29,6 +29,7 @@ use Rattle.vx_grammar.specs.Grammar.{Argument, stands, left_out, Arguments, no_p
 use Rattle.vx_grammar.proofs.Fields.{found_name, operand_name, target_name}
 use Rattle.vx_base.proofs.Texts.{bytes_are}
 use Rattle.vx_base.proofs.Bools.{either_by}
+use Rattle.std.specs.List.{onto_first}
 
 -- Pieces.
 

@@ -3,8 +3,8 @@ use Rattle.std.proofs.Common.{◌≡◌, ℕ, ◌+◌, ◌≤◌, ◌==◌, ◌&
 use Rattle.std.proofs.lemmas.Bool.{and_parts, leb-true, eqb-true}
 use Rattle.std.proofs.lemmas.List.{drop-drop}
 use Rattle.vx_base.specs.declared.call.Operand.{Operand}
-use Rattle.vx_base.specs.declared.call.Operand.TheVariants as operand
 use Rattle.vx_base.specs.declared.call.Target.{Target}
+use Rattle.vx_base.specs.declared.call.Operand.TheVariants as operand
 use Rattle.vx_base.specs.declared.call.Target.TheVariants as target
 use Rattle.vx_base.specs.Name.{is_capital}
 use Rattle.vx_text.specs.declared.token.Tok.{Tok}
@@ -15,10 +15,10 @@ use Rattle.vx_script.specs.Results.{◌>>=◌, given}
 use Rattle.vx_script.specs.Fields.{first_of, end_at, is_word, is_sign, when, sign_at, word_at, name_in, name_at, number_in, within, number_at, text_in, text_at, operand_at, target_in, target_at}
 use Rattle.vx_script.specs.declared.fault.FaultKind.{FaultKind}
 use Rattle.vx_script.specs.declared.fault.FaultKind.TheVariants as kind
-use Rattle.vx_grammar.specs.Grammar.{Between}
 use Rattle.vx_base.proofs.First.{found_passes}
 use Rattle.vx_base.proofs.Texts.{bytes_are}
 use Rattle.vx_base.proofs.Bools.{either_by}
+use Rattle.std.specs.Int.{IsInRange}
 
 -- Chains and tests.
 
@@ -104,10 +104,10 @@ number_token (tok.Cond c) n h = absurd (cc)
 number_token (tok.Service m) n h = absurd (cc)
 number_token (tok.Quote b) n h = absurd (cc)
 
-within_ok : (low high m n : ℕ) → within low high m ≡ Ok n → (m ≡ n) × Between low high n
+within_ok : (low high m n : ℕ) → within low high m ≡ Ok n → (m ≡ n) × IsInRange low high n
 within_ok low high m n =
-    either_by {A = Result ℕ FaultKind} (λ r. r ≡ Ok n → (m ≡ n) × Between low high n) (nat_le low m && nat_le m high) (Ok m) (Err kind.Range)
-    (λ e h. let same : m ≡ n = cc in let p = and_parts (nat_le low m) (nat_le m high) e in subst (λ k. (m ≡ k) × Between low high k) same (refl, (leb-true low m p.0, leb-true m high p.1)))
+    either_by {A = Result ℕ FaultKind} (λ r. r ≡ Ok n → (m ≡ n) × IsInRange low high n) (nat_le low m && nat_le m high) (Ok m) (Err kind.Range)
+    (λ e h. let same : m ≡ n = cc in let p = and_parts (nat_le low m) (nat_le m high) e in subst (λ k. (m ≡ k) × IsInRange low high k) same (refl, (leb-true low m p.0, leb-true m high p.1)))
     (λ _ h. absurd (cc))
 
 text_ok : (bytes text : List ℕ) → text_in (tok.Quote bytes) ≡ Ok text → (bytes ≡ text) × (length text ≤ 2048)
@@ -200,7 +200,7 @@ name_found k tokens name h =
     let b = bind_ok (first_of (drop k tokens)) _ name h in
     by_token k tokens b.0 (tok.Word name) (first_at k tokens b.0 b.1) (name_token b.0 name b.2)
 
-pub number_found : (k low high : ℕ) (tokens : List Tok) (n : ℕ) → number_at low high (drop k tokens) ≡ Ok n → At k tokens (tok.Num n) × Between low high n
+pub number_found : (k low high : ℕ) (tokens : List Tok) (n : ℕ) → number_at low high (drop k tokens) ≡ Ok n → At k tokens (tok.Num n) × IsInRange low high n
 number_found k low high tokens n h =
     let b = bind_ok (first_of (drop k tokens)) _ n h in
     let c = bind_ok (number_in b.0) (within low high) n b.2 in

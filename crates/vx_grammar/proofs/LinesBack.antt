@@ -7,12 +7,12 @@ use Rattle.std.proofs.lemmas.List.{map-append, map_push, length-map}
 use Rattle.std.proofs.lemmas.List.Folds.{list_all-append, list_any-append}
 use Rattle.vx_base.proofs.Any.{all_push, any_map}
 use Rattle.vx_base.proofs.Lists.{not_some}
+use Rattle.vx_image.specs.declared.decl.ProcDecl.{ProcDecl}
 use Rattle.vx_image.specs.declared.image.Image.{Image}
 use Rattle.vx_image.specs.declared.image.Label.{Label}
 use Rattle.vx_image.specs.declared.stmt.Stmt.{Stmt}
 use Rattle.vx_image.specs.declared.system.System.{System}
 use Rattle.vx_image.specs.declared.unit.UnitDecl.{UnitDecl}
-use Rattle.vx_image.specs.declared.decl.ProcDecl.{ProcDecl}
 use Rattle.vx_image.specs.WellFormed.{is_among, are_distinct, label_names, decl_names}
 use Rattle.vx_text.specs.declared.token.Tok.{Tok}
 use Rattle.vx_text.specs.declared.token.Tok.TheVariants as tok
@@ -28,21 +28,22 @@ use Rattle.vx_script.specs.declared.draft.DraftImage.{DraftImage}
 use Rattle.vx_script.specs.declared.draft.DraftLine.{DraftLine}
 use Rattle.vx_script.specs.declared.fault.FaultKind.{FaultKind}
 use Rattle.vx_script.specs.declared.keys.Key.{Key}
-use Rattle.vx_script.specs.declared.keys.Key.TheVariants as key
-use Rattle.vx_script.specs.declared.keys.Limit.TheVariants as limit
 use Rattle.vx_script.specs.declared.lines.DeclLine.{DeclLine}
 use Rattle.vx_script.specs.declared.lines.FaultLine.{FaultLine}
 use Rattle.vx_script.specs.declared.lines.InputLine.{InputLine}
 use Rattle.vx_script.specs.declared.parts.Parts.{Parts}
 use Rattle.vx_script.specs.declared.parts.Reading.{Reading}
+use Rattle.vx_script.specs.declared.keys.Key.TheVariants as key
+use Rattle.vx_script.specs.declared.keys.Limit.TheVariants as limit
 use Rattle.vx_script.proofs.Appended.{same_back}
 use Rattle.vx_script.proofs.EndedImages.{is_known}
 use Rattle.vx_script.proofs.Places.{has_place}
-use Rattle.vx_grammar.specs.Grammar.{Between, Said, Names, Does, BodyLine, empty_line, statement_line, label_line, labelled_line, Body, no_lines, and_line, stmts_in, labels_in, ImageOf, plain_decl, Item, OfUnit, OfInput, OfFault, OfImage, OfProcess, Line, a_line_unit, a_block_unit, an_input, a_fault, a_process, Lines, none_left, an_empty_line, a_line, an_image, fault_in, colon}
+use Rattle.vx_grammar.specs.Grammar.{Said, Names, Does, BodyLine, empty_line, statement_line, label_line, labelled_line, Body, no_lines, and_line, stmts_in, labels_in, ImageOf, plain_decl, Item, OfUnit, OfInput, OfFault, OfImage, OfProcess, Line, a_line_unit, a_block_unit, an_input, a_fault, a_process, Lines, none_left, an_empty_line, a_line, an_image, fault_in, colon}
 use Rattle.vx_grammar.proofs.ReadStatements.{Reads, ReadsAs, stmt_reads}
 use Rattle.vx_grammar.proofs.ProcessKeys.{has, decl_with, KeysRead, settings_read}
 use Rattle.vx_grammar.proofs.SaidSoFar.{pushed, map_pushed, fault_key, Extends, nothing_added, and_unit, and_input, and_fault, and_decl, bare_unit, unit_added, input_added, fault_added, decl_added, image_added, Known, with_known_unit, with_known_input, with_known_fault, with_known_decl, with_known_image}
 use Rattle.vx_grammar.proofs.Feeding.{feeds}
+use Rattle.std.specs.Int.{IsInRange}
 
 -- Names that differ.
 
@@ -354,7 +355,7 @@ pub line_unit_read : (line : ℕ) (parts : Parts) (name : List ℕ) → unit_pla
 unfolding outside unit_line
 line_unit_read line parts name new room = rw (new, room) refl
 
-pub block_unit_read : (line : ℕ) (parts : Parts) (name : List ℕ) (n : ℕ) → Between 1 4096 n → unit_place name parts.units ≡ None → nat_lt (length parts.units) 32 ≡ true
+pub block_unit_read : (line : ℕ) (parts : Parts) (name : List ℕ) (n : ℕ) → IsInRange 1 4096 n → unit_place name parts.units ≡ None → nat_lt (length parts.units) 32 ≡ true
     → outside line parts (tok.Word (codes "UNIT") ∷ tok.Word name ∷ tok.Word (codes "BLOCK") ∷ tok.Num n ∷ []) ≡ Ok (between_images (and_unit parts (bare_unit name n)))
 unfolding outside unit_line
 block_unit_read line parts name n h new room =
@@ -375,7 +376,7 @@ fault_new unit n (f ∷ faults) h =
     let p = or_parts (bytes_eq (n ∷ unit) (fault_key f)) (is_among (n ∷ unit) (map fault_key faults)) h in
     or_from (is_fault_of unit n f) (list_any (is_fault_of unit n) faults) (and_comm (bytes_eq unit f.unit) (n == f.number) ∙ p.0) (fault_new unit n faults p.1)
 
-pub a_fault_read : (line : ℕ) (parts : Parts) (unit : List ℕ) (n : ℕ) → Between 1 100000 n → list_any (is_fault_of unit n) parts.faults ≡ false
+pub a_fault_read : (line : ℕ) (parts : Parts) (unit : List ℕ) (n : ℕ) → IsInRange 1 100000 n → list_any (is_fault_of unit n) parts.faults ≡ false
     → outside line parts (tok.Word (codes "FAULT") ∷ tok.Word unit ∷ tok.Num n ∷ []) ≡ Ok (between_images (and_fault parts (record { line = line; unit = unit; number = n })))
 unfolding outside fault_line
 a_fault_read line parts unit n h new =

@@ -4,8 +4,8 @@ use Rattle.std.specs.List.{list_any}
 use Rattle.std.proofs.lemmas.Bool.{le-leb}
 use Rattle.std.proofs.lemmas.List.{drop-drop}
 use Rattle.vx_base.specs.declared.mode.Mode.{Mode}
-use Rattle.vx_base.specs.declared.mode.Mode.TheVariants.{Kernel, Exec, Super, User}
 use Rattle.vx_base.specs.declared.quota.Privs.{Privs}
+use Rattle.vx_base.specs.declared.mode.Mode.TheVariants.{Kernel, Exec, Super, User}
 use Rattle.vx_image.specs.declared.decl.ProcDecl.{ProcDecl}
 use Rattle.vx_text.specs.declared.token.Tok.{Tok}
 use Rattle.vx_text.specs.declared.token.Tok.TheVariants as tok
@@ -14,24 +14,25 @@ use Rattle.vx_script.specs.Results.{◌>>=◌, given}
 use Rattle.vx_script.specs.Fields.{is_word, begins_with_sign, sign_at, number_at}
 use Rattle.vx_script.specs.Keys.{privilege_name, holds, granted, no_privs, privs_from, privs_of, privs_at, uic_at, mode_in, mode_at, limit_at, start_at, key_name, all_keys, key_word, key_in, once, limit_in, with_limit_in, with_uic, with_mode, with_limit, with_privs, with_start, with_key, taken_key, keys_from, first_uic, limits_of}
 use Rattle.vx_script.specs.declared.fault.FaultKind.{FaultKind}
-use Rattle.vx_script.specs.declared.fault.FaultKind.TheVariants as kind
 use Rattle.vx_script.specs.declared.keys.Key.{Key}
-use Rattle.vx_script.specs.declared.keys.Key.TheVariants as key
 use Rattle.vx_script.specs.declared.keys.Keys.{Keys}
 use Rattle.vx_script.specs.declared.keys.Limit.{Limit}
-use Rattle.vx_script.specs.declared.keys.Limit.TheVariants as limit
 use Rattle.vx_script.specs.declared.keys.TakenKey.{TakenKey}
 use Rattle.vx_script.specs.declared.keys.Uic.{Uic}
 use Rattle.vx_script.specs.declared.privileges.Privilege.{Privilege}
-use Rattle.vx_script.specs.declared.privileges.Privilege.TheVariants as privilege
 use Rattle.vx_script.specs.declared.privileges.TakenPrivs.{TakenPrivs}
+use Rattle.vx_script.specs.declared.fault.FaultKind.TheVariants as kind
+use Rattle.vx_script.specs.declared.keys.Key.TheVariants as key
+use Rattle.vx_script.specs.declared.keys.Limit.TheVariants as limit
+use Rattle.vx_script.specs.declared.privileges.Privilege.TheVariants as privilege
 use Rattle.vx_script.proofs.Taking.{keys_behind}
-use Rattle.vx_grammar.specs.Grammar.{Between, Privileges, one_name, and_name, Setting, uic_is, mode_is, limit_is, limited, no_priv_is, priv_is, start_is, Settings, no_settings, and_setting, colon, equals, plus}
+use Rattle.vx_grammar.specs.Grammar.{Privileges, one_name, and_name, Setting, uic_is, mode_is, limit_is, limited, no_priv_is, priv_is, start_is, Settings, no_settings, and_setting, colon, equals, plus}
 use Rattle.vx_grammar.proofs.Fields.{bind_ok, given_ok, found_name, sign_found, word_token, number_found, choice_found}
 use Rattle.vx_grammar.proofs.Once.{OneMore, AreNew, and_new, first_new, rest_new}
 use Rattle.vx_grammar.proofs.PrivilegeNames.{names_read, names_stand}
 use Rattle.vx_table.proofs.Back.{mode_back}
 use Rattle.vx_base.proofs.Bools.{either_by}
+use Rattle.std.specs.Int.{IsInRange}
 
 -- a key stands already
 abbrev pub has : Keys → Key → Bool
@@ -109,7 +110,7 @@ absent : {A : Type 0} (o : Option A) → is_some o ≡ false → once o ≡ Ok t
 absent None h = refl
 absent (Some x) h = absurd (cc)
 
-uic_takes : (keys : Keys) (g m : ℕ) (rest : List Tok) → Between 1 16382 g → Between 0 65534 m → is_some keys.uic ≡ false
+uic_takes : (keys : Keys) (g m : ℕ) (rest : List Tok) → IsInRange 1 16382 g → IsInRange 0 65534 m → is_some keys.uic ≡ false
     → with_uic keys (equals ∷ tok.Num g ∷ colon ∷ tok.Num m ∷ rest) ≡ Ok (record { keys = record keys { uic = Some (record { group = g; member = m }) }; used = 4 })
 unfolding uic_at
 uic_takes keys g m rest h k new =
@@ -124,7 +125,7 @@ mode_takes : (keys : Keys) (m : Mode) (rest : List Tok) → is_some keys.mode �
 unfolding mode_at
 mode_takes keys m rest new = rw (absent keys.mode new, mode_back m) refl
 
-start_takes : (keys : Keys) (n : ℕ) (rest : List Tok) → Between 0 1 n → is_some keys.start ≡ false
+start_takes : (keys : Keys) (n : ℕ) (rest : List Tok) → IsInRange 0 1 n → is_some keys.start ≡ false
     → with_start keys (equals ∷ tok.Num n ∷ rest) ≡ Ok (record { keys = record keys { start = Some (n == 1) }; used = 2 })
 unfolding start_at
 start_takes keys n rest h new =
@@ -162,7 +163,7 @@ none_held (_ ∷ ps) = none_held ps
 dropped_one : (used : ℕ) (t : Tok) (ts rest : List Tok) → drop used ts ≡ rest → drop (used + 1) (t ∷ ts) ≡ rest
 dropped_one used t ts rest h = rw add-one h
 
-limit_takes : (keys : Keys) (l : Limit) (n : ℕ) (rest : List Tok) → Between 0 1000000 n → is_some (limit_in keys l) ≡ false
+limit_takes : (keys : Keys) (l : Limit) (n : ℕ) (rest : List Tok) → IsInRange 0 1000000 n → is_some (limit_in keys l) ≡ false
     → with_limit keys l (equals ∷ tok.Num n ∷ rest) ≡ Ok (record { keys = with_limit_in keys l n; used = 2 })
 unfolding limit_at
 limit_takes keys l n rest h new =
@@ -287,8 +288,8 @@ absent_is (Some x) u h = absurd (cc)
 
 record UicStands (tokens : List Tok) (u : Uic) : Type 0 where
   split : tokens ≡ equals ∷ tok.Num u.group ∷ colon ∷ tok.Num u.member ∷ drop 4 tokens
-  group : Between 1 16382 u.group
-  member : Between 0 65534 u.member
+  group : IsInRange 1 16382 u.group
+  member : IsInRange 0 65534 u.member
 
 uic_stands : (tokens : List Tok) (u : Uic) → uic_at tokens ≡ Ok u → UicStands tokens u
 unfolding uic_at
@@ -308,18 +309,18 @@ uic_stands tokens u h =
     subst (λ (v : Uic). UicStands tokens v) is (record { split = shape; group = e1.1; member = e3.1 })
 
 number_stands : (high : ℕ) (tokens : List Tok) (u : Unit {0}) (n : ℕ) → sign_at 61 tokens ≡ Ok u → number_at 0 high (drop 1 tokens) ≡ Ok n
-    → (tokens ≡ equals ∷ tok.Num n ∷ drop 2 tokens) × Between 0 high n
+    → (tokens ≡ equals ∷ tok.Num n ∷ drop 2 tokens) × IsInRange 0 high n
 number_stands high tokens u n h k =
     let e0 = sign_found 0 61 tokens u h in
     let e1 = number_found 1 0 high tokens n k in
     let f1 = e1.0 in
     ((let shape : tokens ≡ equals ∷ tok.Num n ∷ drop 2 tokens = cc in shape), e1.1)
 
-limit_stands : (tokens : List Tok) (n : ℕ) → limit_at tokens ≡ Ok n → (tokens ≡ equals ∷ tok.Num n ∷ drop 2 tokens) × Between 0 1000000 n
+limit_stands : (tokens : List Tok) (n : ℕ) → limit_at tokens ≡ Ok n → (tokens ≡ equals ∷ tok.Num n ∷ drop 2 tokens) × IsInRange 0 1000000 n
 unfolding limit_at
 limit_stands tokens n h = let a = bind_ok (sign_at 61 tokens) _ n h in number_stands 1000000 tokens a.0 n a.1 a.2
 
-start_stands : (tokens : List Tok) (b : Bool) → start_at tokens ≡ Ok b → (n : ℕ) × (tokens ≡ equals ∷ tok.Num n ∷ drop 2 tokens) × Between 0 1 n × ((n == 1) ≡ b)
+start_stands : (tokens : List Tok) (b : Bool) → start_at tokens ≡ Ok b → (n : ℕ) × (tokens ≡ equals ∷ tok.Num n ∷ drop 2 tokens) × IsInRange 0 1 n × ((n == 1) ≡ b)
 unfolding start_at
 start_stands tokens b h =
     let a = bind_ok (sign_at 61 tokens) _ b h in

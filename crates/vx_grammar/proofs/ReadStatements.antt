@@ -4,21 +4,21 @@ use Rattle.std.specs.List.{list_all, list_any}
 use Rattle.std.proofs.lemmas.Bool.{and_parts, and_from, le-leb}
 use Rattle.vx_base.proofs.Any.{any_map}
 use Rattle.vx_base.specs.declared.call.Arg.{Arg}
-use Rattle.vx_base.specs.declared.call.Arg.TheVariants as arg
 use Rattle.vx_base.specs.declared.call.Operand.{Operand}
-use Rattle.vx_base.specs.declared.call.Operand.TheVariants as operand
 use Rattle.vx_base.specs.declared.call.Target.{Target}
-use Rattle.vx_base.specs.declared.call.Target.TheVariants as target
 use Rattle.vx_base.specs.declared.service.Service.{Service}
+use Rattle.vx_base.specs.declared.call.Arg.TheVariants as arg
+use Rattle.vx_base.specs.declared.call.Operand.TheVariants as operand
+use Rattle.vx_base.specs.declared.call.Target.TheVariants as target
 use Rattle.vx_base.specs.declared.service.Service.TheVariants.{CrePrc}
 use Rattle.vx_base.specs.Services.{is_operand, is_target, args_list}
 use Rattle.vx_image.specs.declared.image.Image.{Image}
 use Rattle.vx_image.specs.declared.image.Label.{Label}
 use Rattle.vx_image.specs.declared.stmt.Field.{Field}
-use Rattle.vx_image.specs.declared.stmt.Field.TheVariants as field
 use Rattle.vx_image.specs.declared.stmt.Rel.{Rel}
-use Rattle.vx_image.specs.declared.stmt.Rel.TheVariants as rel
 use Rattle.vx_image.specs.declared.stmt.Stmt.{Stmt}
+use Rattle.vx_image.specs.declared.stmt.Field.TheVariants as field
+use Rattle.vx_image.specs.declared.stmt.Rel.TheVariants as rel
 use Rattle.vx_image.specs.declared.stmt.Stmt.TheVariants as stmt
 use Rattle.vx_image.specs.WellFormed.{is_among, has_its_label, has_its_decl}
 use Rattle.vx_text.specs.declared.token.Tok.{Tok}
@@ -31,13 +31,14 @@ use Rattle.vx_script.specs.Resolving.{is_label, place_or_zero, settled, draft_na
 use Rattle.vx_script.specs.Places.{label_place}
 use Rattle.vx_script.specs.Statements.{let_rest, let_stmt, goto_stmt, rel_name, rel_word, if_stmt, put_stmt, byte_stmt, field_name, field_word, iosb_stmt, return_stmt, local_stmt, called, stmt_of}
 use Rattle.vx_script.specs.declared.draft.Draft.{Draft}
-use Rattle.vx_script.specs.declared.draft.Draft.TheVariants as draft
 use Rattle.vx_script.specs.declared.draft.DraftImage.{DraftImage}
 use Rattle.vx_script.specs.declared.parts.Parts.{Parts}
+use Rattle.vx_script.specs.declared.draft.Draft.TheVariants as draft
 use Rattle.vx_script.proofs.EndedImages.{is_known}
 use Rattle.vx_script.proofs.Places.{has_place}
-use Rattle.vx_grammar.specs.Grammar.{Between, Statement, let_value, let_sum, let_difference, goto_label, if_goto, put_text, get_byte, get_iosb, returns, call_service}
+use Rattle.vx_grammar.specs.Grammar.{Statement, let_value, let_sum, let_difference, goto_label, if_goto, put_text, get_byte, get_iosb, returns, call_service}
 use Rattle.vx_grammar.proofs.Calls.{call_read}
+use Rattle.std.specs.Int.{IsInRange}
 
 -- The words of a statement, read back.
 
@@ -98,7 +99,7 @@ if_back : (x : Operand) (r : Rel) (y : Operand) (name : List ℕ) → is_operand
 unfolding local_stmt if_stmt
 if_back x r y name h k = rw (operand_back x h, rel_back r, operand_back y k) refl
 
-put_back : (b : ℕ) (bytes : List ℕ) → Between 0 31 b → length bytes ≤ 2048 → local_stmt (codes "PUT") (tok.Num b ∷ tok.Quote bytes ∷ []) ≡ Ok (draft.Plain (stmt.Put b bytes))
+put_back : (b : ℕ) (bytes : List ℕ) → IsInRange 0 31 b → length bytes ≤ 2048 → local_stmt (codes "PUT") (tok.Num b ∷ tok.Quote bytes ∷ []) ≡ Ok (draft.Plain (stmt.Put b bytes))
 unfolding local_stmt put_stmt
 put_back b bytes h k =
     let low : nat_le 0 b ≡ true = le-leb _ _ h.0 in
@@ -106,7 +107,7 @@ put_back b bytes h k =
     let few : nat_le (length bytes) 2048 ≡ true = le-leb _ _ k in
     rw (low, high, few) refl
 
-byte_back : (t : Target) (b : ℕ) (x : Operand) → is_target t ≡ true → Between 0 31 b → is_operand x ≡ true
+byte_back : (t : Target) (b : ℕ) (x : Operand) → is_target t ≡ true → IsInRange 0 31 b → is_operand x ≡ true
     → local_stmt (codes "BYTE") (target_token t ∷ tok.Num b ∷ operand_token x ∷ []) ≡ Ok (draft.Plain (stmt.Byte t b x))
 unfolding local_stmt byte_stmt
 byte_back t b x h k l =
@@ -114,7 +115,7 @@ byte_back t b x h k l =
     let high : nat_le b 31 ≡ true = le-leb _ _ k.1 in
     rw (target_back t h, low, high, operand_back x l) refl
 
-iosb_back : (t : Target) (i : ℕ) (f : Field) → is_target t ≡ true → Between 1 32 i
+iosb_back : (t : Target) (i : ℕ) (f : Field) → is_target t ≡ true → IsInRange 1 32 i
     → local_stmt (codes "IOSB") (target_token t ∷ tok.Num i ∷ tok.Word (field_name f) ∷ []) ≡ Ok (draft.Plain (stmt.Iosb t i f))
 unfolding local_stmt iosb_stmt
 iosb_back t i f h k =

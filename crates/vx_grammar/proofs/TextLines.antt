@@ -1,9 +1,9 @@
 -- The lines of a text are those that the reader cuts.
 use mathlib.Core.Bool.{and-false}
 use Rattle.std.proofs.Common.{◌≡◌, ◌≢◌, ℕ, ◌==◌, ◌&&◌, not, Bool, true, false, cond, List, [], ◌∷◌, ◌++◌, refl, sym, subst, ap, ◌∙◌}
-use Rattle.std.specs.List.{list_all}
+use Rattle.std.specs.List.{list_all, onto_first}
 use Rattle.std.proofs.lemmas.Bool.{and_parts, and_from, not_from_false, eqb-true, eq-eqb, not-true}
-use Rattle.vx_script.specs.Lines.{onto_first, begins_with, lines_of}
+use Rattle.vx_script.specs.Lines.{begins_with, lines_of}
 use Rattle.vx_grammar.specs.Grammar.{IsFeedless, IsLines, no_text, last_line, fed_line, returned_line}
 
 abbrev no_feed : ℕ → Bool

@@ -7,10 +7,10 @@ use Rattle.vx_base.specs.declared.call.Call.{Call}
 use Rattle.vx_base.specs.declared.call.Operand.{Operand}
 use Rattle.vx_base.specs.declared.call.Target.{Target}
 use Rattle.vx_base.specs.declared.mode.Mode.{Mode}
-use Rattle.vx_base.specs.declared.mode.Mode.TheVariants.{User}
 use Rattle.vx_base.specs.declared.quota.Need.{Need}
 use Rattle.vx_base.specs.declared.service.Kind.{Kind}
 use Rattle.vx_base.specs.declared.service.Param.{Param}
+use Rattle.vx_base.specs.declared.mode.Mode.TheVariants.{User}
 use Rattle.vx_base.specs.declared.service.Param.TheVariants.{Optional}
 use Rattle.vx_base.specs.Services.{service_name, params_of, kind_of, is_of_kind, is_operand, is_target, args_list, args_of}
 use Rattle.vx_image.specs.declared.decl.ProcDecl.{ProcDecl}
@@ -19,9 +19,9 @@ use Rattle.vx_image.specs.declared.image.Label.{Label}
 use Rattle.vx_image.specs.declared.stmt.Field.{Field}
 use Rattle.vx_image.specs.declared.stmt.Rel.{Rel}
 use Rattle.vx_image.specs.declared.stmt.Stmt.{Stmt}
-use Rattle.vx_image.specs.declared.stmt.Stmt.TheVariants as stmt
 use Rattle.vx_image.specs.declared.system.System.{System}
 use Rattle.vx_image.specs.declared.unit.UnitDecl.{UnitDecl}
+use Rattle.vx_image.specs.declared.stmt.Stmt.TheVariants as stmt
 use Rattle.vx_image.specs.WellFormed.{is_among, are_distinct, label_names, decl_names, has_its_label, has_its_decl}
 use Rattle.vx_text.specs.Lex.{lex}
 use Rattle.vx_text.specs.declared.token.LexFail.{LexFail}
@@ -34,10 +34,11 @@ use Rattle.vx_script.specs.Keys.{key_name, privilege_name, granted, no_privs}
 use Rattle.vx_script.specs.Statements.{rel_name, field_name}
 use Rattle.vx_script.specs.Places.{label_place, is_line_unit, rising, image_place}
 use Rattle.vx_script.specs.declared.keys.Key.{Key}
-use Rattle.vx_script.specs.declared.keys.Key.TheVariants as key
 use Rattle.vx_script.specs.declared.keys.Limit.{Limit}
-use Rattle.vx_script.specs.declared.keys.Limit.TheVariants as limit
 use Rattle.vx_script.specs.declared.privileges.Privilege.{Privilege}
+use Rattle.vx_script.specs.declared.keys.Key.TheVariants as key
+use Rattle.vx_script.specs.declared.keys.Limit.TheVariants as limit
+use Rattle.std.specs.Int.{IsInRange}
 
 abbrev pub colon : Tok
 colon = Sign 58
@@ -50,9 +51,6 @@ plus = Sign 43
 
 abbrev pub minus : Tok
 minus = Sign 45
-
-abbrev pub Between : ℕ → ℕ → ℕ → Type 0
-Between low high n = (low ≤ n) × (n ≤ high)
 
 -- Calls.
 
@@ -93,13 +91,13 @@ pub data Statement (decls : List (List ℕ)) (image : Image) : List Tok → Stmt
   if_goto : (x : Operand) (r : Rel) (y : Operand) (label : List ℕ) (k : ℕ) → IsTrue (is_operand x) → IsTrue (is_operand y) → label_place label image.labels ≡ Some k
       → Statement decls image (Word (codes "IF") ∷ operand_token x ∷ Word (rel_name r) ∷ operand_token y ∷ Word (codes "GOTO") ∷ Word label ∷ []) (stmt.If x r y k)
   -- PUT b "text"
-  put_text : (b : ℕ) (text : List ℕ) → Between 0 31 b → length text ≤ 2048
+  put_text : (b : ℕ) (text : List ℕ) → IsInRange 0 31 b → length text ≤ 2048
       → Statement decls image (Word (codes "PUT") ∷ Num b ∷ Quote text ∷ []) (stmt.Put b text)
   -- BYTE v b x
-  get_byte : (v : Target) (b : ℕ) (x : Operand) → IsTrue (is_target v) → Between 0 31 b → IsTrue (is_operand x)
+  get_byte : (v : Target) (b : ℕ) (x : Operand) → IsTrue (is_target v) → IsInRange 0 31 b → IsTrue (is_operand x)
       → Statement decls image (Word (codes "BYTE") ∷ target_token v ∷ Num b ∷ operand_token x ∷ []) (stmt.Byte v b x)
   -- IOSB v i STATUS
-  get_iosb : (v : Target) (i : ℕ) (f : Field) → IsTrue (is_target v) → Between 1 32 i
+  get_iosb : (v : Target) (i : ℕ) (f : Field) → IsTrue (is_target v) → IsInRange 1 32 i
       → Statement decls image (Word (codes "IOSB") ∷ target_token v ∷ Num i ∷ Word (field_name f) ∷ []) (stmt.Iosb v i f)
   -- RETURN
   returns : Statement decls image (Word (codes "RETURN") ∷ []) stmt.Return
@@ -168,14 +166,14 @@ limited limits limit.Tqe n = record limits { tqe = n }
 
 -- The value of a key, and what the key changes in the process declaration.
 pub data Setting : Key → List Tok → (ProcDecl → ProcDecl) → Type 0 where
-  uic_is : (group member : ℕ) → Between 1 16382 group → Between 0 65534 member
+  uic_is : (group member : ℕ) → IsInRange 1 16382 group → IsInRange 0 65534 member
       → Setting key.Uic (Num group ∷ colon ∷ Num member ∷ []) (λ d. record d { group = group; member = member })
   mode_is : (m : Mode) → Setting key.Mode (Word (mode_name m) ∷ []) (λ d. record d { mode = m })
-  limit_is : (l : Limit) (n : ℕ) → Between 0 1000000 n → Setting (key.Limit l) (Num n ∷ []) (λ d. record d { limits = limited d.limits l n })
+  limit_is : (l : Limit) (n : ℕ) → IsInRange 0 1000000 n → Setting (key.Limit l) (Num n ∷ []) (λ d. record d { limits = limited d.limits l n })
   no_priv_is : Setting key.Priv (Word (codes "NONE") ∷ []) (λ d. record d { privs = no_privs })
   priv_is : (tokens : List Tok) (ps : List Privilege) → Privileges tokens ps → IsTrue (are_distinct (map privilege_name ps))
       → Setting key.Priv tokens (λ d. record d { privs = fold granted no_privs ps })
-  start_is : (n : ℕ) → Between 0 1 n → Setting key.Start (Num n ∷ []) (λ d. record d { start = n == 1 })
+  start_is : (n : ℕ) → IsInRange 0 1 n → Setting key.Start (Num n ∷ []) (λ d. record d { start = n == 1 })
 
 -- Keys, each with = and its value, and what they change one after another.
 pub data Settings : List Tok → List Key → (ProcDecl → ProcDecl) → Type 0 where
@@ -211,13 +209,13 @@ pub data Line (s : System) : List Tok → Item → Type 0 where
   -- UNIT name LINE
   a_line_unit : (name : List ℕ) → Line s (Word (codes "UNIT") ∷ Word name ∷ Word (codes "LINE") ∷ []) (OfUnit name 0)
   -- UNIT name BLOCK n
-  a_block_unit : (name : List ℕ) (n : ℕ) → Between 1 4096 n
+  a_block_unit : (name : List ℕ) (n : ℕ) → IsInRange 1 4096 n
       → Line s (Word (codes "UNIT") ∷ Word name ∷ Word (codes "BLOCK") ∷ Num n ∷ []) (OfUnit name n)
   -- INPUT unit "text", of a line unit of the script
   an_input : (unit text : List ℕ) → length text ≤ 2048 → IsTrue (list_any (is_line_unit unit) s.units)
       → Line s (Word (codes "INPUT") ∷ Word unit ∷ Quote text ∷ []) (OfInput unit text)
   -- FAULT unit n, of a unit of the script
-  a_fault : (unit : List ℕ) (n : ℕ) → Between 1 100000 n → IsTrue (is_among unit (map (λ u. u.name) s.units))
+  a_fault : (unit : List ℕ) (n : ℕ) → IsInRange 1 100000 n → IsTrue (is_among unit (map (λ u. u.name) s.units))
       → Line s (Word (codes "FAULT") ∷ Word unit ∷ Num n ∷ []) (OfFault unit n)
   -- PROCESS name image key=value .., of image k of the script; no key stands twice
   a_process : (name image : List ℕ) (k : ℕ) (tokens : List Tok) (keys : List Key) (set : ProcDecl → ProcDecl)

@@ -1,11 +1,11 @@
 -- Statements in their small form stay as their terms get more.
-use Rattle.std.proofs.Common.{◌≡◌, ℕ, zero, suc, ◌+◌, ◌-◌, ◌<◌, ◌≤◌, List, [], ◌∷◌, ◌++◌, drop, length, map, take, slice_get, slice_index_or, Option, Some, None, ap, refl, subst, sym, ◌∙◌, arith}
+use Rattle.std.proofs.Common.{◌≡◌, ℕ, zero, suc, ◌+◌, ◌-◌, ◌<◌, ◌≤◌, List, [], ◌∷◌, ◌++◌, drop, length, map, take, slice_get, slice_index_or, Option, ap, refl, subst, sym, ◌∙◌, arith}
 use Rattle.std.specs.List.{AllByRecursion}
 use Rattle.std.proofs.lemmas.List.{get_or-drop, get_or-take, length-append, map-append}
 use Rattle.vx_base.specs.Services.{args_list}
 use Rattle.vx_base.specs.declared.call.Arg.{Arg}
-use Rattle.vx_base.specs.declared.call.Arg.TheVariants as arg
 use Rattle.vx_base.specs.declared.call.Args.{Args}
+use Rattle.vx_base.specs.declared.call.Arg.TheVariants as arg
 use Rattle.vx_image.proofs.KeptTerms.{begins_longer, parts}
 use Rattle.vx_image.proofs.Packed.{all_and_one, piece_kept, piece_last}
 use Rattle.vx_image.specs.Packed.{Begins, IsWithin, piece}
@@ -13,6 +13,7 @@ use Rattle.vx_image.specs.Small.{own, stmt_by, stmts_in, HaveTerms, args_in}
 use Rattle.vx_image.specs.Terms.{Term, OfArg, arg_of, arg_in, text_in, text_of, term_in}
 use Rattle.vx_image.specs.declared.stmt.Stmt.{Stmt}
 use Rattle.vx_image.specs.declared.stmts.Head.{Head}
+use Rattle.std.specs.Prelude.{unwrap_or}
 
 item_of_piece : {A : Type 0} (start len k : ℕ) (items : List A) (d : A) → k < len → slice_index_or (piece start len items) k d ≡ slice_index_or items (start + k) d
 item_of_piece start len k items d lt = get_or-take len (drop start items) k d lt ∙ get_or-drop start items k d
@@ -102,14 +103,10 @@ one_unused_more args (suc n) some few is all =
     let one : suc n - 1 ≡ n = omega arith in
     rw one (unused_from args n (omega (arith, few)) (ap (λ (k : ℕ). slice_index_or args k arg.Unused) (sym one) ∙ is) all)
 
-abbrev or_else : {A : Type 0} → Option A → A → A
-or_else (Some a) d = a
-or_else None d = d
-
 further : {A : Type 0} (xs ys : List A) (k : ℕ) → k < length xs → k < length ys → take k xs ≡ take k ys → slice_get xs k ≡ slice_get ys k → take (suc k) xs ≡ take (suc k) ys
 further [] ys k in_x in_y front same = absurd (omega (arith, in_x))
 further (x ∷ xs) [] k in_x in_y front same = absurd (omega (arith, in_y))
-further {A} (x ∷ xs) (y ∷ ys) zero in_x in_y front same = ap (λ (a : A). a ∷ []) (ap (λ (o : Option A). or_else o x) same)
+further {A} (x ∷ xs) (y ∷ ys) zero in_x in_y front same = ap (λ (a : A). a ∷ []) (ap (λ (o : Option A). unwrap_or o x) same)
 further {A} (x ∷ xs) (y ∷ ys) (suc k) in_x in_y front same =
     let first : x ≡ y = ap (λ (l : List A). slice_index_or l 0 x) front in
     let rest : take k xs ≡ take k ys = ap (λ (l : List A). drop 1 l) front in

@@ -1,3 +1,4 @@
+pub mod Absent
 pub mod Filled
 pub mod Digest
 pub mod Example

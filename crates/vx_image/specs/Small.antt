@@ -1,12 +1,12 @@
 -- Statements in their small form: a head with its kind, and terms in a list that all share.
-use Rattle.std.specs.Prelude.{ℕ, List, map}
+use Rattle.std.specs.Prelude.{List, map}
 use Rattle.std.specs.List.{AllByRecursion}
+use Rattle.vx_base.specs.Services.{number, place}
 use Rattle.vx_base.specs.declared.call.Arg.{Arg}
-use Rattle.vx_base.specs.declared.call.Arg.TheVariants as arg
 use Rattle.vx_base.specs.declared.call.Args.{Args}
 use Rattle.vx_base.specs.declared.call.Operand.{Operand}
+use Rattle.vx_base.specs.declared.call.Arg.TheVariants as arg
 use Rattle.vx_base.specs.declared.call.Operand.TheVariants as operand
-use Rattle.vx_base.specs.declared.call.Target.{Target}
 use Rattle.vx_base.specs.declared.call.Target.TheVariants as target
 use Rattle.vx_image.specs.Packed.{piece, IsWithin}
 use Rattle.vx_image.specs.Terms.{Term, arg_in, text_in}
@@ -16,17 +16,9 @@ use Rattle.vx_image.specs.declared.stmts.Head.{Head}
 use Rattle.vx_image.specs.declared.stmts.Kind.{Kind}
 use Rattle.vx_image.specs.declared.stmts.Kind.TheVariants as kind
 
-abbrev pub target_of : Arg → Target
-target_of (arg.Target t) = t
-target_of _ = target.R0
-
 abbrev pub operand_of : Arg → Operand
 operand_of (arg.Value x) = x
 operand_of _ = operand.R0
-
-abbrev pub number_of : Arg → ℕ
-number_of (arg.Value (operand.Num n)) = n
-number_of _ = 0
 
 -- the arguments of a call, and none past the last term
 abbrev pub args_in : List Term → Args
@@ -44,14 +36,14 @@ args_in terms = record {
 
 -- the statement of a kind with these terms
 abbrev pub stmt_by : Kind → List Term → Stmt
-stmt_by kind.Let terms = stmt.Let (target_of (arg_in terms 0)) (operand_of (arg_in terms 1))
-stmt_by kind.Add terms = stmt.Add (target_of (arg_in terms 0)) (operand_of (arg_in terms 1)) (operand_of (arg_in terms 2))
-stmt_by kind.Sub terms = stmt.Sub (target_of (arg_in terms 0)) (operand_of (arg_in terms 1)) (operand_of (arg_in terms 2))
-stmt_by kind.Goto terms = stmt.Goto (number_of (arg_in terms 0))
-stmt_by (kind.If r) terms = stmt.If (operand_of (arg_in terms 0)) r (operand_of (arg_in terms 1)) (number_of (arg_in terms 2))
+stmt_by kind.Let terms = stmt.Let (place (arg_in terms 0)) (operand_of (arg_in terms 1))
+stmt_by kind.Add terms = stmt.Add (place (arg_in terms 0)) (operand_of (arg_in terms 1)) (operand_of (arg_in terms 2))
+stmt_by kind.Sub terms = stmt.Sub (place (arg_in terms 0)) (operand_of (arg_in terms 1)) (operand_of (arg_in terms 2))
+stmt_by kind.Goto terms = stmt.Goto (number (arg_in terms 0))
+stmt_by (kind.If r) terms = stmt.If (operand_of (arg_in terms 0)) r (operand_of (arg_in terms 1)) (number (arg_in terms 2))
 stmt_by (kind.Put b) terms = stmt.Put b (text_in terms 0)
-stmt_by (kind.Byte b) terms = stmt.Byte (target_of (arg_in terms 0)) b (operand_of (arg_in terms 1))
-stmt_by (kind.Iosb i f) terms = stmt.Iosb (target_of (arg_in terms 0)) i f
+stmt_by (kind.Byte b) terms = stmt.Byte (place (arg_in terms 0)) b (operand_of (arg_in terms 1))
+stmt_by (kind.Iosb i f) terms = stmt.Iosb (place (arg_in terms 0)) i f
 stmt_by kind.Return terms = stmt.Return
 stmt_by (kind.Service s) terms = stmt.Service (record { service = s; args = args_in terms })
 

@@ -2,8 +2,9 @@
 
 ghost use Rattle.std.specs.Prelude.{◌≡◌, ◌↔◌, ◌<◌, ◌≤◌, ◌∷◌, ◌++◌, [], length, map, option_map, slice_get, slice_index_or, drop, IfOk, OnOk, OnErr, IsTrue};
 ghost use Rattle.std.specs.List.{AllByRecursion};
+ghost use Rattle.vx_base.specs.Services.{number, place};
 ghost use Rattle.vx_base.specs.declared.call.Arg.TheVariants as arg;
-ghost use Rattle.vx_image.specs.Small.{own, stmt_by, target_of, operand_of, number_of, args_in};
+ghost use Rattle.vx_image.specs.Small.{own, stmt_by, operand_of, args_in};
 ghost use Rattle.vx_image.specs.Stmts.{meant};
 ghost use Rattle.vx_image.specs.declared.stmt.Stmt.TheVariants as stmt;
 ghost use Rattle.vx_image.specs.Terms.{OfArg, OfText, arg_in, text_in};
@@ -67,7 +68,7 @@ impl Model for Stmts {
 }
 
 fn target_of(arg: Arg) -> Target
-    ensures { result ≡ target_of arg }
+    ensures { result ≡ place arg }
 {
     match arg {
         Arg::Target(t) => t,
@@ -85,7 +86,7 @@ fn operand_of(arg: Arg) -> Operand
 }
 
 fn number_of(arg: Arg) -> u32
-    ensures { result ≡ number_of arg }
+    ensures { result ≡ number arg }
 {
     match arg {
         Arg::Value(Operand::Num(n)) => n,
@@ -134,7 +135,7 @@ pub(crate) fn args_at(terms: &Terms, head: &Head) -> Args
 }
 
 fn target_at(terms: &Terms, head: &Head, k: u8) -> Target
-    ensures { result ≡ target_of (arg_in (own terms.now head.now) k) }
+    ensures { result ≡ place (arg_in (own terms.now head.now) k) }
 {
     target_of(arg_at(terms, head, k))
 }
@@ -146,7 +147,7 @@ fn operand_at(terms: &Terms, head: &Head, k: u8) -> Operand
 }
 
 fn number_at(terms: &Terms, head: &Head, k: u8) -> u32
-    ensures { result ≡ number_of (arg_in (own terms.now head.now) k) }
+    ensures { result ≡ number (arg_in (own terms.now head.now) k) }
 {
     number_of(arg_at(terms, head, k))
 }

@@ -3,12 +3,8 @@ use Rattle.std.proofs.Common.{◌≡◌, ℕ, ◌-◌, ◌≤◌, arith, List, [
 use Rattle.std.specs.List.{AllByRecursion, find, list_any}
 use Rattle.vx_base.specs.Channels.{channel_at, is_channel_number}
 use Rattle.vx_base.specs.Modes.{is_inner}
-use Rattle.vx_base.specs.Pieces.{Channel}
-use Rattle.vx_base.specs.declared.cond.Cond.{Cond}
+use Rattle.vx_record.specs.Types.{Cell, Channel, Cond, Mode, Pid}
 use Rattle.vx_base.specs.declared.cond.Cond.TheVariants.{BadParam, IllEfc, IvChan, NoPriv}
-use Rattle.vx_base.specs.declared.effects.Cell.{Cell}
-use Rattle.vx_base.specs.declared.mode.Mode.{Mode}
-use Rattle.vx_base.specs.declared.number.Pid.{Pid}
 use Rattle.vx_record.specs.Channels.{channel_test, usable_in}
 use Rattle.vx_record.specs.Flags.{cell}
 use Rattle.vx_record.specs.Requests.{Asked, device_test, is_bad, on_cell, on_channel, request_test}

@@ -1,11 +1,6 @@
 -- A mailbox of a name is found, or made.
 use Rattle.std.proofs.Common.{◌≡◌, ℕ, List, Option, Some, None, Result, ap, subst, sym, ◌∙◌}
-use Rattle.vx_base.specs.Pieces.{Mailbox}
-use Rattle.vx_base.specs.declared.cond.Cond.{Cond}
-use Rattle.vx_base.specs.declared.effects.Effect.{Effect}
-use Rattle.vx_base.specs.declared.mode.Mode.{Mode}
-use Rattle.vx_base.specs.declared.number.BoxNo.{BoxNo}
-use Rattle.vx_base.specs.declared.number.Pid.{Pid}
+use Rattle.vx_record.specs.Types.{BoxNo, Cond, Effect, Mailbox, Mode, Pid}
 use Rattle.vx_base.specs.declared.request.Device.TheVariants as device
 use Rattle.vx_record.specs.Channels.{assign_at, create_box, find_or_create, free_channel_of}
 use Rattle.vx_procs.specs.Kernel.{Does, DoesQuietly, Kernel, told, with_state}

@@ -5,10 +5,8 @@ use Rattle.std.specs.List.{AllByRecursion, filter, find}
 use Rattle.std.proofs.lemmas.Bool.{and_parts, not-true, not-false}
 use Rattle.vx_base.proofs.Lists.{some_mapped, none_mapped}
 use Rattle.vx_base.specs.Lists.{amend, less}
-use Rattle.vx_base.specs.Pieces.{Request}
+use Rattle.vx_record.specs.Types.{Id, Pid, Request}
 use Rattle.vx_base.specs.declared.cond.Cond.TheVariants.{Cancel}
-use Rattle.vx_base.specs.declared.number.Id.{Id}
-use Rattle.vx_base.specs.declared.number.Pid.{Pid}
 use Rattle.vx_record.specs.State.{State}
 use Rattle.vx_record.specs.Cancel.{cancel_request, cancelled_request, is_request_on, mark_part, with_abort, withdraw}
 use Rattle.vx_record.specs.Finish.{ending, this_request}

@@ -1,7 +1,7 @@
 -- A process that is changed, seen in the state after it.
 use Rattle.std.proofs.Common.{◌≡◌, ◌-◌, List, slice_set, get_or-set_same, length-set, ap, ◌∙◌, arith}
 use Rattle.std.proofs.lemmas.List.{set-set}
-use Rattle.vx_base.specs.declared.number.Pid.{Pid}
+use Rattle.vx_record.specs.Types.{Pid}
 use Rattle.vx_record.specs.State.{Process, State, IsProcess, process_at, change, nobody}
 
 -- the process that was changed

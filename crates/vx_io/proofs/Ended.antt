@@ -2,15 +2,10 @@
 use Rattle.std.proofs.Common.{◌≡◌, ℕ, ◌+◌, ◌-◌, ◌≤◌, List, [], ◌∷◌, Bool, true, false, cond, not, ◌&&◌, ◌==◌, nat_lt, length, length-append, length-set, Option, Some, None, option_map, refl, ap, sym, subst, ◌∙◌, arith}
 use Rattle.vx_base.specs.Queues.{in_service, is_served_by}
 use Rattle.vx_base.specs.Serving.{serve, settled}
-use Rattle.vx_base.specs.Pieces.{Request}
-use Rattle.vx_base.specs.declared.cond.Cond.{Cond}
+use Rattle.vx_record.specs.Types.{Cell, Cond, Reply, Req, Request, UnitNo}
 use Rattle.vx_base.specs.declared.cond.Cond.TheVariants.{Abort}
-use Rattle.vx_base.specs.declared.effects.Cell.{Cell}
 use Rattle.vx_base.specs.declared.effects.Effect.TheVariants as effect
-use Rattle.vx_base.specs.declared.number.UnitNo.{UnitNo}
 use Rattle.vx_base.specs.declared.record.Answer.TheVariants as answer
-use Rattle.vx_base.specs.declared.request.Reply.{Reply}
-use Rattle.vx_base.specs.declared.request.Req.{Req}
 use Rattle.vx_record.specs.Events.{don}
 use Rattle.vx_record.specs.Finish.{Ending, buf_part, done_flag_part, ending, iosb_part, is_read, status_of, with_stored_bytes, with_stored_status}
 use Rattle.vx_record.specs.Flags.{cell, flag_where_named}

@@ -1,9 +1,7 @@
 -- The request of an id finishes, as the machine has it and as the code does it.
 use Rattle.std.proofs.Common.{◌≡◌, ◌≤◌, length, Option, Some, None, option_map, refl, ap, sym, subst, ◌∙◌, arith, length-set, ◌-◌}
 use Rattle.std.specs.List.{find}
-use Rattle.vx_base.specs.Pieces.{Request}
-use Rattle.vx_base.specs.declared.number.Id.{Id}
-use Rattle.vx_base.specs.declared.request.Reply.{Reply}
+use Rattle.vx_record.specs.Types.{Id, Reply, Request}
 use Rattle.vx_record.specs.Finish.{Ending, finish_found, finish_id, this_request}
 use Rattle.vx_record.specs.State.{process_at}
 use Rattle.vx_record.proofs.Lists.{all_find}

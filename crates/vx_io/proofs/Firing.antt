@@ -4,10 +4,8 @@ use Rattle.std.specs.List.{filter, find}
 use Rattle.std.proofs.lemmas.Bool.{eqb-true}
 use Rattle.vx_base.proofs.Lists.{some_mapped, none_mapped}
 use Rattle.vx_base.specs.Lists.{less}
-use Rattle.vx_base.specs.Pieces.{Attention}
-use Rattle.vx_base.specs.declared.effects.Effect.{Effect}
+use Rattle.vx_record.specs.Types.{Attention, Effect, Id}
 use Rattle.vx_base.specs.declared.effects.Effect.TheVariants as effect
-use Rattle.vx_base.specs.declared.number.Id.{Id}
 use Rattle.vx_record.specs.State.{State}
 use Rattle.vx_record.specs.Cancel.{drop_attention}
 use Rattle.vx_record.specs.Mailboxes.{fire_attention, this_attention}

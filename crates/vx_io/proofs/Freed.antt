@@ -2,10 +2,8 @@
 use Rattle.std.proofs.Common.{◌≡◌, ℕ, List, [], ◌∷◌, IsSome, IsTrue, Option, Some, None, Ok, refl, ap, sym, subst, ◌∙◌}
 use Rattle.std.specs.List.{AllByRecursion, filter}
 use Rattle.vx_base.specs.Channels.{channel_at, is_channel_number}
-use Rattle.vx_base.specs.Pieces.{Attention, Channel}
-use Rattle.vx_base.specs.declared.cond.Cond.{Cond}
+use Rattle.vx_record.specs.Types.{Attention, Channel, Cond, Pid}
 use Rattle.vx_base.specs.declared.cond.Cond.TheVariants.{Normal}
-use Rattle.vx_base.specs.declared.number.Pid.{Pid}
 use Rattle.vx_record.specs.Cancel.{cancel_channel, dassgn, dassgn_at, drop_attention, drop_attentions, is_attention_on, is_request_on}
 use Rattle.vx_record.specs.Channels.{channel_test, free_channel}
 use Rattle.vx_record.specs.Parts.{Outcome, and_then, answered, at_tested, each}

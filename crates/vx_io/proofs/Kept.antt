@@ -2,15 +2,10 @@
 use Rattle.std.proofs.Common.{◌≡◌, ℕ, zero, suc, ◌-◌, List, [], ◌∷◌, true, is_some, slice_index_or, slice_set, not, ◌&&◌, ◌==◌, nat_lt, length, length-set, Option, Some, None, refl, ◌∙◌, arith}
 use Rattle.std.specs.List.{list_any}
 use Rattle.vx_base.specs.Lists.{less}
-use Rattle.vx_base.specs.Pieces.{Channel, Mailbox, Promised, Request}
+use Rattle.vx_record.specs.Types.{BoxNo, Cell, Channel, Device, Mailbox, Pid, Promised, Req, Request}
 use Rattle.vx_base.specs.declared.cond.Cond.TheVariants.{Cancel}
-use Rattle.vx_base.specs.declared.effects.Cell.{Cell}
 use Rattle.vx_base.specs.declared.effects.Cell.TheVariants.{Common, Local}
-use Rattle.vx_base.specs.declared.number.BoxNo.{BoxNo}
-use Rattle.vx_base.specs.declared.number.Pid.{Pid}
-use Rattle.vx_base.specs.declared.request.Device.{Device}
 use Rattle.vx_base.specs.declared.request.Device.TheVariants as device
-use Rattle.vx_base.specs.declared.request.Req.{Req}
 use Rattle.vx_record.specs.Asts.{charged_ast, with_queued}
 use Rattle.vx_record.specs.Cancel.{cancel_request, cancelled_request, mark_part, withdraw}
 use Rattle.vx_record.specs.Finish.{Ending, buf_part, done_ast_part, done_flag_part, ending, fin_part, finish, iosb_part, is_read, put_status, status_of, with_stored_bytes, with_stored_status}

@@ -2,12 +2,9 @@
 use Rattle.std.proofs.Common.{◌≡◌, [], ◌++◌, Bool, true, false, Option, Some, None, option_map, refl, ap, sym, subst, ◌∙◌}
 use Rattle.std.specs.List.{find, list_any}
 use Rattle.std.proofs.lemmas.Bool.{eqb-true}
-use Rattle.vx_base.specs.Pieces.{Request}
+use Rattle.vx_record.specs.Types.{BoxNo, Device, Id, Request}
 use Rattle.vx_base.specs.declared.cond.Cond.TheVariants.{Cancel}
 use Rattle.vx_base.specs.declared.effects.Effect.TheVariants as effect
-use Rattle.vx_base.specs.declared.number.BoxNo.{BoxNo}
-use Rattle.vx_base.specs.declared.number.Id.{Id}
-use Rattle.vx_base.specs.declared.request.Device.{Device}
 use Rattle.vx_base.specs.declared.request.Device.TheVariants as device
 use Rattle.vx_record.specs.State.{State}
 use Rattle.vx_record.specs.Cancel.{mark_part, withdraw}
@@ -15,13 +12,13 @@ use Rattle.vx_record.specs.Finish.{Ending, ending, finish_found, finish_id, this
 use Rattle.vx_record.specs.Parts.{Part, and_then, tells}
 use Rattle.vx_record.proofs.Cancelled.{withdraw_requests}
 use Rattle.vx_record.proofs.Lists.{found_any}
-use Rattle.vx_reqs.specs.Requests.{is_found}
 use Rattle.vx_procs.specs.Kernel.{Acts, Fits, Kernel}
 use Rattle.vx_procs.specs.Requests.{to_abort}
 use Rattle.vx_procs.proofs.Rest.{acted}
 use Rattle.vx_io.specs.Cancelling.{IsToCancel, cancel_found, end_by, withdraw_by, withdraw_found}
 use Rattle.vx_io.proofs.Cancelled.{served_part, waiting_part}
 use Rattle.vx_base.proofs.First.{found_passes}
+use Rattle.vx_base.specs.Lists.{is_some_and}
 
 found_under : (s : State) (id : Id) (r : Request) → find (this_request id) s.requests ≡ Some r → r.req.id ≡ id
 found_under s id r found = ap (λ n. let y : Id = record { 0 = n } in y) (eqb-true r.req.id.0 id.0 (found_passes (this_request id) s.requests r found))
@@ -31,8 +28,8 @@ found_under s id r found = ap (λ n. let y : Id = record { 0 = n } in y) (eqb-tr
 pub is_there : (s : State) (id : Id) → IsToCancel s id → list_any (this_request id) s.requests ≡ true
 is_there s id x = found_any (this_request id) s.requests x.r x.found
 
-pub is_serving : (s : State) (id : Id) (x : IsToCancel s id) (b : Bool) → b ≡ is_found (λ r. r.served) (find (this_request id) s.requests) → x.r.served ≡ b
-is_serving s id x b e = sym (e ∙ ap (is_found (λ (r : Request). r.served)) x.found)
+pub is_serving : (s : State) (id : Id) (x : IsToCancel s id) (b : Bool) → b ≡ is_some_and (λ r. r.served) (find (this_request id) s.requests) → x.r.served ≡ b
+is_serving s id x b e = sym (e ∙ ap (is_some_and (λ (r : Request). r.served)) x.found)
 
 marked_part : (s : State) (id : Id) (x : IsToCancel s id) → x.r.served ≡ true → cancel_found s (find (this_request id) s.requests) ≡ mark_part s x.r
 marked_part s id x served = ap (cancel_found s) x.found ∙ served_part s x.r served x.going

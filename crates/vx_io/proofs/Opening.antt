@@ -4,21 +4,12 @@ use Rattle.std.specs.List.{find, list_any}
 use Rattle.std.proofs.lemmas.Bool.{eq-eqb, ne_eqb}
 use Rattle.vx_record.proofs.Apart.{need_as}
 use Rattle.vx_base.specs.Lists.{tally}
-use Rattle.vx_base.specs.Pieces.{Mailbox, Queued, Request, Status, cleared}
+use Rattle.vx_record.specs.Types.{BoxNo, Cell, Device, Effect, Entry, Func, Id, Mailbox, Mode, Need, Pid, Queued, Request, Status}
+use Rattle.vx_base.specs.Pieces.{cleared}
 use Rattle.vx_base.specs.Quotas.{is_within, together}
-use Rattle.vx_base.specs.declared.effects.Cell.{Cell}
 use Rattle.vx_base.specs.declared.effects.Cell.TheVariants.{Local, Common}
-use Rattle.vx_base.specs.declared.effects.Effect.{Effect}
 use Rattle.vx_base.specs.declared.effects.Effect.TheVariants as effect
-use Rattle.vx_base.specs.declared.mode.Mode.{Mode}
-use Rattle.vx_base.specs.declared.number.BoxNo.{BoxNo}
-use Rattle.vx_base.specs.declared.number.Id.{Id}
-use Rattle.vx_base.specs.declared.number.Pid.{Pid}
-use Rattle.vx_base.specs.declared.quota.Need.{Need}
-use Rattle.vx_base.specs.declared.request.Device.{Device}
 use Rattle.vx_base.specs.declared.request.Device.TheVariants as device
-use Rattle.vx_base.specs.declared.request.Func.{Func}
-use Rattle.vx_base.specs.declared.routine.Entry.{Entry}
 use Rattle.vx_record.specs.Charges.{bears_ast, charge, charged_timer, exceeds, is_attention_of, is_charged, request_need}
 use Rattle.vx_record.specs.Finish.{is_read, put_status, this_request, with_stored_status}
 use Rattle.vx_record.specs.Flags.{with_cell}

@@ -3,18 +3,12 @@ use Rattle.std.proofs.Common.{◌≡◌, ℕ, List, [], ◌∷◌, ◌++◌, not
 use Rattle.std.specs.List.{find}
 use Rattle.vx_base.proofs.Lists.{some_mapped, none_mapped}
 use Rattle.vx_base.specs.Lists.{less}
-use Rattle.vx_base.specs.Pieces.{Request}
+use Rattle.vx_record.specs.Types.{Body, BoxNo, Id, Msg, Reply, Req, Request}
 use Rattle.vx_base.specs.Queues.{body_bytes}
 use Rattle.vx_base.specs.declared.cond.Cond.TheVariants.{EndOfFile}
 use Rattle.vx_base.specs.declared.effects.Effect.TheVariants as effect
-use Rattle.vx_base.specs.declared.number.BoxNo.{BoxNo}
-use Rattle.vx_base.specs.declared.number.Id.{Id}
-use Rattle.vx_base.specs.declared.request.Body.{Body}
 use Rattle.vx_base.specs.declared.request.Body.TheVariants as body
 use Rattle.vx_base.specs.declared.request.Func.TheVariants.{ReadAttn}
-use Rattle.vx_base.specs.declared.request.Msg.{Msg}
-use Rattle.vx_base.specs.declared.request.Reply.{Reply}
-use Rattle.vx_base.specs.declared.request.Req.{Req}
 use Rattle.vx_record.specs.Finish.{Ending, ending, finish, finish_found, finish_id, this_request}
 use Rattle.vx_record.specs.Mailboxes.{call_attention, hand_over, is_waiting_func, mailbox_at, mput_part, read_ending, take_message, this_message, waits_at, with_messages, write_box}
 use Rattle.vx_record.specs.Parts.{Part, and_then, part_if}

@@ -3,11 +3,9 @@ use Rattle.std.proofs.Common.{◌≡◌, ℕ, ◌-◌, ◌%◌, List, [], ◌++�
 use Rattle.std.specs.List.{find}
 use Rattle.vx_base.proofs.Bools.{both_mapped}
 use Rattle.vx_base.specs.Clusters.{cluster_number, is_association}
-use Rattle.vx_base.specs.Pieces.{Association, Promised, Queued, Request, Status}
+use Rattle.vx_record.specs.Types.{Association, Pid, Promised, Queued, Req, Request, Status}
 use Rattle.vx_base.specs.declared.effects.Cell.TheVariants.{Local}
 use Rattle.vx_base.specs.declared.effects.Effect.TheVariants as effect
-use Rattle.vx_base.specs.declared.number.Pid.{Pid}
-use Rattle.vx_base.specs.declared.request.Req.{Req}
 use Rattle.vx_record.specs.State.{Process, State, IsProcess, change, process_at}
 use Rattle.vx_record.specs.Parts.{Part, and_then, nothing, part_if, tells}
 use Rattle.vx_record.specs.Finish.{Ending, buf_part, done_ast_part, done_flag_part, fin_part, finish, iosb_part, is_read, status_of, with_stored_bytes, with_stored_status}

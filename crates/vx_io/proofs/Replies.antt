@@ -1,10 +1,10 @@
 -- What a unit replies fits into a buffer.
 use Rattle.std.proofs.Common.{ℕ, ◌*◌, ◌≤◌, List, [], ◌∷◌, ◌++◌, cond, drop, length, take, arith}
 use Rattle.std.proofs.lemmas.List.{length-take}
-use Rattle.vx_base.specs.Pieces.{Blocks, Contents, DeviceUnit, Lines}
+use Rattle.vx_record.specs.Types.{Contents, DeviceUnit, Req}
+use Rattle.vx_base.specs.Pieces.{Blocks, Lines}
 use Rattle.vx_base.specs.Serving.{Answered, carried_out, fails, is_past_end, is_write, next_line, reads_blocks, replied, serve, writes_blocks}
 use Rattle.vx_base.specs.declared.cond.Cond.TheVariants.{CtrlErr, IllBlkNum, Normal}
-use Rattle.vx_base.specs.declared.request.Req.{Req}
 use Rattle.vx_record.proofs.Lists.{either}
 
 -- so many bytes at most are replied

@@ -1,9 +1,7 @@
 -- An attention entry is set: its part, step after step.
 use Rattle.std.proofs.Common.{◌≡◌, List, [], ◌∷◌, ◌++◌, true, ◌==◌, Option, Some, ap, subst, sym, ◌∙◌}
 use Rattle.std.specs.List.{find}
-use Rattle.vx_base.specs.Pieces.{Attention}
-use Rattle.vx_base.specs.declared.number.Id.{Id}
-use Rattle.vx_base.specs.declared.number.Pid.{Pid}
+use Rattle.vx_record.specs.Types.{Attention, Id, Pid}
 use Rattle.vx_record.specs.Finish.{iosb_part}
 use Rattle.vx_record.specs.Flags.{cell, flag_where_named}
 use Rattle.vx_record.specs.Mailboxes.{attend, this_attention}

@@ -2,9 +2,7 @@
 use Rattle.std.proofs.Common.{◌≡◌, ℕ, ◌≤◌, length, List, Bool, Option, Some, None, option_map, refl, ap, sym, subst, arith}
 use Rattle.std.specs.List.{find}
 use Rattle.vx_base.specs.Lists.{less}
-use Rattle.vx_base.specs.Pieces.{Attention, Request}
-use Rattle.vx_base.specs.declared.number.Id.{Id}
-use Rattle.vx_base.specs.declared.request.Req.{Req}
+use Rattle.vx_record.specs.Types.{Attention, Id, Req, Request}
 use Rattle.vx_record.specs.Finish.{Ending, finish, finish_found, this_request}
 use Rattle.vx_record.specs.Sound.{AreOrdered, RequestStands, attention_id, ground, request_id}
 use Rattle.vx_record.specs.State.{State}

@@ -1,18 +1,9 @@
 -- What calls on channels and requests are asked, what they answer, and what they rely on.
 use Rattle.std.specs.Prelude.{◌≡◌, ℕ, ◌+◌, ◌<◌, ◌≤◌, Bool, true, false, IsTrue, Option, Result, Ok, Err, if◌then◌else◌, length}
 use Rattle.std.specs.List.{AllByRecursion}
-use Rattle.vx_base.specs.Pieces.{Channel, Mailbox}
-use Rattle.vx_base.specs.declared.cond.Cond.{Cond}
-use Rattle.vx_base.specs.declared.effects.Cell.{Cell}
-use Rattle.vx_base.specs.declared.effects.Effect.{Effect}
+use Rattle.vx_record.specs.Types.{Cell, Channel, Cond, Device, Effect, Entry, Func, Id, Mailbox, Mode, Pid}
 use Rattle.vx_base.specs.declared.effects.Effect.TheVariants as effect
 use Rattle.vx_base.specs.declared.effects.Opened.TheVariants as opened
-use Rattle.vx_base.specs.declared.mode.Mode.{Mode}
-use Rattle.vx_base.specs.declared.number.Id.{Id}
-use Rattle.vx_base.specs.declared.number.Pid.{Pid}
-use Rattle.vx_base.specs.declared.request.Device.{Device}
-use Rattle.vx_base.specs.declared.request.Func.{Func}
-use Rattle.vx_base.specs.declared.routine.Entry.{Entry}
 use Rattle.vx_record.specs.Channels.{new_box}
 use Rattle.vx_record.specs.Charges.{exceeds, is_attention, is_direct, moved_bytes, request_need}
 use Rattle.vx_record.specs.Requests.{Asked, has_function}

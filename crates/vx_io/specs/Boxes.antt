@@ -2,18 +2,12 @@
 use Rattle.std.specs.Prelude.{ℕ, ◌==◌, Bool, not, List, [], ◌∷◌, Option, Some, None, if◌then◌else◌, nat_lt, length, take}
 use Rattle.std.specs.List.{find, list_any}
 use Rattle.vx_base.specs.Lists.{less}
-use Rattle.vx_base.specs.Pieces.{Attention, Request}
+use Rattle.vx_record.specs.Types.{Attention, Body, BoxNo, Func, Id, Msg, Reply, Request}
 use Rattle.vx_base.specs.Queues.{body_bytes}
 use Rattle.vx_base.specs.declared.cond.Cond.TheVariants.{BufferOvf, EndOfFile, Normal}
 use Rattle.vx_base.specs.declared.effects.Effect.TheVariants as effect
-use Rattle.vx_base.specs.declared.number.BoxNo.{BoxNo}
-use Rattle.vx_base.specs.declared.number.Id.{Id}
-use Rattle.vx_base.specs.declared.request.Body.{Body}
 use Rattle.vx_base.specs.declared.request.Body.TheVariants as body
-use Rattle.vx_base.specs.declared.request.Func.{Func}
 use Rattle.vx_base.specs.declared.request.Func.TheVariants.{ReadAttn, WrtAttn}
-use Rattle.vx_base.specs.declared.request.Msg.{Msg}
-use Rattle.vx_base.specs.declared.request.Reply.{Reply}
 use Rattle.vx_record.specs.Finish.{Ending, ending, finish_id, this_request}
 use Rattle.vx_record.specs.Mailboxes.{call_attention, fire_attention, is_same_attention, is_waiting_func, mailbox_at, mput_part, this_attention, this_message, waits_at, with_messages}
 use Rattle.vx_record.specs.Parts.{Part, and_then, nothing, part_if, tells}

@@ -1,11 +1,8 @@
 -- A request that is cancelled, and what that relies on.
 use Rattle.std.specs.Prelude.{◌≡◌, ℕ, [], false, ⊤, ◌&&◌, Option, Some, None}
 use Rattle.std.specs.List.{AllByRecursion, filter, find, list_any}
-use Rattle.vx_base.specs.Pieces.{Request}
+use Rattle.vx_record.specs.Types.{BoxNo, Id, Pid, Request}
 use Rattle.vx_base.specs.declared.cond.Cond.TheVariants.{Cancel}
-use Rattle.vx_base.specs.declared.number.BoxNo.{BoxNo}
-use Rattle.vx_base.specs.declared.number.Id.{Id}
-use Rattle.vx_base.specs.declared.number.Pid.{Pid}
 use Rattle.vx_record.specs.Cancel.{cancel_request, is_request_on, withdraw}
 use Rattle.vx_record.specs.Finish.{ending, finish_id, this_request}
 use Rattle.vx_record.specs.Mailboxes.{mailbox_at, mcut_part, this_message}

@@ -2,8 +2,7 @@
 use Rattle.std.specs.Prelude.{◌≤◌, length}
 use Rattle.std.specs.List.{AllByRecursion}
 use Rattle.vx_base.specs.declared.effects.Effect.TheVariants as effect
-use Rattle.vx_base.specs.declared.request.Reply.{Reply}
-use Rattle.vx_base.specs.declared.request.Req.{Req}
+use Rattle.vx_record.specs.Types.{Reply, Req}
 use Rattle.vx_record.specs.State.{State, IsProcess}
 use Rattle.vx_record.specs.Parts.{Part, and_then, part_if, tells}
 use Rattle.vx_record.specs.Finish.{Ending, buf_part, done_flag_part, iosb_part, status_of}

@@ -1,9 +1,6 @@
 -- What a request moves to or from a mailbox.
 use Rattle.std.specs.Prelude.{if◌then◌else◌}
-use Rattle.vx_base.specs.declared.number.BoxNo.{BoxNo}
-use Rattle.vx_base.specs.declared.number.Id.{Id}
-use Rattle.vx_base.specs.declared.number.Pid.{Pid}
-use Rattle.vx_base.specs.declared.request.Body.{Body}
+use Rattle.vx_record.specs.Types.{Body, BoxNo, Id, Pid}
 use Rattle.vx_base.specs.declared.request.Body.TheVariants as body
 use Rattle.vx_record.specs.Charges.{is_end_of_file}
 use Rattle.vx_record.specs.Finish.{is_read}

@@ -1,8 +1,7 @@
 -- What holds from one part of a transfer to the next.
 use Rattle.std.specs.Prelude.{ℕ, ◌≤◌, List, length}
 use Rattle.std.specs.List.{AllByRecursion}
-use Rattle.vx_base.specs.Pieces.{Attention, Request}
-use Rattle.vx_base.specs.declared.request.Req.{Req}
+use Rattle.vx_record.specs.Types.{Attention, Req, Request}
 use Rattle.vx_record.specs.Sound.{AreOrdered, attention_id, request_id}
 use Rattle.vx_record.specs.State.{State, IsWithin}
 

@@ -1,13 +1,13 @@
 -- What the reading of a script, and then of what stands behind it, answers of a text.
 use Rattle.std.proofs.Common.{◌≡◌, ℕ, List, Result, Ok, Err, sym, subst}
 use Rattle.vx_image.specs.WellFormed.{IsWellFormed}
-use Rattle.vx_image.specs.declared.system.System.{System}
+use Rattle.vx_record.specs.Types.{System}
 use Rattle.vx_grammar.specs.FirstFault.{Tells}
 use Rattle.vx_grammar.specs.Grammar.{Spells}
 use Rattle.vx_script.specs.Results.{ReadsScript, ScriptFails}
 use Rattle.vx_script.specs.declared.fault.ScriptFail.{ScriptFail}
-use Rattle.vx_script.specs.declared.fault.ScriptFail.TheVariants as script_fail
 use Rattle.vx_script.specs.declared.fault.ScriptFault.{ScriptFault}
+use Rattle.vx_script.specs.declared.fault.ScriptFail.TheVariants as script_fail
 use Rattle.vx_journal.proofs.JournalText.{whole_text}
 use Rattle.vx_journal.specs.ReadJournal.{FailsScript, ReadsJournal, TellsText, failure_of, journal_of, script_part}
 use Rattle.vx_journal.specs.declared.journal.Journal.{Journal}

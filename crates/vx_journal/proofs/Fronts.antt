@@ -1,7 +1,7 @@
 -- A transcript is its front, and what is read behind the header.
 use Rattle.std.proofs.Common.{◌≡◌, ℕ, ◌+◌, Bool, true, false, cond, List, length, drop, nat_eq, Result, Ok, Err, refl, sym, ap, subst, ◌∙◌, drop-drop}
 use Rattle.std.specs.List.{starts_with}
-use Rattle.vx_image.specs.declared.system.System.{System}
+use Rattle.vx_record.specs.Types.{System}
 use Rattle.vx_grammar.specs.Grammar.{Spells}
 use Rattle.vx_lines.specs.ReadRecords.{Fails, Reads}
 use Rattle.vx_lines.specs.declared.read.LinesFail.{LinesFail}

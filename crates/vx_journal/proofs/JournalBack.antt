@@ -2,8 +2,7 @@
 use Rattle.std.proofs.Common.{◌≡◌, ℕ, ◌+◌, ◌<◌, ◌^◌, List, ◌++◌, length, drop, Some, Ok, Result, refl, sym, ap, subst, ◌∙◌}
 use Rattle.std.specs.List.{AllByRecursion}
 use Rattle.std.proofs.Math.Seq.{drop-append_seam}
-use Rattle.vx_base.specs.declared.record.Rec.{Rec}
-use Rattle.vx_image.specs.declared.system.System.{System}
+use Rattle.vx_record.specs.Types.{Rec, System}
 use Rattle.vx_lines.specs.Records.{ended_lines, records_lines}
 use Rattle.vx_lines.specs.SpelledRecords.{AreSpelled}
 use Rattle.vx_lines.specs.declared.read.Records.{Records}

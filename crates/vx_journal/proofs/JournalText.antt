@@ -4,7 +4,7 @@ use Rattle.std.specs.List.{starts_with}
 use Rattle.std.proofs.lemmas.Bool.Decides.{nat_tests, Decides-eqb}
 use Rattle.std.proofs.lemmas.Slice.Eq.{starts_is}
 use Rattle.vx_grammar.proofs.Fields.{bind_ok}
-use Rattle.vx_image.specs.declared.system.System.{System}
+use Rattle.vx_record.specs.Types.{System}
 use Rattle.vx_lines.specs.ReadRecords.{read_records}
 use Rattle.vx_lines.specs.Records.{ended_lines, records_lines}
 use Rattle.vx_lines.specs.declared.read.Records.{Records}

@@ -6,22 +6,19 @@ use Rattle.std.proofs.lemmas.Grind.{flat_map-append}
 use Rattle.std.proofs.lemmas.List.{map-append}
 use Rattle.std.proofs.lemmas.Bool.Decides.{nat_tests}
 use Rattle.std.proofs.lemmas.Slice.Eq.{bytes_eq-Decides}
-use Rattle.vx_base.specs.declared.effects.Effect.{Effect}
-use Rattle.vx_base.specs.declared.record.Answer.{Answer}
-use Rattle.vx_base.specs.declared.record.Event.{Event}
+use Rattle.vx_record.specs.Types.{Answer, Effect, Event, Rec, UnitDecl}
 use Rattle.vx_base.specs.declared.record.Event.TheVariants as event
-use Rattle.vx_base.specs.declared.record.Rec.{Rec}
-use Rattle.vx_image.specs.declared.unit.UnitDecl.{UnitDecl}
 use Rattle.vx_lines.specs.Fields.{id_of, pid_of, unit_of}
 use Rattle.vx_lines.specs.Numbers.{value_up_to}
 use Rattle.vx_lines.specs.ReadEffect.{effect_of, if_spelled, read_effect, unfed}
 use Rattle.vx_lines.specs.ReadHead.{from_space, head_of, if_head, other_head, ran_in, down_in, read_head, with_event}
-use Rattle.vx_lines.specs.ReadRecords.{begins_with_space, effect_line as read_effect_line, fed_lines, head_line as read_head_line, is_of_record, nothing_read, onto_first, or_bad, read_line, read_lines, read_records, read_so_far, with_head}
+use Rattle.vx_lines.specs.ReadRecords.{begins_with_space, effect_line as read_effect_line, fed_lines, head_line as read_head_line, is_of_record, nothing_read, or_bad, read_line, read_lines, read_records, read_so_far, with_head}
 use Rattle.vx_lines.specs.Records.{effect_line, ended_lines, head_line, record_lines, records_lines}
 use Rattle.vx_lines.specs.Words.{◌>>=◌, first_word, second_word, third_word}
 use Rattle.vx_lines.specs.declared.read.Reading.{Reading}
 use Rattle.vx_lines.specs.declared.read.Records.{Records}
 use Rattle.std.proofs.lemmas.Option.{cond_some}
+use Rattle.std.specs.List.{onto_first}
 
 -- A line that is taken is the printed one.
 

@@ -4,13 +4,7 @@ use Rattle.std.specs.List.{AllByRecursion}
 use Rattle.std.proofs.lemmas.Grind.{flat_map-append}
 use Rattle.std.proofs.lemmas.List.{map-append}
 use Rattle.vx_base.specs.Name.{is_name}
-use Rattle.vx_base.specs.Pieces.{DeviceUnit}
-use Rattle.vx_base.specs.declared.number.UnitNo.{UnitNo}
-use Rattle.vx_base.specs.declared.record.End.{End}
-use Rattle.vx_base.specs.declared.record.Rec.{Rec}
-use Rattle.vx_image.specs.declared.decl.ProcDecl.{ProcDecl}
-use Rattle.vx_image.specs.declared.system.System.{System}
-use Rattle.vx_image.specs.declared.unit.UnitDecl.{UnitDecl}
+use Rattle.vx_record.specs.Types.{DeviceUnit, End, ProcDecl, Rec, System, UnitDecl, UnitNo}
 use Rattle.vx_image.specs.WellFormed.{are_distinct}
 use Rattle.vx_text.specs.Quote.{AreBytes}
 use Rattle.vx_units.specs.Units.{outputs_of}

@@ -5,12 +5,7 @@ use Rattle.std.proofs.Math.Seq.{take-append_seam}
 use Rattle.std.proofs.lemmas.Bool.Decides.{nat_tests}
 use Rattle.vx_base.specs.Name.{is_name, is_capital, is_name_byte}
 use Rattle.vx_image.specs.WellFormed.{IsWellFormed}
-use Rattle.vx_image.specs.declared.decl.ProcDecl.{ProcDecl}
-use Rattle.vx_image.specs.declared.image.Image.{Image}
-use Rattle.vx_image.specs.declared.image.Label.{Label}
-use Rattle.vx_image.specs.declared.stmt.Stmt.{Stmt}
-use Rattle.vx_image.specs.declared.system.System.{System}
-use Rattle.vx_image.specs.declared.unit.UnitDecl.{UnitDecl}
+use Rattle.vx_record.specs.Types.{Image, Label, ProcDecl, Stmt, System, UnitDecl}
 use Rattle.vx_lines.specs.ReadEffect.{is_no_feed}
 use Rattle.vx_lines.specs.ReadRecords.{fed_lines}
 use Rattle.vx_lines.proofs.RecordsLaw.{fed_line, front_line}

@@ -4,11 +4,8 @@ use Rattle.std.specs.Prelude.{decimal}
 use Rattle.std.specs.List.{AllByRecursion, list_all}
 use Rattle.vx_base.proofs.Any.{both_pass}
 use Rattle.vx_base.specs.Name.{is_name}
-use Rattle.vx_base.specs.declared.number.Pid.{Pid}
-use Rattle.vx_base.specs.declared.number.UnitNo.{UnitNo}
-use Rattle.vx_base.specs.declared.record.End.{End}
+use Rattle.vx_record.specs.Types.{End, Pid, UnitDecl, UnitNo}
 use Rattle.vx_base.specs.declared.record.End.TheVariants.{Done}
-use Rattle.vx_image.specs.declared.unit.UnitDecl.{UnitDecl}
 use Rattle.vx_text.specs.Quote.{AreBytes, quote_text}
 use Rattle.vx_lines.specs.Fields.{text_of, unit_of}
 use Rattle.vx_lines.specs.ReadEffect.{is_no_feed}

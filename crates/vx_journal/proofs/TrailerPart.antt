@@ -1,6 +1,6 @@
 -- The lines of a trailer, one at a time.
 use Rattle.std.proofs.Common.{◌≡◌, ℕ, ◌+◌, ◌<◌, List, [], ◌∷◌, length, take, drop, Some, None, Err, refl, sym, ap, ◌∙◌}
-use Rattle.vx_image.specs.declared.unit.UnitDecl.{UnitDecl}
+use Rattle.vx_record.specs.Types.{UnitDecl}
 use Rattle.vx_lines.proofs.Cutting.{cut_line}
 use Rattle.vx_lines.specs.Cutting.{fed_len}
 use Rattle.vx_lines.specs.ReadRecords.{fed_lines}

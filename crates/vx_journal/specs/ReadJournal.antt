@@ -2,15 +2,15 @@
 use Rattle.std.specs.Prelude.{◌≡◌, ℕ, ◌+◌, ◌==◌, Bool, List, [], ◌∷◌, ◌++◌, length, take, drop, codes, nat_eq, if◌then◌else◌, Result, Ok, Err}
 use Rattle.std.specs.List.{starts_with}
 use Rattle.vx_image.specs.WellFormed.{IsWellFormed}
-use Rattle.vx_image.specs.declared.system.System.{System}
+use Rattle.vx_record.specs.Types.{System}
 use Rattle.vx_lines.specs.ReadRecords.{fed_lines, read_records}
 use Rattle.vx_lines.specs.Records.{ended_lines, records_lines}
 use Rattle.vx_lines.specs.declared.read.Records.{Records}
 use Rattle.vx_script.specs.Results.{◌>>=◌}
 use Rattle.vx_script.specs.Script.{script}
 use Rattle.vx_script.specs.declared.fault.ScriptFail.{ScriptFail}
-use Rattle.vx_script.specs.declared.fault.ScriptFail.TheVariants as script_fail
 use Rattle.vx_script.specs.declared.fault.ScriptFault.{ScriptFault}
+use Rattle.vx_script.specs.declared.fault.ScriptFail.TheVariants as script_fail
 use Rattle.vx_grammar.specs.FirstFault.{Tells}
 use Rattle.vx_grammar.specs.Grammar.{Spells}
 use Rattle.vx_journal.specs.TrailerLines.{read_trailer}

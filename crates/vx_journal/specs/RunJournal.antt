@@ -1,10 +1,8 @@
 -- The journal of a run, and what the program's types hold of it.
 use Rattle.std.specs.Prelude.{◌<◌, ◌^◌, List, length}
 use Rattle.std.specs.List.{AllByRecursion}
-use Rattle.vx_base.specs.declared.record.End.{End}
-use Rattle.vx_base.specs.declared.record.Rec.{Rec}
+use Rattle.vx_record.specs.Types.{End, Rec, System}
 use Rattle.vx_image.specs.WellFormed.{IsWellFormed}
-use Rattle.vx_image.specs.declared.system.System.{System}
 use Rattle.vx_lines.specs.Records.{ended_lines}
 use Rattle.vx_record.specs.Runs.{IsRun, after}
 use Rattle.vx_units.specs.Units.{outputs_of}

@@ -3,7 +3,7 @@ use Rattle.std.specs.Prelude.{◌≡◌, ℕ, ◌<◌, ◌^◌, IsTrue, List, []
 use Rattle.std.specs.List.{AllByRecursion}
 use Rattle.vx_base.specs.Name.{is_name}
 use Rattle.vx_image.specs.WellFormed.{IsWellFormed}
-use Rattle.vx_image.specs.declared.unit.UnitDecl.{UnitDecl}
+use Rattle.vx_record.specs.Types.{UnitDecl}
 use Rattle.vx_text.specs.Quote.{AreBytes}
 use Rattle.vx_lines.specs.Records.{ended_lines}
 use Rattle.vx_lines.specs.Spelled.{IsWord}

@@ -1,9 +1,8 @@
 -- How the lines of a trailer are read: by their words, and only if what was read is spelled as the line.
 use Rattle.std.specs.Prelude.{ℕ, ◌+◌, List, [], ◌∷◌, ◌++◌, codes, bytes_eq, nat_eq, if◌then◌else◌, Option, None, Some, Result, Ok, Err}
 use Rattle.std.specs.List.{starts_with}
-use Rattle.vx_base.specs.declared.record.End.{End}
+use Rattle.vx_record.specs.Types.{End, UnitDecl}
 use Rattle.vx_base.specs.declared.record.End.TheVariants.{Done, Hung, Limit}
-use Rattle.vx_image.specs.declared.unit.UnitDecl.{UnitDecl}
 use Rattle.vx_lines.specs.Fields.{number_of, pid_of, name_in, unit_of, text_of}
 use Rattle.vx_lines.specs.ReadEffect.{unfed}
 use Rattle.vx_lines.specs.ReadHead.{from_space}

@@ -1,11 +1,7 @@
 -- The transcript of a run: the canonical script, the records and the trailer, line by line.
 use Rattle.std.specs.Prelude.{ℕ, ◌+◌, List, [], ◌∷◌, ◌++◌, length, codes, decimal, map, slice_index_or}
-use Rattle.vx_base.specs.Pieces.{DeviceUnit}
-use Rattle.vx_base.specs.declared.record.End.{End}
+use Rattle.vx_record.specs.Types.{DeviceUnit, End, Rec, System, UnitDecl}
 use Rattle.vx_base.specs.declared.record.End.TheVariants.{Done, Hung, Limit}
-use Rattle.vx_base.specs.declared.record.Rec.{Rec}
-use Rattle.vx_image.specs.declared.system.System.{System}
-use Rattle.vx_image.specs.declared.unit.UnitDecl.{UnitDecl}
 use Rattle.vx_text.specs.Quote.{quote_text}
 use Rattle.vx_units.specs.Units.{outputs_of}
 use Rattle.vx_lines.specs.Records.{ended_lines, records_lines, unit_name}

@@ -1,10 +1,8 @@
 //! Reads a transcript.
 
 ghost use Rattle.std.specs.Prelude.{◌≡◌, ◌+◌, ◌<◌, ◌≤◌, IfOk, List, Ok, length};
-ghost use Rattle.vx_base.specs.declared.record.End.{End as EndOf};
-ghost use Rattle.vx_base.specs.declared.record.Rec.{Rec as RecOf};
+ghost use Rattle.vx_record.specs.Types.{End as EndOf, Rec as RecOf, System as SystemOf};
 ghost use Rattle.vx_image.specs.WellFormed.{IsWellFormed};
-ghost use Rattle.vx_image.specs.declared.system.System.{System as SystemOf};
 ghost use Rattle.vx_lines.specs.ReadRecords.{Reads};
 ghost use Rattle.vx_journal.specs.ReadJournal as spec;
 ghost use Rattle.vx_journal.specs.RunJournal.{IsHeldRun, run_journal};

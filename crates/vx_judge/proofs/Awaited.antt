@@ -3,11 +3,8 @@ use Rattle.std.proofs.Common.{◌≡◌, ℕ, zero, suc, ◌+◌, ◌-◌, ◌<�
 use Rattle.std.proofs.lemmas.Bool.{ne_eqb, eqb-true}
 use Rattle.std.specs.HashMap.{get}
 use Rattle.vx_laws.specs.Agrees.{waited}
-use Rattle.vx_base.specs.declared.call.Call.{Call}
-use Rattle.vx_base.specs.declared.cond.Cond.{Cond}
-use Rattle.vx_base.specs.declared.number.Pid.{Pid}
+use Rattle.vx_record.specs.Types.{Call, Cond, Pid, Wait}
 use Rattle.vx_record.specs.Charges.{is_same}
-use Rattle.vx_base.specs.declared.frame.Wait.{Wait}
 use Rattle.vx_laws.specs.Frames.{with_first}
 use Rattle.vx_laws.specs.Items.{Item}
 use Rattle.vx_laws.specs.StatusLaw.{resumes_right, resumes_wait}

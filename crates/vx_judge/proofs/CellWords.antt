@@ -6,7 +6,7 @@ use Rattle.std.specs.List.{filter, find}
 use Rattle.vx_record.proofs.SoundFlags.{both_names}
 use Rattle.vx_base.specs.Flags.{with_flag}
 use Rattle.vx_base.specs.Lists.{less}
-use Rattle.vx_base.specs.declared.effects.Cell.{Cell}
+use Rattle.vx_record.specs.Types.{Cell}
 use Rattle.vx_base.specs.declared.effects.Cell.TheVariants.{Local, Common}
 use Rattle.vx_base.specs.declared.effects.Effect.TheVariants as effect
 use Rattle.vx_record.specs.Flags.{place_in}

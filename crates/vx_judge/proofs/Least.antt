@@ -2,7 +2,7 @@
 use Rattle.std.proofs.Common.{◌≡◌, ℕ, zero, suc, ◌<◌, ◌≤◌, Bool, true, false, not, ◌&&◌, ◌==◌, nat_lt, List, [], ◌∷◌, Option, Some, None, refl, sym, ap, ◌∙◌, arith, eq-eqb}
 use Rattle.std.proofs.lemmas.Bool.{eqb-true, ltb-true, ltb-false, ne_eqb}
 use Rattle.std.specs.List.{list_any}
-use Rattle.vx_base.specs.declared.number.Id.{Id}
+use Rattle.vx_record.specs.Types.{Id}
 use Rattle.vx_laws.specs.Items.{is_id}
 use Rattle.vx_laws.specs.Lives.{id_of, least_id}
 use Rattle.vx_judge.specs.Readers.{lesser, if_passes, least_of}

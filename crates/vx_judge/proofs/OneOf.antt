@@ -5,9 +5,8 @@ use Rattle.std.proofs.lemmas.Bool.{ne_eqb}
 use Rattle.std.proofs.lemmas.List.{reverse-append}
 use Rattle.std.proofs.lemmas.List.Elements.{filter-append}
 use Rattle.std.specs.List.{filter, list_any}
-use Rattle.vx_base.specs.declared.effects.Effect.{Effect}
+use Rattle.vx_record.specs.Types.{Effect, Pid}
 use Rattle.vx_base.specs.declared.effects.Effect.TheVariants as effect
-use Rattle.vx_base.specs.declared.number.Pid.{Pid}
 use Rattle.vx_laws.specs.StatusLaw.{is_iosb, is_only, only, none_of, is_cleared_iosb, clears_iosb}
 use Rattle.vx_judge.specs.Lists.{from_first}
 use Rattle.vx_judge.specs.Owing.{owed}

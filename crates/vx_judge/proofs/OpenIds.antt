@@ -4,17 +4,17 @@ use Rattle.std.proofs.Common.{◌≡◌, ℕ, zero, suc, ◌<◌, ◌≤◌, Boo
 use Rattle.std.proofs.lemmas.Bool.{ne_eqb, eqb-true, and_parts, lt-ltb, ltb-true, ltb-false, or_left}
 use Rattle.std.specs.List.{list_all, list_any, filter}
 use Rattle.vx_base.specs.declared.effects.Effect.TheVariants as effect
-use Rattle.vx_base.specs.declared.number.Id.{Id}
+use Rattle.vx_record.specs.Types.{Id, Pid}
 use Rattle.vx_base.specs.declared.record.Event.TheVariants as event
 use Rattle.vx_laws.specs.Items.{Item, Head, Did, is_id}
-use Rattle.vx_base.specs.declared.number.Pid.{Pid}
-use Rattle.vx_laws.specs.Lives.{Life, life, lives, lived, subject, is_about, highest, id_of, all_ids, is_open, is_handler}
+use Rattle.vx_laws.specs.Lives.{Life, life, lived, subject, is_about, highest, id_of, all_ids, is_open, is_handler}
 use Rattle.vx_laws.specs.RundownLaw.{is_left_of, is_of, is_later_handler}
 use Rattle.vx_judge.specs.Lives.{kept, IsOf}
 use Rattle.vx_judge.specs.OpenIds.{HasOpen, has_open, is_open_in}
 use Rattle.vx_judge.specs.declared.lives.Lives.{Lives}
 use Rattle.vx_laws.proofs.Shares.{lived_none, still_none}
 use Rattle.vx_laws.proofs.Openings.{is_open_item}
+use Rattle.vx_base.specs.Lists.{is_some_and}
 
 pub by_cases : {A : Type 0} (b : Bool) → (b ≡ true → A) → (b ≡ false → A) → A
 by_cases true f g = f refl
@@ -48,8 +48,8 @@ or_body : (a b : Bool) → (a || false) ≡ true → (a || b) ≡ true
 or_body true b h = refl
 or_body false b h = absurd (let never : false ≡ true = h in cc)
 
-lives_open : (past : List Item) (x : Item) (l : Option Life) → is_open_item x ≡ false → lives is_open (lived past x l) ≡ true → lives is_open l ≡ true
-lives_open past x None o h = absurd (let e : lives is_open (lived past x None) ≡ false = rw (lived_none past x o) refl in cc)
+lives_open : (past : List Item) (x : Item) (l : Option Life) → is_open_item x ≡ false → is_some_and is_open (lived past x l) ≡ true → is_some_and is_open l ≡ true
+lives_open past x None o h = absurd (let e : is_some_and is_open (lived past x None) ≡ false = rw (lived_none past x o) refl in cc)
 lives_open past (Did (effect.Open id kind p mode n)) (Some l) o h = absurd (let never : true ≡ false = o in cc)
 lives_open past (Did (effect.Fin id c)) (Some l) o h = or_weaker l.body l.routine _ h
 lives_open past (Did (effect.Fire id)) (Some l) o h = or_weaker l.body l.routine _ h
@@ -59,7 +59,7 @@ lives_open past (Head (event.Ast p) a) (Some l) o h = or_body l.body l.routine h
 lives_open past (Head (event.Beg u) a) (Some l) o h = h
 lives_open past x (Some l) o h = h
 
-was_open : (b : Bool) (past : List Item) (x : Item) (l : Option Life) → is_open_item x ≡ false → lives is_open (cond b (lived past x l) l) ≡ true → lives is_open l ≡ true
+was_open : (b : Bool) (past : List Item) (x : Item) (l : Option Life) → is_open_item x ≡ false → is_some_and is_open (cond b (lived past x l) l) ≡ true → is_some_and is_open l ≡ true
 was_open true past x l o h = lives_open past x l o h
 was_open false past x l o h = h
 
@@ -84,7 +84,7 @@ filtered id test (i ∷ ids) t h =
     (λ u. rw (u, other) (filtered id test ids t rest))
     (λ u. rw u (filtered id test ids t rest)))
 
-open_kept : (l : Option Life) → has_open (option_map kept l) ≡ lives is_open l
+open_kept : (l : Option Life) → has_open (option_map kept l) ≡ is_some_and is_open l
 open_kept None = refl
 open_kept (Some l) = refl
 
@@ -129,8 +129,8 @@ bool_same : (a b : Bool) → (a ≡ true → b ≡ true) → (a ≡ false → b 
 bool_same true b h k = sym (h refl)
 bool_same false b h k = sym (k refl)
 
-lives_some : (o : Option Life) → o ≡ None → lives is_open o ≡ true → ⊥
-lives_some o e h = let f : lives is_open o ≡ false = rw e refl in let never : true ≡ false = sym h ∙ f in cc
+lives_some : (o : Option Life) → o ≡ None → is_some_and is_open o ≡ true → ⊥
+lives_some o e h = let f : is_some_and is_open o ≡ false = rw e refl in let never : true ≡ false = sym h ∙ f in cc
 
 -- ids count from 1
 counted_bad : (b c : Bool) → not (not b && c) ≡ false → (b ≡ false) × (c ≡ true)
@@ -138,7 +138,7 @@ counted_bad true c h = absurd (let never : true ≡ false = h in cc)
 counted_bad false true h = (refl, refl)
 counted_bad false false h = absurd (let never : true ≡ false = h in cc)
 
-pub all_of_open : (bad : Id → Bool) (past : List Item) (ids : List Id) → HasOpen ids past → ((id : Id) → bad id ≡ true → lives is_open (life past id) ≡ true) →
+pub all_of_open : (bad : Id → Bool) (past : List Item) (ids : List Id) → HasOpen ids past → ((id : Id) → bad id ≡ true → is_some_and is_open (life past id) ≡ true) →
     list_all (λ id. not (not (id.0 == 0) && bad id)) ids ≡ all_ids (λ id. not (bad id)) (highest past)
 all_of_open bad past ids has opened = bool_same _ _ every some
   where
@@ -169,11 +169,11 @@ all_of_open bad past ids has opened = bool_same _ _ every some
 
 -- What is left, and what is a later handler, is open.
 
-pub left_is_open : (p : Pid) (l : Option Life) → lives (is_left_of p) l ≡ true → lives is_open l ≡ true
+pub left_is_open : (p : Pid) (l : Option Life) → is_some_and (is_left_of p) l ≡ true → is_some_and is_open l ≡ true
 left_is_open p None h = h
 left_is_open p (Some l) h = (and_parts (is_open l) (is_of p l) h).0
 
-pub later_is_open : (id : Id) (l : Life) (j : Id) (k : Option Life) → lives (is_later_handler id l j) k ≡ true → lives is_open k ≡ true
+pub later_is_open : (id : Id) (l : Life) (j : Id) (k : Option Life) → is_some_and (is_later_handler id l j) k ≡ true → is_some_and is_open k ≡ true
 later_is_open id l j None h = h
 later_is_open id l j (Some k) h =
     let more = (and_parts (nat_lt id.0 j.0) _ h).1 in

@@ -5,14 +5,11 @@ use Rattle.std.proofs.lemmas.List.Folds.{list_any-append}
 use Rattle.std.specs.Cmp.Lexicographic.{bytes_decides}
 use Rattle.std.specs.List.{list_any, filter}
 use Rattle.vx_base.specs.declared.effects.Effect.TheVariants as effect
-use Rattle.vx_base.specs.declared.effects.Opened.{Opened}
-use Rattle.vx_base.specs.declared.mode.Mode.{Mode}
-use Rattle.vx_base.specs.declared.number.Id.{Id}
-use Rattle.vx_base.specs.declared.number.Pid.{Pid}
+use Rattle.vx_record.specs.Types.{Id, Mode, Opened, Pid}
 use Rattle.vx_base.specs.declared.record.Event.TheVariants as event
 use Rattle.vx_laws.specs.Boxes.{reads_at, is_at, asks, oldest_read}
 use Rattle.vx_laws.specs.Items.{Item, Head, Did, is_id}
-use Rattle.vx_laws.specs.Lives.{Life, life, lives, lived, subject, is_about, highest, is_request, is_bare, new_life}
+use Rattle.vx_laws.specs.Lives.{Life, life, lived, subject, is_about, highest, is_request, is_bare, new_life}
 use Rattle.vx_record.specs.Mailboxes.{is_waiting_func}
 use Rattle.vx_judge.proofs.Least.{least_is}
 use Rattle.vx_judge.proofs.OpenIds.{by_cases, known, filtered}
@@ -25,14 +22,15 @@ use Rattle.vx_judge.specs.declared.lives.Lives.{Lives}
 use Rattle.vx_judge.specs.declared.requests.Requests.{Requests}
 use Rattle.vx_laws.proofs.Shares.{lived_none}
 use Rattle.vx_laws.proofs.Openings.{is_open_item}
+use Rattle.vx_base.specs.Lists.{is_some_and}
 
 -- By the tables a read waits as it does by the past.
 
-waits_kept : (name : List ℕ) (l : Option Life) → (has_request (option_map kept l) && asks_at name (option_map asked_by l)) ≡ lives (reads_at name) l
+waits_kept : (name : List ℕ) (l : Option Life) → (has_request (option_map kept l) && asks_at name (option_map asked_by l)) ≡ is_some_and (reads_at name) l
 waits_kept name None = refl
 waits_kept name (Some l) = refl
 
-waits_so : (t : Lives) (u : Requests) (past : List Item) (name : List ℕ) (id : Id) → IsOf t past → AreAsked u past → waits_in t u name id ≡ lives (reads_at name) (life past id)
+waits_so : (t : Lives) (u : Requests) (past : List Item) (name : List ℕ) (id : Id) → IsOf t past → AreAsked u past → waits_in t u name id ≡ is_some_and (reads_at name) (life past id)
 waits_so t u past name id is are = ap (λ l. has_request l && asks_at name (asked_in u id)) (is id) ∙ (ap (λ a. has_request (option_map kept (life past id)) && asks_at name a) (are id) ∙ waits_kept name (life past id))
 
 -- What waits was waiting, or is opened.
@@ -43,8 +41,8 @@ body_before true true false r h = absurd (let never : false ≡ true = h in cc)
 body_before true false b r h = h
 body_before false a b r h = h
 
-lives_reads : (name : List ℕ) (past : List Item) (x : Item) (l : Option Life) → is_open_item x ≡ false → lives (reads_at name) (lived past x l) ≡ true → lives (reads_at name) l ≡ true
-lives_reads name past x None o h = absurd (let e : lives (reads_at name) (lived past x None) ≡ false = rw (lived_none past x o) refl in cc)
+lives_reads : (name : List ℕ) (past : List Item) (x : Item) (l : Option Life) → is_open_item x ≡ false → is_some_and (reads_at name) (lived past x l) ≡ true → is_some_and (reads_at name) l ≡ true
+lives_reads name past x None o h = absurd (let e : is_some_and (reads_at name) (lived past x None) ≡ false = rw (lived_none past x o) refl in cc)
 lives_reads name past (Did (effect.Open id kind p mode n)) (Some l) o h = absurd (let never : true ≡ false = o in cc)
 lives_reads name past (Did (effect.Fin id c)) (Some l) o h = body_before (is_request l.kind) l.body _ _ h
 lives_reads name past (Did (effect.Fire id)) (Some l) o h = body_before (is_request l.kind) l.body _ _ h
@@ -54,7 +52,7 @@ lives_reads name past (Head (event.Ast p) a) (Some l) o h = h
 lives_reads name past (Head (event.Beg u) a) (Some l) o h = h
 lives_reads name past x (Some l) o h = h
 
-was_reading : (b : Bool) (name : List ℕ) (past : List Item) (x : Item) (l : Option Life) → is_open_item x ≡ false → lives (reads_at name) (cond b (lived past x l) l) ≡ true → lives (reads_at name) l ≡ true
+was_reading : (b : Bool) (name : List ℕ) (past : List Item) (x : Item) (l : Option Life) → is_open_item x ≡ false → is_some_and (reads_at name) (cond b (lived past x l) l) ≡ true → is_some_and (reads_at name) l ≡ true
 was_reading true name past x l o h = lives_reads name past x l o h
 was_reading false name past x l o h = h
 
@@ -81,7 +79,7 @@ reads_left old new t u name past is are set h = λ other id e.
     by_cases (bytes_eq name other)
     (λ same.
     let it : name ≡ other = (bytes_decides name other).0 same in
-    let there : lives (reads_at name) (life past id) ≡ true = rw it e in
+    let there : is_some_and (reads_at name) (life past id) ≡ true = rw it e in
     rw (set other, same) (filtered id (waits_in t u name) (listed old name) (waits_so t u past name id is are ∙ there) (h name id there)))
     (λ apart. rw (set other, apart) (h other id e))
 
@@ -118,7 +116,7 @@ module _ (past : List Item) (i : Id) (kind : Opened) (p : Pid) (mode : Option Mo
       let there : bytes_eq name other ≡ true = at_name born.device name other (sym two.0 ∙ boxed) two.1 in
       rw (set other, there) (list_any-append (is_id id) (listed old other) (i ∷ []) ∙ or_right (list_any (is_id id) (listed old other)) (is_id id i || false) (or_left (is_id id i) false (eq-eqb id.0 i.0 (sym (eqb-true i.0 id.0 same))))))
       (λ apart.
-      let before : lives (reads_at other) (life past id) ≡ true = rw apart at e in
+      let before : is_some_and (reads_at other) (life past id) ≡ true = rw apart at e in
       by_cases (bytes_eq name other)
       (λ b. rw (set other, b) (list_any-append (is_id id) (listed old other) (i ∷ []) ∙ or_left (list_any (is_id id) (listed old other)) (is_id id i || false) (h other id before)))
       (λ b. rw (set other, b) (h other id before)))
@@ -130,16 +128,16 @@ module _ (past : List Item) (i : Id) (kind : Opened) (p : Pid) (mode : Option Mo
       let now : reads_at other born ≡ true = rw same at e in
       let two = opened_at kind (not (is_bare kind)) born.device (asks is_waiting_func born.by) other now in
       absurd (at_none born.device other (sym two.0 ∙ boxed) two.1))
-      (λ apart. let before : lives (reads_at other) (life past id) ≡ true = rw apart at e in h other id before)
+      (λ apart. let before : is_some_and (reads_at other) (life past id) ≡ true = rw apart at e in h other id before)
 
 -- The oldest read is the least that waits.
 
-reading_is_known : (name : List ℕ) (l : Option Life) → l ≡ None → lives (reads_at name) l ≡ true → ⊥
+reading_is_known : (name : List ℕ) (l : Option Life) → l ≡ None → is_some_and (reads_at name) l ≡ true → ⊥
 reading_is_known name l e h = let never : false ≡ true = rw e at h in cc
 
 pub oldest_is : (t : Lives) (u : Requests) (v : BoxLists Id) (past : List Item) (name : List ℕ) → IsOf t past → AreAsked u past → HasReads v past → least_of (counted_wait t u name) (listed v name) ≡ oldest_read past name
 oldest_is t u v past name is are has =
-    least_is (waits_in t u name) (λ id. lives (reads_at name) (life past id)) (highest past) (listed v name) (λ id. waits_so t u past name id is are) (λ id. has name id) (λ id e.
+    least_is (waits_in t u name) (λ id. is_some_and (reads_at name) (life past id)) (highest past) (listed v name) (λ id. waits_so t u past name id is are) (λ id. has name id) (λ id e.
     by_cases (nat_lt (highest past) id.0)
     (λ above. absurd (reading_is_known name (life past id) (known past id (ltb-true (highest past) id.0 above)) e))
     (λ f. ltb-false (highest past) id.0 f))

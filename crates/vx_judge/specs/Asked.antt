@@ -1,14 +1,14 @@
 -- What the frames of a process wait for, each as what its call asks for.
 use Rattle.std.specs.Prelude.{List, [], ◌∷◌, Option, None}
-use Rattle.vx_base.specs.declared.frame.Wait.{Wait}
-use Rattle.vx_base.specs.declared.record.Answer.{Answer}
+use Rattle.vx_record.specs.Types.{Answer, Wait}
 use Rattle.vx_base.specs.declared.record.Answer.TheVariants as answer
-use Rattle.vx_laws.specs.Frames.{Turn, Enters, Returns, Clears, Stays, below, with_first}
+use Rattle.vx_laws.specs.Frames.{Turn, Enters, Returns, Clears, Stays, with_first}
 use Rattle.vx_laws.specs.Values.{wait_of}
+use Rattle.vx_base.specs.Lists.{rest}
 
 abbrev pub waits_changed : Turn → List (Option Wait) → List (Option Wait)
 waits_changed (Enters e) ws = None ∷ ws
-waits_changed Returns ws = below ws
+waits_changed Returns ws = rest ws
 waits_changed Clears ws = []
 waits_changed Stays ws = ws
 

@@ -1,7 +1,7 @@
 -- Which status blocks are filled, in a table by process and number.
 use Rattle.std.specs.Prelude.{◌≡◌, ℕ, List, Bool, false, unwrap_or}
 use Rattle.std.specs.HashMap.{get}
-use Rattle.vx_base.specs.declared.number.Pid.{Pid}
+use Rattle.vx_record.specs.Types.{Pid}
 use Rattle.vx_laws.specs.Items.{Item}
 use Rattle.vx_laws.specs.Values.{status_by}
 use Rattle.vx_record.specs.Flags.{is_filled}

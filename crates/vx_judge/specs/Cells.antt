@@ -2,7 +2,7 @@
 use Rattle.std.specs.Prelude.{ℕ, List, Bool, ◌&&◌, ◌==◌, bytes_eq, nat_lt, if◌then◌else◌, Option, Some, None, unwrap_or, nat_eq}
 use Rattle.std.specs.HashMap.{get}
 use Rattle.std.specs.List.{find}
-use Rattle.vx_base.specs.declared.effects.Cell.{Cell}
+use Rattle.vx_record.specs.Types.{Cell}
 use Rattle.vx_base.specs.declared.effects.Cell.TheVariants.{Local, Common}
 use Rattle.vx_laws.specs.Items.{Item}
 use Rattle.vx_laws.specs.Values.{flags_by}

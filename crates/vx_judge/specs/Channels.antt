@@ -1,7 +1,7 @@
 -- The devices of channels, in a table.
 use Rattle.std.specs.Prelude.{◌≡◌, ℕ, List}
 use Rattle.std.specs.HashMap.{get}
-use Rattle.vx_base.specs.declared.number.Pid.{Pid}
+use Rattle.vx_record.specs.Types.{Pid}
 use Rattle.vx_laws.specs.Items.{Item}
 use Rattle.vx_laws.specs.Lives.{device_name}
 use Rattle.vx_judge.specs.Pairs.{pair_eq}

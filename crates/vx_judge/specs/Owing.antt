@@ -1,8 +1,7 @@
 -- What completions owe to the calls that opened their requests, and the clusters that processes have, in tables.
 use Rattle.std.specs.Prelude.{◌≡◌, ℕ, List, Option, option_map, nat_eq}
 use Rattle.std.specs.HashMap.{get}
-use Rattle.vx_base.specs.declared.number.Id.{Id}
-use Rattle.vx_base.specs.declared.number.Pid.{Pid}
+use Rattle.vx_record.specs.Types.{Id, Pid}
 use Rattle.vx_record.specs.Services.{number}
 use Rattle.vx_laws.specs.Items.{Item, Calling}
 use Rattle.vx_laws.specs.Lives.{Life, life}

@@ -2,18 +2,18 @@
 use Rattle.std.specs.Prelude.{◌≡◌, ℕ, List, [], ◌∷◌, Bool, true, false, ◌&&◌, ◌==◌, not, nat_lt, if◌then◌else◌, Option, Some, None, nat_eq}
 use Rattle.std.specs.HashMap.{get}
 use Rattle.std.specs.List.{list_any}
-use Rattle.vx_base.specs.declared.number.Id.{Id}
+use Rattle.vx_record.specs.Types.{Id, Opened}
 use Rattle.vx_laws.specs.Boxes.{reads_at}
 use Rattle.vx_laws.specs.Items.{Item, is_id}
-use Rattle.vx_laws.specs.Lives.{life, lives, is_request}
+use Rattle.vx_laws.specs.Lives.{life, is_request}
 use Rattle.vx_judge.specs.BoxLists.{listed}
 use Rattle.vx_judge.specs.Requests.{reads_in}
-use Rattle.vx_base.specs.declared.effects.Opened.{Opened}
 use Rattle.vx_judge.specs.declared.asked.Asked.{Asked}
 use Rattle.vx_judge.specs.declared.box_lists.BoxLists.{BoxLists}
 use Rattle.vx_judge.specs.declared.life.Life.{Life}
 use Rattle.vx_judge.specs.declared.lives.Lives.{Lives}
 use Rattle.vx_judge.specs.declared.requests.Requests.{Requests}
+use Rattle.vx_base.specs.Lists.{is_some_and}
 
 abbrev pub has_request : Option Life → Bool
 has_request None = false
@@ -28,7 +28,7 @@ waits_in t u name id = is_outstanding_in t id && reads_in u name id
 
 -- each READ of a box that the past leaves outstanding is in the box's list
 abbrev pub HasReads : BoxLists Id → List Item → Type 0
-HasReads t past = (name : List ℕ) (id : Id) → lives (reads_at name) (life past id) ≡ true → list_any (is_id id) (listed t name) ≡ true
+HasReads t past = (name : List ℕ) (id : Id) → is_some_and (reads_at name) (life past id) ≡ true → list_any (is_id id) (listed t name) ≡ true
 
 -- The least of a list that passes.
 

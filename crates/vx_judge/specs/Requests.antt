@@ -1,7 +1,7 @@
 -- What is kept of the calls that opened ids, in a table.
 use Rattle.std.specs.Prelude.{◌≡◌, ℕ, List, Bool, false, ◌&&◌, Option, Some, None, option_map, nat_eq}
 use Rattle.std.specs.HashMap.{get}
-use Rattle.vx_base.specs.declared.number.Id.{Id}
+use Rattle.vx_record.specs.Types.{Id}
 use Rattle.vx_record.specs.Mailboxes.{is_waiting_func}
 use Rattle.vx_record.specs.Services.{number}
 use Rattle.vx_laws.specs.Boxes.{is_at, asks}

@@ -2,8 +2,7 @@
 -- from the bottom.
 use Rattle.std.specs.Prelude.{◌≡◌, ℕ, zero, suc, List, [], ◌∷◌, map, Option, unwrap_or, nat_eq}
 use Rattle.std.specs.HashMap.{get}
-use Rattle.vx_base.specs.declared.frame.Wait.{Wait}
-use Rattle.vx_base.specs.declared.number.Pid.{Pid}
+use Rattle.vx_record.specs.Types.{Pid, Wait}
 use Rattle.vx_laws.specs.Items.{Item}
 use Rattle.vx_laws.specs.Agrees.{waited}
 use Rattle.vx_laws.specs.Frames.{awaited}

@@ -1,12 +1,12 @@
 //! The law of mailboxes.
 
 ghost use Rattle.std.specs.Prelude.{◌≡◌, List, Option as OptionOf, map, ◌++◌, IfOk, option_map, true};
-ghost use Rattle.vx_base.specs.declared.record.Rec.{Rec as RecOf};
-ghost use Rattle.vx_image.specs.declared.system.System.{System as SystemOf};
+ghost use Rattle.vx_base.specs.Lists.{is_some_and};
+ghost use Rattle.vx_record.specs.Types.{Rec as RecOf, System as SystemOf};
 ghost use Rattle.vx_record.specs.Runs.{IsRun};
 ghost use Rattle.vx_laws.specs.Boxes.{is_at as is_at_of};
 ghost use Rattle.vx_laws.specs.Items.{Item, Did, flat, calling};
-ghost use Rattle.vx_laws.specs.Lives.{Life as FullLife, lives as lives_of};
+ghost use Rattle.vx_laws.specs.Lives.{Life as FullLife};
 ghost use Rattle.vx_laws.specs.MessageLaw.{messages, handles_messages, takes_oldest as takes_oldest_of, told_reader as told_reader_of, is_stored_nowhere as is_stored_nowhere_of, reads_where_stored as reads_where_stored_of};
 ghost use Rattle.vx_judge.specs.Channels.{AreNames};
 ghost use Rattle.vx_judge.specs.Following.{KnowsBoxes};
@@ -40,7 +40,7 @@ fn is_told(
     asked: Option<Asked>,
     later: &[Effect],
 ) -> bool
-    ensures { (written full : OptionOf FullLife) → writer ≡ option_map kept written → reader ≡ option_map kept full → asked ≡ option_map asked_by full → result ≡ lives_of (λ w. lives_of (λ l. told_reader_of read w.p body.now later.now l l.by) full) written }
+    ensures { (written full : OptionOf FullLife) → writer ≡ option_map kept written → reader ≡ option_map kept full → asked ≡ option_map asked_by full → result ≡ is_some_and (λ w. is_some_and (λ l. told_reader_of read w.p body.now later.now l l.by) full) written }
 {
     match (writer, reader, asked) {
         (Some(w), Some(l), Some(Asked { len: Some(len), .. })) => told_read(
@@ -79,7 +79,7 @@ fn takes_oldest(
 
 // The message of a write is stored no more.
 fn is_stored_nowhere(stored: &BoxLists<Message>, id: Id, asked: Option<Asked>) -> bool
-    ensures { (past : List Item) (full : OptionOf FullLife) → AreStored stored.now past → asked ≡ option_map asked_by full → result ≡ lives_of (is_stored_nowhere_of past id) full }
+    ensures { (past : List Item) (full : OptionOf FullLife) → AreStored stored.now past → asked ≡ option_map asked_by full → result ≡ is_some_and (is_stored_nowhere_of past id) full }
 {
     match asked {
         Some(a) => !stores::is_stored(stores::stored_at(stored, a.device), id),
@@ -106,7 +106,7 @@ fn reads_where_stored(
 
 // The device of a write is this box.
 fn is_written_at(name: &Name, asked: Option<Asked>) -> bool
-    ensures { (full : OptionOf FullLife) → asked ≡ option_map asked_by full → result ≡ lives_of (λ l. is_at_of name.now l.device) full }
+    ensures { (full : OptionOf FullLife) → asked ≡ option_map asked_by full → result ≡ is_some_and (λ l. is_at_of name.now l.device) full }
 {
     match asked {
         Some(a) => is_at(&Text::of(name), a.device),

@@ -3,7 +3,7 @@
 ghost use Rattle.std.specs.Prelude.{◌≡◌, List, [], ◌∷◌, OnOk, if◌then◌else◌, position, IfSome, length, ◌<◌, not};
 ghost use Rattle.std.specs.List.{filter, find};
 ghost use Rattle.vx_base.specs.Lists.{less};
-ghost use Rattle.vx_base.specs.declared.effects.Cell.{Cell as CellOf};
+ghost use Rattle.vx_record.specs.Types.{Cell as CellOf};
 ghost use Rattle.vx_laws.specs.Items.{Item, Did};
 ghost use Rattle.vx_laws.specs.Values.{is_beside, is_of_cluster};
 ghost use Rattle.vx_base.specs.declared.effects.Cell.TheVariants.{Local};

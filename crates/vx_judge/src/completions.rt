@@ -1,9 +1,10 @@
 //! What the law of flags and status blocks asks of completions.
 
 ghost use Rattle.std.specs.Prelude.{◌≡◌, List, Option as OptionOf, map, ◌++◌, IfOk, option_map};
-ghost use Rattle.vx_base.specs.declared.record.Rec.{Rec as RecOf};
+ghost use Rattle.vx_base.specs.Lists.{is_some_and};
+ghost use Rattle.vx_record.specs.Types.{Rec as RecOf};
 ghost use Rattle.vx_laws.specs.Items.{Item, Did, flat};
-ghost use Rattle.vx_laws.specs.Lives.{Life as FullLife, lives};
+ghost use Rattle.vx_laws.specs.Lives.{Life as FullLife};
 ghost use Rattle.vx_laws.specs.StatusLaw.{completes_right, is_asked as is_asked_of, tells_call as tells_call_of, to_next_fin};
 ghost use Rattle.vx_laws.specs.StatusParts.{completes};
 ghost use Rattle.vx_judge.specs.Places.{past_in};
@@ -29,7 +30,7 @@ fn is_asked(kind: Opened) -> bool
 
 // The completion of an id tells what it owes; an id that was not opened has none.
 fn is_told(clusters: &Clusters, owes: Option<Option<Owed>>, c: Cond, later: &[Effect]) -> bool
-    ensures { (past : List Item) (full : OptionOf FullLife) → AreJoined clusters.now past → owes ≡ option_map owed_by full → result ≡ lives (λ l. tells_call_of past c (to_next_fin later.now) l.by) full }
+    ensures { (past : List Item) (full : OptionOf FullLife) → AreJoined clusters.now past → owes ≡ option_map owed_by full → result ≡ is_some_and (λ l. tells_call_of past c (to_next_fin later.now) l.by) full }
 {
     match owes {
         Some(owes) => tells_call(clusters, owes, c, later),

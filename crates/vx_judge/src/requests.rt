@@ -2,7 +2,7 @@
 
 ghost use Rattle.std.specs.Prelude.{◌≡◌, List, [], ◌∷◌, ◌&&◌, OnOk, Some, cond, nat_eq, option_map};
 ghost use Rattle.std.specs.HashMap.{get};
-ghost use Rattle.vx_base.specs.declared.number.Id.{Id as IdOf};
+ghost use Rattle.vx_record.specs.Types.{Id as IdOf};
 ghost use Rattle.vx_laws.specs.Boxes.{asks, is_at as is_at_of};
 ghost use Rattle.vx_laws.specs.Items.{Item, Did, calling};
 ghost use Rattle.vx_laws.specs.Lives.{life, device_called};

@@ -1,8 +1,7 @@
 //! The law of flags and status blocks.
 
 ghost use Rattle.std.specs.Prelude.{◌≡◌, List, map, ◌++◌, IfOk, true};
-ghost use Rattle.vx_base.specs.declared.record.Rec.{Rec as RecOf};
-ghost use Rattle.vx_image.specs.declared.system.System.{System as SystemOf};
+ghost use Rattle.vx_record.specs.Types.{Rec as RecOf, System as SystemOf};
 ghost use Rattle.vx_record.specs.Runs.{IsRun};
 ghost use Rattle.vx_laws.specs.Items.{Item, Head, Did, flat};
 ghost use Rattle.vx_laws.specs.StatusLaw.{status, is_status_right, is_enable_told as is_enable_told_of, answers_right as answers_right_of};

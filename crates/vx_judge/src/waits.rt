@@ -1,11 +1,12 @@
 //! What the frames of all processes wait for, in tables.
 
 ghost use Rattle.std.specs.Prelude.{◌≡◌, ℕ, List, [], ◌∷◌, OnOk, if◌then◌else◌, ◌&&◌, ◌==◌, None, map};
-ghost use Rattle.vx_base.specs.declared.number.Pid.{Pid as PidOf};
+ghost use Rattle.vx_base.specs.Lists.{rest};
+ghost use Rattle.vx_record.specs.Types.{Pid as PidOf};
 ghost use Rattle.vx_record.specs.Charges.{is_same};
 ghost use Rattle.vx_laws.specs.Items.{Item, Head, Did};
 ghost use Rattle.vx_laws.specs.Agrees.{waited};
-ghost use Rattle.vx_laws.specs.Frames.{awaited, with_first, below};
+ghost use Rattle.vx_laws.specs.Frames.{awaited, with_first};
 ghost use Rattle.vx_judge.specs.Lives.{IsOf};
 ghost use Rattle.vx_judge.specs.Frames.{as_turn};
 ghost use Rattle.vx_judge.specs.Asked.{top_of, waits_changed, waits_answered};
@@ -103,7 +104,7 @@ impl Waits {
 
     // The top frame goes.
     fn leave(&mut self, p: Pid) -> Result<(), NoMemory>
-        ensures { OnOk result ((q : PidOf) → waits_in self.new q ≡ (if is_same p q then below (waits_in self.old q) else waits_in self.old q)) }
+        ensures { OnOk result ((q : PidOf) → waits_in self.new q ≡ (if is_same p q then rest (waits_in self.old q) else waits_in self.old q)) }
     {
         let count = self.count(p);
         self.set_count(p, count.saturating_sub(1))?;

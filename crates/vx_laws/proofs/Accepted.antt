@@ -4,21 +4,10 @@ use Rattle.std.proofs.lemmas.Bool.{eq-eqb, ne_eqb, leb-true, and_parts, both_way
 use Rattle.std.specs.List.{list_any}
 use Rattle.vx_laws.proofs.Calls.{at_most}
 use Rattle.vx_base.specs.Lists.{less}
-use Rattle.vx_base.specs.Pieces.{Channel, Request, Mailbox}
-use Rattle.vx_base.specs.declared.cond.Cond.{Cond}
-use Rattle.vx_base.specs.declared.effects.Cell.{Cell}
+use Rattle.vx_record.specs.Types.{BoxNo, Cell, Channel, Cond, Device, Effect, Func, Mailbox, Mode, Msg, Opened, Pid, Request, UnitNo}
 use Rattle.vx_base.specs.declared.effects.Effect.TheVariants as effect
-use Rattle.vx_base.specs.declared.effects.Effect.{Effect}
 use Rattle.vx_base.specs.declared.effects.Opened.TheVariants as opened
-use Rattle.vx_base.specs.declared.effects.Opened.{Opened}
-use Rattle.vx_base.specs.declared.mode.Mode.{Mode}
-use Rattle.vx_base.specs.declared.number.BoxNo.{BoxNo}
-use Rattle.vx_base.specs.declared.number.Pid.{Pid}
-use Rattle.vx_base.specs.declared.number.UnitNo.{UnitNo}
 use Rattle.vx_base.specs.declared.request.Device.TheVariants as device
-use Rattle.vx_base.specs.declared.request.Device.{Device}
-use Rattle.vx_base.specs.declared.request.Func.{Func}
-use Rattle.vx_base.specs.declared.request.Msg.{Msg}
 use Rattle.vx_record.proofs.Lists.{either, either_by, all_append, ordered_more}
 use Rattle.vx_record.proofs.SoundRequests.{tested_channel, on_cell_row}
 use Rattle.vx_record.specs.Channels.{channel_test}

@@ -4,29 +4,14 @@ use Rattle.std.specs.List.{AllByRecursion, filter, find, list_any}
 use Rattle.vx_base.specs.Channels.{channel_at, channels_of}
 use Rattle.vx_base.specs.Clusters.{Change, cluster_number, associated, dissociated, marked, is_cluster}
 use Rattle.vx_base.specs.Modes.{outer, is_kernel}
-use Rattle.vx_base.specs.Pieces.{Channel, Handler, Request, Promised, Timer, Alarm, OfTimer, OfWake, Attention, Mailbox, cleared, Queued}
-use Rattle.vx_base.specs.declared.call.Args.{Args}
-use Rattle.vx_base.specs.declared.call.Target.{Target}
-use Rattle.vx_base.specs.declared.cond.Cond.{Cond}
+use Rattle.vx_record.specs.Types.{Alarm, Answer, Args, Attention, BoxNo, Cell, Channel, Cond, Device, Effect, Entry, Frame, FrameKind, Func, Handler, Mailbox, Mode, Msg, Opened, Phase, Pid, Promised, Queued, Request, Service, Target, Timer, UnitNo, Wait}
+use Rattle.vx_base.specs.Pieces.{OfTimer, OfWake, cleared}
 use Rattle.vx_base.specs.declared.cond.Cond.TheVariants.{BadParam, Cancel as Cancelled, EndOfFile}
-use Rattle.vx_base.specs.declared.effects.Cell.{Cell}
-use Rattle.vx_base.specs.declared.effects.Effect.{Effect}
 use Rattle.vx_base.specs.declared.effects.Effect.TheVariants as effect
-use Rattle.vx_base.specs.declared.frame.Frame.{Frame}
-use Rattle.vx_base.specs.declared.frame.FrameKind.{FrameKind}
 use Rattle.vx_base.specs.declared.frame.FrameKind.TheVariants as kind
-use Rattle.vx_base.specs.declared.frame.Wait.{Wait}
 use Rattle.vx_base.specs.declared.frame.Wait.TheVariants as wait
-use Rattle.vx_base.specs.declared.mode.Mode.{Mode}
-use Rattle.vx_base.specs.declared.number.BoxNo.{BoxNo}
-use Rattle.vx_base.specs.declared.number.Pid.{Pid}
-use Rattle.vx_base.specs.declared.request.Device.{Device}
 use Rattle.vx_base.specs.declared.request.Device.TheVariants as device
-use Rattle.vx_base.specs.declared.request.Func.{Func}
 use Rattle.vx_base.specs.declared.request.Func.TheVariants.{ReadAttn, WrtAttn}
-use Rattle.vx_base.specs.declared.request.Msg.{Msg}
-use Rattle.vx_base.specs.declared.routine.Entry.{Entry}
-use Rattle.vx_base.specs.declared.service.Service.{Service}
 use Rattle.vx_base.specs.declared.service.Service.TheVariants.{SetEf, ClrEf, ReadEf, WaitFr, WflOr, WflAnd, AscEfc, DacEfc, DlcEfc, DclAst, SetAst, CmExec, CmKrnl, SetImr, CanTim, SchdWk, CanWak, Hiber, Wake, Suspnd, Resume, ForceX, CrePrc, DelPrc, Exit, DclExh, CanExh, Assign, Dassgn, CreMbx, DelMbx, Qio, QioW, Synch, Cancel, GetTim}
 use Rattle.vx_record.specs.State.{State, process_at, change, current, unit_at}
 use Rattle.vx_record.specs.Parts.{Part, Outcome, nothing, each, refused, refused_value, at_tested, part_of, and_then}
@@ -40,22 +25,19 @@ use Rattle.vx_record.specs.Cancel.{mark_part, withdraw, cancelled_request, cance
 use Rattle.vx_record.specs.Requests.{begun_on, Asked, new_request, cleared_part, transfer, new_attention, attention_opened, attention_set, attention_on, accepted, done_at_once, request_test, qio_tested, qiow_tested, unit_ending, with_unit}
 use Rattle.vx_record.specs.Control.{process_test, changed_process, with_wake, with_suspension, forced, creprc}
 use Rattle.vx_record.specs.Timers.{drop_timer, drop_timers, setimr_at, scheduled, is_wake_for, unscheduled, que_timer, fired, fire, is_due, at_time, next_time, tick}
-use Rattle.vx_record.specs.Rundown.{leave_kind, leave_frame, leave_all, exited, is_handler_of, is_handler_with, drop_handler, drop_handlers, any_handler, cancel_found, cancel_handlers, named_for_deletion, deleted_by, cancel_one, free_one, is_timer_in, is_wake_by, cancel_modes, drop_ast, drop_asts, is_ast_reached, part_with, release, is_busy, drain, cancelled_in, run_handlers, handling, run_down, inner_modes, rundown_from, without_ast}
+use Rattle.vx_record.specs.Rundown.{leave_kind, leave_frame, leave_all, exited, is_handler_of, drop_handler, drop_handlers, any_handler, cancel_found, cancel_handlers, named_for_deletion, deleted_by, cancel_one, free_one, is_timer_in, is_wake_by, cancel_modes, drop_ast, drop_asts, is_ast_reached, part_with, release, is_busy, drain, cancelled_in, run_handlers, handling, run_down, inner_modes, rundown_from, without_ast}
 use Rattle.vx_record.specs.Services.{number, place, access_mode, text, routine_or_none, decl_place, valued_at, numbered_at, service_of, asked}
 use Rattle.vx_record.proofs.Lists.{all_append, all_weaker, either, either_by}
 use Rattle.vx_record.proofs.Moves.{is_clusters}
 use Rattle.vx_record.proofs.Apart.{associated_only, dissociated_only, marked_at_only}
-use Rattle.vx_base.specs.declared.effects.Opened.{Opened}
 use Rattle.vx_base.specs.declared.effects.Opened.TheVariants as opened
 use Rattle.vx_laws.specs.Lives.{is_wake}
-use Rattle.vx_base.specs.declared.frame.Phase.{Phase}
 use Rattle.vx_base.specs.declared.frame.Phase.TheVariants as phase
-use Rattle.vx_base.specs.declared.record.Answer.{Answer}
 use Rattle.vx_laws.specs.StatusLaw.{is_asked}
 use Rattle.vx_base.specs.Serving.{serve, settled}
-use Rattle.vx_base.specs.declared.number.UnitNo.{UnitNo}
 use Rattle.vx_base.specs.declared.routine.Entry.TheVariants as entry
 use Rattle.vx_record.specs.Events.{returned, returned_from, r0_of, started, delivered, beg, don}
+use Rattle.vx_base.specs.Handlers.{is_handler_with}
 
 -- which openings are allowed, by kind and process, and whether a process may be gone
 pub record Test : Type 0 where

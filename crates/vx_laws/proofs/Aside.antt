@@ -6,32 +6,18 @@ use Rattle.vx_base.proofs.Lists.{alike_at}
 use Rattle.vx_base.specs.Channels.{channel_at}
 use Rattle.vx_base.specs.Clusters.{Change, cluster_number, associated, dissociated, marked, is_cluster}
 use Rattle.vx_base.specs.Modes.{inner, is_kernel}
-use Rattle.vx_base.specs.Pieces.{Channel, Handler, Timer, Alarm, OfTimer, OfWake, Attention, Queued, Status, cleared}
-use Rattle.vx_base.specs.declared.call.Args.{Args}
-use Rattle.vx_base.specs.declared.call.Target.{Target}
+use Rattle.vx_record.specs.Types.{Alarm, Args, Attention, BoxNo, Cell, Channel, Cond, Device, Effect, Entry, Frame, FrameKind, Func, Handler, Mode, Pid, Queued, Service, Status, Target, Timer, Wait}
+use Rattle.vx_base.specs.Pieces.{OfTimer, OfWake, cleared}
 use Rattle.vx_base.specs.declared.cond.Cond.TheVariants.{BadParam}
-use Rattle.vx_base.specs.declared.cond.Cond.{Cond}
 use Rattle.vx_base.specs.declared.effects.Cell.TheVariants.{Local, Common as Shared}
-use Rattle.vx_base.specs.declared.effects.Cell.{Cell}
 use Rattle.vx_base.specs.declared.effects.Effect.TheVariants as effect
 use Rattle.vx_base.specs.declared.effects.Opened.TheVariants as opened
-use Rattle.vx_base.specs.declared.effects.Effect.{Effect}
-use Rattle.vx_base.specs.declared.frame.Frame.{Frame}
 use Rattle.vx_base.specs.declared.frame.FrameKind.TheVariants as kind
-use Rattle.vx_base.specs.declared.frame.FrameKind.{FrameKind}
 use Rattle.vx_base.specs.declared.frame.Wait.TheVariants as wait
-use Rattle.vx_base.specs.declared.frame.Wait.{Wait}
 use Rattle.vx_base.specs.declared.mode.Mode.TheVariants.{Exec, Kernel}
-use Rattle.vx_base.specs.declared.mode.Mode.{Mode}
-use Rattle.vx_base.specs.declared.number.BoxNo.{BoxNo}
-use Rattle.vx_base.specs.declared.number.Pid.{Pid}
 use Rattle.vx_base.specs.declared.request.Device.TheVariants as device
-use Rattle.vx_base.specs.declared.request.Device.{Device}
-use Rattle.vx_base.specs.declared.request.Func.{Func}
 use Rattle.vx_base.specs.declared.routine.Entry.TheVariants as entry
-use Rattle.vx_base.specs.declared.routine.Entry.{Entry}
 use Rattle.vx_base.specs.declared.service.Service.TheVariants.{SetEf, ClrEf, ReadEf, WaitFr, WflOr, WflAnd, AscEfc, DacEfc, DlcEfc, DclAst, SetAst, CmExec, CmKrnl, SetImr, CanTim, SchdWk, CanWak, Hiber, Wake, Suspnd, Resume, ForceX, CrePrc, DelPrc, Exit, DclExh, CanExh, Assign, Dassgn, CreMbx, DelMbx, Qio, QioW, Synch, Cancel, GetTim}
-use Rattle.vx_base.specs.declared.service.Service.{Service}
 use Rattle.vx_record.proofs.Lists.{all_append, all_weaker, either}
 use Rattle.vx_record.specs.Asts.{is_inside, que_part, charged_ast, with_queued, with_delivery, with_frame, new_frame}
 use Rattle.vx_record.specs.Cancel.{drop_attention}
@@ -43,7 +29,7 @@ use Rattle.vx_record.specs.Flags.{cell, flag_where_named, at_named, at_flag, put
 use Rattle.vx_record.specs.Mailboxes.{is_attention_at, fire_attention, call_attention, is_answered_now, attend}
 use Rattle.vx_record.specs.Parts.{Part, Outcome, nothing, each, refused, refused_value, at_tested, part_of, commonly, and_then}
 use Rattle.vx_record.specs.Requests.{Asked, new_attention, attention_set, attention_opened, attention_on, done_at_once, cleared_part}
-use Rattle.vx_record.specs.Rundown.{leave_kind, leave_frame, leave_all, exited, is_handler_of, is_handler_with, drop_handler, drop_handlers, any_handler, cancel_found, cancel_handlers, named_for_deletion, deleted_by, drop_ast, drop_asts, is_ast_reached, part_with, new_handler, with_handler, without_frames, without_handler, without_ast}
+use Rattle.vx_record.specs.Rundown.{leave_kind, leave_frame, leave_all, exited, is_handler_of, drop_handler, drop_handlers, any_handler, cancel_found, cancel_handlers, named_for_deletion, deleted_by, drop_ast, drop_asts, is_ast_reached, part_with, new_handler, with_handler, without_frames, without_handler, without_ast}
 use Rattle.vx_record.specs.Services.{number, place, text, routine_or_none, decl_place, valued_at, numbered_at, service_of, var_part, with_variable, routine}
 use Rattle.vx_record.specs.State.{State, process_at, change, current, next_id, past_id, Process, nobody}
 use Rattle.vx_record.specs.Timers.{drop_timer, drop_timers, setimr_at, scheduled, is_wake_for, unscheduled, que_timer, fired, fire, is_due, at_time, next_time, tick, gettim, open_timer, fire_timer, after_wake}
@@ -51,6 +37,7 @@ use Rattle.vx_record.proofs.Apart.{associated_only, dissociated_only, marked_at_
 use Rattle.vx_record.proofs.Fits.{field_same}
 use Rattle.vx_record.proofs.Moves.{is_clusters}
 use Rattle.vx_laws.specs.Lives.{is_request}
+use Rattle.vx_base.specs.Handlers.{is_handler_with}
 
 -- channel n of a process
 abbrev pub row : State → Pid → ℕ → Option Channel

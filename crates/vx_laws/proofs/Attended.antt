@@ -5,21 +5,10 @@ use Rattle.std.proofs.lemmas.Bool.{and_parts, leb-true}
 use Rattle.vx_base.proofs.Bools.{by_bool}
 use Rattle.vx_base.specs.Channels.{channel_at}
 use Rattle.vx_base.specs.Modes.{outer}
-use Rattle.vx_base.specs.Pieces.{Queued, Channel, Request, Attention, Mailbox, cleared}
-use Rattle.vx_base.specs.declared.call.Args.{Args}
-use Rattle.vx_base.specs.declared.call.Call.{Call}
-use Rattle.vx_base.specs.declared.cond.Cond.{Cond}
-use Rattle.vx_base.specs.declared.effects.Cell.{Cell}
-use Rattle.vx_base.specs.declared.effects.Effect.{Effect}
-use Rattle.vx_base.specs.declared.frame.Frame.{Frame}
-use Rattle.vx_base.specs.declared.frame.Wait.{Wait}
+use Rattle.vx_record.specs.Types.{Args, Attention, Call, Cell, Channel, Cond, Device, Effect, Entry, Event, Frame, Mailbox, Mode, Pid, Queued, Request, Service, Stop, Wait}
+use Rattle.vx_base.specs.Pieces.{cleared}
 use Rattle.vx_base.specs.declared.frame.Wait.TheVariants as wait
-use Rattle.vx_base.specs.declared.mode.Mode.{Mode}
-use Rattle.vx_base.specs.declared.number.Pid.{Pid}
-use Rattle.vx_base.specs.declared.request.Device.{Device}
 use Rattle.vx_base.specs.declared.request.Device.TheVariants as device
-use Rattle.vx_base.specs.declared.routine.Entry.{Entry}
-use Rattle.vx_base.specs.declared.service.Service.{Service}
 use Rattle.vx_base.specs.declared.service.Service.TheVariants.{Assign, Dassgn, CreMbx, DelMbx, Qio, QioW, Cancel}
 use Rattle.vx_record.specs.Cancel.{cancel_channel, dassgn_at}
 use Rattle.vx_record.specs.Channels.{with_channel, channel_test, free_channel_of, assign_at, assign_to, assign, device_named, is_bad_box, new_box, box_named, box_made, box_number, make_box, make_box_in, find_or_create, crembx}
@@ -48,10 +37,8 @@ use Rattle.vx_laws.proofs.Phases.{service_seats}
 use Rattle.vx_laws.proofs.Untouched.{service_plainly, cancel_channel_keeps}
 use Rattle.vx_base.specs.Cond.{number_of}
 use Rattle.vx_base.specs.Queues.{front, in_service}
-use Rattle.vx_base.specs.declared.record.Event.{Event}
 use Rattle.vx_base.specs.declared.record.Event.TheVariants as event
 use Rattle.vx_image.specs.Local.{advanced}
-use Rattle.vx_image.specs.declared.stop.Stop.{Stop}
 use Rattle.vx_image.specs.declared.stop.Stop.TheVariants as stop
 use Rattle.vx_record.specs.Asts.{deliverable_ast}
 use Rattle.vx_record.specs.Events.{moved_to, moved_behind, returned, served_call, run_on, reader, run_frame, run, resumed_with, with_r0, or_normal, started, delivered, beg, step}

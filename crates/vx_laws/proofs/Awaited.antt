@@ -1,12 +1,7 @@
 -- What the frames of each process wait for: which parts of the machine leave it as it was.
 use Rattle.std.proofs.Common.{◌∙◌, ◌≡◌, ℕ, List, [], false, Option, refl, ◌-◌}
-use Rattle.vx_base.specs.declared.call.Args.{Args}
-use Rattle.vx_base.specs.declared.frame.Phase.{Phase}
+use Rattle.vx_record.specs.Types.{Args, Mode, Phase, Pid, Service, Wait}
 use Rattle.vx_base.specs.declared.frame.Phase.TheVariants as phase
-use Rattle.vx_base.specs.declared.frame.Wait.{Wait}
-use Rattle.vx_base.specs.declared.mode.Mode.{Mode}
-use Rattle.vx_base.specs.declared.number.Pid.{Pid}
-use Rattle.vx_base.specs.declared.service.Service.{Service}
 use Rattle.vx_base.specs.declared.service.Service.TheVariants.{Assign, Dassgn, CreMbx}
 use Rattle.vx_record.specs.State.{State, process_at, change}
 use Rattle.vx_record.specs.Parts.{part_of}

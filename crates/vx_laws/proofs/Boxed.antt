@@ -6,19 +6,10 @@ use Rattle.std.proofs.lemmas.List.{get_or-set_other}
 use Rattle.std.proofs.lemmas.Slice.Eq.{bytes_eq-Decides}
 use Rattle.std.specs.List.{AllByRecursion, list_any}
 use Rattle.std.specs.Prelude.{option_map, ⊤}
-use Rattle.vx_base.specs.Pieces.{Channel, Request, Mailbox}
+use Rattle.vx_record.specs.Types.{Answer, BoxNo, Channel, Device, Effect, Event, Id, Mailbox, Mode, Msg, Pid, Request}
 use Rattle.vx_base.specs.declared.effects.Effect.TheVariants as effect
-use Rattle.vx_base.specs.declared.effects.Effect.{Effect}
-use Rattle.vx_base.specs.declared.mode.Mode.{Mode}
-use Rattle.vx_base.specs.declared.number.BoxNo.{BoxNo}
-use Rattle.vx_base.specs.declared.number.Id.{Id}
-use Rattle.vx_base.specs.declared.number.Pid.{Pid}
-use Rattle.vx_base.specs.declared.record.Answer.{Answer}
 use Rattle.vx_base.specs.declared.record.Event.TheVariants as event
-use Rattle.vx_base.specs.declared.record.Event.{Event}
 use Rattle.vx_base.specs.declared.request.Device.TheVariants as device
-use Rattle.vx_base.specs.declared.request.Device.{Device}
-use Rattle.vx_base.specs.declared.request.Msg.{Msg}
 use Rattle.vx_record.proofs.Lists.{either, either_by, all_weaker, all_both, ordered_below}
 use Rattle.vx_record.specs.Channels.{is_box_of, is_unit_of}
 use Rattle.vx_record.specs.Charges.{is_same}
@@ -30,10 +21,11 @@ use Rattle.vx_laws.proofs.Aside.{row, IsAside, Aside}
 use Rattle.vx_laws.specs.Agrees.{as_stored, box_stands, device_title}
 use Rattle.vx_laws.specs.Boxes.{stored}
 use Rattle.vx_laws.specs.Items.{Item, Head, Did, Calling, later, latest_call}
-use Rattle.vx_laws.specs.Lives.{Life, life, lived, subject, is_about, device_name, named_in, or_earlier}
+use Rattle.vx_laws.specs.Lives.{Life, life, lived, subject, is_about, device_name, named_in}
 use Rattle.std.proofs.lemmas.Option.{same_Some}
 use Rattle.std.proofs.lemmas.List.Folds.{list_any_at}
 use Rattle.vx_laws.proofs.Calls.{IsElse}
+use Rattle.std.specs.Option.{option_or}
 
 -- How an id was opened: by which process and call, and on which device.
 pub record Origin : Type 0 where
@@ -245,7 +237,7 @@ devices_past [] past p n calm = refl
 devices_past (x ∷ xs) past p n calm = devices_past xs (Did x ∷ past) p n calm ∙ at x
   where
     at : (x : Effect) → device_name (Did x ∷ past) p n ≡ device_name past p n
-    at (effect.Var q v m) = either (λ (o : Option (List ℕ)). o ≡ device_name past p n) (is_same q p && (m == n)) _ _ (ap (λ (o : Option (List ℕ)). or_earlier o (device_name past p n)) calm) refl
+    at (effect.Var q v m) = either (λ (o : Option (List ℕ)). o ≡ device_name past p n) (is_same q p && (m == n)) _ _ (ap (λ (o : Option (List ℕ)). option_or o (device_name past p n)) calm) refl
     at x = refl
 
 pub aside_carried : (s t : State) (es : List Effect) (past : List Item) → Aside s es t → named_in (latest_call past) ≡ None → Carried s t past (later past (map Did es))

@@ -3,17 +3,9 @@ use Rattle.std.proofs.Common.{length-append, ◌<◌, ◌≢◌, ◌≡◌, ℕ,
 use Rattle.std.proofs.lemmas.List.{get_or_append_left}
 use Rattle.std.specs.List.{find}
 use Rattle.vx_base.specs.Modes.{outer, is_kernel, rank, inner}
-use Rattle.vx_base.specs.declared.call.Args.{Args}
-use Rattle.vx_base.specs.declared.call.Target.{Target}
-use Rattle.vx_base.specs.declared.cond.Cond.{Cond}
-use Rattle.vx_base.specs.declared.frame.Frame.{Frame}
-use Rattle.vx_base.specs.declared.frame.FrameKind.{FrameKind}
+use Rattle.vx_record.specs.Types.{Arg, Args, Cond, Effect, Entry, Frame, FrameKind, Mode, Pid, Service, Target}
 use Rattle.vx_base.specs.declared.frame.FrameKind.TheVariants as kind
 use Rattle.vx_base.specs.declared.frame.Wait.TheVariants as wait
-use Rattle.vx_base.specs.declared.mode.Mode.{Mode}
-use Rattle.vx_base.specs.declared.number.Pid.{Pid}
-use Rattle.vx_base.specs.declared.routine.Entry.{Entry}
-use Rattle.vx_base.specs.declared.service.Service.{Service}
 use Rattle.vx_base.specs.declared.service.Service.TheVariants.{SetEf, ClrEf, ReadEf, WaitFr, WflOr, WflAnd, AscEfc, DacEfc, DlcEfc, DclAst, SetAst, CmExec, CmKrnl, SetImr, CanTim, SchdWk, CanWak, Hiber, Wake, Suspnd, Resume, ForceX, CrePrc, DelPrc, Exit, DclExh, CanExh, Assign, Dassgn, CreMbx, DelMbx, Qio, QioW, Synch, Cancel, GetTim}
 use Rattle.vx_record.specs.State.{State, process_at, change, current, image_of, nobody, Process, IsProcess, next_id, past_id, top_mode, pid}
 use Rattle.vx_record.specs.Parts.{Part, Outcome, nothing, refused, refused_value, at_tested, part_of}
@@ -33,19 +25,17 @@ use Rattle.vx_record.proofs.Lists.{either, all_append}
 use Rattle.std.proofs.lemmas.Bool.{eqb-true}
 use Rattle.std.specs.Prelude.{option_map}
 use Rattle.vx_base.specs.Clusters.{dissociated, associated, marked, is_cluster, cluster_number}
-use Rattle.vx_base.specs.declared.effects.Effect.{Effect}
 use Rattle.vx_base.specs.declared.effects.Opened.TheVariants as opened
 use Rattle.vx_base.specs.declared.cond.Cond.TheVariants.{Normal, NonExpr, NoPriv}
 use Rattle.vx_base.specs.declared.mode.Mode.TheVariants.{User, Kernel, Exec, Super}
-use Rattle.vx_record.specs.Events.{without_top}
-use Rattle.vx_base.specs.declared.call.Arg.{Arg}
 use Rattle.vx_laws.specs.Agrees.{is_exit, IsEntry, is_main, entered_frames, AreEntries}
-use Rattle.vx_laws.specs.Frames.{Entry as Entered, Turn, Enters, Clears, Stays, below, after_turn, service_turn, turned_by}
+use Rattle.vx_laws.specs.Frames.{Entry as Entered, Turn, Enters, Clears, Stays, after_turn, service_turn, turned_by}
 use Rattle.vx_laws.proofs.Stands.{field_at}
 use Rattle.vx_record.proofs.Apart.{associated_only, dissociated_only, marked_at_only}
 use Rattle.vx_record.proofs.Steps.{test_made, left_after}
 use Rattle.vx_laws.proofs.Calm.{AreFrames, AreTagged, Calmed, Fine, IsBare, OutcomeCalm, PartCalm, Tags, Turned, assign_to_calm, at_flag_calm, at_tested_calm, by_turn, calm_none, calm_or, calm_then, cancel_channel_calm, cancel_handlers_calm, change_calm, change_tags, clusters_calm, crembx_calm, delmbx_calm, drop_handlers_calm, drop_timers_calm, flag_calm, free_channel_calm, handler_calm, held_at, is_exit_entry, is_fine, lists_calm, plain_calm, qio_calm, qiow_calm, que_calm, same, scheduled_calm, setimr_calm, still_made, waited_calm, waits_calm}
 use Rattle.vx_base.proofs.Bools.{either_same}
+use Rattle.vx_base.specs.Lists.{rest}
 
 -- Services that neither enter nor leave.
 
@@ -209,11 +199,11 @@ pub pushed_frames : (fs : List Frame) (l : List Entered) (f : Frame) (e : Entere
 pushed_frames [] l f e n k m h = (rw n (k, h.0), tt)
 pushed_frames (g ∷ gs) l f e n k m h = (rw n (k, h.0), (m, h.1))
 
-below_entries : (f : Frame) (rest : List Frame) (l : List Entered) → AreEntries (f ∷ rest) l → AreEntries rest (below l)
-below_entries f rest [] h = absurd h
-below_entries f rest (e ∷ l) h = h.1
+below_entries : (f : Frame) (fs : List Frame) (l : List Entered) → AreEntries (f ∷ fs) l → AreEntries fs (rest l)
+below_entries f fs [] h = absurd h
+below_entries f fs (e ∷ l) h = h.1
 
-pub popped_frames : (xs : List Frame) (f : Frame) (fs : List Frame) (l : List Entered) → xs ≡ f ∷ fs → is_main f.kind ≡ false → AreFrames xs l → AreFrames (without_top xs) (below l)
+pub popped_frames : (xs : List Frame) (f : Frame) (fs : List Frame) (l : List Entered) → xs ≡ f ∷ fs → is_main f.kind ≡ false → AreFrames xs l → AreFrames (rest xs) (rest l)
 popped_frames [] f fs l is n h = absurd (let never : [] ≡ f ∷ fs = is in cc)
 popped_frames (x ∷ []) f fs l is n h =
     let top : x ≡ f = (let yes : x ∷ [] ≡ f ∷ fs = is in cc) in

@@ -9,22 +9,16 @@ use Rattle.std.specs.List.{AllByRecursion, filter, list_any}
 use Rattle.std.specs.Prelude.{option_map}
 use Rattle.vx_laws.proofs.Cleared.{map_both}
 use Rattle.vx_base.specs.Clusters.{cluster_number}
-use Rattle.vx_base.specs.Pieces.{Promised, Request}
-use Rattle.vx_base.specs.declared.cond.Cond.{Cond}
+use Rattle.vx_record.specs.Types.{Cell, Cond, Effect, Id, Pid, Promised, Req, Request}
 use Rattle.vx_base.specs.declared.effects.Cell.TheVariants.{Common, Local}
-use Rattle.vx_base.specs.declared.effects.Cell.{Cell}
 use Rattle.vx_base.specs.declared.effects.Effect.TheVariants as effect
-use Rattle.vx_base.specs.declared.effects.Effect.{Effect}
-use Rattle.vx_base.specs.declared.number.Id.{Id}
-use Rattle.vx_base.specs.declared.number.Pid.{Pid}
-use Rattle.vx_base.specs.declared.request.Req.{Req}
 use Rattle.vx_laws.proofs.Calls.{Called, IsElse, Unasked, called_on, is_unasked, plain_unasked}
 use Rattle.vx_laws.proofs.Done.{finish_is, is_other, lives_called, tail_block, tail_flag, tail_of, tail_others}
 use Rattle.vx_laws.proofs.Kept.{later_both}
 use Rattle.vx_laws.proofs.Allowed.{finish_allowed}
 use Rattle.vx_laws.specs.Agrees.{AsCalled}
-use Rattle.vx_laws.specs.Items.{Did, Item, at_each, effects_left, later}
-use Rattle.vx_laws.specs.Lives.{life, lives}
+use Rattle.vx_laws.specs.Items.{Did, Item, at_each, effects_to_head, later}
+use Rattle.vx_laws.specs.Lives.{life}
 use Rattle.vx_laws.specs.StatusLaw.{is_flag, is_iosb, tells_call, tells_iosb, tells_set, to_next_fin}
 use Rattle.vx_laws.specs.StatusParts.{is_completion_told}
 use Rattle.vx_laws.specs.Values.{cell_by, cluster_by}
@@ -33,6 +27,7 @@ use Rattle.vx_record.specs.Finish.{Ending, buf_part, done_ast_part, done_flag_pa
 use Rattle.vx_record.specs.Flags.{cell, flag_part, flag_where_named}
 use Rattle.vx_record.specs.Parts.{Part, and_then, each, nothing}
 use Rattle.vx_record.specs.State.{State}
+use Rattle.vx_base.specs.Lists.{is_some_and}
 
 -- no status block is written and no flag is set before the first FIN
 abbrev pub Still : List Effect → Type 0
@@ -50,7 +45,7 @@ still_append (effect.Flag c on ∷ es) fs h k = absurd h
 still_append (x ∷ es) fs h k = still_append es fs h k
 
 abbrev pub Told : List Item → List Effect → Type 0
-Told past es = (more : List Item) → Still (effects_left more) → at_each is_completion_told (later past (map Did es)) more ≡ true → at_each is_completion_told past (map Did es ++ more) ≡ true
+Told past es = (more : List Item) → Still (effects_to_head more) → at_each is_completion_told (later past (map Did es)) more ≡ true → at_each is_completion_told past (map Did es ++ more) ≡ true
 
 -- what effects owe: nothing to the FIN before them, and all that their own FINs ask
 pub record Ends (past : List Item) (es : List Effect) : Type 0 where
@@ -58,14 +53,14 @@ pub record Ends (past : List Item) (es : List Effect) : Type 0 where
   pub unasked : Unasked es
   pub told : Told past es
 
-pub effects_left_more : (es : List Effect) (more : List Item) → effects_left (map Did es ++ more) ≡ es ++ effects_left more
+pub effects_left_more : (es : List Effect) (more : List Item) → effects_to_head (map Did es ++ more) ≡ es ++ effects_to_head more
 effects_left_more [] more = refl
 effects_left_more (x ∷ es) more = ap (λ (l : List Effect). x ∷ l) (effects_left_more es more)
 
 pub told_both : (past : List Item) (es fs : List Effect) → Told past es → Told (later past (map Did es)) fs → Still fs → Told past (es ++ fs)
 told_both past es fs h k still more s g =
     subst (λ (l : List Item). at_each is_completion_told past l ≡ true) (sym (map_both es fs more))
-    (h (map Did fs ++ more) (subst Still (sym (effects_left_more fs more)) (still_append fs (effects_left more) still s)) (k more s (subst (λ (q : List Item). at_each is_completion_told q more ≡ true) (later_both past es fs) g)))
+    (h (map Did fs ++ more) (subst Still (sym (effects_left_more fs more)) (still_append fs (effects_to_head more) still s)) (k more s (subst (λ (q : List Item). at_each is_completion_told q more ≡ true) (later_both past es fs) g)))
 
 pub ends_both : (past : List Item) (es fs : List Effect) → Ends past es → Ends (later past (map Did es)) fs → Ends past (es ++ fs)
 ends_both past es fs h k = record {
@@ -266,7 +261,7 @@ others_next (effect.Fin id c ∷ es) ys h = absurd (let never : false ≡ true =
 others_next (x ∷ es) ys h = ap (λ (l : List Effect). x ∷ l) (others_next es ys h.1)
 
 -- one FIN, with what its call names behind it
-fin_told : (s : State) (past : List Item) (r : Request) (e : Ending) (zs : List Effect) → Ready s past → AsCalled past r.req → NoneBehind zs → lives (λ l. tells_call past e.0.cond (tail_of s r e ++ zs) l.by) (life past r.req.id) ≡ true
+fin_told : (s : State) (past : List Item) (r : Request) (e : Ending) (zs : List Effect) → Ready s past → AsCalled past r.req → NoneBehind zs → is_some_and (λ l. tells_call past e.0.cond (tail_of s r e ++ zs) l.by) (life past r.req.id) ≡ true
 fin_told s past r e zs h k n =
     let q = option_map (λ a. r.req.id) r.ast in
     let reads = is_read r.req.func && nat_lt 0 e.0.count in
@@ -287,8 +282,8 @@ finish_ends s r e past h k =
       unasked = plain_unasked (finish s r e).effects (finish_allowed s r e);
       told = subst (Told past) (sym (finish_is s r e))
           (λ more still g.
-          let zs = to_next_fin (effects_left more) in
-          let next : to_next_fin (effects_left (map Did es ++ more)) ≡ es ++ zs = ap to_next_fin (effects_left_more es more) ∙ others_next es (effects_left more) others in
-          let first_right : is_completion_told past (Did x) (map Did es ++ more) ≡ true = rw next (fin_told s past r e zs h k (none_behind (effects_left more) still)) in
+          let zs = to_next_fin (effects_to_head more) in
+          let next : to_next_fin (effects_to_head (map Did es ++ more)) ≡ es ++ zs = ap to_next_fin (effects_left_more es more) ∙ others_next es (effects_to_head more) others in
+          let first_right : is_completion_told past (Did x) (map Did es ++ more) ≡ true = rw next (fin_told s past r e zs h k (none_behind (effects_to_head more) still)) in
           and_from _ _ first_right (others_told (Did x ∷ past) es more others g));
     }

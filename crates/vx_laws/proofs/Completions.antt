@@ -4,35 +4,19 @@ use Rattle.std.proofs.Common.{Bool, Err, List, None, Ok, Option, Result, Some, [
 use Rattle.std.proofs.lemmas.Bool.{and_from, and_parts}
 use Rattle.std.specs.List.{AllByRecursion}
 use Rattle.std.specs.Prelude.{Contains}
-use Rattle.vx_base.specs.Pieces.{Attention, Channel, Queued, Request, cleared}
+use Rattle.vx_record.specs.Types.{Answer, Args, Attention, Call, Cell, Channel, Cond, Device, Effect, Entry, Event, Frame, FrameKind, Pid, Queued, Rec, Request, Service, Stop, System, Wait}
+use Rattle.vx_base.specs.Pieces.{cleared}
 use Rattle.vx_base.specs.Queues.{front, in_service, is_served_by}
 use Rattle.vx_base.specs.Serving.{serve, settled}
-use Rattle.vx_base.specs.declared.call.Args.{Args}
-use Rattle.vx_base.specs.declared.call.Call.{Call}
-use Rattle.vx_base.specs.declared.cond.Cond.{Cond}
-use Rattle.vx_base.specs.declared.effects.Cell.{Cell}
 use Rattle.vx_base.specs.declared.effects.Effect.TheVariants as effect
-use Rattle.vx_base.specs.declared.effects.Effect.{Effect}
-use Rattle.vx_base.specs.declared.frame.Frame.{Frame}
 use Rattle.vx_base.specs.declared.frame.FrameKind.TheVariants as kind
-use Rattle.vx_base.specs.declared.frame.FrameKind.{FrameKind}
 use Rattle.vx_base.specs.declared.frame.Wait.TheVariants as wait
-use Rattle.vx_base.specs.declared.frame.Wait.{Wait}
-use Rattle.vx_base.specs.declared.number.Pid.{Pid}
 use Rattle.vx_base.specs.declared.record.Answer.TheVariants as answer
-use Rattle.vx_base.specs.declared.record.Answer.{Answer}
 use Rattle.vx_base.specs.declared.record.Event.TheVariants as event
-use Rattle.vx_base.specs.declared.record.Event.{Event}
-use Rattle.vx_base.specs.declared.record.Rec.{Rec}
 use Rattle.vx_base.specs.declared.request.Device.TheVariants as device
-use Rattle.vx_base.specs.declared.request.Device.{Device}
-use Rattle.vx_base.specs.declared.routine.Entry.{Entry}
 use Rattle.vx_base.specs.declared.service.Service.TheVariants as service
-use Rattle.vx_base.specs.declared.service.Service.{Service}
 use Rattle.vx_image.specs.Local.{advanced}
 use Rattle.vx_image.specs.declared.stop.Stop.TheVariants as stop
-use Rattle.vx_image.specs.declared.stop.Stop.{Stop}
-use Rattle.vx_image.specs.declared.system.System.{System}
 use Rattle.vx_laws.proofs.Answers.{every_run_enables_told}
 use Rattle.vx_record.proofs.Apart.{Here, cleared_after, here_after, opened_has}
 use Rattle.vx_laws.proofs.Asked.{calling_of, latest_headed, opened_called, step_called}
@@ -55,7 +39,7 @@ use Rattle.vx_laws.proofs.Stands.{Stands}
 use Rattle.vx_laws.proofs.Steps.{delivered_rank, delivered_some, first_tags, step_tags}
 use Rattle.vx_laws.proofs.Tells.{cell_held, every_run_flags_told, every_run_waits_due}
 use Rattle.vx_laws.specs.Agrees.{AsCalled}
-use Rattle.vx_laws.specs.Items.{Did, Head, Item, at_each, effects_left, flat, later, latest_call}
+use Rattle.vx_laws.specs.Items.{Did, Head, Item, at_each, effects_to_head, flat, later, latest_call}
 use Rattle.vx_laws.specs.StatusLaw.{answers_right, completes_right, is_block_cleared, is_enable_told, is_flag_told, is_status_right, is_wait_due, status}
 use Rattle.vx_laws.specs.StatusParts.{completions_told, is_completion_told, is_resumption_due}
 use Rattle.vx_laws.specs.Values.{cell_by}
@@ -84,7 +68,7 @@ use Rattle.vx_laws.proofs.Passing.{latest_over}
 abbrev RecordTold : List Item → Event → Outcome Answer → Type 0
 RecordTold past e o = (rs : List Rec) → at_each is_completion_told (later (Head e o.answer ∷ past) (map Did o.effects)) (flat rs) ≡ true → at_each is_completion_told (Head e o.answer ∷ past) (map Did o.effects ++ flat rs) ≡ true
 
-flat_still : (rs : List Rec) → Still (effects_left (flat rs))
+flat_still : (rs : List Rec) → Still (effects_to_head (flat rs))
 flat_still [] = tt
 flat_still (r ∷ rs) = tt
 

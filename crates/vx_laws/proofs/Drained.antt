@@ -1,13 +1,8 @@
 -- In every state a process that drains a mode has no frame, and nothing of that mode but requests; RDN, and runs.
 use Rattle.std.proofs.Common.{◌≡◌, ◌∙◌, ℕ, zero, suc, ◌-◌, ◌<◌, List, [], ◌∷◌, false, Option, None, refl, sym, ap, subst, arith, length, ⊎_elim}
 use Rattle.std.specs.Prelude.{Contains}
-use Rattle.vx_base.specs.Pieces.{Channel}
-use Rattle.vx_base.specs.declared.effects.Effect.{Effect}
-use Rattle.vx_base.specs.declared.frame.Phase.{Phase}
+use Rattle.vx_record.specs.Types.{Channel, Effect, Event, Mode, Phase, Pid}
 use Rattle.vx_base.specs.declared.frame.Phase.TheVariants as phase
-use Rattle.vx_base.specs.declared.mode.Mode.{Mode}
-use Rattle.vx_base.specs.declared.number.Pid.{Pid}
-use Rattle.vx_base.specs.declared.record.Event.{Event}
 use Rattle.vx_record.specs.Events.{step, enabled}
 use Rattle.vx_record.specs.State.{Process, State, IsProcess, process_at}
 use Rattle.vx_record.proofs.Base.{Base}

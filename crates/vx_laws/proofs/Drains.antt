@@ -1,14 +1,9 @@
 -- Rundown, for whatever it keeps until it enters a handler: one pass over modes and their handlers, once for all of that.
 use Rattle.std.proofs.Common.{append_assoc, List, None, Option, Some, [], ap, refl, subst, true, ◌++◌, ◌∷◌, ◌≡◌}
 use Rattle.std.specs.List.{find}
-use Rattle.vx_base.specs.Pieces.{Handler}
+use Rattle.vx_record.specs.Types.{Answer, Effect, Handler, Mode, Phase, Pid}
 use Rattle.vx_base.specs.declared.effects.Effect.TheVariants as effect
-use Rattle.vx_base.specs.declared.effects.Effect.{Effect}
 use Rattle.vx_base.specs.declared.frame.Phase.TheVariants as phase
-use Rattle.vx_base.specs.declared.frame.Phase.{Phase}
-use Rattle.vx_base.specs.declared.mode.Mode.{Mode}
-use Rattle.vx_base.specs.declared.number.Pid.{Pid}
-use Rattle.vx_base.specs.declared.record.Answer.{Answer}
 use Rattle.vx_record.proofs.Apart.{Here, here_after}
 use Rattle.vx_record.proofs.Fits.{field_same}
 use Rattle.vx_record.proofs.Told.{cancelled_in_moves, phase_silent, release_moves}

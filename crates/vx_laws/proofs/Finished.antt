@@ -4,21 +4,11 @@ use Rattle.std.specs.Prelude.{Contains, nat_le}
 use Rattle.std.specs.List.{AllByRecursion, list_all, list_any}
 use Rattle.std.proofs.lemmas.Bool.{and_parts, and_from, eq-eqb, cases_eq, leb-true, le-leb, false_from_ne_true, or_right, or_parts}
 use Rattle.std.specs.Cmp.{both_ways as same_bools}
-use Rattle.vx_base.specs.Pieces.{Request, Timer, Attention}
-use Rattle.vx_base.specs.declared.effects.Effect.{Effect}
+use Rattle.vx_record.specs.Types.{Answer, Attention, Effect, End, Event, Id, Phase, Pid, ProcDecl, Rec, Request, System, Timer}
 use Rattle.vx_base.specs.declared.effects.Effect.TheVariants as effect
-use Rattle.vx_base.specs.declared.frame.Phase.{Phase}
 use Rattle.vx_base.specs.declared.frame.Phase.TheVariants as phase
-use Rattle.vx_base.specs.declared.number.Id.{Id}
-use Rattle.vx_base.specs.declared.number.Pid.{Pid}
-use Rattle.vx_base.specs.declared.record.Answer.{Answer}
-use Rattle.vx_base.specs.declared.record.End.{End}
 use Rattle.vx_base.specs.declared.record.End.TheVariants.{Done, Hung, Limit}
-use Rattle.vx_base.specs.declared.record.Event.{Event}
 use Rattle.vx_base.specs.declared.record.Event.TheVariants as event
-use Rattle.vx_base.specs.declared.record.Rec.{Rec}
-use Rattle.vx_image.specs.declared.decl.ProcDecl.{ProcDecl}
-use Rattle.vx_image.specs.declared.system.System.{System}
 use Rattle.vx_record.specs.Charges.{is_same}
 use Rattle.vx_record.specs.Control.{is_deleted, is_deleted_phase}
 use Rattle.vx_record.specs.Events.{step, enabled, can_step_down}
@@ -33,7 +23,7 @@ use Rattle.vx_record.proofs.Allowed.{enabled_there}
 use Rattle.vx_record.proofs.Along.{first_base}
 use Rattle.vx_laws.specs.Items.{Item, Head, Did, flat, later, past_of}
 use Rattle.vx_laws.specs.Leftovers.{fins, is_open_of}
-use Rattle.vx_laws.specs.Lives.{Life, life, lives, is_open, is_request}
+use Rattle.vx_laws.specs.Lives.{Life, life, is_open, is_request}
 use Rattle.vx_laws.specs.RundownLaw.{is_gone}
 use Rattle.vx_laws.proofs.Calm.{Tags}
 use Rattle.vx_laws.proofs.Drained.{seat_phase}
@@ -54,6 +44,7 @@ use Rattle.vx_laws.proofs.Steps.{step_tags, first_tags}
 use Rattle.vx_laws.proofs.Turns.{later_items}
 use Rattle.vx_laws.proofs.Unowned.{open_seated, pid_of}
 use Rattle.vx_laws.proofs.Vacant.{every_run_down}
+use Rattle.vx_base.specs.Lists.{is_some_and}
 
 -- Who is deleted is gone in the records.
 
@@ -172,14 +163,14 @@ is_within s l = nat_le l.p.0 (length s.procs)
 owner_within : (s : State) (l : Life) (q : Pid) → IsProcess s q → is_same l.p q ≡ true → is_within s l ≡ true
 owner_within s l q made e = subst (λ (r : Pid). nat_le r.0 (length s.procs) ≡ true) (sym (pid_of l.p q e)) (le-leb q.0 (length s.procs) made.within)
 
-requests_within : (s : State) (past : List Item) → Base s → Stands s None past → AllByRecursion (λ r. lives (is_within s) (life past r.req.id) ≡ true) s.requests
-requests_within s past b g = all_weaker (λ (r : Request). RequestLives past r × IsProcess s r.req.p) (λ r. lives (is_within s) (life past r.req.id) ≡ true) (λ r k. lives_more 1 (request_life r) (is_within s) (life past r.req.id) (λ l x y. owner_within s l r.req.p k.1 (and_parts (is_same l.p r.req.p) _ y).0) k.0) s.requests (all_both (RequestLives past) (λ r. IsProcess s r.req.p) s.requests g.requests b.request_owners)
+requests_within : (s : State) (past : List Item) → Base s → Stands s None past → AllByRecursion (λ r. is_some_and (is_within s) (life past r.req.id) ≡ true) s.requests
+requests_within s past b g = all_weaker (λ (r : Request). RequestLives past r × IsProcess s r.req.p) (λ r. is_some_and (is_within s) (life past r.req.id) ≡ true) (λ r k. lives_more 1 (request_life r) (is_within s) (life past r.req.id) (λ l x y. owner_within s l r.req.p k.1 (and_parts (is_same l.p r.req.p) _ y).0) k.0) s.requests (all_both (RequestLives past) (λ r. IsProcess s r.req.p) s.requests g.requests b.request_owners)
 
-timers_within : (s : State) (past : List Item) → Base s → Stands s None past → AllByRecursion (λ t. lives (is_within s) (life past t.id) ≡ true) s.timers
-timers_within s past b g = all_weaker (λ (t : Timer). TimerLives past t × (IsProcess s t.p × Rattle.vx_record.proofs.Moves.IsAlarmMade s t.what)) (λ t. lives (is_within s) (life past t.id) ≡ true) (λ t k. lives_more 2 (timer_life t) (is_within s) (life past t.id) (λ l x y. owner_within s l t.p k.1.0 (and_parts (is_same l.p t.p) _ y).0) k.0) s.timers (all_both (TimerLives past) (λ t. IsProcess s t.p × Rattle.vx_record.proofs.Moves.IsAlarmMade s t.what) s.timers g.timers b.timer_owners)
+timers_within : (s : State) (past : List Item) → Base s → Stands s None past → AllByRecursion (λ t. is_some_and (is_within s) (life past t.id) ≡ true) s.timers
+timers_within s past b g = all_weaker (λ (t : Timer). TimerLives past t × (IsProcess s t.p × Rattle.vx_record.proofs.Moves.IsAlarmMade s t.what)) (λ t. is_some_and (is_within s) (life past t.id) ≡ true) (λ t k. lives_more 2 (timer_life t) (is_within s) (life past t.id) (λ l x y. owner_within s l t.p k.1.0 (and_parts (is_same l.p t.p) _ y).0) k.0) s.timers (all_both (TimerLives past) (λ t. IsProcess s t.p × Rattle.vx_record.proofs.Moves.IsAlarmMade s t.what) s.timers g.timers b.timer_owners)
 
-attention_within : (s : State) (past : List Item) → Base s → Stands s None past → AllByRecursion (λ a. lives (is_within s) (life past a.id) ≡ true) s.attention
-attention_within s past b g = all_weaker (λ (a : Attention). AttentionLives past a × IsProcess s a.p) (λ a. lives (is_within s) (life past a.id) ≡ true) (λ a k. lives_more 3 (attention_life a) (is_within s) (life past a.id) (λ l x y. owner_within s l a.p k.1 (and_parts (is_same l.p a.p) _ y).0) k.0) s.attention (all_both (AttentionLives past) (λ a. IsProcess s a.p) s.attention g.attention b.attention_owners)
+attention_within : (s : State) (past : List Item) → Base s → Stands s None past → AllByRecursion (λ a. is_some_and (is_within s) (life past a.id) ≡ true) s.attention
+attention_within s past b g = all_weaker (λ (a : Attention). AttentionLives past a × IsProcess s a.p) (λ a. is_some_and (is_within s) (life past a.id) ≡ true) (λ a k. lives_more 3 (attention_life a) (is_within s) (life past a.id) (λ l x y. owner_within s l a.p k.1 (and_parts (is_same l.p a.p) _ y).0) k.0) s.attention (all_both (AttentionLives past) (λ a. IsProcess s a.p) s.attention g.attention b.attention_owners)
 
 handler_within : (l : List Process) (i : ℕ) (id : Id) → list_any (this_handler id) (get_or l i nobody).handlers ≡ true → i < length l
 handler_within [] i id e = absurd (let never : false ≡ true = e in cc)
@@ -204,8 +195,8 @@ seat_within s past id l n b g is above some h =
     by_cond true x y f k e = f e
     by_cond false x y f k e = k e
 
-    told : lives (is_within s) (life past id) ≡ true → l.p.0 ≤ length s.procs
-    told e = leb-true l.p.0 (length s.procs) (sym (ap (lives (is_within s)) is) ∙ e)
+    told : is_some_and (is_within s) (life past id) ≡ true → l.p.0 ≤ length s.procs
+    told e = leb-true l.p.0 (length s.procs) (sym (ap (is_some_and (is_within s)) is) ∙ e)
 
 owner_made : (s : State) (past : List Item) (id : Id) (l : Life) → Base s → Stands s None past → Listed s None past → life past id ≡ Some l → 1 ≤ l.p.0 → is_open l ≡ true → IsProcess s l.p
 owner_made s past id l b g k is above e = record {
@@ -259,10 +250,10 @@ deleted_at [] i e = refl
 deleted_at (x ∷ xs) zero e = phase_deleted x.phase (and_parts (is_deleted x) (list_all is_deleted xs) e).0
 deleted_at (x ∷ xs) (suc i) e = deleted_at xs i (and_parts (is_deleted x) (list_all is_deleted xs) e).1
 
-pub done_open : (system : System) (recs : List Rec) (limit : ℕ) (id : Id) → IsRun system recs → end_after system recs limit ≡ Some Done → lives is_open (life (past_of recs) id) ≡ false
+pub done_open : (system : System) (recs : List Rec) (limit : ℕ) (id : Id) → IsRun system recs → end_after system recs limit ≡ Some Done → is_some_and is_open (life (past_of recs) id) ≡ false
 done_open system recs limit id run end = by_life (life (past_of recs) id) refl (owned_after system recs run id)
   where
-    by_life : (o : Option Life) → life (past_of recs) id ≡ o → IsOwnedLife o → lives is_open o ≡ false
+    by_life : (o : Option Life) → life (past_of recs) id ≡ o → IsOwnedLife o → is_some_and is_open o ≡ false
     by_life None is above = refl
     by_life (Some l) is above =
         false_from_ne_true (is_open l) (λ e.
@@ -271,13 +262,13 @@ done_open system recs limit id run end = by_life (life (past_of recs) id) refl (
         let made = owner_made s (past_of recs) id l k.base k.stands k.listed is above e in
         let all = done_deleted limit (length recs) (are_deleted s) (enabled s) end in
         let gone = k.told l.p made (deleted_at s.procs (l.p.0 - 1) all) in
-        let none : (is_open l && is_same l.p l.p) ≡ false = sym (ap (lives (is_open_of l.p)) is) ∙ gone_leave_nothing recs l.p id (every_run_ends_right system recs run) (every_run_down system recs run) gone in
+        let none : (is_open l && is_same l.p l.p) ≡ false = sym (ap (is_some_and (is_open_of l.p)) is) ∙ gone_leave_nothing recs l.p id (every_run_ends_right system recs run) (every_run_down system recs run) gone in
         let never : true ≡ false = sym (and_from (is_open l) (is_same l.p l.p) e (eq-eqb l.p.0 l.p.0 refl)) ∙ none in
         cc)
 
-closed_fins : (o : Option Life) → lives is_open o ≡ false → lives (λ l. is_request l.kind) o ≡ true → told_fins o ≡ 1
+closed_fins : (o : Option Life) → is_some_and is_open o ≡ false → is_some_and (λ l. is_request l.kind) o ≡ true → told_fins o ≡ 1
 closed_fins None h r = absurd (let never : false ≡ true = r in cc)
 closed_fins (Some l) h r = rw (r, (or_parts l.body l.routine h).0) refl
 
-pub done_finished : (system : System) (recs : List Rec) (limit : ℕ) (id : Id) → IsRun system recs → end_after system recs limit ≡ Some Done → lives (λ l. is_request l.kind) (life (past_of recs) id) ≡ true → fins (past_of recs) id ≡ 1
+pub done_finished : (system : System) (recs : List Rec) (limit : ℕ) (id : Id) → IsRun system recs → end_after system recs limit ≡ Some Done → is_some_and (λ l. is_request l.kind) (life (past_of recs) id) ≡ true → fins (past_of recs) id ≡ 1
 done_finished system recs limit id run end request = (records_whole recs (every_run_ends_right system recs run)).finished id ∙ closed_fins (life (past_of recs) id) (done_open system recs limit id run end) request

@@ -4,16 +4,10 @@ use Rattle.std.proofs.lemmas.Bool.{eqb-true, and_parts, and_from, false_from_ne_
 use Rattle.std.specs.List.{AllByRecursion, find}
 use Rattle.vx_base.specs.Channels.{channel_at, is_reached, reached_from, channels_of}
 use Rattle.vx_base.specs.Modes.{reaches}
-use Rattle.vx_base.specs.Pieces.{Channel, Handler, Request}
+use Rattle.vx_record.specs.Types.{Answer, Channel, Device, Effect, Handler, Mode, Phase, Pid, Request}
 use Rattle.vx_base.specs.declared.effects.Effect.TheVariants as effect
-use Rattle.vx_base.specs.declared.effects.Effect.{Effect}
 use Rattle.vx_base.specs.declared.frame.Phase.TheVariants as phase
-use Rattle.vx_base.specs.declared.frame.Phase.{Phase}
-use Rattle.vx_base.specs.declared.mode.Mode.{Mode}
-use Rattle.vx_base.specs.declared.number.Pid.{Pid}
-use Rattle.vx_base.specs.declared.record.Answer.{Answer}
 use Rattle.vx_base.specs.declared.request.Device.TheVariants as device
-use Rattle.vx_base.specs.declared.request.Device.{Device}
 use Rattle.vx_record.proofs.Lists.{either_by, all_weaker, all_both, none_passes}
 use Rattle.vx_record.proofs.SoundChannels.{is_on_box}
 use Rattle.vx_record.specs.Cancel.{is_request_on}

@@ -1,15 +1,10 @@
 -- One step of rundown, taken apart: it stops, or it goes on to the end, where its process is gone; no other process's phase changes.
 use Rattle.std.proofs.Common.{append_assoc, List, None, Option, Some, [], ap, get_or-set_other, refl, sym, subst, true, false, ◌++◌, ◌∷◌, ◌≡◌, ◌∙◌, ℕ, ◌-◌, arith}
 use Rattle.std.specs.List.{find}
-use Rattle.vx_base.specs.Pieces.{Handler}
+use Rattle.vx_record.specs.Types.{Answer, Effect, Handler, Mode, Phase, Pid}
 use Rattle.vx_base.specs.declared.effects.Effect.TheVariants as effect
-use Rattle.vx_base.specs.declared.effects.Effect.{Effect}
 use Rattle.vx_base.specs.declared.frame.Phase.TheVariants as phase
-use Rattle.vx_base.specs.declared.frame.Phase.{Phase}
-use Rattle.vx_base.specs.declared.mode.Mode.{Mode}
 use Rattle.vx_base.specs.declared.mode.Mode.TheVariants.{Kernel, Exec, Super, User}
-use Rattle.vx_base.specs.declared.number.Pid.{Pid}
-use Rattle.vx_base.specs.declared.record.Answer.{Answer}
 use Rattle.vx_record.proofs.Apart.{Here, here_after}
 use Rattle.vx_record.proofs.Fits.{field_same}
 use Rattle.vx_record.proofs.Freeing.{phase_at}

@@ -9,42 +9,20 @@ use Rattle.vx_base.proofs.Lists.{not_some, none_there, alike_at}
 use Rattle.vx_base.proofs.First.{found_passes, amend_found}
 use Rattle.vx_base.specs.Channels.{channel_at}
 use Rattle.vx_base.specs.Cond.{number_of}
-use Rattle.vx_base.specs.Lists.{amend}
+use Rattle.vx_base.specs.Lists.{amend, is_some_and}
 use Rattle.vx_base.specs.Modes.{outer}
-use Rattle.vx_base.specs.Pieces.{Queued, Channel, Request, Mailbox}
+use Rattle.vx_record.specs.Types.{Answer, Args, BoxNo, Call, Cell, Channel, Cond, Device, Effect, Event, Frame, FrameKind, Mailbox, Mode, Msg, Pid, ProcDecl, Queued, Rec, Request, Service, Stop, System, Target, UnitNo, Wait}
 use Rattle.vx_base.specs.Queues.{front, in_service, is_served_by, waits_for, is_unit}
 use Rattle.vx_base.specs.Serving.{serve, settled}
-use Rattle.vx_base.specs.declared.call.Args.{Args}
-use Rattle.vx_base.specs.declared.call.Call.{Call}
-use Rattle.vx_base.specs.declared.call.Target.{Target}
-use Rattle.vx_base.specs.declared.cond.Cond.{Cond}
-use Rattle.vx_base.specs.declared.effects.Cell.{Cell}
 use Rattle.vx_base.specs.declared.effects.Effect.TheVariants as effect
-use Rattle.vx_base.specs.declared.effects.Effect.{Effect}
-use Rattle.vx_base.specs.declared.frame.Frame.{Frame}
-use Rattle.vx_base.specs.declared.frame.FrameKind.{FrameKind}
 use Rattle.vx_base.specs.declared.frame.FrameKind.TheVariants as kind
 use Rattle.vx_base.specs.declared.frame.Wait.TheVariants as wait
-use Rattle.vx_base.specs.declared.frame.Wait.{Wait}
-use Rattle.vx_base.specs.declared.mode.Mode.{Mode}
-use Rattle.vx_base.specs.declared.number.BoxNo.{BoxNo}
-use Rattle.vx_base.specs.declared.number.Pid.{Pid}
-use Rattle.vx_base.specs.declared.number.UnitNo.{UnitNo}
 use Rattle.vx_base.specs.declared.record.Answer.TheVariants as answer
-use Rattle.vx_base.specs.declared.record.Answer.{Answer}
 use Rattle.vx_base.specs.declared.record.Event.TheVariants as event
-use Rattle.vx_base.specs.declared.record.Event.{Event}
-use Rattle.vx_base.specs.declared.record.Rec.{Rec}
 use Rattle.vx_base.specs.declared.request.Device.TheVariants as device
-use Rattle.vx_base.specs.declared.request.Device.{Device}
-use Rattle.vx_base.specs.declared.request.Msg.{Msg}
 use Rattle.vx_base.specs.declared.service.Service.TheVariants as service
-use Rattle.vx_base.specs.declared.service.Service.{Service}
 use Rattle.vx_image.specs.Local.{advanced}
-use Rattle.vx_image.specs.declared.decl.ProcDecl.{ProcDecl}
 use Rattle.vx_image.specs.declared.stop.Stop.TheVariants as stop
-use Rattle.vx_image.specs.declared.stop.Stop.{Stop}
-use Rattle.vx_image.specs.declared.system.System.{System}
 use Rattle.vx_record.proofs.Ground.{at_set}
 use Rattle.vx_record.proofs.Lists.{either, either_by, all_find, ordered_amend, all_weaker, all_get}
 use Rattle.vx_record.proofs.SoundRequests.{tested_channel}
@@ -89,7 +67,7 @@ use Rattle.vx_laws.proofs.Withdrawn.{cancel_channel_walk, cancel_channel_clear, 
 use Rattle.vx_laws.specs.Agrees.{as_stored, device_title, OfChannelCall, box_stands}
 use Rattle.vx_laws.specs.Boxes.{stored}
 use Rattle.vx_laws.specs.Items.{Item, Head, Did, flat, later, past_of, latest_call, at_each}
-use Rattle.vx_laws.specs.Lives.{life, lives, named_in, Life, names_device}
+use Rattle.vx_laws.specs.Lives.{life, named_in, Life, names_device}
 use Rattle.vx_laws.specs.MessageLaw.{handles_messages, messages, is_stored_nowhere}
 use Rattle.vx_laws.proofs.Courses.{uses_channels}
 use Rattle.vx_laws.proofs.Quotas.{effects_left_is}
@@ -412,7 +390,7 @@ don_serving s past u (Some r) is g =
     let h = still_boxed s t (x ∷ past) k (head_boxed s past (event.Don u) (answer.Unit r.req.id) g.boxed) in
     let unit = on_unit u r.req.device (and_parts (is_unit u r.req.device) r.served (found_passes (is_served_by u) s.requests r is)).0 in
     let root = all_find (Rooted t (x ∷ past)) (is_served_by u) s.requests r h.requests is in
-    let may : MayFin (x ∷ past) r.req.id e.0.cond = or_right _ (lives (is_stored_nowhere (x ∷ past) r.req.id) (life (x ∷ past) r.req.id)) (unit_nowhere t (x ∷ past) r unit.0 unit.1 root h) in
+    let may : MayFin (x ∷ past) r.req.id e.0.cond = or_right _ (is_some_and (is_stored_nowhere (x ∷ past) r.req.id) (life (x ∷ past) r.req.id)) (unit_nowhere t (x ∷ past) r unit.0 unit.1 root h) in
     let w = finish_walk t (x ∷ past) r e [] refl may h in
     record { boxed = w.boxed; lawful = w.lawful; single = single_on t (finish t r e).after w.fewer g.single }
 

@@ -3,21 +3,12 @@
 use mathlib.Core.Bool.{or-true}
 use Rattle.std.proofs.Common.{◌≡◌, ℕ, List, [], ◌∷◌, Bool, true, false, not, ◌==◌, ◌&&◌, nat_lt, length, Option, Some, None, Result, Ok, Err, refl, ◌++◌, sym, ap, subst, append-nil}
 use Rattle.std.specs.List.{filter, find, list_any}
-use Rattle.vx_base.specs.Pieces.{Channel, Request, Promised, Status, cleared}
-use Rattle.vx_base.specs.declared.cond.Cond.{Cond}
+use Rattle.vx_record.specs.Types.{Body, BoxNo, Cell, Channel, Cond, Device, Effect, Entry, Func, Id, Msg, Pid, Promised, Req, Request, Status, Wait}
+use Rattle.vx_base.specs.Pieces.{cleared}
 use Rattle.vx_base.specs.declared.cond.Cond.TheVariants.{Cancel as Cancelled, EndOfFile}
-use Rattle.vx_base.specs.declared.effects.Cell.{Cell}
-use Rattle.vx_base.specs.declared.frame.Wait.{Wait}
 use Rattle.vx_base.specs.declared.frame.Wait.TheVariants as wait
-use Rattle.vx_base.specs.declared.number.BoxNo.{BoxNo}
-use Rattle.vx_base.specs.declared.number.Pid.{Pid}
-use Rattle.vx_base.specs.declared.request.Device.{Device}
 use Rattle.vx_base.specs.declared.request.Device.TheVariants as device
-use Rattle.vx_base.specs.declared.request.Func.{Func}
 use Rattle.vx_base.specs.declared.request.Func.TheVariants.{ReadAttn, WrtAttn}
-use Rattle.vx_base.specs.declared.request.Msg.{Msg}
-use Rattle.vx_base.specs.declared.request.Req.{Req}
-use Rattle.vx_base.specs.declared.routine.Entry.{Entry}
 use Rattle.vx_record.specs.State.{State}
 use Rattle.vx_record.specs.Parts.{Part, each, part_if, and_then}
 use Rattle.vx_record.specs.Charges.{is_direct, is_attention}
@@ -27,13 +18,10 @@ use Rattle.vx_record.specs.Mailboxes.{mailbox_at, is_waiting_func, waits_at, mpu
 use Rattle.vx_record.specs.Requests.{Asked, new_request, opened_request, begun_on, transfer, new_attention, attention_opened, done_at_once, attention_on, asked_of, accepted, qio_tested, qiow_tested}
 use Rattle.vx_record.proofs.Lists.{either, all_append}
 use Rattle.std.proofs.lemmas.Bool.{eqb-true, or_right, or_left, eq-eqb}
-use Rattle.vx_base.specs.declared.effects.Effect.{Effect}
 use Rattle.vx_base.specs.declared.effects.Effect.TheVariants as effect
-use Rattle.vx_base.specs.declared.number.Id.{Id}
-use Rattle.vx_laws.specs.Items.{Item, Did, effects_before, latest_call, is_cond, is_id}
+use Rattle.vx_laws.specs.Items.{Item, Did, effects_to_head, latest_call, is_cond, is_id}
 use Rattle.vx_laws.proofs.Calm.{is_fine, Fine}
 use Rattle.vx_laws.specs.Once.{ends_where, is_requesting, moves, is_done_first}
-use Rattle.vx_base.specs.declared.request.Body.{Body}
 use Rattle.vx_base.specs.declared.request.Body.TheVariants as body
 use Rattle.vx_base.proofs.First.{found_passes}
 
@@ -125,11 +113,11 @@ has_onto : (id : Id) (before es : List Effect) → Has id before → Has id (ont
 has_onto id before [] h = h
 has_onto id before (x ∷ xs) h = has_onto id (x ∷ before) xs (has_more id x before h)
 
-moved_one : (past : List Item) (x : Effect) → is_requesting (latest_call past) ≡ true → IsMoved (effects_before past) x → (rest : List Item) → ends_where past (Did x) rest ≡ true
+moved_one : (past : List Item) (x : Effect) → is_requesting (latest_call past) ≡ true → IsMoved (effects_to_head past) x → (rest : List Item) → ends_where past (Did x) rest ≡ true
 moved_one past (effect.Fin id c) asks k rest = rw (k.0, asks, k.1) (or-true (is_done_first past id))
 moved_one past x asks k rest = refl
 
-pub moved_where : (past : List Item) (es : List Effect) → is_requesting (latest_call past) ≡ true → AllMoved (effects_before past) es → AllWhere past es
+pub moved_where : (past : List Item) (es : List Effect) → is_requesting (latest_call past) ≡ true → AllMoved (effects_to_head past) es → AllWhere past es
 moved_where past [] asks k = tt
 moved_where past (x ∷ xs) asks k = (moved_one past x asks k.0, moved_where (Did x ∷ past) xs asks k.1)
 

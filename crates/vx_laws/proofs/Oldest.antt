@@ -5,12 +5,9 @@ use Rattle.std.proofs.lemmas.Slice.Eq.{bytes_eq-Decides}
 use Rattle.std.specs.List.{AllByRecursion, find, list_any}
 use Rattle.std.specs.Prelude.{option_map, bytes_eq}
 use Rattle.std.specs.Cmp.{both_ways as same_bools}
-use Rattle.vx_base.specs.Pieces.{Request, Mailbox}
+use Rattle.vx_record.specs.Types.{BoxNo, Device, Id, Mailbox, Request}
 use Rattle.vx_base.specs.declared.effects.Effect.TheVariants as effect
-use Rattle.vx_base.specs.declared.number.BoxNo.{BoxNo}
-use Rattle.vx_base.specs.declared.number.Id.{Id}
 use Rattle.vx_base.specs.declared.request.Device.TheVariants as device
-use Rattle.vx_base.specs.declared.request.Device.{Device}
 use Rattle.vx_record.proofs.Lists.{either_by, all_weaker, all_from, all_find, none_passes, all_both, none_any, found_any}
 use Rattle.vx_record.specs.Channels.{is_unit_of}
 use Rattle.vx_record.specs.Finish.{this_request}
@@ -24,9 +21,10 @@ use Rattle.vx_laws.proofs.Passing.{mailbox_is}
 use Rattle.vx_laws.specs.Agrees.{device_title}
 use Rattle.vx_laws.specs.Boxes.{is_at, asks, reads_at, oldest_read}
 use Rattle.vx_laws.specs.Items.{Item, Head, Did}
-use Rattle.vx_laws.specs.Lives.{Life, life, lives, highest, is_outstanding, least_id, id_of}
+use Rattle.vx_laws.specs.Lives.{Life, life, highest, is_outstanding, least_id, id_of}
 use Rattle.vx_base.proofs.First.{found_passes}
 use Rattle.std.proofs.lemmas.List.Folds.{list_any_at}
+use Rattle.vx_base.specs.Lists.{is_some_and}
 
 -- The least id that passes.
 
@@ -85,10 +83,10 @@ any_with p P (x ∷ xs) e h = at (p x) refl (λ k. any_with p P xs k h.1) e
     at true is f k = (x, is, h.0)
     at false is f k = f k
 
-reads_is : (s : State) (past : List Item) (b : BoxNo) (box : Mailbox) (r : Request) → box_at s b ≡ Some box → Rooted s past r → lives is_outstanding (life past r.req.id) ≡ true → Boxed s past → lives (reads_at box.name) (life past r.req.id) ≡ waits_at b r
+reads_is : (s : State) (past : List Item) (b : BoxNo) (box : Mailbox) (r : Request) → box_at s b ≡ Some box → Rooted s past r → is_some_and is_outstanding (life past r.req.id) ≡ true → Boxed s past → is_some_and (reads_at box.name) (life past r.req.id) ≡ waits_at b r
 reads_is s past b box r is root out h = by_life (life past r.req.id) root.is out
   where
-    by_life : (o : Option Life) → option_map origin o ≡ Some (record { p = r.req.p; by = Some root.call; device = Some (device_title s r.req.device) }) → lives is_outstanding o ≡ true → lives (reads_at box.name) o ≡ waits_at b r
+    by_life : (o : Option Life) → option_map origin o ≡ Some (record { p = r.req.p; by = Some root.call; device = Some (device_title s r.req.device) }) → is_some_and is_outstanding o ≡ true → is_some_and (reads_at box.name) o ≡ waits_at b r
     by_life None e k = absurd (let never : false ≡ true = k in cc)
     by_life (Some l) e k =
         let g : Origin = record { p = r.req.p; by = Some root.call; device = Some (device_title s r.req.device) } in
@@ -113,19 +111,19 @@ first_of_all p low high (x ∷ xs) r o e = at (p x) refl (λ k. first_of_all p (
     at false is f k = ((λ t. absurd (both_ways (p x) is t)), f k)
 
 abbrev test_of : List Item → Mailbox → Id → Bool
-test_of past box id = lives (reads_at box.name) (life past id)
+test_of past box id = is_some_and (reads_at box.name) (life past id)
 
 abbrev SameAs : State → List Item → BoxNo → Mailbox → Request → Type 0
 SameAs s past b box r = (test_of past box r.req.id ≡ waits_at b r) × Rooted s past r
 
-pub oldest_is : (s : State) (past : List Item) (b : BoxNo) (box : Mailbox) → box_at s b ≡ Some box → Base s → ((id : Id) → list_any (this_request id) s.requests ≡ lives is_outstanding (life past id)) → Boxed s past →
+pub oldest_is : (s : State) (past : List Item) (b : BoxNo) (box : Mailbox) → box_at s b ≡ Some box → Base s → ((id : Id) → list_any (this_request id) s.requests ≡ is_some_and is_outstanding (life past id)) → Boxed s past →
     oldest_read past box.name ≡ option_map (λ (x : Request). x.req.id) (find (waits_at b) s.requests)
 oldest_is s past b box is base listed h = by_first (find (waits_at b) s.requests) refl
   where
     opened_here : (id : Id) → (test_of past box) id ≡ true → list_any (this_request id) s.requests ≡ true
     opened_here id e = listed id ∙ out (life past id) e
       where
-        out : (o : Option Life) → lives (reads_at box.name) o ≡ true → lives is_outstanding o ≡ true
+        out : (o : Option Life) → is_some_and (reads_at box.name) o ≡ true → is_some_and is_outstanding o ≡ true
         out None k = k
         out (Some l) k = (and_parts (is_outstanding l) _ k).0
 

@@ -4,20 +4,12 @@ use Rattle.std.proofs.Common.{Bool, List, None, Option, Some, [], false, map, no
 use Rattle.std.specs.List.{filter, find, list_any}
 use Rattle.vx_base.specs.Channels.{channel_at, channels_of}
 use Rattle.vx_base.specs.Clusters.{dissociated}
-use Rattle.vx_base.specs.Pieces.{Attention, Channel, Request, Timer}
+use Rattle.vx_record.specs.Types.{Attention, BoxNo, Channel, Device, Effect, Func, Id, Mode, Msg, Pid, Request, Timer}
 use Rattle.vx_base.specs.declared.cond.Cond.TheVariants.{Cancel as Cancelled, EndOfFile}
 use Rattle.vx_base.specs.declared.effects.Effect.TheVariants as effect
-use Rattle.vx_base.specs.declared.effects.Effect.{Effect}
 use Rattle.vx_base.specs.declared.frame.Phase.TheVariants as phase
-use Rattle.vx_base.specs.declared.mode.Mode.{Mode}
-use Rattle.vx_base.specs.declared.number.BoxNo.{BoxNo}
-use Rattle.vx_base.specs.declared.number.Id.{Id}
-use Rattle.vx_base.specs.declared.number.Pid.{Pid}
 use Rattle.vx_base.specs.declared.request.Device.TheVariants as device
-use Rattle.vx_base.specs.declared.request.Device.{Device}
 use Rattle.vx_base.specs.declared.request.Func.TheVariants.{ReadAttn, WrtAttn}
-use Rattle.vx_base.specs.declared.request.Func.{Func}
-use Rattle.vx_base.specs.declared.request.Msg.{Msg}
 use Rattle.vx_record.proofs.Apart.{dissociated_only}
 use Rattle.vx_record.proofs.Base.{Base, moves_keep}
 use Rattle.vx_laws.proofs.Calls.{Called, moves_called}

@@ -4,18 +4,11 @@ use Rattle.std.proofs.lemmas.List.{append_assoc}
 use Rattle.std.proofs.lemmas.Slice.Eq.{bytes_eq-Decides}
 use Rattle.std.specs.List.{AllByRecursion, list_any}
 use Rattle.std.specs.Prelude.{option_map, ⊤}
-use Rattle.vx_base.specs.Lists.{less}
-use Rattle.vx_base.specs.Pieces.{Request, Promised, Mailbox}
+use Rattle.vx_base.specs.Lists.{less, is_some_and}
+use Rattle.vx_record.specs.Types.{BoxNo, Cond, Effect, Id, Mailbox, Msg, Pid, Promised, Request, UnitNo}
 use Rattle.vx_base.specs.declared.cond.Cond.TheVariants.{Cancel as Cancelled}
-use Rattle.vx_base.specs.declared.cond.Cond.{Cond}
 use Rattle.vx_base.specs.declared.effects.Effect.TheVariants as effect
-use Rattle.vx_base.specs.declared.effects.Effect.{Effect}
-use Rattle.vx_base.specs.declared.number.BoxNo.{BoxNo}
-use Rattle.vx_base.specs.declared.number.Id.{Id}
-use Rattle.vx_base.specs.declared.number.Pid.{Pid}
-use Rattle.vx_base.specs.declared.number.UnitNo.{UnitNo}
 use Rattle.vx_base.specs.declared.request.Device.TheVariants as device
-use Rattle.vx_base.specs.declared.request.Msg.{Msg}
 use Rattle.vx_record.proofs.Lists.{either, either_by, all_less, ordered_below, ordered_less}
 use Rattle.vx_record.specs.Asts.{charged_ast}
 use Rattle.vx_record.specs.Channels.{is_box_of, is_unit_of}
@@ -30,15 +23,15 @@ use Rattle.vx_laws.proofs.Boxed.{any_index, Origin, origin, origin_on, IsThere, 
 use Rattle.vx_laws.proofs.Kept.{later_both}
 use Rattle.vx_laws.specs.Agrees.{as_stored, device_title}
 use Rattle.vx_laws.specs.Boxes.{this_stored, stored}
-use Rattle.vx_laws.specs.Items.{Item, Did, Calling, later, latest_call, effects_left, is_cond}
-use Rattle.vx_laws.specs.Lives.{Life, life, lives, named_in}
+use Rattle.vx_laws.specs.Items.{Item, Did, Calling, later, latest_call, effects_to_head, is_cond}
+use Rattle.vx_laws.specs.Lives.{Life, life, named_in}
 use Rattle.vx_laws.specs.MessageLaw.{handles_messages, is_stored_nowhere}
 use Rattle.std.proofs.lemmas.Bool.{false_from_ne_true, or_right, both_ways}
 use Rattle.std.proofs.lemmas.List.Folds.{list_any_at}
 
 -- An effect is as the law asks, by what is left of its record.
 abbrev pub Right : List Item → Effect → List Effect → Type 0
-Right past x left = (rest : List Item) → effects_left rest ≡ left → handles_messages past (Did x) rest ≡ true
+Right past x left = (rest : List Item) → effects_to_head rest ≡ left → handles_messages past (Did x) rest ≡ true
 
 abbrev pub Lawful : List Item → List Effect → List Effect → Type 0
 Lawful past [] more = ⊤
@@ -156,7 +149,7 @@ finish_rest s r e =
 
 -- a FIN may stand here
 abbrev pub MayFin : List Item → Id → Cond → Type 0
-MayFin past id c = (not (is_cond c Cancelled) || lives (is_stored_nowhere past id) (life past id)) ≡ true
+MayFin past id c = (not (is_cond c Cancelled) || is_some_and (is_stored_nowhere past id) (life past id)) ≡ true
 
 pub fin_boxed : (s : State) (past : List Item) (id : Id) (c : Cond) → Boxed s past → Boxed (fin_part s id c).after (Did (effect.Fin id c) ∷ past)
 fin_boxed s past id c h =
@@ -188,11 +181,11 @@ found_walk s past (Some r) e more calm other h = finish_walk s past r e more cal
 
 -- What a life tells of its origin.
 
-pub lives_origin : (P : Life → Bool) (g : Origin) (o : Option Life) → option_map origin o ≡ Some g → ((l : Life) → origin l ≡ g → P l ≡ true) → lives P o ≡ true
+pub lives_origin : (P : Life → Bool) (g : Origin) (o : Option Life) → option_map origin o ≡ Some g → ((l : Life) → origin l ≡ g → P l ≡ true) → is_some_and P o ≡ true
 lives_origin P g None e k = absurd (let never : None ≡ Some g = e in cc)
 lives_origin P g (Some l) e k = k l (let same : Some (origin l) ≡ Some g = e in cc)
 
-pub lives_owner : (P : Life → Bool) (p : Pid) (o : Option Life) → option_map (λ x. x.p) (option_map origin o) ≡ Some p → ((l : Life) → l.p ≡ p → P l ≡ true) → lives P o ≡ true
+pub lives_owner : (P : Life → Bool) (p : Pid) (o : Option Life) → option_map (λ x. x.p) (option_map origin o) ≡ Some p → ((l : Life) → l.p ≡ p → P l ≡ true) → is_some_and P o ≡ true
 lives_owner P p None e k = absurd (let never : None ≡ Some p = e in cc)
 lives_owner P p (Some l) e k = k l (let same : Some l.p ≡ Some p = e in cc)
 

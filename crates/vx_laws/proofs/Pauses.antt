@@ -4,30 +4,17 @@ use Rattle.std.proofs.lemmas.Bool.{eq-eqb, eqb-true, ltb-false, or_parts}
 use Rattle.std.proofs.lemmas.List.{get_or_default}
 use Rattle.vx_base.specs.Cond.{number_of}
 use Rattle.vx_base.specs.Modes.{inner}
-use Rattle.vx_base.specs.Pieces.{Channel, Queued}
-use Rattle.vx_base.specs.declared.call.Args.{Args}
-use Rattle.vx_base.specs.declared.call.Call.{Call}
+use Rattle.vx_record.specs.Types.{Answer, Args, Call, Cell, Channel, Cond, Entry, Event, Frame, FrameKind, Pid, Queued, Service, Stop, Wait}
 use Rattle.vx_base.specs.declared.cond.Cond.TheVariants.{BadParam, IllEfc, NoPriv, Normal, UnasEfc}
-use Rattle.vx_base.specs.declared.cond.Cond.{Cond}
-use Rattle.vx_base.specs.declared.effects.Cell.{Cell}
-use Rattle.vx_base.specs.declared.frame.Frame.{Frame}
 use Rattle.vx_base.specs.declared.frame.FrameKind.TheVariants as kind
-use Rattle.vx_base.specs.declared.frame.FrameKind.{FrameKind}
 use Rattle.vx_base.specs.declared.frame.Wait.TheVariants as wait
-use Rattle.vx_base.specs.declared.frame.Wait.{Wait}
 use Rattle.vx_base.specs.declared.mode.Mode.TheVariants.{Exec, Kernel}
-use Rattle.vx_base.specs.declared.number.Pid.{Pid}
 use Rattle.vx_base.specs.declared.record.Answer.TheVariants as answer
-use Rattle.vx_base.specs.declared.record.Answer.{Answer}
 use Rattle.vx_base.specs.declared.record.Event.TheVariants as event
-use Rattle.vx_base.specs.declared.record.Event.{Event}
 use Rattle.vx_base.specs.declared.routine.Entry.TheVariants as entry
-use Rattle.vx_base.specs.declared.routine.Entry.{Entry}
 use Rattle.vx_base.specs.declared.service.Service.TheVariants as service
-use Rattle.vx_base.specs.declared.service.Service.{Service}
 use Rattle.vx_image.specs.Local.{advanced}
 use Rattle.vx_image.specs.declared.stop.Stop.TheVariants as stop
-use Rattle.vx_image.specs.declared.stop.Stop.{Stop}
 use Rattle.vx_record.proofs.Apart.{Here, here_after}
 use Rattle.vx_record.proofs.Steps.{test_made, left_after}
 use Rattle.vx_record.proofs.Told.{accepted_after}
@@ -38,7 +25,7 @@ use Rattle.vx_laws.proofs.Events.{some_moved, start_turn, turn_is}
 use Rattle.vx_laws.proofs.Kept.{made_on}
 use Rattle.vx_record.proofs.Locals.{advanced_statuses}
 use Rattle.vx_record.proofs.Moves.{Moves, moved}
-use Rattle.vx_laws.specs.Frames.{Clears, Enters, Returns, Stays, Turn, ast_turn, below, turn, turned, turned_by, with_first}
+use Rattle.vx_laws.specs.Frames.{Clears, Enters, Returns, Stays, Turn, ast_turn, turn, turned, turned_by, with_first}
 use Rattle.vx_laws.specs.Items.{Item}
 use Rattle.vx_laws.specs.Lives.{life}
 use Rattle.vx_laws.specs.Values.{wait_for, wait_of}
@@ -46,7 +33,7 @@ use Rattle.vx_record.proofs.Lists.{either, either_by}
 use Rattle.vx_record.specs.Asts.{is_inside, new_frame, with_frame}
 use Rattle.vx_record.specs.Charges.{is_same}
 use Rattle.vx_record.specs.Control.{named_process, process_test, with_wake}
-use Rattle.vx_record.specs.Events.{below_top, delivered, moved_behind, moved_to, or_normal, put_back, r0_of, reader, resumed_with, returned, returned_from, run, run_frame, run_on, served_call, started, with_r0, without_top}
+use Rattle.vx_record.specs.Events.{below_top, delivered, moved_behind, moved_to, or_normal, put_back, r0_of, reader, resumed_with, returned, returned_from, run, run_frame, run_on, served_call, started, with_r0}
 use Rattle.vx_record.specs.Flags.{at_flag, at_named, awaited_at, cell, refused_wait, wait_condition, waits_on, with_wait}
 use Rattle.vx_record.specs.Parts.{Outcome, at_tested}
 use Rattle.vx_record.specs.Requests.{Asked, accepted, is_bad, qiow_tested, request_test}
@@ -56,11 +43,12 @@ use Rattle.vx_record.specs.State.{IsProcess, Process, State, change, current, im
 use Rattle.vx_record.specs.declared.served.Served.TheVariants.{Answered, Waits}
 use Rattle.vx_record.specs.declared.served.Served.{Served}
 use Rattle.vx_base.proofs.Bools.{either_same, by_bool}
+use Rattle.vx_base.specs.Lists.{rest}
 
 -- what a turn makes of waits
 abbrev pub shifted : Turn → List (Option Wait) → List (Option Wait)
 shifted (Enters e) ws = None ∷ ws
-shifted Returns ws = below ws
+shifted Returns ws = rest ws
 shifted Clears ws = []
 shifted Stays ws = ws
 
@@ -222,15 +210,15 @@ served_waits past s p c o Waits h = record { waits = h.waits; fit = h.fit }
 run_turned : (past : List Item) (s : State) (p : Pid) (a : Answer) (f : Process → Process) (g : List (Option Wait) → List (Option Wait)) → turned (event.Run p) a ≡ p → ((ws : List (Option Wait)) → heard a (shifted (turn past (event.Run p) a) ws) ≡ g ws) → AnswerFits a → IsProcess s p → waits_of (f (process_at s p)).frames ≡ g (waits_of (process_at s p).frames) → EventWaits past s (event.Run p) a (change s p f)
 run_turned past s p a f g who is fit made e = record { waits = λ q above. turn_change s p f g made e q above ∙ rw (who, is (frame_waits s q)) refl; fit = fit }
 
-top_below : (fs : List Frame) → waits_of (without_top fs) ≡ below (waits_of fs)
+top_below : (fs : List Frame) → waits_of (rest fs) ≡ rest (waits_of fs)
 top_below [] = refl
 top_below (f ∷ fs) = refl
 
 from_waits : (past : List Item) (s : State) (p : Pid) (f : Frame) (k : FrameKind) → IsProcess s p → RunWaits past s p (returned_from s p f k)
 from_waits past s p f kind.Main made = subst (EventWaits past s (event.Run p) answer.End) (sym (exited_is s p (r0_of s p))) (run_turned past s p answer.End (without_frames (r0_of s p)) (λ ws. []) refl (λ ws. refl) tt made refl)
-from_waits past s p f (kind.Ast id) made = run_turned past s p answer.Return (put_back f.saved_r0) below refl (λ ws. refl) tt made (top_below (process_at s p).frames)
-from_waits past s p f kind.Change made = run_turned past s p answer.Return below_top below refl (λ ws. refl) tt made (top_below (process_at s p).frames)
-from_waits past s p f kind.Handler made = run_turned past s p answer.Return below_top below refl (λ ws. refl) tt made (top_below (process_at s p).frames)
+from_waits past s p f (kind.Ast id) made = run_turned past s p answer.Return (put_back f.saved_r0) rest refl (λ ws. refl) tt made (top_below (process_at s p).frames)
+from_waits past s p f kind.Change made = run_turned past s p answer.Return below_top rest refl (λ ws. refl) tt made (top_below (process_at s p).frames)
+from_waits past s p f kind.Handler made = run_turned past s p answer.Return below_top rest refl (λ ws. refl) tt made (top_below (process_at s p).frames)
 
 return_waits : (past : List Item) (s : State) (p : Pid) (frames : List Frame) → (process_at s p).frames ≡ frames → frames ≢ [] → IsProcess s p → RunWaits past s p (returned s p frames)
 return_waits past s p [] is some made = absurd (some refl)

@@ -2,20 +2,10 @@
 use Rattle.std.proofs.Common.{◌∙◌, ◌≡◌, ℕ, List, [], ◌∷◌, true, false, nat_lt, Option, Some, None, Result, Ok, Err, refl, ◌-◌, ◌+◌, ap, ◌%◌, ◌^◌, ◌||◌, sym, subst}
 use Rattle.vx_record.proofs.Steps.{left_after}
 use Rattle.vx_base.specs.Modes.{inner}
-use Rattle.vx_base.specs.Pieces.{Queued, Channel, Request}
-use Rattle.vx_base.specs.declared.call.Args.{Args}
-use Rattle.vx_base.specs.declared.cond.Cond.{Cond}
+use Rattle.vx_record.specs.Types.{Args, Call, Cell, Channel, Cond, Entry, Frame, FrameKind, Mode, Phase, Pid, Queued, Request, Service, Stop, UnitNo, Wait}
 use Rattle.vx_base.specs.declared.cond.Cond.TheVariants.{BadParam}
-use Rattle.vx_base.specs.declared.effects.Cell.{Cell}
-use Rattle.vx_base.specs.declared.frame.Frame.{Frame}
 use Rattle.vx_base.specs.declared.frame.FrameKind.TheVariants as kind
-use Rattle.vx_base.specs.declared.frame.Phase.{Phase}
 use Rattle.vx_base.specs.declared.frame.Phase.TheVariants as phase
-use Rattle.vx_base.specs.declared.frame.Wait.{Wait}
-use Rattle.vx_base.specs.declared.mode.Mode.{Mode}
-use Rattle.vx_base.specs.declared.number.Pid.{Pid}
-use Rattle.vx_base.specs.declared.routine.Entry.{Entry}
-use Rattle.vx_base.specs.declared.service.Service.{Service}
 use Rattle.vx_base.specs.declared.service.Service.TheVariants.{WaitFr, WflOr, WflAnd, CmExec, CmKrnl, Hiber, DelPrc, Exit, Assign, Dassgn, CreMbx, QioW, Synch}
 use Rattle.vx_record.specs.State.{State, process_at, change, current, Process, image_of, unit_at, top_mode}
 use Rattle.vx_record.specs.Parts.{Outcome, at_tested}
@@ -33,15 +23,11 @@ use Rattle.vx_record.specs.declared.served.Served.TheVariants.{Answered, Waits}
 use Rattle.vx_record.proofs.Lists.{either}
 use Rattle.vx_record.specs.Asts.{is_inside, with_frame, new_frame}
 use Rattle.vx_base.specs.Cond.{number_of}
-use Rattle.vx_base.specs.declared.frame.FrameKind.{FrameKind}
 use Rattle.vx_base.specs.declared.frame.Wait.TheVariants as wait
 use Rattle.vx_base.specs.declared.mode.Mode.TheVariants.{Exec, Kernel, User}
-use Rattle.vx_base.specs.declared.number.UnitNo.{UnitNo}
 use Rattle.vx_base.specs.declared.routine.Entry.TheVariants as entry
-use Rattle.vx_base.specs.declared.call.Call.{Call}
 use Rattle.vx_base.specs.Serving.{serve, settled}
 use Rattle.vx_image.specs.Local.{advanced}
-use Rattle.vx_image.specs.declared.stop.Stop.{Stop}
 use Rattle.vx_image.specs.declared.stop.Stop.TheVariants as stop
 use Rattle.vx_laws.proofs.Untouched.{seat_of, seat_in, phase_in, Keeps, keep_seats, keep_phases, keep_none, keep_then, keep_procs, keep_same, keep_moved, at_flag_by, finish_keeps, accepted_keeps, tick_keeps, drop_handlers_keeps, assign_shifts, crembx_service_shifts, dassgn_shifts, is_leaving, service_plainly, one_changed, set_views}
 

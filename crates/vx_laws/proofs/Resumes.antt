@@ -5,31 +5,17 @@ use Rattle.std.proofs.lemmas.Slice.Eq.{bytes_eq-Decides}
 use Rattle.std.specs.List.{AllByRecursion}
 use Rattle.std.specs.Prelude.{Contains}
 use Rattle.vx_base.specs.Cond.{name_of}
-use Rattle.vx_base.specs.Pieces.{DeviceUnit, Queued, Request, Timer}
+use Rattle.vx_record.specs.Types.{Answer, Call, Cond, DeviceUnit, Effect, Event, Frame, FrameKind, Pid, ProcDecl, Queued, Rec, Request, Stop, System, Timer, UnitNo, Wait}
 use Rattle.vx_base.specs.Queues.{front, in_service}
 use Rattle.vx_base.specs.Serving.{serve, settled}
-use Rattle.vx_base.specs.declared.call.Call.{Call}
 use Rattle.vx_base.specs.declared.cond.Cond.TheVariants.{Normal}
-use Rattle.vx_base.specs.declared.cond.Cond.{Cond}
 use Rattle.vx_base.specs.declared.effects.Effect.TheVariants as effect
-use Rattle.vx_base.specs.declared.effects.Effect.{Effect}
-use Rattle.vx_base.specs.declared.frame.Frame.{Frame}
 use Rattle.vx_base.specs.declared.frame.FrameKind.TheVariants as kind
-use Rattle.vx_base.specs.declared.frame.FrameKind.{FrameKind}
 use Rattle.vx_base.specs.declared.frame.Wait.TheVariants as wait
-use Rattle.vx_base.specs.declared.frame.Wait.{Wait}
-use Rattle.vx_base.specs.declared.number.Pid.{Pid}
-use Rattle.vx_base.specs.declared.number.UnitNo.{UnitNo}
 use Rattle.vx_base.specs.declared.record.Answer.TheVariants as answer
-use Rattle.vx_base.specs.declared.record.Answer.{Answer}
 use Rattle.vx_base.specs.declared.record.Event.TheVariants as event
-use Rattle.vx_base.specs.declared.record.Event.{Event}
-use Rattle.vx_base.specs.declared.record.Rec.{Rec}
 use Rattle.vx_image.specs.Local.{advanced}
-use Rattle.vx_image.specs.declared.decl.ProcDecl.{ProcDecl}
 use Rattle.vx_image.specs.declared.stop.Stop.TheVariants as stop
-use Rattle.vx_image.specs.declared.stop.Stop.{Stop}
-use Rattle.vx_image.specs.declared.system.System.{System}
 use Rattle.vx_laws.proofs.Awaited.{WaitsKept, cancelled_in_waits, frame_waits, gone_waits, phase_waits, release_waits, waits_none, waits_of_kept, waits_then}
 use Rattle.vx_laws.proofs.Untouched.{finish_keeps, keep_procs, keep_then, newcomer, tick_keeps, waits_of}
 use Rattle.vx_record.proofs.Base.{Base, made_more, moves_keep}
@@ -48,9 +34,9 @@ use Rattle.vx_laws.proofs.Tagged.{Kinds, first_kinds}
 use Rattle.vx_laws.proofs.Tells.{satisfied_held}
 use Rattle.vx_laws.proofs.Turns.{later_items}
 use Rattle.vx_laws.specs.Agrees.{waited}
-use Rattle.vx_laws.specs.Frames.{Clears, Enters, Returns, Stays, Turn, awaited, below, turn, turned, waits_told, waits_turned, with_first, with_handler_wait}
+use Rattle.vx_laws.specs.Frames.{Clears, Enters, Returns, Stays, Turn, awaited, turn, turned, waits_told, waits_turned, with_first, with_handler_wait}
 use Rattle.vx_laws.specs.Items.{Did, Head, Item, at_each, flat, is_cond, is_this_cond, later, past_of}
-use Rattle.vx_laws.specs.Lives.{Life, life, lives}
+use Rattle.vx_laws.specs.Lives.{Life, life}
 use Rattle.vx_laws.specs.StatusLaw.{resumes_right, resumes_wait}
 use Rattle.vx_laws.specs.StatusParts.{is_resumption_due, resumptions_due}
 use Rattle.vx_laws.specs.Values.{satisfied_by, wait_of}
@@ -71,6 +57,7 @@ use Rattle.vx_record.specs.declared.served.Served.{Served}
 use Rattle.vx_record.proofs.Allowed.{enabled_there}
 use Rattle.vx_record.proofs.Along.{first_base}
 use Rattle.vx_base.proofs.Bools.{either_same}
+use Rattle.vx_base.specs.Lists.{rest, is_some_and}
 
 -- at the ends of records
 pub record Awaits (s : State) (past : List Item) : Type 0 where
@@ -99,7 +86,7 @@ head_map : (b : Bool) (a : Answer) (tu : Turn) (ws : List (Option Call)) → map
 head_map true a tu ws = heard_map a (waits_turned tu ws) ∙ ap (heard a) (turn_map tu ws)
 head_map false a tu ws = refl
 
-below_fits : (ws : List (Option Wait)) → AllByRecursion IsFit ws → AllByRecursion IsFit (below ws)
+below_fits : (ws : List (Option Wait)) → AllByRecursion IsFit ws → AllByRecursion IsFit (rest ws)
 below_fits [] h = tt
 below_fits (w ∷ ws) h = h.1
 
@@ -159,7 +146,7 @@ rests_drain = record {
   goes = λ s p h g. record { fine = (gone_calm s p g).effects; keeps = gone_waits s p };
 }
 
-handler_waits : (p q : Pid) (o : Option Life) (ws : List (Option Call)) → lives (λ l. (seat l == 4) && life_of p l) o ≡ true → map waited (with_handler_wait o q ws) ≡ cond (is_same p q) (None ∷ map waited ws) (map waited ws)
+handler_waits : (p q : Pid) (o : Option Life) (ws : List (Option Call)) → is_some_and (λ l. (seat l == 4) && life_of p l) o ≡ true → map waited (with_handler_wait o q ws) ≡ cond (is_same p q) (None ∷ map waited ws) (map waited ws)
 handler_waits p q None ws h = absurd (let never : false ≡ true = h in cc)
 handler_waits p q (Some l) ws h =
     let owner : l.p.0 ≡ p.0 = eqb-true l.p.0 p.0 (and_parts (seat l == 4) (life_of p l) h).1 in

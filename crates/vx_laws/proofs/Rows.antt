@@ -6,14 +6,9 @@ use Rattle.std.proofs.lemmas.Slice.Eq.{bytes_eq-Decides}
 use Rattle.std.specs.List.{AllByRecursion, list_any}
 use Rattle.std.specs.Prelude.{bytes_eq}
 use Rattle.vx_base.specs.Channels.{channel_at}
-use Rattle.vx_base.specs.Pieces.{Channel, Request, Mailbox}
-use Rattle.vx_base.specs.declared.call.Target.{Target}
+use Rattle.vx_record.specs.Types.{BoxNo, Channel, Device, Mailbox, Mode, Pid, Request, Target}
 use Rattle.vx_base.specs.declared.effects.Effect.TheVariants as effect
-use Rattle.vx_base.specs.declared.mode.Mode.{Mode}
-use Rattle.vx_base.specs.declared.number.BoxNo.{BoxNo}
-use Rattle.vx_base.specs.declared.number.Pid.{Pid}
 use Rattle.vx_base.specs.declared.request.Device.TheVariants as device
-use Rattle.vx_base.specs.declared.request.Device.{Device}
 use Rattle.vx_record.proofs.Ground.{at_set}
 use Rattle.vx_record.proofs.Lists.{either_by, all_weaker, all_both, all_get, none_passes}
 use Rattle.vx_record.proofs.SoundChannels.{is_on_box}
@@ -28,8 +23,9 @@ use Rattle.vx_laws.proofs.Boxed.{any_index, IsThere, IsOn, Rooted, BoxIs, Boxed,
 use Rattle.vx_laws.specs.Agrees.{box_stands, device_title}
 use Rattle.vx_laws.specs.Boxes.{stored, Stored}
 use Rattle.vx_laws.specs.Items.{Item, Did, latest_call}
-use Rattle.vx_laws.specs.Lives.{device_name, named_in, or_earlier}
+use Rattle.vx_laws.specs.Lives.{device_name, named_in}
 use Rattle.std.proofs.lemmas.List.Folds.{list_any_at}
+use Rattle.std.specs.Option.{option_or}
 
 -- One row of one process is written.
 
@@ -229,7 +225,7 @@ assigned_boxed s u p v n ch past a b c d same above one free there named h = rec
   counted = rw d h.counted;
   ordered = subst (λ (l : List Request). AreOrdered request_id 0 u.next l) (sym c) (rw d h.ordered);
   rows = λ q m x up low e.
-      either_by (λ (o : Option (List ℕ)). IsThere u x.device × (o ≡ Some (device_title u x.device))) (is_same p q && (n == m)) (or_earlier (named_in (latest_call past)) (device_name past q m)) (device_name past q m)
+      either_by (λ (o : Option (List ℕ)). IsThere u x.device × (o ≡ Some (device_title u x.device))) (is_same p q && (n == m)) (option_or (named_in (latest_call past)) (device_name past q m)) (device_name past q m)
       (λ t. at_it q m x t (sym (same q m) ∙ e)) (λ f. at_other q m x up low f (sym (same q m) ∙ e));
   requests = subst (λ (l : List Request). AllByRecursion (Rooted u (Did (effect.Var p v n) ∷ past)) l) (sym c) (all_weaker (Rooted s past) (Rooted u (Did (effect.Var p v n) ∷ past)) on s.requests h.requests);
   boxes = λ f box e. let was = at f e in let k = h.boxes f box was in record { messages = k.messages; ids = rw d k.ids; writers = k.writers; unit = rw a k.unit; alone = λ g o i j. k.alone g o (at g i) j };
@@ -240,7 +236,7 @@ assigned_boxed s u p v n ch past a b c d same above one free there named h = rec
     at : {o : Option Mailbox} (f : BoxNo) → box_at u f ≡ o → box_at s f ≡ o
     at f e = ap (λ (l : List (Option Mailbox)). get_or l f.0 None) (sym b) ∙ e
 
-    at_it : (q : Pid) (m : ℕ) (x : Channel) → (is_same p q && (n == m)) ≡ true → row (change s p (with_channel n (Some ch))) q m ≡ Some x → IsThere u x.device × (or_earlier (named_in (latest_call past)) (device_name past q m) ≡ Some (device_title u x.device))
+    at_it : (q : Pid) (m : ℕ) (x : Channel) → (is_same p q && (n == m)) ≡ true → row (change s p (with_channel n (Some ch))) q m ≡ Some x → IsThere u x.device × (option_or (named_in (latest_call past)) (device_name past q m) ≡ Some (device_title u x.device))
     at_it q m x t e =
         let both = and_parts (is_same p q) (n == m) t in
         let pq : p.0 ≡ q.0 = eqb-true p.0 q.0 both.0 in
@@ -249,7 +245,7 @@ assigned_boxed s u p v n ch past a b c d same above one free there named h = rec
         elim (row_written s p q n m (Some ch) x e) [
           | inl k ↦
               let it : ch ≡ x = cc in
-              subst (λ (y : Channel). IsThere u y.device × (or_earlier (named_in (latest_call past)) (device_name past q m) ≡ Some (device_title u y.device))) it
+              subst (λ (y : Channel). IsThere u y.device × (option_or (named_in (latest_call past)) (device_name past q m) ≡ Some (device_title u y.device))) it
               (there_as s u a b ch.device there, rw named (ap (λ (l : List ℕ). Some l) (sym (title_as s u a b ch.device))))
           | inr k ↦ absurd (let never : None ≡ Some x = sym was ∙ k in cc)
         ]

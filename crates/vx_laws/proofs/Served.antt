@@ -6,23 +6,13 @@ use Rattle.std.proofs.lemmas.Slice.Eq.{bytes_eq-Decides}
 use Rattle.std.specs.List.{AllByRecursion, find, list_any, list_all}
 use Rattle.std.specs.Prelude.{option_map, ⊤}
 use Rattle.vx_base.specs.Cond.{name_of}
-use Rattle.vx_base.specs.Lists.{less}
-use Rattle.vx_base.specs.Pieces.{Request, Mailbox}
+use Rattle.vx_base.specs.Lists.{less, is_some_and}
+use Rattle.vx_record.specs.Types.{Body, BoxNo, Cond, Device, Effect, Func, Id, Mailbox, Msg, Pid, Req, Request}
 use Rattle.vx_base.specs.declared.cond.Cond.TheVariants.{Cancel as Cancelled, EndOfFile, Normal, BufferOvf}
-use Rattle.vx_base.specs.declared.cond.Cond.{Cond}
 use Rattle.vx_base.specs.declared.effects.Effect.TheVariants as effect
-use Rattle.vx_base.specs.declared.effects.Effect.{Effect}
-use Rattle.vx_base.specs.declared.number.BoxNo.{BoxNo}
-use Rattle.vx_base.specs.declared.number.Id.{Id}
-use Rattle.vx_base.specs.declared.number.Pid.{Pid}
 use Rattle.vx_base.specs.declared.request.Body.TheVariants as body
-use Rattle.vx_base.specs.declared.request.Body.{Body}
 use Rattle.vx_base.specs.declared.request.Device.TheVariants as device
-use Rattle.vx_base.specs.declared.request.Device.{Device}
 use Rattle.vx_base.specs.declared.request.Func.TheVariants.{Read, ReadAttn, WrtAttn}
-use Rattle.vx_base.specs.declared.request.Func.{Func}
-use Rattle.vx_base.specs.declared.request.Msg.{Msg}
-use Rattle.vx_base.specs.declared.request.Req.{Req}
 use Rattle.vx_record.proofs.Lists.{either, all_weaker, all_append, all_find, none_any, found_any}
 use Rattle.vx_record.specs.Finish.{Ending, ending, is_read, this_request, finish, finish_found}
 use Rattle.vx_record.specs.Mailboxes.{mailbox_at, or_no_box, is_box, is_waiting_func, waits_at, this_message, message_of, mput_part, mget_part, read_ending, received, write_done, write_ending, call_attention, store_message, hand_over, write_box, wait_for_message, take_message, read_box}
@@ -37,7 +27,7 @@ use Rattle.vx_laws.proofs.Passing.{Right, Walk, walk_then, walk_aside, walk_noth
 use Rattle.vx_laws.specs.Agrees.{as_stored, device_title}
 use Rattle.vx_laws.specs.Boxes.{Stored, stored, oldest_read, is_at}
 use Rattle.vx_laws.specs.Items.{Item, Did, Calling, later, is_cond}
-use Rattle.vx_laws.specs.Lives.{Life, life, lives}
+use Rattle.vx_laws.specs.Lives.{Life, life}
 use Rattle.vx_laws.specs.MessageLaw.{takes_oldest, told_read, told_reader, counts_right, puts_bytes, read_bytes, read_cond, hands_over, is_taken_by}
 use Rattle.vx_laws.specs.StatusLaw.{to_next_fin}
 use Rattle.vx_base.proofs.First.{found_passes}
@@ -88,7 +78,7 @@ taken : (past : List Item) (m : Msg) (ms : List Stored) (r : Request) (k : Calli
 taken past m ms r k title c bytes es writer is size cond_is read told =
     let g : Origin = record { p = r.req.p; by = Some k; device = title } in
     and_from _ _ (eq-eqb m.id.0 m.id.0 refl)
-    (lives_owner (λ x. lives (λ l. told_reader r.req.id x.p m.body (effect.Fin r.req.id c ∷ es) l l.by) (life past r.req.id)) m.writer (life past m.id) writer
+    (lives_owner (λ x. is_some_and (λ l. told_reader r.req.id x.p m.body (effect.Fin r.req.id c ∷ es) l l.by) (life past r.req.id)) m.writer (life past m.id) writer
     (λ x e. lives_origin (λ l. told_reader r.req.id x.p m.body (effect.Fin r.req.id c ∷ es) l l.by) g (life past r.req.id) is
     (λ l o. told_at r.req.id c l k r.req.p x.p m.writer r.req.len m.body bytes es (ap (λ (y : Origin). y.p) o) (ap (λ (y : Origin). y.by) o) e size cond_is read told)))
 
@@ -256,12 +246,12 @@ put_right : (s : State) (past : List Item) (b : BoxNo) (box : Mailbox) (r : Requ
 put_right s past b box r o es e w k =
     let name = (mailbox_at s b).name in
     let g : Origin = record { p = r.req.p; by = Some w.root.call; device = Some (device_title s r.req.device) } in
-    let here : lives (λ l. is_at name l.device) (life past r.req.id) ≡ true =
+    let here : is_some_and (λ l. is_at name l.device) (life past r.req.id) ≡ true =
     lives_origin (λ l. is_at name l.device) g (life past r.req.id) w.root.is
     (λ l j. let titled : l.device ≡ Some name = ap (λ (y : Origin). y.device) j ∙ ap (λ (d : Device). Some (device_title s d)) w.on in subst (λ (d : Option (List ℕ)). is_at name d ≡ true) (sym titled) ((bytes_eq-Decides name name).1 refl)) in
     λ rest left.
-    subst (λ (l : List Effect). (lives (λ l. is_at name l.device) (life past r.req.id) && hands_over name r.req.id (oldest_read past name) l) ≡ true) (sym left)
-    (subst (λ (x : Option Id). (lives (λ l. is_at name l.device) (life past r.req.id) && hands_over name r.req.id x es) ≡ true) (sym (w.oldest ∙ ap (option_map (λ (x : Request). x.req.id)) e)) (and_from _ _ here k))
+    subst (λ (l : List Effect). (is_some_and (λ l. is_at name l.device) (life past r.req.id) && hands_over name r.req.id (oldest_read past name) l) ≡ true) (sym left)
+    (subst (λ (x : Option Id). (is_some_and (λ l. is_at name l.device) (life past r.req.id) && hands_over name r.req.id x es) ≡ true) (sym (w.oldest ∙ ap (option_map (λ (x : Request). x.req.id)) e)) (and_from _ _ here k))
 
 store_serving : (s : State) (past : List Item) (b : BoxNo) (m : Msg) → IsPlainCall past → IsSingle s → Boxed s past → Serving past (store_message s b m)
 store_serving s past b m calm single h =

@@ -1,8 +1,6 @@
 -- The agreement as one statement.
 use Rattle.std.proofs.Common.{◌≡◌, List, Some, sym, subst}
-use Rattle.vx_base.specs.declared.number.Pid.{Pid}
-use Rattle.vx_base.specs.declared.record.Rec.{Rec}
-use Rattle.vx_image.specs.declared.system.System.{System}
+use Rattle.vx_record.specs.Types.{Pid, Rec, System}
 use Rattle.vx_record.specs.Runs.{IsRun, after, first}
 use Rattle.vx_record.specs.State.{IsProcess, decl_of}
 use Rattle.vx_record.proofs.SoundSteps.{run_keeps_system}

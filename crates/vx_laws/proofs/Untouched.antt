@@ -2,29 +2,14 @@
 use Rattle.std.proofs.Common.{◌∙◌, ◌≡◌, ℕ, List, [], ◌∷◌, Bool, true, false, cond, not, ◌==◌, ◌&&◌, nat_lt, nat_le, length, Option, Some, None, Result, Ok, Err, is_some, position, is_none, refl, ◌-◌, ◌++◌, ap, zero, suc, get_or, get_or-set_other, set, map, ◌||◌, sym, replicate}
 use Rattle.std.specs.List.{filter, find, list_any}
 use Rattle.vx_base.specs.Modes.{outer, is_kernel}
-use Rattle.vx_base.specs.Pieces.{Queued, Channel, Handler, Request, Promised, Timer, Alarm, OfTimer, OfWake, Attention, Mailbox, Status, cleared}
-use Rattle.vx_base.specs.declared.call.Args.{Args}
-use Rattle.vx_base.specs.declared.call.Target.{Target}
-use Rattle.vx_base.specs.declared.cond.Cond.{Cond}
+use Rattle.vx_record.specs.Types.{Alarm, Args, Attention, BoxNo, Cell, Channel, Cond, Device, Entry, Frame, Func, Handler, Mailbox, Mode, Msg, Phase, Pid, Promised, Queued, Req, Request, Service, Status, Target, Timer, Wait}
+use Rattle.vx_base.specs.Pieces.{OfTimer, OfWake, cleared}
 use Rattle.vx_base.specs.declared.cond.Cond.TheVariants.{Cancel as Cancelled, EndOfFile, Normal}
-use Rattle.vx_base.specs.declared.effects.Cell.{Cell}
 use Rattle.vx_base.specs.declared.effects.Cell.TheVariants.{Local, Common}
-use Rattle.vx_base.specs.declared.frame.Frame.{Frame}
 use Rattle.vx_base.specs.declared.frame.FrameKind.TheVariants as kind
-use Rattle.vx_base.specs.declared.frame.Phase.{Phase}
 use Rattle.vx_base.specs.declared.frame.Phase.TheVariants as phase
-use Rattle.vx_base.specs.declared.frame.Wait.{Wait}
-use Rattle.vx_base.specs.declared.mode.Mode.{Mode}
-use Rattle.vx_base.specs.declared.number.BoxNo.{BoxNo}
-use Rattle.vx_base.specs.declared.number.Pid.{Pid}
-use Rattle.vx_base.specs.declared.request.Device.{Device}
 use Rattle.vx_base.specs.declared.request.Device.TheVariants as device
-use Rattle.vx_base.specs.declared.request.Func.{Func}
 use Rattle.vx_base.specs.declared.request.Func.TheVariants.{ReadAttn, WrtAttn}
-use Rattle.vx_base.specs.declared.request.Msg.{Msg}
-use Rattle.vx_base.specs.declared.request.Req.{Req}
-use Rattle.vx_base.specs.declared.routine.Entry.{Entry}
-use Rattle.vx_base.specs.declared.service.Service.{Service}
 use Rattle.vx_base.specs.declared.service.Service.TheVariants.{SetEf, ClrEf, ReadEf, WaitFr, WflOr, WflAnd, AscEfc, DacEfc, DlcEfc, DclAst, SetAst, CmExec, CmKrnl, SetImr, CanTim, SchdWk, CanWak, Hiber, Wake, Suspnd, Resume, ForceX, CrePrc, DelPrc, Exit, DclExh, CanExh, Assign, Dassgn, CreMbx, DelMbx, Qio, QioW, Synch, Cancel, GetTim}
 use Rattle.vx_record.specs.State.{State, process_at, change, current, nobody, Process, next_id, past_id, with_top}
 use Rattle.vx_record.specs.Parts.{Part, Outcome, nothing, each, part_if, refused, refused_value, at_tested, part_of}
@@ -37,7 +22,7 @@ use Rattle.vx_record.specs.Cancel.{mark_part, withdraw, cancelled_request, cance
 use Rattle.vx_record.specs.Requests.{attention_set, Asked, request_test, new_request, opened_request, begun_on, transfer, new_attention, attention_opened, done_at_once, attention_on, accepted, qio_tested, with_request}
 use Rattle.vx_record.specs.Control.{process_test, changed_process, with_wake, with_suspension, forced, creprc, exit_ast, created, new_part}
 use Rattle.vx_record.specs.Timers.{drop_timer, drop_timers, setimr_at, setimr, is_cancelled_timer, scheduled, is_wake_for, unscheduled, que_timer, fire_timer, fired, fire, is_due, at_time, next_time, tick, this_timer, due_again, after_wake, new_timer, new_wake, gettim, with_timer}
-use Rattle.vx_record.specs.Rundown.{is_handler_of, is_handler_with, drop_handlers, cancel_found, cancel_handlers, cancel_one, free_one, is_timer_in, is_wake_by, cancel_modes, release, drop_asts, part_with, drop_handler, drop_ast, is_ast_reached, without_ast, without_handler, with_handler, new_handler}
+use Rattle.vx_record.specs.Rundown.{is_handler_of, drop_handlers, cancel_found, cancel_handlers, cancel_one, free_one, is_timer_in, is_wake_by, cancel_modes, release, drop_asts, part_with, drop_handler, drop_ast, is_ast_reached, without_ast, without_handler, with_handler, new_handler}
 use Rattle.vx_record.specs.Services.{number, place, access_mode, text, routine_or_none, decl_place, asked, valued_at, numbered_at, service_of, var_part, routine, with_variable, at_once}
 use Rattle.vx_record.specs.Events.{moved_to}
 use Rattle.vx_record.specs.declared.served.Served.{Served}
@@ -48,6 +33,7 @@ use Rattle.vx_base.specs.Lists.{less, amend}
 use Rattle.vx_record.specs.Asts.{declared_ast, charged_ast, que_part, with_queued, with_delivery}
 use Rattle.vx_base.specs.declared.mode.Mode.TheVariants.{User}
 use Rattle.vx_image.specs.Storage.{Storage}
+use Rattle.vx_base.specs.Handlers.{is_handler_with}
 
 -- what frames wait for, the top one first
 abbrev pub waits_of : List Frame → List (Option Wait)

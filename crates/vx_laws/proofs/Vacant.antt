@@ -4,21 +4,12 @@ use Rattle.std.proofs.Common.{◌≡◌, ◌∙◌, ℕ, ◌+◌, ◌-◌, List,
 use Rattle.std.specs.Prelude.{Contains}
 use Rattle.std.specs.List.{AllByRecursion, list_any}
 use Rattle.std.proofs.lemmas.Bool.{and_parts, and_from, eqb-true, cases_eq, false_from_ne_true, not_from_false, and_left, not-true}
-use Rattle.vx_base.specs.Pieces.{Timer, Alarm, OfTimer, OfWake}
-use Rattle.vx_base.specs.declared.effects.Effect.{Effect}
+use Rattle.vx_record.specs.Types.{Alarm, Answer, Effect, Event, Id, Mode, Opened, Pid, ProcDecl, Rec, System, Timer}
+use Rattle.vx_base.specs.Pieces.{OfTimer, OfWake}
 use Rattle.vx_base.specs.declared.effects.Effect.TheVariants as effect
-use Rattle.vx_base.specs.declared.effects.Opened.{Opened}
 use Rattle.vx_base.specs.declared.effects.Opened.TheVariants as opened
 use Rattle.vx_base.specs.declared.frame.Phase.TheVariants as phase
-use Rattle.vx_base.specs.declared.mode.Mode.{Mode}
-use Rattle.vx_base.specs.declared.number.Id.{Id}
-use Rattle.vx_base.specs.declared.number.Pid.{Pid}
-use Rattle.vx_base.specs.declared.record.Answer.{Answer}
-use Rattle.vx_base.specs.declared.record.Event.{Event}
 use Rattle.vx_base.specs.declared.record.Event.TheVariants as event
-use Rattle.vx_base.specs.declared.record.Rec.{Rec}
-use Rattle.vx_image.specs.declared.decl.ProcDecl.{ProcDecl}
-use Rattle.vx_image.specs.declared.system.System.{System}
 use Rattle.vx_record.specs.Charges.{is_same}
 use Rattle.vx_record.specs.Events.{step, enabled}
 use Rattle.vx_record.specs.Rundown.{gone_part, in_phase, entering, handler_frame}
@@ -34,7 +25,7 @@ use Rattle.vx_record.proofs.Allowed.{enabled_there}
 use Rattle.vx_record.proofs.Along.{first_base}
 use Rattle.vx_laws.specs.Items.{Item, Head, Did, flat, later, at_each}
 use Rattle.vx_laws.specs.Leftovers.{is_open_of}
-use Rattle.vx_laws.specs.Lives.{Life, life, lives, highest, is_open, is_wake}
+use Rattle.vx_laws.specs.Lives.{Life, life, highest, is_open, is_wake}
 use Rattle.vx_laws.specs.RundownLaw.{woken, is_wake_for, is_of, is_left_of, nothing_left, rests, enters_last, run_downs}
 use Rattle.vx_laws.specs.RundownParts.{stays, leaves, leaves_none}
 use Rattle.vx_laws.proofs.Allowed.{Test, Allowed, is_allowed}
@@ -60,6 +51,7 @@ use Rattle.vx_laws.proofs.Steps.{step_tags, first_tags}
 use Rattle.vx_laws.proofs.Unowned.{nothing_owned}
 use Rattle.vx_laws.proofs.Where.{both_hold, lives_then}
 use Rattle.vx_laws.proofs.Wakes.{no_wake, is_for, has_woken, IsTold, Targeted, Wakes, Opens, unopened, opened_one, step_opens, step_wakes, wakes_moved, unwoken_on}
+use Rattle.vx_base.specs.Lists.{is_some_and}
 
 -- A wake that is open stands among the timers, and none that stands there is for the process.
 
@@ -72,15 +64,15 @@ for_other p target l e k =
     let off : is_same (woken l.by l.p) p ≡ false = ap (λ (r : Pid). is_same r p) is ∙ e in
     rw off (ap not (and-false (is_wake l.kind)))
 
-timer_apart : (p : Pid) (past : List Item) (t : Timer) → TimerLives past t → Targeted past t → wakes p t.what ≡ false → lives (λ l. not (is_wake_for p l)) (life past t.id) ≡ true
+timer_apart : (p : Pid) (past : List Item) (t : Timer) → TimerLives past t → Targeted past t → wakes p t.what ≡ false → is_some_and (λ l. not (is_wake_for p l)) (life past t.id) ≡ true
 timer_apart p past t h k e =
     by_alarm t.what (lives_more 2 (timer_life t) (alarm_life t.what) (life past t.id) (λ l x y. (and_parts _ (alarm_life t.what l) (and_parts (is_same l.p t.p) _ y).1).1) h) k e
   where
-    by_alarm : (a : Alarm) → lives (alarm_life a) (life past t.id) ≡ true → IsTold past t.id a → wakes p a ≡ false → lives (λ l. not (is_wake_for p l)) (life past t.id) ≡ true
+    by_alarm : (a : Alarm) → is_some_and (alarm_life a) (life past t.id) ≡ true → IsTold past t.id a → wakes p a ≡ false → is_some_and (λ l. not (is_wake_for p l)) (life past t.id) ≡ true
     by_alarm (OfTimer efn reqid mode tag) h k e = lives_then (alarm_life (OfTimer efn reqid mode tag)) (λ l. not (is_wake_for p l)) (life past t.id) (λ l y. no_wake_apart p l (and_parts (not (is_wake l.kind)) _ y).0) h
     by_alarm (OfWake target n) h k e = lives_then (is_for target) (λ l. not (is_wake_for p l)) (life past t.id) (λ l y. for_other p target l e y) k
 
-timers_apart : (p : Pid) (past : List Item) (ts : List Timer) → AllByRecursion (TimerLives past) ts → AllByRecursion (Targeted past) ts → AllByRecursion (λ t. wakes p t.what ≡ false) ts → AllByRecursion (λ t. lives (λ l. not (is_wake_for p l)) (life past t.id) ≡ true) ts
+timers_apart : (p : Pid) (past : List Item) (ts : List Timer) → AllByRecursion (TimerLives past) ts → AllByRecursion (Targeted past) ts → AllByRecursion (λ t. wakes p t.what ≡ false) ts → AllByRecursion (λ t. is_some_and (λ l. not (is_wake_for p l)) (life past t.id) ≡ true) ts
 timers_apart p past [] a b c = tt
 timers_apart p past (t ∷ ts) a b c = (timer_apart p past t a.0 b.0 c.0, timers_apart p past ts a.1 b.1 c.1)
 
@@ -102,31 +94,31 @@ by_either P true b h f g = f refl
 by_either P false b h f g = g h
 
 -- where nothing stands for a process, nothing is left of it in the records
-pub none_left : (s : State) (past : List Item) (p : Pid) (id : Id) → Cleared p s → Still s p → Stands s None past → Listed s None past → Wakes s past → lives (is_left_of p) (life past id) ≡ false
+pub none_left : (s : State) (past : List Item) (p : Pid) (id : Id) → Cleared p s → Still s p → Stands s None past → Listed s None past → Wakes s past → is_some_and (is_left_of p) (life past id) ≡ false
 none_left s past p id c w g h k = by_life (life past id) refl (h id)
   where
-    by_life : (o : Option Life) → life past id ≡ o → holds s None id o ≡ true → lives (is_left_of p) o ≡ false
+    by_life : (o : Option Life) → life past id ≡ o → holds s None id o ≡ true → is_some_and (is_left_of p) o ≡ false
     by_life None is j = refl
     by_life (Some l) is j =
         false_from_ne_true (is_left_of p l) (λ e.
         let parts = and_parts (is_open l) (is_of p l) e in
         by_either ⊥ (is_same l.p p) (is_wake_for p l) parts.1
         (λ own.
-        let none : (is_open l && is_same l.p p) ≡ false = sym (ap (lives (is_open_of p)) is) ∙ nothing_owned s past p id c w g h in
+        let none : (is_open l && is_same l.p p) ≡ false = sym (ap (is_some_and (is_open_of p)) is) ∙ nothing_owned s past p id c w g h in
         let never : true ≡ false = sym (and_from (is_open l) (is_same l.p p) parts.0 own) ∙ none in
         cc)
         (λ wake.
         let kind = (and_parts (is_wake l.kind) _ wake).0 in
-        let calm : (is_wake l.kind && l.routine) ≡ false = sym (ap (lives has_woken) is) ∙ k.unwoken id in
+        let calm : (is_wake l.kind && l.routine) ≡ false = sym (ap (is_some_and has_woken) is) ∙ k.unwoken id in
         let body : l.body ≡ true = open_body l.body l.routine (is_wake l.kind) parts.0 kind calm in
         let there : list_any (this_timer id) s.timers ≡ true = subst (λ (n : ℕ). holds_in s None id l.p n ≡ true) (wake_seat l kind body) j in
-        let apart : lives (λ (x : Life). not (is_wake_for p x)) (life past id) ≡ true = any_told (λ (t : Timer). t.id) (λ (x : Life). not (is_wake_for p x)) past id s.timers (timers_apart p past s.timers g.timers k.targets c.wakes) there in
-        let yes : not (is_wake_for p l) ≡ true = sym (ap (lives (λ (x : Life). not (is_wake_for p x))) is) ∙ apart in
+        let apart : is_some_and (λ (x : Life). not (is_wake_for p x)) (life past id) ≡ true = any_told (λ (t : Timer). t.id) (λ (x : Life). not (is_wake_for p x)) past id s.timers (timers_apart p past s.timers g.timers k.targets c.wakes) there in
+        let yes : not (is_wake_for p l) ≡ true = sym (ap (is_some_and (λ (x : Life). not (is_wake_for p x))) is) ∙ apart in
         let never : false ≡ true = sym (ap not wake) ∙ yes in
         cc))
 
 pub left_nothing : (s : State) (past : List Item) (p : Pid) → Cleared p s → Still s p → Stands s None past → Listed s None past → Wakes s past → nothing_left past p ≡ true
-left_nothing s past p c w g h k = all_ids_by (λ id. not (lives (is_left_of p) (life past id))) (highest past) (λ id. ap not (none_left s past p id c w g h k))
+left_nothing s past p c w g h k = all_ids_by (λ id. not (is_some_and (is_left_of p) (life past id))) (highest past) (λ id. ap not (none_left s past p id c w g h k))
 
 -- What is asked of the effects of a record.
 

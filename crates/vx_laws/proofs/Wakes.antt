@@ -3,27 +3,15 @@ use Rattle.std.proofs.Common.{◌≡◌, ◌∙◌, ℕ, ◌+◌, ◌<◌, ◌�
 use Rattle.std.specs.Prelude.{Contains, option_map, is_some}
 use Rattle.std.specs.List.{AllByRecursion}
 use Rattle.std.proofs.lemmas.Bool.{and_parts, eq-eqb, eqb-true, cases_lt, not_from_false, and_left, not-true}
-use Rattle.vx_base.specs.Pieces.{Queued, Request, Timer, Alarm, OfTimer, OfWake}
+use Rattle.vx_record.specs.Types.{Alarm, Answer, Call, Cond, Effect, Event, Frame, Id, Mode, Opened, Pid, Queued, Request, Service, Stop, Timer, Wait}
+use Rattle.vx_base.specs.Pieces.{OfTimer, OfWake}
 use Rattle.vx_base.specs.Queues.{front, in_service}
-use Rattle.vx_base.specs.declared.call.Call.{Call}
-use Rattle.vx_base.specs.declared.cond.Cond.{Cond}
-use Rattle.vx_base.specs.declared.effects.Effect.{Effect}
 use Rattle.vx_base.specs.declared.effects.Effect.TheVariants as effect
-use Rattle.vx_base.specs.declared.effects.Opened.{Opened}
 use Rattle.vx_base.specs.declared.effects.Opened.TheVariants as opened
-use Rattle.vx_base.specs.declared.frame.Frame.{Frame}
-use Rattle.vx_base.specs.declared.frame.Wait.{Wait}
-use Rattle.vx_base.specs.declared.mode.Mode.{Mode}
-use Rattle.vx_base.specs.declared.number.Id.{Id}
-use Rattle.vx_base.specs.declared.number.Pid.{Pid}
-use Rattle.vx_base.specs.declared.record.Answer.{Answer}
-use Rattle.vx_base.specs.declared.record.Event.{Event}
 use Rattle.vx_base.specs.declared.record.Answer.TheVariants as answer
 use Rattle.vx_base.specs.declared.record.Event.TheVariants as event
-use Rattle.vx_base.specs.declared.service.Service.{Service}
 use Rattle.vx_base.specs.declared.service.Service.TheVariants.{SchdWk}
 use Rattle.vx_image.specs.Local.{advanced}
-use Rattle.vx_image.specs.declared.stop.Stop.{Stop}
 use Rattle.vx_image.specs.declared.stop.Stop.TheVariants as stop
 use Rattle.vx_record.specs.Asts.{deliverable_ast}
 use Rattle.vx_record.specs.Charges.{is_same, exceeds, ast_need}
@@ -43,7 +31,7 @@ use Rattle.vx_record.proofs.Steps.{IsThere}
 use Rattle.vx_record.proofs.Told.{started_moves, step_moves}
 use Rattle.vx_record.proofs.Allowed.{enabled_there}
 use Rattle.vx_laws.specs.Items.{Item, Head, Did, later, latest_call, calling}
-use Rattle.vx_laws.specs.Lives.{Life, life, lives, opens, is_wake, finished, fired, dropped, entered_once, queued_now, marked_now, begun_by, started as ast_started}
+use Rattle.vx_laws.specs.Lives.{Life, life, opens, is_wake, finished, fired, dropped, entered_once, queued_now, marked_now, begun_by, started as ast_started}
 use Rattle.vx_laws.specs.RundownLaw.{woken}
 use Rattle.vx_laws.proofs.Allowed.{Test, is_allowed, Allowed, MayOpen, nil, service_allowed, tick_allowed, returned_allowed, started_allowed, delivered_allowed, beg_allowed, don_allowed}
 use Rattle.vx_laws.proofs.Boxed.{Origin, origin, origin_of, origin_on}
@@ -56,6 +44,7 @@ use Rattle.vx_laws.proofs.Runs.{step_right}
 use Rattle.vx_laws.proofs.Seats.{TimerLives, timer_life, Known, seat}
 use Rattle.vx_laws.proofs.Stands.{Stands}
 use Rattle.vx_laws.proofs.Calls.{IsElse}
+use Rattle.vx_base.specs.Lists.{is_some_and}
 
 abbrev pub no_wake : Test
 no_wake = record { opens = λ k p. not (is_wake k); gone = false }
@@ -77,7 +66,7 @@ is_for target l = is_same (woken l.by l.p) target
 -- a wake's call names the process that it is for
 abbrev pub IsTold : List Item → Id → Alarm → Type 0
 IsTold past id (OfTimer efn reqid mode tag) = Unit {0}
-IsTold past id (OfWake target n) = lives (is_for target) (life past id) ≡ true
+IsTold past id (OfWake target n) = is_some_and (is_for target) (life past id) ≡ true
 
 abbrev pub Targeted : List Item → Timer → Type 0
 Targeted past t = IsTold past t.id t.what
@@ -87,7 +76,7 @@ abbrev pub has_woken : Life → Bool
 has_woken l = is_wake l.kind && l.routine
 
 abbrev pub Unwoken : List Item → Type 0
-Unwoken past = (id : Id) → lives has_woken (life past id) ≡ false
+Unwoken past = (id : Id) → is_some_and has_woken (life past id) ≡ false
 
 pub record Wakes (s : State) (past : List Item) : Type 0 where
   pub targets : AllByRecursion (Targeted past) s.timers
@@ -111,15 +100,15 @@ abbrev for_origin : Pid → Option Origin → Bool
 for_origin target None = false
 for_origin target (Some o) = is_same (woken o.by o.p) target
 
-by_origin : (target : Pid) (o : Option Life) → lives (is_for target) o ≡ for_origin target (option_map origin o)
+by_origin : (target : Pid) (o : Option Life) → is_some_and (is_for target) o ≡ for_origin target (option_map origin o)
 by_origin target None = refl
 by_origin target (Some l) = refl
 
-for_on : (target : Pid) (old new : List Item) (id : Id) → origin_of new id ≡ origin_of old id → lives (is_for target) (life old id) ≡ true → lives (is_for target) (life new id) ≡ true
+for_on : (target : Pid) (old new : List Item) (id : Id) → origin_of new id ≡ origin_of old id → is_some_and (is_for target) (life old id) ≡ true → is_some_and (is_for target) (life new id) ≡ true
 for_on target old new id e h = by_origin target (life new id) ∙ (ap (for_origin target) e ∙ (sym (by_origin target (life old id)) ∙ h))
 
-lives_some : (test : Life → Bool) (past : List Item) (id : Id) → Known past → lives test (life past id) ≡ true → id.0 ≤ opens past
-lives_some test past id known h = ⊎_elim (λ (above : opens past < id.0). let never : false ≡ true = sym (ap (lives test) (known id above)) ∙ h in absurd (cc)) (λ (e : id.0 ≤ opens past). e) (cases_lt (opens past) id.0)
+lives_some : (test : Life → Bool) (past : List Item) (id : Id) → Known past → is_some_and test (life past id) ≡ true → id.0 ≤ opens past
+lives_some test past id known h = ⊎_elim (λ (above : opens past < id.0). let never : false ≡ true = sym (ap (is_some_and test) (known id above)) ∙ h in absurd (cc)) (λ (e : id.0 ≤ opens past). e) (cases_lt (opens past) id.0)
 
 told_on : (old new : List Item) (id : Id) (a : Alarm) → origin_of new id ≡ origin_of old id → IsTold old id a → IsTold new id a
 told_on old new id (OfTimer efn reqid mode tag) e h = tt
@@ -136,11 +125,11 @@ and_less false b c f h = refl
 and_less true b false f h = refl
 and_less true b true f h = absurd (let never : true ≡ false = sym (f refl) ∙ h in cc)
 
-woken_map : (g : Life → Life) (o : Option Life) → ((l : Life) → (g l).kind ≡ l.kind) → ((l : Life) → (g l).routine ≡ true → l.routine ≡ true) → lives has_woken o ≡ false → lives has_woken (option_map g o) ≡ false
+woken_map : (g : Life → Life) (o : Option Life) → ((l : Life) → (g l).kind ≡ l.kind) → ((l : Life) → (g l).routine ≡ true → l.routine ≡ true) → is_some_and has_woken o ≡ false → is_some_and has_woken (option_map g o) ≡ false
 woken_map g None k r h = refl
 woken_map g (Some l) k r h = rw (k l) (and_less (is_wake l.kind) l.routine (g l).routine (r l) h)
 
-woken_at : (b : Bool) (g : Life → Life) (o : Option Life) → ((l : Life) → (g l).kind ≡ l.kind) → ((l : Life) → (g l).routine ≡ true → l.routine ≡ true) → lives has_woken o ≡ false → lives has_woken (cond b (option_map g o) o) ≡ false
+woken_at : (b : Bool) (g : Life → Life) (o : Option Life) → ((l : Life) → (g l).kind ≡ l.kind) → ((l : Life) → (g l).routine ≡ true → l.routine ≡ true) → is_some_and has_woken o ≡ false → is_some_and has_woken (cond b (option_map g o) o) ≡ false
 woken_at true g o k r h = woken_map g o k r h
 woken_at false g o k r h = h
 
@@ -153,7 +142,7 @@ open_unwoken k mode b e = three (is_wake k) (is_some mode) b e
     three true true z e = absurd (let never : false ≡ true = e in cc)
 
 pub unwoken_on : (x : Item) (past : List Item) → fits x ≡ true → Unwoken past → Unwoken (x ∷ past)
-unwoken_on (Did (effect.Open i k p mode n)) past e h = λ id. either (λ (o : Option Life). lives has_woken o ≡ false) (i.0 == id.0) _ _ (open_unwoken k mode _ e) (h id)
+unwoken_on (Did (effect.Open i k p mode n)) past e h = λ id. either (λ (o : Option Life). is_some_and has_woken o ≡ false) (i.0 == id.0) _ _ (open_unwoken k mode _ e) (h id)
 unwoken_on (Did (effect.Fin i c)) past e h = λ id. woken_at (i.0 == id.0) finished (life past id) (λ l. refl) (λ l r. r) (h id)
 unwoken_on (Did (effect.Mark i)) past e h = λ id. woken_at (i.0 == id.0) marked_now (life past id) (λ l. refl) (λ l r. r) (h id)
 unwoken_on (Did (effect.Que i)) past e h = λ id. woken_at (i.0 == id.0) queued_now (life past id) (λ l. refl) (λ l r. r) (h id)
@@ -267,7 +256,7 @@ step_timed P i s (event.Beg u) made b f h = beg_timed P s (front u s.requests) h
 step_timed P i s (event.Don u) made b f h = let o = step s (event.Don u) in moves_timed P i s None o.effects o.after None (step_moves s (event.Don u) refl made b) f h
 step_timed P i s event.Tick made b f h = let o = step s event.Tick in moves_timed P i s None o.effects o.after None (step_moves s event.Tick refl made b) f h
 
-one_told : (past : List Item) (id : Id) (p target : Pid) (n : ℕ) → woken (latest_call past) p ≡ target → lives (is_for target) (life (Did (effect.Open id opened.Wake p None n) ∷ past) id) ≡ true
+one_told : (past : List Item) (id : Id) (p target : Pid) (n : ℕ) → woken (latest_call past) p ≡ target → is_some_and (is_for target) (life (Did (effect.Open id opened.Wake p None n) ∷ past) id) ≡ true
 one_told past id p target n w = rw (eq-eqb id.0 id.0 refl) (eq-eqb (woken (latest_call past) p).0 target.0 (ap (λ (r : Pid). r.0) w))
 
 wakes_by : (s : State) (past : List Item) (e : Event) → IsThere s e → Base s → AllRight (Head e (step s e).answer ∷ past) (step s e).effects → Stands s None past → Wakes s past → Opens s e (step s e) → Wakes (step s e).after (later (Head e (step s e).answer ∷ past) (map Did (step s e).effects))
@@ -287,7 +276,7 @@ wakes_by s past e made b r g h (opened_one p target n delta is at w) =
       targets =
           subst (AllByRecursion (Targeted new)) (sym at)
           (all_append (Targeted new) s.timers (new_wake s p target delta n ∷ []) (old_targets s past new g (same_origins past e o.answer o.effects r) h.targets)
-          (subst (λ (es : List Effect). lives (is_for target) (life (later head (map Did es)) (next_id s)) ≡ true) (sym is) (one_told head (next_id s) p target n w), tt));
+          (subst (λ (es : List Effect). is_some_and (is_for target) (life (later head (map Did es)) (next_id s)) ≡ true) (sym is) (one_told head (next_id s) p target n w), tt));
       unwoken = subst (λ (es : List Effect). Unwoken (later head (map Did es))) (sym is) (unwoken_on (Did x) head refl (unwoken_on (Head e o.answer) past refl h.unwoken));
     }
 

@@ -1,7 +1,6 @@
 -- Every run keeps the six laws.
 use Rattle.std.proofs.Common.{List}
-use Rattle.vx_base.specs.declared.record.Rec.{Rec}
-use Rattle.vx_image.specs.declared.system.System.{System}
+use Rattle.vx_record.specs.Types.{Rec, System}
 use Rattle.vx_record.specs.Runs.{IsRun}
 use Rattle.vx_laws.specs.Laws.{KeepLaws}
 use Rattle.vx_laws.proofs.Completions.{every_run_tells}

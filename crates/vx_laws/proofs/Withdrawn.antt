@@ -2,18 +2,11 @@
 use Rattle.std.proofs.Common.{inl, inr, ◌≡◌, ◌≢◌, ℕ, ◌+◌, ◌≤◌, List, [], ◌∷◌, ◌++◌, Bool, true, false, not, ◌==◌, ◌&&◌, ◌||◌, Option, Some, None, map, refl, sym, ap, ◌∙◌, subst, arith, is_some, IsTrue}
 use Rattle.std.proofs.lemmas.Bool.{eq-eqb, eqb-true, ne_eqb, and_parts, and_from, or_cases, or_left, or_right, false_from_ne_true, not-true, not_from_false, both_ways}
 use Rattle.std.specs.List.{AllByRecursion, filter, list_any}
-use Rattle.vx_base.specs.Lists.{less}
-use Rattle.vx_base.specs.Pieces.{Channel, Request, Mailbox}
+use Rattle.vx_base.specs.Lists.{less, is_some_and}
+use Rattle.vx_record.specs.Types.{BoxNo, Channel, Device, Effect, Id, Mailbox, Msg, Pid, Request, UnitNo}
 use Rattle.vx_base.specs.declared.cond.Cond.TheVariants.{Cancel as Cancelled}
 use Rattle.vx_base.specs.declared.effects.Effect.TheVariants as effect
-use Rattle.vx_base.specs.declared.effects.Effect.{Effect}
-use Rattle.vx_base.specs.declared.number.BoxNo.{BoxNo}
-use Rattle.vx_base.specs.declared.number.Id.{Id}
-use Rattle.vx_base.specs.declared.number.Pid.{Pid}
-use Rattle.vx_base.specs.declared.number.UnitNo.{UnitNo}
 use Rattle.vx_base.specs.declared.request.Device.TheVariants as device
-use Rattle.vx_base.specs.declared.request.Device.{Device}
-use Rattle.vx_base.specs.declared.request.Msg.{Msg}
 use Rattle.vx_record.proofs.Ground.{at_set}
 use Rattle.vx_record.proofs.Lists.{either, either_by, all_weaker, all_both, all_less, all_amend, all_filter, all_find, all_from, ordered_less, ordered_amend, removed}
 use Rattle.vx_record.proofs.SoundChannels.{is_on_box}
@@ -35,7 +28,7 @@ use Rattle.vx_laws.proofs.Rows.{IsClear, freed_boxed, gone_boxed, row_written}
 use Rattle.vx_laws.specs.Agrees.{as_stored, device_title}
 use Rattle.vx_laws.specs.Boxes.{this_stored, stored, stored_at}
 use Rattle.vx_laws.specs.Items.{Item, Did, later, is_cond}
-use Rattle.vx_laws.specs.Lives.{life, lives}
+use Rattle.vx_laws.specs.Lives.{life}
 use Rattle.vx_laws.specs.MessageLaw.{is_cancelled_next, is_stored_nowhere}
 use Rattle.vx_laws.proofs.Common.{any_amend}
 
@@ -60,7 +53,7 @@ none_with : (w : Id) (ms : List Msg) → AllByRecursion (λ m. message_id m ≢ 
 none_with w [] h = refl
 none_with w (m ∷ ms) h = rw (ne_eqb m.id.0 w.0 h.0, none_with w ms h.1) refl
 
-stored_nowhere : (s : State) (past : List Item) (r : Request) → Rooted s past r → list_any (this_stored r.req.id) (stored past (device_title s r.req.device)) ≡ false → lives (is_stored_nowhere past r.req.id) (life past r.req.id) ≡ true
+stored_nowhere : (s : State) (past : List Item) (r : Request) → Rooted s past r → list_any (this_stored r.req.id) (stored past (device_title s r.req.device)) ≡ false → is_some_and (is_stored_nowhere past r.req.id) (life past r.req.id) ≡ true
 stored_nowhere s past r root none =
     let g : Origin = record { p = r.req.p; by = Some root.call; device = Some (device_title s r.req.device) } in
     lives_origin (is_stored_nowhere past r.req.id) g (life past r.req.id) root.is
@@ -70,9 +63,9 @@ box_nowhere : (s : State) (past : List Item) (r : Request) (b : BoxNo) (box : Ma
 box_nowhere s past r b box on is root none h =
     let title : device_title s r.req.device ≡ box.name = ap (λ (d : Device). device_title s d) on ∙ ap (λ (y : Mailbox). y.name) (mailbox_is s b box is) in
     let st : stored past (device_title s r.req.device) ≡ map as_stored box.messages = ap (stored past) title ∙ sym (h.boxes b box is).messages in
-    or_right (not (is_cond Cancelled Cancelled)) (lives (is_stored_nowhere past r.req.id) (life past r.req.id)) (stored_nowhere s past r root (ap (list_any (this_stored r.req.id)) st ∙ (any_stored r.req.id box.messages ∙ none)))
+    or_right (not (is_cond Cancelled Cancelled)) (is_some_and (is_stored_nowhere past r.req.id) (life past r.req.id)) (stored_nowhere s past r root (ap (list_any (this_stored r.req.id)) st ∙ (any_stored r.req.id box.messages ∙ none)))
 
-pub unit_nowhere : (s : State) (past : List Item) (r : Request) (u : UnitNo) → r.req.device ≡ device.Unit u → Rooted s past r → Boxed s past → lives (is_stored_nowhere past r.req.id) (life past r.req.id) ≡ true
+pub unit_nowhere : (s : State) (past : List Item) (r : Request) (u : UnitNo) → r.req.device ≡ device.Unit u → Rooted s past r → Boxed s past → is_some_and (is_stored_nowhere past r.req.id) (life past r.req.id) ≡ true
 unit_nowhere s past r u on root h =
     let empty : stored past (device_title s r.req.device) ≡ [] = subst (λ (d : Device). IsThere s d → stored past (device_title s d) ≡ []) (sym on) (λ there. unit_stores s past u there h) root.there in
     stored_nowhere s past r root (ap (list_any (this_stored r.req.id)) empty)
@@ -111,7 +104,7 @@ cancelled_walk s past r more has calm h = by_device r.req.device refl root.there
             (finish_walk a.after (Did x ∷ past) r (ending Cancelled 0 0 []) more calm (box_nowhere a.after (Did x ∷ past) r b new on there rooted gone boxed) boxed)
 
     by_device : (d : Device) → r.req.device ≡ d → IsThere s d → Walk s past (and_then (withdraw s r d) (λ a. finish a r (ending Cancelled 0 0 []))) more
-    by_device (device.Unit u) on there = walk_then s past (nothing s) (λ a. finish a r (ending Cancelled 0 0 [])) more (walk_nothing s past _ h) (finish_walk s past r (ending Cancelled 0 0 []) more calm (or_right (not (is_cond Cancelled Cancelled)) (lives (is_stored_nowhere past r.req.id) (life past r.req.id)) (unit_nowhere s past r u on root h)) h)
+    by_device (device.Unit u) on there = walk_then s past (nothing s) (λ a. finish a r (ending Cancelled 0 0 [])) more (walk_nothing s past _ h) (finish_walk s past r (ending Cancelled 0 0 []) more calm (or_right (not (is_cond Cancelled Cancelled)) (is_some_and (is_stored_nowhere past r.req.id) (life past r.req.id)) (unit_nowhere s past r u on root h)) h)
     by_device (device.Mailbox b) on there = by_box b (box_at s b) on refl there
 
 pub cancel_request_walk : (s : State) (past : List Item) (r : Request) (more : List Effect) → HasRequest s r → IsPlainCall past → Boxed s past → Walk s past (cancel_request s r) more

@@ -4,11 +4,7 @@ use Rattle.std.specs.List.{AllByRecursion, find, list_any}
 use Rattle.vx_base.specs.Channels.{channel_at}
 use Rattle.vx_base.specs.Clusters.{is_association, stands}
 use Rattle.vx_base.specs.Pieces.{is_enabled_in}
-use Rattle.vx_base.specs.declared.effects.Cell.{Cell}
-use Rattle.vx_base.specs.declared.mode.Mode.{Mode}
-use Rattle.vx_base.specs.declared.number.BoxNo.{BoxNo}
-use Rattle.vx_base.specs.declared.number.Id.{Id}
-use Rattle.vx_base.specs.declared.number.Pid.{Pid}
+use Rattle.vx_record.specs.Types.{BoxNo, Cell, Id, Mode, Pid}
 use Rattle.vx_image.specs.Storage.{status_at}
 use Rattle.vx_record.specs.Charges.{charge}
 use Rattle.vx_record.specs.Channels.{is_box_of}
@@ -24,19 +20,20 @@ use Rattle.vx_laws.specs.Boxes.{stored}
 use Rattle.vx_laws.specs.Charges.{charge_by}
 use Rattle.vx_laws.specs.Frames.{awaited, enabled_by, entered, waiting}
 use Rattle.vx_laws.specs.Items.{Item}
-use Rattle.vx_laws.specs.Lives.{is_outstanding, life, lives, opens}
+use Rattle.vx_laws.specs.Lives.{is_outstanding, life, opens}
 use Rattle.vx_laws.specs.QuotaSum.{decl_by}
 use Rattle.vx_laws.specs.RundownLaw.{is_gone}
 use Rattle.vx_laws.specs.Values.{cluster_by, flags_by, status_by}
+use Rattle.vx_base.specs.Lists.{is_some_and}
 
 -- What is open: the next id, the requests, the timers and wakes, the attention entries, the exit handlers of a process. A request
 -- is as its call says, on the device that its channel was on.
 pub record OpenAgrees (s : State) (past : List Item) : Type 0 where
   pub next : s.next ≡ opens past + 1
-  pub requests : (id : Id) → list_any (this_request id) s.requests ≡ lives is_outstanding (life past id)
-  pub timers : (id : Id) → list_any (this_timer id) s.timers ≡ lives (has_kind is_timed) (life past id)
-  pub attention : (id : Id) → list_any (this_attention id) s.attention ≡ lives (has_kind is_attending) (life past id)
-  pub handlers : (p : Pid) (id : Id) → 1 ≤ p.0 → list_any (this_handler id) (process_at s p).handlers ≡ lives (is_handler_of p) (life past id)
+  pub requests : (id : Id) → list_any (this_request id) s.requests ≡ is_some_and is_outstanding (life past id)
+  pub timers : (id : Id) → list_any (this_timer id) s.timers ≡ is_some_and (has_kind is_timed) (life past id)
+  pub attention : (id : Id) → list_any (this_attention id) s.attention ≡ is_some_and (has_kind is_attending) (life past id)
+  pub handlers : (p : Pid) (id : Id) → 1 ≤ p.0 → list_any (this_handler id) (process_at s p).handlers ≡ is_some_and (is_handler_of p) (life past id)
   pub called : AllByRecursion (λ r. AsCalled past r.req) s.requests
   pub devices : AllByRecursion (λ r. option_map (λ l. l.device) (life past r.req.id) ≡ Some (Some (device_title s r.req.device))) s.requests
 

@@ -2,7 +2,7 @@
 use Rattle.std.specs.Prelude.{List, [], Bool, true, not}
 use Rattle.vx_base.specs.declared.effects.Effect.TheVariants as effect
 use Rattle.vx_base.specs.declared.record.Event.TheVariants as event
-use Rattle.vx_base.specs.declared.record.Rec.{Rec}
+use Rattle.vx_record.specs.Types.{Rec}
 use Rattle.vx_laws.specs.Items.{Item, Head, Did, flat, at_each}
 use Rattle.vx_laws.specs.Lives.{new_life}
 use Rattle.vx_laws.specs.RundownLaw.{is_gone, is_of_nobody_gone, nothing_left}

@@ -1,9 +1,7 @@
 -- How something is said of every run.
 use Rattle.std.specs.Prelude.{◌≡◌, ℕ, List, Bool, true, Some}
-use Rattle.vx_base.specs.declared.number.Pid.{Pid}
+use Rattle.vx_record.specs.Types.{Pid, Rec, System}
 use Rattle.vx_base.specs.declared.record.End.TheVariants.{Done}
-use Rattle.vx_base.specs.declared.record.Rec.{Rec}
-use Rattle.vx_image.specs.declared.system.System.{System}
 use Rattle.vx_record.specs.Runs.{IsRun, after, end_after}
 use Rattle.vx_record.specs.State.{State}
 use Rattle.vx_laws.specs.Items.{Item, past_of}

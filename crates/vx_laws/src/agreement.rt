@@ -2,19 +2,13 @@
 
 ghost use Rattle.std.specs.Prelude.{◌≡◌, ℕ, ◌+◌, ◌≤◌, List, [], map, true, false, Some, is_some, IsTrue, option_map};
 ghost use Rattle.vx_base.specs.Channels.{channel_at};
-ghost use Rattle.vx_base.specs.declared.number.BoxNo.{BoxNo as BoxNoOf};
+ghost use Rattle.vx_base.specs.Lists.{is_some_and};
+ghost use Rattle.vx_record.specs.Types.{BoxNo as BoxNoOf, Cell as CellOf, Id as IdOf, Mode as ModeOf, Pid as PidOf, ProcDecl as DeclOf, Rec as RecOf, System as SystemOf};
 ghost use Rattle.std.specs.List.{list_any, AllByRecursion, find};
 ghost use Rattle.vx_base.specs.Clusters.{is_association, stands};
 ghost use Rattle.vx_base.specs.Pieces.{is_enabled_in};
 ghost use Rattle.vx_base.specs.Quotas.{is_within};
-ghost use Rattle.vx_base.specs.declared.effects.Cell.{Cell as CellOf};
-ghost use Rattle.vx_base.specs.declared.mode.Mode.{Mode as ModeOf};
-ghost use Rattle.vx_base.specs.declared.number.Id.{Id as IdOf};
-ghost use Rattle.vx_base.specs.declared.number.Pid.{Pid as PidOf};
-ghost use Rattle.vx_base.specs.declared.record.Rec.{Rec as RecOf};
 ghost use Rattle.vx_image.specs.Storage.{status_at};
-ghost use Rattle.vx_image.specs.declared.decl.ProcDecl.{ProcDecl as DeclOf};
-ghost use Rattle.vx_image.specs.declared.system.System.{System as SystemOf};
 ghost use Rattle.vx_laws.specs.Agreement.{StateAgrees};
 ghost use Rattle.vx_laws.specs.Agrees.{AreEntries, as_waiting, entered_frames, has_kind, is_attending, is_handler_of, is_timed, cluster_of, cluster_stands, AsCalled, IsOwned, as_stored, box_stands, device_title, OfChannelCall, waited};
 ghost use Rattle.vx_laws.specs.Boxes.{stored};
@@ -22,7 +16,7 @@ ghost use Rattle.vx_record.specs.Channels.{is_box_of, is_unit_of};
 ghost use Rattle.vx_laws.specs.Charges.{charge_by};
 ghost use Rattle.vx_laws.specs.Frames.{awaited, enabled_by, entered, waiting};
 ghost use Rattle.vx_laws.specs.Items.{past_of};
-ghost use Rattle.vx_laws.specs.Lives.{is_outstanding, life, lives, opens};
+ghost use Rattle.vx_laws.specs.Lives.{is_outstanding, life, opens};
 ghost use Rattle.vx_laws.specs.QuotaSum.{decl_by};
 ghost use Rattle.vx_laws.specs.RundownLaw.{is_gone};
 ghost use Rattle.vx_laws.specs.Runs.{AfterEveryRun};
@@ -52,11 +46,11 @@ pub fn every_moment_agrees()
 /// that stand in the state are exactly those that the records leave open.
 #[tactic(auto, using(crate::proofs::Opens::every_request, crate::proofs::Opens::every_timer, crate::proofs::Opens::every_attention, crate::proofs::Opens::every_handler))]
 pub fn every_open_id_stands()
-    ensures requests { AfterEveryRun (λ s past. (id : IdOf) → list_any (this_request id) s.requests ≡ lives is_outstanding (life past id)) }
-    ensures timers { AfterEveryRun (λ s past. (id : IdOf) → list_any (this_timer id) s.timers ≡ lives (has_kind is_timed) (life past id)) }
-    ensures attention { AfterEveryRun (λ s past. (id : IdOf) → list_any (this_attention id) s.attention ≡ lives (has_kind is_attending) (life past id)) }
+    ensures requests { AfterEveryRun (λ s past. (id : IdOf) → list_any (this_request id) s.requests ≡ is_some_and is_outstanding (life past id)) }
+    ensures timers { AfterEveryRun (λ s past. (id : IdOf) → list_any (this_timer id) s.timers ≡ is_some_and (has_kind is_timed) (life past id)) }
+    ensures attention { AfterEveryRun (λ s past. (id : IdOf) → list_any (this_attention id) s.attention ≡ is_some_and (has_kind is_attending) (life past id)) }
     ensures handlers { AfterEveryRun (λ s past. (p : PidOf) (id : IdOf) → 1 ≤ p.0 →
-        list_any (this_handler id) (process_at s p).handlers ≡ lives (is_handler_of p) (life past id)) }
+        list_any (this_handler id) (process_at s p).handlers ≡ is_some_and (is_handler_of p) (life past id)) }
 {}
 
 /// After the records of every run each outstanding request is as the call that opened it says: its process, its flag and status

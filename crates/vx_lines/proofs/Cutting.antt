@@ -4,8 +4,9 @@ use Rattle.std.proofs.lemmas.List.{length-take-le}
 use borrow.Author.Tests.{ltb-false}
 use Rattle.vx_image.specs.declared.unit.UnitDecl.{UnitDecl}
 use Rattle.vx_lines.specs.Cutting.{line_len, fed_len}
-use Rattle.vx_lines.specs.ReadRecords.{onto_first, fed_lines, is_of_record, read_lines, read_line, or_bad, read_so_far, nothing_read, read_records}
+use Rattle.vx_lines.specs.ReadRecords.{fed_lines, is_of_record, read_lines, read_line, or_bad, read_so_far, nothing_read, read_records}
 use Rattle.vx_lines.specs.declared.read.Reading.{Reading}
+use Rattle.std.specs.List.{onto_first}
 
 -- how many bytes the first line has, by the first byte
 abbrev len_more : ℕ → ℕ → ℕ

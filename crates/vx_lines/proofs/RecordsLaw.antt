@@ -3,16 +3,16 @@ use Rattle.std.proofs.Common.{◌≡◌, ℕ, ◌+◌, ◌<◌, ◌≤◌, ◌^�
 use Rattle.std.proofs.lemmas.Grind.{flat_map-append}
 use Rattle.std.proofs.lemmas.List.{length-map}
 use Rattle.std.specs.Prelude.{decimal}
-use Rattle.std.specs.List.{AllByRecursion, list_all}
+use Rattle.std.specs.List.{AllByRecursion, list_all, onto_first}
 use Rattle.std.proofs.lemmas.Bool.Decides.{nat_tests}
 use Rattle.vx_base.specs.Name.{is_digit}
 use Rattle.vx_base.specs.declared.effects.Effect.{Effect}
-use Rattle.vx_base.specs.declared.effects.Effect.TheVariants as effect
 use Rattle.vx_base.specs.declared.record.Rec.{Rec}
+use Rattle.vx_base.specs.declared.effects.Effect.TheVariants as effect
 use Rattle.vx_image.specs.declared.unit.UnitDecl.{UnitDecl}
 use Rattle.vx_lines.specs.Numbers.{digits_value}
 use Rattle.vx_lines.specs.ReadEffect.{is_no_feed}
-use Rattle.vx_lines.specs.ReadRecords.{begins_with_space, fed_lines, is_of_record, nothing_read, onto_first, or_bad, read_line, read_lines, read_so_far}
+use Rattle.vx_lines.specs.ReadRecords.{begins_with_space, fed_lines, is_of_record, nothing_read, or_bad, read_line, read_lines, read_so_far}
 use Rattle.vx_lines.specs.Records.{effect_line, ended_lines, head_line, record_lines, records_lines, event_text, answer_text}
 use Rattle.vx_lines.specs.Spelled.{IsSpelled}
 use Rattle.vx_lines.specs.SpelledHead.{IsSpelledHead}

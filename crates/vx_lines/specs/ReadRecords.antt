@@ -11,7 +11,7 @@ use Rattle.vx_lines.specs.declared.read.LinesFail.{LinesFail}
 use Rattle.vx_lines.specs.declared.read.LinesFail.TheVariants as fail
 use Rattle.vx_lines.specs.declared.read.Reading.{Reading}
 use Rattle.vx_lines.specs.declared.read.Records.{Records}
-pub use Rattle.vx_text.specs.Lines.{onto_first}
+use Rattle.std.specs.List.{onto_first}
 
 -- The lines of a text, each with its line feed, which the last may lack.
 

@@ -4,26 +4,27 @@ use Rattle.vx_base.specs.Cond.{name_of}
 use Rattle.vx_base.specs.Flags.{one}
 use Rattle.vx_base.specs.declared.cond.Cond.{Cond}
 use Rattle.vx_base.specs.declared.effects.Cell.{Cell}
-use Rattle.vx_base.specs.declared.effects.Cell.TheVariants.{Local, Common}
 use Rattle.vx_base.specs.declared.effects.Effect.{Effect}
-use Rattle.vx_base.specs.declared.effects.Effect.TheVariants as effect
 use Rattle.vx_base.specs.declared.effects.Opened.{Opened}
-use Rattle.vx_base.specs.declared.effects.Opened.TheVariants.{Bio, Dio, Attn, Timer, Wake, Ast, Force, Exh}
 use Rattle.vx_base.specs.declared.mode.Mode.{Mode}
 use Rattle.vx_base.specs.declared.number.Id.{Id}
 use Rattle.vx_base.specs.declared.number.Pid.{Pid}
 use Rattle.vx_base.specs.declared.number.UnitNo.{UnitNo}
 use Rattle.vx_base.specs.declared.record.Answer.{Answer}
-use Rattle.vx_base.specs.declared.record.Answer.TheVariants as answer
 use Rattle.vx_base.specs.declared.record.Event.{Event}
-use Rattle.vx_base.specs.declared.record.Event.TheVariants as event
 use Rattle.vx_base.specs.declared.record.Rec.{Rec}
 use Rattle.vx_base.specs.declared.request.Body.{Body}
+use Rattle.vx_base.specs.declared.effects.Cell.TheVariants.{Local, Common}
+use Rattle.vx_base.specs.declared.effects.Effect.TheVariants as effect
+use Rattle.vx_base.specs.declared.effects.Opened.TheVariants.{Bio, Dio, Attn, Timer, Wake, Ast, Force, Exh}
+use Rattle.vx_base.specs.declared.record.Answer.TheVariants as answer
+use Rattle.vx_base.specs.declared.record.Event.TheVariants as event
 use Rattle.vx_base.specs.declared.request.Body.TheVariants as body
 use Rattle.vx_image.specs.declared.unit.UnitDecl.{UnitDecl}
 use Rattle.vx_table.specs.Spelling.{target_text, mode_name, call_text}
 use Rattle.vx_text.specs.Quote.{quote_text}
 pub use Rattle.vx_text.specs.Lines.{ended_lines, spaced}
+use Rattle.vx_image.specs.Absent.{no_unit_decl}
 
 -- What effects name.
 
@@ -101,11 +102,8 @@ effect_line e = spaced (effect_words e)
 
 -- Heads.
 
-abbrev pub no_unit : UnitDecl
-no_unit = record { name = []; blocks = 0; inputs = []; faults = [] }
-
 abbrev pub unit_name : List UnitDecl → UnitNo → List ℕ
-unit_name units u = (slice_index_or units u.0 no_unit).name
+unit_name units u = (slice_index_or units u.0 no_unit_decl).name
 
 abbrev pub event_text : List UnitDecl → Event → List ℕ
 event_text units (event.Run p) = codes "RUN " ++ decimal p.0

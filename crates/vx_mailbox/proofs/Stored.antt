@@ -4,7 +4,7 @@ use Rattle.std.specs.List.{find}
 use Rattle.vx_base.proofs.First.{less_none}
 use Rattle.vx_base.specs.Lists.{less}
 use Rattle.vx_base.specs.Queues.{body_bytes, stored_bytes}
-use Rattle.vx_base.specs.declared.request.Msg.{Msg}
+use Rattle.vx_record.specs.Types.{Msg}
 use Rattle.vx_record.proofs.Lists.{all_append, all_less}
 use Rattle.vx_mailbox.specs.Boxes.{IsShort}
 use Rattle.vx_mailbox.specs.Places.{AreStored}

@@ -7,8 +7,7 @@ use Rattle.std.proofs.lemmas.List.Quantifiers.{position-Some}
 use Rattle.std.proofs.Math.Seq.{map-set_same}
 use Rattle.vx_base.proofs.Lists.{none_there}
 use Rattle.vx_base.proofs.First.{place_map}
-use Rattle.vx_base.specs.Pieces.{Mailbox}
-use Rattle.vx_base.specs.declared.number.BoxNo.{BoxNo}
+use Rattle.vx_record.specs.Types.{BoxNo, Mailbox}
 use Rattle.vx_record.specs.Channels.{is_box_of}
 use Rattle.vx_record.specs.Mailboxes.{or_no_box}
 use Rattle.vx_same.specs.Trimmed.{filled_to}

@@ -1,7 +1,7 @@
 -- Mailboxes without the numbers behind the last one.
 use Rattle.std.proofs.Common.{◌≡◌, ℕ, zero, suc, ◌-◌, ◌≤◌, List, [], ◌∷◌, ◌++◌, Option, Some, None, length, map, replicate, is_none, true, false, ap, refl, ◌∙◌, arith}
 use Rattle.std.proofs.lemmas.List.{length-map, map-append}
-use Rattle.vx_base.specs.Pieces.{Mailbox}
+use Rattle.vx_record.specs.Types.{Mailbox}
 use Rattle.vx_record.specs.Mailboxes.{or_no_box}
 use Rattle.vx_mailbox.specs.Digest.{mix_boxes, mix_messages}
 use Rattle.vx_mailbox.specs.Places.{Place, box_at}

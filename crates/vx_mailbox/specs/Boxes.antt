@@ -1,10 +1,8 @@
 -- Mailboxes by number, and attention entries.
 use Rattle.std.specs.Prelude.{ℕ, ◌+◌, ◌<◌, ◌≤◌, List, length, IsTrue, is_some, Option, None, slice_index_or, slice_set}
-use Rattle.vx_base.specs.Pieces.{Attention, Mailbox}
+use Rattle.vx_record.specs.Types.{Attention, BoxNo, Mailbox, Msg}
 use Rattle.vx_base.specs.Queues.{body_bytes}
 use Rattle.vx_base.specs.Roomy.{Roomy}
-use Rattle.vx_base.specs.declared.number.BoxNo.{BoxNo}
-use Rattle.vx_base.specs.declared.request.Msg.{Msg}
 use Rattle.vx_record.specs.Mailboxes.{or_no_box}
 
 -- The mailboxes by number, from 0, None where there is none; and for how many messages there is room in each number's place.

@@ -1,7 +1,6 @@
 -- Mailboxes as a number.
 use Rattle.std.specs.Prelude.{ℕ, List, [], ◌∷◌, Option}
-use Rattle.vx_base.specs.Pieces.{Mailbox}
-use Rattle.vx_base.specs.declared.request.Msg.{Msg}
+use Rattle.vx_record.specs.Types.{Mailbox, Msg}
 use Rattle.vx_record.specs.Mailboxes.{or_no_box}
 use Rattle.vx_same.specs.Mix.{mix}
 

@@ -1,7 +1,6 @@
 -- A mailbox apart from its messages.
 use Rattle.std.specs.Prelude.{◌≡◌, ⊤, List, [], Option, Some, None}
-use Rattle.vx_base.specs.Pieces.{Mailbox}
-use Rattle.vx_base.specs.declared.request.Msg.{Msg}
+use Rattle.vx_record.specs.Types.{Mailbox, Msg}
 use Rattle.vx_mailbox.specs.declared.place.Head.{Head}
 
 -- the mailbox with this head and these messages

@@ -1,9 +1,8 @@
 -- The places of mailboxes: one for each number.
 use Rattle.std.specs.Prelude.{◌≡◌, ◌≢◌, ℕ, ◌+◌, ◌-◌, ◌<◌, ◌≤◌, List, drop, length, map, replicate, Option, None, IfSome, IsTrue, is_some, slice_index_or}
 use Rattle.std.specs.List.{AllByRecursion}
-use Rattle.vx_base.specs.Pieces.{Mailbox}
+use Rattle.vx_record.specs.Types.{Mailbox, Msg}
 use Rattle.vx_base.specs.Queues.{stored_bytes}
-use Rattle.vx_base.specs.declared.request.Msg.{Msg}
 use Rattle.vx_record.specs.Mailboxes.{or_no_box}
 use Rattle.vx_mailbox.specs.Boxes.{Boxes, IsShort}
 

@@ -6,11 +6,8 @@ use Rattle.std.specs.declared.result.Result.TheVariants.{Ok, Err}
 use Rattle.std.proofs.lemmas.Bool.{true≢false}
 use Rattle.std.proofs.lemmas.List.{map-append, map_more}
 use Rattle.vx_base.specs.Clusters.{Common}
-use Rattle.vx_base.specs.Pieces.{Attention, DeviceUnit, Mailbox, Request, Timer}
-use Rattle.vx_base.specs.declared.number.Pid.{Pid}
-use Rattle.vx_image.specs.declared.system.System.{System}
+use Rattle.vx_record.specs.Types.{Attention, DeviceUnit, Mailbox, Pid, Req, Request, System, Timer}
 use Rattle.vx_record.specs.State.{Process, State}
-use Rattle.vx_base.specs.declared.request.Req.{Req}
 use Rattle.vx_procs.specs.Again.{AreWider, IsWider, asked_in}
 use Rattle.vx_procs.specs.Held.{AreHeld, Books, IsBooked, ServesAsked, books_at, no_books}
 use Rattle.vx_procs.specs.Units.{Kept, asked_of}

@@ -2,18 +2,15 @@
 use Rattle.std.proofs.Common.{◌≡◌, ◌≢◌, ℕ, ◌+◌, List, [], ◌∷◌, ◌++◌, Bool, true, false, cond, not, ◌&&◌, Option, Some, is_some, arith, refl, sym, ap, ◌∙◌}
 use Rattle.std.specs.List.{find}
 use Rattle.std.proofs.lemmas.Bool.{eq-eqb, eqb-true, false_from_ne_true}
+use Rattle.vx_base.proofs.Lists.{total_push}
 use Rattle.vx_base.specs.Flags.{one}
-use Rattle.vx_base.specs.Lists.{amend, less, tally}
-use Rattle.vx_base.specs.Pieces.{Promised, Request}
+use Rattle.vx_base.specs.Lists.{amend, less, tally, total}
+use Rattle.vx_record.specs.Types.{Need, Pid, Promised, Req, Request}
 use Rattle.vx_base.specs.Quotas.{no_need}
-use Rattle.vx_base.specs.declared.number.Pid.{Pid}
-use Rattle.vx_base.specs.declared.quota.Need.{Need}
-use Rattle.vx_base.specs.declared.request.Req.{Req}
 use Rattle.vx_record.specs.Charges.{ast_need, bears_ast, buffered_bytes, buffered_need, direct_need, is_attention, is_buffered_of, is_direct, is_direct_of, is_same, moved_bytes, request_need}
-use Rattle.vx_record.specs.Parts.{total}
 use Rattle.vx_record.specs.State.{State}
 use Rattle.vx_procs.proofs.Booked.{tally-append, tally-less}
-use Rattle.vx_record.proofs.OwnIds.{total_append, tally_amend, total_amend}
+use Rattle.vx_record.proofs.OwnIds.{tally_amend, total_amend}
 
 -- Totals.
 
@@ -71,7 +68,7 @@ one_more s p rs r = record {
   ast = let e = tally-append (bears_ast p) rs (r ∷ []) in omega (arith, e);
   bio = let e = tally-append (is_buffered_of s p) rs (r ∷ []) in omega (arith, e);
   dio = let e = tally-append (is_direct_of s p) rs (r ∷ []) in omega (arith, e);
-  byt = sym (total_append (buffered_bytes s p) rs r);
+  byt = sym (total_push (buffered_bytes s p) rs r);
 }
 
 pub one_less : (s : State) (p : Pid) (test : Request → Bool) (rs : List Request) (r : Request) → find test rs ≡ Some r → IsMore s p (its_charge s p r) (less test rs) rs

@@ -5,9 +5,7 @@ use Rattle.std.proofs.lemmas.Bool.{eq-eqb, eqb-true, false_from_ne_true}
 use Rattle.std.proofs.lemmas.List.{get_or_append_left, length-map}
 use Rattle.vx_base.specs.Flags.{one}
 use Rattle.vx_base.specs.Lists.{less, tally}
-use Rattle.vx_base.specs.Pieces.{Attention, Queued, Timer}
-use Rattle.vx_base.specs.declared.number.Pid.{Pid}
-use Rattle.vx_base.specs.declared.quota.Need.{Need}
+use Rattle.vx_record.specs.Types.{Attention, Need, Pid, Queued, Timer}
 use Rattle.vx_record.specs.State.{Process, State, IsProcess, limits_of, process_at, no_decl}
 use Rattle.vx_record.specs.Charges.{charge, bears_ast, is_attention_of, is_same, charged_timer, is_charged, is_timer_of}
 use Rattle.vx_procs.specs.Held.{Books, IsBooked, books_at, no_books, spare}

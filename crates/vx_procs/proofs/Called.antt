@@ -5,13 +5,9 @@ use Rattle.std.specs.Vec.{with_item}
 use Rattle.std.proofs.lemmas.Bool.{eqb-true}
 use Rattle.vx_base.specs.Flags.{one}
 use Rattle.vx_base.specs.Lists.{less, tally}
-use Rattle.vx_base.specs.Pieces.{Attention, Queued}
+use Rattle.vx_record.specs.Types.{Attention, Frame, Id, Need, Pid, Queued}
 use Rattle.vx_base.specs.Quotas.{is_within}
 use Rattle.vx_base.specs.Roomy.{Roomy, with_items}
-use Rattle.vx_base.specs.declared.frame.Frame.{Frame}
-use Rattle.vx_base.specs.declared.number.Id.{Id}
-use Rattle.vx_base.specs.declared.number.Pid.{Pid}
-use Rattle.vx_base.specs.declared.quota.Need.{Need}
 use Rattle.vx_base.proofs.First.{found_passes}
 use Rattle.vx_record.specs.Asts.{charged_ast, with_queued}
 use Rattle.vx_record.specs.Charges.{ast_need, exceeds, is_attention_of, is_charged}

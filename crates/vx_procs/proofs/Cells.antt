@@ -5,7 +5,7 @@ use Rattle.std.proofs.lemmas.List.{get_or_default}
 use Rattle.vx_base.specs.Clusters.{is_cluster}
 use Rattle.vx_base.specs.Flags.{with_flag}
 use Rattle.vx_base.specs.Lists.{amend}
-use Rattle.vx_base.specs.Pieces.{Cluster}
+use Rattle.vx_record.specs.Types.{Cluster}
 use Rattle.vx_base.proofs.First.{amend_at, amend_none, found_at, none_at}
 use Rattle.vx_clusters.specs.Clusters.{no_cluster}
 use Rattle.vx_record.specs.Flags.{cluster_flags, with_cluster_flag}

@@ -6,8 +6,7 @@ use Rattle.std.proofs.lemmas.List.{map-set, get_or-map, length-map, set-get_or}
 use Rattle.std.proofs.Math.Seq.{map-set_same}
 use Rattle.std.specs.Vec.{with_item}
 use Rattle.vx_base.specs.Roomy.{Roomy, with_items}
-use Rattle.vx_base.specs.Pieces.{Attention, Queued, Request, Timer}
-use Rattle.vx_base.specs.declared.number.Pid.{Pid}
+use Rattle.vx_record.specs.Types.{Attention, Pid, Queued, Request, Timer}
 use Rattle.vx_base.specs.Lists.{tally}
 use Rattle.vx_record.specs.State.{Process, State, IsProcess, process_at, change, nobody, no_decl}
 use Rattle.vx_record.specs.Charges.{charge, bears_ast, is_attention_of, charged_timer, is_charged}

@@ -6,10 +6,9 @@ use Rattle.std.proofs.lemmas.List.{append-nil, get_or_append_left, length-map, m
 use Rattle.std.proofs.Math.Seq.{get_or-append_seam}
 use Rattle.vx_base.specs.Flags.{one}
 use Rattle.vx_base.specs.Lists.{tally}
-use Rattle.vx_base.specs.Pieces.{Attention, Alarm, OfTimer, OfWake, Queued, Request, Timer}
+use Rattle.vx_record.specs.Types.{Alarm, Attention, Need, Pid, Queued, Request, Timer}
+use Rattle.vx_base.specs.Pieces.{OfTimer, OfWake}
 use Rattle.vx_base.specs.Quotas.{no_need}
-use Rattle.vx_base.specs.declared.number.Pid.{Pid}
-use Rattle.vx_base.specs.declared.quota.Need.{Need}
 use Rattle.vx_record.specs.State.{Process, State, IsProcess, process_at, nobody, no_decl, pid}
 use Rattle.vx_record.specs.Charges.{charge, charged_timer, is_attention_of, is_charged, is_timer, is_timer_of, takes_ast}
 use Rattle.vx_record.specs.Control.{created}

@@ -4,9 +4,8 @@ use Rattle.std.specs.List.{filter, find}
 use Rattle.vx_base.proofs.Lists.{none_mapped, some_mapped}
 use Rattle.vx_base.specs.Lists.{less}
 use Rattle.vx_base.proofs.First.{less_none}
-use Rattle.vx_base.specs.Pieces.{Timer}
+use Rattle.vx_record.specs.Types.{Id, Timer}
 use Rattle.vx_base.specs.declared.effects.Effect.TheVariants as effect
-use Rattle.vx_base.specs.declared.number.Id.{Id}
 use Rattle.vx_record.specs.State.{State}
 use Rattle.vx_record.specs.Parts.{Part, tells, and_then, each}
 use Rattle.vx_record.specs.Sound.{AreOrdered, timer_id}

@@ -2,12 +2,10 @@
 use Rattle.std.proofs.Common.{◌≡◌, ℕ, zero, suc, ◌+◌, ◌-◌, ◌<◌, ◌≤◌, None, Option, arith, List, [], ◌∷◌, ◌++◌, true, false, if◌then◌else◌, map, drop, length, slice_index_or, refl, ap, sym, subst, ◌∙◌}
 use Rattle.std.proofs.lemmas.List.{append_assoc, drop_more}
 use Rattle.vx_base.proofs.Lists.{any_default}
-use Rattle.vx_image.specs.declared.decl.ProcDecl.{ProcDecl}
+use Rattle.vx_record.specs.Types.{DeviceUnit, ProcDecl, Queued, System}
 use Rattle.std.specs.List.{AllByRecursion}
-use Rattle.vx_base.specs.Pieces.{DeviceUnit, Queued}
 use Rattle.vx_base.specs.Quotas.{no_need}
 use Rattle.vx_base.specs.Lists.{tally}
-use Rattle.vx_image.specs.declared.system.System.{System}
 use Rattle.vx_record.specs.State.{Process, State, no_decl, nobody, process_at}
 use Rattle.vx_record.specs.Charges.{charge, is_charged}
 use Rattle.vx_quota.specs.Account.{Quotas}

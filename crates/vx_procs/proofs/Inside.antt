@@ -1,7 +1,7 @@
 -- Where the contents of units are.
 use Rattle.std.proofs.Common.{◌≡◌, ℕ, ◌<◌, zero, suc, List, [], ◌∷◌, false, length, map, slice_index_or, Option, None, ap, refl, sym, subst, ◌∙◌}
 use Rattle.std.specs.List.{AllByRecursion}
-use Rattle.vx_base.specs.declared.number.UnitNo.{UnitNo}
+use Rattle.vx_record.specs.Types.{UnitNo}
 use Rattle.vx_units.specs.Leases.{Stand, Home, is_out}
 use Rattle.vx_record.proofs.Lists.{all_at}
 use Rattle.vx_procs.specs.Again.{stand_in}

@@ -4,11 +4,8 @@ use Rattle.std.specs.Vec.{with_item}
 use Rattle.std.proofs.lemmas.Bool.{and_parts}
 use Rattle.std.proofs.lemmas.List.{length-map, set-get_or}
 use Rattle.vx_base.proofs.Lists.{some_mapped}
-use Rattle.vx_base.specs.Pieces.{Request}
+use Rattle.vx_record.specs.Types.{Id, Req, Request, UnitNo}
 use Rattle.vx_base.specs.Queues.{in_service, is_on, is_served_by}
-use Rattle.vx_base.specs.declared.number.Id.{Id}
-use Rattle.vx_base.specs.declared.number.UnitNo.{UnitNo}
-use Rattle.vx_base.specs.declared.request.Req.{Req}
 use Rattle.vx_base.proofs.First.{found_passes}
 use Rattle.vx_record.proofs.Lists.{all_find}
 use Rattle.vx_units.specs.Leases.{Lease, LeaseServed, Stand, Home, Out, Back, is_out}

@@ -3,11 +3,7 @@ use Rattle.std.proofs.Common.{◌≡◌, ℕ, ◌-◌, ◌<◌, length, List, ma
 use Rattle.std.specs.List.{find}
 use Rattle.std.specs.Vec.{with_item}
 use Rattle.std.proofs.lemmas.List.{get_or_append_left, length-map, map-set}
-use Rattle.vx_base.specs.Pieces.{Handler}
-use Rattle.vx_base.specs.declared.cond.Cond.{Cond}
-use Rattle.vx_base.specs.declared.mode.Mode.{Mode}
-use Rattle.vx_base.specs.declared.number.Pid.{Pid}
-use Rattle.vx_base.specs.declared.request.Device.{Device}
+use Rattle.vx_record.specs.Types.{Cond, Device, Handler, Mode, Pid}
 use Rattle.vx_base.proofs.First.{less_none}
 use Rattle.vx_chans.specs.Chans as chans
 use Rattle.vx_record.specs.Channels.{assign_at}

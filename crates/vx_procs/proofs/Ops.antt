@@ -6,14 +6,11 @@ use Rattle.std.proofs.lemmas.Bool.Decides.{nat_tests}
 use Rattle.std.proofs.lemmas.Bool.{eq-eqb, eqb-true, leb-true, false_from_ne_true, not-false}
 use Rattle.vx_base.specs.Flags.{one}
 use Rattle.vx_base.specs.Lists.{amend, less, tally}
-use Rattle.vx_base.specs.Pieces.{Queued, Timer, Alarm, OfTimer, OfWake}
+use Rattle.vx_record.specs.Types.{Alarm, Frame, Id, Need, Pid, Queued, Timer}
+use Rattle.vx_base.specs.Pieces.{OfTimer, OfWake}
 use Rattle.vx_base.specs.Roomy.{Roomy, with_items}
 use Rattle.vx_base.proofs.First.{less_none}
 use Rattle.vx_base.specs.Quotas.{is_within, together}
-use Rattle.vx_base.specs.declared.frame.Frame.{Frame}
-use Rattle.vx_base.specs.declared.number.Id.{Id}
-use Rattle.vx_base.specs.declared.number.Pid.{Pid}
-use Rattle.vx_base.specs.declared.quota.Need.{Need}
 use Rattle.vx_record.specs.Timers.{at_time, due_again, is_due}
 use Rattle.vx_record.specs.State.{Process, State, IsProcess, process_at}
 use Rattle.vx_record.specs.Asts.{charged_ast, with_frame, with_queued}

@@ -4,7 +4,7 @@ use Rattle.std.specs.List.{find, list_any}
 use Rattle.std.proofs.lemmas.Bool.{and_from, and_parts, not-true, or_parts, not_from_false}
 use Rattle.vx_base.proofs.Any.{none_less}
 use Rattle.vx_base.specs.Lists.{less}
-use Rattle.vx_base.specs.declared.number.Id.{Id}
+use Rattle.vx_record.specs.Types.{Id}
 use Rattle.vx_record.proofs.Lists.{either}
 use Rattle.vx_procs.specs.Words.{have_own}
 

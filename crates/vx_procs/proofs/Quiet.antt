@@ -1,22 +1,21 @@
 -- Changes of a process that queue no AST and enter no frame.
 use Rattle.std.proofs.Common.{ℕ, ◌-◌, ◌≤◌, List, [], ◌∷◌, Bool, length, nat_lt, Option, None, refl, arith}
 use Rattle.vx_base.specs.Flags.{with_flag}
-use Rattle.vx_base.specs.declared.cond.Cond.{Cond}
-use Rattle.vx_base.specs.declared.frame.Frame.{Frame}
-use Rattle.vx_base.specs.declared.frame.Wait.{Wait}
+use Rattle.vx_record.specs.Types.{Cond, Frame, Wait}
 use Rattle.vx_base.specs.declared.frame.Wait.TheVariants as wait
 use Rattle.vx_image.specs.Storage.{Storage}
 use Rattle.vx_record.specs.State.{Process, with_top}
-use Rattle.vx_record.specs.Events.{below_top, moved_to, put_back, resumed_with, without_top}
+use Rattle.vx_record.specs.Events.{below_top, moved_to, put_back, resumed_with}
 use Rattle.vx_record.specs.Flags.{with_local_flag, with_wait}
 use Rattle.vx_record.proofs.Lists.{either}
 use Rattle.vx_procs.proofs.Changed.{IsQuiet}
+use Rattle.vx_base.specs.Lists.{rest}
 
 pub top_few : (f : Frame → Frame) (fs : List Frame) → length (with_top f fs) ≤ length fs
 top_few f [] = omega arith
 top_few f (x ∷ xs) = omega arith
 
-below_few : (fs : List Frame) → length (without_top fs) ≤ length fs
+below_few : (fs : List Frame) → length (rest fs) ≤ length fs
 below_few [] = omega arith
 below_few (x ∷ xs) = omega arith
 

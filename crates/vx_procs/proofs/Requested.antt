@@ -9,19 +9,11 @@ use Rattle.vx_base.proofs.Lists.{some_mapped}
 use Rattle.vx_base.specs.Flags.{one}
 use Rattle.vx_base.specs.Lists.{amend, less, tally}
 use Rattle.vx_base.specs.Log.{Log}
-use Rattle.vx_base.specs.Pieces.{DeviceUnit, Promised, Request}
+use Rattle.vx_record.specs.Types.{Device, DeviceUnit, Frame, Id, Need, Pid, Promised, Reply, Req, Request, UnitNo}
 use Rattle.vx_base.specs.Queues.{front, in_service, is_on, is_served_by, is_unit, waits_for}
 use Rattle.vx_base.specs.Quotas.{is_within, together}
 use Rattle.vx_base.specs.Roomy.{Roomy, with_items}
-use Rattle.vx_base.specs.declared.frame.Frame.{Frame}
-use Rattle.vx_base.specs.declared.number.Id.{Id}
-use Rattle.vx_base.specs.declared.number.Pid.{Pid}
-use Rattle.vx_base.specs.declared.number.UnitNo.{UnitNo}
-use Rattle.vx_base.specs.declared.quota.Need.{Need}
-use Rattle.vx_base.specs.declared.request.Device.{Device}
 use Rattle.vx_base.specs.declared.request.Device.TheVariants as device
-use Rattle.vx_base.specs.declared.request.Req.{Req}
-use Rattle.vx_base.specs.declared.request.Reply.{Reply}
 use Rattle.vx_base.specs.Serving.{serve, settled}
 use Rattle.vx_base.proofs.First.{found_passes}
 use Rattle.vx_record.specs.State.{Process, State, IsProcess, change, no_unit, process_at, unit_at}

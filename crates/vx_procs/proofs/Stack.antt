@@ -2,60 +2,50 @@
 use Rattle.std.proofs.Common.{◌≡◌, ℕ, zero, suc, ◌+◌, List, [], ◌∷◌, ◌++◌, Some, None, drop, length, refl, ap, sym, ◌∙◌, arith}
 use Rattle.std.proofs.lemmas.List.{append_assoc, append-nil, length-append}
 use Rattle.vx_base.specs.Log.{Log, HasRoom, logged}
-use Rattle.vx_base.specs.declared.frame.Frame.{Frame}
-use Rattle.vx_base.specs.declared.frame.FrameKind.{FrameKind}
+use Rattle.vx_record.specs.Types.{Frame, FrameKind, Image, Pid}
 use Rattle.vx_base.specs.declared.frame.FrameKind.TheVariants as kind
-use Rattle.vx_base.specs.declared.number.Pid.{Pid}
-use Rattle.vx_frames.specs.Frames as stack
 use Rattle.vx_image.specs.Local.{Advanced, advanced}
 use Rattle.vx_image.specs.Storage.{Storage}
-use Rattle.vx_image.specs.declared.image.Image.{Image}
-use Rattle.vx_record.specs.Events.{below_top, reader, without_top}
+use Rattle.vx_record.specs.Events.{reader}
 use Rattle.vx_record.specs.Rundown.{leave_all, leave_kind}
-use Rattle.vx_record.specs.State.{Process, State}
+use Rattle.vx_record.specs.State.{State}
 use Rattle.vx_procs.specs.Words.{advanced_from, left, left_kind, left_top}
-
-frames_below : (fs : List Frame) → stack.below_top fs ≡ without_top fs
-frames_below [] = refl
-frames_below (f ∷ fs) = refl
-
-pub same_below : (pr : Process) → record pr { frames = stack.below_top pr.frames } ≡ below_top pr
-same_below pr = ap (λ fs. record pr { frames = fs }) (frames_below pr.frames)
+use Rattle.vx_base.specs.Lists.{first, rest}
 
 -- local statements, from the top frame on
-pub advanced_top : (image : Image) (p : Pid) (store : Storage) (fs : List Frame) (f : Frame) (a : Advanced) → Some f ≡ stack.top_of fs → a ≡ advanced image (record { prm = f.prm; p = p }) store f.pc → a ≡ advanced_from image p store fs
+pub advanced_top : (image : Image) (p : Pid) (store : Storage) (fs : List Frame) (f : Frame) (a : Advanced) → Some f ≡ first fs → a ≡ advanced image (record { prm = f.prm; p = p }) store f.pc → a ≡ advanced_from image p store fs
 advanced_top image p store [] f a top e = absurd (cc)
 advanced_top image p store (g ∷ fs) f a top e = let same : f ≡ g = cc in e ∙ ap (λ h. advanced image (reader p h) store h.pc) same
 
 -- Frames that are left, the top first.
 
-pub below_drop : (fs : List Frame) (n : ℕ) → stack.below_top (drop n fs) ≡ drop (n + 1) fs
+pub below_drop : (fs : List Frame) (n : ℕ) → rest (drop n fs) ≡ drop (n + 1) fs
 below_drop [] zero = refl
 below_drop [] (suc n) = let e : suc n + 1 ≡ suc (suc n) = omega arith in rw e refl
 below_drop (f ∷ fs) zero = refl
 below_drop (f ∷ fs) (suc n) = let e : suc n + 1 ≡ suc (n + 1) = omega arith in rw e (below_drop fs n)
 
-pub left_split : (fs : List Frame) → left fs ≡ left_top fs ++ left (stack.below_top fs)
+pub left_split : (fs : List Frame) → left fs ≡ left_top fs ++ left (rest fs)
 left_split [] = refl
 left_split (f ∷ fs) = refl
 
 pub left_room : (log : Log) (fs : List Frame) → HasRoom log (length (left fs)) → HasRoom log (length (left_top fs))
-left_room log fs room = omega (arith, ap length (left_split fs), length-append (left_top fs) (left (stack.below_top fs)))
+left_room log fs room = omega (arith, ap length (left_split fs), length-append (left_top fs) (left (rest fs)))
 
-pub room_below : (log : Log) (fs : List Frame) → HasRoom log (length (left fs)) → HasRoom (logged log (left_top fs)) (length (left (stack.below_top fs)))
-room_below log fs room = omega (arith, ap length (left_split fs), length-append (left_top fs) (left (stack.below_top fs)), length-append log.items (left_top fs))
+pub room_below : (log : Log) (fs : List Frame) → HasRoom log (length (left fs)) → HasRoom (logged log (left_top fs)) (length (left (rest fs)))
+room_below log fs room = omega (arith, ap length (left_split fs), length-append (left_top fs) (left (rest fs)), length-append log.items (left_top fs))
 
-pub log_below : (log : Log) (fs : List Frame) → logged (logged log (left_top fs)) (left (stack.below_top fs)) ≡ logged log (left fs)
-log_below log fs = ap (λ xs. record log { items = xs }) (append_assoc log.items (left_top fs) (left (stack.below_top fs)) ∙ ap (λ xs. log.items ++ xs) (sym (left_split fs)))
+pub log_below : (log : Log) (fs : List Frame) → logged (logged log (left_top fs)) (left (rest fs)) ≡ logged log (left fs)
+log_below log fs = ap (λ xs. record log { items = xs }) (append_assoc log.items (left_top fs) (left (rest fs)) ∙ ap (λ xs. log.items ++ xs) (sym (left_split fs)))
 
 pub none_left : (log : Log) → logged log [] ≡ log
 none_left log = ap (λ xs. record log { items = xs }) (append-nil log.items)
 
-pub top_left : (fs : List Frame) (f : Frame) → Some f ≡ stack.top_of fs → left_top fs ≡ left_kind f.kind
+pub top_left : (fs : List Frame) (f : Frame) → Some f ≡ first fs → left_top fs ≡ left_kind f.kind
 top_left [] f top = absurd (cc)
 top_left (g ∷ fs) f top = let same : f ≡ g = cc in ap (λ h. left_kind h.kind) (sym same)
 
-pub no_top_left : (fs : List Frame) → None ≡ stack.top_of fs → left_top fs ≡ []
+pub no_top_left : (fs : List Frame) → None ≡ first fs → left_top fs ≡ []
 no_top_left [] top = refl
 no_top_left (g ∷ fs) top = absurd (cc)
 

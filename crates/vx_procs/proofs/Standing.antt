@@ -1,7 +1,7 @@
 -- A process of the state stands in the table.
 use Rattle.std.proofs.Common.{◌≡◌, length, subst, sym}
 use Rattle.std.proofs.lemmas.List.{length-map}
-use Rattle.vx_base.specs.declared.number.Pid.{Pid}
+use Rattle.vx_record.specs.Types.{Pid}
 use Rattle.vx_record.specs.State.{IsProcess, IsWithin}
 use Rattle.vx_procs.specs.View.{process, state}
 use Rattle.vx_procs.specs.declared.procs.Core.TheInside.{Inside}

@@ -1,6 +1,6 @@
 -- A copy of what the executive keeps beside its state: as much room or more, and the same accounts.
 use Rattle.std.specs.Prelude.{◌≡◌, List, [], ◌∷◌, Option, ⊤}
-use Rattle.vx_base.specs.declared.request.Req.{Req}
+use Rattle.vx_record.specs.Types.{Req}
 use Rattle.vx_units.specs.Leases.{Stand}
 use Rattle.vx_procs.specs.Held.{Books}
 use Rattle.vx_procs.specs.Kernel.{IsWithinRoom}

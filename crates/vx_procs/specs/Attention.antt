@@ -1,8 +1,7 @@
 -- Attention entries that fire or end.
 use Rattle.std.specs.Prelude.{Option, Some, None}
 use Rattle.vx_base.specs.Lists.{less}
-use Rattle.vx_base.specs.Pieces.{Attention}
-use Rattle.vx_base.specs.declared.number.Id.{Id}
+use Rattle.vx_record.specs.Types.{Attention, Id}
 use Rattle.vx_record.specs.Asts.{charged_ast, with_queued}
 use Rattle.vx_record.specs.Mailboxes.{this_attention}
 use Rattle.vx_record.specs.State.{State, change}

@@ -1,8 +1,7 @@
 -- Event flags that are there, and what calls on common clusters do.
 use Rattle.std.specs.Prelude.{ℕ, ◌<◌, List, Bool, Option}
-use Rattle.vx_base.specs.declared.effects.Cell.{Cell}
+use Rattle.vx_record.specs.Types.{Cell, Pid}
 use Rattle.vx_base.specs.declared.effects.Cell.TheVariants.{Local, Common}
-use Rattle.vx_base.specs.declared.number.Pid.{Pid}
 use Rattle.vx_clusters.specs.Clusters as clusters
 use Rattle.vx_clusters.specs.declared.fail.AscFail.{AscFail}
 use Rattle.vx_record.specs.Parts.{Part, commonly}

@@ -1,10 +1,7 @@
 -- What the calls on the channels of a process answer and leave.
 use Rattle.std.specs.Prelude.{ℕ, Option, Some, None, Result, Ok, Err}
-use Rattle.vx_base.specs.Pieces.{Channel}
-use Rattle.vx_base.specs.declared.cond.Cond.{Cond}
+use Rattle.vx_record.specs.Types.{Channel, Cond, Device, Mode}
 use Rattle.vx_base.specs.declared.cond.Cond.TheVariants as cond
-use Rattle.vx_base.specs.declared.mode.Mode.{Mode}
-use Rattle.vx_base.specs.declared.request.Device.{Device}
 use Rattle.vx_record.specs.State.{Process}
 use Rattle.vx_record.specs.Channels.{with_channel}
 use Rattle.vx_chans.specs.declared.chans.ChanFail.{ChanFail}

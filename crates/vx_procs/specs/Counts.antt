@@ -1,6 +1,6 @@
 -- The running charge of a process, as its queued ASTs change.
 use Rattle.std.specs.Prelude.{◌≤◌, Option, Some, None}
-use Rattle.vx_base.specs.Pieces.{Queued}
+use Rattle.vx_record.specs.Types.{Queued}
 use Rattle.vx_base.specs.Lists.{tally}
 use Rattle.vx_record.specs.Charges.{ast_need, is_charged}
 use Rattle.vx_quota.specs.Account.{Quotas, released}

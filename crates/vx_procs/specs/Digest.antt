@@ -4,16 +4,14 @@
 use Rattle.std.specs.Prelude.{ℕ, ◌+◌, List, [], ◌∷◌, Option, Some, None, length}
 use Rattle.vx_base.specs.Flags.{one}
 use Rattle.vx_base.specs.Modes.{rank}
-use Rattle.vx_base.specs.Pieces.{DeviceUnit}
-use Rattle.vx_base.specs.declared.frame.Frame.{Frame}
-use Rattle.vx_base.specs.declared.frame.Phase.{Phase}
+use Rattle.vx_record.specs.Types.{DeviceUnit, Frame, Phase}
 use Rattle.vx_base.specs.declared.frame.Phase.TheVariants as phase
-use Rattle.vx_frames.specs.Frames.{top_of}
 use Rattle.vx_image.specs.Digest.{mix_stored}
 use Rattle.vx_record.specs.State.{Process, State}
 use Rattle.vx_mailbox.specs.Digest.{mix_boxes}
 use Rattle.vx_reqs.specs.Digest.{mix_requests}
 use Rattle.vx_same.specs.Mix.{mix}
+use Rattle.vx_base.specs.Lists.{first}
 
 -- the statement of a frame, 0 where there is none
 abbrev pub place_in : Option Frame → ℕ
@@ -33,7 +31,7 @@ mix_values digest pr = mix (mix (mix_stored digest pr.store) pr.cluster_0) pr.cl
 
 -- a digest with its frames and ASTs
 abbrev pub mix_work : ℕ → Process → ℕ
-mix_work digest pr = mix (mix (mix digest (length pr.frames)) (place_in (top_of pr.frames))) (length pr.asts)
+mix_work digest pr = mix (mix (mix digest (length pr.frames)) (place_in (first pr.frames))) (length pr.asts)
 
 -- a digest with how it stands
 abbrev pub mix_standing : ℕ → Process → ℕ

@@ -1,8 +1,7 @@
 -- A process before its first statement, as the code makes it.
 use Rattle.std.specs.Prelude.{◌≡◌, ◌+◌, ◌≤◌, List, [], length, slice_index_or}
 use Rattle.vx_base.specs.Quotas.{no_need}
-use Rattle.vx_base.specs.declared.quota.Need.{Need}
-use Rattle.vx_image.specs.declared.decl.ProcDecl.{ProcDecl}
+use Rattle.vx_record.specs.Types.{Need, ProcDecl}
 use Rattle.vx_record.specs.State.{no_decl}
 use Rattle.vx_procs.specs.declared.process.Proc.{Proc}
 

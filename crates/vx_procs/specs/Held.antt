@@ -3,12 +3,10 @@ use Rattle.std.specs.Prelude.{◌≡◌, ℕ, ◌+◌, ◌-◌, ◌<◌, ◌≤�
 use Rattle.std.specs.List.{AllByRecursion}
 use Rattle.vx_base.specs.Flags.{one}
 use Rattle.vx_base.specs.Lists.{tally}
-use Rattle.vx_base.specs.Pieces.{Request, Timer, Alarm, OfTimer, OfWake}
+use Rattle.vx_record.specs.Types.{Alarm, Pid, Req, Request, Timer, UnitNo}
+use Rattle.vx_base.specs.Pieces.{OfTimer, OfWake}
 use Rattle.vx_base.specs.Queues.{is_served_by}
 use Rattle.vx_base.specs.Quotas.{no_need}
-use Rattle.vx_base.specs.declared.number.Pid.{Pid}
-use Rattle.vx_base.specs.declared.number.UnitNo.{UnitNo}
-use Rattle.vx_base.specs.declared.request.Req.{Req}
 use Rattle.vx_record.specs.State.{State, IsProcess, IsWithin, process_at, limits_of}
 use Rattle.vx_record.specs.Charges.{charge}
 use Rattle.vx_quota.specs.Account.{Quotas}

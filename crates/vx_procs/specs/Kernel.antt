@@ -1,12 +1,8 @@
 -- What callers see of the executive: its plain state, the log of the event under way, and how much there is room for.
 use Rattle.std.specs.Prelude.{◌≡◌, ℕ, ◌-◌, ◌≤◌, List, [], Option, Some, None, IsSome, false, length, map, option_map, slice_index_or, slice_set}
 use Rattle.vx_base.specs.Log.{Log, HasRoom, logged}
-use Rattle.vx_base.specs.Pieces.{Request}
+use Rattle.vx_record.specs.Types.{Effect, Pid, Req, Request, UnitNo}
 use Rattle.vx_base.specs.Queues.{front}
-use Rattle.vx_base.specs.declared.effects.Effect.{Effect}
-use Rattle.vx_base.specs.declared.number.Pid.{Pid}
-use Rattle.vx_base.specs.declared.number.UnitNo.{UnitNo}
-use Rattle.vx_base.specs.declared.request.Req.{Req}
 use Rattle.vx_record.specs.State.{Process, State, change}
 use Rattle.vx_record.specs.Parts.{Outcome, Part}
 use Rattle.vx_units.specs.Leases.{Stand, Home, is_out}

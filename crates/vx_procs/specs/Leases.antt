@@ -1,10 +1,7 @@
 -- Units that leave to be served, and come back.
 use Rattle.std.specs.Prelude.{◌≡◌, Option, Some, IsSome, option_map}
-use Rattle.vx_base.specs.Pieces.{Request}
+use Rattle.vx_record.specs.Types.{Id, Req, Request, UnitNo}
 use Rattle.vx_base.specs.Queues.{in_service}
-use Rattle.vx_base.specs.declared.number.Id.{Id}
-use Rattle.vx_base.specs.declared.number.UnitNo.{UnitNo}
-use Rattle.vx_base.specs.declared.request.Req.{Req}
 use Rattle.vx_record.specs.State.{unit_at}
 use Rattle.vx_units.specs.Leases.{Lease, LeaseServed, Home, Out}
 use Rattle.vx_procs.specs.Kernel.{Kernel, stand_for}

@@ -1,9 +1,7 @@
 -- A unit as the code keeps it: what is there of it, and what it is asked.
 use Rattle.std.specs.Prelude.{◌≡◌, Option, Some, None, IsTrue}
 use Rattle.vx_base.specs.Log.{Log}
-use Rattle.vx_base.specs.Pieces.{DeviceUnit}
-use Rattle.vx_base.specs.declared.request.Req.{Req}
-use Rattle.vx_base.specs.declared.request.Reply.{Reply}
+use Rattle.vx_record.specs.Types.{DeviceUnit, Reply, Req}
 use Rattle.vx_units.specs.Any.{seen}
 use Rattle.vx_units.specs.Leases.{HasServed, Home, Out, Back}
 use Rattle.vx_units.specs.Units.{Serving, is_for_unit}

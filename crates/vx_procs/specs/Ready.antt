@@ -2,7 +2,7 @@
 use Rattle.std.specs.Prelude.{◌≡◌, ℕ, ◌+◌, ◌^◌, ◌<◌, ◌≤◌, [], IfSome, Option, length}
 use Rattle.std.specs.List.{AllByRecursion}
 use Rattle.vx_base.specs.Log.{HasRoom}
-use Rattle.vx_base.specs.declared.number.Pid.{Pid}
+use Rattle.vx_record.specs.Types.{Pid}
 use Rattle.vx_base.specs.Lists.{tally}
 use Rattle.vx_mailbox.specs.Boxes.{HaveRoom}
 use Rattle.vx_image.specs.WellFormed.{IsImage}

@@ -1,14 +1,9 @@
 -- Words on requests: whose they are, what becomes of them, and what a finished one was.
 use Rattle.std.specs.Prelude.{◌≡◌, ℕ, ◌<◌, ◌≤◌, false, Option, Some, None, IsTrue, is_some, length, ⊤}
 use Rattle.vx_base.specs.Lists.{amend, less}
-use Rattle.vx_base.specs.Pieces.{Queued, Request, Promised}
+use Rattle.vx_record.specs.Types.{Device, Id, Promised, Queued, Reply, Req, Request, UnitNo}
 use Rattle.vx_base.specs.Serving.{serve, settled}
-use Rattle.vx_base.specs.declared.number.Id.{Id}
-use Rattle.vx_base.specs.declared.number.UnitNo.{UnitNo}
-use Rattle.vx_base.specs.declared.request.Device.{Device}
 use Rattle.vx_base.specs.declared.request.Device.TheVariants as device
-use Rattle.vx_base.specs.declared.request.Req.{Req}
-use Rattle.vx_base.specs.declared.request.Reply.{Reply}
 use Rattle.vx_record.specs.State.{State, IsProcess, change, unit_at}
 use Rattle.vx_record.specs.Asts.{charged_ast}
 use Rattle.vx_record.specs.Cancel.{with_abort}

@@ -1,9 +1,7 @@
 -- The units of the script as they are kept.
 use Rattle.std.specs.Prelude.{◌≡◌, [], false, Option, Some, None}
 use Rattle.vx_base.specs.Log.{Log, HasRoom}
-use Rattle.vx_base.specs.Pieces.{DeviceUnit}
-use Rattle.vx_base.specs.declared.number.UnitNo.{UnitNo}
-use Rattle.vx_base.specs.declared.request.Req.{Req}
+use Rattle.vx_record.specs.Types.{DeviceUnit, Req, UnitNo}
 use Rattle.vx_units.specs.Leases.{Lease, Stand, Home, is_out}
 
 -- what was made for the end of a unit's next service: the log in which it is told, the request that is asked of the unit, and

@@ -1,6 +1,6 @@
 -- What the processes of the code stand for.
 use Rattle.std.specs.Prelude.{List, [], ◌++◌, nat_lt, if◌then◌else◌, Option, map, option_to_list, vec_len, vec_capacity}
-use Rattle.vx_base.specs.Pieces.{DeviceUnit}
+use Rattle.vx_record.specs.Types.{DeviceUnit}
 use Rattle.vx_record.specs.State.{State}
 use Rattle.vx_procs.specs.Kernel.{Kernel, Room}
 use Rattle.vx_procs.specs.Held.{Books, AreHeld}

@@ -2,20 +2,12 @@
 use Rattle.std.specs.Prelude.{ℕ, ◌+◌, ◌<◌, nat_le, List, [], ◌∷◌, ◌++◌, Bool, true, false, ◌&&◌, ◌==◌, not, if◌then◌else◌, Option, Some, None, is_some, option_map, length, ⊤}
 use Rattle.std.specs.List.{list_any}
 use Rattle.vx_base.specs.Lists.{amend, less}
-use Rattle.vx_base.specs.Pieces.{Handler, Queued, Timer, Alarm, OfTimer, OfWake}
-use Rattle.vx_base.specs.declared.effects.Effect.{Effect}
+use Rattle.vx_record.specs.Types.{Alarm, Effect, Frame, FrameKind, Handler, Id, Image, Mode, Need, Pid, ProcDecl, Queued, Timer}
+use Rattle.vx_base.specs.Pieces.{OfTimer, OfWake}
 use Rattle.vx_base.specs.declared.effects.Effect.TheVariants as effect
-use Rattle.vx_base.specs.declared.frame.Frame.{Frame}
-use Rattle.vx_base.specs.declared.frame.FrameKind.{FrameKind}
 use Rattle.vx_base.specs.declared.frame.FrameKind.TheVariants as kind
-use Rattle.vx_base.specs.declared.mode.Mode.{Mode}
-use Rattle.vx_base.specs.declared.number.Id.{Id}
-use Rattle.vx_base.specs.declared.number.Pid.{Pid}
-use Rattle.vx_base.specs.declared.quota.Need.{Need}
 use Rattle.vx_image.specs.Local.{Advanced, advanced, stopped}
 use Rattle.vx_image.specs.Storage.{Storage}
-use Rattle.vx_image.specs.declared.decl.ProcDecl.{ProcDecl}
-use Rattle.vx_image.specs.declared.image.Image.{Image}
 use Rattle.vx_image.specs.declared.stop.Stop.TheVariants as stop
 use Rattle.vx_record.specs.State.{Process, State, IsWithin, process_at, change, decl_of, image_of, top_mode}
 use Rattle.vx_record.specs.Control.{created, held_by_both}

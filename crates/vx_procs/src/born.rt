@@ -2,7 +2,7 @@
 
 ghost use Rattle.std.specs.Prelude.{◌≡◌, ◌≤◌, ◌++◌, List, IfOk, OnOk, length, map, slice_index_or};
 ghost use Rattle.std.specs.List.{AllByRecursion};
-ghost use Rattle.vx_image.specs.declared.decl.ProcDecl.{ProcDecl as ProcDeclOf};
+ghost use Rattle.vx_record.specs.Types.{ProcDecl as ProcDeclOf};
 ghost use Rattle.vx_record.specs.State.{no_decl};
 ghost use Rattle.vx_record.specs.Runs.{born_from, first};
 ghost use Rattle.vx_procs.specs.Kernel.{AreIn};

@@ -2,7 +2,7 @@
 
 ghost use Rattle.std.specs.Prelude.{◌≡◌, map};
 ghost use Rattle.vx_base.specs.Flags.{one};
-ghost use Rattle.vx_frames.specs.Frames.{top_of};
+ghost use Rattle.vx_base.specs.Lists.{first};
 ghost use Rattle.vx_procs.specs.Digest.{counts_of, digest_of, mix_processes, mix_standing, mix_units, mix_values, mix_work, phase_number, place_in};
 ghost use Rattle.std.specs.List.{AllByRecursion};
 ghost use Rattle.vx_procs.specs.Units.{IsIn};
@@ -46,7 +46,7 @@ impl<R: Routine> Proc<R> {
 
     // The statement of its top frame, 0 where it has none.
     fn top_place(&self) -> u32
-        ensures { result ≡ place_in (top_of (process self.now).frames) }
+        ensures { result ≡ place_in (first (process self.now).frames) }
     {
         match self.frames.top() {
             Some(frame) => frame.pc,

@@ -1,8 +1,8 @@
 //! Changes of the frames of one process.
 
 ghost use Rattle.std.specs.Prelude.{◌≡◌, [], length};
+ghost use Rattle.vx_base.specs.Lists.{rest};
 ghost use Rattle.vx_base.specs.Log.{HasRoom, logged};
-ghost use Rattle.vx_frames.specs.Frames.{below_top};
 ghost use Rattle.vx_record.specs.State.{with_top};
 ghost use Rattle.vx_procs.specs.Words.{left, left_kind, left_top};
 
@@ -46,7 +46,7 @@ fn log_left(kind: FrameKind, log: &mut Effects)
 #[tactic(auto, using(crate::proofs::Stack::none_left, crate::proofs::Stack::top_left, crate::proofs::Stack::no_top_left))]
 fn leave_top(frames: &mut Frames, log: &mut Effects)
     requires { HasRoom log.old (length (left_top frames.old.items)) }
-    ensures frames { frames.new ≡ record frames.old { items = below_top frames.old.items } }
+    ensures frames { frames.new ≡ record frames.old { items = rest frames.old.items } }
     ensures log { log.new ≡ logged log.old (left_top frames.old.items) }
 {
     match frames.pop() {

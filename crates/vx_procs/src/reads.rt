@@ -1,7 +1,7 @@
 //! Reads of one process.
 
 ghost use Rattle.std.specs.Prelude.{◌≡◌, ◌<◌, ◌≤◌, length, option_map};
-ghost use Rattle.vx_frames.specs.Frames.{top_of};
+ghost use Rattle.vx_base.specs.Lists.{first};
 ghost use Rattle.vx_image.specs.Local.{place_of};
 ghost use Rattle.vx_image.specs.Storage.{buffer_at, status_at};
 ghost use Rattle.vx_record.specs.State.{IsProcess, process_at, decl_in, decl_of, image_in, image_of, current};
@@ -242,7 +242,7 @@ impl<R: Routine> Core<R> {
     /// Its top frame, if it has one.
     pub fn top(&self, p: Pid) -> Option<Frame>
         requires { IsProcess self.now.state p }
-        ensures { result ≡ top_of (process_at self.now.state p).frames }
+        ensures { result ≡ first (process_at self.now.state p).frames }
     {
         self.process_of(p).frames.top().copied()
     }

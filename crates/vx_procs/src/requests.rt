@@ -2,13 +2,14 @@
 
 ghost use Rattle.std.specs.Prelude.{◌≡◌, ◌+◌, ◌≤◌, [], false, not, option_map, IfSome, IsTrue, is_some, length};
 ghost use Rattle.std.specs.List.{find, list_any};
+ghost use Rattle.vx_base.specs.Lists.{is_some_and};
 ghost use Rattle.vx_base.specs.Queues.{front, in_service};
 ghost use Rattle.vx_record.specs.Charges.{exceeds, is_attention, is_direct, moved_bytes, request_need};
 ghost use Rattle.vx_record.specs.Finish.{this_request};
 ghost use Rattle.vx_record.specs.Requests.{with_request};
 ghost use Rattle.vx_record.specs.Rundown.{is_busy};
 ghost use Rattle.vx_record.specs.Runs.{first};
-ghost use Rattle.vx_reqs.specs.Requests.{is_found, is_to_cancel, promised_of};
+ghost use Rattle.vx_reqs.specs.Requests.{is_to_cancel, promised_of};
 ghost use Rattle.vx_procs.specs.Kernel.{with_state};
 ghost use Rattle.vx_procs.specs.Ready.{HasSpares};
 ghost use Rattle.vx_procs.specs.Requests.{IsOwnRequest, ended_if, finished, to_abort};
@@ -131,7 +132,7 @@ impl<R: Routine> Core<R> {
     /// The request with an id is to be aborted when its service ends ($CANCEL). False exactly where it was marked.
     pub fn mark_request(&mut self, id: Id) -> bool
         requires { IsTrue (list_any (this_request id) self.old.state.requests) }
-        ensures unmarked { result ≡ not (is_found (λ r. r.marked) (find (this_request id) self.old.state.requests)) }
+        ensures unmarked { result ≡ not (is_some_and (λ r. r.marked) (find (this_request id) self.old.state.requests)) }
         ensures after { self.new ≡ with_state self.old (to_abort id self.old.state) }
     {
         self.requests.mark(id)
@@ -146,7 +147,7 @@ impl<R: Routine> Core<R> {
 
     /// Whether there is a request with an id, and it is in service.
     pub fn is_served(&self, id: Id) -> bool
-        ensures { result ≡ is_found (λ r. r.served) (find (this_request id) self.now.state.requests) }
+        ensures { result ≡ is_some_and (λ r. r.served) (find (this_request id) self.now.state.requests) }
     {
         self.requests.is_served(id)
     }

@@ -2,8 +2,9 @@
 
 ghost use Rattle.std.specs.Prelude.{◌≡◌, ◌<◌, ◌≤◌, true, false, IsTrue, length, option_map};
 ghost use Rattle.std.specs.List.{find};
+ghost use Rattle.vx_base.specs.Lists.{first};
 ghost use Rattle.vx_base.specs.Pieces.{is_enabled_in};
-ghost use Rattle.vx_frames.specs.Frames.{may_stand_on, top_of};
+ghost use Rattle.vx_frames.specs.Frames.{may_stand_on};
 ghost use Rattle.vx_image.specs.WellFormed.{IsImage};
 ghost use Rattle.vx_record.specs.State.{IsProcess, process_at, image_of, next_id, past_id};
 ghost use Rattle.vx_record.specs.Charges.{ast_need, exceeds};
@@ -151,7 +152,7 @@ impl<R: Routine> Core<R> {
     /// Leaves the top frame of a process, if it has one.
     pub fn pop_frame(&mut self, p: Pid) -> Option<Frame>
         requires { IsProcess self.old.state p }
-        ensures top { result ≡ top_of (process_at self.old.state p).frames }
+        ensures top { result ≡ first (process_at self.old.state p).frames }
         ensures after { self.new ≡ changed self.old p below_top }
     {
         self.procs.at_mut(p).frames.pop()

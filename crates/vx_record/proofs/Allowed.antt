@@ -1,12 +1,8 @@
 -- What is enabled: events of processes that are there, and rundowns of processes that have no frame.
 use Rattle.std.proofs.Common.{◌≡◌, ℕ, ◌+◌, ◌≤◌, List, [], ◌∷◌, true, length, Option, Some, None, Contains, refl, arith}
 use Rattle.std.specs.List.{AllByRecursion}
-use Rattle.vx_base.specs.Pieces.{Request, DeviceUnit, Timer}
+use Rattle.vx_record.specs.Types.{DeviceUnit, Event, Frame, Pid, Request, Timer, UnitNo}
 use Rattle.vx_base.specs.Queues.{front}
-use Rattle.vx_base.specs.declared.frame.Frame.{Frame}
-use Rattle.vx_base.specs.declared.number.Pid.{Pid}
-use Rattle.vx_base.specs.declared.number.UnitNo.{UnitNo}
-use Rattle.vx_base.specs.declared.record.Event.{Event}
 use Rattle.vx_base.specs.declared.record.Event.TheVariants as event
 use Rattle.vx_record.specs.Events.{can_run_down, process_events, processes_from, beg_event, don_or_beg, units_from, tick_events, enabled}
 use Rattle.vx_record.specs.State.{Process, State, IsProcess, process_at}

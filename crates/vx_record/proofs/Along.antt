@@ -1,12 +1,8 @@
 -- Ids rise, and owners are there, along a run.
 use Rattle.std.proofs.Common.{false, List, [], ◌∷◌, Option, Some, None, refl, arith}
-use Rattle.vx_base.specs.Pieces.{Queued, Request}
+use Rattle.vx_record.specs.Types.{Event, Pid, Queued, Rec, Request, System}
 use Rattle.vx_base.specs.Queues.{front}
-use Rattle.vx_base.specs.declared.number.Pid.{Pid}
-use Rattle.vx_base.specs.declared.record.Event.{Event}
 use Rattle.vx_base.specs.declared.record.Event.TheVariants as event
-use Rattle.vx_base.specs.declared.record.Rec.{Rec}
-use Rattle.vx_image.specs.declared.system.System.{System}
 use Rattle.vx_record.specs.Asts.{deliverable_ast}
 use Rattle.vx_record.specs.Events.{beg, delivered, started, step}
 use Rattle.vx_record.specs.Finish.{this_request}

@@ -1,21 +1,13 @@
 -- What services share, as sequences of moves: flags, clusters, ends of requests, mailboxes, and requests.
 use Rattle.std.proofs.Common.{◌≡◌, ℕ, List, [], ◌∷◌, Bool, true, false, cond, not, ◌==◌, ◌&&◌, nat_lt, Option, Some, None, Result, Ok, Err, is_some, refl, ◌∙◌, ◌+◌, ◌≤◌, ◌++◌, IfSome, ap, arith, subst, get_or}
 use Rattle.std.specs.List.{filter, find, list_any, AllByRecursion}
-use Rattle.vx_base.specs.Pieces.{Channel, Request, Promised, Attention, Status, cleared, Association, Cluster}
-use Rattle.vx_base.specs.declared.cond.Cond.{Cond}
+use Rattle.vx_record.specs.Types.{Association, Attention, BoxNo, Cell, Channel, Cluster, Cond, Device, Effect, Entry, Func, Id, Msg, Need, Pid, Promised, Request, Status, Wait}
+use Rattle.vx_base.specs.Pieces.{cleared}
 use Rattle.vx_base.specs.declared.cond.Cond.TheVariants.{EndOfFile}
-use Rattle.vx_base.specs.declared.effects.Cell.{Cell}
 use Rattle.vx_base.specs.declared.effects.Cell.TheVariants.{Local, Common}
-use Rattle.vx_base.specs.declared.frame.Wait.{Wait}
 use Rattle.vx_base.specs.declared.frame.Wait.TheVariants as wait
-use Rattle.vx_base.specs.declared.number.BoxNo.{BoxNo}
-use Rattle.vx_base.specs.declared.number.Pid.{Pid}
-use Rattle.vx_base.specs.declared.request.Device.{Device}
 use Rattle.vx_base.specs.declared.request.Device.TheVariants as device
-use Rattle.vx_base.specs.declared.request.Func.{Func}
 use Rattle.vx_base.specs.declared.request.Func.TheVariants.{ReadAttn, WrtAttn}
-use Rattle.vx_base.specs.declared.request.Msg.{Msg}
-use Rattle.vx_base.specs.declared.routine.Entry.{Entry}
 use Rattle.vx_record.specs.State.{State, process_at, change, current, Process, IsProcess, limits_of, no_decl}
 use Rattle.vx_record.specs.Parts.{Part, Outcome, nothing, each, part_if, and_then, followed_by}
 use Rattle.vx_record.specs.Charges.{moved_bytes, request_need, exceeds, ast_need, is_direct, is_attention, charge}
@@ -30,15 +22,12 @@ use Rattle.std.proofs.lemmas.Bool.{eq-eqb, eqb-true, ltb-true}
 use Rattle.std.specs.Prelude.{option_map}
 use Rattle.vx_base.specs.Clusters.{Common as Clusters, Change, dissociated, associated, marked_at, is_used, is_user, is_association}
 use Rattle.vx_base.specs.Lists.{less}
-use Rattle.vx_base.specs.declared.effects.Effect.{Effect}
 use Rattle.vx_base.specs.declared.effects.Effect.TheVariants as effect
 use Rattle.vx_base.specs.declared.effects.Opened.TheVariants as opened
 use Rattle.vx_record.specs.Timers.{mode_of_ast}
-use Rattle.vx_base.specs.declared.number.Id.{Id}
 use Rattle.vx_record.specs.Asts.{charged_ast}
 use Rattle.vx_record.specs.Sound.{AreOrdered, request_id, timer_id, attention_id, ground, RequestStands, AttentionStands, WaitStands}
 use Rattle.std.proofs.lemmas.Slice.Eq.{bytes_eq-Decides}
-use Rattle.vx_base.specs.declared.quota.Need.{Need}
 use Rattle.vx_base.specs.Quotas.{together, is_within}
 use Rattle.vx_record.proofs.Moves.{Loose, passed, IsAt, IsSetWhere, promised_by, loosed, IsCellMade, IsSilent, is_clusters, IsNew, IsNewAttention, HasRequest, HasTimer, HasAttention, none, skip, both, quiet, bytes, status, flag, que, open_request, fin, mput, mget, open_attention, attention_fires, end_attention, MovesBy, PartBy, OutcomeBy, Answers, IsTame, calm}
 use Rattle.vx_record.proofs.Changes.{Quiet, with_wait_quiet}

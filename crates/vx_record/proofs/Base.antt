@@ -4,14 +4,11 @@ use Rattle.std.proofs.Common.{◌≡◌, ℕ, ◌+◌, ◌-◌, ◌≤◌, List,
 use Rattle.std.proofs.Math.ListN.{length-set}
 use Rattle.std.specs.List.{AllByRecursion, filter}
 use Rattle.vx_base.specs.Lists.{less, amend}
-use Rattle.vx_base.specs.Pieces.{Request, Timer, Alarm, OfTimer, OfWake, Attention}
-use Rattle.vx_base.specs.declared.effects.Cell.{Cell}
+use Rattle.vx_record.specs.Types.{Alarm, Attention, Cell, Effect, Mode, Pid, Request, Timer}
+use Rattle.vx_base.specs.Pieces.{OfTimer, OfWake}
 use Rattle.vx_base.specs.declared.effects.Cell.TheVariants.{Local, Common as Shared}
-use Rattle.vx_base.specs.declared.effects.Effect.{Effect}
-use Rattle.vx_base.specs.declared.number.Pid.{Pid}
 use Rattle.vx_record.specs.State.{Process, State, IsProcess, process_at, change, past_id}
 use Rattle.vx_record.specs.Flags.{with_local_flag, with_cell}
-use Rattle.vx_base.specs.declared.mode.Mode.{Mode}
 use Rattle.vx_record.specs.Parts.{Part, each}
 use Rattle.vx_record.specs.Rundown.{drop_ast, is_ast_reached, drop_handler, without_ast, with_handler, new_handler, without_handler}
 use Rattle.vx_record.specs.Timers.{this_timer, due_again, after_wake, with_timer}

@@ -2,17 +2,11 @@
 use Rattle.std.proofs.Common.{◌≡◌, ℕ, ◌+◌, List, Bool, true, length, IfSome, refl, ap, arith, subst, sym, ◌<◌, ◌&&◌, Option, Some, None, option_map}
 use Rattle.std.proofs.lemmas.Bool.{and_parts}
 use Rattle.vx_base.specs.Services.{is_of_kind, are_args, args_list, params_of}
-use Rattle.vx_base.specs.declared.call.Args.{Args}
-use Rattle.vx_base.specs.declared.call.Call.{Call}
-use Rattle.vx_base.specs.declared.frame.Frame.{Frame}
-use Rattle.vx_base.specs.declared.number.Pid.{Pid}
-use Rattle.vx_base.specs.declared.service.Service.{Service}
+use Rattle.vx_record.specs.Types.{Args, Call, Frame, Image, Pid, Service, Stop}
 use Rattle.vx_base.specs.declared.service.Service.TheVariants.{DclAst, DclExh}
 use Rattle.vx_image.specs.Local.{advanced}
 use Rattle.vx_image.specs.Storage.{Storage}
 use Rattle.vx_image.specs.WellFormed.{IsWellFormed, decl_names, is_image, has_its_label}
-use Rattle.vx_image.specs.declared.image.Image.{Image}
-use Rattle.vx_image.specs.declared.stop.Stop.{Stop}
 use Rattle.vx_record.specs.State.{Process, State, HasFrame, process_at, change, decl_of, image_of, no_image, image_in}
 use Rattle.vx_record.specs.Events.{moved_to, moved_behind, reader}
 use Rattle.vx_record.specs.Services.{label, routine, routine_or_none, routine_at, label_place}

@@ -2,15 +2,10 @@
 use Rattle.std.proofs.Common.{◌≡◌, ℕ, List, [], ◌∷◌, Bool, true, false, not, ◌&&◌, length, Option, Some, None, Result, Ok, Err, is_some, position, is_none, refl, ◌∙◌, ◌+◌, ◌≤◌, IfSome, sym, ap, arith, subst, ◌<◌, ◌≢◌}
 use Rattle.std.specs.List.{filter, find, list_any, AllByRecursion}
 use Rattle.vx_base.specs.Modes.{outer}
-use Rattle.vx_base.specs.Pieces.{Channel, Request, Timer, Alarm, OfTimer, OfWake, Attention, Mailbox}
-use Rattle.vx_base.specs.declared.cond.Cond.{Cond}
+use Rattle.vx_record.specs.Types.{Alarm, Attention, Cell, Channel, Cond, Device, Entry, Mailbox, Mode, Pid, Request, Timer}
+use Rattle.vx_base.specs.Pieces.{OfTimer, OfWake}
 use Rattle.vx_base.specs.declared.cond.Cond.TheVariants.{Cancel as Cancelled}
-use Rattle.vx_base.specs.declared.effects.Cell.{Cell}
-use Rattle.vx_base.specs.declared.mode.Mode.{Mode}
-use Rattle.vx_base.specs.declared.number.Pid.{Pid}
-use Rattle.vx_base.specs.declared.request.Device.{Device}
 use Rattle.vx_base.specs.declared.request.Device.TheVariants as device
-use Rattle.vx_base.specs.declared.routine.Entry.{Entry}
 use Rattle.vx_record.specs.State.{Process, State, process_at, change, current, IsProcess}
 use Rattle.vx_record.specs.Parts.{Part, Outcome, nothing, each, refused, at_tested, and_then}
 use Rattle.vx_record.specs.Charges.{exceeds, ast_need, timer_need}

@@ -1,13 +1,6 @@
 -- Changes of one process that keep references.
 use Rattle.std.proofs.Common.{IfSome, ◌≡◌, ℕ, ◌-◌, ◌≤◌, List, [], ◌∷◌, Bool, false, ◌==◌, length, Option, None, refl, arith}
-use Rattle.vx_base.specs.Pieces.{Queued, Handler, Status}
-use Rattle.vx_base.specs.declared.call.Target.{Target}
-use Rattle.vx_base.specs.declared.frame.Frame.{Frame}
-use Rattle.vx_base.specs.declared.frame.Phase.{Phase}
-use Rattle.vx_base.specs.declared.frame.Wait.{Wait}
-use Rattle.vx_base.specs.declared.mode.Mode.{Mode}
-use Rattle.vx_base.specs.declared.number.Id.{Id}
-use Rattle.vx_base.specs.declared.number.Pid.{Pid}
+use Rattle.vx_record.specs.Types.{Frame, Handler, Id, Mode, Phase, Pid, Queued, Status, Target, Wait}
 use Rattle.vx_image.specs.Storage.{Storage}
 use Rattle.vx_record.specs.State.{Process, State, IsProcess, process_at, change, with_top}
 use Rattle.vx_record.specs.Flags.{with_local_flag, with_wait}
@@ -16,11 +9,12 @@ use Rattle.vx_record.specs.Finish.{with_stored_bytes, with_stored_status}
 use Rattle.vx_record.specs.Control.{with_wake, with_suspension}
 use Rattle.vx_record.specs.Rundown.{this_handler, leaving, with_handler, without_handler, in_phase, without_ast, entering}
 use Rattle.vx_record.specs.Services.{with_variable}
-use Rattle.vx_record.specs.Events.{uses_wake, with_r0, moved_to, without_top, below_top, put_back}
+use Rattle.vx_record.specs.Events.{uses_wake, with_r0, moved_to, below_top, put_back}
 use Rattle.vx_record.specs.Sound.{ground, IsRoutine, IsRoutineOf, is_drained, IsIdle, ProcessStands, IsSound, WaitStands, WaitsStand}
 use Rattle.vx_record.proofs.Firm.{IsFirm}
 use Rattle.vx_record.proofs.Lists.{all_append, all_less, all_at}
 use Rattle.vx_record.proofs.Ground.{Still, change_sound, change_still}
+use Rattle.vx_base.specs.Lists.{rest}
 
 -- Idle processes.
 
@@ -39,7 +33,7 @@ pub idle_top : (ph : Phase) (f : Frame → Frame) (frames : List Frame) → IsId
 idle_top ph f [] i = idle_none ph
 idle_top ph f (x ∷ xs) i = idle_of ph (x ∷ xs) (f x ∷ xs) (omega arith) i
 
-pub idle_below : (ph : Phase) (frames : List Frame) → IsIdle ph frames → IsIdle ph (without_top frames)
+pub idle_below : (ph : Phase) (frames : List Frame) → IsIdle ph frames → IsIdle ph (rest frames)
 idle_below ph frames i = grind (arith, idle_none, idle_of)
 
 -- of a state whose references stand
@@ -54,7 +48,7 @@ waits_top : (f : Frame → Frame) (frames : List Frame) → ((x : Frame) → IfS
 waits_top f [] k h = tt
 waits_top f (x ∷ xs) k h = (k x h.0, h.1)
 
-waits_below : (frames : List Frame) → WaitsStand frames → WaitsStand (without_top frames)
+waits_below : (frames : List Frame) → WaitsStand frames → WaitsStand (rest frames)
 waits_below frames h = grind arith
 
 -- A change of nothing that references are on.

@@ -2,14 +2,9 @@
 use Rattle.std.proofs.Common.{◌≡◌, ℕ, ◌-◌, ◌≤◌, Bool, true, not, ◌==◌, nat_lt, Option, Some, Ok, IfSome, refl, ◌∙◌, subst}
 use Rattle.std.proofs.lemmas.Bool.{ltb-false, or_parts}
 use Rattle.vx_base.specs.Channels.{is_channel_number, channel_at}
-use Rattle.vx_base.specs.Pieces.{Channel, Status}
-use Rattle.vx_base.specs.declared.effects.Cell.{Cell}
+use Rattle.vx_record.specs.Types.{BoxNo, Cell, Channel, Device, Entry, Pid, Status}
 use Rattle.vx_base.specs.declared.effects.Cell.TheVariants.{Local, Common}
-use Rattle.vx_base.specs.declared.number.BoxNo.{BoxNo}
-use Rattle.vx_base.specs.declared.number.Pid.{Pid}
-use Rattle.vx_base.specs.declared.request.Device.{Device}
 use Rattle.vx_base.specs.declared.request.Device.TheVariants as device
-use Rattle.vx_base.specs.declared.routine.Entry.{Entry}
 use Rattle.vx_record.specs.State.{Process, State, IsProcess, HasFrame, process_at, change, current, nobody}
 use Rattle.vx_record.specs.Parts.{Part, nothing}
 use Rattle.vx_record.specs.Flags.{with_cell, with_local_flag}

@@ -5,12 +5,8 @@ use Rattle.std.proofs.lemmas.Bool.{and_parts, and_from, eqb-true, le-leb, false_
 use Rattle.std.specs.List.{AllByRecursion}
 use Rattle.vx_base.specs.Channels.{channel_at, is_reached, reached_from, channels_of}
 use Rattle.vx_base.specs.Modes.{reaches}
-use Rattle.vx_base.specs.Pieces.{Channel, Attention, Queued}
-use Rattle.vx_base.specs.declared.frame.Phase.{Phase}
+use Rattle.vx_record.specs.Types.{Attention, Channel, Device, Mode, Phase, Pid, Queued}
 use Rattle.vx_base.specs.declared.frame.Phase.TheVariants as phase
-use Rattle.vx_base.specs.declared.mode.Mode.{Mode}
-use Rattle.vx_base.specs.declared.number.Pid.{Pid}
-use Rattle.vx_base.specs.declared.request.Device.{Device}
 use Rattle.vx_base.specs.declared.request.Device.TheVariants as device
 use Rattle.vx_record.specs.State.{Process, State, IsProcess, process_at, change, nobody}
 use Rattle.vx_record.specs.Parts.{each}

@@ -4,24 +4,12 @@ use Rattle.std.proofs.Common.{◌<◌, ◌≤◌, ◌≡◌, ℕ, List, [], ◌�
 use Rattle.std.specs.Prelude.{IfSome, option_map, is_some, bytes_eq, length, if◌then◌else◌, ⊤, IsTrue}
 use Rattle.std.specs.List.{AllByRecursion, find, list_any}
 use Rattle.vx_base.specs.Clusters.{Change, Common, is_used, associated, dissociated, marked}
-use Rattle.vx_base.specs.Pieces.{Queued, Channel, Handler, Request, Promised, Timer, Alarm, OfTimer, OfWake, Attention, Mailbox, Status, DeviceUnit}
-use Rattle.vx_base.specs.declared.call.Target.{Target}
-use Rattle.vx_base.specs.declared.cond.Cond.{Cond}
-use Rattle.vx_base.specs.declared.effects.Cell.{Cell}
+use Rattle.vx_record.specs.Types.{Alarm, Attention, BoxNo, Cell, Channel, Cond, DeviceUnit, Effect, Entry, Frame, Handler, Id, Mailbox, Mode, Msg, Need, Opened, Pid, Promised, Queued, Request, Status, Target, Timer, UnitNo}
+use Rattle.vx_base.specs.Pieces.{OfTimer, OfWake}
 use Rattle.vx_base.specs.declared.effects.Cell.TheVariants.{Local, Common as Shared}
-use Rattle.vx_base.specs.declared.effects.Effect.{Effect}
 use Rattle.vx_base.specs.declared.effects.Effect.TheVariants as effect
-use Rattle.vx_base.specs.declared.effects.Opened.{Opened}
 use Rattle.vx_base.specs.declared.effects.Opened.TheVariants as opened
-use Rattle.vx_base.specs.declared.frame.Frame.{Frame}
-use Rattle.vx_base.specs.declared.mode.Mode.{Mode}
 use Rattle.vx_base.specs.declared.mode.Mode.TheVariants.{User}
-use Rattle.vx_base.specs.declared.number.BoxNo.{BoxNo}
-use Rattle.vx_base.specs.declared.number.Id.{Id}
-use Rattle.vx_base.specs.declared.number.Pid.{Pid}
-use Rattle.vx_base.specs.declared.number.UnitNo.{UnitNo}
-use Rattle.vx_base.specs.declared.request.Msg.{Msg}
-use Rattle.vx_base.specs.declared.routine.Entry.{Entry}
 use Rattle.vx_base.specs.Channels.{is_channel_number, channel_at, channels_of}
 use Rattle.vx_base.specs.declared.frame.Phase.TheVariants as phase
 use Rattle.vx_record.specs.Cancel.{is_attention_on, mark_part, drop_attention}
@@ -32,7 +20,6 @@ use Rattle.vx_record.proofs.Firm.{IsFirm}
 use Rattle.vx_record.proofs.SoundChannels.{IsClear}
 use Rattle.vx_record.specs.State.{Process, State, IsProcess, process_at, change, current, next_id, past_id, with_box}
 use Rattle.vx_record.specs.Parts.{Part, Outcome, commonly}
-use Rattle.vx_base.specs.declared.quota.Need.{Need}
 use Rattle.vx_record.specs.Charges.{is_direct, moved_bytes, is_attention, exceeds, request_need, ast_need, timer_need}
 use Rattle.vx_record.specs.Flags.{flag_part}
 use Rattle.vx_record.specs.Asts.{que_part, charged_ast, enb_part}

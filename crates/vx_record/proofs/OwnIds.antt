@@ -1,16 +1,13 @@
 -- No two open things have one id, after each move.
 use Rattle.std.proofs.Common.{◌≡◌, ℕ, zero, suc, ◌+◌, ◌-◌, ◌≤◌, List, [], ◌∷◌, ◌++◌, Bool, ◌==◌, nat_lt, Option, Some, None, refl, ap, arith, get_or, set}
 use Rattle.std.specs.List.{filter, find}
-use Rattle.vx_base.specs.Lists.{less, amend, tally}
-use Rattle.vx_base.specs.Pieces.{Queued, Handler, Request, Promised, Timer, Alarm, Attention}
-use Rattle.vx_base.specs.declared.effects.Cell.{Cell}
+use Rattle.vx_base.proofs.Lists.{total_push}
+use Rattle.vx_base.specs.Lists.{less, amend, tally, total}
+use Rattle.vx_record.specs.Types.{Alarm, Attention, Cell, Effect, Handler, Id, Pid, ProcDecl, Promised, Queued, Request, System, Timer}
 use Rattle.vx_base.specs.declared.effects.Cell.TheVariants.{Local, Common}
-use Rattle.vx_base.specs.declared.effects.Effect.{Effect}
-use Rattle.vx_base.specs.declared.number.Id.{Id}
-use Rattle.vx_base.specs.declared.number.Pid.{Pid}
 use Rattle.vx_record.specs.State.{Process, State, nobody, process_at, change, past_id}
 use Rattle.vx_base.specs.Flags.{one}
-use Rattle.vx_record.specs.Parts.{total, each}
+use Rattle.vx_record.specs.Parts.{each}
 use Rattle.vx_record.specs.Asts.{with_queued}
 use Rattle.vx_record.specs.Cancel.{with_abort}
 use Rattle.vx_record.specs.Control.{created}
@@ -19,8 +16,6 @@ use Rattle.vx_record.specs.Flags.{with_cell, with_local_flag}
 use Rattle.vx_record.specs.Mailboxes.{this_attention}
 use Rattle.vx_record.specs.Rundown.{with_handler, new_handler, drop_ast, drop_handler, is_ast_reached, this_handler, entering, without_ast, without_handler}
 use Rattle.vx_record.specs.Sound.{process_bears, bearers, HaveOwnIds, request_id, timer_id, attention_id}
-use Rattle.vx_image.specs.declared.decl.ProcDecl.{ProcDecl}
-use Rattle.vx_image.specs.declared.system.System.{System}
 use Rattle.vx_record.specs.Requests.{begun, taken_up}
 use Rattle.vx_record.specs.Runs.{born_from, first}
 use Rattle.vx_record.specs.Timers.{this_timer, after_wake}
@@ -49,10 +44,6 @@ total_set : {A : Type 0} (f : A → ℕ) (xs : List A) (i : ℕ) (y d : A) → f
 total_set f [] i y d e = omega (arith, e)
 total_set f (x ∷ xs) zero y d e = omega arith
 total_set f (x ∷ xs) (suc i) y d e = let rest = total_set f xs i y d e in omega (arith, rest)
-
-pub total_append : {A : Type 0} (f : A → ℕ) (xs : List A) (y : A) → total f (xs ++ y ∷ []) ≡ total f xs + f y
-total_append f [] y = omega arith
-total_append f (x ∷ xs) y = let rest = total_append f xs y in omega (arith, rest)
 
 pub total_amend : {A : Type 0} (f : A → ℕ) (p : A → Bool) (g : A → A) (xs : List A) → ((x : A) → f (g x) ≡ f x) → total f (amend p g xs) ≡ total f xs
 total_amend f p g [] k = refl
@@ -144,7 +135,7 @@ ruleset fewer = (still_fewer, put_fewer, passed_fewer, cell_fewer, drop_handler_
 pub moves_own : {refs : Bool} (s : State) (l : Option Loose) (es : List Effect) (t : State) (m : Option Loose) → MovesBy refs s l es t m → Own s l → Own t m
 moves_own s l es t m (both x y z a b c fs gs i j) h = moves_own y b gs z c j (moves_own x a fs y b i h)
 moves_own s l es t m (quiet x a p f q) h = fewer_own (put_fewer x p (f (process_at x p)) a q.asts q.handlers) h
-moves_own s l es t m (newly x a p place idle ok) h = fewer_own (still_fewer x _ a refl (λ id. let e = total_append (process_bears id) x.procs (created x p place) in omega (arith, e))) h
+moves_own s l es t m (newly x a p place idle ok) h = fewer_own (still_fewer x _ a refl (λ id. let e = total_push (process_bears id) x.procs (created x p place) in omega (arith, e))) h
 moves_own s l es t m (open_ast x p mode tag made ok) h = more_own (record { next = refl; few = λ id. omega arith }) h
 moves_own s l es t m (open_force x p code made) h = more_own (record { next = refl; few = λ id. omega arith }) h
 moves_own s l es t m (que x p q stage made) h = fewer_own (record { next = refl; few = λ id. let e = tally_append (λ (y : Queued). y.id.0 == id) (process_at x p).asts q in let f = change_bears x p (with_queued q) id (one (q.id.0 == id)) (omega (arith, e)) in omega (arith, f) }) h

@@ -3,12 +3,9 @@ use Rattle.std.proofs.Common.{◌≡◌, ℕ, ◌-◌, ◌+◌, ◌<◌, ◌≤�
 use Rattle.std.proofs.lemmas.Bool.{cases_eq, and_parts, and_from, eq-eqb, or_left, or_right, leb-true, false_from_ne_true, both_ways}
 use Rattle.std.specs.List.{list_any}
 use Rattle.vx_base.specs.Channels.{channels_of, channel_at, is_reached, reached_from}
-use Rattle.vx_base.specs.Pieces.{Attention, Request, Promised, Timer, Alarm, OfTimer, Channel}
-use Rattle.vx_base.specs.declared.effects.Effect.{Effect}
-use Rattle.vx_base.specs.declared.frame.Frame.{Frame}
+use Rattle.vx_record.specs.Types.{Alarm, Attention, BoxNo, Channel, Device, Effect, Frame, Mode, Pid, Promised, Request, Timer}
+use Rattle.vx_base.specs.Pieces.{OfTimer}
 use Rattle.vx_base.specs.declared.frame.Phase.TheVariants as phase
-use Rattle.vx_base.specs.declared.mode.Mode.{Mode}
-use Rattle.vx_base.specs.declared.number.Pid.{Pid}
 use Rattle.vx_record.specs.State.{Process, State, IsProcess, process_at, change, nobody}
 use Rattle.vx_record.specs.Cancel.{is_attention_on}
 use Rattle.vx_record.specs.Channels.{with_channel}
@@ -28,8 +25,6 @@ use Rattle.vx_record.proofs.SoundChannels.{assigned_still, freed_sound, gone_sou
 use Rattle.vx_record.proofs.SoundFlags.{flag_part_still}
 use Rattle.vx_record.proofs.SoundRequests.{with_request_still, with_unit_still, with_attention_still}
 use Rattle.vx_base.specs.Modes.{reaches}
-use Rattle.vx_base.specs.declared.number.BoxNo.{BoxNo}
-use Rattle.vx_base.specs.declared.request.Device.{Device}
 use Rattle.vx_base.specs.declared.request.Device.TheVariants as device
 use Rattle.vx_record.specs.Charges.{is_same}
 

@@ -3,20 +3,13 @@ use Rattle.std.proofs.Common.{◌≡◌, ℕ, zero, suc, ◌<◌, List, [], ◌�
 use Rattle.std.proofs.lemmas.Bool.{and_parts, and_from}
 use Rattle.std.specs.List.{AllByRecursion, list_all, list_any}
 use Rattle.vx_base.specs.Services.{is_of_kind, kind_of, is_unused, are_args, args_list, params_of}
-use Rattle.vx_base.specs.declared.call.Arg.{Arg}
+use Rattle.vx_record.specs.Types.{Arg, Call, Image, Kind, Label, Param, Stmt, Stop}
 use Rattle.vx_base.specs.declared.call.Arg.TheVariants as arg
-use Rattle.vx_base.specs.declared.call.Call.{Call}
-use Rattle.vx_base.specs.declared.service.Kind.{Kind}
 use Rattle.vx_base.specs.declared.service.Kind.TheVariants as kind
-use Rattle.vx_base.specs.declared.service.Param.{Param}
 use Rattle.vx_image.specs.Local.{Reader, Moved, computed_arg, computed, stop_at, go_on, local_at, run_local, advanced}
 use Rattle.vx_image.specs.Storage.{Storage}
 use Rattle.vx_image.specs.WellFormed.{is_among, label_names, has_its_label, is_call_of, is_stmt, is_image}
-use Rattle.vx_image.specs.declared.stop.Stop.{Stop}
 use Rattle.vx_image.specs.declared.stop.Stop.TheVariants as stop
-use Rattle.vx_image.specs.declared.image.Image.{Image}
-use Rattle.vx_image.specs.declared.image.Label.{Label}
-use Rattle.vx_image.specs.declared.stmt.Stmt.{Stmt}
 use Rattle.vx_image.specs.declared.stmt.Stmt.TheVariants as stmt
 use Rattle.vx_record.specs.Sound.{FitsImage}
 use Rattle.vx_record.specs.Services.{label, label_place, or_start}

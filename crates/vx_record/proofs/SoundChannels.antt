@@ -5,11 +5,7 @@ use Rattle.std.proofs.lemmas.Bool.{leb-true, and_parts, and_from, eq-eqb, eqb-fa
 use Rattle.std.proofs.lemmas.List.Quantifiers.{position-Some}
 use Rattle.std.specs.List.{AllByRecursion}
 use Rattle.vx_base.specs.Channels.{is_channel_number, channel_at, free_from}
-use Rattle.vx_base.specs.Pieces.{Channel, Mailbox}
-use Rattle.vx_base.specs.declared.mode.Mode.{Mode}
-use Rattle.vx_base.specs.declared.number.BoxNo.{BoxNo}
-use Rattle.vx_base.specs.declared.number.Pid.{Pid}
-use Rattle.vx_base.specs.declared.request.Device.{Device}
+use Rattle.vx_record.specs.Types.{BoxNo, Channel, Device, Mailbox, Mode, Pid}
 use Rattle.vx_base.specs.declared.request.Device.TheVariants as device
 use Rattle.vx_record.specs.State.{Process, State, IsProcess, process_at, change, with_box, nobody, no_unit_decl}
 use Rattle.vx_record.specs.Charges.{is_same}

@@ -5,10 +5,8 @@ use Rattle.std.proofs.lemmas.Bool.{eq-eqb, eqb-true, and_parts, and_from, or_lef
 use Rattle.std.proofs.lemmas.Slice.Eq.{bytes_eq-Decides}
 use Rattle.vx_base.specs.Clusters.{Common, Change, is_cluster, is_association, is_user, stands, is_used, made, gone, joined, parted, swept_at, swept, dissociated_at, dissociated, has_already, made_where_new, associated, with_mark, marked_at, marked}
 use Rattle.vx_base.specs.Lists.{less, amend}
-use Rattle.vx_base.specs.Pieces.{Association, Cluster}
-use Rattle.vx_base.specs.declared.effects.Cell.{Cell}
+use Rattle.vx_record.specs.Types.{Association, Cell, Cluster, Pid}
 use Rattle.vx_base.specs.declared.effects.Cell.TheVariants.{Local, Common as Shared}
-use Rattle.vx_base.specs.declared.number.Pid.{Pid}
 use Rattle.vx_record.specs.State.{State, IsWithin, process_at}
 use Rattle.vx_record.specs.Flags.{with_local_flag, with_cluster_flag, flag_part}
 use Rattle.vx_record.specs.Sound.{AssociationStands}

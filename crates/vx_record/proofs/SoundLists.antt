@@ -1,23 +1,18 @@
 -- References stand where one thing is added, changed or taken.
 use Rattle.std.proofs.Common.{◌≡◌, ℕ, [], ◌∷◌, ◌++◌, refl, List, Option, Some, None, IsTrue, is_some, arith, zero, suc, ◌<◌, length, replicate, get_or}
 use Rattle.vx_base.specs.Lists.{less}
-use Rattle.vx_base.specs.Pieces.{Timer, Mailbox, Request, Handler, Queued}
-use Rattle.vx_base.specs.declared.number.Id.{Id}
+use Rattle.vx_record.specs.Types.{BoxNo, Handler, Id, Mailbox, Mode, Pid, Privs, Queued, Request, Timer}
 use Rattle.vx_record.specs.State.{State, next_id, past_id, with_box, Process}
 use Rattle.vx_record.specs.Timers.{this_timer, with_timer, after_wake}
 use Rattle.vx_record.specs.Sound.{BoxStands, ground, TimerStands, RequestStands, ProcessStands, ChannelStands}
 use Rattle.vx_record.proofs.Firm.{IsFirm}
 use Rattle.vx_record.proofs.Lists.{either, all_append, all_less, all_amend, ordered_less, ordered_amend, ordered_more, all_weaker}
 use Rattle.vx_record.proofs.Ground.{Still, still_then, timers_still, past_id_still, Keeps, process_moves, moved, requests_still, attention_still, at_set, still}
-use Rattle.vx_base.specs.declared.number.BoxNo.{BoxNo}
 use Rattle.vx_record.specs.Finish.{this_request}
 use Rattle.vx_record.specs.Mailboxes.{this_attention}
 use Rattle.vx_record.specs.Cancel.{with_abort, mark_part}
-use Rattle.vx_base.specs.declared.quota.Privs.{Privs}
 use Rattle.std.proofs.lemmas.List.{length-append, get_or_append_left}
 use Rattle.std.specs.List.{AllByRecursion}
-use Rattle.vx_base.specs.declared.mode.Mode.{Mode}
-use Rattle.vx_base.specs.declared.number.Pid.{Pid}
 use Rattle.vx_record.specs.Parts.{each}
 use Rattle.vx_record.specs.Control.{new_process}
 use Rattle.vx_record.specs.Rundown.{drop_handler, drop_ast}

@@ -5,15 +5,9 @@ use Rattle.std.proofs.lemmas.Bool.{eqb-true}
 use Rattle.std.specs.List.{AllByRecursion, find}
 use Rattle.vx_base.specs.Channels.{is_channel_number, channel_at}
 use Rattle.vx_base.specs.Lists.{amend}
-use Rattle.vx_base.specs.Pieces.{Channel, Request, Promised, Attention, DeviceUnit}
+use Rattle.vx_record.specs.Types.{Attention, Cell, Channel, Device, DeviceUnit, Entry, Mode, Pid, Promised, Request, UnitNo}
 use Rattle.vx_base.specs.Queues.{is_unit, waits_for}
-use Rattle.vx_base.specs.declared.effects.Cell.{Cell}
-use Rattle.vx_base.specs.declared.mode.Mode.{Mode}
-use Rattle.vx_base.specs.declared.number.Pid.{Pid}
-use Rattle.vx_base.specs.declared.number.UnitNo.{UnitNo}
-use Rattle.vx_base.specs.declared.request.Device.{Device}
 use Rattle.vx_base.specs.declared.request.Device.TheVariants as device
-use Rattle.vx_base.specs.declared.routine.Entry.{Entry}
 use Rattle.vx_record.specs.State.{State, IsProcess, process_at, next_id, past_id}
 use Rattle.vx_record.specs.Flags.{cell}
 use Rattle.vx_record.specs.Finish.{this_request}

@@ -2,21 +2,12 @@
 use Rattle.std.proofs.Common.{◌≡◌, ℕ, ◌+◌, List, [], ◌∷◌, true, length, Option, Some, None, Contains, refl, sym, ◌∙◌, arith, subst}
 use Rattle.std.proofs.lemmas.List.{length-map}
 use Rattle.std.specs.List.{AllByRecursion}
-use Rattle.vx_base.specs.Pieces.{Queued, Request}
+use Rattle.vx_record.specs.Types.{Answer, Call, Event, Frame, Pid, ProcDecl, Queued, Rec, Request, System, UnitNo}
 use Rattle.vx_base.specs.Queues.{front}
-use Rattle.vx_base.specs.declared.call.Call.{Call}
-use Rattle.vx_base.specs.declared.frame.Frame.{Frame}
-use Rattle.vx_base.specs.declared.number.Pid.{Pid}
-use Rattle.vx_base.specs.declared.number.UnitNo.{UnitNo}
-use Rattle.vx_base.specs.declared.record.Event.{Event}
 use Rattle.vx_base.specs.declared.record.Event.TheVariants as event
-use Rattle.vx_base.specs.declared.record.Rec.{Rec}
 use Rattle.vx_image.specs.WellFormed.{IsWellFormed}
-use Rattle.vx_image.specs.declared.decl.ProcDecl.{ProcDecl}
-use Rattle.vx_image.specs.declared.system.System.{System}
 use Rattle.vx_image.specs.Units.{first_unit}
 use Rattle.vx_record.specs.Parts.{Outcome}
-use Rattle.vx_base.specs.declared.record.Answer.{Answer}
 use Rattle.vx_record.specs.Rundown.{without_ast}
 use Rattle.vx_record.specs.Sound.{ground, ProcessStands, IsSound, FitsImage}
 use Rattle.vx_record.proofs.Steps.{service_moves, started_moves, step_moves}

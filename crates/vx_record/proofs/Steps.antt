@@ -2,36 +2,18 @@
 use Rattle.std.proofs.Common.{◌≡◌, ℕ, ◌^◌, ◌%◌, List, [], ◌∷◌, Bool, true, false, not, ◌==◌, ◌&&◌, ◌||◌, nat_lt, nat_le, length, Option, Some, None, Result, Ok, Err, position, refl, ◌∙◌, ◌+◌, ◌≤◌, IfSome, sym, ap, arith, subst, append-nil, zero, suc, get_or, ◌<◌}
 use Rattle.std.specs.List.{filter, find, list_any, AllByRecursion}
 use Rattle.vx_base.specs.Modes.{outer, is_kernel}
-use Rattle.vx_base.specs.Pieces.{Queued, Channel, Handler, Request, Promised}
+use Rattle.vx_record.specs.Types.{Answer, Args, Call, Cell, Channel, Cond, Entry, Event, Frame, FrameKind, Handler, Mode, Phase, Pid, ProcDecl, Promised, Queued, Req, Request, Service, Stop, Target, UnitNo, Wait}
 use Rattle.vx_base.specs.Queues.{in_service, is_served_by}
 use Rattle.vx_base.specs.Serving.{serve, settled}
-use Rattle.vx_base.specs.declared.call.Args.{Args}
-use Rattle.vx_base.specs.declared.call.Call.{Call}
-use Rattle.vx_base.specs.declared.call.Target.{Target}
-use Rattle.vx_base.specs.declared.cond.Cond.{Cond}
 use Rattle.vx_base.specs.declared.cond.Cond.TheVariants.{Cancel as Cancelled, Normal}
-use Rattle.vx_base.specs.declared.effects.Cell.{Cell}
 use Rattle.vx_base.specs.declared.effects.Cell.TheVariants.{Local, Common}
-use Rattle.vx_base.specs.declared.frame.Frame.{Frame}
-use Rattle.vx_base.specs.declared.frame.FrameKind.{FrameKind}
 use Rattle.vx_base.specs.declared.frame.FrameKind.TheVariants as kind
-use Rattle.vx_base.specs.declared.frame.Phase.{Phase}
 use Rattle.vx_base.specs.declared.frame.Phase.TheVariants as phase
-use Rattle.vx_base.specs.declared.frame.Wait.{Wait}
 use Rattle.vx_base.specs.declared.frame.Wait.TheVariants as wait
-use Rattle.vx_base.specs.declared.mode.Mode.{Mode}
-use Rattle.vx_base.specs.declared.number.Pid.{Pid}
-use Rattle.vx_base.specs.declared.number.UnitNo.{UnitNo}
-use Rattle.vx_base.specs.declared.record.Answer.{Answer}
-use Rattle.vx_base.specs.declared.record.Event.{Event}
 use Rattle.vx_base.specs.declared.record.Event.TheVariants as event
-use Rattle.vx_base.specs.declared.request.Req.{Req}
-use Rattle.vx_base.specs.declared.routine.Entry.{Entry}
 use Rattle.vx_base.specs.declared.routine.Entry.TheVariants as entry
-use Rattle.vx_base.specs.declared.service.Service.{Service}
 use Rattle.vx_base.specs.declared.service.Service.TheVariants.{SetEf, ClrEf, ReadEf, WaitFr, WflOr, WflAnd, AscEfc, DacEfc, DlcEfc, DclAst, SetAst, CmExec, CmKrnl, SetImr, CanTim, SchdWk, CanWak, Hiber, Wake, Suspnd, Resume, ForceX, CrePrc, DelPrc, Exit, DclExh, CanExh, Assign, Dassgn, CreMbx, DelMbx, Qio, QioW, Synch, Cancel, GetTim}
 use Rattle.vx_image.specs.Local.{Advanced, advanced}
-use Rattle.vx_image.specs.declared.stop.Stop.{Stop}
 use Rattle.vx_image.specs.declared.stop.Stop.TheVariants as stop
 use Rattle.vx_record.specs.State.{State, process_at, change, current, image_of, unit_at, Process, IsProcess, next_id, past_id, no_decl, HasFrame, top_mode}
 use Rattle.vx_record.specs.Parts.{Part, Outcome, nothing, each, refused, part_of, and_then, followed_by}
@@ -44,7 +26,7 @@ use Rattle.vx_record.specs.Cancel.{mark_part, withdraw, cancelled_request, cance
 use Rattle.vx_record.specs.Requests.{request_test, unit_ending, with_unit}
 use Rattle.vx_record.specs.Control.{process_test, changed_process, with_wake, with_suspension, forced, creprc, exit_ast}
 use Rattle.vx_record.specs.Timers.{drop_timer, drop_timers, is_cancelled_timer, scheduled, is_wake_for, unscheduled, gettim}
-use Rattle.vx_record.specs.Rundown.{leave_kind, leave_frame, leave_all, exited, without_frames, is_handler_of, is_handler_with, drop_handlers, any_handler, cancel_found, cancel_handlers, named_for_deletion, deleted_by, cancel_one, free_one, is_timer_in, is_wake_by, cancel_modes, release, drop_all_handlers, is_busy, drain, cancelled_in, run_handlers, handling, run_down, inner_modes, rundown_from, drop_asts, handler_frame, in_phase, gone_part, part_with, leaving, keeps_busy}
+use Rattle.vx_record.specs.Rundown.{leave_kind, leave_frame, leave_all, exited, without_frames, is_handler_of, drop_handlers, any_handler, cancel_found, cancel_handlers, named_for_deletion, deleted_by, cancel_one, free_one, is_timer_in, is_wake_by, cancel_modes, release, drop_all_handlers, is_busy, drain, cancelled_in, run_handlers, handling, run_down, inner_modes, rundown_from, drop_asts, handler_frame, in_phase, gone_part, part_with, leaving, keeps_busy}
 use Rattle.vx_record.specs.Services.{number, place, access_mode, text, routine_or_none, decl_place, asked, valued_at, numbered_at, service_of, service, var_part, valued, routine}
 use Rattle.vx_record.specs.Events.{r0_of, returned_from, returned, served_call, moved_behind, moved_to, run_on, run_advanced, reader, run_frame, run, started, don, step, resumed_with, uses_wake, with_r0, put_back, below_top, or_normal}
 use Rattle.vx_record.specs.declared.served.Served.{Served}
@@ -60,7 +42,6 @@ use Rattle.vx_base.specs.Cond.{number_of}
 use Rattle.std.specs.Prelude.{bytes_eq, unwrap_or, ⊤}
 use Rattle.std.proofs.lemmas.Slice.Eq.{bytes_eq-Decides}
 use Rattle.std.proofs.lemmas.List.Quantifiers.{position-Some}
-use Rattle.vx_image.specs.declared.decl.ProcDecl.{ProcDecl}
 use Rattle.vx_record.proofs.Moves.{IsDeclared, IsSilent, associates, dissociates, marks, HasRequest, none, both, quiet, moved, var, enb, newly, leave, flag, clusters, open_ast, open_force, que, end_asts, open_handler, end_handler, end_handlers, enter, unit, MovesBy, PartBy, OutcomeBy, PartMoves, Answers, IsTame, calm, drains, AreUnattended}
 use Rattle.vx_record.proofs.Locals.{advanced_statuses}
 use Rattle.vx_base.specs.declared.call.Target.TheVariants as target
@@ -77,6 +58,7 @@ use Rattle.vx_record.proofs.SoundRequests.{tested_channel}
 use Rattle.vx_record.proofs.Base.{Base, moves_keep}
 use Rattle.vx_record.proofs.Apart.{Here, here_after, part_then, based_then, outcome_either, each_free, tamely, at_flag_moves, waited, waits_moves, dissociated_only, associated_only, marked_at_only, finish_moves, requests_found, tested_cell, qio_moves, qiow_moves}
 use Rattle.vx_record.proofs.Cancelled.{at_tested_moves, assign_to_moves, crembx_moves, delmbx_moves, free_channel_moves, cancel_channel_moves, cancel_channel_all, cancel_channel_attention, cancel_channel_clears, each_keeps, drop_timers_moves, setimr_moves, scheduled_moves, woken, tick_moves}
+use Rattle.vx_base.specs.Handlers.{is_handler_with}
 
 -- Leaving.
 

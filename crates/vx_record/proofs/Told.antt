@@ -1,15 +1,6 @@
 -- The same with references left aside.
 use Rattle.std.proofs.Common.{◌≡◌, true, false, Option, Ok, is_some}
-use Rattle.vx_base.specs.Pieces.{Queued, Channel}
-use Rattle.vx_base.specs.declared.call.Call.{Call}
-use Rattle.vx_base.specs.declared.effects.Cell.{Cell}
-use Rattle.vx_base.specs.declared.frame.Phase.{Phase}
-use Rattle.vx_base.specs.declared.frame.Wait.{Wait}
-use Rattle.vx_base.specs.declared.mode.Mode.{Mode}
-use Rattle.vx_base.specs.declared.number.Pid.{Pid}
-use Rattle.vx_base.specs.declared.record.Event.{Event}
-use Rattle.vx_base.specs.declared.request.Device.{Device}
-use Rattle.vx_base.specs.declared.routine.Entry.{Entry}
+use Rattle.vx_record.specs.Types.{Call, Cell, Channel, Device, Entry, Event, Mode, Phase, Pid, Queued, Wait}
 use Rattle.vx_record.specs.State.{State, IsProcess}
 use Rattle.vx_record.specs.Charges.{exceeds, ast_need, is_attention}
 use Rattle.vx_record.specs.Events.{started, step}

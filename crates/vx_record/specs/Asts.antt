@@ -1,21 +1,14 @@
 -- ASTs: which one may start, how one is queued, and the services on ASTs and modes.
 use Rattle.std.specs.Prelude.{ℕ, List, [], ◌∷◌, ◌++◌, Bool, true, ◌||◌, ◌==◌, not, nat_le, if◌then◌else◌, Option, Some, None}
 use Rattle.vx_base.specs.Modes.{rank, inner, outer}
-use Rattle.vx_base.specs.Pieces.{Queued, is_enabled_in, with_enable}
+use Rattle.vx_record.specs.Types.{Cond, Entry, Frame, FrameKind, Id, Mode, Opened, Pid, Queued}
+use Rattle.vx_base.specs.Pieces.{is_enabled_in, with_enable}
 use Rattle.vx_base.specs.Queues.{deliverable}
-use Rattle.vx_base.specs.declared.cond.Cond.{Cond}
 use Rattle.vx_base.specs.declared.cond.Cond.TheVariants.{Normal, NoPriv, ExQuota}
 use Rattle.vx_base.specs.declared.effects.Effect.TheVariants as effect
-use Rattle.vx_base.specs.declared.effects.Opened.{Opened}
 use Rattle.vx_base.specs.declared.effects.Opened.TheVariants as opened
-use Rattle.vx_base.specs.declared.frame.Frame.{Frame}
-use Rattle.vx_base.specs.declared.frame.FrameKind.{FrameKind}
 use Rattle.vx_base.specs.declared.frame.FrameKind.TheVariants as kind
-use Rattle.vx_base.specs.declared.mode.Mode.{Mode}
 use Rattle.vx_base.specs.declared.mode.Mode.TheVariants.{Kernel, Exec}
-use Rattle.vx_base.specs.declared.number.Id.{Id}
-use Rattle.vx_base.specs.declared.number.Pid.{Pid}
-use Rattle.vx_base.specs.declared.routine.Entry.{Entry}
 use Rattle.vx_base.specs.declared.routine.Entry.TheVariants as entry
 use Rattle.vx_base.specs.Frames.{active_mode}
 use Rattle.vx_image.specs.Local.{place_of}

@@ -2,13 +2,9 @@
 use Rattle.std.specs.Prelude.{ℕ, [], Bool, true, ◌&&◌, ◌==◌, not, if◌then◌else◌}
 use Rattle.std.specs.List.{filter, list_any}
 use Rattle.vx_base.specs.Lists.{less, amend}
-use Rattle.vx_base.specs.Pieces.{Channel, Request, Attention}
-use Rattle.vx_base.specs.declared.cond.Cond.{Cond}
+use Rattle.vx_record.specs.Types.{Attention, BoxNo, Channel, Cond, Device, Pid, Request}
 use Rattle.vx_base.specs.declared.cond.Cond.TheVariants.{Normal, Cancel}
 use Rattle.vx_base.specs.declared.effects.Effect.TheVariants as effect
-use Rattle.vx_base.specs.declared.number.BoxNo.{BoxNo}
-use Rattle.vx_base.specs.declared.number.Pid.{Pid}
-use Rattle.vx_base.specs.declared.request.Device.{Device}
 use Rattle.vx_base.specs.declared.request.Device.TheVariants as device
 use Rattle.vx_record.specs.State.{State}
 use Rattle.vx_record.specs.Parts.{Part, Outcome, nothing, tells, and_then, each, part_if, answered}

@@ -4,16 +4,10 @@ use Rattle.std.specs.List.{list_any}
 use Rattle.vx_base.specs.Channels.{is_channel_number, channel_at, least_free}
 pub use Rattle.vx_base.specs.Channels.{is_channel_to}
 use Rattle.vx_base.specs.Modes.{outer, is_inner}
-use Rattle.vx_base.specs.Pieces.{Channel, Mailbox}
-use Rattle.vx_base.specs.declared.cond.Cond.{Cond}
+use Rattle.vx_record.specs.Types.{BoxNo, Channel, Cond, Device, Mailbox, Mode, Pid, UnitDecl}
 use Rattle.vx_base.specs.declared.cond.Cond.TheVariants.{Normal, IvChan, NoPriv, NoIoChan, NoSuchDev, BadParam, NoSlot, DevNotMbx}
 use Rattle.vx_base.specs.declared.effects.Effect.TheVariants as effect
-use Rattle.vx_base.specs.declared.mode.Mode.{Mode}
-use Rattle.vx_base.specs.declared.number.BoxNo.{BoxNo}
-use Rattle.vx_base.specs.declared.number.Pid.{Pid}
-use Rattle.vx_base.specs.declared.request.Device.{Device}
 use Rattle.vx_base.specs.declared.request.Device.TheVariants as device
-use Rattle.vx_image.specs.declared.unit.UnitDecl.{UnitDecl}
 use Rattle.vx_record.specs.State.{Process, State, process_at, change, current, with_box}
 use Rattle.vx_record.specs.Parts.{Part, Outcome, nothing, tells, and_then, part_if, answered, refused, refused_value, at_tested}
 use Rattle.vx_record.specs.Mailboxes.{mailbox_at}

@@ -1,16 +1,12 @@
 -- Charges: what a process's requests, timers and ASTs take of its five quotas, counted from the lists.
 use Rattle.std.specs.Prelude.{ℕ, ◌+◌, Bool, true, false, ◌&&◌, ◌==◌, not, is_some, if◌then◌else◌}
-use Rattle.vx_base.specs.Pieces.{Queued, Request, Timer, Alarm, OfTimer, OfWake, Attention}
+use Rattle.vx_record.specs.Types.{Alarm, Attention, Device, Func, Need, Pid, Queued, Request, Timer}
+use Rattle.vx_base.specs.Pieces.{OfTimer, OfWake}
 use Rattle.vx_base.specs.Quotas.{no_need, together, is_within}
-use Rattle.vx_base.specs.declared.number.Pid.{Pid}
-use Rattle.vx_base.specs.declared.quota.Need.{Need}
-use Rattle.vx_base.specs.declared.request.Device.{Device}
 use Rattle.vx_base.specs.declared.request.Device.TheVariants as device
-use Rattle.vx_base.specs.declared.request.Func.{Func}
 use Rattle.vx_base.specs.declared.request.Func.TheVariants.{Eof, EofNow, ReadAttn, WrtAttn}
-use Rattle.vx_base.specs.Lists.{tally}
+use Rattle.vx_base.specs.Lists.{tally, total}
 use Rattle.vx_record.specs.State.{State, process_at, limits_of, unit_decl}
-use Rattle.vx_record.specs.Parts.{total}
 
 abbrev pub is_same : Pid → Pid → Bool
 is_same p q = p.0 == q.0

@@ -1,23 +1,17 @@
 -- Control of processes: who may control whom, hibernation, suspension, forced exits, creation.
 use Rattle.std.specs.Prelude.{ℕ, ◌+◌, [], ◌∷◌, ◌++◌, Bool, true, false, ◌&&◌, ◌||◌, ◌==◌, not, nat_le, if◌then◌else◌, length, replicate, Some, None, Result, Ok, Err}
 use Rattle.vx_base.specs.Modes.{outer}
-use Rattle.vx_base.specs.Pieces.{all_on, Queued}
-use Rattle.vx_base.specs.declared.cond.Cond.{Cond}
+use Rattle.vx_record.specs.Types.{Cond, Id, Mode, Phase, Pid, Privs, ProcDecl, Queued}
+use Rattle.vx_base.specs.Pieces.{all_on}
 use Rattle.vx_base.specs.declared.cond.Cond.TheVariants.{Normal, NoPriv, NonExpr, NoSlot}
 use Rattle.vx_base.specs.declared.effects.Effect.TheVariants as effect
 use Rattle.vx_base.specs.declared.effects.Opened.TheVariants as opened
 use Rattle.vx_base.specs.declared.frame.FrameKind.TheVariants as kind
-use Rattle.vx_base.specs.declared.frame.Phase.{Phase}
 use Rattle.vx_base.specs.declared.frame.Phase.TheVariants as phase
 use Rattle.vx_base.specs.declared.frame.Wait.TheVariants as wait
-use Rattle.vx_base.specs.declared.mode.Mode.{Mode}
 use Rattle.vx_base.specs.declared.mode.Mode.TheVariants.{User}
-use Rattle.vx_base.specs.declared.number.Id.{Id}
-use Rattle.vx_base.specs.declared.number.Pid.{Pid}
-use Rattle.vx_base.specs.declared.quota.Privs.{Privs}
 use Rattle.vx_base.specs.declared.routine.Entry.TheVariants as entry
 use Rattle.vx_image.specs.Storage.{no_storage}
-use Rattle.vx_image.specs.declared.decl.ProcDecl.{ProcDecl}
 use Rattle.vx_record.specs.State.{Process, State, process_at, change, current, next_id, past_id, pid, decl_in}
 use Rattle.vx_record.specs.Parts.{Part, Outcome, nothing, tells, and_then, answered, at_tested, refused_value}
 use Rattle.vx_record.specs.Flags.{with_wait}

@@ -1,31 +1,19 @@
 -- Events: what is enabled, and what a step does.
 use Rattle.std.specs.Prelude.{ℕ, ◌+◌, List, [], ◌∷◌, ◌++◌, Bool, true, false, not, if◌then◌else◌, Option, Some, None, is_some}
 use Rattle.vx_base.specs.Cond.{number_of}
-use Rattle.vx_base.specs.Pieces.{Queued, Request, Timer, DeviceUnit}
+use Rattle.vx_record.specs.Types.{Answer, Call, Cond, DeviceUnit, Entry, Event, Frame, FrameKind, Phase, Pid, Queued, Request, Stop, Timer, UnitNo, Wait}
 use Rattle.vx_base.specs.Queues.{front, in_service}
-use Rattle.vx_base.specs.declared.call.Call.{Call}
 use Rattle.vx_base.specs.declared.call.Target.TheVariants as target
-use Rattle.vx_base.specs.declared.cond.Cond.{Cond}
 use Rattle.vx_base.specs.declared.cond.Cond.TheVariants.{Normal}
 use Rattle.vx_base.specs.declared.effects.Effect.TheVariants as effect
-use Rattle.vx_base.specs.declared.frame.Frame.{Frame}
-use Rattle.vx_base.specs.declared.frame.FrameKind.{FrameKind}
 use Rattle.vx_base.specs.declared.frame.FrameKind.TheVariants as kind
-use Rattle.vx_base.specs.declared.frame.Phase.{Phase}
 use Rattle.vx_base.specs.declared.frame.Phase.TheVariants as phase
-use Rattle.vx_base.specs.declared.frame.Wait.{Wait}
 use Rattle.vx_base.specs.declared.frame.Wait.TheVariants as wait
-use Rattle.vx_base.specs.declared.number.Pid.{Pid}
-use Rattle.vx_base.specs.declared.number.UnitNo.{UnitNo}
-use Rattle.vx_base.specs.declared.record.Answer.{Answer}
 use Rattle.vx_base.specs.declared.record.Answer.TheVariants as answer
-use Rattle.vx_base.specs.declared.record.Event.{Event}
 use Rattle.vx_base.specs.declared.record.Event.TheVariants as event
-use Rattle.vx_base.specs.declared.routine.Entry.{Entry}
 use Rattle.vx_base.specs.declared.routine.Entry.TheVariants as entry
 use Rattle.vx_image.specs.Local.{Reader, Advanced, advanced}
 use Rattle.vx_image.specs.Storage.{Storage}
-use Rattle.vx_image.specs.declared.stop.Stop.{Stop}
 use Rattle.vx_image.specs.declared.stop.Stop.TheVariants as stop
 use Rattle.vx_record.specs.State.{Process, State, process_at, change, image_of, pid, with_top}
 use Rattle.vx_record.specs.Parts.{Part, Outcome, nothing, tells, and_then, answered}
@@ -38,6 +26,7 @@ use Rattle.vx_record.specs.Rundown.{exited, is_busy, rundown, without_ast}
 use Rattle.vx_record.specs.Services.{service, with_variable}
 use Rattle.vx_record.specs.declared.served.Served.{Served}
 use Rattle.vx_record.specs.declared.served.Served.TheVariants.{Answered, Waits}
+use Rattle.vx_base.specs.Lists.{rest}
 
 -- What is enabled: the processes in number order, each with at most one event; the units in script order; time.
 
@@ -99,6 +88,11 @@ tick_events (t ∷ ts) = event.Tick ∷ []
 abbrev pub enabled : State → List Event
 enabled s = processes_from s 1 s.procs ++ (units_from s 0 s.units ++ tick_events s.timers)
 
+-- whether an event ends the service of a unit
+abbrev pub is_don : Event → Bool
+is_don (event.Don u) = true
+is_don other = false
+
 -- RUN.
 
 -- a wait ends: R0 takes the condition, and a wake is used up
@@ -134,12 +128,8 @@ called p c o = served_call p c o o.answer
 
 -- the top frame ends: the main frame exits with R0 as code; any other is left, and an AST's R0 is put back
 
-abbrev pub without_top : List Frame → List Frame
-without_top [] = []
-without_top (f ∷ fs) = fs
-
 abbrev pub below_top : Process → Process
-below_top pr = record pr { frames = without_top pr.frames }
+below_top pr = record pr { frames = rest pr.frames }
 
 abbrev pub put_back : ℕ → Process → Process
 put_back r0 pr = with_r0 r0 (below_top pr)

@@ -2,15 +2,9 @@
 use Rattle.std.specs.Prelude.{ℕ, List, Bool, true, false, ◌&&◌, ◌==◌, not, nat_lt, Option, Some, None}
 use Rattle.std.specs.List.{find}
 use Rattle.vx_base.specs.Lists.{less}
-use Rattle.vx_base.specs.Pieces.{Request, Promised, Status}
-use Rattle.vx_base.specs.declared.cond.Cond.{Cond}
+use Rattle.vx_record.specs.Types.{Cond, Func, Id, Pid, Promised, Reply, Req, Request, Status}
 use Rattle.vx_base.specs.declared.effects.Effect.TheVariants as effect
-use Rattle.vx_base.specs.declared.number.Id.{Id}
-use Rattle.vx_base.specs.declared.number.Pid.{Pid}
-use Rattle.vx_base.specs.declared.request.Func.{Func}
 use Rattle.vx_base.specs.declared.request.Func.TheVariants.{Read, ReadNow, Write, WriteNow}
-use Rattle.vx_base.specs.declared.request.Reply.{Reply}
-use Rattle.vx_base.specs.declared.request.Req.{Req}
 use Rattle.vx_image.specs.Storage.{with_status, with_bytes}
 use Rattle.vx_record.specs.State.{Process, State, change}
 use Rattle.vx_record.specs.Parts.{Part, nothing, tells, and_then, part_if}

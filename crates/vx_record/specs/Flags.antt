@@ -1,19 +1,15 @@
 -- Event flags and waits: the cell that a number names, and the services on flags and common clusters.
-use Rattle.std.specs.Prelude.{ℕ, ◌-◌, ◌%◌, ◌^◌, List, Bool, true, false, ◌&&◌, ◌||◌, ◌==◌, not, nat_lt, if◌then◌else◌, is_some, Option, Some, None, Result, Ok, Err}
+use Rattle.std.specs.Prelude.{ℕ, ◌-◌, ◌%◌, ◌^◌, List, Bool, true, false, ◌&&◌, ◌||◌, ◌==◌, not, nat_lt, if◌then◌else◌, is_some, Option, Some, None, Result, Ok}
 use Rattle.std.specs.List.{find}
 use Rattle.vx_base.specs.Clusters.{is_association, is_cluster, cluster_number, stands, associated, dissociated, marked}
 pub use Rattle.vx_base.specs.Clusters.{is_common}
 use Rattle.vx_base.specs.Flags.{is_set, with_flag, any_set, all_set}
 use Rattle.vx_base.specs.Lists.{amend}
-use Rattle.vx_base.specs.Pieces.{Association, Cluster, Status}
-use Rattle.vx_base.specs.declared.cond.Cond.{Cond}
+use Rattle.vx_record.specs.Types.{Association, Cell, Cluster, Cond, Pid, Status, Wait}
 use Rattle.vx_base.specs.declared.cond.Cond.TheVariants.{Normal, WasClr, WasSet, IllEfc, UnasEfc, NoPriv}
-use Rattle.vx_base.specs.declared.effects.Cell.{Cell}
 use Rattle.vx_base.specs.declared.effects.Cell.TheVariants.{Local, Common}
 use Rattle.vx_base.specs.declared.effects.Effect.TheVariants as effect
-use Rattle.vx_base.specs.declared.frame.Wait.{Wait}
 use Rattle.vx_base.specs.declared.frame.Wait.TheVariants as wait
-use Rattle.vx_base.specs.declared.number.Pid.{Pid}
 use Rattle.vx_image.specs.Storage.{status_at}
 use Rattle.vx_record.specs.State.{Process, State, process_at, change, with_top}
 use Rattle.vx_record.specs.Parts.{Part, Outcome, nothing, tells, answered, refused, refused_value, commonly}

@@ -17,3 +17,4 @@ pub mod Sound
 pub mod Standing
 pub mod State
 pub mod Timers
+pub mod Types

@@ -3,19 +3,13 @@ use Rattle.std.specs.Prelude.{List, [], ◌∷◌, ◌++◌, Bool, true, false, 
 use Rattle.std.specs.List.{find, filter, list_any}
 pub use Rattle.vx_base.specs.Channels.{is_box}
 use Rattle.vx_base.specs.Lists.{less}
-use Rattle.vx_base.specs.Pieces.{Request, Attention, Mailbox}
+use Rattle.vx_record.specs.Types.{Attention, Body, BoxNo, Func, Id, Mailbox, Msg, Req, Request}
 use Rattle.vx_base.specs.Queues.{body_bytes}
 use Rattle.vx_base.specs.declared.cond.Cond.TheVariants.{Normal, BufferOvf, EndOfFile}
 use Rattle.vx_base.specs.declared.effects.Effect.TheVariants as effect
-use Rattle.vx_base.specs.declared.number.BoxNo.{BoxNo}
-use Rattle.vx_base.specs.declared.number.Id.{Id}
-use Rattle.vx_base.specs.declared.request.Body.{Body}
 use Rattle.vx_base.specs.declared.request.Body.TheVariants as body
 use Rattle.vx_base.specs.declared.request.Device.TheVariants as device
-use Rattle.vx_base.specs.declared.request.Func.{Func}
 use Rattle.vx_base.specs.declared.request.Func.TheVariants.{Read, Write, Eof, ReadAttn, WrtAttn}
-use Rattle.vx_base.specs.declared.request.Msg.{Msg}
-use Rattle.vx_base.specs.declared.request.Req.{Req}
 use Rattle.vx_record.specs.State.{State, box_at, with_box}
 use Rattle.vx_record.specs.Parts.{Part, tells, and_then, each, part_if}
 use Rattle.vx_record.specs.Finish.{Ending, ending, finish, finish_id}

@@ -1,9 +1,8 @@
 -- What an event does: parts, one after another, each with its effects and the state after it.
-use Rattle.std.specs.Prelude.{◌≡◌, ℕ, ◌+◌, List, [], ◌∷◌, ◌++◌, Bool, if◌then◌else◌, Result, Ok, Err}
+use Rattle.std.specs.Prelude.{◌≡◌, ◌+◌, List, [], ◌∷◌, ◌++◌, Bool, if◌then◌else◌, Result, Ok, Err}
 use Rattle.vx_base.specs.Clusters.{Change}
 use Rattle.vx_base.specs.Log.{Log, logged}
-use Rattle.vx_base.specs.declared.cond.Cond.{Cond}
-use Rattle.vx_base.specs.declared.effects.Effect.{Effect}
+use Rattle.vx_record.specs.Types.{Cond, Effect}
 use Rattle.vx_record.specs.State.{State}
 
 pub record Part : Type 0 where
@@ -63,11 +62,6 @@ part_of o = record { effects = o.effects; after = o.after }
 -- a change of the common clusters
 abbrev pub commonly : State → Change → Part
 commonly s c = record { effects = c.effects; after = record s { common = c.after } }
-
--- what a list comes to, each item counted as f says
-abbrev pub total : {A : Type 0} → (A → ℕ) → List A → ℕ
-total f [] = 0
-total f (x ∷ xs) = f x + total f xs
 
 -- A call of the code answered, logged and left what an outcome says.
 pub record Does {A : Type 0} (o : Outcome A) (answer : A) (log_before log_after : Log) (state_after : State) : Type 0 where

@@ -1,24 +1,19 @@
 -- The run that a list of places chooses: each record takes the enabled event at the next place, and behind the last place the first.
 use Rattle.std.specs.Prelude.{◌≡◌, ℕ, zero, suc, ◌+◌, List, [], ◌∷◌, Option, None, Some, length, slice_get}
-use Rattle.vx_base.specs.declared.record.Event.{Event}
-use Rattle.vx_base.specs.declared.record.Rec.{Rec}
-use Rattle.vx_image.specs.declared.system.System.{System}
+use Rattle.vx_record.specs.Types.{Event, Rec, System}
 use Rattle.vx_record.specs.State.{State}
 use Rattle.vx_record.specs.Events.{enabled, step}
 use Rattle.vx_record.specs.Runs.{after, end_after, first, record_of}
+use Rattle.vx_base.specs.Lists.{rest}
 
 abbrev pub next_place : List ℕ → ℕ
 next_place [] = 0
 next_place (p ∷ ps) = p
 
-abbrev pub places_after : List ℕ → List ℕ
-places_after [] = []
-places_after (p ∷ ps) = ps
-
 -- the rest of the run from a record on, where the event is there
 abbrev pub follow : State → List ℕ → Option Event → (State → List ℕ → Event → List Rec) → List Rec
 follow s ps None go = []
-follow s ps (Some e) go = go s (places_after ps) e
+follow s ps (Some e) go = go s (rest ps) e
 
 -- at most n records more; it stops before a place that is not there
 abbrev pub picked_from : ℕ → State → List ℕ → List Rec

@@ -2,25 +2,15 @@
 use Rattle.std.specs.Prelude.{ℕ, ◌+◌, List, [], ◌∷◌, ◌++◌, Bool, true, false, ◌&&◌, ◌||◌, not, nat_lt, if◌then◌else◌, take, Option, Some, None, Result, Ok, Err, is_some, is_none, slice_set}
 use Rattle.std.specs.List.{list_any}
 use Rattle.vx_base.specs.Lists.{amend}
-use Rattle.vx_base.specs.Pieces.{Channel, Request, Promised, Attention, cleared, Status, DeviceUnit}
+use Rattle.vx_record.specs.Types.{Attention, BoxNo, Cell, Channel, Cond, Device, DeviceUnit, Entry, Func, Mode, Pid, Promised, Reply, Req, Request, Status, UnitNo}
+use Rattle.vx_base.specs.Pieces.{cleared}
 use Rattle.vx_base.specs.Queues.{stored_bytes}
 use Rattle.vx_base.specs.Serving.{serve, settled}
-use Rattle.vx_base.specs.declared.cond.Cond.{Cond}
 use Rattle.vx_base.specs.declared.cond.Cond.TheVariants.{Normal, Abort, IllEfc, UnasEfc, IllIoFunc, BadParam, MbTooSml, MbFull, ExQuota}
-use Rattle.vx_base.specs.declared.effects.Cell.{Cell}
 use Rattle.vx_base.specs.declared.effects.Opened.TheVariants as opened
 use Rattle.vx_base.specs.declared.frame.Wait.TheVariants as wait
-use Rattle.vx_base.specs.declared.mode.Mode.{Mode}
-use Rattle.vx_base.specs.declared.number.BoxNo.{BoxNo}
-use Rattle.vx_base.specs.declared.number.Pid.{Pid}
-use Rattle.vx_base.specs.declared.number.UnitNo.{UnitNo}
-use Rattle.vx_base.specs.declared.request.Device.{Device}
 use Rattle.vx_base.specs.declared.request.Device.TheVariants as device
-use Rattle.vx_base.specs.declared.request.Func.{Func}
 use Rattle.vx_base.specs.declared.request.Func.TheVariants.{Read, Write}
-use Rattle.vx_base.specs.declared.request.Reply.{Reply}
-use Rattle.vx_base.specs.declared.request.Req.{Req}
-use Rattle.vx_base.specs.declared.routine.Entry.{Entry}
 use Rattle.vx_image.specs.Storage.{buffer_at}
 use Rattle.vx_record.specs.State.{State, process_at, current, next_id, past_id, unit_at}
 use Rattle.vx_record.specs.Parts.{Part, Outcome, nothing, and_then, answered, refused, followed_by}

@@ -6,25 +6,16 @@ use Rattle.vx_base.specs.Clusters.{dissociated}
 pub use Rattle.vx_base.specs.Handlers.{is_handler_of, any_handler}
 use Rattle.vx_base.specs.Lists.{less}
 use Rattle.vx_base.specs.Modes.{reaches, is_kernel}
-use Rattle.vx_base.specs.Pieces.{Handler, Queued, Request, Timer, Alarm, OfTimer, OfWake}
+use Rattle.vx_record.specs.Types.{Alarm, Answer, Cond, Entry, Frame, FrameKind, Handler, Id, Mode, Phase, Pid, Queued, Request, Timer}
+use Rattle.vx_base.specs.Pieces.{OfTimer, OfWake}
 pub use Rattle.vx_base.specs.Queues.{is_ast_reached}
-use Rattle.vx_base.specs.declared.cond.Cond.{Cond}
 use Rattle.vx_base.specs.declared.cond.Cond.TheVariants.{Normal, IvSsRq, NoHandler}
 use Rattle.vx_base.specs.declared.effects.Effect.TheVariants as effect
 use Rattle.vx_base.specs.declared.effects.Opened.TheVariants as opened
-use Rattle.vx_base.specs.declared.frame.Frame.{Frame}
-use Rattle.vx_base.specs.declared.frame.FrameKind.{FrameKind}
 use Rattle.vx_base.specs.declared.frame.FrameKind.TheVariants as kind
-use Rattle.vx_base.specs.declared.frame.Phase.{Phase}
 use Rattle.vx_base.specs.declared.frame.Phase.TheVariants as phase
-use Rattle.vx_base.specs.declared.mode.Mode.{Mode}
 use Rattle.vx_base.specs.declared.mode.Mode.TheVariants.{Kernel, Exec, Super, User}
-use Rattle.vx_base.specs.declared.number.Id.{Id}
-use Rattle.vx_base.specs.declared.number.Pid.{Pid}
-use Rattle.vx_base.specs.declared.record.Answer.{Answer}
 use Rattle.vx_base.specs.declared.record.Answer.TheVariants as answer
-use Rattle.vx_base.specs.declared.routine.Entry.{Entry}
-use Rattle.vx_base.specs.Entries.{is_same_entry}
 use Rattle.vx_record.specs.State.{Process, State, process_at, change, current, next_id, past_id, top_mode}
 use Rattle.vx_record.specs.Parts.{Part, Outcome, nothing, tells, and_then, each, answered, refused, followed_by, commonly}
 use Rattle.vx_record.specs.Charges.{is_same}
@@ -33,6 +24,7 @@ use Rattle.vx_record.specs.Timers.{drop_timers, is_wake_for}
 use Rattle.vx_record.specs.Control.{at_process}
 use Rattle.vx_record.specs.Channels.{free_channel}
 use Rattle.vx_record.specs.Cancel.{cancel_channel}
+use Rattle.vx_base.specs.Handlers.{is_handler_with}
 
 -- Exit.
 
@@ -66,9 +58,6 @@ exit s p code = answered Normal (exited s p code)
 
 abbrev pub this_handler : Id → Handler → Bool
 this_handler id h = h.id.0 == id.0
-
-abbrev pub is_handler_with : Mode → Entry → Handler → Bool
-is_handler_with m tag h = is_handler_of m h && is_same_entry h.tag tag
 
 abbrev pub with_handler : Handler → Process → Process
 with_handler h pr = record pr { handlers = h ∷ pr.handlers }

@@ -1,12 +1,8 @@
 -- Runs: the first state, records one after another, the end, and the run that a seed chooses.
 use Rattle.std.specs.Prelude.{◌≡◌, ℕ, zero, suc, ◌+◌, ◌*◌, ◌/◌, ◌%◌, ◌≤◌, nat_le, List, [], ◌∷◌, Bool, ◌==◌, if◌then◌else◌, Option, Some, None, Contains, length, map, replicate, slice_index_or, ⊤}
 use Rattle.std.specs.List.{list_all}
-use Rattle.vx_base.specs.declared.record.End.{End}
+use Rattle.vx_record.specs.Types.{End, Event, ProcDecl, Rec, System}
 use Rattle.vx_base.specs.declared.record.End.TheVariants.{Done, Hung, Limit}
-use Rattle.vx_base.specs.declared.record.Event.{Event}
-use Rattle.vx_base.specs.declared.record.Rec.{Rec}
-use Rattle.vx_image.specs.declared.decl.ProcDecl.{ProcDecl}
-use Rattle.vx_image.specs.declared.system.System.{System}
 use Rattle.vx_image.specs.Units.{first_unit}
 use Rattle.vx_record.specs.State.{Process, State}
 use Rattle.vx_record.specs.Control.{new_process, is_deleted}

@@ -1,26 +1,17 @@
 -- Calls: each service with its arguments, in the order of the table.
 use Rattle.std.specs.Prelude.{ℕ, List, [], Option, Some, None, Result, Ok, Err, bytes_eq, position, unwrap_or, option_map}
-use Rattle.vx_base.specs.declared.call.Arg.{Arg}
+pub use Rattle.vx_base.specs.Services.{number, place}
+use Rattle.vx_record.specs.Types.{Arg, Args, Call, Cond, Entry, Func, Image, Mode, Pid, Service, Target}
 use Rattle.vx_base.specs.declared.call.Arg.TheVariants as arg
-use Rattle.vx_base.specs.declared.call.Args.{Args}
-use Rattle.vx_base.specs.declared.call.Call.{Call}
 use Rattle.vx_base.specs.declared.call.Operand.TheVariants as operand
-use Rattle.vx_base.specs.declared.call.Target.{Target}
 use Rattle.vx_base.specs.declared.call.Target.TheVariants as target
-use Rattle.vx_base.specs.declared.cond.Cond.{Cond}
 use Rattle.vx_base.specs.declared.cond.Cond.TheVariants.{Normal}
 use Rattle.vx_base.specs.declared.effects.Effect.TheVariants as effect
-use Rattle.vx_base.specs.declared.mode.Mode.{Mode}
 use Rattle.vx_base.specs.declared.mode.Mode.TheVariants.{Kernel}
-use Rattle.vx_base.specs.declared.number.Pid.{Pid}
-use Rattle.vx_base.specs.declared.request.Func.{Func}
 use Rattle.vx_base.specs.declared.request.Func.TheVariants.{Read}
-use Rattle.vx_base.specs.declared.routine.Entry.{Entry}
 use Rattle.vx_base.specs.declared.routine.Entry.TheVariants as entry
-use Rattle.vx_base.specs.declared.service.Service.{Service}
 use Rattle.vx_base.specs.declared.service.Service.TheVariants.{SetEf, ClrEf, ReadEf, WaitFr, WflOr, WflAnd, AscEfc, DacEfc, DlcEfc, DclAst, SetAst, CmExec, CmKrnl, SetImr, CanTim, SchdWk, CanWak, Hiber, Wake, Suspnd, Resume, ForceX, CrePrc, DelPrc, Exit, DclExh, CanExh, Assign, Dassgn, CreMbx, DelMbx, Qio, QioW, Synch, Cancel, GetTim}
 use Rattle.vx_image.specs.Storage.{with_target}
-use Rattle.vx_image.specs.declared.image.Image.{Image}
 use Rattle.vx_record.specs.State.{Process, State, change, image_of}
 use Rattle.vx_record.specs.Parts.{Part, Outcome, nothing, tells, and_then, answered, part_of}
 use Rattle.vx_record.specs.Flags.{setef, clref, readef, waitfr, wflor, wfland, ascefc, dacefc, dlcefc}
@@ -35,14 +26,6 @@ use Rattle.vx_record.specs.declared.served.Served.{Served}
 use Rattle.vx_record.specs.declared.served.Served.TheVariants.{Answered}
 
 -- Arguments, with their values computed.
-
-abbrev pub number : Arg → ℕ
-number (arg.Value (operand.Num n)) = n
-number _ = 0
-
-abbrev pub place : Arg → Target
-place (arg.Target t) = t
-place _ = target.R0
 
 abbrev pub access_mode : Arg → Mode
 access_mode (arg.Mode m) = m

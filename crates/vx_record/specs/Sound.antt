@@ -5,26 +5,15 @@ use Rattle.std.specs.List.{AllByRecursion, list_all}
 use Rattle.vx_base.specs.Channels.{is_channel_number, channel_at}
 use Rattle.vx_base.specs.Clusters.{Common, stands}
 use Rattle.vx_base.specs.Modes.{reaches}
-use Rattle.vx_base.specs.Pieces.{Channel, Request, Timer, Alarm, OfTimer, OfWake, Attention, Association, Mailbox}
+use Rattle.vx_record.specs.Types.{Alarm, Association, Attention, BoxNo, Call, Channel, Device, Entry, Frame, Image, Mailbox, Mode, Phase, Pid, Request, System, Timer, Wait}
+use Rattle.vx_base.specs.Pieces.{OfTimer, OfWake}
 use Rattle.vx_base.specs.Services.{is_call, args_list}
-use Rattle.vx_base.specs.declared.call.Call.{Call}
-use Rattle.vx_base.specs.declared.frame.Frame.{Frame}
-use Rattle.vx_base.specs.declared.frame.Phase.{Phase}
 use Rattle.vx_base.specs.declared.frame.Phase.TheVariants as phase
-use Rattle.vx_base.specs.declared.frame.Wait.{Wait}
 use Rattle.vx_base.specs.declared.frame.Wait.TheVariants as wait
-use Rattle.vx_base.specs.declared.mode.Mode.{Mode}
-use Rattle.vx_base.specs.declared.number.BoxNo.{BoxNo}
-use Rattle.vx_base.specs.declared.number.Pid.{Pid}
-use Rattle.vx_base.specs.declared.request.Device.{Device}
 use Rattle.vx_base.specs.declared.request.Device.TheVariants as device
-use Rattle.vx_base.specs.declared.routine.Entry.{Entry}
 use Rattle.vx_base.specs.declared.routine.Entry.TheVariants as entry
-use Rattle.vx_base.specs.Lists.{tally}
+use Rattle.vx_base.specs.Lists.{tally, total}
 use Rattle.vx_image.specs.WellFormed.{has_its_label}
-use Rattle.vx_image.specs.declared.image.Image.{Image}
-use Rattle.vx_image.specs.declared.system.System.{System}
-use Rattle.vx_record.specs.Parts.{total}
 use Rattle.vx_record.specs.State.{Process, State, IsWithin, image_in, nobody}
 
 -- What references are to: the system, the processes, the mailboxes, and how many units there are.

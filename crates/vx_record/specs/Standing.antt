@@ -1,7 +1,6 @@
 -- How a process stands when a run is over.
 use Rattle.std.specs.Prelude.{ℕ, List, [], ◌∷◌, Option, Some, None, if◌then◌else◌}
-use Rattle.vx_base.specs.declared.frame.Frame.{Frame}
-use Rattle.vx_base.specs.declared.frame.Wait.{Wait}
+use Rattle.vx_record.specs.Types.{Frame, Wait}
 use Rattle.vx_base.specs.declared.frame.Wait.TheVariants as wait
 use Rattle.vx_record.specs.State.{Process}
 use Rattle.vx_record.specs.Control.{is_deleted}

@@ -1,24 +1,12 @@
 -- The plain state of the executive: one list of each thing, and nothing of how the code keeps it.
 use Rattle.std.specs.Prelude.{ℕ, ◌+◌, ◌-◌, ◌≤◌, List, [], ◌∷◌, Bool, false, Option, None, length, slice_index_or, slice_set}
 use Rattle.vx_base.specs.Clusters.{Common}
-use Rattle.vx_base.specs.Pieces.{Queued, Enables, all_on, Channel, Handler, Request, Timer, Attention, Mailbox, DeviceUnit, Lines}
-use Rattle.vx_base.specs.Quotas.{no_need}
-use Rattle.vx_base.specs.declared.frame.Frame.{Frame}
-use Rattle.vx_base.specs.declared.frame.Phase.{Phase}
+use Rattle.vx_record.specs.Types.{Attention, BoxNo, Channel, DeviceUnit, Enables, Frame, Handler, Id, Image, Mailbox, Mode, Need, Phase, Pid, Privs, ProcDecl, Queued, Request, System, Timer, UnitDecl, UnitNo}
+use Rattle.vx_base.specs.Pieces.{all_on, Lines}
 use Rattle.vx_base.specs.declared.frame.Phase.TheVariants.{Deleted}
-use Rattle.vx_base.specs.declared.mode.Mode.{Mode}
 use Rattle.vx_base.specs.declared.mode.Mode.TheVariants.{User}
-use Rattle.vx_base.specs.declared.number.Id.{Id}
-use Rattle.vx_base.specs.declared.number.Pid.{Pid}
-use Rattle.vx_base.specs.declared.number.UnitNo.{UnitNo}
-use Rattle.vx_base.specs.declared.number.BoxNo.{BoxNo}
-use Rattle.vx_base.specs.declared.quota.Need.{Need}
-use Rattle.vx_base.specs.declared.quota.Privs.{Privs}
+pub use Rattle.vx_image.specs.Absent.{no_decl, no_image, no_unit_decl}
 use Rattle.vx_image.specs.Storage.{Storage}
-use Rattle.vx_image.specs.declared.decl.ProcDecl.{ProcDecl}
-use Rattle.vx_image.specs.declared.image.Image.{Image}
-use Rattle.vx_image.specs.declared.system.System.{System}
-use Rattle.vx_image.specs.declared.unit.UnitDecl.{UnitDecl}
 pub use Rattle.vx_base.specs.Quotas.{no_privs}
 
 -- A process: the place of its declaration, from 0; its group, member and privileges; what it stores; its frames, the top
@@ -84,15 +72,6 @@ nobody = record {
   exit_code = 0;
   phase = Deleted;
 }
-
-abbrev pub no_decl : ProcDecl
-no_decl = record { name = []; image = 0; group = 0; member = 0; mode = User; limits = no_need; privs = no_privs; start = false }
-
-abbrev pub no_image : Image
-no_image = record { name = []; labels = []; stmts = [] }
-
-abbrev pub no_unit_decl : UnitDecl
-no_unit_decl = record { name = []; blocks = 0; inputs = []; faults = [] }
 
 abbrev pub no_unit : DeviceUnit
 no_unit = record { contents = Lines [] []; faults = []; services = 0 }

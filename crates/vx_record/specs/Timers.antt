@@ -3,17 +3,12 @@ use Rattle.std.specs.Prelude.{ℕ, ◌+◌, ◌%◌, ◌^◌, [], ◌∷◌, ◌
 use Rattle.std.specs.List.{filter}
 use Rattle.vx_base.specs.Lists.{less, amend}
 use Rattle.vx_base.specs.Modes.{outer, reaches}
-use Rattle.vx_base.specs.Pieces.{Timer, Alarm, OfTimer, OfWake}
+use Rattle.vx_record.specs.Types.{Alarm, Cell, Cond, Entry, Id, Mode, Pid, Timer}
+use Rattle.vx_base.specs.Pieces.{OfTimer, OfWake}
 use Rattle.vx_base.specs.Queues.{least_due}
-use Rattle.vx_base.specs.declared.cond.Cond.{Cond}
 use Rattle.vx_base.specs.declared.cond.Cond.TheVariants.{Normal, ExQuota}
-use Rattle.vx_base.specs.declared.effects.Cell.{Cell}
 use Rattle.vx_base.specs.declared.effects.Effect.TheVariants as effect
 use Rattle.vx_base.specs.declared.effects.Opened.TheVariants as opened
-use Rattle.vx_base.specs.declared.mode.Mode.{Mode}
-use Rattle.vx_base.specs.declared.number.Id.{Id}
-use Rattle.vx_base.specs.declared.number.Pid.{Pid}
-use Rattle.vx_base.specs.declared.routine.Entry.{Entry}
 use Rattle.vx_record.specs.State.{State, change, current, next_id, past_id}
 use Rattle.vx_record.specs.Parts.{Part, Outcome, nothing, tells, and_then, each, answered, refused}
 use Rattle.vx_record.specs.Flags.{at_flag, cell, flag_part, flag_where_named}

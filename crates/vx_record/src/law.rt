@@ -1,12 +1,8 @@
 //! What holds of the definitions, said on functions that do nothing: the laws are proved where these are.
 
 ghost use Rattle.std.specs.Prelude.{◌≡◌, Contains, List};
-ghost use Rattle.vx_base.specs.declared.call.Call.{Call as CallOf};
-ghost use Rattle.vx_base.specs.declared.number.Pid.{Pid as PidOf};
-ghost use Rattle.vx_base.specs.declared.record.Event.{Event as EventOf};
-ghost use Rattle.vx_base.specs.declared.record.Rec.{Rec as RecOf};
+ghost use Rattle.vx_record.specs.Types.{Call as CallOf, Event as EventOf, Pid as PidOf, Rec as RecOf, System as SystemOf};
 ghost use Rattle.vx_image.specs.WellFormed.{IsWellFormed};
-ghost use Rattle.vx_image.specs.declared.system.System.{System as SystemOf};
 ghost use Rattle.vx_record.specs.Events.{enabled, step};
 ghost use Rattle.vx_record.specs.Runs.{IsRun, after, first};
 ghost use Rattle.vx_record.specs.Services.{service};

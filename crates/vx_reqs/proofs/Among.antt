@@ -1,6 +1,6 @@
 -- A search among places whose ids rise.
 use Rattle.std.proofs.Common.{◌≡◌, ◌≢◌, ℕ, ◌+◌, ◌<◌, ◌≤◌, List, Bool, true, false, Some, None, length, get_or, refl, ap, arith, position, nat_lt, ltb-true, ltb-false, subst}
-use Rattle.vx_base.specs.declared.number.Id.{Id}
+use Rattle.vx_record.specs.Types.{Id}
 use Rattle.vx_reqs.specs.Places.{Place, holds, Rises}
 use Rattle.vx_reqs.proofs.Rising.{rises_at, rises_between, is_other, place_first, place_none}
 use Rattle.vx_record.specs.Finish.{this_request}

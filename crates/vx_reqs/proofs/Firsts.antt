@@ -2,8 +2,7 @@
 use Rattle.std.proofs.Common.{◌≡◌, ℕ, ◌<◌, Bool, List, Option, None, Some, IfSome, is_some, get_or, length, position, refl, set, sym, ap, ◌∙◌}
 use Rattle.std.specs.List.{find, list_any}
 use Rattle.vx_base.specs.Lists.{amend}
-use Rattle.vx_base.specs.Pieces.{Request}
-use Rattle.vx_base.specs.declared.number.Id.{Id}
+use Rattle.vx_record.specs.Types.{Id, Request}
 use Rattle.vx_base.proofs.First.{amend_at, found_at, none_at}
 use Rattle.vx_reqs.specs.Places.{Place, holds, live}
 use Rattle.vx_reqs.proofs.Live.{any_found, found_live, request_of}

@@ -3,9 +3,8 @@ use Rattle.std.proofs.Common.{◌≡◌, ℕ, ◌+◌, ◌<◌, drop, get_or, sy
 use Rattle.std.specs.List.{find, list_any, filter}
 use Rattle.std.proofs.lemmas.List.{drop_more}
 use Rattle.vx_base.specs.Lists.{less, amend}
-use Rattle.vx_base.specs.Pieces.{Request}
+use Rattle.vx_record.specs.Types.{Id, Request}
 use Rattle.vx_base.specs.Roomy.{Roomy}
-use Rattle.vx_base.specs.declared.number.Id.{Id}
 use Rattle.vx_reqs.specs.Places.{Place, holds, is_held, emptied, changed, live}
 
 -- the request of a place that was found

@@ -3,11 +3,8 @@ use mathlib.Core.Bool.{and-false}
 use Rattle.std.proofs.Common.{◌≡◌, ◌≢◌, ℕ, ◌+◌, ◌<◌, ◌≤◌, ◌==◌, ◌&&◌, List, [], ◌∷◌, ◌++◌, Bool, true, false, not, Option, Some, None, option_map, get_or, refl, ap, sym, subst, ◌∙◌, arith, eqb-true, eq-eqb, true≢false}
 use Rattle.std.specs.List.{filter, find}
 use Rattle.vx_base.specs.Lists.{amend}
-use Rattle.vx_base.specs.Pieces.{Request}
+use Rattle.vx_record.specs.Types.{Device, Id, Request, UnitNo}
 use Rattle.vx_base.specs.Queues.{is_unit, is_served_by, waits_for}
-use Rattle.vx_base.specs.declared.number.Id.{Id}
-use Rattle.vx_base.specs.declared.number.UnitNo.{UnitNo}
-use Rattle.vx_base.specs.declared.request.Device.{Device}
 use Rattle.vx_reqs.specs.Places.{Place, holds, is_held, emptied, changed, AllKeep, IsOrdered}
 use Rattle.vx_reqs.proofs.Numbers.{keep_put, keep_lower, keep_begun, keep_begun_elsewhere, keep_settled, keep_idle, keep_amend, keep_kept}
 use Rattle.vx_reqs.proofs.Rising.{rises_put, rises_amend, rises_kept, own_changed}

@@ -6,9 +6,8 @@ use Rattle.std.proofs.lemmas.List.Sums.{sum_by-set}
 use Rattle.slab.specs.Slab.{Slab, ContainsKey, Updates, get, slab_len, with_value}
 use Rattle.slab.proofs.SlabLemmas.{ContainsKey-within, Updates-with_value}
 use Rattle.std.proofs.lemmas.Option.{same_Some}
-use Rattle.vx_base.specs.Pieces.{Request}
+use Rattle.vx_record.specs.Types.{Id, Request}
 use Rattle.vx_base.specs.Roomy.{Roomy}
-use Rattle.vx_base.specs.declared.number.Id.{Id}
 use Rattle.vx_record.proofs.Lists.{all_append, all_at, all_filter, all_set}
 use Rattle.vx_reqs.specs.Places.{Place, changed, emptied, is_held, live}
 use Rattle.vx_reqs.specs.Slots.{AreHeld, AreKeys, IsOther, has_key, place_of, places_of, request_under}

@@ -2,9 +2,8 @@
 use Rattle.std.proofs.Common.{◌≡◌, List, Bool, true, false, cond, Some, None, refl, ap, is_some, sym, ◌∙◌}
 use Rattle.std.specs.List.{find, list_any}
 use Rattle.vx_base.specs.Lists.{amend}
-use Rattle.vx_base.specs.Pieces.{Request}
+use Rattle.vx_record.specs.Types.{Request, UnitNo}
 use Rattle.vx_base.specs.Queues.{front, in_service, is_served_by, waits_for}
-use Rattle.vx_base.specs.declared.number.UnitNo.{UnitNo}
 use Rattle.vx_reqs.specs.Requests.{begun}
 use Rattle.vx_reqs.proofs.Live.{any_found}
 use Rattle.vx_record.specs.Requests.{taken_up}

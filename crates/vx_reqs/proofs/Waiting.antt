@@ -2,12 +2,7 @@
 use Rattle.std.proofs.Common.{◌≡◌, ◌≢◌, ℕ, ◌+◌, ◌<◌, ◌≤◌, ◌==◌, ◌&&◌, List, [], ◌∷◌, ◌++◌, Bool, true, false, cond, Option, Some, None, option_map, get_or, refl, ap, sym, subst, ◌∙◌, arith, eqb-true, eq-eqb, true≢false}
 use Rattle.std.specs.List.{AllByRecursion, filter, find}
 use Rattle.vx_base.specs.Lists.{amend}
-use Rattle.vx_base.specs.Pieces.{Request}
-use Rattle.vx_base.specs.declared.number.BoxNo.{BoxNo}
-use Rattle.vx_base.specs.declared.number.Id.{Id}
-use Rattle.vx_base.specs.declared.request.Device.{Device}
-use Rattle.vx_base.specs.declared.request.Func.{Func}
-use Rattle.vx_base.specs.declared.request.Req.{Req}
+use Rattle.vx_record.specs.Types.{BoxNo, Device, Func, Id, Req, Request}
 use Rattle.vx_record.specs.Mailboxes.{is_box, is_waiting_func, waits_at}
 use Rattle.vx_record.proofs.Lists.{all_amend, all_append, all_filter, all_weaker}
 use Rattle.vx_reqs.specs.Places.{Place, holds, is_held, emptied, changed, AreFrom, IsFrom, Rises}

@@ -1,6 +1,6 @@
 -- Requests as a number.
 use Rattle.std.specs.Prelude.{ℕ, List, [], ◌∷◌}
-use Rattle.vx_base.specs.Pieces.{Request}
+use Rattle.vx_record.specs.Types.{Request}
 use Rattle.vx_same.specs.Mix.{mix}
 
 -- a digest with the id and the process of each request

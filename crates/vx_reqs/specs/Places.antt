@@ -1,13 +1,10 @@
 -- Requests in the places where they were accepted.
 use Rattle.std.specs.Prelude.{ℕ, ◌+◌, ◌<◌, ◌≤◌, ◌≡◌, ◌≢◌, get_or, List, [], ◌∷◌, ◌++◌, Bool, false, IsTrue, Option, None, is_some, option_map, option_to_list, IfSome}
 use Rattle.std.specs.List.{AllByRecursion}
-use Rattle.vx_base.specs.Pieces.{Request}
+use Rattle.vx_record.specs.Types.{BoxNo, Id, Request, UnitNo}
 use Rattle.vx_base.specs.Queues.{is_served_by, waits_for}
-use Rattle.vx_base.specs.declared.number.BoxNo.{BoxNo}
-use Rattle.vx_base.specs.declared.number.Id.{Id}
-use Rattle.vx_base.specs.declared.number.UnitNo.{UnitNo}
 use Rattle.vx_record.specs.Mailboxes.{waits_at}
-use Rattle.vx_reqs.specs.Requests.{is_found}
+use Rattle.vx_base.specs.Lists.{is_some_and}
 
 -- the id of the request that was accepted there, and the request while it is outstanding
 pub record Place : Type 0 where
@@ -16,7 +13,7 @@ pub record Place : Type 0 where
 
 -- a request stands there, and passes
 abbrev pub holds : (Request → Bool) → Place → Bool
-holds p place = is_found p place.request
+holds p place = is_some_and p place.request
 
 -- a request stands there
 abbrev pub is_held : Place → Bool

@@ -1,15 +1,11 @@
 -- The outstanding requests.
-use Rattle.std.specs.Prelude.{ℕ, List, Bool, false, ◌&&◌, ◌==◌, not, Option, Some, None, if◌then◌else◌}
+use Rattle.std.specs.Prelude.{ℕ, List, Bool, ◌&&◌, ◌==◌, not, if◌then◌else◌}
 use Rattle.std.specs.List.{list_any}
 use Rattle.vx_base.specs.Lists.{amend}
 use Rattle.vx_base.specs.Modes.{reaches}
-use Rattle.vx_base.specs.Pieces.{Request, Promised}
+use Rattle.vx_record.specs.Types.{Entry, Mode, Pid, Promised, Request, UnitNo}
 use Rattle.vx_base.specs.Queues.{is_served_by, waits_for}
 use Rattle.vx_base.specs.Roomy.{Roomy}
-use Rattle.vx_base.specs.declared.mode.Mode.{Mode}
-use Rattle.vx_base.specs.declared.number.Pid.{Pid}
-use Rattle.vx_base.specs.declared.number.UnitNo.{UnitNo}
-use Rattle.vx_base.specs.declared.routine.Entry.{Entry}
 use Rattle.vx_record.specs.Requests.{taken_up}
 
 -- The requests in order of acceptance, and how many there is room for in all.
@@ -31,11 +27,6 @@ is_to_cancel p chan r = (is_of p r && (r.req.chan == chan)) && not (r.served && 
 -- a request of process p on a channel of that mode or an outer one
 abbrev pub keeps_open : Pid → Mode → Request → Bool
 keeps_open p m r = is_of p r && reaches r.req.chan_mode m
-
--- a request that passes was found
-abbrev pub is_found : (Request → Bool) → Option Request → Bool
-is_found p None = false
-is_found p (Some r) = p r
 
 -- the list after a unit has taken the request that it takes next, if there is one
 abbrev pub begun : UnitNo → List Request → List Request

@@ -2,7 +2,7 @@
 use Rattle.std.specs.Prelude.{ℕ, ◌≡◌, ◌≤◌, ◌≢◌, Bool, List, [], ◌∷◌, Option, Some, None, IfSome, length, map, is_some}
 use Rattle.std.specs.List.{AllByRecursion}
 use Rattle.slab.specs.Slab.{Slab, ContainsKey, get, slab_len}
-use Rattle.vx_base.specs.Pieces.{Request}
+use Rattle.vx_record.specs.Types.{Request}
 use Rattle.vx_reqs.specs.Places.{Place, live}
 use Rattle.vx_reqs.specs.declared.slot.Slot.{Slot as SlotOf}
 

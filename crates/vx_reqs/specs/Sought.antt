@@ -1,6 +1,6 @@
 -- What is looked for among requests.
 use Rattle.std.specs.Prelude.{Bool}
-use Rattle.vx_base.specs.Pieces.{Request}
+use Rattle.vx_record.specs.Types.{Request}
 use Rattle.vx_base.specs.Queues.{is_served_by, waits_for}
 use Rattle.vx_record.specs.Mailboxes.{waits_at}
 use Rattle.vx_reqs.specs.Requests.{is_to_cancel, keeps_open}

@@ -3,7 +3,7 @@
 ghost use Rattle.std.specs.Prelude.{◌≡◌, ◌≢◌, ◌<◌, ◌≤◌, ℕ, Bool, false, IfSome, length, option_map, position, get_or};
 ghost use Rattle.std.specs.List.{find};
 ghost use Rattle.vx_base.specs.Lists.{amend};
-ghost use Rattle.vx_base.specs.Pieces.{Request};
+ghost use Rattle.vx_record.specs.Types.{Request};
 ghost use Rattle.vx_reqs.specs.Places.{Place, emptied, changed, holds, live, OrderedIf, Rises};
 ghost use Rattle.vx_reqs.specs.Sought.{is_sought};
 ghost use Rattle.vx_record.specs.Requests.{taken_up};

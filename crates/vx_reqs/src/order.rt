@@ -3,7 +3,7 @@
 ghost use Rattle.std.specs.Prelude.{◌≡◌, ◌≢◌, ◌<◌, ◌≤◌, ◌∷◌, ◌++◌, [], Some, None, true, false, List, get_or, nat_le, option_map, ◌&&◌};
 ghost use Rattle.std.specs.List.{find};
 ghost use Rattle.vx_base.specs.Lists.{amend};
-ghost use Rattle.vx_base.specs.Pieces.{Request};
+ghost use Rattle.vx_record.specs.Types.{Request};
 ghost use Rattle.vx_base.specs.Queues.{is_served_by, is_unit, waits_for};
 ghost use Rattle.vx_reqs.specs.Places.{Place, OrderedIf, changed, holds};
 ghost use Rattle.vx_record.specs.Requests.{taken_up};

@@ -1,6 +1,6 @@
 //! One outstanding request.
 
-ghost use Rattle.std.specs.Prelude.{◌≡◌, ◌↔◌, IsTrue, false, is_some, option_map};
+ghost use Rattle.std.specs.Prelude.{◌≡◌, ◌↔◌, IsTrue, false, option_map};
 ghost use Rattle.vx_base.specs.Queues.{is_unit, is_served_by, waits_for};
 ghost use Rattle.vx_record.specs.Mailboxes.{is_box, is_waiting_func, waits_at};
 ghost use Rattle.vx_reqs.specs.Requests.{is_to_cancel, keeps_open, promised_of};
@@ -58,13 +58,6 @@ impl<R: Routine> Outstanding<R> {
         ensures { result ≡ self.now.req.id }
     {
         self.req.id
-    }
-
-    /// Whether it has an AST.
-    pub(crate) fn has_ast(&self) -> bool
-        ensures { result ≡ is_some self.now.ast }
-    {
-        self.ast.is_some()
     }
 
     /// Whether its unit serves it.

@@ -2,7 +2,7 @@
 
 ghost use Rattle.std.specs.Prelude.{◌≡◌, ◌≢◌, ◌<◌, ◌≤◌, ◌&&◌, [], ℕ, List, IfSome, get_or, length, option_map, position, true};
 ghost use Rattle.std.specs.List.{find};
-ghost use Rattle.vx_base.specs.declared.number.BoxNo.{BoxNo as BoxNoOf};
+ghost use Rattle.vx_record.specs.Types.{BoxNo as BoxNoOf};
 ghost use Rattle.vx_record.specs.Mailboxes.{is_box, is_waiting_func, waits_at};
 ghost use Rattle.vx_reqs.specs.Places.{AreFrom, OrderedIf, Place, Rises, holds};
 

@@ -1,12 +1,12 @@
 //! The requests: one list, in order of acceptance.
 
-ghost use Rattle.std.specs.Prelude.{◌≡◌, ◌<◌, ◌≤◌, ◌+◌, ◌++◌, ◌∷◌, [], IfOk, IsTrue, false, not, length, OnOk, OnErr, option_map, is_some};
+ghost use Rattle.std.specs.Prelude.{◌≡◌, ◌<◌, ◌≤◌, ◌+◌, ◌++◌, ◌∷◌, [], IfOk, IsTrue, false, not, length, OnOk, OnErr, option_map};
 ghost use Rattle.std.specs.List.{find, list_any};
-ghost use Rattle.vx_base.specs.Lists.{less, amend};
+ghost use Rattle.vx_base.specs.Lists.{less, amend, is_some_and};
 ghost use Rattle.vx_base.specs.Queues.{front, in_service};
 ghost use Rattle.vx_record.specs.Mailboxes.{waits_at};
 ghost use Rattle.vx_reqs.specs.Places.{live};
-ghost use Rattle.vx_reqs.specs.Requests.{promised_of, is_found, begun, is_to_cancel, keeps_open};
+ghost use Rattle.vx_reqs.specs.Requests.{promised_of, begun, is_to_cancel, keeps_open};
 ghost use Rattle.vx_record.specs.Finish.{this_request};
 ghost use Rattle.vx_record.specs.Cancel.{with_abort};
 
@@ -214,7 +214,7 @@ impl<R: Routine> Reqs<R> {
     /// nothing, exactly where it was marked.
     pub fn mark(&mut self, id: Id) -> bool
         requires { IsTrue (list_any (this_request id) self.old.items) }
-        ensures was { result ≡ not (is_found (λ r. r.marked) (find (this_request id) self.old.items)) }
+        ensures was { result ≡ not (is_some_and (λ r. r.marked) (find (this_request id) self.old.items)) }
         ensures kept { result ≡ false → self.new ≡ self.old }
         ensures after { self.new ≡ record self.old { items = amend (this_request id) with_abort self.old.items } }
     {
@@ -238,20 +238,10 @@ impl<R: Routine> Reqs<R> {
 
     /// Whether there is a request with an id, and its unit serves it.
     pub fn is_served(&self, id: Id) -> bool
-        ensures { result ≡ is_found (λ r. r.served) (find (this_request id) self.now.items) }
+        ensures { result ≡ is_some_and (λ r. r.served) (find (this_request id) self.now.items) }
     {
         match self.with_id(id) {
             Some(found) => found.is_served(),
-            None => false,
-        }
-    }
-
-    /// Whether there is a request with an id, and it has an AST.
-    pub fn has_ast(&self, id: Id) -> bool
-        ensures { result ≡ is_found (λ r. is_some r.ast) (find (this_request id) self.now.items) }
-    {
-        match self.with_id(id) {
-            Some(found) => found.has_ast(),
             None => false,
         }
     }

@@ -9,7 +9,7 @@ use Rattle.vx_image.specs.WellFormed.{is_among, is_decl}
 use Rattle.vx_image.specs.declared.decl.ProcDecl.{ProcDecl}
 use Rattle.vx_image.specs.declared.image.Image.{Image}
 use Rattle.vx_script.specs.Reading.{between_images}
-use Rattle.vx_script.specs.Script.{no_image, decl_line}
+use Rattle.vx_script.specs.Script.{decl_line}
 use Rattle.vx_script.specs.declared.lines.DeclLine.{DeclLine}
 use Rattle.vx_script.specs.declared.parts.Parts.{Parts}
 use Rattle.vx_roundtrip.specs.Held.{IsHeldImage, IsHeldDecl}
@@ -18,6 +18,7 @@ use Rattle.vx_roundtrip.proofs.Outer.{stays, step, and_then}
 use Rattle.vx_roundtrip.proofs.Process.{line_of, take_process}
 use Rattle.vx_roundtrip.proofs.Told.{plain_decl, Said, Told, Comes, told_as}
 use Rattle.vx_grammar.proofs.LinesBack.{no_place}
+use Rattle.vx_image.specs.Absent.{no_image}
 
 abbrev pub line_names : List DeclLine → List (List ℕ)
 line_names decls = map (λ d. d.name) decls

@@ -8,6 +8,7 @@ use Rattle.vx_base.specs.Name.{is_name}
 use Rattle.vx_base.specs.declared.mode.Mode.{Mode}
 use Rattle.vx_base.specs.declared.quota.Need.{Need}
 use Rattle.vx_base.specs.declared.quota.Privs.{Privs}
+use Rattle.vx_image.specs.Absent.{no_image}
 use Rattle.vx_image.specs.WellFormed.{is_decl, are_limits}
 use Rattle.vx_image.specs.declared.decl.ProcDecl.{ProcDecl}
 use Rattle.vx_image.specs.declared.image.Image.{Image}
@@ -285,7 +286,7 @@ has_rights d rest toks r e more =
 
 -- the name of a declaration's image
 abbrev pub image_name : List Image → ProcDecl → List ℕ
-image_name images d = (slice_index_or images d.image script.no_image).name
+image_name images d = (slice_index_or images d.image no_image).name
 
 abbrev names_shown : List ℕ → List ℕ → List ℕ → List ℕ
 names_shown name image rest = codes "PROCESS" ++ 32 ∷ (name ++ 32 ∷ (image ++ rest))

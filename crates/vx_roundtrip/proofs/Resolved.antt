@@ -11,7 +11,6 @@ use Rattle.vx_image.specs.declared.system.System.{System}
 use Rattle.vx_image.specs.declared.unit.UnitDecl.{UnitDecl}
 use Rattle.vx_script.specs.Places.{image_place, is_line_unit, in_place, rising}
 use Rattle.vx_script.specs.Resolving.{names_no_decl, names_no_image, names_no_line_unit, names_no_unit, unknown_creation, unknown_image, unknown_input, unknown_fault, first_unknown, input_if, inputs_of, fault_if, numbers_of, unit_of, decl_of, resolve}
-use Rattle.vx_script.specs.Script.{no_image}
 use Rattle.vx_script.specs.declared.lines.Creation.{Creation}
 use Rattle.vx_script.specs.declared.lines.DeclLine.{DeclLine}
 use Rattle.vx_script.specs.declared.lines.FaultLine.{FaultLine}
@@ -26,6 +25,7 @@ use Rattle.vx_roundtrip.proofs.Told.{plain_input, plain_fault, plain_decl, Said,
 use Rattle.vx_roundtrip.proofs.Units.{input_told, fault_told, inputs_told, faults_told, unit_names, unit_test}
 use Rattle.vx_grammar.proofs.LinesBack.{none_found}
 use Rattle.vx_base.proofs.Texts.{same_bytes, bytes_are}
+use Rattle.vx_image.specs.Absent.{no_image}
 
 -- What statements create is there.
 

@@ -5,17 +5,11 @@ use Rattle.std.proofs.lemmas.Bool.{cases_eq, eq-eqb}
 use Rattle.std.proofs.lemmas.Bool.Decides.{nat_tests}
 use Rattle.vx_base.specs.Channels.{channels_of, is_reached, next_of_mode, reached_from}
 use Rattle.vx_base.specs.Flags.{one}
-use Rattle.vx_base.specs.Pieces.{Channel, Promised, Queued, Request, Status}
+use Rattle.vx_record.specs.Types.{Cell, Channel, Device, Id, Mode, Pid, Promised, Queued, Req, Request, Status}
 use Rattle.vx_base.specs.declared.cond.Cond.TheVariants.{Cancel}
-use Rattle.vx_base.specs.declared.effects.Cell.{Cell}
 use Rattle.vx_base.specs.declared.effects.Cell.TheVariants.{Common, Local}
 use Rattle.vx_base.specs.declared.effects.Effect.TheVariants as effect
-use Rattle.vx_base.specs.declared.mode.Mode.{Mode}
-use Rattle.vx_base.specs.declared.number.Id.{Id}
-use Rattle.vx_base.specs.declared.number.Pid.{Pid}
-use Rattle.vx_base.specs.declared.request.Device.{Device}
 use Rattle.vx_base.specs.declared.request.Device.TheVariants as device
-use Rattle.vx_base.specs.declared.request.Req.{Req}
 use Rattle.vx_record.proofs.Cancelled.{cancel_channel_moves, withdraw_requests, still_has}
 use Rattle.vx_record.proofs.Finds.{all_found, ordered_filter}
 use Rattle.vx_record.proofs.Fits.{field_same}

@@ -4,15 +4,9 @@ use Rattle.std.specs.List.{find}
 use Rattle.std.proofs.lemmas.Bool.{eqb-true}
 use Rattle.vx_base.specs.Lists.{less}
 use Rattle.vx_base.specs.Modes.{rank}
-use Rattle.vx_base.specs.Pieces.{Handler}
+use Rattle.vx_record.specs.Types.{Answer, Entry, Frame, Handler, Id, Mode, Pid}
 use Rattle.vx_base.specs.declared.effects.Effect.TheVariants as effect
-use Rattle.vx_base.specs.declared.frame.Frame.{Frame}
 use Rattle.vx_base.specs.declared.frame.Phase.TheVariants as phase
-use Rattle.vx_base.specs.declared.mode.Mode.{Mode}
-use Rattle.vx_base.specs.declared.number.Id.{Id}
-use Rattle.vx_base.specs.declared.number.Pid.{Pid}
-use Rattle.vx_base.specs.declared.record.Answer.{Answer}
-use Rattle.vx_base.specs.declared.routine.Entry.{Entry}
 use Rattle.vx_exits.specs.Exits.{known}
 use Rattle.vx_record.specs.Asts.{entry_place, with_frame}
 use Rattle.vx_record.specs.Parts.{nothing}

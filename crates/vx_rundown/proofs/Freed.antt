@@ -3,9 +3,7 @@ use Rattle.std.proofs.Common.{◌≡◌, ℕ, suc, ◌+◌, ◌-◌, ◌<◌, �
 use Rattle.std.specs.List.{find}
 use Rattle.std.proofs.lemmas.Bool.Decides.{nat_tests}
 use Rattle.vx_base.specs.Channels.{channel_at, channels_of, is_channel_number, is_reached, next_of_mode, reached_from}
-use Rattle.vx_base.specs.Pieces.{Channel}
-use Rattle.vx_base.specs.declared.mode.Mode.{Mode}
-use Rattle.vx_base.specs.declared.number.Pid.{Pid}
+use Rattle.vx_record.specs.Types.{Channel, Mode, Pid}
 use Rattle.vx_record.specs.Channels.{free_channel, swept_box, with_channel}
 use Rattle.vx_record.specs.Parts.{Part, and_then, each}
 use Rattle.vx_record.specs.Rundown.{free_one, keeps_busy}

@@ -2,12 +2,8 @@
 use Rattle.std.proofs.Common.{◌≡◌, ◌≤◌, ℕ, ◌-◌, List, [], ◌∷◌, Bool, true, None, length, length-set, refl, arith}
 use Rattle.std.specs.List.{filter}
 use Rattle.vx_base.specs.Clusters.{dissociated}
-use Rattle.vx_base.specs.Pieces.{Attention, Handler, Queued, Timer}
-use Rattle.vx_base.specs.declared.effects.Effect.{Effect}
-use Rattle.vx_base.specs.declared.frame.Phase.{Phase}
+use Rattle.vx_record.specs.Types.{Attention, Effect, Handler, Mode, Phase, Pid, Queued, Timer}
 use Rattle.vx_base.specs.declared.frame.Phase.TheVariants as phase
-use Rattle.vx_base.specs.declared.mode.Mode.{Mode}
-use Rattle.vx_base.specs.declared.number.Pid.{Pid}
 use Rattle.vx_record.proofs.Apart.{dissociated_only}
 use Rattle.vx_record.proofs.Cancelled.{drop_timers_moves}
 use Rattle.vx_record.proofs.Fits.{field_same}

@@ -5,15 +5,11 @@ use Rattle.std.proofs.lemmas.List.{set-get_or}
 use Rattle.vx_base.proofs.Lists.{some_mapped, none_mapped}
 use Rattle.vx_base.specs.Lists.{less}
 use Rattle.vx_base.proofs.First.{less_none}
-use Rattle.vx_base.specs.Pieces.{Handler, Queued}
+use Rattle.vx_record.specs.Types.{Entry, Handler, Id, Mode, Pid, Queued}
 use Rattle.vx_base.specs.declared.effects.Effect.TheVariants as effect
-use Rattle.vx_base.specs.declared.number.Id.{Id}
-use Rattle.vx_base.specs.declared.number.Pid.{Pid}
 use Rattle.vx_base.specs.declared.cond.Cond.TheVariants.{Normal, NoHandler}
-use Rattle.vx_base.specs.declared.mode.Mode.{Mode}
-use Rattle.vx_base.specs.declared.routine.Entry.{Entry}
 use Rattle.vx_record.specs.Parts.{Part, tells, and_then, each}
-use Rattle.vx_record.specs.Rundown.{cancel_found, drop_handler, is_handler_with}
+use Rattle.vx_record.specs.Rundown.{cancel_found, drop_handler}
 use Rattle.vx_record.specs.State.{Process, State, IsProcess, process_at, change}
 use Rattle.vx_procs.specs.Kernel.{Acts, Does, Fits, Kernel, changed, told, with_state}
 use Rattle.vx_procs.specs.Words.{handlers_have_own_ids, have_own}
@@ -22,6 +18,7 @@ use Rattle.vx_procs.proofs.Firsts.{filter_found, filter_none}
 use Rattle.vx_procs.proofs.Own.{less_own, own_less}
 use Rattle.vx_procs.proofs.Rest.{IsDoing, acted, doing_begun, doing_end, doing_on, doing_room, told_none}
 use Rattle.vx_io.proofs.Changed.{process_there, made_still}
+use Rattle.vx_base.specs.Handlers.{is_handler_with}
 
 -- a list that a process has, of things with ids
 pub record Shelf (A : Type 0) : Type 1 where

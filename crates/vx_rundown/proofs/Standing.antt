@@ -4,12 +4,9 @@ use Rattle.std.specs.List.{list_any}
 use Rattle.std.proofs.lemmas.Bool.{and_from, eq-eqb, not_from_false}
 use Rattle.std.proofs.lemmas.Bool.Decides.{nat_tests}
 use Rattle.vx_base.specs.Flags.{one}
-use Rattle.vx_base.specs.Lists.{tally}
-use Rattle.vx_base.specs.Pieces.{Alarm, Handler, OfTimer, OfWake, Queued}
-use Rattle.vx_base.specs.declared.effects.Effect.{Effect}
-use Rattle.vx_base.specs.declared.number.Id.{Id}
-use Rattle.vx_base.specs.declared.number.Pid.{Pid}
-use Rattle.vx_record.specs.Parts.{total}
+use Rattle.vx_base.specs.Lists.{tally, total}
+use Rattle.vx_record.specs.Types.{Alarm, Effect, Handler, Id, Pid, Queued}
+use Rattle.vx_base.specs.Pieces.{OfTimer, OfWake}
 use Rattle.vx_record.specs.Sound.{AlarmStands, IsSound, ground, process_bears}
 use Rattle.vx_record.specs.State.{State, IsProcess, nobody, process_at}
 use Rattle.vx_record.proofs.Base.{Base}

@@ -1,8 +1,7 @@
 -- What rundown relies on.
 use Rattle.std.specs.Prelude.{◌≡◌, [], false}
 use Rattle.vx_base.specs.declared.frame.Phase.TheVariants as phase
-use Rattle.vx_base.specs.declared.mode.Mode.{Mode}
-use Rattle.vx_base.specs.declared.number.Pid.{Pid}
+use Rattle.vx_record.specs.Types.{Mode, Pid}
 use Rattle.vx_record.specs.Rundown.{is_busy}
 use Rattle.vx_record.specs.Sound.{IsSound}
 use Rattle.vx_record.specs.State.{State, IsProcess, process_at}

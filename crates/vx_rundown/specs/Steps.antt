@@ -1,12 +1,9 @@
 -- Rundown mode by mode: what a mode comes to, an answer, or none where the next mode follows.
 use Rattle.std.specs.Prelude.{List, [], ◌∷◌, Option, Some, None, if◌then◌else◌}
 use Rattle.std.specs.List.{find}
-use Rattle.vx_base.specs.Pieces.{Handler}
+use Rattle.vx_record.specs.Types.{Answer, Handler, Mode, Pid}
 use Rattle.vx_base.specs.declared.effects.Effect.TheVariants as effect
-use Rattle.vx_base.specs.declared.mode.Mode.{Mode}
 use Rattle.vx_base.specs.declared.mode.Mode.TheVariants.{Kernel, Exec, Super, User}
-use Rattle.vx_base.specs.declared.number.Pid.{Pid}
-use Rattle.vx_base.specs.declared.record.Answer.{Answer}
 use Rattle.vx_base.specs.declared.record.Answer.TheVariants as answer
 use Rattle.vx_record.specs.Asts.{with_frame}
 use Rattle.vx_record.specs.Parts.{Outcome, Part, answered, followed_by, nothing, part_of, tells}

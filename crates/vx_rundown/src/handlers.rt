@@ -2,7 +2,8 @@
 
 ghost use Rattle.std.specs.Prelude.{IsTrue};
 ghost use Rattle.std.specs.List.{find};
-ghost use Rattle.vx_record.specs.Rundown.{cancel_found, cancel_handlers, canexh, dclexh, drop_handlers, is_handler_with};
+ghost use Rattle.vx_base.specs.Handlers.{is_handler_with};
+ghost use Rattle.vx_record.specs.Rundown.{cancel_found, cancel_handlers, canexh, dclexh, drop_handlers};
 ghost use Rattle.vx_record.specs.State.{IsProcess, process_at};
 ghost use Rattle.vx_procs.specs.Handlers.{is_sought};
 ghost use Rattle.vx_procs.specs.Kernel.{Acts, Does, Fits};

@@ -1,7 +1,7 @@
 -- A text is its first line, and the lines behind it.
 use Rattle.std.proofs.Common.{◌≡◌, ℕ, suc, ◌+◌, ◌<◌, ◌≤◌, ◌&&◌, ◌==◌, not, Bool, true, false, cond, List, [], ◌∷◌, length, take, drop, refl, sym, ap, ◌∙◌, arith, Result, Ok}
 use Rattle.vx_image.specs.declared.system.System.{System}
-use Rattle.vx_script.specs.Lines.{lines_of, onto_first, begins_with}
+use Rattle.vx_script.specs.Lines.{lines_of, begins_with}
 use Rattle.vx_script.specs.Steps.{first_line, line_len, without_return, fail_of, LineFails}
 use Rattle.vx_text.specs.Lex.{lex, Fails}
 use Rattle.vx_text.specs.declared.token.LexFail.{LexFail}
@@ -9,10 +9,11 @@ use Rattle.vx_text.specs.declared.token.LexFail.TheVariants as lex_fail
 use Rattle.vx_script.specs.Reading.{read_lines, take_line, closed}
 use Rattle.vx_script.specs.Results.{◌>>=◌, at_line, ScriptFails}
 use Rattle.vx_script.specs.declared.fault.ScriptFail.{ScriptFail}
-use Rattle.vx_script.specs.declared.fault.ScriptFail.TheVariants as fail
 use Rattle.vx_script.specs.declared.fault.ScriptFault.{ScriptFault}
 use Rattle.vx_script.specs.declared.parts.Reading.{Reading}
+use Rattle.vx_script.specs.declared.fault.ScriptFail.TheVariants as fail
 use Rattle.std.proofs.lemmas.Bool.{and_parts}
+use Rattle.std.specs.List.{onto_first}
 
 -- behind a return in front of a line feed stands the line feed
 

@@ -15,8 +15,9 @@ use Rattle.vx_script.specs.declared.fault.FaultKind.{FaultKind}
 use Rattle.vx_script.specs.declared.lines.FaultLine.{FaultLine}
 use Rattle.vx_script.proofs.Appended.{all_flat, same_back, equal_back}
 use Rattle.vx_script.proofs.Chains.{after, after_by}
-use Rattle.vx_script.proofs.InRange.{IsBetween, number}
+use Rattle.vx_script.proofs.InRange.{number}
 use Rattle.vx_base.proofs.Bools.{either_by}
+use Rattle.std.specs.Int.{IsInRange}
 
 abbrev pub is_number : ℕ → Bool
 is_number n = nat_le 1 n && nat_le n 100000
@@ -63,7 +64,7 @@ pub fault_read : (line : ℕ) (faults : List FaultLine) (tokens : List Tok) → 
 unfolding fault_line
 fault_read line faults tokens h =
     after (name_at tokens) _ (WithFault faults) λ unit _.
-    after_by (number_at 1 100000 (drop 1 tokens)) _ (IsBetween 1 100000) (WithFault faults) (number 1 100000 (drop 1 tokens)) λ n k.
+    after_by (number_at 1 100000 (drop 1 tokens)) _ (IsInRange 1 100000) (WithFault faults) (number 1 100000 (drop 1 tokens)) λ n k.
     after_by (fresh_fault unit n faults) _ (IsFreshFault unit n faults) (WithFault faults) (fresh_fault_is unit n faults) λ m new.
     after (end_at (drop 2 tokens)) _ (WithFault faults) λ _ _.
     let f : FaultLine = record { line = line; unit = unit; number = m } in

@@ -16,11 +16,12 @@ use Rattle.vx_script.specs.Results.{given}
 use Rattle.vx_script.specs.Fields.{first_of, end_at, is_sign, sign_at, word_at, name_at, number_in, within, number_between, number_at, text_in, text_at, operand_at, target_in, target_at}
 use Rattle.vx_script.specs.Statements.{added, subtracted, let_rest, let_stmt, goto_stmt, rel_at, if_stmt, put_stmt, byte_stmt, field_at, iosb_stmt, return_stmt, local_stmt, called, stmt_of}
 use Rattle.vx_script.specs.declared.draft.Draft.{Draft}
-use Rattle.vx_script.specs.declared.draft.Draft.TheVariants as draft
 use Rattle.vx_script.specs.declared.fault.FaultKind.{FaultKind}
+use Rattle.vx_script.specs.declared.draft.Draft.TheVariants as draft
 use Rattle.vx_script.specs.declared.fault.FaultKind.TheVariants as kind
 use Rattle.vx_script.proofs.Chains.{after, after_by}
 use Rattle.vx_base.proofs.Bools.{either_by}
+use Rattle.std.specs.Int.{IsInRange}
 
 -- a statement that names no label, but for a call
 abbrev pub is_plain : Stmt → Bool
@@ -54,9 +55,6 @@ IsOperand x = is_operand x ≡ true
 abbrev IsTarget : Target → Type 0
 IsTarget t = is_target t ≡ true
 
-abbrev pub IsBetween : ℕ → ℕ → ℕ → Type 0
-IsBetween low high n = (low ≤ n) × (n ≤ high)
-
 abbrev pub IsText : List ℕ → Type 0
 IsText bytes = nat_le (length bytes) 2048 ≡ true
 
@@ -87,15 +85,15 @@ target_of _ = tt
 target : (tokens : List Tok) → IfOk (target_at tokens) IsTarget
 target tokens = after (first_of tokens) target_in IsTarget λ t _. target_of t
 
-between : (low high n : ℕ) → IfOk (within low high n) (IsBetween low high)
+between : (low high n : ℕ) → IfOk (within low high n) (IsInRange low high)
 between low high n =
-    either_by (λ r. IfOk r (IsBetween low high)) (nat_le low n && nat_le n high) (Ok n) (Err kind.Range)
+    either_by (λ r. IfOk r (IsInRange low high)) (nat_le low n && nat_le n high) (Ok n) (Err kind.Range)
     (λ e. let parts = and_parts (nat_le low n) (nat_le n high) e in (leb-true low n parts.0, leb-true n high parts.1))
     (λ _. tt)
 
-pub number : (low high : ℕ) (tokens : List Tok) → IfOk (number_at low high tokens) (IsBetween low high)
+pub number : (low high : ℕ) (tokens : List Tok) → IfOk (number_at low high tokens) (IsInRange low high)
 number low high tokens =
-    after (first_of tokens) (number_between low high) (IsBetween low high) λ t _. after (number_in t) (within low high) (IsBetween low high) λ n _.
+    after (first_of tokens) (number_between low high) (IsInRange low high) λ t _. after (number_in t) (within low high) (IsInRange low high) λ n _.
     between low high n
 
 text_of : (t : Tok) → IfOk (text_in t) IsText
@@ -154,7 +152,7 @@ if_is tokens =
 put_is : (tokens : List Tok) → IfOk (put_stmt tokens) IsDraft
 unfolding put_stmt
 put_is tokens =
-    after_by (number_at 0 31 tokens) _ (IsBetween 0 31) IsDraft (number 0 31 tokens) λ b h.
+    after_by (number_at 0 31 tokens) _ (IsInRange 0 31) IsDraft (number 0 31 tokens) λ b h.
     after_by (text_at (drop 1 tokens)) _ IsText IsDraft (text (drop 1 tokens)) λ bytes k.
     after (end_at (drop 2 tokens)) _ IsDraft λ _ _.
     and_from (nat_lt b 32) (nat_le (length bytes) 2048) (lt-ltb b 32 (omega (arith, h.1))) k
@@ -163,7 +161,7 @@ byte_is : (tokens : List Tok) → IfOk (byte_stmt tokens) IsDraft
 unfolding byte_stmt
 byte_is tokens =
     after_by (target_at tokens) _ IsTarget IsDraft (target tokens) λ v h.
-    after_by (number_at 0 31 (drop 1 tokens)) _ (IsBetween 0 31) IsDraft (number 0 31 (drop 1 tokens)) λ b k.
+    after_by (number_at 0 31 (drop 1 tokens)) _ (IsInRange 0 31) IsDraft (number 0 31 (drop 1 tokens)) λ b k.
     after_by (operand_at (drop 2 tokens)) _ IsOperand IsDraft (operand (drop 2 tokens)) λ x l.
     after (end_at (drop 3 tokens)) _ IsDraft λ _ _.
     and_from (is_target v) (nat_lt b 32 && is_operand x) h (and_from (nat_lt b 32) (is_operand x) (lt-ltb b 32 (omega (arith, k.1))) l)
@@ -172,7 +170,7 @@ iosb_is : (tokens : List Tok) → IfOk (iosb_stmt tokens) IsDraft
 unfolding iosb_stmt
 iosb_is tokens =
     after_by (target_at tokens) _ IsTarget IsDraft (target tokens) λ v h.
-    after_by (number_at 1 32 (drop 1 tokens)) _ (IsBetween 1 32) IsDraft (number 1 32 (drop 1 tokens)) λ i k.
+    after_by (number_at 1 32 (drop 1 tokens)) _ (IsInRange 1 32) IsDraft (number 1 32 (drop 1 tokens)) λ i k.
     after (field_at (drop 2 tokens)) _ IsDraft λ f _.
     after (end_at (drop 3 tokens)) _ IsDraft λ _ _.
     and_from (is_target v) (nat_le 1 i && nat_le i 32) h (and_from (nat_le 1 i) (nat_le i 32) (le-leb 1 i k.0) (le-leb i 32 k.1))

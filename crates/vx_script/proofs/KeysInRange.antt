@@ -9,14 +9,15 @@ use Rattle.vx_script.specs.Fields.{sign_at, number_at}
 use Rattle.vx_script.specs.Keys.{uic_at, mode_at, limit_at, privs_at, start_at, key_in, no_keys, once, limit_in, with_limit_in, with_uic, with_mode, with_limit, with_privs, with_start, with_key, taken_key, keys_from, first_uic, limits_of}
 use Rattle.vx_script.specs.declared.fault.FaultKind.TheVariants as kind
 use Rattle.vx_script.specs.declared.keys.Key.{Key}
-use Rattle.vx_script.specs.declared.keys.Key.TheVariants as key
 use Rattle.vx_script.specs.declared.keys.Keys.{Keys}
 use Rattle.vx_script.specs.declared.keys.Limit.{Limit}
-use Rattle.vx_script.specs.declared.keys.Limit.TheVariants as limit
 use Rattle.vx_script.specs.declared.keys.TakenKey.{TakenKey}
 use Rattle.vx_script.specs.declared.keys.Uic.{Uic}
+use Rattle.vx_script.specs.declared.keys.Key.TheVariants as key
+use Rattle.vx_script.specs.declared.keys.Limit.TheVariants as limit
 use Rattle.vx_script.proofs.Chains.{after, after_by}
-use Rattle.vx_script.proofs.InRange.{IsBetween, number}
+use Rattle.vx_script.proofs.InRange.{number}
+use Rattle.std.specs.Int.{IsInRange}
 
 -- what a process declaration with these keys has in range
 abbrev pub are_keys : Keys → Bool
@@ -59,16 +60,16 @@ uic_is : (tokens : List Tok) → IfOk (uic_at tokens) IsUic
 unfolding uic_at
 uic_is tokens =
     after (sign_at 61 tokens) _ IsUic λ _ _.
-    after_by (number_at 1 16382 (drop 1 tokens)) _ (IsBetween 1 16382) IsUic (number 1 16382 (drop 1 tokens)) λ group h.
+    after_by (number_at 1 16382 (drop 1 tokens)) _ (IsInRange 1 16382) IsUic (number 1 16382 (drop 1 tokens)) λ group h.
     after (sign_at 58 (drop 2 tokens)) _ IsUic λ _ _.
-    after_by (number_at 0 65534 (drop 3 tokens)) _ (IsBetween 0 65534) IsUic (number 0 65534 (drop 3 tokens)) λ member k.
+    after_by (number_at 0 65534 (drop 3 tokens)) _ (IsInRange 0 65534) IsUic (number 0 65534 (drop 3 tokens)) λ member k.
     record { first = le-leb 1 group h.0; group = le-leb group 16382 h.1; member = le-leb member 65534 k.1 }
 
 limit_is : (tokens : List Tok) → IfOk (limit_at tokens) IsLimit
 unfolding limit_at
 limit_is tokens =
     after (sign_at 61 tokens) _ IsLimit λ _ _.
-    IfOk-weaker (number_at 0 1000000 (drop 1 tokens)) (IsBetween 0 1000000) IsLimit (λ n h. le-leb n 1000000 h.1) (number 0 1000000 (drop 1 tokens))
+    IfOk-weaker (number_at 0 1000000 (drop 1 tokens)) (IsInRange 0 1000000) IsLimit (λ n h. le-leb n 1000000 h.1) (number 0 1000000 (drop 1 tokens))
 
 abbrev IsTaken : TakenKey → Type 0
 IsTaken taken = AreKeys taken.keys

@@ -14,8 +14,9 @@ use Rattle.vx_script.specs.declared.declaration.Device.TheVariants as device
 use Rattle.vx_script.proofs.Appended.{few_push}
 use Rattle.vx_script.proofs.Chains.{after, after_by}
 use Rattle.vx_script.proofs.DistinctUnits.{one_more}
-use Rattle.vx_script.proofs.InRange.{IsBetween, number}
+use Rattle.vx_script.proofs.InRange.{number}
 use Rattle.vx_script.proofs.OpenImages.{IsFresh, is_fresh, has_room}
+use Rattle.std.specs.Int.{IsInRange}
 
 -- few units, with different names, and not too many blocks
 pub record AreUnits (units : List UnitDecl) : Type 0 where
@@ -29,7 +30,7 @@ IsBlocks n = nat_le n 4096 ≡ true
 blocks_are : (d : Device) (tokens : List Tok) → IfOk (blocks_of d tokens) IsBlocks
 blocks_are device.Line tokens = after (end_at tokens) _ IsBlocks λ _ _. refl
 blocks_are device.Block tokens =
-    after_by (number_at 1 4096 tokens) _ (IsBetween 1 4096) IsBlocks (number 1 4096 tokens) λ n h.
+    after_by (number_at 1 4096 tokens) _ (IsInRange 1 4096) IsBlocks (number 1 4096 tokens) λ n h.
     after (end_at (drop 1 tokens)) _ IsBlocks λ _ _. le-leb n 4096 h.1
 
 with_unit : (units : List UnitDecl) (u : UnitDecl) → AreUnits units → unit_place u.name units ≡ None → nat_le u.blocks 4096 ≡ true

@@ -1,6 +1,6 @@
 -- The lines of a text.
 use Rattle.std.specs.Prelude.{ℕ, ◌==◌, ◌&&◌, Bool, false, List, [], ◌∷◌, if◌then◌else◌}
-pub use Rattle.vx_text.specs.Lines.{onto_first}
+use Rattle.std.specs.List.{onto_first}
 
 abbrev pub begins_with : ℕ → List ℕ → Bool
 begins_with b [] = false

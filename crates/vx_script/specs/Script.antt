@@ -11,9 +11,9 @@ use Rattle.vx_image.specs.declared.decl.ProcDecl.{ProcDecl}
 use Rattle.vx_image.specs.declared.image.Image.{Image}
 use Rattle.vx_image.specs.declared.image.Label.{Label}
 use Rattle.vx_image.specs.declared.stmt.Stmt.{Stmt}
-use Rattle.vx_image.specs.declared.stmt.Stmt.TheVariants as stmt
 use Rattle.vx_image.specs.declared.system.System.{System}
 use Rattle.vx_image.specs.declared.unit.UnitDecl.{UnitDecl}
+use Rattle.vx_image.specs.declared.stmt.Stmt.TheVariants as stmt
 use Rattle.vx_text.specs.Quote.{quote_text}
 use Rattle.vx_table.specs.Spelling.{call_text, mode_name, operand_text, target_text}
 use Rattle.vx_script.specs.Keys.{privilege_name, holds}
@@ -21,6 +21,7 @@ use Rattle.vx_script.specs.Statements.{rel_name, field_name}
 use Rattle.vx_script.specs.declared.privileges.Privilege.{Privilege}
 use Rattle.vx_script.specs.declared.privileges.Privilege.TheVariants as privilege
 pub use Rattle.vx_text.specs.Lines.{ended_lines, spaced}
+use Rattle.vx_image.specs.Absent.{no_image}
 
 -- Units.
 
@@ -112,10 +113,6 @@ and_names names = flat_map (λ name. 43 ∷ name) names
 abbrev pub names_text : List (List ℕ) → List ℕ
 names_text [] = codes "NONE"
 names_text (name ∷ names) = name ++ and_names names
-
--- what stands where no image does
-abbrev pub no_image : Image
-no_image = record { name = []; labels = []; stmts = [] }
 
 -- a PROCESS line's names: its own, and its image's
 unfoldable pub decl_names : List Image → ProcDecl → List ℕ

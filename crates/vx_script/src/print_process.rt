@@ -1,7 +1,8 @@
 //! The canonical line of a process declaration.
 
 ghost use Rattle.std.specs.Prelude.{◌≡◌, ◌++◌, ◌∷◌, [], OnOk, IfOk, decimal, slice_index_or, if◌then◌else◌};
-ghost use Rattle.vx_script.specs.Script.{and_names, names_text, held_names, no_image, decl_names, rights_keys, limits_keys, start_keys, decl_line};
+ghost use Rattle.vx_image.specs.Absent.{no_image};
+ghost use Rattle.vx_script.specs.Script.{and_names, names_text, held_names, decl_names, rights_keys, limits_keys, start_keys, decl_line};
 
 use std::alloc::Global;
 use vx_base::{Bytes, Need, NoMemory, Privs};

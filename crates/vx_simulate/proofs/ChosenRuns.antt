@@ -1,11 +1,8 @@
 -- What a seed chooses is a run of the machine, and it has an end.
 use Rattle.std.proofs.Common.{◌≡◌, ℕ, zero, suc, ◌+◌, ◌<◌, ◌≤◌, List, [], ◌∷◌, Bool, if◌then◌else◌, length, Some, Contains, refl, sym, ap, subst, ◌∙◌, arith}
 use Rattle.std.proofs.lemmas.Bool.Decides.{nat_tests}
-use Rattle.vx_base.specs.declared.record.End.{End}
+use Rattle.vx_record.specs.Types.{End, Event, Rec, System}
 use Rattle.vx_base.specs.declared.record.End.TheVariants.{Done, Hung, Limit}
-use Rattle.vx_base.specs.declared.record.Event.{Event}
-use Rattle.vx_base.specs.declared.record.Rec.{Rec}
-use Rattle.vx_image.specs.declared.system.System.{System}
 use Rattle.vx_record.specs.State.{State}
 use Rattle.vx_record.specs.Events.{enabled, step}
 use Rattle.vx_record.specs.Runs.{AreSteps, IsRun, after_from, are_deleted, choose, chosen, chosen_from, end_after, end_of, end_with, first, next_seed, pick, picked, record_of}

@@ -3,10 +3,7 @@ use Rattle.std.proofs.Common.{◌≡◌, ℕ, zero, suc, ◌+◌, ◌-◌, ◌<�
 use Rattle.std.proofs.lemmas.Bool.Decides.{nat_tests}
 use Rattle.std.proofs.lemmas.List.{append_assoc, append-nil}
 use Rattle.std.proofs.lemmas.Option.{get_or_from_slice_get, slice_get_within}
-use Rattle.vx_base.specs.declared.record.End.{End}
-use Rattle.vx_base.specs.declared.record.Event.{Event}
-use Rattle.vx_base.specs.declared.record.Rec.{Rec}
-use Rattle.vx_image.specs.declared.system.System.{System}
+use Rattle.vx_record.specs.Types.{End, Event, Rec, System}
 use Rattle.vx_record.specs.State.{State}
 use Rattle.vx_record.specs.Events.{enabled, step}
 use Rattle.vx_record.specs.Runs.{IsStep, after, after_from, are_deleted, end_of, end_with, first, record_of}
@@ -14,9 +11,10 @@ use Rattle.vx_exec.specs.Taken.{TakesRun}
 use Rattle.vx_exec.specs.View.{Executive, Plan, after_step, plan}
 use Rattle.vx_exec.proofs.Runs.{after_more, going_below, steps_more, is_step, opened}
 use Rattle.vx_simulate.specs.Picking.{EndsPicked, Follows, IsPickedRun, StopsBefore, stops_at, tells_missing}
-use Rattle.vx_record.specs.Picked.{IsMissing, follow, next_place, picked, picked_from, places_after}
+use Rattle.vx_record.specs.Picked.{IsMissing, follow, next_place, picked, picked_from}
 use Rattle.vx_simulate.specs.declared.schedule.PickFail.{PickFail}
 use Rattle.vx_simulate.specs.declared.schedule.PickFail.TheVariants.{Missing, NoMemory}
+use Rattle.vx_base.specs.Lists.{rest}
 
 -- what stands at a place is there
 pub placed_there : (es : List Event) (i : ℕ) (e : Event) → Some e ≡ slice_get es i → Contains es e
@@ -24,10 +22,10 @@ placed_there es i e is = (i, slice_get_within es i e (sym is), get_or_from_slice
 
 -- The run that the places choose, a record at a time.
 
-picked_here : (n : ℕ) (s : State) (ps : List ℕ) (e : Event) → Some e ≡ slice_get (enabled s) (next_place ps) → picked_from (suc n) s ps ≡ record_of s e ∷ picked_from n (step s e).after (places_after ps)
+picked_here : (n : ℕ) (s : State) (ps : List ℕ) (e : Event) → Some e ≡ slice_get (enabled s) (next_place ps) → picked_from (suc n) s ps ≡ record_of s e ∷ picked_from n (step s e).after (rest ps)
 picked_here n s ps e is = ap (λ o. follow s ps o (λ t qs e. record_of t e ∷ picked_from n (step t e).after qs)) (sym is)
 
-picked_step : (limit taken : ℕ) (s : State) (ps : List ℕ) (e : Event) → taken < limit → Some e ≡ slice_get (enabled s) (next_place ps) → picked_from (limit - taken) s ps ≡ record_of s e ∷ picked_from (limit - (taken + 1)) (step s e).after (places_after ps)
+picked_step : (limit taken : ℕ) (s : State) (ps : List ℕ) (e : Event) → taken < limit → Some e ≡ slice_get (enabled s) (next_place ps) → picked_from (limit - taken) s ps ≡ record_of s e ∷ picked_from (limit - (taken + 1)) (step s e).after (rest ps)
 picked_step limit taken s ps e below is =
     let left : limit - taken ≡ suc (limit - (taken + 1)) = omega arith in
     rw left (picked_here (limit - (taken + 1)) s ps e is)
@@ -43,13 +41,13 @@ picked_ended limit taken s ps (e ∷ es) end is ended =
     let none : limit - taken ≡ zero = omega arith in
     rw none refl
 
-few_of : (n : ℕ) (s : State) (ps : List ℕ) (o : Option Event) → ((e : Event) → length (picked_from n (step s e).after (places_after ps)) ≤ n) → length (follow s ps o (λ t qs e. record_of t e ∷ picked_from n (step t e).after qs)) ≤ suc n
-few_of n s ps None rest = omega arith
-few_of n s ps (Some e) rest = let few = rest e in omega (arith, few)
+few_of : (n : ℕ) (s : State) (ps : List ℕ) (o : Option Event) → ((e : Event) → length (picked_from n (step s e).after (rest ps)) ≤ n) → length (follow s ps o (λ t qs e. record_of t e ∷ picked_from n (step t e).after qs)) ≤ suc n
+few_of n s ps None more = omega arith
+few_of n s ps (Some e) more = let few = more e in omega (arith, few)
 
 picked_few : (n : ℕ) (s : State) (ps : List ℕ) → length (picked_from n s ps) ≤ n
 picked_few zero s ps = omega arith
-picked_few (suc n) s ps = few_of n s ps (slice_get (enabled s) (next_place ps)) (λ e. picked_few n (step s e).after (places_after ps))
+picked_few (suc n) s ps = few_of n s ps (slice_get (enabled s) (next_place ps)) (λ e. picked_few n (step s e).after (rest ps))
 
 -- Runs that an executive takes.
 
@@ -74,16 +72,16 @@ takes_more before now later recs r e takes there is becomes planned =
       planned = planned ∙ takes.planned;
     }
 
-pub followed_more : (before now later : Executive) (places left next : List ℕ) (recs : List Rec) (r : Rec) (e : Event) (place : ℕ) → Following before now places left recs → None ≡ end_of now.limit now.taken now.state → Some e ≡ slice_get (enabled now.state) place → place ≡ next_place left → next ≡ places_after left → r ≡ record_of now.state e → later ≡ after_step now e → plan later ≡ plan now → Following before later places next (recs ++ r ∷ [])
+pub followed_more : (before now later : Executive) (places left next : List ℕ) (recs : List Rec) (r : Rec) (e : Event) (place : ℕ) → Following before now places left recs → None ≡ end_of now.limit now.taken now.state → Some e ≡ slice_get (enabled now.state) place → place ≡ next_place left → next ≡ rest left → r ≡ record_of now.state e → later ≡ after_step now e → plan later ≡ plan now → Following before later places next (recs ++ r ∷ [])
 followed_more before now later places left next recs r e place so_far going at placed moves is becomes planned =
     let s = now.state in
     let below : now.taken < now.limit = going_below now.limit now.taken s going in
-    let rest = picked_step now.limit now.taken s left e below (at ∙ ap (slice_get (enabled s)) placed) in
+    let one = picked_step now.limit now.taken s left e below (at ∙ ap (slice_get (enabled s)) placed) in
     let on : Executive → List ℕ → Rec → List Rec = λ e ps r. (recs ++ r ∷ []) ++ picked_from (e.limit - e.taken) e.state ps in
     let then : Executive = after_step now e in
     record {
       takes = takes_more before now later recs r e so_far.takes (placed_there (enabled s) place e at) is becomes planned;
-      rest = ap (λ (e : Executive). on e next r) becomes ∙ (ap (λ (ps : List ℕ). on then ps r) moves ∙ (ap (λ (q : Rec). on then (places_after left) q) is ∙ (append_assoc recs (record_of s e ∷ []) (picked_from (now.limit - (now.taken + 1)) (step s e).after (places_after left)) ∙ (ap (λ rs. recs ++ rs) (sym rest) ∙ so_far.rest))));
+      rest = ap (λ (e : Executive). on e next r) becomes ∙ (ap (λ (ps : List ℕ). on then ps r) moves ∙ (ap (λ (q : Rec). on then (rest left) q) is ∙ (append_assoc recs (record_of s e ∷ []) (picked_from (now.limit - (now.taken + 1)) (step s e).after (rest left)) ∙ (ap (λ rs. recs ++ rs) (sym one) ∙ so_far.rest))));
     }
 
 -- where the rest has no record, the run so far is the whole

@@ -1,9 +1,7 @@
 -- A run that places choose, and what is written of it.
 use Rattle.std.proofs.Common.{◌≡◌, ℕ, List, ◌++◌, Some, ap, subst, ◌∙◌, codes}
-use Rattle.vx_base.specs.declared.record.End.{End}
-use Rattle.vx_base.specs.declared.record.Rec.{Rec}
+use Rattle.vx_record.specs.Types.{End, Rec, System}
 use Rattle.vx_exec.specs.View.{Executive}
-use Rattle.vx_image.specs.declared.system.System.{System}
 use Rattle.vx_journal.specs.Transcript.{trailer_lines, transcript}
 use Rattle.vx_lines.specs.Records.{records_lines}
 use Rattle.vx_simulate.specs.Picking.{IsPickedRun}

@@ -5,16 +5,13 @@ use Rattle.std.proofs.Math.Seq.{take-append_seam}
 use Rattle.std.proofs.lemmas.Grind.{flat_map-append}
 use Rattle.std.specs.Io.KnownBytes.{Appends}
 use Rattle.vx_journal.proofs.RecordsSpelled.{records_more}
-use Rattle.vx_base.specs.declared.record.End.{End}
-use Rattle.vx_base.specs.declared.record.Event.{Event}
-use Rattle.vx_base.specs.declared.record.Rec.{Rec}
+use Rattle.vx_record.specs.Types.{End, Event, Rec, System}
 use Rattle.vx_exec.proofs.Runs.{Taking, begun, chosen_run, ended_run, taken_more, opened}
 use Rattle.vx_exec.specs.Picks.{moved_seed, picked_event}
 use Rattle.vx_exec.specs.Taken.{IsChosenRun}
 use Rattle.vx_exec.specs.View.{Executive, Plan, after_step, plan}
 use Rattle.vx_host.specs.Causes.{Rose}
 use Rattle.vx_host.specs.Streams.{AppendsFront}
-use Rattle.vx_image.specs.declared.system.System.{System}
 use Rattle.vx_journal.specs.Transcript.{trailer_lines, transcript}
 use Rattle.vx_lines.specs.Records.{record_lines, records_lines}
 use Rattle.vx_record.specs.Events.{enabled}

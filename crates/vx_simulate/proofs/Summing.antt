@@ -1,9 +1,6 @@
 -- A run of which the tally alone is kept.
 use Rattle.std.proofs.Common.{◌≡◌, ℕ, ◌≤◌, List, [], ◌∷◌, ◌++◌, Some, None, ap, subst, ◌∙◌}
-use Rattle.vx_base.specs.declared.record.End.{End}
-use Rattle.vx_base.specs.declared.record.Event.{Event}
-use Rattle.vx_base.specs.declared.record.Rec.{Rec}
-use Rattle.vx_image.specs.declared.system.System.{System}
+use Rattle.vx_record.specs.Types.{End, Event, Rec, System}
 use Rattle.vx_record.specs.Events.{enabled}
 use Rattle.vx_record.specs.Runs.{IsRun, end_after, end_of, first, record_of}
 use Rattle.vx_exec.specs.Picks.{moved_seed, picked_event}

@@ -1,7 +1,6 @@
 -- What a list of places comes to of a system: the run that it chooses, or the place that is not there.
 use Rattle.std.specs.Prelude.{◌≡◌, ℕ, List, [], ◌∷◌, ◌++◌, codes, decimal, Some}
-use Rattle.vx_base.specs.declared.record.End.{End}
-use Rattle.vx_image.specs.declared.system.System.{System}
+use Rattle.vx_record.specs.Types.{End, System}
 use Rattle.vx_journal.specs.Transcript.{transcript}
 use Rattle.vx_record.specs.Picked.{IsMissing, picked}
 use Rattle.vx_record.specs.Runs.{IsRun, end_after}

@@ -1,10 +1,8 @@
 -- What an executive comes to by a run whose events stand at a list of places.
 use Rattle.std.specs.Prelude.{◌≡◌, ℕ, ◌+◌, ◌-◌, List, None, Some, length}
-use Rattle.vx_base.specs.declared.record.End.{End}
-use Rattle.vx_base.specs.declared.record.Rec.{Rec}
+use Rattle.vx_record.specs.Types.{End, Rec, System}
 use Rattle.vx_exec.specs.Taken.{TakesRun}
 use Rattle.vx_exec.specs.View.{Executive}
-use Rattle.vx_image.specs.declared.system.System.{System}
 use Rattle.vx_record.specs.Events.{enabled}
 use Rattle.vx_record.specs.Runs.{IsRun, after, end_after, end_of}
 use Rattle.vx_record.specs.Picked.{IsMissing, picked, picked_from}

@@ -1,7 +1,6 @@
 -- What the simulation of a system comes to: the run that a seed chooses, and its transcript.
 use Rattle.std.specs.Prelude.{◌≡◌, ℕ, List, ◌++◌, Some}
-use Rattle.vx_base.specs.declared.record.End.{End}
-use Rattle.vx_image.specs.declared.system.System.{System}
+use Rattle.vx_record.specs.Types.{End, System}
 use Rattle.vx_journal.specs.Transcript.{transcript}
 use Rattle.vx_lines.specs.Records.{ended_lines}
 use Rattle.vx_record.specs.Runs.{IsRun, chosen, end_after}

@@ -1,9 +1,7 @@
 -- A run that is written as it goes.
 use Rattle.std.specs.Prelude.{◌≡◌, ℕ, List, [], ◌∷◌, ◌++◌, codes, Option}
 use Rattle.std.specs.Io.KnownBytes.{Appends}
-use Rattle.vx_base.specs.declared.record.End.{End}
-use Rattle.vx_base.specs.declared.record.Rec.{Rec}
-use Rattle.vx_image.specs.declared.system.System.{System}
+use Rattle.vx_record.specs.Types.{End, Rec, System}
 use Rattle.vx_host.specs.Streams.{AppendsFront}
 use Rattle.vx_lines.specs.Records.{ended_lines, records_lines}
 use Rattle.vx_script.specs.Script.{script_lines}

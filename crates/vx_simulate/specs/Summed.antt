@@ -1,10 +1,9 @@
 -- What `gen` comes to: the summary of a run.
 use Rattle.std.specs.Prelude.{◌≡◌, ℕ, List, [], ◌∷◌, ◌++◌, codes, decimal, Some}
-use Rattle.vx_base.specs.declared.record.End.{End}
+use Rattle.vx_record.specs.Types.{End, System}
 use Rattle.vx_gen.specs.Counted.{tally_of}
 use Rattle.vx_gen.specs.Generated.{generated}
 use Rattle.vx_gen.specs.declared.tally.Tally.{Tally}
-use Rattle.vx_image.specs.declared.system.System.{System}
 use Rattle.vx_journal.specs.Transcript.{end_line}
 use Rattle.vx_lines.specs.Records.{ended_lines}
 use Rattle.vx_record.specs.Runs.{IsRun, chosen, end_after}

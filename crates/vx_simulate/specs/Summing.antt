@@ -1,7 +1,6 @@
 -- A run of which the tally alone is kept.
 use Rattle.std.specs.Prelude.{◌≡◌, ℕ, List}
-use Rattle.vx_base.specs.declared.record.End.{End}
-use Rattle.vx_base.specs.declared.record.Rec.{Rec}
+use Rattle.vx_record.specs.Types.{End, Rec}
 use Rattle.vx_exec.specs.Taken.{EndsRun}
 use Rattle.vx_exec.specs.View.{Executive}
 use Rattle.vx_gen.specs.Counted.{tally_of}

@@ -1,6 +1,7 @@
 //! A list of places, read from the front.
 
 ghost use Rattle.std.specs.Prelude.{◌≡◌};
+ghost use Rattle.vx_base.specs.Lists.{rest};
 ghost use Rattle.vx_record.specs.Picked as spec;
 
 /// The place of the next record: behind the last place the first.
@@ -15,7 +16,7 @@ pub fn next_place(places: &[u32]) -> u32
 
 /// The places of the records after the next.
 pub fn places_after(places: &[u32]) -> &[u32]
-    ensures { result.now ≡ spec.places_after places.now }
+    ensures { result.now ≡ rest places.now }
 {
     match places {
         [] => places,

@@ -4,40 +4,24 @@ use Rattle.std.proofs.Common.{◌≡◌, ℕ, ◌%◌, ◌≤◌, ◌==◌, ◌&
 use Rattle.std.specs.Prelude.{⊤}
 use Rattle.std.specs.List.{AllByRecursion, find, filter, list_any}
 use Rattle.std.proofs.lemmas.Bool.{and_parts, leb-true}
-use Rattle.vx_base.specs.Clusters.{Common as Clusters, Change, associated, cluster_number, dissociated, dissociated_at, followed, is_association, joined, made_where_new, marked, marked_at, parted, swept, swept_at, has_already, is_cluster, is_used, stands}
+use Rattle.vx_base.specs.Clusters.{Common as Clusters, Change, associated, cluster_number, dissociated, dissociated_at, followed, is_association, joined, made_where_new, marked_at, parted, swept, swept_at, has_already, is_cluster, is_used, stands}
 use Rattle.vx_base.specs.Channels.{channel_at, channels_of}
 use Rattle.vx_base.specs.Modes.{inner, is_kernel, outer}
-use Rattle.vx_base.specs.Pieces.{Alarm, Association, Attention, Channel, Cluster, cleared, Handler, Mailbox, OfTimer, OfWake, Promised, Request, Status, Timer}
+use Rattle.vx_record.specs.Types.{Alarm, Answer, Association, Attention, BoxNo, Cell, Channel, Cluster, Cond, Device, Effect, Entry, Frame, FrameKind, Func, Handler, Mailbox, Mode, Msg, Phase, Pid, Promised, Req, Request, Status, Timer, UnitNo, Wait}
+use Rattle.vx_base.specs.Pieces.{cleared, OfTimer, OfWake}
 use Rattle.vx_base.specs.Services.{is_target}
 use Rattle.vx_base.specs.Serving.{serve, settled}
-use Rattle.vx_base.specs.declared.cond.Cond.{Cond}
 use Rattle.vx_base.specs.declared.cond.Cond.TheVariants.{BadParam, Cancel, EndOfFile, ExQuota, IllEfc, IllIoFunc, IvSsRq, MbFull, MbTooSml, NoPriv, NoSlot, Normal, UnasEfc}
-use Rattle.vx_base.specs.declared.effects.Cell.{Cell}
 use Rattle.vx_base.specs.declared.effects.Cell.TheVariants.{Local, Common}
-use Rattle.vx_base.specs.declared.effects.Effect.{Effect}
 use Rattle.vx_base.specs.declared.effects.Effect.TheVariants as effect
-use Rattle.vx_base.specs.declared.frame.Frame.{Frame}
-use Rattle.vx_base.specs.declared.frame.FrameKind.{FrameKind}
 use Rattle.vx_base.specs.declared.frame.FrameKind.TheVariants as kind
-use Rattle.vx_base.specs.declared.frame.Phase.{Phase}
 use Rattle.vx_base.specs.declared.frame.Phase.TheVariants as phase
 use Rattle.vx_base.specs.declared.effects.Opened.TheVariants as opened
-use Rattle.vx_base.specs.declared.frame.Wait.{Wait}
 use Rattle.vx_base.specs.declared.frame.Wait.TheVariants as wait
-use Rattle.vx_base.specs.declared.mode.Mode.{Mode}
 use Rattle.vx_base.specs.declared.mode.Mode.TheVariants.{Exec, Kernel}
-use Rattle.vx_base.specs.declared.number.BoxNo.{BoxNo}
-use Rattle.vx_base.specs.declared.number.Pid.{Pid}
-use Rattle.vx_base.specs.declared.number.UnitNo.{UnitNo}
-use Rattle.vx_base.specs.declared.record.Answer.{Answer}
 use Rattle.vx_base.specs.declared.record.Answer.TheVariants as answer
-use Rattle.vx_base.specs.declared.request.Device.{Device}
 use Rattle.vx_base.specs.declared.request.Device.TheVariants as device
-use Rattle.vx_base.specs.declared.request.Func.{Func}
 use Rattle.vx_base.specs.declared.request.Func.TheVariants.{ReadAttn, WrtAttn}
-use Rattle.vx_base.specs.declared.request.Msg.{Msg}
-use Rattle.vx_base.specs.declared.request.Req.{Req}
-use Rattle.vx_base.specs.declared.routine.Entry.{Entry}
 use Rattle.vx_record.proofs.Lists.{all_append, either}
 use Rattle.vx_record.specs.Asts.{changed_mode, cmexec, cmkrnl, dclast, declared_ast, is_inside, open_part}
 use Rattle.vx_record.specs.Cancel.{drop_attentions, is_attention_on, is_request_on, mark_part, cancel_channel, cancel_request, cancelled_request, drop_attention, withdraw, cancel, cancel_at, dassgn, dassgn_at}
@@ -49,9 +33,10 @@ use Rattle.vx_record.specs.Flags.{ascefc, at_flag, at_named, awaited, awaited_at
 use Rattle.vx_record.specs.Mailboxes.{is_answered_now, is_waiting_func, mcut_part, mget_part, mput_part, read_ending, this_message, write_ending, attend, call_attention, fire_attention, hand_over, mailbox_at, read_box, received, store_message, take_message, wait_for_message, waits_at, write_box, write_done, is_attention_at, message_of}
 use Rattle.vx_record.specs.Parts.{Outcome, Part, and_then, answered, at_tested, each, followed_by, nothing, part_if, refused, refused_value, tells}
 use Rattle.vx_record.specs.Requests.{attention_opened, done_at_once, has_function, is_full, is_too_long, new_attention, new_request, unit_ending, with_request, with_unit, Asked, accepted, asked_of, attention_on, attention_set, begun_on, cleared_part, done, opened_request, qio, qio_tested, qiow, qiow_tested, request_test, synch, transfer, device_test, on_cell, on_channel, is_bad}
-use Rattle.vx_record.specs.Rundown.{draining, gone_part, handler_declared, is_ast_reached, is_busy, is_handler_with, is_timer_in, is_wake_by, named_for_deletion, without_frames, any_handler, cancel_found, cancel_handlers, cancel_modes, cancel_one, cancelled_in, canexh, dclexh, deleted_by, delprc, drain, drop_all_handlers, drop_ast, drop_asts, drop_handler, drop_handlers, exited, free_one, gone, handling, leave_all, leave_frame, leave_kind, part_with, release, run_down, run_handlers, rundown, rundown_from, inner_modes, is_handler_of}
+use Rattle.vx_record.specs.Rundown.{draining, gone_part, handler_declared, is_ast_reached, is_busy, is_timer_in, is_wake_by, named_for_deletion, without_frames, any_handler, cancel_found, cancel_handlers, cancel_modes, cancel_one, cancelled_in, canexh, dclexh, deleted_by, delprc, drain, drop_all_handlers, drop_ast, drop_asts, drop_handler, drop_handlers, exited, free_one, gone, handling, leave_all, leave_frame, leave_kind, part_with, release, run_down, run_handlers, rundown, rundown_from, inner_modes, is_handler_of}
 use Rattle.vx_record.specs.State.{Process, State, change, current, past_id, process_at, unit_at}
 use Rattle.vx_record.specs.Timers.{at_time, fire_timer, is_cancelled_timer, is_due, is_wake_for, mode_of_ast, new_wake, next_time, open_timer, with_timer, cantim, canwak, drop_timer, drop_timers, fire, fired, que_timer, scheduled, schdwk, setimr, setimr_at, tick, timer_set, unscheduled}
+use Rattle.vx_base.specs.Handlers.{is_handler_with}
 
 abbrev pub IsFineCell : Cell → Type 0
 IsFineCell (Local p n) = ⊤

@@ -3,20 +3,12 @@ use Rattle.std.proofs.Common.{◌≡◌, ℕ, zero, suc, ◌<◌, not, nat_lt, t
 use Rattle.std.specs.List.{AllByRecursion, position_or_len}
 use Rattle.std.proofs.lemmas.Bool.{and_parts, lt-ltb, not-true, or_parts}
 use Rattle.vx_base.specs.Name.{is_name}
-use Rattle.vx_base.specs.declared.effects.Cell.{Cell}
+use Rattle.vx_record.specs.Types.{Answer, Cell, Effect, Event, Rec, System, UnitDecl, UnitNo}
 use Rattle.vx_base.specs.declared.effects.Cell.TheVariants.{Local, Common}
-use Rattle.vx_base.specs.declared.effects.Effect.{Effect}
 use Rattle.vx_base.specs.declared.effects.Effect.TheVariants as effect
-use Rattle.vx_base.specs.declared.number.UnitNo.{UnitNo}
-use Rattle.vx_base.specs.declared.record.Answer.{Answer}
 use Rattle.vx_base.specs.declared.record.Answer.TheVariants as answer
-use Rattle.vx_base.specs.declared.record.Event.{Event}
 use Rattle.vx_base.specs.declared.record.Event.TheVariants as event
-use Rattle.vx_base.specs.declared.record.Rec.{Rec}
 use Rattle.vx_image.specs.WellFormed.{IsWellFormed, are_distinct, is_among}
-use Rattle.vx_image.specs.declared.system.System.{System}
-use Rattle.vx_image.specs.declared.unit.UnitDecl.{UnitDecl}
-use Rattle.vx_lines.specs.Records.{no_unit}
 use Rattle.vx_lines.specs.Spelled.{IsSpelled, IsSpelledCell}
 use Rattle.vx_lines.specs.SpelledHead.{IsSpelledHead, IsSpelledUnit}
 use Rattle.vx_lines.specs.SpelledRecords.{AreSpelled, IsSpelledRec}
@@ -32,6 +24,7 @@ use Rattle.vx_spelled.specs.Law.{RunsAreSpelled}
 use Rattle.vx_spelled.proofs.Fine.{AreFine, IsFine, IsFineCell}
 use Rattle.vx_spelled.proofs.Heads.{IsAnswerOf, IsDue, enabled_due, step_good}
 use Rattle.vx_base.proofs.Texts.{same_bytes}
+use Rattle.vx_image.specs.Absent.{no_unit_decl}
 
 -- Effects.
 
@@ -51,12 +44,12 @@ effects_spelled (e ∷ es) h k = (effect_spelled e h.0 k.0, effects_spelled es h
 
 -- Units.
 
-among_at : (a : List ℕ) (us : List UnitDecl) (k : ℕ) → is_among a (map (λ u. u.name) us) ≡ false → k < length us → bytes_eq a (get_or us k no_unit).name ≡ false
+among_at : (a : List ℕ) (us : List UnitDecl) (k : ℕ) → is_among a (map (λ u. u.name) us) ≡ false → k < length us → bytes_eq a (get_or us k no_unit_decl).name ≡ false
 among_at a [] k h lt = absurd (omega arith)
 among_at a (u ∷ us) zero h lt = (or_parts (bytes_eq a u.name) (is_among a (map (λ u. u.name) us)) h).0
 among_at a (u ∷ us) (suc k) h lt = among_at a us k (or_parts (bytes_eq a u.name) (is_among a (map (λ u. u.name) us)) h).1 (omega arith)
 
-place_len : (us : List UnitDecl) (k : ℕ) → k < length us → are_distinct (map (λ u. u.name) us) ≡ true → position_or_len (λ u. bytes_eq u.name (get_or us k no_unit).name) us ≡ k
+place_len : (us : List UnitDecl) (k : ℕ) → k < length us → are_distinct (map (λ u. u.name) us) ≡ true → position_or_len (λ u. bytes_eq u.name (get_or us k no_unit_decl).name) us ≡ k
 place_len [] k lt h = absurd (omega arith)
 place_len (u ∷ us) zero lt h = rw (same_bytes u.name) refl
 place_len (u ∷ us) (suc k) lt h =
@@ -69,7 +62,7 @@ place_len (u ∷ us) (suc k) lt h =
 pub unit_spelled : (us : List UnitDecl) (u : UnitNo) → u.0 < length us → are_distinct (map (λ u. u.name) us) ≡ true → AreNamed us → IsSpelledUnit us u
 unit_spelled us u lt h named =
     let is : nat_lt u.0 (length us) ≡ true = lt-ltb _ _ lt in
-    (all_at (λ (x : UnitDecl). is_name x.name ≡ true) us u.0 no_unit named lt, rw (place_len us u.0 lt h, is) refl)
+    (all_at (λ (x : UnitDecl). is_name x.name ≡ true) us u.0 no_unit_decl named lt, rw (place_len us u.0 lt h, is) refl)
 
 -- Heads.
 

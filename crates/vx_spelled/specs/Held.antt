@@ -3,16 +3,11 @@ use Rattle.std.specs.Prelude.{◌<◌, ◌^◌, IsTrue, List}
 use Rattle.std.specs.List.{AllByRecursion}
 use Rattle.vx_base.specs.Name.{is_name}
 use Rattle.vx_base.specs.Services.{args_list}
-use Rattle.vx_base.specs.declared.effects.Cell.{Cell}
+use Rattle.vx_record.specs.Types.{Answer, Cell, Effect, Event, Rec, UnitDecl}
 use Rattle.vx_base.specs.declared.effects.Cell.TheVariants.{Local, Common}
-use Rattle.vx_base.specs.declared.effects.Effect.{Effect}
 use Rattle.vx_base.specs.declared.effects.Effect.TheVariants as effect
-use Rattle.vx_base.specs.declared.record.Answer.{Answer}
 use Rattle.vx_base.specs.declared.record.Answer.TheVariants as answer
-use Rattle.vx_base.specs.declared.record.Event.{Event}
 use Rattle.vx_base.specs.declared.record.Event.TheVariants as event
-use Rattle.vx_base.specs.declared.record.Rec.{Rec}
-use Rattle.vx_image.specs.declared.unit.UnitDecl.{UnitDecl}
 use Rattle.vx_text.specs.Quote.{AreBytes}
 use Rattle.vx_table.specs.Back.{AreHeld}
 use Rattle.vx_lines.specs.Spelled.{IsWord, IsSpelledBody, IsSpelledCluster}

@@ -1,8 +1,7 @@
 -- Each record of a run has a spelling.
 use Rattle.std.specs.Prelude.{List}
-use Rattle.vx_base.specs.declared.record.Rec.{Rec}
+use Rattle.vx_record.specs.Types.{Rec, System}
 use Rattle.vx_image.specs.WellFormed.{IsWellFormed}
-use Rattle.vx_image.specs.declared.system.System.{System}
 use Rattle.vx_record.specs.Runs.{IsRun}
 use Rattle.vx_lines.specs.SpelledRecords.{AreSpelled}
 use Rattle.vx_spelled.specs.Held.{AreHeldRecs, AreNamed}

@@ -1,27 +1,28 @@
 -- The tokens of a call are read as the call.
 use Rattle.std.proofs.Common.{◌≡◌, ℕ, zero, suc, ◌+◌, Bool, true, false, cond, List, [], ◌∷◌, length, map, None, Some, Result, Ok, refl, sym, ap, ◌∙◌}
 use Rattle.vx_base.specs.declared.call.Arg.{Arg}
-use Rattle.vx_base.specs.declared.call.Arg.TheVariants as arg
 use Rattle.vx_base.specs.declared.call.Args.{Args}
 use Rattle.vx_base.specs.declared.call.Call.{Call}
 use Rattle.vx_base.specs.declared.call.Operand.{Operand}
-use Rattle.vx_base.specs.declared.call.Operand.TheVariants as operand
-use Rattle.vx_base.specs.declared.call.Target.TheVariants as target
 use Rattle.vx_base.specs.declared.mode.Mode.{Mode}
-use Rattle.vx_base.specs.declared.mode.Mode.TheVariants.{Kernel, Exec, Super, User}
 use Rattle.vx_base.specs.declared.request.Func.{Func}
-use Rattle.vx_base.specs.declared.request.Func.TheVariants.{Read, ReadNow, Write, WriteNow, Eof, EofNow, ReadAttn, WrtAttn}
 use Rattle.vx_base.specs.declared.service.Kind.{Kind}
-use Rattle.vx_base.specs.declared.service.Kind.TheVariants as kind
 use Rattle.vx_base.specs.declared.service.Param.{Param}
 use Rattle.vx_base.specs.declared.service.Service.{Service}
+use Rattle.vx_base.specs.declared.call.Arg.TheVariants as arg
+use Rattle.vx_base.specs.declared.call.Operand.TheVariants as operand
+use Rattle.vx_base.specs.declared.call.Target.TheVariants as target
+use Rattle.vx_base.specs.declared.mode.Mode.TheVariants.{Kernel, Exec, Super, User}
+use Rattle.vx_base.specs.declared.request.Func.TheVariants.{Read, ReadNow, Write, WriteNow, Eof, EofNow, ReadAttn, WrtAttn}
+use Rattle.vx_base.specs.declared.service.Kind.TheVariants as kind
 use Rattle.vx_base.specs.declared.service.Service.TheVariants.{SetEf}
-use Rattle.vx_base.specs.Services.{service_name, service_rows, service_row, params_of, args_list, args_of, arg_first, arg_rest, is_of_kind, is_unused, are_args, kind_of, is_call}
+use Rattle.vx_base.specs.Services.{service_name, service_rows, service_row, params_of, args_list, args_of, arg_first, is_of_kind, is_unused, are_args, kind_of, is_call}
 use Rattle.vx_text.specs.declared.token.Tok.{Tok}
 use Rattle.vx_table.specs.declared.fail.CallFail.{CallFail}
 use Rattle.vx_table.specs.Spelling.{mode_name, func_name, arg_token, operand_token, comma, args_tokens, call_tokens}
 use Rattle.vx_table.specs.Reading.{is_comma, mode_word, func_word, token_arg, read_args, cut, pieces, as_args, call_with, read_row, read_named, read_call}
 use Rattle.std.proofs.lemmas.Bool.{and_parts}
+use Rattle.vx_base.specs.Lists.{rest}
 
 -- the arguments up to the first that is not used
 abbrev pub used : List Arg → List Arg
@@ -126,7 +127,7 @@ args_back k (p ∷ params) (a ∷ args) h =
 -- the first n arguments, and none after them
 abbrev pub firsts : ℕ → List Arg → List Arg
 firsts zero args = []
-firsts (suc n) args = arg_first args ∷ firsts n (arg_rest args)
+firsts (suc n) args = arg_first args ∷ firsts n (rest args)
 
 unused_is : (a : Arg) → is_unused a ≡ true → arg.Unused ≡ a
 unused_is arg.Unused h = refl

@@ -3,30 +3,31 @@ use Rattle.std.proofs.Common.{◌≡◌, ℕ, zero, suc, ◌+◌, ◌≤◌, ◌
 use Rattle.std.specs.Prelude.{IfOk}
 use Rattle.std.specs.List.{list_all}
 use Rattle.vx_base.specs.declared.call.Arg.{Arg}
-use Rattle.vx_base.specs.declared.call.Arg.TheVariants as arg
 use Rattle.vx_base.specs.declared.call.Call.{Call}
 use Rattle.vx_base.specs.declared.call.Operand.{Operand}
-use Rattle.vx_base.specs.declared.call.Operand.TheVariants as operand
 use Rattle.vx_base.specs.declared.call.Target.{Target}
-use Rattle.vx_base.specs.declared.call.Target.TheVariants as target
+use Rattle.vx_base.specs.declared.cond.Cond.{Cond}
 use Rattle.vx_base.specs.declared.mode.Mode.{Mode}
 use Rattle.vx_base.specs.declared.request.Func.{Func}
 use Rattle.vx_base.specs.declared.service.Kind.{Kind}
-use Rattle.vx_base.specs.declared.service.Kind.TheVariants as kind
 use Rattle.vx_base.specs.declared.service.Param.{Param}
-use Rattle.vx_base.specs.declared.service.Param.TheVariants.{Required, Optional}
 use Rattle.vx_base.specs.declared.service.Service.{Service}
+use Rattle.vx_base.specs.declared.call.Arg.TheVariants as arg
+use Rattle.vx_base.specs.declared.call.Operand.TheVariants as operand
+use Rattle.vx_base.specs.declared.call.Target.TheVariants as target
+use Rattle.vx_base.specs.declared.service.Kind.TheVariants as kind
+use Rattle.vx_base.specs.declared.service.Param.TheVariants.{Required, Optional}
 use Rattle.vx_base.specs.declared.service.Service.TheVariants.{SetEf}
-use Rattle.vx_base.specs.declared.cond.Cond.{Cond}
 use Rattle.vx_base.specs.Name.{is_capital}
 use Rattle.vx_base.specs.Services.{ServiceRow, service_name, service_rows, service_row, all_services, params_of, is_operand, is_target, is_of_kind, are_args, kind_of, is_call, has_right_default}
 use Rattle.vx_text.specs.declared.token.Tok.{Tok}
 use Rattle.vx_text.specs.declared.token.Tok.TheVariants as tok
 use Rattle.vx_table.specs.declared.fail.CallFail.{CallFail}
-use Rattle.vx_table.specs.Reading.{letter, long_operand, operand_word, target_word, word_arg, token_arg, arg_or, read_arg, and_args, read_args, first_piece, more_pieces, pieces, as_args, call_with, read_named, read_call}
+use Rattle.vx_table.specs.Reading.{letter, long_operand, operand_word, target_word, word_arg, token_arg, arg_or, read_arg, and_args, read_args, first_piece, pieces, as_args, call_with, read_named, read_call}
 use Rattle.vx_table.proofs.Back.{firsts}
 use Rattle.std.proofs.lemmas.Bool.{and_parts}
 use Rattle.vx_base.proofs.Bools.{either_by}
+use Rattle.vx_base.specs.Lists.{rest}
 
 abbrev pub IsOperandOr : Option Operand → Type 0
 IsOperandOr None = Unit {0}
@@ -141,7 +142,7 @@ args_kinds number [] [] h = λ n _. none_after n
 args_kinds number [] (piece ∷ more) h = tt
 args_kinds number (p ∷ params) pieces h =
     let parts = and_parts (has_right_default p) (list_all has_right_default params) h in
-    and_kinds p params _ _ (arg_kind number p (first_piece pieces) parts.0) (args_kinds (number + 1) params (more_pieces pieces) parts.1)
+    and_kinds p params _ _ (arg_kind number p (first_piece pieces) parts.0) (args_kinds (number + 1) params (rest pieces) parts.1)
 
 -- the services take at most nine arguments, and their defaults are of the right kinds
 lengths : (s : Service) → length (params_of s) ≤ 9

@@ -8,8 +8,9 @@ use Rattle.std.proofs.lemmas.Bool.{cases_lt}
 use Rattle.vx_text.specs.declared.token.Tok.{Tok}
 use Rattle.vx_text.specs.declared.token.Token.{Token}
 use Rattle.vx_table.specs.Spelling.{comma}
-use Rattle.vx_table.specs.Reading.{toks, is_comma, cut, first_piece, more_pieces}
+use Rattle.vx_table.specs.Reading.{toks, is_comma, cut, first_piece}
 use Rattle.vx_table.specs.Cutting.{stays, left}
+use Rattle.vx_base.specs.Lists.{rest}
 
 -- what is left behind a comma
 abbrev pub behind_comma : List Token → List (List Tok)
@@ -59,11 +60,11 @@ behind_left m tokens = elim (cases_lt m (length tokens)) [ inl h ↦ behind_with
 pub left_first : (at n : ℕ) (tokens : List Token) → at ≤ length tokens → n ≡ lead (take (length tokens - at) (drop at tokens)) → toks (take n (take (length tokens - at) (drop at tokens))) ≡ first_piece (left at tokens)
 left_first at n tokens h e = rw (e, take_rest tokens at, left_at at tokens h, cut_first (drop at tokens)) refl
 
-pub left_more : (at n : ℕ) (tokens : List Token) → at ≤ length tokens → n ≡ lead (take (length tokens - at) (drop at tokens)) → left (at + n + 1) tokens ≡ more_pieces (left at tokens)
+pub left_more : (at n : ℕ) (tokens : List Token) → at ≤ length tokens → n ≡ lead (take (length tokens - at) (drop at tokens)) → left (at + n + 1) tokens ≡ rest (left at tokens)
 left_more at n tokens h e =
     let is : n ≡ lead (drop at tokens) = e ∙ ap lead (take_rest tokens at) in
     let place : drop n (drop at tokens) ≡ drop (at + n) tokens = drop-drop n at tokens in
-    sym (behind_left (at + n) tokens) ∙ ap behind_comma (sym place) ∙ ap (λ (k : ℕ). behind_comma (drop k (drop at tokens))) is ∙ ap more_pieces (sym (left_at at tokens h ∙ cut_first (drop at tokens)))
+    sym (behind_left (at + n) tokens) ∙ ap behind_comma (sym place) ∙ ap (λ (k : ℕ). behind_comma (drop k (drop at tokens))) is ∙ ap rest (sym (left_at at tokens h ∙ cut_first (drop at tokens)))
 
 -- a piece ends within the tokens
 pub lead_within : (at n : ℕ) (tokens : List Token) → n ≡ lead (take (length tokens - at) (drop at tokens)) → at ≤ length tokens → at + n ≤ length tokens

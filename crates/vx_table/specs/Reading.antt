@@ -1,24 +1,24 @@
 -- How the tokens of a call are read.
 use Rattle.std.specs.Prelude.{ℕ, ◌+◌, ◌==◌, Bool, true, false, List, [], ◌∷◌, ◌++◌, map, length, slice_index, codes, bytes_eq, if◌then◌else◌, Option, None, Some, option_map, Result, Ok, Err}
-use Rattle.std.specs.List.{find}
+use Rattle.std.specs.List.{find, onto_first}
 use Rattle.vx_base.specs.Name.{is_capital}
 use Rattle.vx_base.specs.declared.call.Arg.{Arg}
-use Rattle.vx_base.specs.declared.call.Arg.TheVariants as arg
 use Rattle.vx_base.specs.declared.call.Args.{Args}
 use Rattle.vx_base.specs.declared.call.Call.{Call}
 use Rattle.vx_base.specs.declared.call.Operand.{Operand}
-use Rattle.vx_base.specs.declared.call.Operand.TheVariants as operand
 use Rattle.vx_base.specs.declared.call.Target.{Target}
-use Rattle.vx_base.specs.declared.call.Target.TheVariants as target
 use Rattle.vx_base.specs.declared.mode.Mode.{Mode}
-use Rattle.vx_base.specs.declared.mode.Mode.TheVariants.{Kernel, Exec, Super, User}
 use Rattle.vx_base.specs.declared.request.Func.{Func}
-use Rattle.vx_base.specs.declared.request.Func.TheVariants.{Read, ReadNow, Write, WriteNow, Eof, EofNow, ReadAttn, WrtAttn}
 use Rattle.vx_base.specs.declared.service.Kind.{Kind}
-use Rattle.vx_base.specs.declared.service.Kind.TheVariants as kind
 use Rattle.vx_base.specs.declared.service.Param.{Param}
-use Rattle.vx_base.specs.declared.service.Param.TheVariants.{Required, Optional}
 use Rattle.vx_base.specs.declared.service.Service.{Service}
+use Rattle.vx_base.specs.declared.call.Arg.TheVariants as arg
+use Rattle.vx_base.specs.declared.call.Operand.TheVariants as operand
+use Rattle.vx_base.specs.declared.call.Target.TheVariants as target
+use Rattle.vx_base.specs.declared.mode.Mode.TheVariants.{Kernel, Exec, Super, User}
+use Rattle.vx_base.specs.declared.request.Func.TheVariants.{Read, ReadNow, Write, WriteNow, Eof, EofNow, ReadAttn, WrtAttn}
+use Rattle.vx_base.specs.declared.service.Kind.TheVariants as kind
+use Rattle.vx_base.specs.declared.service.Param.TheVariants.{Required, Optional}
 use Rattle.vx_base.specs.Services.{ServiceRow, service_name, args_of, kind_of}
 use Rattle.vx_text.specs.declared.token.Tok.{Tok}
 use Rattle.vx_text.specs.declared.token.Tok.TheVariants as tok
@@ -26,6 +26,8 @@ use Rattle.vx_text.specs.declared.token.Token.{Token}
 use Rattle.vx_table.specs.declared.fail.CallFail.{CallFail}
 use Rattle.vx_table.specs.declared.fail.CallFail.TheVariants as fail
 use Rattle.vx_table.specs.Spelling.{mode_name, func_name}
+use Rattle.vx_base.specs.Lists.{rest}
+use Rattle.vx_text.specs.Lex.{with_front}
 
 -- what stands in tokens, without their places
 abbrev pub toks : List Token → List Tok
@@ -107,11 +109,6 @@ abbrev pub is_comma : Tok → Bool
 is_comma (tok.Sign s) = s == 44
 is_comma _ = false
 
--- a token in front of the first piece
-abbrev pub onto_first : Tok → List (List Tok) → List (List Tok)
-onto_first t [] = (t ∷ []) ∷ []
-onto_first t (piece ∷ more) = (t ∷ piece) ∷ more
-
 -- tokens cut at the commas
 abbrev pub cut : List Tok → List (List Tok)
 cut [] = [] ∷ []
@@ -126,25 +123,16 @@ abbrev pub first_piece : List (List Tok) → List Tok
 first_piece [] = []
 first_piece (piece ∷ more) = piece
 
-abbrev pub more_pieces : List (List Tok) → List (List Tok)
-more_pieces [] = []
-more_pieces (piece ∷ more) = more
-
--- arguments before those that the rest gives
-abbrev pub behind_args : List Arg → Result (List Arg) CallFail → Result (List Arg) CallFail
-behind_args front (Ok args) = Ok (front ++ args)
-behind_args front (Err e) = Err e
-
 -- an argument before those that the rest gives; its own fault comes first
 abbrev pub and_args : Result Arg CallFail → Result (List Arg) CallFail → Result (List Arg) CallFail
-and_args (Ok a) rest = behind_args (a ∷ []) rest
-and_args (Err e) rest = Err e
+and_args (Ok a) others = with_front (a ∷ []) others
+and_args (Err e) others = Err e
 
 -- the arguments from number k on: each from its piece, and then there is no piece left
 abbrev pub read_args : ℕ → List Param → List (List Tok) → Result (List Arg) CallFail
 read_args k [] [] = Ok []
 read_args k [] (piece ∷ more) = Err fail.Extra
-read_args k (p ∷ params) pieces = and_args (read_arg k p (first_piece pieces)) (read_args (k + 1) params (more_pieces pieces))
+read_args k (p ∷ params) pieces = and_args (read_arg k p (first_piece pieces)) (read_args (k + 1) params (rest pieces))
 
 abbrev pub as_args : Result (List Arg) CallFail → Result Args CallFail
 as_args (Ok args) = Ok (args_of args)

@@ -2,6 +2,7 @@
 
 ghost use Rattle.std.specs.Prelude.{◌≡◌, ◌+◌, ◌≤◌, ◌<◌, length};
 ghost use Rattle.std.specs.List.{prefix_len};
+ghost use Rattle.vx_base.specs.Lists.{rest};
 ghost use Rattle.vx_base.specs.Services.{args_of};
 ghost use Rattle.vx_table.specs.Reading as spec;
 ghost use Rattle.vx_table.specs.Cutting as cutting;
@@ -80,7 +81,7 @@ fn piece(tokens: &[Token], at: usize) -> &[Token]
 // The place where the argument after it begins.
 fn after(tokens: &[Token], at: usize) -> usize
     requires { at ≤ length tokens.now + 1 }
-    ensures left { cutting.left result tokens.now ≡ spec.more_pieces (cutting.left at tokens.now) }
+    ensures left { cutting.left result tokens.now ≡ rest (cutting.left at tokens.now) }
     ensures within { result ≤ length tokens.now + 1 }
 {
     if at > tokens.len() {

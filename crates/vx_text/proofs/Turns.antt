@@ -43,7 +43,7 @@ turn at line f h e =
 pub turn_end : (at : ℕ) (line : List ℕ) → length line ≤ at → lex_from 0 at (drop at line) ≡ Ok []
 turn_end at line h = rw (drop_all at line h) (lex_nothing at)
 
-pub with_front-front : (a b : List Token) (r : Result (List Token) LexFail) → with_front (a ++ b) r ≡ with_front a (with_front b r)
+pub with_front-front : {A E : Type 0} (a b : List A) (r : Result (List A) E) → with_front (a ++ b) r ≡ with_front a (with_front b r)
 with_front-front a b (Ok rest) = ap Ok (append_assoc a b rest)
 with_front-front a b (Err f) = refl
 

@@ -13,8 +13,8 @@ abbrev pub IsReading : List ℕ → First → Type 0
 IsReading bytes (Found t len) = (0 < len) × (len ≤ length bytes) × (first (take len bytes) ≡ Found t len)
 IsReading bytes _ = Unit {0}
 
--- tokens before what the rest gives
-abbrev pub with_front : List Token → Result (List Token) LexFail → Result (List Token) LexFail
+-- items before those that the rest gives
+abbrev pub with_front : {A E : Type 0} → List A → Result (List A) E → Result (List A) E
 with_front front (Ok rest) = Ok (front ++ rest)
 with_front front (Err f) = Err f
 

@@ -8,8 +8,3 @@ ended_lines lines = flat_map (λ line. line ++ 10 ∷ []) lines
 -- words, each behind a space
 abbrev pub spaced : List (List ℕ) → List ℕ
 spaced words = flat_map (λ word. 32 ∷ word) words
-
--- a byte in front of the first line
-abbrev pub onto_first : ℕ → List (List ℕ) → List (List ℕ)
-onto_first b [] = (b ∷ []) ∷ []
-onto_first b (line ∷ lines) = (b ∷ line) ∷ lines

@@ -1,27 +1,19 @@
 -- Two worked examples: a script that sets, reads and clears a flag and exits, and one whose flags are refused.
 use Rattle.std.specs.Prelude.{◌≡◌, ℕ, List, [], ◌∷◌, map, take, codes, true, false, Some, Ok, Err}
 use Rattle.vx_base.specs.declared.mode.Mode.TheVariants.{User}
-use Rattle.vx_base.specs.declared.service.Service.{Service}
+use Rattle.vx_record.specs.Types.{Arg, Call, Cond, Effect, Pid, ProcDecl, Rec, Service, System}
 use Rattle.vx_base.specs.declared.service.Service.TheVariants.{SetEf, ClrEf, ReadEf, Exit}
-use Rattle.vx_base.specs.declared.call.Arg.{Arg}
 use Rattle.vx_base.specs.declared.call.Arg.TheVariants.{Value, Target, Unused}
-use Rattle.vx_base.specs.declared.call.Call.{Call}
 use Rattle.vx_base.specs.declared.call.Operand.TheVariants.{Num}
 use Rattle.vx_base.specs.declared.call.Target.TheVariants.{Var}
-use Rattle.vx_base.specs.declared.cond.Cond.{Cond}
 use Rattle.vx_base.specs.declared.cond.Cond.TheVariants.{Normal, WasClr, WasSet, IllEfc, UnasEfc}
 use Rattle.vx_base.specs.declared.effects.Cell.TheVariants.{Local}
-use Rattle.vx_base.specs.declared.effects.Effect.{Effect}
 use Rattle.vx_base.specs.declared.effects.Effect.TheVariants as effect
-use Rattle.vx_base.specs.declared.number.Pid.{Pid}
 use Rattle.vx_base.specs.declared.record.Answer.TheVariants as answered_by
 use Rattle.vx_base.specs.declared.record.Answer.TheVariants.{Gone}
 use Rattle.vx_base.specs.declared.record.End.TheVariants.{Done}
 use Rattle.vx_base.specs.declared.record.Event.TheVariants.{Run, Rdn}
-use Rattle.vx_base.specs.declared.record.Rec.{Rec}
-use Rattle.vx_image.specs.declared.decl.ProcDecl.{ProcDecl}
 use Rattle.vx_image.specs.declared.stmt.Stmt.TheVariants as stmt
-use Rattle.vx_image.specs.declared.system.System.{System}
 use Rattle.vx_grammar.specs.Grammar.{Spells}
 use Rattle.vx_record.specs.Runs.{chosen, end_after}
 use Rattle.vx_journal.specs.ReadJournal.{journal_of}

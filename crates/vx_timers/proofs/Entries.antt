@@ -4,11 +4,11 @@ use Rattle.std.specs.List.{filter, find, prefix_len}
 use Rattle.std.proofs.lemmas.Bool.{cases_lt}
 use Rattle.std.proofs.lemmas.List.{get_or-set_other, length-map}
 use Rattle.std.proofs.lemmas.List.Quantifiers.{position-Some}
-use Rattle.vx_base.specs.Lists.{amend, less}
-use Rattle.vx_base.specs.Pieces.{Timer}
+use Rattle.vx_base.specs.Lists.{amend, less, is_some_and}
+use Rattle.vx_record.specs.Types.{Timer}
 use Rattle.vx_base.specs.Queues.{least_due, sooner}
 use Rattle.vx_record.specs.Timers.{is_due}
-use Rattle.vx_timers.specs.Places.{entries, has, IsFree, time_of}
+use Rattle.vx_timers.specs.Places.{entries, IsFree, time_of}
 use Rattle.vx_timers.specs.Rounds.{is_by, least_of, lesser_of}
 use Rattle.vx_timers.proofs.Position.{none_passes}
 
@@ -20,7 +20,7 @@ pub record IsFirst {A : Type 0} (p : A → Bool) (places : List (Option A)) (i :
   pub without : entries (slice_set places i None) ≡ less p (entries places)
   pub changed : (f : A → A) → entries (slice_set places i (Some (f a))) ≡ amend p f (entries places)
 
-pub first_there : {A : Type 0} (p : A → Bool) (places : List (Option A)) (i : ℕ) (a : A) → slice_index_or places i None ≡ Some a → p a ≡ true → ((k : ℕ) → k < i → has p (slice_index_or places k None) ≡ false) → IsFirst p places i a
+pub first_there : {A : Type 0} (p : A → Bool) (places : List (Option A)) (i : ℕ) (a : A) → slice_index_or places i None ≡ Some a → p a ≡ true → ((k : ℕ) → k < i → is_some_and p (slice_index_or places k None) ≡ false) → IsFirst p places i a
 first_there p [] i a e passes before = absurd (cc)
 first_there p (None ∷ places) zero a e passes before = absurd (cc)
 first_there {A} p (Some b ∷ places) zero a e passes before =
@@ -42,7 +42,7 @@ pub record IsNowhere {A : Type 0} (p : A → Bool) (places : List (Option A)) : 
   pub without : entries places ≡ less p (entries places)
   pub changed : (f : A → A) → entries places ≡ amend p f (entries places)
 
-pub none_there : {A : Type 0} (p : A → Bool) (places : List (Option A)) → ((k : ℕ) → k < length places → has p (slice_index_or places k None) ≡ false) → IsNowhere p places
+pub none_there : {A : Type 0} (p : A → Bool) (places : List (Option A)) → ((k : ℕ) → k < length places → is_some_and p (slice_index_or places k None) ≡ false) → IsNowhere p places
 none_there p [] before = record { found = refl; without = refl; changed = λ f. refl }
 none_there p (None ∷ places) before =
     let rest = none_there p places (λ k h. before (suc k) (omega (arith, h))) in
@@ -53,29 +53,29 @@ none_there {A} p (Some b ∷ places) before =
     let put : List A → List A = λ xs. b ∷ xs in
     record { found = rw fails rest.found; without = rw fails (ap put rest.without); changed = λ f. rw fails (ap put (rest.changed f)) }
 
-has_some : {A : Type 0} (p : A → Bool) (o : Option A) → has p o ≡ true → (a : A) × (o ≡ Some a) × (p a ≡ true)
+has_some : {A : Type 0} (p : A → Bool) (o : Option A) → is_some_and p o ≡ true → (a : A) × (o ≡ Some a) × (p a ≡ true)
 has_some p None e = absurd (cc)
 has_some p (Some a) e = (a, refl, e)
 
 -- what stands at the first place that passes
-pub first_at : {A : Type 0} (p : A → Bool) (places : List (Option A)) (i : ℕ) → Some i ≡ position (has p) places → (a : A) × (slice_index_or places i None ≡ Some a) × (p a ≡ true) × IsFirst p places i a
+pub first_at : {A : Type 0} (p : A → Bool) (places : List (Option A)) (i : ℕ) → Some i ≡ position (is_some_and p) places → (a : A) × (slice_index_or places i None ≡ Some a) × (p a ≡ true) × IsFirst p places i a
 first_at p places i e =
-    let there = position-Some (has p) places i None (sym e) in
+    let there = position-Some (is_some_and p) places i None (sym e) in
     let one = has_some p (slice_index_or places i None) there.1 in
     (one.0, one.1, one.2, first_there p places i one.0 one.1 one.2 there.2)
 
-pub nowhere : {A : Type 0} (p : A → Bool) (places : List (Option A)) → None ≡ position (has p) places → IsNowhere p places
-nowhere p places e = none_there p places (none_passes (has p) places None e)
+pub nowhere : {A : Type 0} (p : A → Bool) (places : List (Option A)) → None ≡ position (is_some_and p) places → IsNowhere p places
+nowhere p places e = none_there p places (none_passes (is_some_and p) places None e)
 
 -- By the times.
 
-due_prefix : (now : ℕ) (places : List (Option Timer)) → prefix_len (λ o. not (is_by now o)) (map time_of places) ≡ prefix_len (λ o. not (has (is_due now) o)) places
+due_prefix : (now : ℕ) (places : List (Option Timer)) → prefix_len (λ o. not (is_by now o)) (map time_of places) ≡ prefix_len (λ o. not (is_some_and (is_due now) o)) places
 due_prefix now [] = refl
 due_prefix now (None ∷ places) = ap (λ n. 1 + n) (due_prefix now places)
 due_prefix now (Some t ∷ places) = ap (λ n. cond (not (is_due now t)) (1 + n) 0) (due_prefix now places)
 
 -- the first time that has come is that of the first entry that is due
-pub due_position : (now : ℕ) (places : List (Option Timer)) → position (is_by now) (map time_of places) ≡ position (has (is_due now)) places
+pub due_position : (now : ℕ) (places : List (Option Timer)) → position (is_by now) (map time_of places) ≡ position (is_some_and (is_due now)) places
 due_position now places =
     let n = prefix_len (λ o. not (is_by now o)) (map time_of places) in
     ap (λ m. cond (nat_lt n m) (Some n) None) (length-map places time_of) ∙ ap (λ m. cond (nat_lt m (length places)) (Some m) None) (due_prefix now places)

@@ -1,7 +1,7 @@
 -- What is kept of the places, and what is seen of them, as entries come and go.
 use Rattle.std.proofs.Common.{◌≡◌, ℕ, ◌+◌, ◌-◌, ◌<◌, ◌≤◌, List, Option, Some, None, length, map, slice_index_or, slice_set, ap, sym, ◌∙◌, arith, subst}
 use Rattle.std.proofs.lemmas.List.{length-set, length_push}
-use Rattle.vx_base.specs.Pieces.{Timer}
+use Rattle.vx_record.specs.Types.{Timer}
 use Rattle.vx_base.specs.Roomy.{Roomy, with_items}
 use Rattle.vx_timers.specs.Places.{entries, IsFree, IsKept, time_of}
 use Rattle.vx_timers.proofs.Entries.{entries_put, free_set, length_changed, length_taken, used_before}

@@ -1,17 +1,12 @@
 -- Entries in places, of which some are empty.
-use Rattle.std.specs.Prelude.{ℕ, ◌≡◌, ◌≤◌, Bool, false, Option, Some, None, List, [], ◌∷◌, length, map, option_map, slice_index_or}
-use Rattle.vx_base.specs.Pieces.{Timer}
+use Rattle.std.specs.Prelude.{ℕ, ◌≡◌, ◌≤◌, Option, Some, None, List, [], ◌∷◌, length, map, option_map, slice_index_or}
+use Rattle.vx_record.specs.Types.{Timer}
 
 -- the entries, in the order of their places
 abbrev pub entries : {A : Type 0} → List (Option A) → List A
 entries [] = []
 entries (None ∷ places) = entries places
 entries (Some a ∷ places) = a ∷ entries places
-
--- a place has an entry that passes
-abbrev pub has : {A : Type 0} → (A → Bool) → Option A → Bool
-has p None = false
-has p (Some a) = p a
 
 -- when the entry of a place is due, if it has one
 abbrev pub time_of : Option Timer → Option ℕ

@@ -1,7 +1,7 @@
 -- What falls due as the code keeps it, seen as plain data.
 use Rattle.std.specs.Prelude.{Bool, option_map}
-use Rattle.vx_base.specs.Pieces.{Timer, Alarm, OfTimer, OfWake}
-use Rattle.vx_base.specs.declared.routine.Entry.{Entry}
+use Rattle.vx_record.specs.Types.{Alarm, Entry, Timer}
+use Rattle.vx_base.specs.Pieces.{OfTimer, OfWake}
 use Rattle.vx_record.specs.Rundown.{is_timer_in, is_wake_by}
 use Rattle.vx_record.specs.Timers.{is_cancelled_timer, is_due, is_wake_for}
 use Rattle.vx_timers.specs.declared.due.Falls.{Falls}

@@ -1,7 +1,8 @@
 //! Places for entries, in the order of opening, beside the times when they are due.
 
 ghost use Rattle.std.specs.Prelude.{◌≡◌, ◌<◌, ◌≤◌, IfSome, length, map, None, Some, position, slice_index_or, slice_set, vec_capacity};
-ghost use Rattle.vx_timers.specs.Places.{entries, has, IsFree, time_of};
+ghost use Rattle.vx_base.specs.Lists.{is_some_and};
+ghost use Rattle.vx_timers.specs.Places.{entries, IsFree, time_of};
 ghost use Rattle.vx_timers.specs.Seen.{passes};
 
 use crate::due::{Due, Which};
@@ -13,7 +14,7 @@ pub(crate) type Place<R> = Option<Due<R>>;
 
 // Whether a place has one of the entries that are looked for.
 fn has<R: Routine>(place: &Place<R>, which: Which) -> bool
-    ensures { result ≡ has (passes which) place.now }
+    ensures { result ≡ is_some_and (passes which) place.now }
 {
     match place {
         None => false,
@@ -39,7 +40,7 @@ pub(crate) fn first_place<R: Routine>(
     which: Which,
 ) -> Option<usize>
     requires { times.now ≡ map time_of places.now }
-    ensures place { result ≡ position (has (passes which)) places.now }
+    ensures place { result ≡ position (is_some_and (passes which)) places.now }
     ensures within { IfSome result (λ i. i < length places.now) }
 {
     match which {

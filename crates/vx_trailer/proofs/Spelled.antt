@@ -1,10 +1,8 @@
 -- What is printed of a run, one part after another, is its transcript.
 use Rattle.std.proofs.Common.{◌≡◌, ℕ, List, ◌∷◌, ◌++◌, length, ap, ◌∙◌, append_assoc, codes}
 use Rattle.std.proofs.lemmas.Grind.{flat_map-append}
-use Rattle.vx_base.specs.declared.record.End.{End}
-use Rattle.vx_base.specs.declared.record.Rec.{Rec}
+use Rattle.vx_record.specs.Types.{End, Rec, System}
 use Rattle.vx_exec.specs.View.{Executive}
-use Rattle.vx_image.specs.declared.system.System.{System}
 use Rattle.vx_journal.specs.Transcript.{trailer_lines, transcript}
 use Rattle.vx_lines.specs.Records.{records_lines}
 use Rattle.vx_record.proofs.SoundSteps.{run_keeps_system}

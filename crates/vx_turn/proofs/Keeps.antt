@@ -9,8 +9,10 @@ use Rattle.atomic_table.proofs.Lists.{at_longer, at_last, at_snoc, set_here, set
 use Rattle.vx_turn.specs.declared.view.Stage.{Stage}
 use Rattle.vx_turn.specs.declared.view.Stage.TheVariants.{Idle, Waiting, Inside}
 use Rattle.vx_turn.specs.declared.view.View.{View}
-use Rattle.vx_turn.specs.Rule.{StartsWith, total, once_below, busy_stage, first_view, times, owned, numbered, Stands, StageFits, Fits, IsHome, Rule, Drew, Entered, Looked, Passed, cut_left, cut_right, glued, used_up, Shared}
-use Rattle.vx_turn.proofs.Lists.{total_set, total_snoc, total_le, at_below, head_is, each_set, starts_further, starts_here, words_drawn, words_passed, words_same, first_served, times_append, times_numbered, stands_further, stands_append, stands_numbered, total_none, total_zero, total_append}
+use Rattle.vx_turn.specs.Rule.{StartsWith, once_below, busy_stage, first_view, times, owned, numbered, Stands, StageFits, Fits, IsHome, Rule, Drew, Entered, Looked, Passed, cut_left, cut_right, glued, used_up, Shared}
+use Rattle.vx_turn.proofs.Lists.{total_set, total_le, at_below, head_is, each_set, starts_further, starts_here, words_drawn, words_passed, words_same, first_served, times_append, times_numbered, stands_further, stands_append, stands_numbered, total_none, total_zero}
+use Rattle.vx_base.proofs.Lists.{total_push, total_append}
+use Rattle.vx_base.specs.Lists.{total}
 
 module _ {E : Type 0} where
   stage_longer : (base : ℕ) (queue : List ℕ) (id : ℕ) (log : List E) (i : ℕ) (v : View E) (st : Stage) → StageFits base queue log i v st → StageFits base (queue ++ id ∷ []) log i v st
@@ -275,9 +277,9 @@ module _ {T E : Type 0} (history : T → List E) where
       let f = h.each id v at in
       let views : List (View E) = set s.views id l in
       let ts = total_set (λ (u : View E). busy_stage u.stage) s.views id v l at in
-      let ta = total_snoc (λ (u : View E). busy_stage u.stage) views r in
+      let ta = total_push (λ (u : View E). busy_stage u.stage) views r in
       let ps = total_set (λ (u : View E). u.parts) s.views id v l at in
-      let pa = total_snoc (λ (u : View E). u.parts) views r in
+      let pa = total_push (λ (u : View E). u.parts) views r in
       let hb = h.busy in
       let hp = h.parts in
       let stage_l : StageFits h.base h.queue h.log id l l.stage = (let P : Stage → Type 0 = λ st. StageFits h.base h.queue h.log id l st in subst P (sym idle) tt) in
@@ -296,7 +298,7 @@ module _ {T E : Type 0} (history : T → List E) where
         busy = omega arith;
         parts = omega arith;
         few = h.few;
-        places = λ k. (let ks = total_set (owned k) s.views id v l at in let ka = total_snoc (owned k) views r in let hk = h.places k in omega arith);
+        places = λ k. (let ks = total_set (owned k) s.views id v l at in let ka = total_push (owned k) views r in let hk = h.places k in omega arith);
       }
 
   at_glued : (vs ws : List (List (ℕ × E))) (log : List E) → ((j : ℕ) (ps : List (ℕ × E)) → get_elem? vs j ≡ some ps → Stands log ps) → ((j : ℕ) (ps : List (ℕ × E)) → get_elem? ws j ≡ some ps → Stands log ps) → (j : ℕ) (ps : List (ℕ × E)) → get_elem? (vs ++ ws) j ≡ some ps → Stands log ps

@@ -7,23 +7,16 @@ use lib.ListN.{get_elem?}
 use Rattle.atomic_table.proofs.Lists.{at_set, one_turn}
 use Rattle.std.specs.Prelude.{All, IfSome, Option, option_to_list}
 use Rattle.std.proofs.lemmas.List.Elements.{All-pop}
-use Rattle.vx_base.proofs.Lists.{get_front}
+use Rattle.vx_base.proofs.Lists.{get_front, total_append, total_push}
 use Rattle.vx_turn.specs.declared.view.View.{View}
-use Rattle.vx_turn.specs.Rule.{total, once_below, StartsWith, numbered, times, Stands, owned, glued}
+use Rattle.vx_turn.specs.Rule.{once_below, StartsWith, numbered, times, Stands, owned, glued}
+use Rattle.vx_base.specs.Lists.{total}
 
 module _ {A : Type 0} where
   pub total_set : (f : A → ℕ) (xs : List A) (i : ℕ) (v w : A) → get_elem? xs i ≡ some v → total f (set xs i w) + f v ≡ total f xs + f w
   total_set f [] i v w e = absurd (some-ne-none v (sym e))
   total_set f (x ∷ xs) zero v w e = let same : f x ≡ f v = ap f (some-injective x v e) in omega arith
   total_set f (x ∷ xs) (suc i) v w e = let more = total_set f xs i v w e in omega arith
-
-  pub total_snoc : (f : A → ℕ) (xs : List A) (w : A) → total f (xs ++ w ∷ []) ≡ total f xs + f w
-  total_snoc f [] w = omega arith
-  total_snoc f (x ∷ xs) w = let more = total_snoc f xs w in omega arith
-
-  pub total_append : (f : A → ℕ) (xs ys : List A) → total f (xs ++ ys) ≡ total f xs + total f ys
-  total_append f [] ys = omega arith
-  total_append f (x ∷ xs) ys = let more = total_append f xs ys in omega arith
 
   pub total_le : (f g : A → ℕ) (xs : List A) → ((i : ℕ) (v : A) → get_elem? xs i ≡ some v → f v ≤ g v) → total f xs ≤ total g xs
   total_le f g [] h = omega arith
@@ -135,7 +128,7 @@ module _ {A : Type 0} where
       (both.0, subst (λ (o : Option A). IfSome o P) is both.1)
 
   pub total_popped : (f : A → ℕ) (xs ys : List A) (r : Option A) (x : A) → xs ≡ ys ++ option_to_list r → r ≡ Some x → total f xs ≡ total f ys + f x
-  total_popped f xs ys r x e is = ap (total f) (e ∙ ap (λ (o : Option A). ys ++ option_to_list o) is) ∙ total_snoc f ys x
+  total_popped f xs ys r x e is = ap (total f) (e ∙ ap (λ (o : Option A). ys ++ option_to_list o) is) ∙ total_push f ys x
 
 module _ {E : Type 0} where
   pub owned_glued : (k : ℕ) (v w : View E) → owned k (glued v w) ≡ owned k v + owned k w

@@ -6,14 +6,11 @@ use Rattle.atomic_table.specs.Table.{State, Me}
 use Rattle.vx_turn.specs.declared.view.Stage.{Stage}
 use Rattle.vx_turn.specs.declared.view.Stage.TheVariants.{Idle, Waiting, Inside}
 use Rattle.vx_turn.specs.declared.view.View.{View}
+use Rattle.vx_base.specs.Lists.{total}
 
 -- the list goes on from `seen`
 abbrev pub StartsWith : {E : Type 0} → List E → List E → Type 0
 StartsWith {E} log seen = (rest : List E) × (log ≡ seen ++ rest)
-
-abbrev pub total : {A : Type 0} → (A → ℕ) → List A → ℕ
-total f [] = 0
-total f (x ∷ xs) = f x + total f xs
 
 abbrev pub once_below : ℕ → ℕ → ℕ
 once_below k n = cond (ltb k n) 1 0

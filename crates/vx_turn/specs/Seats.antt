@@ -7,7 +7,8 @@ use mathlib.Core.Option.{some}
 use lib.ListN.{get_elem?}
 use Rattle.atomic_table.specs.Seated.{TableId}
 use Rattle.atomic_table.specs.declared.shared.Seat.{Seat}
-use Rattle.vx_turn.specs.Rule.{numbered, total, owned, once_below, first_view, Stands}
+use Rattle.vx_turn.specs.Rule.{numbered, owned, once_below, first_view, Stands}
+use Rattle.vx_base.specs.Lists.{total}
 
 -- The lock: by which table its seats know it, and how many seats it has.
 pub record Lock : Type 0 where

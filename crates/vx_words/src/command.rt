@@ -1,7 +1,7 @@
 //! What the words ask for.
 
+ghost use Rattle.std.specs.Int.{IsInRange};
 ghost use Rattle.std.specs.Prelude.{◌≡◌, ◌≤◌, IfErr, IfOk, IfSome, IsSome};
-ghost use Rattle.vx_words.specs.Options.{IsIn};
 ghost use Rattle.vx_words.specs.Words as spec;
 
 use crate::options::{Numbered, number_in, numbers_in};
@@ -64,7 +64,7 @@ pub(crate) fn limit_in(word: &[u8]) -> Option<u32>
 
 /// `--limit N`: how many records a run may have, and how many if it is not given.
 pub(crate) fn limit_option(usual: u64) -> Numbered<'static>
-    requires { IsIn 1 100000 usual }
+    requires { IsInRange 1 100000 usual }
     ensures { result ≡ spec.limit_option usual }
 {
     Numbered::new(b"--limit".as_slice(), 1, MOST_RECORDS, usual)

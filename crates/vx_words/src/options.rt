@@ -1,5 +1,7 @@
 //! Options whose value is a number: two at most, each at most once, in any order.
 
+ghost use Rattle.std.specs.Int.{IsInRange};
+ghost use Rattle.std.specs.Option.{option_zip};
 ghost use Rattle.std.specs.Prelude.{◌≡◌, IfSome, bytes_eq};
 ghost use Rattle.vx_words.specs.Options as spec;
 
@@ -17,19 +19,20 @@ pub(crate) struct Numbered<'a> {
 }
 
 impl<'a> Model for Numbered<'a> {
-    ghost use Rattle.vx_words.specs.Options.{Numbered, IsIn};
+    ghost use Rattle.std.specs.Int.{IsInRange};
+    ghost use Rattle.vx_words.specs.Options.{Numbered};
 
     ghost Value = { Numbered };
 
     ghost view = { λ n. record { name = n.name.now; least = n.least; most = n.most; usual = n.usual } };
 
-    ghost invariant = { λ n. IsIn n.least n.most n.usual };
+    ghost invariant = { λ n. IsInRange n.least n.most n.usual };
 }
 
 /// The number that a word is, from the least to the most.
 pub(crate) fn number_in(least: u64, most: u64, word: &[u8]) -> Option<u64>
     ensures value { result ≡ spec.number_in least most word.now }
-    ensures within { IfSome result (spec.IsIn least most) }
+    ensures within { IfSome result (IsInRange least most) }
 {
     let n = number_up_to(most, word)?;
     if n < least { None } else { Some(n) }
@@ -38,7 +41,7 @@ pub(crate) fn number_in(least: u64, most: u64, word: &[u8]) -> Option<u64>
 impl<'a> Numbered<'a> {
     /// An option of a name.
     pub(crate) fn new(name: &'a [u8], least: u64, most: u64, usual: u64) -> Numbered<'a>
-        requires { spec.IsIn least most usual }
+        requires { IsInRange least most usual }
         ensures { result ≡ record { name = name.now; least = least; most = most; usual = usual } }
     {
         Numbered {
@@ -58,7 +61,7 @@ impl<'a> Numbered<'a> {
     // What its number is if it is not given.
     fn usual(&self) -> u64
         ensures value { result ≡ self.now.usual }
-        ensures within { spec.IsIn self.now.least self.now.most result }
+        ensures within { IsInRange self.now.least self.now.most result }
     {
         self.usual
     }
@@ -66,7 +69,7 @@ impl<'a> Numbered<'a> {
     // The number that a word is, if it may have it.
     fn value(&self, word: &[u8]) -> Option<u64>
         ensures value { result ≡ spec.value_of self.now word.now }
-        ensures within { IfSome result (spec.IsIn self.now.least self.now.most) }
+        ensures within { IfSome result (IsInRange self.now.least self.now.most) }
     {
         number_in(self.least, self.most, word)
     }
@@ -79,7 +82,7 @@ fn values(
     second: &Numbered<'_>,
     other: &[u8],
 ) -> Option<(u64, u64)>
-    ensures numbers { result ≡ spec.both (spec.value_of first.now word.now) (spec.value_of second.now other.now) }
+    ensures numbers { result ≡ option_zip (spec.value_of first.now word.now) (spec.value_of second.now other.now) }
     ensures within { IfSome result (spec.AreIn first.now second.now) }
 {
     let n = first.value(word)?;

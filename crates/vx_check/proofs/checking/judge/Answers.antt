@@ -1,5 +1,5 @@
 use Rattle.std.proofs.Common.{◌≡◌, IfOk, Ok, Option, ap, refl, subst}
-use Rattle.vx_base.specs.declared.record.End.{End}
+use Rattle.vx_record.specs.Types.{End}
 use Rattle.vx_record.specs.Runs.{end_of}
 use Rattle.vx_check.specs.Verdict.{part_verdict}
 use Rattle.vx_check.specs.Judging.{at_record}

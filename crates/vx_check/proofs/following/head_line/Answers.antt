@@ -1,6 +1,5 @@
 use Rattle.std.proofs.Common.{ℕ, List, ◌+◌, ap, ◌∙◌}
-use Rattle.vx_image.specs.declared.system.System.{System}
-use Rattle.vx_image.specs.declared.unit.UnitDecl.{UnitDecl}
+use Rattle.vx_record.specs.Types.{System, UnitDecl}
 use Rattle.vx_lines.specs.ReadHead.{read_head}
 use Rattle.vx_check.proofs.Lines.{head_line_by}
 use Rattle.vx_check.proofs.following.head_line.Goals as goal

@@ -1,7 +1,6 @@
 use Rattle.std.proofs.Common.{◌≡◌, ◌∙◌, List, Ok, drop, ap, sym}
 use Rattle.std.proofs.lemmas.List.{take_rest}
-use Rattle.vx_image.specs.declared.system.System.{System}
-use Rattle.vx_image.specs.declared.unit.UnitDecl.{UnitDecl}
+use Rattle.vx_record.specs.Types.{System, UnitDecl}
 use Rattle.vx_journal.specs.TrailerLines.{read_trailer}
 use Rattle.vx_check.proofs.TextJudged.{judged_behind}
 use Rattle.vx_check.specs.Following.{verdict_on}

@@ -1,5 +1,5 @@
 use Rattle.std.proofs.Common.{ap, sym, ◌∙◌, true}
-use Rattle.vx_base.specs.declared.quota.Need.{Need}
+use Rattle.vx_record.specs.Types.{Need}
 use Rattle.vx_record.specs.Charges.{ast_need, exceeds}
 use Rattle.vx_procs.specs.Kernel.{Kernel}
 use Rattle.vx_ctl.proofs.wakes.schedule.Goals as goal

@@ -1,5 +1,5 @@
 use Rattle.std.proofs.Common.{◌≡◌, ◌+◌, ◌*◌, ◌<◌, ◌≤◌, List, length, ap, arith}
-use Rattle.vx_base.specs.declared.record.Event.{Event}
+use Rattle.vx_record.specs.Types.{Event}
 use Rattle.vx_record.specs.Events.{process_events}
 use Rattle.vx_record.specs.State.{pid}
 use Rattle.vx_procs.specs.Own.{block_of}

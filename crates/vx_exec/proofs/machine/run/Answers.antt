@@ -1,5 +1,5 @@
 use Rattle.std.proofs.Common.{sym, subst}
-use Rattle.vx_base.specs.declared.record.Answer.{Answer}
+use Rattle.vx_record.specs.Types.{Answer}
 use Rattle.vx_record.specs.Parts.{Outcome}
 use Rattle.vx_procs.specs.Kernel.{Does}
 use Rattle.vx_exec.proofs.Running.{goes_at}

@@ -1,5 +1,5 @@
 use Rattle.std.proofs.Common.{List, [], ◌∷◌, ◌++◌, ap, sym, subst, arith}
-use Rattle.vx_base.specs.declared.record.Rec.{Rec}
+use Rattle.vx_record.specs.Types.{Rec}
 use Rattle.vx_base.proofs.Results.{on_err_too}
 use Rattle.vx_record.specs.Events.{enabled}
 use Rattle.vx_exec.specs.Taken.{TakesSome}

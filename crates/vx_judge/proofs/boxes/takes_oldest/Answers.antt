@@ -1,5 +1,5 @@
 use Rattle.std.proofs.Common.{◌≡◌, true, ap, sym, ◌∙◌, eq-eqb}
-use Rattle.vx_base.specs.declared.number.Id.{Id}
+use Rattle.vx_record.specs.Types.{Id}
 use Rattle.vx_laws.specs.Items.{is_id}
 use Rattle.vx_laws.specs.Lives.{life}
 use Rattle.vx_judge.proofs.boxes.takes_oldest.Goals as goal

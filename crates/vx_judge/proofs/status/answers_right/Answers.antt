@@ -1,12 +1,8 @@
 use Rattle.std.proofs.Common.{◌≡◌, Bool, List, ◌∷◌, ◌++◌, map, Option, Some, None, refl, ap, sym, ◌∙◌}
-use Rattle.vx_base.specs.declared.cond.Cond.{Cond}
-use Rattle.vx_base.specs.declared.effects.Effect.{Effect}
-use Rattle.vx_base.specs.declared.frame.Wait.{Wait}
-use Rattle.vx_base.specs.declared.number.Pid.{Pid}
+use Rattle.vx_record.specs.Types.{Cond, Effect, Pid, Rec, Wait}
 use Rattle.vx_base.specs.declared.record.Answer.TheVariants as answer
 use Rattle.vx_base.specs.declared.record.Event.TheVariants as event
-use Rattle.vx_base.specs.declared.record.Rec.{Rec}
-use Rattle.vx_laws.specs.Items.{Item, Head, Did, flat, later, effects_left, record_end}
+use Rattle.vx_laws.specs.Items.{Item, Head, Did, flat, later, effects_to_head, record_end}
 use Rattle.vx_laws.specs.StatusLaw.{tells_earlier, waits_right}
 use Rattle.vx_judge.proofs.status.answers_right.Goals as goal
 use Rattle.vx_laws.proofs.Quotas.{effects_left_is}
@@ -21,7 +17,7 @@ pub returns-then-tells_earlier : goal.returns-then-tells_earlier
 returns-then-tells_earlier c = λ past more values waits.
     let s = c.in-Run-Service in
     let effects = c.args.rec.now.effects in
-    let earlier : c.tells_earlier.result ≡ tells_earlier past s.p s.call.args s.c (effects_left (map Did effects ++ flat more)) s.call.service =
+    let earlier : c.tells_earlier.result ≡ tells_earlier past s.p s.call.args s.c (effects_to_head (map Did effects ++ flat more)) s.call.service =
     c.tells_earlier.ensures past values ∙ ap (λ es. tells_earlier past s.p s.call.args s.c es s.call.service) (c.as_slice-effects.ensures ∙ sym (effects_left_is effects more)) in
     let here = Head (event.Run s.p) (answer.Service s.call s.c) ∷ past in
     rw (s.is-0, s.is-1, ← earlier, c.if-tells_earlier.true)
@@ -31,7 +27,7 @@ pub returns-else-tells_earlier : goal.returns-else-tells_earlier
 returns-else-tells_earlier c = λ past more values waits.
     let s = c.in-Run-Service in
     let effects = c.args.rec.now.effects in
-    let earlier : c.tells_earlier.result ≡ tells_earlier past s.p s.call.args s.c (effects_left (map Did effects ++ flat more)) s.call.service =
+    let earlier : c.tells_earlier.result ≡ tells_earlier past s.p s.call.args s.c (effects_to_head (map Did effects ++ flat more)) s.call.service =
     c.tells_earlier.ensures past values ∙ ap (λ es. tells_earlier past s.p s.call.args s.c es s.call.service) (c.as_slice-effects.ensures ∙ sym (effects_left_is effects more)) in
     rw (s.is-0, s.is-1, ← earlier, c.if-tells_earlier.false) refl
 

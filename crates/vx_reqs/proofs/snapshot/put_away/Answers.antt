@@ -1,6 +1,6 @@
 use Rattle.std.proofs.Common.{◌<◌, ◌+◌, ◌∙◌, List, [], ◌∷◌, ◌++◌, ap, arith, drop, length, sym}
 use Rattle.std.proofs.lemmas.List.{append_assoc}
-use Rattle.vx_base.specs.Pieces.{Request}
+use Rattle.vx_record.specs.Types.{Request}
 use Rattle.vx_reqs.specs.Places.{live}
 use Rattle.vx_reqs.proofs.Live.{live_held, live_left}
 use Rattle.vx_reqs.proofs.snapshot.put_away.Goals.{in-Some+in_ok-duplicate+in_ok-push, in_default}

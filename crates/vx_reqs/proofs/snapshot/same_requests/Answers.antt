@@ -1,5 +1,5 @@
 use Rattle.std.proofs.Common.{◌≡◌, ◌<◌, ◌∙◌, ◌∷◌, List, ap, arith, drop, get_or, length, sym}
-use Rattle.vx_base.specs.Pieces.{Request}
+use Rattle.vx_record.specs.Types.{Request}
 use Rattle.vx_reqs.proofs.Live.{live_held, live_left}
 use Rattle.vx_reqs.proofs.snapshot.same_requests.Goals.{in-Some+in-Some-split_first+else-not-same, in_default}
 use Rattle.vx_reqs.proofs.snapshot.same_requests.Goals as goal

@@ -1,5 +1,5 @@
 use Rattle.std.proofs.Common.{◌∙◌, ap, sym, option_map, Bor}
-use Rattle.vx_base.specs.Pieces.{Request}
+use Rattle.vx_record.specs.Types.{Request}
 use Rattle.vx_reqs.specs.Places.{live}
 use Rattle.vx_reqs.proofs.Turns.{front_busy, front_free}
 use Rattle.vx_reqs.proofs.units.front.Goals as goal

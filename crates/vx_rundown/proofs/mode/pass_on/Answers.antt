@@ -1,6 +1,5 @@
 use Rattle.std.proofs.Common.{Option, Some, ap, subst, sym, ◌∙◌}
-use Rattle.vx_base.specs.declared.record.Answer.{Answer}
-use Rattle.vx_base.specs.declared.routine.Entry.{Entry}
+use Rattle.vx_record.specs.Types.{Answer, Entry}
 use Rattle.vx_record.specs.Parts.{Outcome}
 use Rattle.vx_procs.specs.Kernel.{Does, Fits, Kernel}
 use Rattle.vx_rundown.specs.Steps.{cancelled_and_drained}

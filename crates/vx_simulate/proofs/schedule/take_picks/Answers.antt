@@ -1,5 +1,5 @@
 use Rattle.std.proofs.Common.{List, sym, subst}
-use Rattle.vx_base.specs.declared.record.Rec.{Rec}
+use Rattle.vx_record.specs.Types.{Rec}
 use Rattle.vx_simulate.proofs.Following.{Following, ended_run, followed_more, left_falls, placed_there}
 use Rattle.vx_record.specs.Events.{enabled}
 use Rattle.vx_simulate.proofs.schedule.take_picks.Goals as goal

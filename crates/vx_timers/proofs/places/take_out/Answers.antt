@@ -1,6 +1,6 @@
 use Rattle.std.proofs.Common.{List, None, Option, ap, map, slice_set, sym, ◌∙◌, ℕ}
 use Rattle.std.proofs.lemmas.List.{map-set}
-use Rattle.vx_base.specs.Pieces.{Timer}
+use Rattle.vx_record.specs.Types.{Timer}
 use Rattle.vx_timers.specs.Places.{time_of}
 use Rattle.vx_timers.proofs.places.take_out.Goals as goal
 

@@ -1,5 +1,5 @@
 use Rattle.std.proofs.Common.{List, sym, subst, ◌∙◌}
-use Rattle.vx_base.specs.declared.record.Rec.{Rec}
+use Rattle.vx_record.specs.Types.{Rec}
 use Rattle.vx_carrier.specs.Desk.{HasRun}
 use Rattle.vx_carrier.proofs.desk.Desk.into_parts.Goals as goal
 

@@ -1,5 +1,5 @@
 use Rattle.std.proofs.Common.{◌≡◌, List, ◌++◌, true, false, sym, subst, ◌∙◌, None}
-use Rattle.vx_base.specs.declared.record.Rec.{Rec}
+use Rattle.vx_record.specs.Types.{Rec}
 use Rattle.vx_carrier.specs.Desk.{Desk}
 use Rattle.vx_carrier.specs.Turns.{Gives, SawBeg}
 use Rattle.vx_carrier.specs.declared.turn.Turn.TheVariants.{Took, Stale, Ended}

@@ -1,6 +1,6 @@
 use Rattle.std.proofs.Common.{◌+◌, List, Contains, ap, sym, subst, ◌∙◌}
 use Rattle.vx_exec.proofs.Runs.{going_below}
-use Rattle.vx_image.specs.declared.system.System.{System}
+use Rattle.vx_record.specs.Types.{System}
 use Rattle.vx_record.specs.State.{State}
 use Rattle.vx_record.specs.Events.{enabled, step}
 use Rattle.vx_record.proofs.Fixed.{step_keeps_system}

@@ -1,13 +1,14 @@
 use Rattle.std.proofs.Common.{◌≡◌, true, ap, sym, ◌∙◌}
 use Rattle.std.specs.List.{list_any}
 use Rattle.vx_laws.specs.Boxes.{is_at, oldest_read, stored, this_stored}
-use Rattle.vx_laws.specs.Lives.{life, lives, is_request}
+use Rattle.vx_laws.specs.Lives.{life, is_request}
 use Rattle.vx_laws.specs.MessageLaw.{hands_over, takes_oldest}
 use Rattle.vx_judge.specs.BoxLists.{listed}
 use Rattle.vx_judge.specs.Places.{past_in}
 use Rattle.vx_judge.proofs.Passes.{latest_in}
 use Rattle.vx_judge.proofs.boxes.Boxes.handles.Goals as goal
 use Rattle.vx_laws.proofs.Quotas.{effects_left_is}
+use Rattle.vx_base.specs.Lists.{is_some_and}
 
 pub returns-in-MGet : goal.returns-in-MGet
 returns-in-MGet c = λ past more k.
@@ -31,6 +32,6 @@ returns-else-not-is_request c = λ past more k.
 pub returns-then-is_written_at : goal.returns-then-is_written_at
 returns-then-is_written_at c = λ past more k.
     let here = past_in past c.args.rec.now c.args.earlier.now in
-    let written : lives (λ l. is_at c.in-MPut.name l.device) (life here c.in-MPut.id) ≡ true = sym (c.is_written_at.ensures (life here c.in-MPut.id) (c.of-in-MPut-2.ensures here k.requests)) ∙ c.if-is_written_at.true in
+    let written : is_some_and (λ l. is_at c.in-MPut.name l.device) (life here c.in-MPut.id) ≡ true = sym (c.is_written_at.ensures (life here c.in-MPut.id) (c.of-in-MPut-2.ensures here k.requests)) ∙ c.if-is_written_at.true in
     let oldest : c.oldest-oldest.result ≡ oldest_read here c.in-MPut.name = c.oldest-oldest.ensures here k.lives k.requests k.readers ∙ ap (oldest_read here) c.of-in-MPut.ensures in
     rw (c.in-MPut.is, written, effects_left_is c.args.later.now more) (c.hands_over.ensures ∙ ap (λ o. hands_over c.in-MPut.name c.in-MPut.id o c.args.later.now) oldest)

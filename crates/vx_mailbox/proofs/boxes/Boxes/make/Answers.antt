@@ -1,6 +1,6 @@
 use Rattle.std.proofs.Common.{[], Some, false, arith}
 use Rattle.std.proofs.Math.Nat.{max-le}
-use Rattle.vx_base.specs.Pieces.{Mailbox}
+use Rattle.vx_record.specs.Types.{Mailbox}
 use Rattle.vx_mailbox.proofs.Table.{changed_at, table_put, used_made}
 use Rattle.vx_mailbox.proofs.boxes.Boxes.make.Goals as goal
 

@@ -1,6 +1,6 @@
 use Rattle.std.proofs.Common.{◌≡◌, ℕ, ◌-◌, List, Option, None, drop, length, replicate, slice_index_or, slice_set, take, ap, refl, subst, sym, ◌∙◌, arith, ◌+◌}
 use Rattle.std.proofs.lemmas.List.{drop_at, length-append, length-replicate, length-set}
-use Rattle.vx_base.specs.Pieces.{Mailbox}
+use Rattle.vx_record.specs.Types.{Mailbox}
 use Rattle.vx_same.specs.Trimmed.{filled_to}
 use Rattle.vx_same.proofs.Trimmed.{behind_set, filled_at}
 use Rattle.vx_mailbox.proofs.Table.{all_as, same_more}

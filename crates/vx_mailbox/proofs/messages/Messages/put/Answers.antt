@@ -1,6 +1,6 @@
 use Rattle.std.proofs.Common.{List, ap, sym, subst}
 use Rattle.vx_base.specs.Roomy.{Roomy}
-use Rattle.vx_base.specs.declared.request.Msg.{Msg}
+use Rattle.vx_record.specs.Types.{Msg}
 use Rattle.vx_mailbox.specs.Places.{AreStored}
 use Rattle.vx_mailbox.proofs.Stored.{stored_put}
 use Rattle.vx_mailbox.proofs.messages.Messages.put.Goals as goal

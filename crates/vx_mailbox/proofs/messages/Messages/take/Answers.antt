@@ -1,7 +1,7 @@
 use Rattle.std.proofs.Common.{◌≡◌, ◌∙◌, List, None, Some, position, ap, sym, subst}
 use Rattle.std.specs.List.{find}
 use Rattle.vx_base.specs.Roomy.{Roomy}
-use Rattle.vx_base.specs.declared.request.Msg.{Msg}
+use Rattle.vx_record.specs.Types.{Msg}
 use Rattle.vx_record.specs.Mailboxes.{this_message}
 use Rattle.vx_record.proofs.Lists.{all_find}
 use Rattle.vx_mailbox.specs.Boxes.{IsShort}

@@ -1,5 +1,5 @@
 use Rattle.std.proofs.Common.{Option, arith, sym, ap, ◌∙◌}
-use Rattle.vx_base.specs.Pieces.{Queued}
+use Rattle.vx_record.specs.Types.{Queued}
 use Rattle.vx_ast.specs.Queue.{less_first_like}
 use Rattle.vx_record.specs.Charges.{is_charged}
 use Rattle.vx_procs.specs.View.{process}

@@ -1,7 +1,6 @@
 use Rattle.std.proofs.Common.{◌∷◌, ◌++◌, [], Bool, false, is_some, option_map, refl, ap, sym, ◌∙◌}
-use Rattle.vx_base.specs.Pieces.{Request}
+use Rattle.vx_record.specs.Types.{Request, System}
 use Rattle.vx_reqs.specs.Requests.{promised_of}
-use Rattle.vx_image.specs.declared.system.System.{System}
 use Rattle.vx_record.specs.Charges.{exceeds, request_need}
 use Rattle.vx_record.specs.Runs.{first}
 use Rattle.vx_record.specs.State.{State}

@@ -1,5 +1,5 @@
 use Rattle.std.proofs.Common.{◌∷◌, ◌++◌, [], ap, sym, subst, ◌∙◌}
-use Rattle.vx_base.specs.declared.number.Pid.{Pid}
+use Rattle.vx_record.specs.Types.{Pid}
 use Rattle.vx_record.specs.State.{State, IsProcess}
 use Rattle.vx_record.specs.Charges.{exceeds}
 use Rattle.vx_procs.specs.Words.{alarm_need}

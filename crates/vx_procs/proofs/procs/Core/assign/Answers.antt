@@ -1,6 +1,6 @@
 use Rattle.std.proofs.Common.{List, Option, Result, ℕ, refl, ap, ◌∙◌}
 use Rattle.vx_base.specs.Channels.{least_free}
-use Rattle.vx_base.specs.Pieces.{Channel}
+use Rattle.vx_record.specs.Types.{Channel}
 use Rattle.vx_record.specs.State.{Process}
 use Rattle.vx_chans.specs.Chans.{number_or_none}
 use Rattle.vx_chans.specs.declared.chans.ChanFail.{ChanFail}

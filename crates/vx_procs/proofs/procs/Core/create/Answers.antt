@@ -1,7 +1,6 @@
 use Rattle.std.proofs.Common.{◌≡◌, slice_index_or, arith, sym, ap, subst, ◌∙◌}
 use Rattle.std.proofs.lemmas.Bool.Decides.{nat_tests}
-use Rattle.vx_image.specs.declared.decl.ProcDecl.{ProcDecl}
-use Rattle.vx_base.specs.declared.quota.Need.{Need}
+use Rattle.vx_record.specs.Types.{Need, ProcDecl}
 use Rattle.vx_record.specs.State.{Process, no_decl}
 use Rattle.vx_record.specs.Runs.{born_of}
 use Rattle.vx_record.specs.Control.{created, decl_at}

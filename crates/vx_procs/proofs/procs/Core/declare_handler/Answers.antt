@@ -1,5 +1,5 @@
 use Rattle.std.proofs.Common.{refl, arith}
-use Rattle.vx_base.specs.Pieces.{Handler}
+use Rattle.vx_record.specs.Types.{Handler}
 use Rattle.vx_record.specs.Rundown.{with_handler}
 use Rattle.vx_procs.proofs.Changed.{changed_as, held_as}
 use Rattle.vx_procs.proofs.procs.Core.declare_handler.Goals as goal

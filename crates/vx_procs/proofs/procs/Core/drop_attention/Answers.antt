@@ -1,9 +1,8 @@
 use Rattle.std.proofs.Common.{refl, IsTrue, List, ap, subst, sym, ◌∙◌}
 use Rattle.vx_base.specs.Lists.{less}
-use Rattle.vx_base.specs.Pieces.{Attention}
+use Rattle.vx_record.specs.Types.{Attention, Need}
 use Rattle.vx_base.specs.Quotas.{is_within}
 use Rattle.vx_base.specs.Roomy.{Roomy}
-use Rattle.vx_base.specs.declared.quota.Need.{Need}
 use Rattle.vx_base.proofs.First.{less_none}
 use Rattle.vx_record.specs.Mailboxes.{this_attention}
 use Rattle.vx_record.specs.State.{State, IsProcess}

@@ -1,8 +1,7 @@
 use Rattle.std.proofs.Common.{IsTrue, ap, subst, sym, ◌∙◌}
 use Rattle.vx_base.specs.Lists.{less}
 use Rattle.vx_base.specs.Quotas.{is_within}
-use Rattle.vx_base.specs.declared.number.Pid.{Pid}
-use Rattle.vx_base.specs.declared.quota.Need.{Need}
+use Rattle.vx_record.specs.Types.{Need, Pid}
 use Rattle.vx_record.specs.State.{State, IsProcess}
 use Rattle.vx_quota.specs.Account.{released}
 use Rattle.vx_timers.specs.Seen.{passes}

@@ -1,5 +1,5 @@
 use Rattle.std.proofs.Common.{length, subst, sym}
-use Rattle.vx_base.specs.declared.number.Pid.{Pid}
+use Rattle.vx_record.specs.Types.{Pid}
 use Rattle.vx_record.specs.State.{IsProcess}
 use Rattle.vx_record.specs.Timers.{is_due}
 use Rattle.vx_timers.specs.declared.due.Falls.{Falls}

@@ -1,5 +1,5 @@
 use Rattle.std.proofs.Common.{◌≡◌, Option, Some, false, length, ap, subst, sym, ◌<◌, ◌∙◌}
-use Rattle.vx_base.specs.declared.request.Req.{Req}
+use Rattle.vx_record.specs.Types.{Req}
 use Rattle.vx_units.specs.Leases.{is_out}
 use Rattle.vx_procs.specs.Kernel.{Kernel, asked_for, stand_for}
 use Rattle.vx_procs.specs.declared.requests.Finished.{Finished}

@@ -1,7 +1,7 @@
 use Rattle.std.proofs.Common.{List, length, refl, arith, ap, sym, subst, ◌∙◌}
 use Rattle.vx_record.proofs.Steps.{left_after}
 use Rattle.vx_base.specs.Log.{HasRoom, logged}
-use Rattle.vx_base.specs.declared.effects.Effect.{Effect}
+use Rattle.vx_record.specs.Types.{Effect}
 use Rattle.vx_record.specs.State.{Process, State, change, process_at}
 use Rattle.vx_record.specs.Rundown.{exited, without_frames}
 use Rattle.vx_procs.specs.Kernel.{Kernel, changed}

@@ -1,10 +1,8 @@
 use Rattle.std.proofs.Common.{None, Option, false, option_map, is_some, arith, ap, sym, ◌∙◌}
 use Rattle.vx_base.specs.Flags.{one}
-use Rattle.vx_base.specs.Pieces.{Promised, Request}
+use Rattle.vx_record.specs.Types.{Promised, Req, Request, System}
 use Rattle.vx_base.specs.Roomy.{Roomy}
-use Rattle.vx_base.specs.declared.request.Req.{Req}
 use Rattle.vx_reqs.specs.Requests.{promised_of}
-use Rattle.vx_image.specs.declared.system.System.{System}
 use Rattle.vx_record.specs.Charges.{request_need}
 use Rattle.vx_record.specs.Finish.{this_request}
 use Rattle.vx_record.specs.Runs.{first}

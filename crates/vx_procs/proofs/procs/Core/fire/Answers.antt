@@ -1,10 +1,8 @@
 use Rattle.std.proofs.Common.{◌+◌, ◌≤◌, Option, Some, None, IsTrue, length, ap, sym, subst, ◌∙◌}
 use Rattle.vx_base.specs.Flags.{one}
 use Rattle.vx_base.specs.Lists.{less}
-use Rattle.vx_base.specs.Pieces.{Timer, Alarm}
+use Rattle.vx_record.specs.Types.{Alarm, Id, Pid, Timer}
 use Rattle.vx_base.specs.Roomy.{Roomy}
-use Rattle.vx_base.specs.declared.number.Id.{Id}
-use Rattle.vx_base.specs.declared.number.Pid.{Pid}
 use Rattle.vx_record.specs.State.{State, IsProcess, change}
 use Rattle.vx_base.specs.Quotas.{is_within}
 use Rattle.vx_record.specs.Charges.{takes_ast}

@@ -1,9 +1,6 @@
 use Rattle.std.proofs.Common.{Option, None, ap, arith, refl, ◌∙◌}
-use Rattle.vx_base.specs.Pieces.{Attention}
+use Rattle.vx_record.specs.Types.{Attention, Entry, Id, Mode}
 use Rattle.vx_base.specs.Roomy.{Roomy}
-use Rattle.vx_base.specs.declared.mode.Mode.{Mode}
-use Rattle.vx_base.specs.declared.number.Id.{Id}
-use Rattle.vx_base.specs.declared.routine.Entry.{Entry}
 use Rattle.vx_record.specs.Asts.{charged_ast, with_queued}
 use Rattle.vx_record.specs.Mailboxes.{this_attention}
 use Rattle.vx_procs.specs.Attention.{fired_attention_if}

@@ -1,5 +1,5 @@
 use Rattle.std.proofs.Common.{arith, ap, ◌∙◌}
-use Rattle.vx_base.specs.declared.number.UnitNo.{UnitNo}
+use Rattle.vx_record.specs.Types.{UnitNo}
 use Rattle.vx_units.specs.Leases.{Back}
 use Rattle.vx_procs.specs.Kernel.{with_stand}
 use Rattle.vx_procs.specs.Units.{Kept, asked_of}

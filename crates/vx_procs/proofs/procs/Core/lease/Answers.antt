@@ -1,5 +1,5 @@
 use Rattle.std.proofs.Common.{◌<◌, arith, subst, sym}
-use Rattle.vx_base.specs.Pieces.{DeviceUnit}
+use Rattle.vx_record.specs.Types.{DeviceUnit}
 use Rattle.vx_procs.proofs.Leased.{busy_id, ending_made, held_asked_same, if_none, if_some, lease_of, not_to_lease, on_some, unit_stayed, unit_stood}
 use Rattle.vx_procs.proofs.Requested.{seen_unit}
 use Rattle.vx_procs.specs.Leases.{IsLeaseOf}

@@ -1,5 +1,5 @@
 use Rattle.std.proofs.Common.{List, ap, refl, arith, sym, subst}
-use Rattle.vx_base.specs.Pieces.{Handler}
+use Rattle.vx_record.specs.Types.{Handler}
 use Rattle.vx_procs.specs.Kernel.{Kernel}
 use Rattle.vx_procs.specs.Ready.{HasSpares}
 use Rattle.vx_procs.specs.View.{process}

@@ -1,5 +1,5 @@
 use Rattle.std.proofs.Common.{Option, IfSome, refl, None, ◌-◌, subst}
-use Rattle.vx_base.specs.declared.number.Pid.{Pid}
+use Rattle.vx_record.specs.Types.{Pid}
 use Rattle.vx_record.specs.State.{IsProcess}
 use Rattle.vx_procs.specs.View.{state}
 use Rattle.std.specs.Vec.{with_item}

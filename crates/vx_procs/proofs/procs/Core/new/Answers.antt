@@ -1,9 +1,8 @@
 use Rattle.std.proofs.Common.{List, Option, map, subst, sym}
 use Rattle.std.specs.Prelude.{None}
-use Rattle.vx_base.specs.Pieces.{Attention, Mailbox, Request, Timer}
+use Rattle.vx_record.specs.Types.{Attention, Mailbox, Request, System, Timer}
 use Rattle.vx_base.specs.Roomy.{Roomy}
 use Rattle.vx_clusters.specs.Clusters.{Shared}
-use Rattle.vx_image.specs.declared.system.System.{System}
 use Rattle.vx_record.specs.Runs.{first}
 use Rattle.vx_record.specs.State.{State}
 use Rattle.vx_procs.specs.Held.{AreHeld}

@@ -1,5 +1,5 @@
 use Rattle.std.proofs.Common.{◌≤◌, ap, subst, sym, ◌∙◌}
-use Rattle.vx_base.specs.Pieces.{Timer}
+use Rattle.vx_record.specs.Types.{Timer}
 use Rattle.vx_base.specs.Roomy.{Roomy}
 use Rattle.vx_procs.specs.Kernel.{Kernel, with_state}
 use Rattle.vx_procs.specs.View.{kernel}

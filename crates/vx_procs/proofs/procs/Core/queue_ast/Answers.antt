@@ -1,4 +1,4 @@
-use Rattle.vx_base.specs.Pieces.{Queued}
+use Rattle.vx_record.specs.Types.{Queued}
 use Rattle.vx_record.specs.Asts.{with_queued}
 use Rattle.vx_procs.proofs.Changed.{changed_room}
 use Rattle.vx_procs.proofs.Ops.{held_queued}

@@ -1,5 +1,5 @@
 use Rattle.std.proofs.Common.{◌≡◌, List, ap, subst, ◌∙◌}
-use Rattle.vx_base.specs.Pieces.{Cluster}
+use Rattle.vx_record.specs.Types.{Cluster}
 use Rattle.vx_base.specs.declared.effects.Cell.TheVariants.{Common as common_cell}
 use Rattle.vx_clusters.specs.Clusters.{Shared}
 use Rattle.vx_record.specs.Flags.{with_cell}

@@ -1,5 +1,5 @@
 use Rattle.std.proofs.Common.{refl, arith}
-use Rattle.vx_base.specs.Pieces.{Status}
+use Rattle.vx_record.specs.Types.{Status}
 use Rattle.vx_record.specs.Finish.{with_stored_status}
 use Rattle.vx_procs.proofs.Changed.{changed_as, held_as}
 use Rattle.vx_procs.proofs.procs.Core.set_status.Goals as goal

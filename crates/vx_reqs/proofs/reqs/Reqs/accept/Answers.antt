@@ -1,6 +1,6 @@
 use Rattle.std.proofs.Common.{◌≡◌, ◌∙◌, List, [], ◌∷◌, ◌++◌, false, inl, inr, option_map, ap, refl}
 use Rattle.std.specs.List.{filter}
-use Rattle.vx_base.specs.Pieces.{Request}
+use Rattle.vx_record.specs.Types.{Request}
 use Rattle.vx_reqs.specs.Places.{is_held, live}
 use Rattle.vx_reqs.specs.Requests.{promised_of}
 use Rattle.vx_reqs.proofs.Live.{live_kept, live_put, same_room}

@@ -2,7 +2,7 @@ use Rattle.std.proofs.Common.{◌≡◌, ◌∙◌, List, None, Some, Bor, optio
 use Rattle.std.specs.List.{find}
 use Rattle.vx_base.proofs.Any.{none_found}
 use Rattle.vx_base.specs.Lists.{amend}
-use Rattle.vx_base.specs.Pieces.{Request}
+use Rattle.vx_record.specs.Types.{Request}
 use Rattle.vx_base.specs.Queues.{front, is_served_by, waits_for}
 use Rattle.vx_base.specs.Roomy.{with_items}
 use Rattle.vx_reqs.specs.Places.{Place, AreFrom, IsOrdered, changed, holds, live}

@@ -1,6 +1,6 @@
 use Rattle.std.proofs.Common.{◌∙◌, Bor, ap, sym, is_some}
 use Rattle.vx_record.proofs.Lists.{mapped_some}
-use Rattle.vx_base.specs.Pieces.{Request}
+use Rattle.vx_record.specs.Types.{Request}
 use Rattle.vx_reqs.proofs.Live.{any_found}
 use Rattle.vx_reqs.proofs.reqs.Reqs.has.Goals as goal
 use Rattle.vx_record.specs.Finish.{this_request}

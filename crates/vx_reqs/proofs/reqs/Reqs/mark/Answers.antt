@@ -1,7 +1,7 @@
 use Rattle.std.proofs.Common.{◌≡◌, ◌∙◌, Bool, List, Some, Bor, option_map, position, refl, ap, sym, subst}
 use Rattle.std.specs.List.{find}
 use Rattle.vx_base.specs.Lists.{amend}
-use Rattle.vx_base.specs.Pieces.{Request}
+use Rattle.vx_record.specs.Types.{Request}
 use Rattle.vx_base.specs.Roomy.{with_items}
 use Rattle.vx_base.proofs.First.{amend_same}
 use Rattle.vx_reqs.specs.Places.{Place, AreFrom, IsOrdered, changed, holds, live}

@@ -1,5 +1,5 @@
 use Rattle.std.proofs.Common.{ap, option_map, ◌∙◌}
-use Rattle.vx_base.specs.Pieces.{Timer}
+use Rattle.vx_record.specs.Types.{Timer}
 use Rattle.vx_base.specs.Queues.{least_due}
 use Rattle.vx_base.specs.Roomy.{Roomy}
 use Rattle.vx_timers.specs.Rounds.{least_of}

@@ -1,5 +1,5 @@
 use Rattle.std.proofs.Common.{List, [], ◌++◌, ◌∷◌, ap, arith, length, sym, ◌∙◌}
-use Rattle.vx_base.specs.Pieces.{Timer}
+use Rattle.vx_record.specs.Types.{Timer}
 use Rattle.vx_timers.specs.Places.{entries}
 use Rattle.vx_timers.proofs.Entries.{entries_put}
 use Rattle.vx_timers.proofs.Kept.{kept_put, seen_changed}
