@@ -6,14 +6,6 @@ use Rattle.vx_exec.specs.View.{Executive, Plan}
 
 -- The records are a run of the system from its first state, which has ended so within the limit; the executive stands for the state
 -- after them, and has counted them.
-pub record IsPoolRun (before after_it : Executive) (recs : List Rec) (end : End) : Type 0 where
-  pub run : IsRun before.state.system recs
-  pub now : after_it.state ≡ after before.state.system recs
-  pub counted : after_it.taken ≡ length recs
-  pub limited : after_it.limit ≡ before.limit
-  pub ended : end_after before.state.system recs before.limit ≡ Some end
-
--- the same, of a system and a limit
 pub record IsRunOf (plan : Plan) (after_it : Executive) (recs : List Rec) (end : End) : Type 0 where
   pub run : IsRun plan.system recs
   pub now : after_it.state ≡ after plan.system recs

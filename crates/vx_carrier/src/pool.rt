@@ -5,7 +5,7 @@ ghost use Rattle.vx_record.specs.Runs.{first};
 ghost use Rattle.vx_exec.specs.View.{plan};
 ghost use Rattle.vx_turn.specs.Seats.{IsOne};
 ghost use Rattle.vx_carrier.specs.Desk.{HasRun};
-ghost use Rattle.vx_carrier.specs.Pool.{IsPoolRun, IsRunOf};
+ghost use Rattle.vx_carrier.specs.Pool.{IsRunOf};
 
 use crate::executive::{Executive, Seat};
 use crate::gate::Gate;
@@ -90,7 +90,7 @@ pub fn run_pool<Q: Threads + Wait + Sync, R: Routine + Send, G: Gate + Sync>(
     requires within { carriers ≤ 16 }
     requires new { exec.state ≡ first exec.state.system }
     requires none { exec.taken ≡ 0 }
-    ensures { IfOk result (λ run. IsPoolRun exec run.0 run.1 run.2) }
+    ensures { IfOk result (λ run. IsRunOf (plan exec) run.0 run.1 run.2) }
 {
     pool::<Q, R, G, Brand>(rt, alloc, exec, gate, carriers)
 }

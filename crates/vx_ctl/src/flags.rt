@@ -6,19 +6,30 @@ ghost use Rattle.vx_record.specs.Flags.{cell, clref, flag_part, flag_where_named
 ghost use Rattle.vx_procs.specs.Cells.{IsCell};
 ghost use Rattle.vx_procs.specs.Kernel.{Acts, Does, DoesQuietly, Fits};
 ghost use Rattle.vx_procs.specs.Ready.{IsReady};
-ghost use Rattle.vx_ctl.specs.Answers.{put_flag};
+ghost use Rattle.vx_ctl.specs.Answers.{named_flag, put_flag};
 
 use vx_base::{Cell, Cond, Effect, Pid, Routine};
 use vx_procs::Core;
 
-/// The last number that an event flag may have.
-pub const LAST_FLAG: u32 = 127;
+// The last number that an event flag may have.
+const LAST_FLAG: u32 = 127;
 
 /// The condition that tells how a flag, or an enable, was.
 pub(crate) fn how_it_was(on: bool) -> Cond
     ensures { result ≡ how_it_was on }
 {
     if on { Cond::WasSet } else { Cond::WasClr }
+}
+
+/// The event flag that a number names for a process: ILLEFC above 127, UNASEFC where the number names no flag.
+pub fn named_flag<R: Routine>(core: &Core<R>, p: Pid, efn: u32) -> Result<Cell, Cond>
+    requires { IsProcess core.now.state p }
+    ensures { result ≡ named_flag core.now.state p efn }
+{
+    if efn > LAST_FLAG {
+        return Err(Cond::IllEfc);
+    }
+    core.cell(p, efn).ok_or(Cond::UnasEfc)
 }
 
 /// Sets or clears an event flag that a number names.
@@ -50,11 +61,9 @@ fn put_flag<R: Routine>(core: &mut Core<R>, p: Pid, efn: u32, on: bool) -> Cond
     requires room { Fits core.old (put_flag core.old.state p efn on).effects }
     ensures { Does (put_flag core.old.state p efn on) result core.old core.new }
 {
-    if efn > LAST_FLAG {
-        return Cond::IllEfc;
-    }
-    let Some(cell) = core.cell(p, efn) else {
-        return Cond::UnasEfc;
+    let cell = match named_flag(core, p, efn) {
+        Ok(cell) => cell,
+        Err(cond) => return cond,
     };
     let was = core.is_set(&cell);
     put_cell(core, cell, on);
@@ -85,12 +94,7 @@ pub fn readef<R: Routine>(core: &Core<R>, p: Pid, efn: u32) -> Result<(Cond, u32
     requires { IsProcess core.now.state p }
     ensures { DoesQuietly (readef core.now.state p efn) result core.now core.now }
 {
-    if efn > LAST_FLAG {
-        return Err(Cond::IllEfc);
-    }
-    let Some(cell) = core.cell(p, efn) else {
-        return Err(Cond::UnasEfc);
-    };
+    let cell = named_flag(core, p, efn)?;
     let cond = how_it_was(core.is_set(&cell));
     Ok((cond, core.flags_of(&cell)))
 }

@@ -9,7 +9,7 @@ ghost use Rattle.vx_procs.specs.Kernel.{Acts, Does, Fits};
 ghost use Rattle.vx_procs.specs.Ready.{HasSpares, IsReady};
 ghost use Rattle.vx_ctl.specs.Answers.{cond_of};
 
-use crate::flags::{LAST_FLAG, put_cell};
+use crate::flags::{named_flag, put_cell};
 use crate::refused::Refused;
 use vx_base::{Cond, Effect, Mode, Opened, Pid, Routine, outer_of};
 use vx_procs::{Core, drop_timers, timer_need};
@@ -77,17 +77,9 @@ pub fn setimr<R: Routine>(
     ensures does { Does (setimr core.old.state p efn delta (option_map R.tagged routine) reqid) (cond_of result) core.old core.new }
     ensures handed { IfErr result (λ refused. refused.ast ≡ routine) }
 {
-    if efn > LAST_FLAG {
-        return Err(Refused {
-            cond: Cond::IllEfc,
-            ast: routine,
-        });
-    }
-    let Some(cell) = core.cell(p, efn) else {
-        return Err(Refused {
-            cond: Cond::UnasEfc,
-            ast: routine,
-        });
+    let cell = match named_flag(core, p, efn) {
+        Ok(cell) => cell,
+        Err(cond) => return Err(Refused { cond, ast: routine }),
     };
     if core.exceeds(p, timer_need(routine.is_some())) {
         return Err(Refused {

@@ -9,9 +9,9 @@ ghost use Rattle.vx_procs.specs.Cells.{IsCell};
 ghost use Rattle.vx_procs.specs.Kernel.{DoesQuietly};
 ghost use Rattle.vx_record.specs.Sound.{WaitStands};
 ghost use Rattle.vx_procs.specs.Ready.{IsReady};
-ghost use Rattle.vx_ctl.specs.Answers.{wait_for_flags};
+ghost use Rattle.vx_ctl.specs.Answers.{awaited_on_flag};
 
-use crate::flags::LAST_FLAG;
+use crate::flags::named_flag;
 use vx_base::{Cell, Cond, Pid, Routine, Wait};
 use vx_procs::Core;
 use vx_record::Served;
@@ -78,18 +78,16 @@ pub fn awaited<R: Routine>(core: &mut Core<R>, p: Pid, wait: Wait) -> Served
     }
 }
 
-// A wait for flags of an event flag's cluster, by a mask: all of them, or any.
-fn wait_for_flags<R: Routine>(core: &mut Core<R>, p: Pid, efn: u32, mask: u32, all: bool) -> Served
-    requires { IsReady core.old p }
-    ensures { DoesQuietly (wait_for_flags core.old.state p efn mask all) result core.old core.new }
+/// A service that waits by an event flag's number: ILLEFC above 127, UNASEFC where the number names no flag, else as `awaited`.
+pub fn awaited_on_flag<R: Routine>(core: &mut Core<R>, p: Pid, efn: u32, wait: Wait) -> Served
+    requires made { IsProcess core.old.state p }
+    requires block { WaitStands wait }
+    ensures { DoesQuietly (awaited_on_flag core.old.state p efn wait) result core.old core.new }
 {
-    if efn > LAST_FLAG {
-        return Served::Answered(Cond::IllEfc);
+    match named_flag(core, p, efn) {
+        Ok(_) => awaited(core, p, wait),
+        Err(cond) => Served::Answered(cond),
     }
-    if core.cell(p, efn).is_none() {
-        return Served::Answered(Cond::UnasEfc);
-    }
-    awaited(core, p, Wait::Flags(efn, mask, all))
 }
 
 // The mask of one event flag in its cluster.
@@ -104,7 +102,7 @@ pub fn waitfr<R: Routine>(core: &mut Core<R>, p: Pid, efn: u32) -> Served
     requires { IsReady core.old p }
     ensures { DoesQuietly (waitfr core.old.state p efn) result core.old core.new }
 {
-    wait_for_flags(core, p, efn, mask_of(efn), false)
+    awaited_on_flag(core, p, efn, Wait::Flags(efn, mask_of(efn), false))
 }
 
 /// $WFLOR: waits for any flag of a mask, in an event flag's cluster, and refuses as $WAITFR does. If the mask is 0 it waits for ever.
@@ -112,7 +110,7 @@ pub fn wflor<R: Routine>(core: &mut Core<R>, p: Pid, efn: u32, mask: u32) -> Ser
     requires { IsReady core.old p }
     ensures { DoesQuietly (wflor core.old.state p efn mask) result core.old core.new }
 {
-    wait_for_flags(core, p, efn, mask, false)
+    awaited_on_flag(core, p, efn, Wait::Flags(efn, mask, false))
 }
 
 /// $WFLAND: waits for all flags of a mask, in an event flag's cluster, and refuses as $WAITFR does. If the mask is 0 it answers at once.
@@ -120,7 +118,7 @@ pub fn wfland<R: Routine>(core: &mut Core<R>, p: Pid, efn: u32, mask: u32) -> Se
     requires { IsReady core.old p }
     ensures { DoesQuietly (wfland core.old.state p efn mask) result core.old core.new }
 {
-    wait_for_flags(core, p, efn, mask, true)
+    awaited_on_flag(core, p, efn, Wait::Flags(efn, mask, true))
 }
 
 /// $HIBER: waits for a wake. Where one pends, it is used up and the call answers at once.

@@ -4,11 +4,7 @@ use Rattle.vx_base.specs.declared.effects.Effect.{Effect}
 use Rattle.vx_base.specs.declared.effects.Effect.TheVariants as effect
 use Rattle.vx_base.specs.declared.record.Rec.{Rec}
 
--- the place of a name among others, from 0; that of the first if it is not among them
-abbrev pub or_first : Option ℕ → ℕ
-or_first None = 0
-or_first (Some i) = i
-
+-- the place of a name among others, from 0
 abbrev pub place_of : List (List ℕ) → List ℕ → Option ℕ
 place_of names name = position (λ other. bytes_eq name other) names
 

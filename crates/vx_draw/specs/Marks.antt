@@ -1,5 +1,5 @@
 -- The marks of effects: of flags, messages, mailboxes, clusters, and of processes that begin and end.
-use Rattle.std.specs.Prelude.{ℕ, ◌+◌, ◌*◌, ◌%◌, ◌==◌, Bool, true, false, List, [], ◌∷◌, ◌++◌, codes, decimal, map, Option, Some, None, if◌then◌else◌}
+use Rattle.std.specs.Prelude.{ℕ, ◌+◌, ◌*◌, ◌%◌, ◌==◌, Bool, true, false, List, [], ◌∷◌, ◌++◌, codes, decimal, map, Option, Some, None, if◌then◌else◌, unwrap_or}
 use Rattle.vx_base.specs.declared.effects.Cell.{Cell}
 use Rattle.vx_base.specs.declared.effects.Cell.TheVariants as cell
 use Rattle.vx_base.specs.declared.effects.Effect.{Effect}
@@ -12,7 +12,7 @@ use Rattle.vx_base.specs.declared.record.Rec.{Rec}
 use Rattle.vx_base.specs.declared.service.Service.{Service}
 use Rattle.vx_base.specs.declared.service.Service.TheVariants as service
 use Rattle.vx_base.specs.Cond.{severity_of}
-use Rattle.vx_draw.specs.Boxes.{or_first, place_of}
+use Rattle.vx_draw.specs.Boxes.{place_of}
 use Rattle.vx_draw.specs.Columns.{deed_text}
 use Rattle.vx_draw.specs.Moves.{is_success, named_by, actor}
 use Rattle.vx_lines.specs.Records.{ended_lines, effect_line, id_text}
@@ -48,7 +48,7 @@ flag_mark places k (cell.Common group name n) bit = shared_mark places.clusters 
 
 -- a mark in a mailbox's column, so far from its start
 abbrev pub box_mark : Places → List (List ℕ) → List ℕ → ℕ → Figure → Bool → Mark
-box_mark places boxes name shift figure filled = shared_mark (box_x places (or_first (place_of boxes name)) + shift) figure filled
+box_mark places boxes name shift figure filled = shared_mark (box_x places (unwrap_or (place_of boxes name) 0) + shift) figure filled
 
 -- the mark of the k-th effect of a record, if it has one: what is written to a mailbox stands left of what is read
 abbrev pub mark_of : Places → List (List ℕ) → ℕ → Effect → Option Mark

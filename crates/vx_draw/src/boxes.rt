@@ -1,6 +1,6 @@
 //! The mailboxes of records, which have a column each.
 
-ghost use Rattle.std.specs.Prelude.{◌≡◌, OnOk, IfOk, []};
+ghost use Rattle.std.specs.Prelude.{◌≡◌, OnOk, IfOk, [], unwrap_or};
 ghost use Rattle.vx_draw.specs.Boxes as spec;
 
 use std::alloc::Global;
@@ -44,12 +44,9 @@ pub type Boxes = Register<BoxName>;
 
 /// The place of a mailbox, from 0; that of the first if it is not among them.
 pub fn box_place(boxes: &Boxes, name: Name) -> u32
-    ensures { result ≡ spec.or_first (spec.place_of boxes.now name) }
+    ensures { result ≡ unwrap_or (spec.place_of boxes.now name) 0 }
 {
-    match boxes.place(name) {
-        Some(place) => place,
-        None => 0,
-    }
+    boxes.place(name).unwrap_or(0)
 }
 
 fn add_name(boxes: &mut Boxes, name: Name) -> Result<(), NoMemory>

@@ -1,6 +1,6 @@
 -- Lines that are spelled are read.
 use mathlib.Core.Bool.{and_comm}
-use Rattle.std.proofs.Common.{◌≡◌, ℕ, ◌+◌, ◌≤◌, ◌==◌, not, Bool, true, false, cond, nat_le, nat_lt, List, [], ◌∷◌, ◌++◌, length, map, flat_map, find, codes, Option, Some, None, is_some, position, Result, Ok, bytes_eq, refl, sym, subst, ap, ◌∙◌, arith, append-nil, append_assoc, length-append}
+use Rattle.std.proofs.Common.{◌≡◌, ℕ, ◌+◌, ◌≤◌, ◌==◌, not, Bool, true, false, cond, nat_le, nat_lt, List, [], ◌∷◌, ◌++◌, length, map, flat_map, find, codes, Option, Some, None, is_some, position, Result, Ok, bytes_eq, refl, sym, subst, ap, ◌∙◌, arith, append-nil, append_assoc, length-append, unwrap_or}
 use Rattle.std.specs.List.{list_all, list_any}
 use Rattle.std.proofs.lemmas.Bool.{and_parts, and_from, or_parts, or_from, not_from_false, le-leb, lt-ltb, not-true}
 use Rattle.std.proofs.lemmas.List.{map-append, map_push, length-map}
@@ -21,7 +21,7 @@ use Rattle.vx_script.specs.Keys.{no_keys}
 use Rattle.vx_script.specs.Declarations.{decl_place, unused_name, unit_line, input_line, is_fault_of, fault_line, image_line, process_line}
 use Rattle.vx_script.specs.Places.{unit_place, image_place, label_place}
 use Rattle.vx_script.specs.Reading.{with_stmt, with_label, goes_on, going_on, inside, between_images, outside}
-use Rattle.vx_script.specs.Resolving.{names_no_label, first_unlabelled, place_or_zero, settled, image_of, with_image, creation_of, creations_of, decl_of}
+use Rattle.vx_script.specs.Resolving.{names_no_label, first_unlabelled, settled, image_of, with_image, creation_of, creations_of, decl_of}
 use Rattle.vx_script.specs.Statements.{stmt_of}
 use Rattle.vx_script.specs.declared.draft.Draft.{Draft}
 use Rattle.vx_script.specs.declared.draft.DraftImage.{DraftImage}
@@ -499,7 +499,7 @@ a_line_read s _ _ (a_process name image k ts keys set place settings once) tss i
     let read = settings_read ts keys set settings no_keys (record { none = none_has keys; apart = once }) in
     let d : DeclLine = record { line = line; name = name; image = image; keys = read.all } in
     let p = set (plain_decl name k) in
-    let is : decl_of s.images d ≡ p = ap (λ (o : Option ℕ). decl_with name (place_or_zero o) read.all) place ∙ read.sets name k in
+    let is : decl_of s.images d ≡ p = ap (λ (o : Option ℕ). decl_with name (unwrap_or o 0) read.all) place ∙ read.sets name k in
     let named : p.name ≡ name = ap (λ (q : ProcDecl). q.name) (sym is) in
     let there : is_some (image_place image s.images) ≡ true = ap (λ (o : Option ℕ). is_some o) place in
     let r = more (line + 1) (and_decl parts d) (with_known_decl s parts d known there) (decl_room parts d p items named rooms) in

@@ -1,5 +1,5 @@
 -- The lines that stand in no image: what is read of them is what the grammar says.
-use Rattle.std.proofs.Common.{◌≡◌, ℕ, true, List, [], ◌∷◌, length, drop, codes, Option, Some, None, is_some, Result, Ok, Err, refl, sym, subst, ap}
+use Rattle.std.proofs.Common.{◌≡◌, ℕ, true, List, [], ◌∷◌, length, drop, codes, Option, Some, None, is_some, Result, Ok, Err, refl, sym, subst, ap, unwrap_or}
 use Rattle.std.specs.List.{list_any}
 use Rattle.vx_image.specs.declared.decl.ProcDecl.{ProcDecl}
 use Rattle.vx_image.specs.declared.image.Image.{Image}
@@ -11,7 +11,7 @@ use Rattle.vx_script.specs.Fields.{end_at, name_at, number_at, text_at, room_for
 use Rattle.vx_script.specs.Keys.{no_keys, keys_from}
 use Rattle.vx_script.specs.Declarations.{decl_place, unused_name, unit_line, input_line, is_fault_of, fresh_fault, fault_line, image_line, process_line}
 use Rattle.vx_script.specs.Places.{unit_place, image_place}
-use Rattle.vx_script.specs.Resolving.{place_or_zero, decl_of}
+use Rattle.vx_script.specs.Resolving.{decl_of}
 use Rattle.vx_script.specs.declared.declaration.Device.{Device}
 use Rattle.vx_script.specs.declared.declaration.Device.TheVariants as device
 use Rattle.vx_script.specs.declared.draft.DraftImage.{DraftImage}
@@ -143,14 +143,14 @@ pub record ProcessSpelled (s : System) (ts : List Tok) (d : DeclLine) : Type 0 w
   pub is : decl_of s.images d ≡ decl
   pub line : Line s (tok.Word (codes "PROCESS") ∷ ts) (OfProcess decl)
 
-there : (o : Option ℕ) → is_some o ≡ true → o ≡ Some (place_or_zero o)
+there : (o : Option ℕ) → is_some o ≡ true → o ≡ Some (unwrap_or o 0)
 there None h = absurd (cc)
 there (Some k) h = refl
 
 process_by : (s : System) (line : ℕ) (ts : List Tok) (name image : List ℕ) (keys : Keys) → ts ≡ tok.Word name ∷ tok.Word image ∷ drop 2 ts → KeysStand no_keys (drop 2 ts) keys
     → is_some (image_place image s.images) ≡ true → ProcessSpelled s ts (record { line = line; name = name; image = image; keys = keys })
 process_by s line ts name image keys e k known =
-    let place = place_or_zero (image_place image s.images) in
+    let place = unwrap_or (image_place image s.images) 0 in
     record {
       decl = k.set (plain_decl name place);
       is = k.sets name place;

@@ -1,5 +1,5 @@
 -- Statements that are spelled are read.
-use Rattle.std.proofs.Common.{◌≡◌, ℕ, ◌≤◌, not, true, false, nat_le, List, [], ◌∷◌, length, codes, Option, Some, None, is_some, Ok, bytes_eq, refl, sym, ap, ◌∙◌}
+use Rattle.std.proofs.Common.{◌≡◌, ℕ, ◌≤◌, not, true, false, nat_le, List, [], ◌∷◌, length, codes, Option, Some, None, is_some, Ok, bytes_eq, refl, sym, ap, ◌∙◌, unwrap_or}
 use Rattle.std.specs.List.{list_all, list_any}
 use Rattle.std.proofs.lemmas.Bool.{and_parts, and_from, le-leb}
 use Rattle.vx_base.proofs.Any.{any_map}
@@ -27,7 +27,7 @@ use Rattle.vx_table.specs.Reading.{operand_of}
 use Rattle.vx_table.specs.Spelling.{operand_token, target_token}
 use Rattle.vx_script.specs.Fields.{is_sign, begins_with_sign, target_in}
 use Rattle.vx_script.specs.Reading.{with_stmt, going_on, inside}
-use Rattle.vx_script.specs.Resolving.{is_label, place_or_zero, settled, draft_names_none, arg_names_none, created_by, created_in}
+use Rattle.vx_script.specs.Resolving.{is_label, settled, draft_names_none, arg_names_none, created_by, created_in}
 use Rattle.vx_script.specs.Places.{label_place}
 use Rattle.vx_script.specs.Statements.{let_rest, let_stmt, goto_stmt, rel_name, rel_word, if_stmt, put_stmt, byte_stmt, field_name, field_word, iosb_stmt, return_stmt, local_stmt, called, stmt_of}
 use Rattle.vx_script.specs.declared.draft.Draft.{Draft}
@@ -197,7 +197,7 @@ stmt_reads decls image _ _ (let_difference v x y h k l) = record {
 stmt_reads decls image _ _ (goto_label name k h) = record {
   drafted = draft.Goto name;
   read = goto_back name;
-  settles = ap (λ (o : Option ℕ). stmt.Goto (place_or_zero o)) h;
+  settles = ap (λ (o : Option ℕ). stmt.Goto (unwrap_or o 0)) h;
   labels = there name image.labels k h;
   made = λ line. refl;
   alone = no_label (codes "GOTO") (tok.Word name ∷ []) refl refl;
@@ -205,7 +205,7 @@ stmt_reads decls image _ _ (goto_label name k h) = record {
 stmt_reads decls image _ _ (if_goto x r y name k h l p) = record {
   drafted = draft.If x r y name;
   read = if_back x r y name h l;
-  settles = ap (λ (o : Option ℕ). stmt.If x r y (place_or_zero o)) p;
+  settles = ap (λ (o : Option ℕ). stmt.If x r y (unwrap_or o 0)) p;
   labels = there name image.labels k p;
   made = λ line. refl;
   alone = no_label (codes "IF") (operand_token x ∷ tok.Word (rel_name r) ∷ operand_token y ∷ tok.Word (codes "GOTO") ∷ tok.Word name ∷ []) (operand_no_colon x) refl;

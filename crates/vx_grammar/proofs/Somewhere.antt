@@ -1,5 +1,5 @@
 -- What is read as a statement is spelled as one of some image, which has the labels that it names.
-use Rattle.std.proofs.Common.{◌≡◌, ℕ, ◌||◌, not, true, false, nat_lt, List, [], ◌∷◌, ◌++◌, map, Some, None, Ok, bytes_eq, refl, ap, ◌∙◌}
+use Rattle.std.proofs.Common.{◌≡◌, ℕ, ◌||◌, not, true, false, nat_lt, List, [], ◌∷◌, ◌++◌, map, Some, None, Ok, bytes_eq, refl, ap, ◌∙◌, unwrap_or}
 use Rattle.std.specs.List.{list_all}
 use Rattle.std.proofs.lemmas.Bool.{and_parts, and_from, or_right, or_left}
 use Rattle.std.proofs.lemmas.Result.{IfOk-at_ok}
@@ -17,7 +17,7 @@ use Rattle.vx_image.specs.declared.stmt.Stmt.{Stmt}
 use Rattle.vx_image.specs.declared.stmt.Stmt.TheVariants as stmt
 use Rattle.vx_image.specs.WellFormed.{is_among, has_its_label, has_its_decl, is_stmt, label_names}
 use Rattle.vx_text.specs.declared.token.Tok.{Tok}
-use Rattle.vx_script.specs.Resolving.{is_label, place_or_zero, settled, draft_names_none}
+use Rattle.vx_script.specs.Resolving.{is_label, settled, draft_names_none}
 use Rattle.vx_script.specs.Places.{label_place}
 use Rattle.vx_script.specs.Statements.{stmt_of}
 use Rattle.vx_script.specs.declared.draft.Draft.{Draft}
@@ -48,7 +48,7 @@ pub record SomeStatement (ts : List Tok) : Type 0 where
 its_label : (name : List ℕ) → is_label (label_of name ∷ []) name ≡ true
 its_label name = has_place (λ (l : Label). bytes_eq name l.name) (label_of name ∷ []) ∙ or_left (bytes_eq name name) false (same_bytes name)
 
-goes_there : (name : List ℕ) → nat_lt (place_or_zero (label_place name (label_of name ∷ []))) 1 ≡ true
+goes_there : (name : List ℕ) → nat_lt (unwrap_or (label_place name (label_of name ∷ [])) 0) 1 ≡ true
 goes_there name = placed (λ (l : Label). bytes_eq name l.name) (label_of name ∷ []) (its_label name)
 
 -- The labels of a call.

@@ -1,5 +1,5 @@
 -- Statements: what is read of their tokens is what the grammar says, and the other way round.
-use Rattle.std.proofs.Common.{◌≡◌, ℕ, not, true, false, cond, nat_lt, List, [], ◌∷◌, drop, codes, Option, Some, None, is_some, Result, Ok, Err, bytes_eq, refl, sym, subst, ap, ◌∙◌}
+use Rattle.std.proofs.Common.{◌≡◌, ℕ, not, true, false, cond, nat_lt, List, [], ◌∷◌, drop, codes, Option, Some, None, is_some, Result, Ok, Err, bytes_eq, refl, sym, subst, ap, ◌∙◌, unwrap_or}
 use Rattle.std.specs.List.{list_all}
 use Rattle.std.proofs.lemmas.Bool.{and_parts}
 use Rattle.vx_base.specs.declared.call.Call.{Call}
@@ -19,7 +19,7 @@ use Rattle.vx_table.specs.declared.fail.CallFail.{CallFail}
 use Rattle.vx_table.specs.Reading.{read_call, pieces}
 use Rattle.vx_table.specs.Spelling.{operand_token, target_token}
 use Rattle.vx_script.specs.Fields.{end_at, is_sign, sign_at, word_at, name_at, number_at, text_at, operand_at, target_at}
-use Rattle.vx_script.specs.Resolving.{place_or_zero, settled, draft_names_none}
+use Rattle.vx_script.specs.Resolving.{settled, draft_names_none}
 use Rattle.vx_script.specs.Places.{label_place}
 use Rattle.vx_script.specs.Statements.{let_rest, let_stmt, goto_stmt, rel_name, rel_in, rel_at, if_stmt, put_stmt, byte_stmt, field_name, field_in, field_at, iosb_stmt, return_stmt, local_stmt, called, stmt_of}
 use Rattle.vx_script.specs.declared.draft.Draft.{Draft}
@@ -88,7 +88,7 @@ let_spelled decls image tokens d h =
 
 -- GOTO and IF
 
-is_there : (o : Option ℕ) → not (is_some o) ≡ false → o ≡ Some (place_or_zero o)
+is_there : (o : Option ℕ) → not (is_some o) ≡ false → o ≡ Some (unwrap_or o 0)
 is_there None h = absurd (cc)
 is_there (Some k) h = refl
 

@@ -1,15 +1,15 @@
 -- What the tests of a request come to.
-use Rattle.std.proofs.Common.{◌≡◌, ℕ, ◌-◌, ◌≤◌, arith, List, [], ◌∷◌, Bool, true, false, cond, not, ◌||◌, nat_le, nat_lt, if◌then◌else◌, Option, Some, None, Result, Ok, Err, is_none, is_some, option_map, refl, ap, subst, sym, ◌∙◌}
+use Rattle.std.proofs.Common.{◌≡◌, ℕ, ◌-◌, arith, List, [], ◌∷◌, Bool, true, false, cond, not, ◌||◌, nat_le, nat_lt, if◌then◌else◌, Option, Some, None, Result, Ok, Err, is_none, is_some, option_map, refl, subst, sym}
 use Rattle.std.specs.List.{AllByRecursion, find, list_any}
 use Rattle.vx_base.specs.Channels.{channel_at, is_channel_number}
 use Rattle.vx_base.specs.Modes.{is_inner}
 use Rattle.vx_record.specs.Types.{Cell, Channel, Cond, Mode, Pid}
-use Rattle.vx_base.specs.declared.cond.Cond.TheVariants.{BadParam, IllEfc, IvChan, NoPriv}
+use Rattle.vx_base.specs.declared.cond.Cond.TheVariants.{IvChan, NoPriv}
 use Rattle.vx_record.specs.Channels.{channel_test, usable_in}
-use Rattle.vx_record.specs.Flags.{cell}
-use Rattle.vx_record.specs.Requests.{Asked, device_test, is_bad, on_cell, on_channel, request_test}
+use Rattle.vx_record.specs.Requests.{Asked, device_test, is_bad, request_test}
 use Rattle.vx_record.specs.Sound.{ChannelStands, DeviceStands, Ground, ground}
 use Rattle.vx_record.specs.State.{State, current, process_at}
+use Rattle.vx_ctl.specs.Answers.{named_flag}
 use Rattle.std.proofs.lemmas.Bool.{leb-false, leb-true, lt-ltb, ltb-true, false_from_ne_true}
 use Rattle.vx_record.proofs.Lists.{all_get}
 pub use Rattle.vx_record.proofs.Lists.{mapped_some}
@@ -59,9 +59,5 @@ not_within a b =
     ] refl
 
 -- The tests up to the channel's passed.
-pub tested : (s : State) (p : Pid) (q : Asked) (c : Cell) (ch : Channel) → is_bad q ≡ false → q.efn ≤ 127 → cell s p q.efn ≡ Some c → channel_test s p q.chan ≡ Ok ch → request_test s p q ≡ device_test s p q c ch
-tested s p q c ch good flag named chan =
-    ap (λ (b : Bool). if b then Err BadParam else (if nat_lt 127 q.efn then Err IllEfc else on_cell s p q (cell s p q.efn))) good
-    ∙ (ap (λ (b : Bool). if b then Err IllEfc else on_cell s p q (cell s p q.efn)) (false_from_ne_true (nat_lt 127 q.efn) (λ above. let e = ltb-true 127 q.efn above in omega (arith, flag, e)))
-    ∙ (ap (on_cell s p q) named
-    ∙ ap (on_channel (device_test s p q c)) chan))
+pub tested : (s : State) (p : Pid) (q : Asked) (c : Cell) (ch : Channel) → is_bad q ≡ false → Ok c ≡ named_flag s p q.efn → channel_test s p q.chan ≡ Ok ch → request_test s p q ≡ device_test s p q c ch
+tested s p q c ch good named chan = grind arith

@@ -14,7 +14,7 @@ ghost use Rattle.vx_procs.specs.Ready.{IsReady};
 ghost use Rattle.vx_io.specs.Asking.{AreOpen, IsGranted, IsInRange, asked, granted, to_device};
 
 use vx_base::{Cell, Cond, Device, Func, Mode, Pid, Routine};
-use vx_ctl::LAST_FLAG;
+use vx_ctl::named_flag;
 use vx_procs::{Core, is_attention};
 
 /// What a request asks ($QIO), but for its AST: event flag, channel, function, I/O status block (1 to 32, 0 for none), buffer (0 to
@@ -180,15 +180,7 @@ pub(crate) fn request_test<R: Routine>(
     if is_bad(ask, ast) {
         return Err(Cond::BadParam);
     }
-    if ask.efn > LAST_FLAG {
-        return Err(Cond::IllEfc);
-    }
-    let Some(cell) = core.cell(p, ask.efn) else {
-        return Err(Cond::UnasEfc);
-    };
-    let (device, mode) = match device_channel(core, p, ask.chan) {
-        Ok(found) => found,
-        Err(cond) => return Err(cond),
-    };
+    let cell = named_flag(core, p, ask.efn)?;
+    let (device, mode) = device_channel(core, p, ask.chan)?;
     device_test(core, p, ask, ast, Granted { cell, device, mode })
 }

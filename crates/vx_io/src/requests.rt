@@ -13,7 +13,7 @@ use crate::accept::accept;
 use crate::asking::{Asking, request_test};
 use crate::rooms::Rooms;
 use vx_base::{Cond, Pid, Routine, Wait};
-use vx_ctl::{LAST_FLAG, Refused, awaited};
+use vx_ctl::{Refused, awaited, awaited_on_flag};
 use vx_procs::Core;
 use vx_record::Served;
 
@@ -77,11 +77,5 @@ pub fn synch<R: Routine>(core: &mut Core<R>, p: Pid, efn: u32, iosb: u32) -> Ser
     if iosb > 32 {
         return Served::Answered(Cond::BadParam);
     }
-    if efn > LAST_FLAG {
-        return Served::Answered(Cond::IllEfc);
-    }
-    if core.cell(p, efn).is_none() {
-        return Served::Answered(Cond::UnasEfc);
-    }
-    awaited(core, p, Wait::Synch(efn, iosb))
+    awaited_on_flag(core, p, efn, Wait::Synch(efn, iosb))
 }

@@ -1,5 +1,5 @@
 -- An image that has ended, each of whose labels and process declarations is there, is well formed.
-use Rattle.std.proofs.Common.{◌≡◌, ◌∙◌, ℕ, Bool, true, false, not, ◌&&◌, nat_lt, nat_le, List, [], ◌∷◌, ◌++◌, length, map, find, Option, Some, None, bytes_eq, refl, sym, ap}
+use Rattle.std.proofs.Common.{◌≡◌, ◌∙◌, ℕ, Bool, true, false, not, ◌&&◌, nat_lt, nat_le, List, [], ◌∷◌, ◌++◌, length, map, find, Option, Some, None, bytes_eq, refl, sym, ap, unwrap_or}
 use Rattle.std.specs.List.{list_all}
 use Rattle.std.proofs.lemmas.Bool.{and_parts, and_from, not-true, not-false}
 use Rattle.vx_base.proofs.Any.{all_weaker, all_push, any_map}
@@ -14,7 +14,7 @@ use Rattle.vx_image.specs.declared.image.Label.{Label}
 use Rattle.vx_image.specs.declared.stmt.Stmt.{Stmt}
 use Rattle.vx_image.specs.declared.stmt.Stmt.TheVariants as stmt
 use Rattle.vx_image.specs.WellFormed.{is_among, are_distinct, falls_nowhere, label_names, label_places, has_its_label, has_its_decl, is_call_of, is_stmt}
-use Rattle.vx_script.specs.Resolving.{least_line, is_label, arg_names_none, call_names_none, draft_names_none, names_no_label, first_unlabelled, place_or_zero, settled, image_of, created_by, created_in, creation_of, creations_of}
+use Rattle.vx_script.specs.Resolving.{least_line, is_label, arg_names_none, call_names_none, draft_names_none, names_no_label, first_unlabelled, settled, image_of, created_by, created_in, creation_of, creations_of}
 use Rattle.vx_script.specs.Places.{label_place}
 use Rattle.vx_script.specs.declared.draft.Draft.{Draft}
 use Rattle.vx_script.specs.declared.draft.Draft.TheVariants as draft
@@ -42,7 +42,7 @@ has_label image (arg.Label None) h = refl
 has_label image _ h = refl
 
 label_is : (image : Image) (name : List ℕ) → not (is_label image.labels name) ≡ false
-    → nat_lt (place_or_zero (label_place name image.labels)) (length image.labels) ≡ true
+    → nat_lt (unwrap_or (label_place name image.labels) 0) (length image.labels) ≡ true
 label_is image name h = placed (λ (l : Label). bytes_eq name l.name) image.labels (not-false _ h)
 
 -- Process declarations.
@@ -82,7 +82,7 @@ settled_is : (decls : List (List ℕ)) (image : Image) (line : ℕ) (d : Draft) 
     → list_all (is_known decls) (created_in line d) ≡ true → is_stmt decls image (settled image.labels d) ≡ true
 settled_is decls image line (draft.Goto label) h labels known = label_is image label labels
 settled_is decls image line (draft.If x r y label) h labels known =
-    let k = place_or_zero (label_place label image.labels) in
+    let k = unwrap_or (label_place label image.labels) 0 in
     let operands = and_parts (is_operand x) (is_operand y) h in
     and_from (is_operand x) (is_operand y && nat_lt k (length image.labels)) operands.0
     (and_from (is_operand y) (nat_lt k (length image.labels)) operands.1 (label_is image label labels))

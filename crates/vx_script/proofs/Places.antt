@@ -1,9 +1,8 @@
 -- Where a name stands in a list.
-use Rattle.std.proofs.Common.{◌≡◌, ℕ, ◌+◌, ◌<◌, Bool, true, false, cond, ◌||◌, nat_lt, List, [], ◌∷◌, length, Option, Some, None, is_some, position, refl, ap, ◌∙◌}
+use Rattle.std.proofs.Common.{◌≡◌, ℕ, ◌+◌, ◌<◌, Bool, true, false, cond, ◌||◌, nat_lt, List, [], ◌∷◌, length, Option, Some, None, is_some, position, refl, ap, ◌∙◌, unwrap_or}
 use Rattle.std.specs.List.{list_any, position_from, position_or_len}
 use Rattle.std.proofs.lemmas.Bool.{ltb-true}
 use Rattle.std.proofs.lemmas.Iterator.Adapters.{position_from-zero}
-use Rattle.vx_script.specs.Resolving.{place_or_zero}
 use Rattle.vx_base.proofs.Bools.{either_by}
 
 some_from : {A : Type 0} (p : A → Bool) (i : ℕ) (xs : List A) → is_some (position_from p i xs) ≡ list_any p xs
@@ -19,9 +18,9 @@ pub has_place : {A : Type 0} (p : A → Bool) (xs : List A) → is_some (positio
 has_place p xs = ap (λ (o : Option ℕ). is_some o) (position_from-zero p xs) ∙ some_from p 0 xs
 
 -- a place that is there is below the length
-pub placed : {A : Type 0} (p : A → Bool) (xs : List A) → is_some (position p xs) ≡ true → nat_lt (place_or_zero (position p xs)) (length xs) ≡ true
+pub placed : {A : Type 0} (p : A → Bool) (xs : List A) → is_some (position p xs) ≡ true → nat_lt (unwrap_or (position p xs) 0) (length xs) ≡ true
 placed p xs =
-    either_by (λ (o : Option ℕ). is_some o ≡ true → nat_lt (place_or_zero o) (length xs) ≡ true) (nat_lt (position_or_len p xs) (length xs))
+    either_by (λ (o : Option ℕ). is_some o ≡ true → nat_lt (unwrap_or o 0) (length xs) ≡ true) (nat_lt (position_or_len p xs) (length xs))
     (Some (position_or_len p xs)) None (λ e h. e) (λ e h. cc)
 
 -- a place that is there is that of the first that passes

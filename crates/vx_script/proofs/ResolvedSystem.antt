@@ -1,6 +1,6 @@
 -- The system of parts that name nothing unknown is well formed.
 use mathlib.Core.List.{map-map}
-use Rattle.std.proofs.Common.{◌≡◌, ◌∙◌, ℕ, Bool, true, not, ◌||◌, ◌==◌, nat_lt, nat_le, List, [], ◌∷◌, length, map, find, Option, Some, None, is_some, is_none, bytes_eq, refl, sym, ap}
+use Rattle.std.proofs.Common.{◌≡◌, ◌∙◌, ℕ, Bool, true, not, ◌||◌, ◌==◌, nat_lt, nat_le, List, [], ◌∷◌, length, map, find, Option, Some, None, is_some, is_none, bytes_eq, refl, sym, ap, unwrap_or}
 use Rattle.std.specs.List.{list_all}
 use Rattle.std.proofs.lemmas.Bool.{and_parts, and_from}
 use Rattle.std.proofs.lemmas.List.{length-map}
@@ -12,7 +12,7 @@ use Rattle.vx_image.specs.declared.system.System.{System}
 use Rattle.vx_image.specs.WellFormed.{are_distinct, rises_above, is_unit, is_decl, decl_names}
 use Rattle.vx_script.specs.Declarations.{decl_place}
 use Rattle.vx_script.specs.Places.{image_place, rising}
-use Rattle.vx_script.specs.Resolving.{names_no_decl, unknown_creation, names_no_image, unknown_image, names_no_line_unit, unknown_input, unknown_fault, first_unknown, least_line, place_or_zero, inputs_of, numbers_of, unit_of, decl_of, system_of}
+use Rattle.vx_script.specs.Resolving.{names_no_decl, unknown_creation, names_no_image, unknown_image, names_no_line_unit, unknown_input, unknown_fault, first_unknown, least_line, inputs_of, numbers_of, unit_of, decl_of, system_of}
 use Rattle.vx_script.specs.declared.lines.Creation.{Creation}
 use Rattle.vx_script.specs.declared.lines.DeclLine.{DeclLine}
 use Rattle.vx_script.specs.declared.lines.InputLine.{InputLine}
@@ -35,7 +35,7 @@ there (Some k) h = refl
 decl_is : (images : List Image) (d : DeclLine) → are_keys d.keys ≡ true → not (names_no_image images d) ≡ true
     → is_decl (length images) (decl_of images d) ≡ true
 decl_is images d h k =
-    and_from (nat_lt (place_or_zero (image_place d.image images)) (length images)) (are_keys d.keys)
+    and_from (nat_lt (unwrap_or (image_place d.image images) 0) (length images)) (are_keys d.keys)
     (placed (λ (i : Image). bytes_eq d.image i.name) images (there (image_place d.image images) k)) h
 
 decls_are : (images : List Image) (ds : List DeclLine) → list_all (λ d. are_keys d.keys) ds ≡ true

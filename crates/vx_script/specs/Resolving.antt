@@ -57,15 +57,10 @@ names_no_label labels d = draft_names_none labels d.draft
 abbrev pub first_unlabelled : DraftImage → Option ℕ
 first_unlabelled image = option_map (λ d. d.line) (find (names_no_label image.labels) image.lines)
 
--- where a label stands among its image's; 0 where it is none, which is a fault
-abbrev pub place_or_zero : Option ℕ → ℕ
-place_or_zero None = 0
-place_or_zero (Some place) = place
-
--- the statement of a draft
+-- the statement of a draft; a label that is none, which is a fault, stands at 0
 abbrev pub settled : List Label → Draft → Stmt
-settled labels (draft.Goto label) = stmt.Goto (place_or_zero (label_place label labels))
-settled labels (draft.If x r y label) = stmt.If x r y (place_or_zero (label_place label labels))
+settled labels (draft.Goto label) = stmt.Goto (unwrap_or (label_place label labels) 0)
+settled labels (draft.If x r y label) = stmt.If x r y (unwrap_or (label_place label labels) 0)
 settled labels (draft.Plain s) = s
 
 abbrev pub image_of : DraftImage → Image
@@ -156,7 +151,7 @@ unit_of parts u = record { name = u.name; blocks = u.blocks; inputs = inputs_of 
 abbrev pub decl_of : List Image → DeclLine → ProcDecl
 decl_of images d = record {
   name = d.name;
-  image = place_or_zero (image_place d.image images);
+  image = unwrap_or (image_place d.image images) 0;
   group = (unwrap_or d.keys.uic first_uic).group;
   member = (unwrap_or d.keys.uic first_uic).member;
   mode = unwrap_or d.keys.mode User;

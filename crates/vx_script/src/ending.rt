@@ -1,6 +1,6 @@
 //! The end of an image: its labels are looked up.
 
-ghost use Rattle.std.specs.Prelude.{◌≡◌, ◌++◌, OnOk, IfOk, map};
+ghost use Rattle.std.specs.Prelude.{◌≡◌, ◌++◌, OnOk, IfOk, map, unwrap_or};
 ghost use Rattle.vx_base.specs.Services.{args_list};
 ghost use Rattle.vx_script.specs.Places.{label_place};
 ghost use Rattle.vx_script.specs.Resolving as spec;
@@ -102,13 +102,10 @@ fn push_creations(lines: &[DraftLine], creations: &mut Sequence<Creation>) -> Re
 }
 
 // Where a label stands; 0 where it is none, which is a fault.
-fn place_or_zero(labels: &Register<Label>, label: Name) -> u32
-    ensures { result ≡ spec.place_or_zero (label_place label labels.now) }
+fn label_number(labels: &Register<Label>, label: Name) -> u32
+    ensures { result ≡ unwrap_or (label_place label labels.now) 0 }
 {
-    match labels.place(label) {
-        Some(place) => place,
-        None => 0,
-    }
+    labels.place(label).unwrap_or(0)
 }
 
 // The statement of a draft.
@@ -116,8 +113,8 @@ fn settled(labels: &Register<Label>, draft: Draft) -> Stmt
     ensures { result ≡ spec.settled labels.now draft }
 {
     match draft {
-        Draft::Goto(label) => Stmt::Goto(place_or_zero(labels, label)),
-        Draft::If(x, rel, y, label) => Stmt::If(x, rel, y, place_or_zero(labels, label)),
+        Draft::Goto(label) => Stmt::Goto(label_number(labels, label)),
+        Draft::If(x, rel, y, label) => Stmt::If(x, rel, y, label_number(labels, label)),
         Draft::Plain(stmt) => stmt,
     }
 }

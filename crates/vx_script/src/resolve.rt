@@ -1,6 +1,6 @@
 //! The second pass: what the lines name is looked up, and the system is put together.
 
-ghost use Rattle.std.specs.Prelude.{◌≡◌, ◌++◌, [], OnOk, IfOk, map};
+ghost use Rattle.std.specs.Prelude.{◌≡◌, ◌++◌, [], OnOk, IfOk, map, unwrap_or};
 ghost use Rattle.std.specs.List.{list_any};
 ghost use Rattle.vx_script.specs.Resolving as spec;
 ghost use Rattle.vx_script.specs.Keys as setting;
@@ -201,12 +201,9 @@ fn decl_of(images: &Register<Image>, decl: &DeclLine) -> ProcDecl
 
 // Where an image stands; 0 where it is none, which is a fault.
 fn image_number(images: &Register<Image>, image: Name) -> u32
-    ensures { result ≡ spec.place_or_zero (image_place image images.now) }
+    ensures { result ≡ unwrap_or (image_place image images.now) 0 }
 {
-    match images.place(image) {
-        Some(place) => place,
-        None => 0,
-    }
+    images.place(image).unwrap_or(0)
 }
 
 fn decls_of(alloc: Global, parts: &Parts) -> Result<ProcDecls, NoMemory>
