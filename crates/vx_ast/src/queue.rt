@@ -92,7 +92,7 @@ impl<R: Routine> AstQueue<R> {
         }
     }
 
-    /// The AST that may start where the process runs in mode `current`, and `active` is the innermost mode with an active
+    /// The AST that may start if the process runs in mode `current`, and `active` is the innermost mode with an active
     /// AST: of the innermost mode that has one, the first. None exactly where there is none.
     pub fn deliverable(&self, current: Mode, active: Option<Mode>) -> Option<Id>
         ensures { result ≡ option_map (λ q. q.id) (deliverable self.now.enables current active self.now.items) }

@@ -33,7 +33,7 @@ found_first p (x ∷ xs) r h e =
       | false ↦ λ within is. found_first p xs r (omega arith) (is ∙ get_past x xs (position_or_len p xs) r)
     ] h e
 
--- where none passes
+-- if none passes
 none_first : {X : Type 0} (p : X → Bool) (xs : List X) → length xs ≤ position_or_len p xs → (None ≡ find p xs) × (xs ≡ less p xs)
 none_first p [] h = (refl, refl)
 none_first p (x ∷ xs) h =
@@ -70,7 +70,7 @@ found_passes p (y ∷ ys) x e =
       | false ↦ λ is found. found_passes p ys x found
     ] refl e
 
--- where none is found, none is taken out
+-- if none is found, none is taken out
 pub less_none : {X : Type 0} (p : X → Bool) (xs : List X) → find p xs ≡ None → less p xs ≡ xs
 less_none p [] e = refl
 less_none p (y ∷ ys) e =
@@ -106,11 +106,11 @@ amend_nowhere p g (x ∷ xs) e =
       | false ↦ λ found. ap (λ ys. x ∷ ys) (amend_nowhere p g xs found)
     ] e
 
--- where none passes, none is changed
+-- if none passes, none is changed
 pub amend_none : {X : Type 0} (p : X → Bool) (g : X → X) (xs : List X) → None ≡ position p xs → xs ≡ amend p g xs
 amend_none p g xs place = amend_nowhere p g xs (none_at p xs place).0
 
--- where the change leaves the one that is found as it was, it changes nothing
+-- if the change leaves the one that is found as it was, it changes nothing
 pub amend_same : {X : Type 0} (p : X → Bool) (g : X → X) (xs : List X) (x : X) → find p xs ≡ Some x → g x ≡ x → xs ≡ amend p g xs
 amend_same p g [] x e same = refl
 amend_same p g (y ∷ ys) x e same =

@@ -1,4 +1,4 @@
--- The channels of a process: at place n - 1 of a list stands channel n, None where it is free.
+-- The channels of a process: at place n - 1 of a list stands channel n, None if it is free.
 use Rattle.std.specs.Prelude.{ℕ, ◌+◌, ◌-◌, List, [], ◌∷◌, Bool, false, ◌&&◌, ◌==◌, nat_lt, nat_le, if◌then◌else◌, Option, Some, None, slice_index_or}
 use Rattle.std.specs.List.{find}
 use Rattle.vx_base.specs.Modes.{reaches}
@@ -12,7 +12,7 @@ use Rattle.vx_base.specs.declared.request.Device.TheVariants as device
 abbrev pub is_channel_number : ℕ → Bool
 is_channel_number n = nat_le 1 n && nat_le n 64
 
--- channel n, where it is assigned
+-- channel n, if it is assigned
 abbrev pub channel_at : List (Option Channel) → ℕ → Option Channel
 channel_at rows n = slice_index_or rows (n - 1) None
 

@@ -71,7 +71,7 @@ joined c p k group name = record {
 abbrev pub parted : Common → Pid → ℕ → Change
 parted c p k = record { effects = Clu p k None ∷ []; after = record c { associations = less (is_association p k) c.associations } }
 
--- $DACEFC: the association goes, and then the cluster where nobody has it and it is temporary or marked.
+-- $DACEFC: the association goes, and then the cluster if nobody has it and it is temporary or marked.
 
 abbrev pub swept_at : Common → Option Cluster → Change
 swept_at c None = unchanged c
@@ -87,7 +87,7 @@ dissociated_at c p k (Some a) = followed (parted c p k) (λ d. swept d a.group a
 abbrev pub dissociated : Common → Pid → ℕ → Change
 dissociated c p k = dissociated_at c p k (find (is_association p k) c.associations)
 
--- $ASCEFC: nothing where p has that cluster there already; else what it has there goes, the cluster is made where it is
+-- $ASCEFC: nothing if p has that cluster there already; else what it has there goes, the cluster is made if it is
 -- new, and p has it.
 
 abbrev pub has_already : ℕ → List ℕ → Option Association → Bool
@@ -102,7 +102,7 @@ associated c p k group name permanent =
     if has_already group name (find (is_association p k) c.associations) then unchanged c else
     followed (followed (dissociated c p k) (λ d. made_where_new d group name permanent)) (λ e. joined e p k group name)
 
--- $DLCEFC: a permanent cluster is marked, and goes where nobody has it; nothing else is changed.
+-- $DLCEFC: a permanent cluster is marked, and goes if nobody has it; nothing else is changed.
 
 abbrev pub with_mark : Cluster → Cluster
 with_mark cl = record cl { marked = true }

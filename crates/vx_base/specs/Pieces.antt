@@ -41,7 +41,7 @@ with_enable e Exec on = record e { exec = on }
 with_enable e Super on = record e { supervisor = on }
 with_enable e User on = record e { user = on }
 
--- An I/O status block: its condition, none where it is cleared, and two numbers.
+-- An I/O status block: its condition, none if it is cleared, and two numbers.
 pub record Status : Type 0 where
   pub cond : Option Cond
   pub count : ℕ
@@ -75,7 +75,7 @@ pub record Request : Type 0 where
   pub marked : Bool
 
 -- What falls due: a timer with its event flag, the identification that it can be cancelled by, its mode and its AST's
--- routine if it has one; or a wake of a process, again after so many ticks where these are not 0.
+-- routine if it has one; or a wake of a process, again after so many ticks if these are not 0.
 pub data Alarm : Type 0 where
   OfTimer : (efn reqid : ℕ) (mode : Mode) (tag : Option Entry) → Alarm
   OfWake : (target : Pid) (repeat : ℕ) → Alarm

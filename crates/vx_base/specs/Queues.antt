@@ -15,7 +15,7 @@ use Rattle.vx_base.specs.declared.request.Device.TheVariants as device
 
 -- ASTs.
 
--- no AST of this mode or an inner one is active, where the innermost mode with an active AST is given
+-- no AST of this mode or an inner one is active, if the innermost mode with an active AST is given
 abbrev pub is_free : Option Mode → Mode → Bool
 is_free None m = true
 is_free (Some active) m = is_inner m active
@@ -31,7 +31,7 @@ is_of_mode m q = rank q.mode == rank m
 abbrev pub is_ast_reached : Mode → Queued → Bool
 is_ast_reached m q = reaches q.mode m
 
--- the first of a mode, where one of that mode may start
+-- the first of a mode, if one of that mode may start
 abbrev pub first_of_mode : Enables → Mode → Option Mode → List Queued → Mode → Option Queued
 first_of_mode enables current active asts m = if may_start enables current active m then find (is_of_mode m) asts else None
 
@@ -62,7 +62,7 @@ waits_for u r = is_on u r && not r.served
 abbrev pub in_service : UnitNo → List Request → Option Request
 in_service u requests = find (is_served_by u) requests
 
--- the request that a unit would take next: the first that waits for it, and none where it serves one
+-- the request that a unit would take next: the first that waits for it, and none if it serves one
 abbrev pub front : UnitNo → List Request → Option Request
 front u requests = if list_any (is_served_by u) requests then None else find (waits_for u) requests
 

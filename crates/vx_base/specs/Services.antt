@@ -162,12 +162,12 @@ service_rows = map service_row all_services
 
 -- Arguments.
 
--- the number that one is, 0 where it is none
+-- the number that one is, 0 if it is none
 abbrev pub number : Arg → ℕ
 number (arg.Value (operand.Num n)) = n
 number _ = 0
 
--- the variable that one is, R0 where it is none
+-- the variable that one is, R0 if it is none
 abbrev pub place : Arg → Target
 place (arg.Target t) = t
 place _ = target.R0

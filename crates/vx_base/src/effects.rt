@@ -79,7 +79,7 @@ pub enum Effect {
         cell: Cell,
         bit: bool,
     },
-    /// An I/O status block, 1 to 32, was filled, or cleared where it has no condition.
+    /// An I/O status block, 1 to 32, was filled, or cleared if it has no condition.
     Iosb {
         p: Pid,
         i: u32,

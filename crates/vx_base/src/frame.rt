@@ -21,7 +21,7 @@ pub enum FrameKind {
 pub enum Wait {
     /// Flags of the cluster of an event flag number, by a mask of 32 bits: all of them, or any ($WAITFR, $WFLOR, $WFLAND).
     Flags(u32, u32, bool),
-    /// An event flag, and an I/O status block that is filled, none where its number is 0 ($SYNCH, $QIOW).
+    /// An event flag, and an I/O status block that is filled, none if its number is 0 ($SYNCH, $QIOW).
     Synch(u32, u32),
     /// A wake ($HIBER).
     Hiber,

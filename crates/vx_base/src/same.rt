@@ -13,7 +13,7 @@ pub trait Same {
         ensures { IsTrue result ↔ (self.now ≡ other.now) };
 }
 
-/// A type whose values can be copied where memory is found.
+/// A type whose values can be copied if memory is found.
 pub trait Duplicate: Drop {
     /// The same value again.
     fn duplicate(&self) -> Result<Self, NoMemory>

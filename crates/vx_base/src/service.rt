@@ -101,7 +101,7 @@ pub enum Kind {
     Func,
 }
 
-/// An argument that a service takes: its kind, and what stands for it where it is left out, if it may be.
+/// An argument that a service takes: its kind, and what stands in its place, if it may be left out.
 #[derive(Clone, Copy, Debug)]
 pub enum Param {
     /// It must be there.

@@ -1,4 +1,4 @@
--- The executive may go to another thread, where its routines may. A search alone does not find it: the rounds of timers reach
+-- The executive may go to another thread, if its routines may. A search alone does not find it: the rounds of timers reach
 -- themselves, and what the executive keeps has too many parts.
 use denote.RattleType.{RattleType}
 use denote.Model.Local.{Parts, rows}

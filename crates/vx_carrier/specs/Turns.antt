@@ -110,7 +110,7 @@ pub record SawEnd (plan : Plan) (seen : List Rec) (e : End) : Type 0 where
   pub run : IsRun plan.system seen
   pub ended : end plan seen ≡ Some e
 
--- where it has ended
+-- if it has ended
 abbrev pub AtEnd : Plan → Turn → List Rec → Type 0
 AtEnd plan (Ended e) seen = SawEnd plan seen e
 AtEnd plan other seen = Unit {0}

@@ -31,7 +31,7 @@ fn carried<Q: Wait, R: Routine, G: Gate, J: Naming>(
     seat
 }
 
-// What a run came to: its end, where it has ended and no unit is out.
+// What a run came to: its end, if it has ended and no unit is out.
 fn outcome<R: Routine, J: Naming>(
     exec: LeasingExec<R>,
     recs: Recs,
@@ -78,7 +78,7 @@ fn pool<Q: Threads + Wait + Sync, R: Routine + Send, G: Gate + Sync, J: Naming +
 }
 
 /// Takes a run of an executive before its first event to its end, by so many carriers at once, 1 to 16, and gives the executive after
-/// it, its records, and how it ended. The carriers choose which run it is. Where memory runs out there is none.
+/// it, its records, and how it ended. The carriers choose which run it is. If memory runs out there is none.
 pub fn run_pool<Q: Threads + Wait + Sync, R: Routine + Send, G: Gate + Sync>(
     rt: &Q,
     alloc: Global,

@@ -9,7 +9,7 @@ use Rattle.vx_base.specs.declared.request.Device.TheVariants as device
 use Rattle.vx_chans.specs.declared.chans.ChanFail.{ChanFail}
 use Rattle.vx_chans.specs.declared.chans.ChanFail.TheVariants.{IvChan, NoPriv, NoIoChan}
 
--- assigning answers the least free number, and NOIOCHAN where there is none
+-- assigning answers the least free number, and NOIOCHAN if there is none
 abbrev pub number_or_none : Option ℕ → Result ℕ ChanFail
 number_or_none None = Err NoIoChan
 number_or_none (Some n) = Ok n
@@ -23,11 +23,11 @@ with_channel rows (Some n) channel = slice_set rows (n - 1) (Some channel)
 abbrev pub without_channel : List (Option Channel) → ℕ → List (Option Channel)
 without_channel rows n = slice_set rows (n - 1) None
 
--- NOPRIV where it is free or further in than the mode that asks
+-- NOPRIV if it is free or further in than the mode that asks
 abbrev pub allowed : Mode → Option Channel → Result (Device × Mode) ChanFail
 allowed current None = Err NoPriv
 allowed current (Some channel) = if is_inner channel.mode current then Err NoPriv else Ok (channel.device, channel.mode)
 
--- IVCHAN where it is no number of a channel
+-- IVCHAN if it is no number of a channel
 abbrev pub found : List (Option Channel) → ℕ → Mode → Result (Device × Mode) ChanFail
 found rows n current = if is_channel_number n then allowed current (channel_at rows n) else Err IvChan

@@ -94,7 +94,7 @@ impl Chans {
     }
 
     /// Assigns the least free channel to a device, in a mode, and answers its number, 1 to 64 ($ASSIGN). NoIoChan, and
-    /// nothing changed, where none is free. Takes no memory.
+    /// nothing changed, if none is free. Takes no memory.
     #[tactic(auto, using(crate::proofs::Used::assigned_behind))]
     pub fn assign(&mut self, device: Device, mode: Mode) -> Result<u32, ChanFail>
         ensures answer { result ≡ number_or_none (least_free self.old) }
@@ -110,8 +110,8 @@ impl Chans {
         Ok(number)
     }
 
-    /// The device and the mode of a channel, for a process that runs in the current mode. IvChan where the number is not
-    /// 1 to 64; NoPriv where the channel is free, or its mode is further in than the current one.
+    /// The device and the mode of a channel, for a process that runs in the current mode. IvChan if the number is not
+    /// 1 to 64; NoPriv if the channel is free, or its mode is further in than the current one.
     pub fn find(&self, chan: u32, current: Mode) -> Result<(Device, Mode), ChanFail>
         ensures { result ≡ found self.now chan current }
     {
@@ -132,7 +132,7 @@ impl Chans {
         self.rows.len()
     }
 
-    /// The device of a channel, where it is assigned, whatever its mode.
+    /// The device of a channel, if it is assigned, whatever its mode.
     pub fn device(&self, chan: u32) -> Option<Device>
         requires { IsTrue (is_channel_number chan) }
         ensures { result ≡ option_map (λ ch. ch.device) (channel_at self.now chan) }

@@ -100,7 +100,7 @@ abbrev pub with_effect : Progress → Option Effect → Option Progress
 with_effect p None = None
 with_effect p (Some e) = if p.count == 0 then None else Some (record p { course = course_with p.course e })
 
--- A line: there is no progress where it is bad, and else it is that of what was read with the line.
+-- A line: there is no progress if it is bad, and else it is that of what was read with the line.
 abbrev pub FollowsLine : State → Executive → Option Progress → Option Reading → Type 0
 FollowsLine s now None o = o ≡ None
 FollowsLine s now (Some p) o = (r : Reading) × ((o ≡ Some r) × IsFollowing s now p r)

@@ -11,11 +11,11 @@ use Rattle.vx_check.specs.Verdict.{part_verdict}
 use Rattle.vx_check.specs.declared.verdict.Verdict.{Verdict}
 use Rattle.vx_check.specs.declared.verdict.Verdict.TheVariants.{Bad}
 
--- the limit of the executive: the number of records, but 1 where there is none, and at most 100,000
+-- the limit of the executive: the number of records, but 1 if there is none, and at most 100,000
 abbrev pub most_for : ℕ → ℕ
 most_for n = if n == 0 then 1 else (if nat_lt n 100000 then n else 100000)
 
--- how a run has ended behind so many records where that number is its limit, by how it has with the limit 100,000
+-- how a run has ended behind so many records if that number is its limit, by how it has with the limit 100,000
 abbrev pub end_for : ℕ → Option End → Option End
 end_for taken (Some end) = Some end
 end_for taken None = if taken == 0 then None else Some Limit
@@ -35,7 +35,7 @@ pub record IsWrongFrom (s : State) (recs : List Rec) (n : ℕ) : Type 0 where
   pub run : AreRun s before
   pub wrong : AreRun s (before ++ rec ∷ []) → ⊥
 
--- The verdict on records that are taken from a state on, and on what stands behind them: bad at the first that is wrong; and where
+-- The verdict on records that are taken from a state on, and on what stands behind them: bad at the first that is wrong; and if
 -- there is none, by the executive that has taken them.
 pub data JudgesRecords (s : State) (recs : List Rec) (part : Part) (trailer : List ℕ) (v : Verdict) : Type 0 where
   at_record : (n : ℕ) → IsWrongFrom s recs n → v ≡ Bad n → JudgesRecords s recs part trailer v

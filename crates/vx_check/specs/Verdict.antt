@@ -13,7 +13,7 @@ use Rattle.vx_journal.specs.declared.journal.Part.TheVariants.{Cut, Ended}
 use Rattle.vx_check.specs.declared.verdict.Verdict.{Verdict}
 use Rattle.vx_check.specs.declared.verdict.Verdict.TheVariants.{Complete, Hung, Limit, Prefix, Bad}
 
--- Where a record is not the machine's.
+-- If a record is not the machine's.
 
 -- The records before record n are a run of the system, and with record n they are none.
 pub record IsFirstWrong (system : System) (recs : List Rec) (n : ℕ) : Type 0 where
@@ -25,9 +25,9 @@ pub record IsFirstWrong (system : System) (recs : List Rec) (n : ℕ) : Type 0 w
   pub run : IsRun system before
   pub wrong : IsRun system (before ++ rec ∷ []) → ⊥
 
--- Where all of them are.
+-- If all of them are.
 
--- the limit by which n records are judged: their number, and 1 where there is none
+-- the limit by which n records are judged: their number, and 1 if there is none
 abbrev pub limit_for : ℕ → ℕ
 limit_for zero = 1
 limit_for (suc n) = suc n
@@ -53,7 +53,7 @@ run_verdict j = part_verdict (after j.system j.recs) (length j.recs) j.part j.tr
 
 -- The verdict.
 
--- bad at the first record that is not the machine's; and where there is none, by the part and the trailer
+-- bad at the first record that is not the machine's; and if there is none, by the part and the trailer
 pub data IsVerdict (j : Journal) (v : Verdict) : Type 0 where
   of_record : (n : ℕ) → IsFirstWrong j.system j.recs n → v ≡ Bad n → IsVerdict j v
   of_run : IsRun j.system j.recs → v ≡ run_verdict j → IsVerdict j v

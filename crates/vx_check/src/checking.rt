@@ -75,7 +75,7 @@ fn ended_verdict(end: End, n: u32) -> Verdict
     }
 }
 
-/// The verdict where all records are the machine's and the executive has taken them, and the run has ended so.
+/// The verdict if all records are the machine's and the executive has taken them, and the run has ended so.
 pub fn part_verdict(
     alloc: Global,
     exec: &Exec<Scripted>,

@@ -29,7 +29,7 @@ pub struct Progress {
     pub course: Course,
 }
 
-/// The number of the first record that is not the machine's, where the executive has taken so many; None if all are.
+/// The number of the first record that is not the machine's, if the executive has taken so many; None if all are.
 pub fn first_wrong_of(course: &Course, taken: u32) -> Option<u32>
     ensures right { result ≡ None → spec.IsRight course.now }
     ensures wrong { (n : ℕ) → result ≡ Some n → spec.IsWrong taken course.now n }

@@ -12,7 +12,7 @@ pub fn an_ended_text_is_the_transcript()
     ensures { EndedText }
 {}
 
-/// The transcript of a run that has ended is read as its journal, where numbers, names and bytes are such as the program's types
+/// The transcript of a run that has ended is read as its journal, if numbers, names and bytes are such as the program's types
 /// hold; and that is judged complete, hung or at its limit, as the run has ended.
 pub fn the_transcript_of_a_run_is_judged_by_its_end()
     ensures journal { RunJudged }

@@ -21,7 +21,7 @@ none = record { common = record { clusters = []; associations = [] }; cluster_ca
 abbrev pub with_clusters : Shared → List Cluster → Shared
 with_clusters s clusters = record s { common = record s.common { clusters = clusters } }
 
--- $ASCEFC: ILLEFC where the flag is of no common cluster; NOPRIV for a permanent cluster that is not there, without the
+-- $ASCEFC: ILLEFC if the flag is of no common cluster; NOPRIV for a permanent cluster that is not there, without the
 -- privilege
 abbrev pub associate_refusal : Common → ℕ → ℕ → List ℕ → Bool → Bool → Option AscFail
 associate_refusal c group efn name permanent may =
@@ -40,7 +40,7 @@ abbrev pub answer : Option AscFail → Result (Unit {0}) AscFail
 answer None = Ok tt
 answer (Some fail) = Err fail
 
--- a change, and none where there is a refusal
+-- a change, and none if there is a refusal
 abbrev pub unless : Option AscFail → Common → Change → Change
 unless None c change = change
 unless (Some fail) c change = unchanged c

@@ -67,8 +67,8 @@ impl Clusters {
     }
 
     /// A process has the cluster that it asks for as the cluster of a flag from 64 to 127, in place of what it had there;
-    /// the cluster is made where it is new ($ASCEFC). `may` is the privilege PRMCEB. IllEfc where the flag is
-    /// not from 64 to 127; NoPriv where a permanent cluster would be made without the privilege. Takes no memory.
+    /// the cluster is made if it is new ($ASCEFC). `may` is the privilege PRMCEB. IllEfc if the flag is
+    /// not from 64 to 127; NoPriv if a permanent cluster would be made without the privilege. Takes no memory.
     pub fn associate(
         &mut self,
         p: Pid,
@@ -93,7 +93,7 @@ impl Clusters {
     }
 
     /// A process has no cluster any more as the cluster of a flag from 64 to 127; a cluster that nobody has goes, but for
-    /// a permanent one that is not marked ($DACEFC). IllEfc where the flag is not from 64 to 127. Takes no memory.
+    /// a permanent one that is not marked ($DACEFC). IllEfc if the flag is not from 64 to 127. Takes no memory.
     pub fn dissociate(&mut self, p: Pid, efn: u32, log: &mut Effects) -> Result<(), AscFail>
         requires { HasRoom log.old (length (dissociate self.old.common p efn).effects) }
         ensures answer { result ≡ answer (dissociate_refusal efn) }
@@ -104,7 +104,7 @@ impl Clusters {
         Ok(())
     }
 
-    /// Marks a permanent cluster for deletion; it goes at once where nobody has it ($DLCEFC). `may` is the privilege
+    /// Marks a permanent cluster for deletion; it goes at once if nobody has it ($DLCEFC). `may` is the privilege
     /// PRMCEB: NoPriv without it. Takes no memory.
     pub fn mark(
         &mut self,
@@ -124,7 +124,7 @@ impl Clusters {
         Ok(())
     }
 
-    /// The place of the cluster that a process has associated for a flag: None where the flag is not from 64 to 127, or
+    /// The place of the cluster that a process has associated for a flag: None if the flag is not from 64 to 127, or
     /// nothing is associated there.
     pub fn resolve(&self, p: Pid, efn: u32) -> Option<u32>
         ensures place { result ≡ resolved self.now.common p efn }
@@ -192,7 +192,7 @@ impl Clusters {
     }
 }
 
-/// The number of a flag's common cluster, 2 or 3: None where the flag is not from 64 to 127.
+/// The number of a flag's common cluster, 2 or 3: None if the flag is not from 64 to 127.
 fn cluster_number(efn: u32) -> Option<u32>
     ensures { result ≡ (if is_common efn then Some (cluster_number efn) else None) }
 {

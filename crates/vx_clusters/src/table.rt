@@ -166,7 +166,7 @@ impl Table {
         });
     }
 
-    /// A cluster goes where nobody has it, and it is temporary or marked.
+    /// A cluster goes if nobody has it, and it is temporary or marked.
     fn sweep(&mut self, group: u32, name: Name, log: &mut Effects)
         requires { HasRoom log.old (length (swept self.old.common group name).effects) }
         ensures does { Does (swept self.old.common group name) self.old self.new log.old log.new }
@@ -198,7 +198,7 @@ impl Table {
         }
     }
 
-    /// A cluster is made where it does not stand.
+    /// A cluster is made if it does not stand.
     fn make_where_new(&mut self, ask: NewCluster, log: &mut Effects)
         requires room { length self.old.common.clusters < self.old.cluster_capacity }
         requires log { HasRoom log.old (length (made_where_new self.old.common ask.group ask.name ask.permanent).effects) }
@@ -264,7 +264,7 @@ impl Table {
         mark_at(&mut self.clusters, place);
     }
 
-    /// A permanent cluster is marked for deletion, and goes where nobody has it.
+    /// A permanent cluster is marked for deletion, and goes if nobody has it.
     pub(crate) fn mark(&mut self, group: u32, name: Name, log: &mut Effects)
         requires { HasRoom log.old (length (marked self.old.common group name).effects) }
         ensures { Does (marked self.old.common group name) self.old self.new log.old log.new }

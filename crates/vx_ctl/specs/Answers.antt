@@ -21,11 +21,11 @@ cond_of_clusters (Ok _) = Normal
 cond_of_clusters (Err fail.IllEfc) = IllEfc
 cond_of_clusters (Err fail.NoPriv) = NoPriv
 
--- the event flag that a number names: ILLEFC above 127, UNASEFC where it names none
+-- the event flag that a number names: ILLEFC above 127, UNASEFC if it names none
 abbrev pub named_flag : State → Pid → ℕ → Result Cell Cond
 named_flag s p efn = if nat_lt 127 efn then Err IllEfc else ok_or (cell s p efn) UnasEfc
 
--- $SETEF, or $CLREF where the flag is cleared
+-- $SETEF, or $CLREF if the flag is cleared
 abbrev pub put_flag : State → Pid → ℕ → Bool → Outcome Cond
 put_flag s p efn on = at_flag s p efn (refused s) (put_flag_at s on)
 

@@ -11,7 +11,7 @@ use crate::refused::Refused;
 use vx_base::{Cond, Effect, Mode, Opened, Pid, Routine, outer_of};
 use vx_procs::{Core, ast_need};
 
-/// $SETAST: enables AST delivery in the caller's mode, or disables it where the number is 0. Its condition tells how it was.
+/// $SETAST: enables AST delivery in the caller's mode, or disables it if the number is 0. Its condition tells how it was.
 pub fn setast<R: Routine>(core: &mut Core<R>, p: Pid, enb: u32) -> Cond
     requires ready { IsReady core.old p }
     requires room { Fits core.old (setast core.old.state p enb).effects }

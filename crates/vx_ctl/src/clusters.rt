@@ -22,8 +22,8 @@ fn cond_of_clusters(answer: Result<(), AscFail>) -> Cond
 }
 
 /// $ASCEFC: the caller has the cluster of its group and this name as the cluster of an event flag from 64 to 127, in place of what it had
-/// there. A cluster that is new is made, permanent if the number is not 0: ILLEFC where the flag is of no common cluster, NOPRIV
-/// where a permanent cluster would be made without PRMCEB.
+/// there. A cluster that is new is made, permanent if the number is not 0: ILLEFC if the flag is of no common cluster, NOPRIV
+/// if a permanent cluster would be made without PRMCEB.
 #[tactic(auto, using(crate::proofs::Common::associates))]
 pub fn ascefc<R: Routine>(core: &mut Core<R>, p: Pid, efn: u32, name: Name, perm: u32) -> Cond
     requires ready { IsReady core.old p }
@@ -44,7 +44,7 @@ pub fn dacefc<R: Routine>(core: &mut Core<R>, p: Pid, efn: u32) -> Cond
     cond_of_clusters(core.dissociate(p, efn))
 }
 
-/// $DLCEFC: marks a permanent cluster of the caller's group for deletion: NOPRIV without PRMCEB. It goes at once where nobody has it. A
+/// $DLCEFC: marks a permanent cluster of the caller's group for deletion: NOPRIV without PRMCEB. It goes at once if nobody has it. A
 /// temporary cluster stays as it is.
 #[tactic(auto, using(crate::proofs::Common::marks))]
 pub fn dlcefc<R: Routine>(core: &mut Core<R>, p: Pid, name: Name) -> Cond

@@ -49,7 +49,7 @@ fn may_control<R: Routine>(core: &Core<R>, p: Pid, q: Pid) -> bool
     p.0 == q.0 || (is_near && is_own) || (is_near && privs.group) || privs.world
 }
 
-/// The process test: NONEXPR where the number names no process that can be controlled, NOPRIV where the caller may not.
+/// The process test: NONEXPR if the number names no process that can be controlled, NOPRIV if the caller may not.
 pub fn process_test<R: Routine>(core: &Core<R>, p: Pid, n: u32) -> Result<Pid, Cond>
     requires { IsProcess core.now.state p }
     ensures test { result ≡ process_test core.now.state p n }
@@ -66,7 +66,7 @@ pub fn process_test<R: Routine>(core: &Core<R>, p: Pid, n: u32) -> Result<Pid, C
     }
 }
 
-/// $WAKE: a wake pends for the process that a number names, 0 for the caller: NONEXPR where there is no such process, NOPRIV where
+/// $WAKE: a wake pends for the process that a number names, 0 for the caller: NONEXPR if there is no such process, NOPRIV if
 /// the caller may not control it.
 pub fn wake<R: Routine>(core: &mut Core<R>, p: Pid, n: u32) -> Cond
     requires { IsReady core.old p }
@@ -109,7 +109,7 @@ pub fn resume<R: Routine>(core: &mut Core<R>, p: Pid, n: u32) -> Cond
     }
 }
 
-// $FORCEX, where its tests are passed.
+// $FORCEX, if its tests are passed.
 fn force<R: Routine>(core: &mut Core<R>, p: Pid, q: Pid, code: u32) -> Cond
     requires ready { IsReady core.old p }
     requires target { IsProcess core.old.state q }

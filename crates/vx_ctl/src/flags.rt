@@ -21,7 +21,7 @@ pub(crate) fn how_it_was(on: bool) -> Cond
     if on { Cond::WasSet } else { Cond::WasClr }
 }
 
-/// The event flag that a number names for a process: ILLEFC above 127, UNASEFC where the number names no flag.
+/// The event flag that a number names for a process: ILLEFC above 127, UNASEFC if the number names no flag.
 pub fn named_flag<R: Routine>(core: &Core<R>, p: Pid, efn: u32) -> Result<Cell, Cond>
     requires { IsProcess core.now.state p }
     ensures { result ≡ named_flag core.now.state p efn }
@@ -70,7 +70,7 @@ fn put_flag<R: Routine>(core: &mut Core<R>, p: Pid, efn: u32, on: bool) -> Cond
     how_it_was(was)
 }
 
-/// $SETEF: sets an event flag. Its condition tells how the flag was: ILLEFC above 127, UNASEFC where the number names no
+/// $SETEF: sets an event flag. Its condition tells how the flag was: ILLEFC above 127, UNASEFC if the number names no
 /// flag.
 pub fn setef<R: Routine>(core: &mut Core<R>, p: Pid, efn: u32) -> Cond
     requires ready { IsReady core.old p }

@@ -47,7 +47,7 @@ fn refuse<R>(routine: R) -> Result<Cond, Refused<R>>
     })
 }
 
-/// $CMEXEC: enters a routine in executive mode, or in kernel mode where the caller is there: NOPRIV where the caller is
+/// $CMEXEC: enters a routine in executive mode, or in kernel mode if the caller is there: NOPRIV if the caller is
 /// further out and has neither CMEXEC nor CMKRNL. A refusal hands the routine back.
 #[tactic(auto, using(crate::proofs::Inward::inner_reached))]
 pub fn cmexec<R: Routine>(core: &mut Core<R>, p: Pid, routine: R) -> Result<Cond, Refused<R>>
@@ -64,7 +64,7 @@ pub fn cmexec<R: Routine>(core: &mut Core<R>, p: Pid, routine: R) -> Result<Cond
     Ok(Cond::Normal)
 }
 
-/// $CMKRNL: enters a routine in kernel mode: NOPRIV where the caller is in user or supervisor mode and has no CMKRNL. A
+/// $CMKRNL: enters a routine in kernel mode: NOPRIV if the caller is in user or supervisor mode and has no CMKRNL. A
 /// refusal hands the routine back.
 #[tactic(auto, using(crate::proofs::Inward::kernel_reached))]
 pub fn cmkrnl<R: Routine>(core: &mut Core<R>, p: Pid, routine: R) -> Result<Cond, Refused<R>>

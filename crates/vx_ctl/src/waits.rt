@@ -43,7 +43,7 @@ fn is_synchronized<R: Routine>(core: &Core<R>, p: Pid, cell: &Cell, iosb: u32) -
     core.is_set(cell) && (iosb == 0 || core.is_filled(p, iosb))
 }
 
-/// The condition with which a wait of a process ends now: UNASEFC where its number names no flag any more, else NORMAL; None where it
+/// The condition with which a wait of a process ends now: UNASEFC if its number names no flag any more, else NORMAL; None if it
 /// is not satisfied.
 pub fn wait_condition<R: Routine>(core: &Core<R>, p: Pid, wait: Wait) -> Option<Cond>
     requires made { IsProcess core.now.state p }
@@ -63,7 +63,7 @@ pub fn wait_condition<R: Routine>(core: &Core<R>, p: Pid, wait: Wait) -> Option<
     }
 }
 
-/// A service that waits answers at once where its wait is satisfied, and else leaves the wait in the top frame.
+/// A service that waits answers at once if its wait is satisfied, and else leaves the wait in the top frame.
 pub fn awaited<R: Routine>(core: &mut Core<R>, p: Pid, wait: Wait) -> Served
     requires made { IsProcess core.old.state p }
     requires block { WaitStands wait }
@@ -78,7 +78,7 @@ pub fn awaited<R: Routine>(core: &mut Core<R>, p: Pid, wait: Wait) -> Served
     }
 }
 
-/// A service that waits by an event flag's number: ILLEFC above 127, UNASEFC where the number names no flag, else as `awaited`.
+/// A service that waits by an event flag's number: ILLEFC above 127, UNASEFC if the number names no flag, else as `awaited`.
 pub fn awaited_on_flag<R: Routine>(core: &mut Core<R>, p: Pid, efn: u32, wait: Wait) -> Served
     requires made { IsProcess core.old.state p }
     requires block { WaitStands wait }
@@ -97,7 +97,7 @@ fn mask_of(efn: u32) -> u32
     1u32 << (efn % 32)
 }
 
-/// $WAITFR: waits for an event flag: ILLEFC above 127, UNASEFC where the number names no flag. If the flag is set it answers at once.
+/// $WAITFR: waits for an event flag: ILLEFC above 127, UNASEFC if the number names no flag. If the flag is set it answers at once.
 pub fn waitfr<R: Routine>(core: &mut Core<R>, p: Pid, efn: u32) -> Served
     requires { IsReady core.old p }
     ensures { DoesQuietly (waitfr core.old.state p efn) result core.old core.new }
@@ -121,7 +121,7 @@ pub fn wfland<R: Routine>(core: &mut Core<R>, p: Pid, efn: u32, mask: u32) -> Se
     awaited_on_flag(core, p, efn, Wait::Flags(efn, mask, true))
 }
 
-/// $HIBER: waits for a wake. Where one pends, it is used up and the call answers at once.
+/// $HIBER: waits for a wake. If one pends, it is used up and the call answers at once.
 pub fn hiber<R: Routine>(core: &mut Core<R>, p: Pid) -> Served
     requires { IsReady core.old p }
     ensures { DoesQuietly (hiber core.old.state p) result core.old core.new }

@@ -11,7 +11,7 @@ use vx_base::{Cond, Effect, Opened, Pid, Routine};
 use vx_procs::{Core, ast_need, drop_timers};
 use vx_timers::{What, Which};
 
-// $SCHDWK, where the process test is passed.
+// $SCHDWK, if the process test is passed.
 fn schedule<R: Routine>(core: &mut Core<R>, p: Pid, q: Pid, delta: u32, repeat: u32) -> Cond
     requires ready { IsReady core.old p }
     requires target { IsProcess core.old.state q }
@@ -34,7 +34,7 @@ fn schedule<R: Routine>(core: &mut Core<R>, p: Pid, q: Pid, delta: u32, repeat: 
 }
 
 /// $SCHDWK: schedules a wake, so many ticks ahead, of the process that a number names, 0 for the caller, and again after so many
-/// ticks where these are not 0: it refuses as $WAKE does, and with EXQUOTA beyond the caller's limit of ASTs.
+/// ticks if these are not 0: it refuses as $WAKE does, and with EXQUOTA beyond the caller's limit of ASTs.
 #[tactic(auto, using(crate::proofs::Told::told_none))]
 pub fn schdwk<R: Routine>(core: &mut Core<R>, p: Pid, n: u32, delta: u32, repeat: u32) -> Cond
     requires ready { IsReady core.old p }

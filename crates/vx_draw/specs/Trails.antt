@@ -29,7 +29,7 @@ followed_text class x y id trails = if nat_lt (id.0 - 1) (length trails) then li
 abbrev pub followed : ℕ → ℕ → Id → List Trail → List Trail
 followed x y id trails = if nat_lt (id.0 - 1) (length trails) then slice_set trails (id.0 - 1) (record (trail_at trails id) { x = x; y = y }) else trails
 
--- what is drawn where something is told of an id
+-- what is drawn if something is told of an id
 abbrev pub tale_text : List ℕ → ℕ → ℕ → Tale → List Trail → List ℕ
 tale_text class x y tale.Nothing trails = []
 tale_text class x y (tale.Opened id mode forces) trails = []

@@ -21,7 +21,7 @@ pub record IsChosen (n : ℕ) (s : State) (r : Run State) : Type 0 where
   pub within : length r.picks ≤ n
   pub stops : (length r.picks ≡ n) ⊎ (enabled r.last ≡ [])
 
--- where nothing is enabled
+-- if nothing is enabled
 chosen_none : (n : ℕ) (s : State) → enabled s ≡ [] → IsChosen (suc n) s (no_steps s)
 chosen_none n s none = record {
   steps = rw is_empty tt;

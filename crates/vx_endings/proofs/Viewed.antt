@@ -11,7 +11,7 @@ module _ {S T : Type 0} (enabled : S → ℕ) (after : S → ℕ → S) (seen_en
   abbrev pub seen_run : Run S → Run T
   seen_run r = record { picks = r.picks; last = view r.last }
 
-  -- The view is right where steps are left.
+  -- The view is right if steps are left.
   pub record IsViewed (HasLeft : ℕ → S → Type 0) : Type 1 where
     pub count : (n : ℕ) (s : S) → HasLeft (suc n) s → enabled s ≡ seen_enabled (view s)
     pub step : (s : S) (i : ℕ) → view (after s i) ≡ seen_after (view s) i

@@ -11,7 +11,7 @@ use Rattle.vx_endings.specs.declared.ending.RunEnding.{RunEnding}
 use Rattle.vx_trailer.specs.Outcome.{outcome_text}
 use Rattle.vx_endings.specs.Interleavings.{all_runs}
 
--- A run stops where no event is enabled, and every process is deleted or not; or something is enabled, and the limit stops it.
+-- A run stops if no event is enabled, and every process is deleted or not; or something is enabled, and the limit stops it.
 
 abbrev pub end_by : Bool → List Event → End
 end_by deleted [] = if deleted then Done else Hung

@@ -16,7 +16,7 @@ abbrev pub setting : ℕ → List Stmt
 setting zero = calls Exit 7 ∷ []
 setting (suc n) = calls SetEf 1 ∷ setting n
 
--- a process of the image, with each key as it is where its line names none
+-- a process of the image, with each key as it is if its line names none
 abbrev pub usual_process : List ℕ → ProcDecl
 usual_process name = record {
   name = name;

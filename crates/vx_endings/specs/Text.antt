@@ -32,7 +32,7 @@ abbrev pub rows_text : ℕ → List (Found RunEnding) → List ℕ
 rows_text n [] = []
 rows_text n (row ∷ rows) = row_text n row ++ rows_text (n + 1) rows
 
--- how the last line begins where all endings are told
+-- how the last line begins if all endings are told
 unfoldable pub complete_words : List ℕ
 complete_words = codes "explore complete limit"
 

@@ -144,7 +144,7 @@ queued pr = record pr { asts = ast 3 mode.User 1 ∷ ast 4 mode.Super 2 ∷ ast 
 pub deliverable-innermost : deliverable_ast (with (queued somebody)) (process 1) ≡ Some (ast 4 mode.Super 2)
 deliverable-innermost = refl
 
--- where that mode is disabled, the next one outward
+-- if that mode is disabled, the next one outward
 pub deliverable-disabled :
     deliverable_ast (with (record (queued somebody) { enables = record all_on { supervisor = false } }))
     (process 1) ≡
@@ -183,7 +183,7 @@ deliverable-over = refl
 pub deliverable-inner_active : deliverable_ast (with (queued (within mode.Super somebody))) (process 1) ≡ None
 deliverable-inner_active = refl
 
--- also where a routine in an inner mode runs above the active AST
+-- also if a routine in an inner mode runs above the active AST
 pub deliverable-changed :
     deliverable_ast (with
     (record (calling mode.Kernel (within mode.Super somebody)) { asts = ast 4 mode.Super 2 ∷ [] })) (process 1) ≡

@@ -121,7 +121,7 @@ pub crembx-large_quota :
     Refuses alone (call service.CreMbx (mailbox (codes "A") (codes "BOX") 0 5 65536 mode.Kernel)) cond.BadParam
 crembx-large_quota = refl
 
--- the sizes are tested also where the mailbox is there
+-- the sizes are tested also if the mailbox is there
 pub crembx-found_size :
     Refuses (boxed alone (Some empty_box ∷ None ∷ []))
     (call service.CreMbx (mailbox (codes "A") (codes "BOX") 0 0 5 mode.Kernel)) cond.BadParam

@@ -61,7 +61,7 @@ pub wake-by_world :
     Answers (with_both with_world member_2) wake_other cond.Normal [] (with_both with_world (woken member_2))
 wake-by_world = refl
 
--- another group wants WORLD, also where the member is the same
+-- another group wants WORLD, also if the member is the same
 abbrev group_2 : Process
 group_2 = record somebody { group = 2 }
 
@@ -180,7 +180,7 @@ pub creprc-outer :
     { decl = 0 } ∷ []
 creprc-outer = refl
 
--- 1,000 were made: also where they are deleted
+-- 1,000 were made: also if they are deleted
 abbrev many : ℕ → State
 many n = with_all (somebody ∷ replicate n (record somebody { phase = phase.Deleted; frames = [] }))
 
@@ -191,7 +191,7 @@ creprc-no_slot = refl
 pub creprc-last : Comes (many 998) (call service.CrePrc (variable (codes "A") ∷ named (codes "Q") ∷ [])) cond.Normal
 creprc-last = refl
 
--- each privilege only where both have it
+-- each privilege only if both have it
 
 abbrev all_privs : Privs
 all_privs = record { cmexec = true; cmkrnl = true; group = true; prmceb = true; prmmbx = true; world = true }

@@ -35,7 +35,7 @@ with_ast pr = record pr {
       [];
 }
 
--- an AST that may start comes before what the process would run, also where it waits
+-- an AST that may start comes before what the process would run, also if it waits
 pub enabled-ast :
     enabled (with_both (with_ast (waiting wait.Hiber)) (with_ast somebody)) ≡ event.Ast (process 1) ∷ event.Ast
     (process 2) ∷ []
@@ -65,7 +65,7 @@ enabled-satisfied = refl
 pub enabled-unnamed : enabled (with (waiting (wait.Synch 64 1))) ≡ event.Run (process 1) ∷ []
 enabled-unnamed = refl
 
--- rundown: not where it is deleted, and not where a mode is drained that has an outstanding request
+-- rundown: not if it is deleted, and not if a mode is drained that has an outstanding request
 
 abbrev leaving : Phase → Process
 leaving ph = record somebody { frames = []; phase = ph }
@@ -311,7 +311,7 @@ pub run-local : step (running counts alone) (event.Run (process 1)) ≡ record {
 }
 run-local = refl
 
--- A loop of two statements, and a call behind it: where it takes the 1,000 statements, the call is left for the next
+-- A loop of two statements, and a call behind it: if it takes the 1,000 statements, the call is left for the next
 -- RUN.
 
 abbrev loops : List Stmt

@@ -190,7 +190,7 @@ wait_condition-unnamed = refl
 pub synchronized-unnamed : wait_condition alone (process 1) (wait.Synch 64 1) ≡ Some cond.UnasEfc
 synchronized-unnamed = refl
 
--- a flag alone, where no status block is named
+-- a flag alone, if no status block is named
 pub synchronized-flag :
     wait_condition (with (record somebody { cluster_0 = 32 })) (process 1) (wait.Synch 5 0) ≡ Some cond.Normal
 synchronized-flag = refl

@@ -153,7 +153,7 @@ pub eof-taken :
     0 0 ∷ flag 1 1 true ∷ []
 eof-taken = refl
 
--- A read takes the oldest message, and then its write finishes where it is held.
+-- A read takes the oldest message, and then its write finishes if it is held.
 
 abbrev read_own : Func → Call
 read_own func = call service.Qio (request 1 (value 3) func 1 no_routine 0 1 3 0)
@@ -215,7 +215,7 @@ pub read-writer :
     fin 2 cond.Normal ∷ status 2 1 cond.Normal 4 0 ∷ flag 2 1 true ∷ que 2 ∷ []
 read-writer = refl
 
--- A read where nothing is stored: READ waits, READNOW finds an end of file; then each READATTN entry fires, in id
+-- A read if nothing is stored: READ waits, READNOW finds an end of file; then each READATTN entry fires, in id
 -- order.
 
 abbrev own_read : Func → Request

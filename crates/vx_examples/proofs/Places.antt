@@ -38,6 +38,6 @@ limited-end = refl
 pub missing : IsMissing script (0 ∷ 1 ∷ 1 ∷ 1 ∷ []) 10 4 1
 missing = record { going = refl; next = refl; count = refl }
 
--- where the run has ended before, no place is asked for
+-- if the run has ended before, no place is asked for
 pub not_asked : end_after script (picked script (0 ∷ 1 ∷ 1 ∷ 1 ∷ []) 3) 3 ≡ Some end.Limit
 not_asked = refl

@@ -134,7 +134,7 @@ pub qio-read_fits :
     Comes with_stored (call service.Qio (request 1 (value 3) func.Read 0 no_routine 0 0 4 0)) cond.Normal
 qio-read_fits = refl
 
--- where a read waits the message is not stored: the quota of the mailbox is not asked
+-- if a read waits the message is not stored: the quota of the mailbox is not asked
 pub qio-read_waits :
     Comes (record online {
       boxes = Some (record (box_holding []) { bufquo = 3; maxmsg = 9 }) ∷ None ∷ [];

@@ -1,4 +1,4 @@
--- Exit handlers are entered newest first, each once, also where $EXIT is called within an AST or a handler.
+-- Exit handlers are entered newest first, each once, also if $EXIT is called within an AST or a handler.
 use Rattle.std.specs.Prelude.{◌≡◌, refl, List, [], ◌∷◌, codes, Some}
 use Rattle.vx_base.specs.declared.cond.Cond.TheVariants as cond
 use Rattle.vx_base.specs.declared.effects.Opened.TheVariants as opened

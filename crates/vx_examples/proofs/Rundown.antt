@@ -47,7 +47,7 @@ pub rundown-handler :
     }
 rundown-handler = refl
 
--- Where none of user mode is left, what was opened in that mode goes, and the handlers of the next inner mode follow:
+-- If none of user mode is left, what was opened in that mode goes, and the handlers of the next inner mode follow:
 -- channels are cancelled, timers and the wakes that the process scheduled are dropped; then the channels are freed,
 -- the queued ASTs of that mode are dropped, and the common clusters are dissociated.
 

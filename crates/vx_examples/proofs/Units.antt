@@ -122,8 +122,8 @@ pub don-marked :
     }
 don-marked = refl
 
--- The parts of finish that may be absent: the status block where none is named, the flag where its number names no
--- cell now, the AST where there is one.
+-- The parts of finish that may be absent: the status block if none is named, the flag if its number names no
+-- cell now, the AST if there is one.
 
 abbrev finishes : Request → State
 finishes r = at_lines (codes "AB" ∷ []) [] 0 (record online { requests = served r ∷ [] })

@@ -1,4 +1,4 @@
--- Runs along given events, where these are not those that a seed chooses.
+-- Runs along given events, if these are not those that a seed chooses.
 use Rattle.std.specs.Prelude.{ℕ, List, [], ◌∷◌, Bool, true, false, ◌&&◌, ◌==◌, map}
 use Rattle.std.specs.List.{list_any}
 use Rattle.vx_record.specs.Types.{Contents, Event, Rec, System}

@@ -45,7 +45,7 @@ deleted_goes p s q =
     let first = frames_fall q s named_for_deletion (grind arith) in
     ends_goes _ (run_most s p) (omega (arith, first.alike.handlers, at_most s.procs (q.0 - 1))) (falls_then 0 0 n (length (process_at t q).handlers) first (handlers_fall q any_handler t)).ends
 
--- a process is made, where there are fewer than 1,000
+-- a process is made, if there are fewer than 1,000
 created_goes : (p : Pid) (s : State) (t : Target) (place : ℕ) → GoesBy p s (with_number p t (creprc s p place))
 created_goes p s t place = grind (arith, nat_tests, length-set {A = Process}, length-append {A = Process})
 

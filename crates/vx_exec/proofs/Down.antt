@@ -100,7 +100,7 @@ down_most s p ms = length ms * heavy s p (length ms) + length (process_at s p).h
 made_stays : (p : Pid) (s t : State) → Stays s t → IsProcess s p → IsProcess t p
 made_stays p s t k made = record { above = made.above; within = omega (arith, made.within, k.procs) }
 
--- a mode, and those that follow where it gives no answer
+-- a mode, and those that follow if it gives no answer
 then_ends : (p : Pid) (n : ℕ) (s : State) (ms : List Mode) (o : Outcome (Option Answer)) → n ≤ load s p → Falls p (length s.requests) n s (part_of o) → Ends (down_most o.after p ms) o.after (part_of (run_down p ms o.after)) → Ends (load s p + length ms * heavy s p (suc (length ms)) + length (process_at s p).handlers + length s.timers + 1) s (part_of (then_on o (run_down p ms)))
 then_ends p n s ms o few one rest = by o.answer
   where

@@ -22,7 +22,7 @@ use Rattle.vx_base.specs.Lists.{first}
 
 -- Each event that is enabled is the one of its process or its unit, or time's.
 
--- it is the event of a process or of a unit that is there, or time's, where there are timers
+-- it is the event of a process or of a unit that is there, or time's, if there are timers
 abbrev pub IsAbled : State → Event → Type 0
 IsAbled s (event.Run p) = IsProcess s p × (process_events s p ≡ event.Run p ∷ [])
 IsAbled s (event.Ast p) = IsProcess s p × (process_events s p ≡ event.Ast p ∷ [])

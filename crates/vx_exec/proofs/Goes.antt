@@ -26,7 +26,7 @@ pub record Goes (bound : ℕ) (s t : State) (told : List Effect) : Type 0 where
   pub services : (u : UnitNo) → (unit_at t u).services ≤ (unit_at s u).services + 1
   pub few : length told ≤ bound
 
--- how much a process tells at most where it runs
+-- how much a process tells at most if it runs
 abbrev pub run_most : State → Pid → ℕ
 run_most s p = deepest s.procs + length (process_at s p).frames + length s.timers + length (process_at s p).handlers + 6 * length s.requests + 2 * length s.attention + 15
 

@@ -125,7 +125,7 @@ set_moved k l p store place set there =
 pub call_made : (k l : Kernel) (p : Pid) (c : Call) (s : Served) → IsSet k p → Does (service k.state p c) s k l → IsProcess l.state p
 call_made k l p c s set did = grind (arith, call_goes)
 
--- The top frame goes on, where it waits for nothing.
+-- The top frame goes on, if it waits for nothing.
 
 goes_from : (s : State) (p : Pid) (fs : List Frame) (f : Frame) → Some f ≡ first fs → None ≡ f.wait → run s p fs ≡ run_advanced s p (advanced_from (image_of s p) p (process_at s p).store fs)
 goes_from s p fs f top none = grind arith

@@ -1,4 +1,4 @@
--- What a seed picks of a list of events, and the seed after it: the seed moves where there is an event to pick.
+-- What a seed picks of a list of events, and the seed after it: the seed moves if there is an event to pick.
 use Rattle.std.specs.Prelude.{ℕ, List, [], ◌∷◌, Option, Some, None}
 use Rattle.vx_record.specs.Types.{Event}
 use Rattle.vx_record.specs.Runs.{next_seed, pick}

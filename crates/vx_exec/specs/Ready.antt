@@ -29,12 +29,12 @@ pub record IsSet (k : Kernel) (p : Pid) : Type 0 where
   pub handler_ids : IsTrue (handlers_have_own_ids (process_at k.state p).handlers)
   pub all_handler_ids : (q : Pid) → IsProcess k.state q → IsTrue (handlers_have_own_ids (process_at k.state q).handlers)
 
--- where a service is called, its statement is one of at most 10,000, and its arguments are of their kinds
+-- if a service is called, its statement is one of at most 10,000, and its arguments are of their kinds
 abbrev pub IsCallAt : ℕ → Stop → Type 0
 IsCallAt place (stop.Call c) = (place < 10000) × IsTrue (is_call c)
 IsCallAt place _ = ⊤
 
--- What an event of a process relies on where it runs or an AST starts: its frames wait for status blocks that it has, and no two of its
+-- What an event of a process relies on if it runs or an AST starts: its frames wait for status blocks that it has, and no two of its
 -- queued ASTs have one id.
 pub record IsNext (k : Kernel) (p : Pid) : Type 0 where
   pub set : IsSet k p
@@ -116,7 +116,7 @@ IsRoomMade k (event.Beg u) = IsPrepared k u × (k.log.items ≡ [])
 IsRoomMade k (event.Don u) = ⊤
 IsRoomMade k other = HasRoomFor k other
 
--- there is spare room for the bytes of a request, where a process runs
+-- there is spare room for the bytes of a request, if a process runs
 abbrev pub HasRooms : Event → Room → Type 0
 HasRooms (event.Run p) rooms = AreFull rooms
 HasRooms other rooms = ⊤

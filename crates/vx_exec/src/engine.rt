@@ -28,7 +28,7 @@ pub(crate) struct Engine<R: Routine> {
 }
 
 impl<R: Routine> Engine<R> {
-    /// Takes an enabled event: gives its answer, and tells its effects. Where memory is short, nothing has changed. A DON needs none, and
+    /// Takes an enabled event: gives its answer, and tells its effects. If memory is short, nothing has changed. A DON needs none, and
     /// never fails.
     pub(crate) fn take(&mut self, event: Event) -> Result<Answer, NoMemory>
         requires on { IsOn self.old }
@@ -50,7 +50,7 @@ impl<R: Routine> Engine<R> {
         Ok(answer)
     }
 
-    /// Takes an enabled event, and gives its record. Where memory is short, nothing has changed. A DON needs none, and never fails.
+    /// Takes an enabled event, and gives its record. If memory is short, nothing has changed. A DON needs none, and never fails.
     pub(crate) fn step(&mut self, event: Event) -> Result<Rec, NoMemory>
         requires on { IsOn self.old }
         requires enabled { Contains (enabled self.old.core.state) event }

@@ -173,7 +173,7 @@ pub(crate) fn count<R: Routine>(core: &Core<R>) -> u32
     }
 }
 
-// TICK, if it is enabled, where it is the event at a place.
+// TICK, if it is enabled and is the event at a place.
 fn tick_at<R: Routine>(core: &Core<R>, place: u32) -> Option<Event>
     ensures { result ≡ slice_get (tick_events core.now.state.timers) place }
 {

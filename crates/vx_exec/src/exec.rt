@@ -158,7 +158,7 @@ impl<R: Routine> Exec<R> {
         is_enabled(&self.engine.core, event)
     }
 
-    /// The enabled event that the seed picks, and the seed moves: where nothing is enabled there is none, and the seed
+    /// The enabled event that the seed picks, and the seed moves: if nothing is enabled there is none, and the seed
     /// stays.
     #[tactic(auto, using(crate::proofs::Enabled::pick_there))]
     pub fn pick(&self, seed: &mut Seed) -> Option<Event>
@@ -174,7 +174,7 @@ impl<R: Routine> Exec<R> {
         enabled_at(&self.engine.core, next.index(n))
     }
 
-    /// Takes an enabled event, and gives its record. Where memory is short, nothing has changed. A DON needs none, and never fails.
+    /// Takes an enabled event, and gives its record. If memory is short, nothing has changed. A DON needs none, and never fails.
     pub fn step(&mut self, event: Event) -> Result<Rec, NoMemory>
         requires enabled { Contains (enabled self.old.state) event }
         requires going { end_of self.old.limit self.old.taken self.old.state ≡ None }
@@ -186,7 +186,7 @@ impl<R: Routine> Exec<R> {
         self.engine.step(event)
     }
 
-    /// Takes an enabled event as `step` does, and gives no record: the room for its effects serves the next event. Where memory is short,
+    /// Takes an enabled event as `step` does, and gives no record: the room for its effects serves the next event. If memory is short,
     /// nothing has changed. A DON needs none, and never fails.
     pub fn advance(&mut self, event: Event) -> Result<(), NoMemory>
         requires enabled { Contains (enabled self.old.state) event }

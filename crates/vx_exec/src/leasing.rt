@@ -82,7 +82,7 @@ impl<R: Routine> LeasingExec<R> {
         first_open(&self.engine.core)
     }
 
-    /// Takes an enabled event, as `Exec::step` does, and gives its record. Where memory is short, nothing has changed. A DON needs none,
+    /// Takes an enabled event, as `Exec::step` does, and gives its record. If memory is short, nothing has changed. A DON needs none,
     /// and never fails; it ends the service of a unit that is home or back.
     pub fn step(&mut self, event: Event) -> Result<Rec, NoMemory>
         requires enabled { Contains (enabled self.old.exec.state) event }

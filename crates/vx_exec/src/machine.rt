@@ -176,7 +176,7 @@ fn deliver<R: Routine>(core: &mut Core<R>, p: Pid) -> Answer
     Answer::Ast(id)
 }
 
-/// Does an event, with the spare room for the bytes of a request where a process runs. Takes no memory.
+/// Does an event, with the spare room for the bytes of a request if a process runs. Takes no memory.
 pub(crate) fn step<R: Routine>(core: &mut Core<R>, event: Event, rooms: &mut Rooms) -> Answer
     requires ready { IsReadyFor core.old event }
     requires rooms { HasRooms event rooms.old }

@@ -15,7 +15,7 @@ use vx_base::{Event, NoMemory, Routine, UnitNo};
 use vx_io::Rooms;
 use vx_procs::Core;
 
-// A count that an event's effects do not exceed; None where 32 bits do not count them.
+// A count that an event's effects do not exceed; None if 32 bits do not count them.
 fn most<R: Routine>(core: &Core<R>, event: Event) -> Option<u32>
     requires { HasOwner core.now.state event }
     ensures { IfSome result (λ n. most core.now.state event ≤ n) }
@@ -77,7 +77,7 @@ pub(crate) fn make_rooms(alloc: Global, rooms: &mut Rooms, event: Event) -> Resu
     }
 }
 
-/// Makes room for an event. A BEG is given what the end of its service needs, so a DON needs nothing, and cannot fail. Where
+/// Makes room for an event. A BEG is given what the end of its service needs, so a DON needs nothing, and cannot fail. If
 /// memory is short, no state shows it.
 pub(crate) fn make_room<R: Routine>(core: &mut Core<R>, event: Event) -> Result<(), NoMemory>
     requires { HasOwner core.old.state event }

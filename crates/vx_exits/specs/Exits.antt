@@ -29,7 +29,7 @@ abbrev pub handed_or : {R E : Type 0} → (R → Entry) → Result (Id × R) E �
 handed_or tag (Ok x) = Ok (handed tag x)
 handed_or tag (Err e) = Err e
 
--- NOHANDLER where there is none
+-- NOHANDLER if there is none
 abbrev pub or_no_handler : Option (Id × Entry) → Result (Id × Entry) ExitFail
 or_no_handler None = Err NoHandler
 or_no_handler (Some x) = Ok x

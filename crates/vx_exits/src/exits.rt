@@ -74,7 +74,7 @@ impl<R: Routine> Exits<R> {
         Ok(())
     }
 
-    /// Takes out the newest handler of a mode that has a tag ($CANEXH). NoHandler, and nothing changed, where there is
+    /// Takes out the newest handler of a mode that has a tag ($CANEXH). NoHandler, and nothing changed, if there is
     /// none.
     pub fn cancel(&mut self, mode: Mode, tag: Entry) -> Result<(Id, R), ExitFail>
         ensures answer { handed_or R.tagged result ≡ or_no_handler (option_map known (find (is_handler_with mode tag) self.old.items)) }

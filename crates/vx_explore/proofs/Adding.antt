@@ -44,7 +44,7 @@ range_with_len-more : (n : ℕ) → range_with_len 0 (n + 1) ≡ range_with_len 
 range_with_len-more n = ap (range_with_len 0) (add-one n) ∙ range_from-more 0 n ∙ ap (λ k. range_with_len 0 n ++ k ∷ []) (omega arith)
 
 module _ {S : Type 0} (enabled : S → ℕ) (after : S → ℕ → S) (origin : S → S) where
-  -- where k steps lead to all of a level, one more leads to all of the next
+  -- if k steps lead to all of a level, one more leads to all of the next
   pub led_next : {now next : List S} → AreNext enabled after origin now next
       → (k : ℕ) (s : S) → All (Leads enabled after k s) now → All (Leads enabled after (suc k) s) next
   led_next {now} {next} a k s all = All-from (Leads enabled after (suc k) s) next (λ t h.

@@ -1,4 +1,4 @@
--- Two lists are one where they are one from behind.
+-- Two lists are one if they are one from behind.
 use Rattle.std.proofs.Common.{◌≡◌, List, reverse, ap, sym, ◌∙◌}
 use Rattle.std.proofs.lemmas.List.{reverse-reverse}
 

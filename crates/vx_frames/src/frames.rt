@@ -84,7 +84,7 @@ impl Frames {
         self.items.pop()
     }
 
-    /// The mode of the innermost active AST: None where no frame is an AST's.
+    /// The mode of the innermost active AST: None if no frame is an AST's.
     #[tactic(auto, using(crate::proofs::Active::active_find, crate::proofs::Active::inmost_active))]
     pub fn active_ast_mode(&self) -> Option<Mode>
         ensures mode { result ≡ active_mode self.now.items }

@@ -109,7 +109,7 @@ pub none_moves : (line : ℕ) (t : Bool) (os ps : List (Option ℕ)) → Moves l
 none_moves line _ _ _ (marks ts os fills) e h = none_marked line ts os e h
 none_moves line _ _ _ (ends a b os) e h = (ap (λ (x : Option ℕ). least_line x b) h.0 ∙ h.1.0, (refl, h.1.1))
 
--- where the line is marked
+-- if the line is marked
 from_mark : (line : ℕ) (t : Bool) (o : Option ℕ) → o ≡ None → From line (mark line t o)
 from_mark line true None h = omega arith
 from_mark line true (Some k) h = absurd (cc)

@@ -123,7 +123,7 @@ labels_both k (Does s ∷ front) said =
 abbrev settle : Image → DraftLine → Stmt
 settle i d = settled i.labels d.draft
 
--- an image to which all this is said becomes another, where it is to be this one
+-- an image to which all this is said becomes another, if it is to be this one
 record Grows (decls : List (List ℕ)) (i : Image) (image more : DraftImage) (said : List Said) : Type 0 where
   name : more.name ≡ image.name
   labels : more.labels ≡ image.labels ++ labels_in (length image.lines) said

@@ -192,7 +192,7 @@ body_as line parts image decls i _ _ (labelled_line name ts s h) new = labelled_
 as_declared : (line : ℕ) (parts : Parts) (current : Option DraftImage) (ts : List Tok) (d e : Declared) → d ≡ e → ReadAs line parts current ts d → ReadAs line parts current ts e
 as_declared line parts current ts d e same r = record { next = r.next; read = r.read; same = r.same ∙ same }
 
--- no image, where one is not ended, and the other way round
+-- no image, if one is not ended, and the other way round
 not_both : (image : DraftImage) (parts : Parts) (d : Declared) → declared_by parts (Some image) ≡ d → d.image ≡ None → ⊥
 not_both image parts d e h = let k : Some (open_of image) ≡ None = ap (λ (x : Declared). x.image) e ∙ h in cc
 

@@ -35,7 +35,7 @@ not_none : (o : Option ℕ) → not (is_none o) ≡ is_some o
 not_none None = refl
 not_none (Some k) = refl
 
--- a name has a place where it is among the names
+-- a name has a place if it is among the names
 placed_among : {A : Type 0} (name : A → List ℕ) (n : List ℕ) (xs : List A) → is_some (position (λ x. bytes_eq n (name x)) xs) ≡ is_among n (map name xs)
 placed_among name n xs = has_place (λ x. bytes_eq n (name x)) xs ∙ sym (any_map (bytes_eq n) name xs)
 

@@ -471,7 +471,7 @@ key_token (tok.Sign s) k h = absurd (cc)
 key_token (tok.Service n) k h = absurd (cc)
 key_token (tok.Quote b) k h = absurd (cc)
 
--- tokens are keys, which give this where those stand already
+-- tokens are keys, which give this if those stand already
 pub record KeysStand (keys : Keys) (tokens : List Tok) (all : Keys) : Type 0 where
   pub ks : List Key
   pub set : ProcDecl → ProcDecl

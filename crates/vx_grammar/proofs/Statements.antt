@@ -32,7 +32,7 @@ use Rattle.vx_grammar.proofs.Calls.{call_spelled, joined_pieces}
 use Rattle.vx_base.proofs.Texts.{bytes_are}
 use Rattle.vx_base.proofs.Bools.{either_by}
 
--- What is read is spelled: where the names are there, and the statement is in range.
+-- What is read is spelled: if the names are there, and the statement is in range.
 
 abbrev Spelled : List (List ℕ) → Image → List Tok → Draft → Type 0
 Spelled decls image ts d = draft_names_none image.labels d ≡ false → is_stmt decls image (settled image.labels d) ≡ true → Statement decls image ts (settled image.labels d)

@@ -76,7 +76,7 @@ lines_cut _ _ (returned_line line text lines h more) = returned_cut line text h 
 one_byte : (b : ℕ) (line : List ℕ) → (b == 10) ≡ false → IsFeedless line → IsFeedless (b ∷ line)
 one_byte b line h k = and_from (no_feed b) (list_all no_feed line) (not_from_false (b == 10) h) k
 
--- where a byte is put in front, the line still ends in no return
+-- if a byte is put in front, the line still ends in no return
 still_no : (b : ℕ) (line text : List ℕ) → ((b == 13) && begins_with 10 (line ++ 10 ∷ text)) ≡ false → ((front : List ℕ) → line ≢ front ++ 13 ∷ []) → (front : List ℕ) → b ∷ line ≢ front ++ 13 ∷ []
 still_no b [] text h unreturned [] e =
     let b_is : b ≡ 13 = cc in

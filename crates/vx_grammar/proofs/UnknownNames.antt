@@ -69,7 +69,7 @@ failed_at fin fs = option_map (λ (f : FaultLine). f.line) (find (names_no_unit 
 abbrev gone_to : List Label → List DraftLine → Option ℕ
 gone_to labels ds = option_map (λ (d : DraftLine). d.line) (find (names_no_label labels) ds)
 
--- the first lines that name what is not there, kind by kind, where this is all that is read
+-- the first lines that name what is not there, kind by kind, if this is all that is read
 abbrev pub firsts : Parts → Parts → Option DraftImage → List (Option ℕ)
 firsts fin p None = p.unlabelled ∷ None ∷ made_at fin p.creations ∷ run_at fin p.decls ∷ fed_at fin p.inputs ∷ failed_at fin p.faults ∷ []
 firsts fin p (Some image) =
@@ -106,7 +106,7 @@ none_some : (o : Option ℕ) → is_none o ≡ not (is_some o)
 none_some None = refl
 none_some (Some k) = refl
 
--- a name has no place where it is not among the names
+-- a name has no place if it is not among the names
 nowhere : {A : Type 0} (name : A → List ℕ) (n : List ℕ) (xs : List A) (o : Option ℕ) → is_some o ≡ list_any (λ x. bytes_eq n (name x)) xs → not (is_among n (map name xs)) ≡ is_none o
 nowhere name n xs o e = ap not (any_map (bytes_eq n) name xs ∙ sym e) ∙ sym (none_some o)
 

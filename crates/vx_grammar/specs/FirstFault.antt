@@ -52,7 +52,7 @@ pub record NotEnded (lines : List (List ℕ)) (number : ℕ) : Type 0 where
   pub not_ended : declared.image ≡ Some image
   pub place : number ≡ length lines + 1
 
--- Lines each of which fits behind those before it and names what is there, where lines declare all this.
+-- Lines each of which fits behind those before it and names what is there, if lines declare all this.
 pub data AllKnown (all : Declared) : List (List ℕ) → Declared → Type 0 where
   none_known : AllKnown all [] nothing_declared
   one_known : (lines : List (List ℕ)) (line : List ℕ) (tokens : List Tok) (d e : Declared) → AllKnown all lines d → tokens_of line ≡ Ok tokens → Fits d tokens e

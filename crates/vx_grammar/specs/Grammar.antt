@@ -54,7 +54,7 @@ minus = Sign 45
 
 -- Calls.
 
--- What stands for an argument: a token of its kind; or nothing, where the service's row has a default.
+-- What stands for an argument: a token of its kind; or nothing, if the service's row has a default.
 pub data Argument : Param → List Tok → Arg → Type 0 where
   stands : (p : Param) (a : Arg) → IsTrue (is_of_kind (kind_of p) a) → Argument p (arg_token a ∷ []) a
   left_out : (k : Kind) (default : Arg) → Argument (Optional k default) [] default
@@ -73,7 +73,7 @@ between_commas [] = []
 between_commas (piece ∷ []) = piece
 between_commas (piece ∷ second ∷ more) = piece ++ comma ∷ between_commas (second ∷ more)
 
--- Statements of an image, where the script has process declarations of these names.
+-- Statements of an image, if the script has process declarations of these names.
 pub data Statement (decls : List (List ℕ)) (image : Image) : List Tok → Stmt → Type 0 where
   -- LET v = x
   let_value : (v : Target) (x : Operand) → IsTrue (is_target v) → IsTrue (is_operand x)
@@ -133,7 +133,7 @@ stmts_in [] = []
 stmts_in (Names label ∷ said) = stmts_in said
 stmts_in (Does s ∷ said) = s ∷ stmts_in said
 
--- the labels, in order, each with the number of statements before it, where so many stand before them all
+-- the labels, in order, each with the number of statements before it, if so many stand before them all
 abbrev pub labels_in : ℕ → List Said → List Label
 labels_in place [] = []
 labels_in place (Names label ∷ said) = record { name = label; place = place } ∷ labels_in place said

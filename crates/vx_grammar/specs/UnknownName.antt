@@ -1,4 +1,4 @@
--- A line that names what is not there, where all lines of a script declare `all`.
+-- A line that names what is not there, if all lines of a script declare `all`.
 use Rattle.std.specs.Prelude.{ℕ, not, Bool, false, ◌||◌, List, [], ◌∷◌, drop, codes, Option, Some, None, Result, Ok, bytes_eq, if◌then◌else◌}
 use Rattle.std.specs.List.{list_any}
 use Rattle.vx_base.specs.Services.{args_list}

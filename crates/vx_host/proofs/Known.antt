@@ -21,7 +21,7 @@ Consumes-front left copied rest n short e =
     let front : take n (copied ++ rest) ≡ copied = grind (arith, common_steps, long) in
     rw (front, e) (sym (take-append-drop n left))
 
--- as many as the buffer, the piece and what is left allow are none only where the buffer is empty or nothing is left
+-- as many as the buffer, the piece and what is left allow are none only if the buffer is empty or nothing is left
 pub end_at_none : (left copied buf : List ℕ) (piece n : ℕ) → 0 < piece → n ≡ min (min (length buf) piece) (length left) → copied ≡ take n left → n ≡ 0 → 0 < length (copied ++ drop n buf) → drop n left ≡ []
 end_at_none left copied buf piece n some least e none room =
     let short : n ≤ length left = omega (arith, least) in

@@ -13,7 +13,7 @@ counted n = min (n + 1) last_count
 abbrev pub Rose : ℕ → ℕ → Type 0
 Rose before now = now ≢ last_count → before < now
 
--- the count has not fallen, and an error comes only where it rose
+-- the count has not fallen, and an error comes only if it rose
 pub record HasCause {T E : Type 0} (before now : ℕ) (result : Result T E) : Type 0 where
   pub later : before ≤ now
   pub failed : OnErr result (Rose before now)

@@ -79,7 +79,7 @@ write_fault s = record { answer = Err failed; after = record s { faults = counte
 abbrev pub write_of : SinkState → List ℕ → Write
 write_of s bytes = record { answer = Ok (length bytes); after = record s { held = s.held ++ bytes } }
 
--- one write: a fault where its front is more than the room left, and at the numbers that fail, and else its front, as
+-- one write: a fault if its front is more than the room left, and at the numbers that fail, and else its front, as
 -- long as the piece allows
 abbrev pub one_write : SinkState → List ℕ → Write
 one_write s bytes =

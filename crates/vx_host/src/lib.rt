@@ -1,6 +1,6 @@
 //! Bytes in and bytes out.
 //!
-//! A `Source` gives bytes and a `Sink` takes them. Each tells contracts what is left or held, where it can, and counts
+//! A `Source` gives bytes and a `Sink` takes them. Each tells contracts what is left or held, if it can, and counts
 //! its faults: a count never falls, and a call answers `Failed` only if the count rose in it, or stands at its last
 //! value. For the layer above, `read_all` gives all bytes of a source up to a limit, or says why not, and `write_all`
 //! writes all of a piece, or the start of it and a fault. `MemSource` and `MemSink` stand in memory and fail at stated

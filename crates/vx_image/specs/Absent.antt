@@ -1,4 +1,4 @@
--- What stands where there is none: a process declaration, an image, a unit's declaration.
+-- What stands if there is none: a process declaration, an image, a unit's declaration.
 use Rattle.std.specs.Prelude.{[], false}
 use Rattle.vx_base.specs.Quotas.{no_need, no_privs}
 use Rattle.vx_base.specs.declared.mode.Mode.TheVariants.{User}

@@ -3,7 +3,7 @@
 use crate::stmts::Stmts;
 use vx_base::{Name, Sequence};
 
-/// A label of an image, and the place of the statement that it names, from 0: the number of statements where it names the
+/// A label of an image, and the place of the statement that it names, from 0: the number of statements if it names the
 /// image's end.
 #[derive(Clone, Copy, Debug, PartialEq, Eq)]
 pub struct Label {

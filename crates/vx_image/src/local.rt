@@ -83,7 +83,7 @@ fn place_of(image: &Image, k: u32) -> u32
     }
 }
 
-/// Runs the statement at a place, and gives the place where it goes on, or none where it is not local: then nothing changes.
+/// Runs the statement at a place, and gives the place where it goes on, or none if it is not local: then nothing changes.
 pub(crate) fn local(
     image: &Image,
     store: &mut Store,

@@ -22,7 +22,7 @@ pub enum Rel {
 /// A field of an I/O status block.
 #[derive(Clone, Copy, Debug, PartialEq, Eq)]
 pub enum Field {
-    /// The condition's number, 0 where the block is cleared.
+    /// The condition's number, 0 if the block is cleared.
     Status,
     /// The count of bytes.
     Count,
@@ -42,7 +42,7 @@ pub enum Stmt {
     Sub(Target, Operand, Operand),
     /// Goes on at a label.
     Goto(u32),
-    /// Goes on at a label where two values compare so.
+    /// Goes on at a label if two values compare so.
     If(Operand, Rel, Operand, u32),
     /// Writes bytes over the start of a buffer.
     Put(u8, Bytes),

@@ -82,7 +82,7 @@ impl Store {
         (block.cond, block.count, block.info)
     }
 
-    /// Fills an I/O status block, 1 to 32, or clears it where the condition is none and the numbers are 0.
+    /// Fills an I/O status block, 1 to 32, or clears it if the condition is none and the numbers are 0.
     pub fn set_iosb(&mut self, i: u32, cond: Option<Cond>, count: u32, info: u32)
         requires low { 1 ≤ i }
         requires high { i ≤ 32 }

@@ -20,7 +20,7 @@ use Rattle.vx_procs.proofs.Rest.{IsDoing, acted, doing_begun, doing_end, doing_o
 use Rattle.vx_io.specs.Boxes.{fire_found}
 use Rattle.vx_base.proofs.First.{found_passes}
 
--- What is done with entries, where each goes as it is done.
+-- What is done with entries, if each goes as it is done.
 
 -- this is done with an entry, which is then out, and the next id stays
 pub record Outs (f : State → Attention → Part) : Type 0 where

@@ -205,7 +205,7 @@ opening_of k p q with_ast g ready stands passed = record {
   within = passed.within;
 }
 
--- The same where the device is known to be a mailbox, or a unit.
+-- The same if the device is known to be a mailbox, or a unit.
 
 pub record IsAtBox (k l : Kernel) (p : Pid) (q : Asking) (o : Option Entry) (dev : Device) (mode : Mode) (b : BoxNo) : Type 0 where
   pub is : dev ≡ device.Mailbox b

@@ -1,2 +1,2 @@
--- The value where nothing was told.
+-- The value if nothing was told.
 pub use Rattle.vx_procs.proofs.Rest.{told_none}

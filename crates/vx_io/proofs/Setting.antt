@@ -54,7 +54,7 @@ set_as k l m n o p q a id is next order did then last ends =
     acts_both k m o (first_half k.state p q a) (attending p q a) (half_done k l m p q a did then)
     (acts_both m n o (flagging p q m.state) (λ d. attend d a) last (ends ∙ ap (acted n) same))
 
--- there is room for each part where there is room for the whole
+-- there is room for each part if there is room for the whole
 pub opened_fits : (k : Kernel) (p : Pid) (q : Asked) (a : Attention) → Fits k (attention_set k.state p q a).effects → Fits k (attention_opened k.state p q a).effects
 opened_fits k p q a room = room_first k (attention_opened k.state p q a) (filling p q) (room_first k (first_half k.state p q a) (attending p q a) room)
 

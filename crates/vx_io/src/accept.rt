@@ -28,7 +28,7 @@ use vx_base::{
 use vx_ctl::{mode_of_ast, put_cell};
 use vx_procs::{Core, is_attention, moved_bytes};
 
-// IOSB: the status block is cleared, where the request named one.
+// IOSB: the status block is cleared, if the request named one.
 #[tactic(auto, using(crate::proofs::Parted::told_none))]
 fn clear_status<R: Routine>(core: &mut Core<R>, p: Pid, i: u32)
     requires made { IsProcess core.old.state p }

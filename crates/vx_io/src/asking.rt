@@ -117,7 +117,7 @@ fn is_beyond<R: Routine>(
     )
 }
 
-// The tests of a device: ILLIOFUNC where it has not the function, MBTOOSML and MBFULL where a mailbox cannot take a write, EXQUOTA
+// The tests of a device: ILLIOFUNC if it has not the function, MBTOOSML and MBFULL if a mailbox cannot take a write, EXQUOTA
 // beyond a limit.
 fn device_test<R: Routine>(
     core: &Core<R>,
@@ -163,9 +163,9 @@ pub(crate) fn device_channel<R: Routine>(
     core.channel(p, n)
 }
 
-/// The tests of a request: BADPARAM where a number is out of its range or attention is asked for with no AST, ILLEFC above event flag
-/// 127, UNASEFC where the number names no flag, IVCHAN and NOPRIV by the channel, ILLIOFUNC where a unit has not the function,
-/// MBTOOSML and MBFULL where a mailbox cannot take a write, EXQUOTA beyond a limit.
+/// The tests of a request: BADPARAM if a number is out of its range or attention is asked for with no AST, ILLEFC above event flag
+/// 127, UNASEFC if the number names no flag, IVCHAN and NOPRIV by the channel, ILLIOFUNC if a unit has not the function,
+/// MBTOOSML and MBFULL if a mailbox cannot take a write, EXQUOTA beyond a limit.
 pub(crate) fn request_test<R: Routine>(
     core: &Core<R>,
     p: Pid,

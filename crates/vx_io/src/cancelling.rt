@@ -68,7 +68,7 @@ fn withdraw<R: Routine>(core: &mut Core<R>, id: Id)
     }
 }
 
-// A request that waits is withdrawn where it is stored, and finishes with CANCEL.
+// A request that waits is withdrawn if it is stored, and finishes with CANCEL.
 fn end_request<R: Routine>(core: &mut Core<R>, id: Id)
     requires open { IsToCancel core.old.state id }
     requires room { Fits core.old (end_by core.old.state id).effects }
@@ -83,7 +83,7 @@ fn end_request<R: Routine>(core: &mut Core<R>, id: Id)
     finish_id(core, id, reply, 0);
 }
 
-// A request in service is marked, and one that waits is withdrawn where it is stored, and finishes with CANCEL.
+// A request in service is marked, and one that waits is withdrawn if it is stored, and finishes with CANCEL.
 fn cancel_request<R: Routine>(core: &mut Core<R>, id: Id)
     requires open { IsToCancel core.old.state id }
     requires room { Fits core.old (cancel_found core.old.state (find (this_request id) core.old.state.requests)).effects }
@@ -128,7 +128,7 @@ fn drop_attentions<R: Routine>(core: &mut Core<R>, p: Pid, chan: u32)
 }
 
 /// What a process asked on a channel is cancelled: its requests in order of acceptance, and then its attention entries in id order. A
-/// request in service is marked, and told so once; any other is withdrawn where a mailbox stores it, and finishes with CANCEL. Takes no
+/// request in service is marked, and told so once; any other is withdrawn if a mailbox stores it, and finishes with CANCEL. Takes no
 /// memory.
 pub fn cancel_channel<R: Routine>(core: &mut Core<R>, p: Pid, chan: u32)
     requires requests { AreRequests core.old.state }
@@ -140,7 +140,7 @@ pub fn cancel_channel<R: Routine>(core: &mut Core<R>, p: Pid, chan: u32)
     drop_attentions(core, p, chan);
 }
 
-/// $CANCEL: what the caller asked on a channel is cancelled: IVCHAN where the number is none of a channel, NOPRIV where the channel is
+/// $CANCEL: what the caller asked on a channel is cancelled: IVCHAN if the number is none of a channel, NOPRIV if the channel is
 /// free or of a mode further in than the caller's.
 pub fn cancel<R: Routine>(core: &mut Core<R>, p: Pid, chan: u32) -> Cond
     requires ready { IsReady core.old p }
@@ -157,7 +157,7 @@ pub fn cancel<R: Routine>(core: &mut Core<R>, p: Pid, chan: u32) -> Cond
     }
 }
 
-/// $DASSGN: what the caller asked on a channel is cancelled, and then the channel is free, and its mailbox goes where it was the last:
+/// $DASSGN: what the caller asked on a channel is cancelled, and then the channel is free, and its mailbox goes if it was the last:
 /// IVCHAN and NOPRIV as $CANCEL.
 pub fn dassgn<R: Routine>(core: &mut Core<R>, p: Pid, chan: u32) -> Cond
     requires ready { IsReady core.old p }

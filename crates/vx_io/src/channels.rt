@@ -12,7 +12,7 @@ use vx_base::{Cond, Device, Mode, Pid, Routine, outer_of};
 use vx_procs::Core;
 
 /// $ASSIGN: assigns the least free channel of a process to the device of a name, in the outer one of a mode and the caller's, and gives
-/// its number: NOSUCHDEV exactly where no device has the name, NOIOCHAN where one has and no channel is free.
+/// its number: NOSUCHDEV exactly where no device has the name, NOIOCHAN if one has and no channel is free.
 pub fn assign<R: Routine>(core: &mut Core<R>, p: Pid, name: &[u8], mode: Mode) -> Result<u32, Cond>
     requires made { IsProcess core.old.state p }
     requires units { length core.old.state.system.units < 4294967296 }

@@ -41,7 +41,7 @@ fn fill_buffer<R: Routine>(
     }
 }
 
-/// IOSB: the status block, where the request named one.
+/// IOSB: the status block, if the request named one.
 #[tactic(auto, using(crate::proofs::Parted::told_none))]
 pub(crate) fn fill_status<R: Routine>(
     core: &mut Core<R>,

@@ -53,7 +53,7 @@ fn is_bad_box<R: Routine>(core: &Core<R>, name: &[u8], maxmsg: u32, bufquo: u32)
     core.is_unit_name(name) || maxmsg < 1 || 2048 < maxmsg || bufquo < maxmsg || 65535 < bufquo
 }
 
-// MBX: a mailbox is made under a number that none has, and a channel to it is assigned: NOIOCHAN where no channel is free.
+// MBX: a mailbox is made under a number that none has, and a channel to it is assigned: NOIOCHAN if no channel is free.
 fn make_box<R: Routine>(
     core: &mut Core<R>,
     p: Pid,
@@ -77,8 +77,8 @@ fn make_box<R: Routine>(
     Ok(n)
 }
 
-// Makes a mailbox that is not there yet, with a channel to it: NOPRIV where it is permanent and the caller may not, NOSLOT where there
-// are 64, NOIOCHAN where no channel is free.
+// Makes a mailbox that is not there yet, with a channel to it: NOPRIV if it is permanent and the caller may not, NOSLOT if there
+// are 64, NOIOCHAN if no channel is free.
 fn create_box<R: Routine>(core: &mut Core<R>, p: Pid, mode: Mode, ask: NewBox) -> Result<u32, Cond>
     requires made { IsProcess core.old.state p }
     requires messages { HasMessageRooms core.old }
@@ -114,8 +114,8 @@ fn find_or_create<R: Routine>(
 }
 
 /// $CREMBX: assigns the least free channel of the caller, in the outer one of a mode and the caller's, to the mailbox of a name, which
-/// is made if there is none, and gives the channel's number. BADPARAM where a unit has the name or a number is out of its range; of a
-/// new mailbox NOPRIV where it is permanent and the caller may not make one, and NOSLOT where there are 64; NOIOCHAN where no channel
+/// is made if there is none, and gives the channel's number. BADPARAM if a unit has the name or a number is out of its range; of a
+/// new mailbox NOPRIV if it is permanent and the caller may not make one, and NOSLOT if there are 64; NOIOCHAN if no channel
 /// is free. Takes no memory.
 pub fn crembx<R: Routine>(core: &mut Core<R>, p: Pid, ask: NewBox, mode: Mode) -> Result<u32, Cond>
     requires made { IsProcess core.old.state p }
@@ -130,7 +130,7 @@ pub fn crembx<R: Routine>(core: &mut Core<R>, p: Pid, ask: NewBox, mode: Mode) -
     find_or_create(core, p, mode, ask)
 }
 
-// Marks a permanent mailbox for deletion: NOPRIV where the caller may not. A temporary one goes by itself.
+// Marks a permanent mailbox for deletion: NOPRIV if the caller may not. A temporary one goes by itself.
 #[tactic(auto, using(crate::proofs::Parted::told_none))]
 fn delete_box<R: Routine>(core: &mut Core<R>, p: Pid, b: BoxNo) -> Cond
     requires made { IsProcess core.old.state p }
@@ -148,7 +148,7 @@ fn delete_box<R: Routine>(core: &mut Core<R>, p: Pid, b: BoxNo) -> Cond
 }
 
 /// $DELMBX: the mailbox of a channel, if it is permanent, is marked for deletion, and goes with its last channel: IVCHAN and NOPRIV as
-/// $CANCEL, DEVNOTMBX where the channel is to a unit, NOPRIV where the caller may not delete a permanent mailbox.
+/// $CANCEL, DEVNOTMBX if the channel is to a unit, NOPRIV if the caller may not delete a permanent mailbox.
 pub fn delmbx<R: Routine>(core: &mut Core<R>, p: Pid, chan: u32) -> Cond
     requires made { IsProcess core.old.state p }
     requires open { AreOpen core.old.state p }

@@ -199,7 +199,7 @@ fn keep<R: Routine>(core: &mut Core<R>, b: BoxNo, msg: Msg, rooms: &mut Rooms)
     store(core, b, w, held, count);
 }
 
-/// What an accepted write or end of file does: the oldest read that waits takes it, and both finish; where none waits, it is stored.
+/// What an accepted write or end of file does: the oldest read that waits takes it, and both finish; if none waits, it is stored.
 #[tactic(auto, using(crate::proofs::Passing::kept_same))]
 pub(crate) fn write_box<R: Routine>(core: &mut Core<R>, b: BoxNo, msg: Msg, rooms: &mut Rooms)
     requires serving { IsServing core.old.state b }
@@ -272,7 +272,7 @@ fn take<R: Routine>(core: &mut Core<R>, b: BoxNo, w: Id, r: Id, rooms: &mut Room
     }
 }
 
-/// What an accepted read does: it takes the oldest message, whose write finishes where it is held; or it waits; or with NOW it finds
+/// What an accepted read does: it takes the oldest message, whose write finishes if it is held; or it waits; or with NOW it finds
 /// an end of file.
 pub(crate) fn read_box<R: Routine>(
     core: &mut Core<R>,

@@ -68,8 +68,8 @@ pub fn qiow<R: Routine>(
     Ok(awaited(core, p, Wait::Synch(ask.efn, ask.iosb)))
 }
 
-/// $SYNCH: waits for an event flag and, where one is named, for a filled I/O status block: BADPARAM above block 32, ILLEFC above flag
-/// 127, UNASEFC where the number names no flag. If both are there it answers at once.
+/// $SYNCH: waits for an event flag and, if one is named, for a filled I/O status block: BADPARAM above block 32, ILLEFC above flag
+/// 127, UNASEFC if the number names no flag. If both are there it answers at once.
 pub fn synch<R: Routine>(core: &mut Core<R>, p: Pid, efn: u32, iosb: u32) -> Served
     requires { IsProcess core.old.state p }
     ensures { DoesQuietly (synch core.old.state p efn iosb) result core.old core.new }

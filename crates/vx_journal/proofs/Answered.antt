@@ -14,7 +14,7 @@ use Rattle.vx_journal.specs.declared.journal.Journal.{Journal}
 use Rattle.vx_journal.specs.declared.journal.JournalFail.{JournalFail}
 use Rattle.vx_journal.specs.declared.journal.JournalFail.TheVariants as fail
 
--- Where the script part, which is this text, says a system.
+-- If the script part, which is this text, says a system.
 
 pub is_read : (text part : List ℕ) (system : System) (r : Result Journal JournalFail) → part ≡ script_part text → Spells part system → IsWellFormed system → ReadsJournal r (journal_of system text) → TellsText text r
 is_read text part system (Ok j) same says formed reads =
@@ -32,7 +32,7 @@ is_only text part system r same only reads s says =
 pub no_fault : (text part : List ℕ) (system : System) (r : Result Journal JournalFail) → part ≡ script_part text → ((fault : ScriptFault) → Tells part fault → ReadsScript (Ok system) (Err fault)) → (fault : ScriptFault) → Tells (script_part text) fault → FailsScript fault r
 no_fault text part system r same only fault tells = absurd (cc (only fault (subst (λ z. Tells z fault) (sym same) tells)))
 
--- Where it has a fault.
+-- If it has a fault.
 
 pub script_only : (text part : List ℕ) (e : ScriptFail) (f : JournalFail) → part ≡ script_part text → f ≡ failure_of e → ((s : System) → Spells part s → ScriptFails e (Ok s)) → (s : System) → Spells (script_part text) s → ReadsJournal (Err f) (journal_of s text)
 script_only text part (script_fail.Fault fault) f same is only s says = absurd (cc (only s (subst (λ z. Spells z s) (sym same) says)))

@@ -106,14 +106,14 @@ TellsFailure text (fail.Script fault) = Tells (script_part text) fault
 TellsFailure text (fail.Form line) = IsBadLine text line
 TellsFailure text fail.NoMemory = Unit {0}
 
--- what a result is where the script part says a system with which the text is read so, unless memory ran out
+-- what a result is if the script part says a system with which the text is read so, unless memory ran out
 abbrev pub ReadsJournal : Result Journal JournalFail → Result Journal ℕ → Type 0
 ReadsJournal (Ok j) read = read ≡ Ok j
 ReadsJournal (Err (fail.Form line)) read = read ≡ Err line
 ReadsJournal (Err (fail.Script fault)) read = ⊥
 ReadsJournal (Err fail.NoMemory) read = Unit {0}
 
--- what a result is where the script part has this fault, unless memory ran out
+-- what a result is if the script part has this fault, unless memory ran out
 abbrev pub FailsScript : ScriptFault → Result Journal JournalFail → Type 0
 FailsScript fault (Ok j) = ⊥
 FailsScript fault (Err (fail.Form line)) = ⊥

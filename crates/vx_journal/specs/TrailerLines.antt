@@ -90,7 +90,7 @@ part_at place.End = Some Ended
 abbrev pub place_after : List UnitDecl → Place → List ℕ → Option Place
 place_after units place line = read_line units line >>= place_behind place
 
--- what follows where a line may stand, and else its number
+-- what follows if a line may stand, and else its number
 abbrev pub or_bad : ℕ → Option Place → (Place → Result Part ℕ) → Result Part ℕ
 or_bad line None f = Err line
 or_bad line (Some place) f = f place

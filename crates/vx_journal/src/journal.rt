@@ -23,7 +23,7 @@ pub struct Journal {
     pub system: System,
     pub recs: Recs,
     pub part: Part,
-    /// The lines of the trailer with their line feeds; empty where the transcript is cut.
+    /// The lines of the trailer with their line feeds; empty if the transcript is cut.
     pub trailer: Bytes,
 }
 

@@ -76,7 +76,7 @@ entered old mid new p count more is next set counts stay q =
 first_set : (f g : ℕ → Option Wait) (n count : ℕ) (w : Option Wait) → count ≡ suc n → ((i : ℕ) → g i ≡ cond (n == i) w (f i)) → waits_below g count ≡ with_first w (waits_below f count)
 first_set f g n count w e h = rw e (top_set f g n w h)
 
--- the top frame, where there is one
+-- the top frame, if there is one
 pub told : (old new : Waits) (p : Pid) (count : ℕ) (wait : Option Wait) → count ≡ count_in old p → 0 < count → IsSet old new p (count - 1) wait →
     (q : Pid) → waits_in new q ≡ cond (is_same p q) (with_first wait (waits_in old q)) (waits_in old q)
 told old new p count wait is some set q = by_cases (is_same p q)

@@ -39,7 +39,7 @@ none_where : {A : Type 0} (P : A → Bool) (b : Bool) (x : A) (l : List A) → P
 none_where P true x l e h = h
 none_where P false x l e h = rw e h
 
--- where all that pass went, none is found
+-- if all that pass went, none is found
 none_found : {A : Type 0} (P : A → Bool) (xs : List A) → find P (filter (λ x. not (P x)) xs) ≡ None
 none_found P [] = refl
 none_found P (x ∷ xs) = none_where P (P x) x (filter (λ y. not (P y)) xs) refl (none_found P xs)

@@ -107,7 +107,7 @@ pub only_before : (p : Pid) (i : ℕ) (es : List Effect) → only is_iosb (is_cl
 only_before p i es =
     sym (only_by is_iosb (is_cleared_iosb p i) es (cleared_iosb p i)) ∙ (rw (← count_reverse is_iosb es, ← list_any_reverse (is_cleared_iosb p i) es) (only_by is_iosb (is_cleared_iosb p i) (reverse es) (cleared_iosb p i)))
 
--- where a call names a status block
+-- if a call names a status block
 pub cleared_before : (o : Owed) (full : Option Calling) (es : List Effect) (w : Bool) → Some o ≡ option_map owed full → (o.iosb == 0) ≡ false → w ≡ only is_iosb (is_cleared_iosb o.p o.iosb) es → w ≡ clears_iosb (reverse es) full
 cleared_before o None es w e n h = cc
 cleared_before o (Some k) es w e n h =

@@ -11,6 +11,6 @@ use Rattle.vx_judge.specs.declared.blocks.Blocks.{Blocks}
 abbrev pub filled_in : Blocks → Pid → ℕ → Bool
 filled_in t p i = unwrap_or (get pair_eq t.map (p.0, i)) false
 
--- they are filled where the past leaves them so
+-- they are filled if the past leaves them so
 abbrev pub AreBlocks : Blocks → List Item → Type 0
 AreBlocks t past = (p : Pid) (i : ℕ) → filled_in t p i ≡ is_filled (status_by past p i)

@@ -15,7 +15,7 @@ use Rattle.vx_judge.specs.declared.owed.Owed.{Owed}
 abbrev pub owed : Calling → Owed
 owed c = record { p = c.p; efn = number c.call.args.a0; iosb = number c.call.args.a3 }
 
--- None where no call opened the id
+-- None if no call opened the id
 abbrev pub owed_by : Life → Option Owed
 owed_by l = option_map owed l.by
 

@@ -12,7 +12,7 @@ use std::alloc::Global;
 use std::collections::HashMap;
 use vx_base::{Answer, Effect, Event, Id, NoMemory, Rec};
 
-/// Of each id what its completion owes; none where no call opened it.
+/// Of each id what its completion owes; none if no call opened it.
 #[derive(Drop)]
 pub struct Debts {
     map: HashMap<u32, Option<Owed>>,

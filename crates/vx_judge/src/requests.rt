@@ -21,7 +21,7 @@ use std::alloc::Global;
 use std::collections::HashMap;
 use vx_base::{Answer, Effect, Event, Func, Id, NoMemory, Rec};
 
-/// Of each id what its call asks. The device stands apart, where there is one.
+/// Of each id what its call asks. The device stands apart, if there is one.
 #[derive(Drop)]
 pub struct Requests {
     devices: HashMap<u32, Text>,

@@ -59,7 +59,7 @@ pub record IsAsking (past : List Item) (p : Pid) (q : Asked) : Type 0 where
 asking_over : (past : List Item) (es : List Effect) (p : Pid) (q : Asked) → IsAsking past p q → IsAsking (later past (map Did es)) p q
 asking_over past es p q k = record { call = k.call; is = latest_over past es ∙ k.is; caller = k.caller; chan = k.chan; func = k.func; len = k.len; calm = plain_over past es k.calm }
 
--- what holds where it is opened
+-- what holds when it is opened
 pub record Ready (s : State) (past : List Item) (p : Pid) (q : Asked) (ch : Channel) : Type 0 where
   pub asking : IsAsking past p q
   pub above : 1 ≤ p.0

@@ -393,7 +393,7 @@ is_qio Qio = true
 is_qio QioW = true
 is_qio v = false
 
--- what a service may open: for its caller anything but a wake, and what is asked of a device only if it is $QIO or $QIOW; a forced exit and a wake where its test finds
+-- what a service may open: for its caller anything but a wake, and what is asked of a device only if it is $QIO or $QIOW; a forced exit and a wake if its test finds
 -- the process
 pub record MayOpen (ok : Test) (s : State) (p : Pid) (a : Args) (v : Service) : Type 0 where
   pub own : (k : Opened) → is_wake k ≡ false → (is_asked k ≡ true → is_qio v ≡ true) → ok.opens k p ≡ true

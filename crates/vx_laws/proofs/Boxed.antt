@@ -120,7 +120,7 @@ pub record Boxed (s : State) (past : List Item) : Type 0 where
   pub others : (name : List ℕ) → list_any (is_box_of name) s.boxes ≡ false → stored past name ≡ []
   pub stands : (name : List ℕ) → list_any (is_box_of name) s.boxes ≡ box_stands past name
 
--- From one state and past to another, where devices that are there stay.
+-- From one state and past to another, if devices that are there stay.
 pub record Carried (s t : State) (past after : List Item) : Type 0 where
   pub system : t.system ≡ s.system
   pub there : (d : Device) → IsThere s d → IsThere t d

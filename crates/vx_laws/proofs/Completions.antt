@@ -163,7 +163,7 @@ served_told : (past : List Item) (p : Pid) (c : Call) (o : Outcome Served) (x : 
 served_told past p c o (Answered y) h = by_told past (event.Run p) (served_call p c o (Answered y)) h
 served_told past p c o Waits h = by_told past (event.Run p) (served_call p c o Waits) h
 
--- a channel is cancelled, where its test passes
+-- a channel is cancelled, if its test passes
 tested_told : (t : State) (past : List Item) (p : Pid) (c : Call) (go : Channel → Outcome Cond) (r : Result Channel Cond) → ((ch : Channel) (now : List Item) → Ready t now → Told now (go ch).effects) → Holds t past → Called past t.requests → RecordTold past (event.Run p) (called p c (at_once (at_tested t go r)))
 tested_told t past p c go (Err x) f h k = λ rs g. g
 tested_told t past p c go (Ok ch) f h k =

@@ -199,7 +199,7 @@ cancelled_seated s p m h =
     let rows = kept_rows s t (cancel_modes_keeps s p m) in
     subst (AllByRecursion (Seated t)) (sym same) (all_weaker (Seated s) (Seated t) (λ a k. seated_on s t a (rows a.p a.chan) k) one.attention (each_cancel_all (Seated s) p s ns h))
 
--- the timers of a process, where kernel mode is cancelled
+-- the timers of a process, if kernel mode is cancelled
 pub cancelled_timers : (s : State) (p : Pid) → Base s → AllByRecursion (λ t. is_same t.p p ≡ false) (cancel_modes s p Kernel).after.timers
 cancelled_timers s p b =
     let ns = channels_of Kernel (process_at s p).channels in

@@ -152,7 +152,7 @@ release_asts s p =
     let a = (each (free_one p) (channels_of Kernel (process_at s p).channels) s).after in
     subst (λ (qs : List Queued). (process_at (each (drop_ast p) qs a).after p).asts ≡ []) (sym (all_asts (process_at a p).asts)) (dropped_asts p (process_at a p).asts a refl)
 
--- What is left, where kernel mode is drained.
+-- What is left, if kernel mode is drained.
 
 pub record Emptied (p : Pid) (s : State) : Type 0 where
   pub requests : AllByRecursion (λ r. is_same r.req.p p ≡ false) s.requests

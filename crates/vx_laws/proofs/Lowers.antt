@@ -49,7 +49,7 @@ pub record Low (s : State) (p : Pid) : Type 0 where
   pub none : (process_at s p).frames ≡ []
 
 -- What is kept on the way (J); what a mode's cancelling leaves of kernel mode (R), what its release does (D), and what is left
--- where the process is gone (C).
+-- if the process is gone (C).
 pub record IsLowering (p : Pid) (J : State → Type 0) (R : Mode → State → Type 0) (D C : State → Type 0) : Type 0 where
   pub handles : (s : State) (m : Mode) → Low s p → J s → J (handling p m s)
   pub cancels : (s : State) (m : Mode) → Low s p → J s → J (cancelled_in s p m).after
@@ -59,7 +59,7 @@ pub record IsLowering (p : Pid) (J : State → Type 0) (R : Mode → State → T
   pub released : (s : State) → Low s p → J s → R Kernel s → is_busy s p Kernel ≡ false → D (release s p Kernel).after
   pub clears : (s : State) → Low s p → J s → D s → C (and_then (drop_all_handlers p s) (drop_timers (is_wake_for p))).after
 
--- where a mode is drained, its things are cancelled
+-- if a mode is drained, its things are cancelled
 abbrev pub Settled : (Mode → State → Type 0) → State → Pid → Type 0
 Settled R s p = (m : Mode) → (process_at s p).phase ≡ phase.Draining m → R m s
 

@@ -1,4 +1,4 @@
--- Where nothing stands in the lists for a process, no id of it is open in the records.
+-- If nothing stands in the lists for a process, no id of it is open in the records.
 use Rattle.std.proofs.Common.{◌≡◌, ◌∙◌, ℕ, List, Bool, true, false, cond, not, ◌==◌, ◌||◌, Option, Some, None, refl, sym, ap, subst}
 use Rattle.std.specs.List.{AllByRecursion, list_any}
 use Rattle.std.proofs.lemmas.Bool.{and_parts, eqb-true, false_from_ne_true}

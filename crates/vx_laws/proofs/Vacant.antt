@@ -93,7 +93,7 @@ by_either : (P : Type 0) (a b : Bool) → (a || b) ≡ true → (a ≡ true → 
 by_either P true b h f g = f refl
 by_either P false b h f g = g h
 
--- where nothing stands for a process, nothing is left of it in the records
+-- if nothing stands for a process, nothing is left of it in the records
 pub none_left : (s : State) (past : List Item) (p : Pid) (id : Id) → Cleared p s → Still s p → Stands s None past → Listed s None past → Wakes s past → is_some_and (is_left_of p) (life past id) ≡ false
 none_left s past p id c w g h k = by_life (life past id) refl (h id)
   where

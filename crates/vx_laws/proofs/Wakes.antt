@@ -231,7 +231,7 @@ old_targets s past new g same h =
 pub same_origins : (past : List Item) (e : Event) (a : Answer) (es : List Effect) → AllRight (Head e a ∷ past) es → SameOrigins past (later (Head e a ∷ past) (map Did es))
 same_origins past e a es f = λ id below. origins_on es (Head e a ∷ past) id f below ∙ origin_on (Head e a) past id tt
 
--- where moves open no wake
+-- if moves open no wake
 pub wakes_moved : (s : State) (past : List Item) (e : Event) (a : Answer) (es : List Effect) (t : State) → Moves s None es t None → Allowed no_wake es → AllRight (Head e a ∷ past) es → Stands s None past → Wakes s past → Wakes t (later (Head e a ∷ past) (map Did es))
 wakes_moved s past e a es t j f r g h =
     let new = later (Head e a ∷ past) (map Did es) in

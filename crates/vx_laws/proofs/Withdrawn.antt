@@ -223,7 +223,7 @@ cancel_channel_clear s past p n h =
     let k = drop_attentions_aside a (filter (is_attention_on p n) a.attention) in
     subst (AllByRecursion (λ r. (is_on_box r.req.device && is_request_on p n r) ≡ false)) (sym k.requests) (each_clear p n s.next todo s (record { ordered = h.ordered; covered = all_covered s past p n s.requests h.requests }))
 
--- A channel is freed, and its mailbox goes where no other is to it.
+-- A channel is freed, and its mailbox goes if no other is to it.
 
 gone_fewer : (s : State) (b : BoxNo) → Fewer s (with_box s b None)
 gone_fewer s b = record {

@@ -17,7 +17,7 @@ EveryRunKeeps law = (system : System) (recs : List Rec) → IsRun system recs �
 abbrev pub AfterEveryRun : (State → List Item → Type 0) → Type 0
 AfterEveryRun says = (system : System) (recs : List Rec) → IsRun system recs → says (after system recs) (past_of recs)
 
--- where a run is at its end and was not cut off, of its records
+-- of the records of every run that is at its end and was not cut off
 abbrev pub AtEveryEnd : (List Item → Type 0) → Type 0
 AtEveryEnd says = (system : System) (recs : List Rec) (limit : ℕ) → IsRun system recs → IsEnd (end_after system recs limit) → says (past_of recs)
 
@@ -25,6 +25,6 @@ AtEveryEnd says = (system : System) (recs : List Rec) (limit : ℕ) → IsRun sy
 abbrev pub OfEveryoneGone : (List Item → Pid → Type 0) → Type 0
 OfEveryoneGone says = (recs : List Rec) (p : Pid) → ends recs ≡ true → run_downs recs ≡ true → is_gone (past_of recs) p ≡ true → says (past_of recs) p
 
--- where a run ends with all processes gone, of its records
+-- of the records of every run that ends with all processes gone
 abbrev pub AtEveryDone : (List Item → Type 0) → Type 0
 AtEveryDone says = (system : System) (recs : List Rec) (limit : ℕ) → IsRun system recs → end_after system recs limit ≡ Some Done → says (past_of recs)

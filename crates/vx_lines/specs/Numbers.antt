@@ -10,10 +10,10 @@ is_misspelled [] = true
 is_misspelled (d ∷ []) = false
 is_misspelled (d ∷ e ∷ digits) = d == 48
 
--- the number of digits, where it is at most so much
+-- the number of digits, if it is at most so much
 abbrev pub value_up_to : ℕ → List ℕ → Option ℕ
 value_up_to most digits = if list_all is_digit digits && nat_le (digits_value digits) most then Some (digits_value digits) else None
 
--- the number that a word is, where it is at most so much
+-- the number that a word is, if it is at most so much
 abbrev pub number_up_to : ℕ → List ℕ → Option ℕ
 number_up_to most word = if is_misspelled word then None else value_up_to most word

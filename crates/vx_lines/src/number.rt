@@ -14,7 +14,7 @@ fn is_misspelled(digits: &[u8]) -> bool
     }
 }
 
-/// The number that digits spell, where it is at most so much. Takes zeros in front, and no digits for 0.
+/// The number that digits spell, if it is at most so much. Takes zeros in front, and no digits for 0.
 pub fn value_up_to(most: u64, digits: &[u8]) -> Option<u64>
     ensures { result ≡ spec.value_up_to most digits.now }
 {
@@ -31,7 +31,7 @@ pub fn value_up_to(most: u64, digits: &[u8]) -> Option<u64>
     Some(number as u64)
 }
 
-/// The number that a word is in decimal, without a sign or a leading zero, where it is at most so much.
+/// The number that a word is in decimal, without a sign or a leading zero, if it is at most so much.
 pub fn number_up_to(most: u64, word: &[u8]) -> Option<u64>
     ensures { result ≡ spec.number_up_to most word.now }
 {

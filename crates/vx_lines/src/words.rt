@@ -55,35 +55,35 @@ pub fn from_space(line: &[u8]) -> &[u8]
     &line[len_before(b' ', line)..]
 }
 
-/// The second word of a line that begins with a space; empty where there is none.
+/// The second word of a line that begins with a space; empty if there is none.
 pub fn second_word(line: &[u8]) -> &[u8]
     ensures { result.now ≡ spec.second_word line.now }
 {
     first_word(behind_word(line))
 }
 
-/// The third word; empty where there is none.
+/// The third word; empty if there is none.
 pub fn third_word(line: &[u8]) -> &[u8]
     ensures { result.now ≡ spec.third_word line.now }
 {
     second_word(behind_word(line))
 }
 
-/// The fourth word; empty where there is none.
+/// The fourth word; empty if there is none.
 pub fn fourth_word(line: &[u8]) -> &[u8]
     ensures { result.now ≡ spec.fourth_word line.now }
 {
     third_word(behind_word(line))
 }
 
-/// The fifth word; empty where there is none.
+/// The fifth word; empty if there is none.
 pub fn fifth_word(line: &[u8]) -> &[u8]
     ensures { result.now ≡ spec.fifth_word line.now }
 {
     fourth_word(behind_word(line))
 }
 
-/// The sixth word; empty where there is none.
+/// The sixth word; empty if there is none.
 pub fn sixth_word(line: &[u8]) -> &[u8]
     ensures { result.now ≡ spec.sixth_word line.now }
 {

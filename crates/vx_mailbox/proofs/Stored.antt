@@ -13,7 +13,7 @@ stored_more : (xs : List Msg) (m : Msg) → stored_bytes (xs ++ m ∷ []) ≡ st
 stored_more [] m = omega arith
 stored_more (x ∷ xs) m = omega (arith, stored_more xs m)
 
--- the bytes of a message that was found, none where there is none
+-- the bytes of a message that was found, none if there is none
 abbrev bytes_of : Option Msg → ℕ
 bytes_of None = 0
 bytes_of (Some m) = length (body_bytes m.body)

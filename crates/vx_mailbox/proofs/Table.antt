@@ -42,7 +42,7 @@ free_there boxes (Some b) e = none_there (slice_index_or boxes b.0 None) (positi
 place_read : (places : List Place) (i : ℕ) (r : Place) → i < length places → r ≡ slice_index_or places i r → r.box ≡ slice_index_or (map box_at places) i None
 place_read places i r within is = ap box_at is ∙ sym (get_or-map box_at places i r None within)
 
--- where a mailbox stands, there is a place
+-- if a mailbox stands, there is a place
 stands_within : (places : List Place) (b : BoxNo) → StandsIn (map box_at places) b → b.0 < length places
 stands_within places b stands =
     elim (cases_lt b.0 (length places)) [
@@ -97,7 +97,7 @@ room_of places k within room there =
     let has = room (sym (ap is_some (box_seen places k within)) ∙ there) in
     omega (arith, has, ap (λ (o : Option Mailbox). length (or_no_box o).messages) (box_seen places k within), room_seen places k within)
 
--- the table after a mailbox was made, or a message was put, where there was room in each
+-- the table after a mailbox was made, or a message was put, if there was room in each
 pub table_put : (places : List Place) (short used i after : ℕ) (k : Boxes) (new : Place) → table_of places ≡ k → IsTable places short used → HaveRoom k.boxes k.rooms → i < length places
     → after ≤ 64 → drop after (map box_at (slice_set places i new)) ≡ replicate (64 - after) None → IsTable (slice_set places i new) i after
 table_put places short used i after k new view t rooms within most behind =
@@ -130,7 +130,7 @@ table_changed places short used i new t room behind = record {
   behind = behind;
 }
 
--- where there is room in each, any place may be the one that is named as short of it
+-- if there is room in each, any place may be the one that is named as short of it
 pub table_any : (places : List Place) (short used i : ℕ) (k : Boxes) → table_of places ≡ k → IsTable places short used → HaveRoom k.boxes k.rooms → i < 64 → IsTable places i used
 table_any places short used i k view t rooms within =
     let old : HaveRoom (map box_at places) (map room_at places) = subst (λ (x : Boxes). HaveRoom x.boxes x.rooms) (sym view) rooms in

@@ -5,12 +5,12 @@ use Rattle.vx_base.specs.Queues.{body_bytes}
 use Rattle.vx_base.specs.Roomy.{Roomy}
 use Rattle.vx_record.specs.Mailboxes.{or_no_box}
 
--- The mailboxes by number, from 0, None where there is none; and for how many messages there is room in each number's place.
+-- The mailboxes by number, from 0, None if there is none; and for how many messages there is room in each number's place.
 pub record Boxes : Type 0 where
   pub boxes : List (Option Mailbox)
   pub rooms : List ℕ
 
--- the mailbox of a number, one with nothing in it where there is none
+-- the mailbox of a number, one with nothing in it if there is none
 abbrev pub box_in : List (Option Mailbox) → BoxNo → Mailbox
 box_in boxes b = or_no_box (slice_index_or boxes b.0 None)
 

@@ -12,7 +12,7 @@ abbrev pub box_of : Option Head → List Msg → Option Mailbox
 box_of None messages = None
 box_of (Some head) messages = Some (mailbox_of head messages)
 
--- where there is no mailbox, no message is stored
+-- if there is no mailbox, no message is stored
 abbrev pub HeldBy : Option Head → List Msg → Type 0
 HeldBy None messages = messages ≡ []
 HeldBy (Some head) messages = ⊤

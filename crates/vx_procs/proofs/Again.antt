@@ -93,7 +93,7 @@ same_state s t system time next procs common requests timers attention boxes uni
     ∙ (ap (λ (x : List (Option Mailbox)). let r : State = record s { boxes = x; units = t.units } in r) boxes
     ∙ ap (λ (x : List DeviceUnit). let r : State = record s { units = x } in r) units))))))))
 
--- what holds on success, where there is success
+-- what holds on success, if there is success
 pub when_ok : {T E : Type 0} (r : Result T E) (P : Type 0) → IsOk r → OnOk r P → P
 when_ok (Ok x) P ok h = h
 when_ok (Err y) P ok h = absurd (true≢false (sym ok))

@@ -108,7 +108,7 @@ alike_less s q test rs r found other =
       byt = omega (arith, more.byt, ap (λ (n : Need). n.byt) none);
     }
 
--- where one is changed in nothing that is charged
+-- if one is changed in nothing that is charged
 pub alike_amend : (s : State) (q : Pid) (test : Request → Bool) (g : Request → Request) → ((r : Request) → (g r).req ≡ r.req) → ((r : Request) → (g r).ast ≡ r.ast) → (rs : List Request) → IsAlike s q (amend test g rs) rs
 alike_amend s q test g same_req same_ast rs = record {
   ast = tally_amend (bears_ast q) test g (λ r. ap (λ (x : Req). is_same x.p q && is_some (g r).ast) (same_req r) ∙ ap (λ (x : Option Promised). is_same r.req.p q && is_some x) (same_ast r)) rs;

@@ -108,7 +108,7 @@ others_by s before after ts q b h frames asts same none =
       limits = h.limits;
     }
 
--- the others have their spares still, where p alone has used its own
+-- the others have their spares still, if p alone has used its own
 pub spared : {R : Type 0} (c : Inside R) (after : Option Pid) (q : Pid) → HasSpares (kernel c) → IsProcess (state c) q → (length (process_at (state c) q).frames + spare after q ≤ (books_at (books c) q).room.frames) × (owed (state c) q + spare after q ≤ (books_at (books c) q).room.asts)
 spared c after q spares made =
     let has = spares q made in

@@ -146,7 +146,7 @@ held_dropped id c p a r new es found own left is e room account h =
     (omega (arith, ap (λ (x : Process). tally is_charged x.asts) e)) (omega (arith, ap (λ (x : Process). length x.asts) e)) room
     (subst (λ (x : Quotas). IsFreed r.account x 1) (sym account) (freed_one r.account true (charged_call id c p a r h found own is))) h
 
--- The value where one fires.
+-- The value if one fires.
 
 -- what was found in the code's list
 pub called_in : {R : Type 0} (id : Id) (c : Inside R) (k : Kernel) (o : Option Attention) → kernel c ≡ k → o ≡ find (this_attention id) c.attention.items → o ≡ find (this_attention id) k.state.attention

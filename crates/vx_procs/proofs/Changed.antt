@@ -155,7 +155,7 @@ held_as f c k p r new view is_made is e same quiet_by h =
 pub none_changed : (s : State) (p : Pid) → change s p (λ x. x) ≡ s
 none_changed s p = ap (λ (ps : List Process). record s { procs = ps }) (set-get_or s.procs (p.0 - 1) nobody)
 
--- the value where timers change too
+-- the value if timers change too
 timers_here : {R : Type 0} (f : Process → Process) (xs : List Timer) (c : Inside R) (p : Pid) (r new : Proc R) (ts : Roomy Timer) → IsProcess (state c) p → r ≡ slice_index_or c.procs.items (p.0 - 1) r → process new ≡ f (process r) → room_of new ≡ room_of r → ts ≡ with_items c.timers xs → kernel (record c { procs = with_item c.procs (p.0 - 1) new; timers = ts }) ≡ with_state (kernel c) (change (record (state c) { timers = xs }) p f)
 timers_here f xs c p r new ts made is e room put =
     ap (λ (x : Kernel). let y : Kernel = record x { state = record x.state { timers = ts.items }; timers = ts.capacity } in y) (changed_here f c p r new made is e room)
@@ -165,7 +165,7 @@ pub timers_as : {R : Type 0} (f : Process → Process) (F : State → List Timer
 timers_as f F c k p r new ts view made is e room put =
     timers_here f (F (state c)) c p r new ts (made_in c k p view made) is e room put ∙ ap (λ (x : Kernel). with_state x (change (record x.state { timers = F x.state }) p f)) view
 
--- the value where requests change too
+-- the value if requests change too
 requests_here : {R : Type 0} (f : Process → Process) (xs : List Request) (c : Inside R) (p : Pid) (r new : Proc R) (rs : Roomy Request) → IsProcess (state c) p → r ≡ slice_index_or c.procs.items (p.0 - 1) r → process new ≡ f (process r) → room_of new ≡ room_of r → rs ≡ with_items c.requests xs → kernel (record c { procs = with_item c.procs (p.0 - 1) new; requests = rs }) ≡ with_state (kernel c) (change (record (state c) { requests = xs }) p f)
 requests_here f xs c p r new rs made is e room put =
     ap (λ (x : Kernel). let y : Kernel = record x { state = record x.state { requests = rs.items }; requests = rs.capacity } in y) (changed_here f c p r new made is e room)
@@ -179,7 +179,7 @@ pub requests_alone : {R : Type 0} (F : State → List Request) (c : Inside R) (k
 requests_alone F c k p r new rs view made is e room put =
     requests_as (λ x. x) F c k p r new rs view made is e room put ∙ ap (λ (s : State). with_state k s) (none_changed (record k.state { requests = F k.state }) p)
 
--- the value where attention entries change too
+-- the value if attention entries change too
 attention_here : {R : Type 0} (f : Process → Process) (xs : List Attention) (c : Inside R) (p : Pid) (r new : Proc R) (es : Roomy Attention) → IsProcess (state c) p → r ≡ slice_index_or c.procs.items (p.0 - 1) r → process new ≡ f (process r) → room_of new ≡ room_of r → es ≡ with_items c.attention xs → kernel (record c { procs = with_item c.procs (p.0 - 1) new; attention = es }) ≡ with_state (kernel c) (change (record (state c) { attention = xs }) p f)
 attention_here f xs c p r new es made is e room put =
     ap (λ (x : Kernel). let y : Kernel = record x { state = record x.state { attention = es.items }; attention = es.capacity } in y) (changed_here f c p r new made is e room)

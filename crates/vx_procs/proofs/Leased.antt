@@ -19,7 +19,7 @@ use Rattle.vx_procs.specs.declared.procs.Core.TheInside.{Inside}
 use Rattle.vx_procs.proofs.Inside.{stand_here}
 use Rattle.vx_procs.proofs.Requested.{ending_there, held_unit, prepared_as, seen_unit, unit_device}
 
--- one fact by another, where a result or an option is there or not
+-- one fact by another, if a result or an option is there or not
 
 pub on_ok : {A E P Q : Type 0} (r : Result A E) → (P → Q) → OnOk r P → OnOk r Q
 on_ok (Ok x) f h = f h
@@ -52,7 +52,7 @@ read_stand c k u old view within is = ap stand_of (seen_unit c k u old view with
 pub read_in : {R : Type 0} (c : Inside R) (k : Kernel) (u : UnitNo) (old : Kept) → kernel c ≡ k → u.0 < length c.units.items → old ≡ slice_index_or c.units.items u.0 old → is_out (stand_for k u) ≡ false → IsIn old
 read_in c k u old view within is h = ap is_out (read_stand c k u old view within is) ∙ h
 
--- The value where a unit changes.
+-- The value if a unit changes.
 
 -- it stayed
 pub unit_stayed : {R : Type 0} (c : Inside R) (k : Kernel) (u : UnitNo) (old new : Kept) → kernel c ≡ k → old ≡ slice_index_or c.units.items u.0 old → new ≡ old → kernel (record c { units = with_item c.units u.0 new }) ≡ k
@@ -167,7 +167,7 @@ coming c k s old view h x is =
       contents = x.contents ∙ sym (seen_unit c k u old view within is).0;
     }
 
--- what is asked of a unit stays where its contents go elsewhere
+-- what is asked of a unit stays if its contents go elsewhere
 pub stood_asked : (stand : Stand) (o : Option Ending) → asked_of (stood stand o) ≡ asked_of o
 stood_asked stand None = refl
 stood_asked stand (Some e) = refl

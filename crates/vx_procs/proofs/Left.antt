@@ -39,7 +39,7 @@ assigns k l p dev mode (Some n) answer is there = record { answers = is; quiet =
 
 -- Exit handlers.
 
--- where none is found, the process stays as it was
+-- if none is found, the process stays as it was
 pub none_sought : {A B : Type 0} (key : Handler → B) (f : A → B) (o : Option A) (k : Kernel) (p : Pid) (which : Sought) → option_map f o ≡ option_map key (find (is_sought which) (process_at k.state p).handlers) → o ≡ None → changed k p (without_sought which) ≡ k
 none_sought key f o k p which same none =
     let hs = (process_at k.state p).handlers in

@@ -53,7 +53,7 @@ pub counts_here : {R : Type 0} (c : Inside R) (p : Pid) (r : Proc R) → IsHeld 
 counts_here c p r h made is =
     subst (λ (x : Process). Counts (state c) p x.asts c.timers.items r.account.used) (sym (seen c p r made is)) (counts_of (state c) c.short p (books_of r) (booked_here c p r h made is))
 
--- each other process, where p alone used its spares
+-- each other process, if p alone used its spares
 pub others_spared : {R : Type 0} (c : Inside R) (p : Pid) → HasSpares (kernel c) → (q : Pid) → IsProcess (state c) q → q.0 ≢ p.0 → IsBooked (state c) c.short q (books_at (books c) q) → IsBooked (state c) (Some p) q (books_at (books c) q)
 others_spared c p spares q m other b = let kept = spared c (Some p) q spares m in others_by (state c) c.short (Some p) c.timers.items q (books_at (books c) q) b kept.0 kept.1 refl refl
 
@@ -417,7 +417,7 @@ held_dropped test c p t r new ts found own left is e room account h =
     (omega (arith, ap (λ (n : Need). n.tqe) used, bill.tqe, ready))
     (omega (arith, ap (λ (n : Need). n.bio) used, bill.bio)) (omega (arith, ap (λ (n : Need). n.dio) used, bill.dio)) (omega (arith, ap (λ (n : Need). n.byt) used, bill.byt)) h
 
--- where none is found, nothing is taken out
+-- if none is found, nothing is taken out
 pub same_timers : {A : Type 0} (test : A → Bool) (before after : Roomy A) → None ≡ find test before.items → after ≡ with_items before (less test before.items) → after ≡ before
 same_timers test before after none left = left ∙ ap (λ (xs : List _). with_items before xs) (less_none test before.items (sym none))
 

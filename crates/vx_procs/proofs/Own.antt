@@ -18,7 +18,7 @@ none_found p g (x ∷ xs) q none found =
       | false ↦ λ more. none_found p g xs q parts.1 more
     ] found
 
--- none comes to share an id where one goes
+-- none comes to share an id if one goes
 pub own_less : {A : Type 0} (id : A → Id) (p : A → Bool) (xs : List A) → IsTrue (have_own id xs) → IsTrue (have_own id (less p xs))
 own_less id p [] own = refl
 own_less {A = A} id p (x ∷ xs) own =

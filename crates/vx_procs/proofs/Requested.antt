@@ -85,7 +85,7 @@ serving_none u (r ∷ rs) asked none = (
   serving_none u rs asked (omega (arith, none)),
 )
 
--- where it serves none, it may be asked anything
+-- if it serves none, it may be asked anything
 pub free_serving : (u : UnitNo) (rs : List Request) (asked : Option Req) → tally (is_served_by u) rs ≡ 0 → ServesAsked rs u asked
 free_serving u rs asked none = record { few = omega (arith, none); only = serving_none u rs asked none }
 
@@ -361,7 +361,7 @@ begun_front s u order =
       | false ↦ begun_found s (waits_for u) 0 s.requests order refl
     ]
 
--- the value where the requests alone change
+-- the value if the requests alone change
 pub asked_alone : {R : Type 0} (F : List Request → List Request) (c : Inside R) (k : Kernel) (rs : Roomy Request) → kernel c ≡ k → rs ≡ with_items c.requests (F c.requests.items) → kernel (record c { requests = rs }) ≡ with_state k (record k.state { requests = F k.state.requests })
 asked_alone F c k rs view is =
     ap (λ (x : Roomy Request). kernel (record c { requests = x })) is ∙ ap (λ (x : Kernel). with_state x (record x.state { requests = F x.state.requests })) view

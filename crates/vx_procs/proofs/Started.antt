@@ -1,4 +1,4 @@
--- The AST that may start is the first of its mode, and where ids are distinct the first with its id.
+-- The AST that may start is the first of its mode, and if ids are distinct the first with its id.
 use Rattle.std.proofs.Common.{◌≡◌, List, [], ◌∷◌, true, false, cond, ◌==◌, IsTrue, Option, Some, None, inl, inr, ◌⊎◌, refl, ap, sym, ◌∙◌}
 use Rattle.std.specs.List.{find}
 use Rattle.std.proofs.lemmas.Bool.{eqb-true}

@@ -22,7 +22,7 @@ abbrev pub channel_of : Result (Device × Mode) Cond → Result Channel Cond
 channel_of (Ok found) = Ok (record { device = found.0; mode = found.1 })
 channel_of (Err c) = Err c
 
--- the process with a channel assigned, where there is a number for it
+-- the process with a channel assigned, if there is a number for it
 abbrev pub with_assigned : Device → Mode → Option ℕ → Process → Process
 with_assigned dev mode None pr = pr
 with_assigned dev mode (Some n) pr = with_channel n (Some (record { device = dev; mode = mode })) pr

@@ -11,7 +11,7 @@ use Rattle.vx_procs.specs.declared.process.Proc.{Proc}
 abbrev pub CountsAsts : {R : Type 0} → Proc R → Type 0
 CountsAsts pr = tally is_charged (process pr).asts ≤ pr.account.used.ast
 
--- the account without an AST, where one is gone
+-- the account without an AST, if one is gone
 abbrev pub freed : Option Queued → Quotas → Quotas
 freed None a = a
 freed (Some q) a = released a (ast_need q.charged)

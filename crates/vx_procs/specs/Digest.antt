@@ -13,7 +13,7 @@ use Rattle.vx_reqs.specs.Digest.{mix_requests}
 use Rattle.vx_same.specs.Mix.{mix}
 use Rattle.vx_base.specs.Lists.{first}
 
--- the statement of a frame, 0 where there is none
+-- the statement of a frame, 0 if there is none
 abbrev pub place_in : Option Frame → ℕ
 place_in None = 0
 place_in (Some f) = f.pc

@@ -25,7 +25,7 @@ pub record IsWithinRoom (a b : Room) : Type 0 where
 
 -- the state; the effects so far; the room of each process, in number order, and then of the spare process, if there is one; for
 -- how many timers, common clusters, associations with them, requests and attention entries there is room in all, and for how many
--- messages in each mailbox, by its number; and of each unit what the end of its next service needs, where that was made
+-- messages in each mailbox, by its number; and of each unit what the end of its next service needs, if that was made
 pub record Kernel : Type 0 where
   pub state : State
   pub log : Log
@@ -41,7 +41,7 @@ pub record Kernel : Type 0 where
 abbrev pub room_at : Kernel → Pid → Room
 room_at k p = slice_index_or k.rooms (p.0 - 1) no_room
 
--- what the end of a unit's next service needs, where that was made; and the request that the unit is asked
+-- what the end of a unit's next service needs, if that was made; and the request that the unit is asked
 
 abbrev pub ending_for : Kernel → UnitNo → Option Ending
 ending_for k u = slice_index_or k.ends u.0 None

@@ -1,4 +1,4 @@
--- Whether a process has an event, where the process alone tells it.
+-- Whether a process has an event, if the process alone tells it.
 use Rattle.std.specs.Prelude.{◌≡◌, ℕ, ◌*◌, ◌%◌, List, [], ◌∷◌, Bool, true, false, ◌&&◌, ◌||◌, ◌==◌, nat_lt, nat_le, if◌then◌else◌, Option, Some, None, drop, is_some, take}
 use Rattle.std.specs.List.{AllByRecursion}
 use Rattle.vx_base.specs.Flags.{all_set, any_set, is_set}
@@ -42,7 +42,7 @@ abbrev pub ast_or_own : Process → Option Queued → Option Bool
 ast_or_own pr None = own_run pr pr.frames
 ast_or_own pr (Some q) = Some true
 
--- whether a process has an event; None where others must be asked
+-- whether a process has an event; None if others must be asked
 abbrev pub own_event : Process → Option Bool
 own_event pr = if pr.suspended then Some false else ast_or_own pr (deliverable_of pr)
 

@@ -11,7 +11,7 @@ pub record Ending : Type 0 where
   pub asked : Req
   pub stand : Stand
 
--- a unit, and what the end of its next service needs, where that was made
+-- a unit, and what the end of its next service needs, if that was made
 pub record Kept : Type 0 where
   pub unit : DeviceUnit
   pub ending : Option Ending
@@ -31,7 +31,7 @@ abbrev pub asked_of : Option Ending → Option Req
 asked_of None = None
 asked_of (Some e) = Some e.asked
 
--- where a unit's contents are: at home, where nothing was made for the end of a service
+-- where a unit's contents are: at home, if nothing was made for the end of a service
 abbrev pub stand_of : Option Ending → Stand
 stand_of None = Home
 stand_of (Some e) = e.stand

@@ -23,7 +23,7 @@ use Rattle.vx_timers.specs.Seen.{falls_of}
 use Rattle.vx_timers.specs.declared.due.Falls.{Falls}
 use Rattle.vx_timers.specs.declared.due.Falls.TheVariants as falls
 
--- the process of a declaration at a place, where it is there from the start
+-- the process of a declaration at a place, if it is there from the start
 abbrev pub born_if_started : ℕ → ProcDecl → List Process
 born_if_started place d = if d.start then born_of place d ∷ [] else []
 
@@ -35,7 +35,7 @@ handed_on pr d = record d { group = pr.group; member = pr.member; privs = held_b
 abbrev pub with_created : State → Pid → ℕ → State
 with_created s p place = record s { procs = s.procs ++ created s p place ∷ [] }
 
--- the AST of a process that may start: none where it is suspended or has no frame
+-- the AST of a process that may start: none if it is suspended or has no frame
 abbrev pub deliverable_of : Process → Option Queued
 deliverable_of pr = if pr.suspended then None else deliverable_at pr pr.frames
 

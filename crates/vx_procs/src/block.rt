@@ -6,7 +6,7 @@ ghost use Rattle.vx_procs.specs.Own.{block_of};
 /// How many items a block has.
 pub(crate) const BLOCK: usize = 32;
 
-/// A block of a list: cut short, or empty, where the list ends.
+/// A block of a list: cut short, or empty, if the list ends.
 pub(crate) fn block<T>(items: &[T], b: usize) -> &[T]
     ensures { result.now ≡ block_of b items.now }
 {

@@ -23,7 +23,7 @@ use vx_mailbox::{Attentions, Boxes};
 use vx_reqs::Reqs;
 use vx_timers::Timers;
 
-// Adds the process of a declaration at a place, where it is there from the start.
+// Adds the process of a declaration at a place, if it is there from the start.
 fn add_started<R: Routine>(
     alloc: Global,
     procs: &mut Vec<Proc<R>>,

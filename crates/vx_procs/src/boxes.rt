@@ -74,7 +74,7 @@ impl<R: Routine> Core<R> {
         self.boxes.bufquo(b)
     }
 
-    /// Whether it stays where no channel is assigned to it.
+    /// Whether it stays if no channel is assigned to it.
     pub fn is_permanent(&self, b: BoxNo) -> bool
         requires { BoxStands (ground self.now.state) b }
         ensures { result ≡ (mailbox_at self.now.state b).permanent }

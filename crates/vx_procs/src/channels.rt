@@ -22,7 +22,7 @@ fn cond_of(fail: ChanFail) -> Cond
     }
 }
 
-// The condition of a refusal, where it is one.
+// The condition of a refusal, if it is one.
 fn or_cond(answer: Result<u32, ChanFail>) -> Result<u32, Cond>
     ensures { result ≡ or_cond answer }
 {
@@ -43,7 +43,7 @@ impl<R: Routine> Core<R> {
     }
 
     /// The device and the mode of a channel that a process may use now. IVCHAN exactly where the number is none of a channel, NOPRIV
-    /// where the channel is free or of a mode further in than the one in which the process runs.
+    /// if the channel is free or of a mode further in than the one in which the process runs.
     pub fn channel(&self, p: Pid, n: u32) -> Result<(Device, Mode), Cond>
         requires { IsProcess self.now.state p }
         ensures { channel_test self.now.state p n ≡ channel_of result }
@@ -55,7 +55,7 @@ impl<R: Routine> Core<R> {
         }
     }
 
-    /// The device of a channel, where it is assigned, whatever its mode.
+    /// The device of a channel, if it is assigned, whatever its mode.
     pub fn channel_device(&self, p: Pid, n: u32) -> Option<Device>
         requires made { IsProcess self.now.state p }
         requires number { IsTrue (is_channel_number n) }

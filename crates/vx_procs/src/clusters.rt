@@ -123,7 +123,7 @@ impl<R: Routine> Core<R> {
     }
 
     /// A process has the cluster of its group and this name as the cluster of a flag from 64 to 127, in place of what it had there;
-    /// the cluster is made where it is new ($ASCEFC). Takes no memory.
+    /// the cluster is made if it is new ($ASCEFC). Takes no memory.
     pub fn associate(
         &mut self,
         p: Pid,
@@ -156,7 +156,7 @@ impl<R: Routine> Core<R> {
         self.clusters.dissociate(p, efn, &mut self.log)
     }
 
-    /// Marks a permanent cluster of a process's group for deletion; it goes at once where nobody has it ($DLCEFC). Takes no
+    /// Marks a permanent cluster of a process's group for deletion; it goes at once if nobody has it ($DLCEFC). Takes no
     /// memory.
     pub fn mark_cluster(&mut self, p: Pid, name: Name) -> Result<(), AscFail>
         requires made { IsProcess self.old.state p }

@@ -44,7 +44,7 @@ impl<R: Routine> Proc<R> {
         mix(flags, self.cluster_1.bits() as u64)
     }
 
-    // The statement of its top frame, 0 where it has none.
+    // The statement of its top frame, 0 if it has none.
     fn top_place(&self) -> u32
         ensures { result ≡ place_in (first (process self.now).frames) }
     {

@@ -69,7 +69,7 @@ impl KeptUnit {
         })
     }
 
-    /// The same unit again, with what the end of its next service needs where it had that.
+    /// The same unit again, with what the end of its next service needs if it had that.
     pub(crate) fn duplicate(&self, alloc: Global) -> Result<KeptUnit, NoMemory>
         requires { IsIn self.now }
         ensures unit { IfOk result (λ copy. copy.unit ≡ self.now.unit) }
@@ -139,7 +139,7 @@ impl KeptUnit {
         }
     }
 
-    /// Makes what the end of a service of a request needs. Where memory is short, nothing is changed; nor is a unit made ready that is
+    /// Makes what the end of a service of a request needs. If memory is short, nothing is changed; nor is a unit made ready that is
     /// out or has served.
     pub(crate) fn prepare(&mut self, alloc: Global, req: &Req) -> Result<(), NoMemory>
         requires { IsTrue (is_for_unit req.now) }

@@ -1,4 +1,4 @@
-//! Whether a process has an event, where the process alone tells it.
+//! Whether a process has an event, if the process alone tells it.
 
 ghost use Rattle.std.specs.Prelude.{◌≡◌, ◌≤◌};
 ghost use Rattle.vx_procs.specs.Own.{hold_own, is_synchronized_own, own_event, own_phase, own_run, own_wait};
@@ -104,7 +104,7 @@ impl<R: Routine> Proc<R> {
         }
     }
 
-    /// Whether it has an event; None where others must be asked.
+    /// Whether it has an event; None if others must be asked.
     pub(crate) fn own_event(&self) -> Option<bool>
         ensures { result ≡ own_event (process self.now) }
     {

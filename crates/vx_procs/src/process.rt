@@ -69,7 +69,7 @@ pub fn timer_need(with_ast: bool) -> Need
     }
 }
 
-/// What an AST needs, where it is charged.
+/// What an AST needs, if it is charged.
 pub fn ast_need(charged: bool) -> Need
     ensures { result ≡ ast_need charged }
 {
@@ -105,7 +105,7 @@ fn put_flag(flags: &mut Flags, n: u8, on: bool)
 }
 
 impl<R: Routine> Proc<R> {
-    /// The mode of its top frame, user mode where it has none.
+    /// The mode of its top frame, user mode if it has none.
     pub(crate) fn mode(&self) -> Mode
         ensures { result ≡ top_mode (process self.now).frames }
     {
@@ -147,7 +147,7 @@ impl<R: Routine> Proc<R> {
         self.store.set(Target::R0, r0);
     }
 
-    // A wake is used up where it was waited for.
+    // A wake is used up if it was waited for.
     fn use_wake(&mut self, wait: Wait)
         ensures after { process self.new ≡ uses_wake wait (process self.old) }
         ensures books { books_of self.new ≡ books_of self.old }
@@ -243,7 +243,7 @@ impl<R: Routine> Proc<R> {
         Some(delivery)
     }
 
-    /// Queues an AST, and charges it where it is to be.
+    /// Queues an AST, and charges it if it is to be.
     pub(crate) fn queue(&mut self, id: Id, mode: Mode, routine: R, counted: bool)
         requires free { length (process self.old).asts < (room_of self.old).asts }
         ensures after { process self.new ≡ with_queued (record { id = id; mode = mode; tag = R.tagged routine; charged = counted }) (process self.old) }
@@ -254,7 +254,7 @@ impl<R: Routine> Proc<R> {
         let _had_left = self.account.charge(ast_need(counted));
     }
 
-    /// Charges an amount, where so much is left.
+    /// Charges an amount, if so much is left.
     pub(crate) fn charge(&mut self, need: Need)
         ensures after { process self.new ≡ process self.old }
         ensures room { room_of self.new ≡ room_of self.old }
@@ -365,7 +365,7 @@ impl<R: Routine> Proc<R> {
         !self.account.has_left(need)
     }
 
-    /// Its AST that may start: none where it is suspended or has no frame.
+    /// Its AST that may start: none if it is suspended or has no frame.
     pub(crate) fn deliverable(&self) -> Option<Id>
         ensures { result ≡ option_map (λ q. q.id) (deliverable_of (process self.now)) }
     {

@@ -92,7 +92,7 @@ fn clear_log(log: &mut Effects, effects: u32) -> Result<(), NoMemory>
 impl<R: Routine> Core<R> {
     /// Makes good what spare room the last event used, and makes room for a timer, a process, a cluster, an association, a request and
     /// an attention entry more, for a message more in each mailbox, for an exit handler more of the process whose event it is, and for
-    /// as many effects as are told. Nothing that the state says is changed, even where memory is short. (A time beyond 2^63 has no room
+    /// as many effects as are told. Nothing that the state says is changed, even if memory is short. (A time beyond 2^63 has no room
     /// for timers either.)
     pub fn begin(&mut self, effects: u32, caller: Option<Pid>) -> Result<(), NoMemory>
         requires { IfSome caller (IsProcess self.old.state) }

@@ -35,7 +35,7 @@ pub(crate) fn image_in(system: &System, place: u32) -> &Image
     &system.images.as_slice()[decl_in(system, place).image as usize]
 }
 
-// The place that a label of an image names, by its place among the labels, from 0; 0 where there is no such label.
+// The place that a label of an image names, by its place among the labels, from 0; 0 if there is no such label.
 fn place_of(image: &Image, label: u32) -> u32
     ensures { result ≡ place_of image.now label }
 {
@@ -98,7 +98,7 @@ impl<R: Routine> Core<R> {
         image_in(self.system.get(), self.process_of(p).decl)
     }
 
-    /// The mode in which a process runs: that of its top frame, user mode where it has none.
+    /// The mode in which a process runs: that of its top frame, user mode if it has none.
     pub fn current_mode(&self, p: Pid) -> Mode
         requires { IsProcess self.now.state p }
         ensures { result ≡ current self.now.state p }
@@ -130,7 +130,7 @@ impl<R: Routine> Core<R> {
         self.process_of(p).store.value(Target::R0)
     }
 
-    /// The AST of a process that may start, if there is one; none where it is suspended or has no frame.
+    /// The AST of a process that may start, if there is one; none if it is suspended or has no frame.
     pub fn deliverable(&self, p: Pid) -> Option<Id>
         requires { IsProcess self.now.state p }
         ensures { result ≡ option_map (λ q. q.id) (deliverable_ast self.now.state p) }

@@ -41,7 +41,7 @@ fn see<R: Routine>(proc: &Proc<R>) -> Option<Seen>
     })
 }
 
-/// Looks at those processes of a block of which nothing is remembered, and remembers them where they have a place.
+/// Looks at those processes of a block of which nothing is remembered, and remembers them if they have a place.
 pub(crate) fn look<R: Routine>(seen: &mut Vec<Option<Seen>>, procs: &[Proc<R>], b: usize)
     requires { AreSeen seen.old.items (map process procs.now) }
     ensures { AreSeen seen.new.items (map process procs.now) }

@@ -88,7 +88,7 @@ impl<R: Routine> Core<R> {
         self.procs.at_mut(p).store.put(b, bytes)
     }
 
-    /// Fills an I/O status block of a process, 1 to 32, or clears it where the condition is none and the numbers are 0.
+    /// Fills an I/O status block of a process, 1 to 32, or clears it if the condition is none and the numbers are 0.
     pub fn set_status(&mut self, p: Pid, i: u32, cond: Option<Cond>, count: u32, info: u32)
         requires made { IsProcess self.old.state p }
         requires above { 1 ≤ i }

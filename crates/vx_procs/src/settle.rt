@@ -25,7 +25,7 @@ impl<R: Routine> Core<R> {
     }
 
     /// How many processes of a block have an event, if each alone tells whether it has one. The blocks are of 32 processes, and
-    /// numbered from 0. None where that is not known without a look at each. Takes no memory.
+    /// numbered from 0. None if that is not known without a look at each. Takes no memory.
     pub fn block_events(&self, b: u32) -> Option<u32>
         ensures { IfSome result (λ n. AreOwn n (block_of b self.now.state.procs)) }
     {

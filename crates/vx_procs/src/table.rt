@@ -164,7 +164,7 @@ impl<R: Routine> Procs<R> {
         refresh(&mut self.seen, &mut self.summaries, self.items.as_slice());
     }
 
-    /// Whether a process has an event; None where that is not known without a look at it.
+    /// Whether a process has an event; None if that is not known without a look at it.
     pub(crate) fn event_of(&self, p: Pid) -> Option<bool>
         requires { IsWithin (length self.now.items) p }
         ensures { IfSome result (λ has. own_event (slice_index_or (map process self.now.items) (p.0 - 1) nobody) ≡ Some has) }
@@ -179,7 +179,7 @@ impl<R: Routine> Procs<R> {
         remembered(&self.summaries, b)
     }
 
-    /// How many processes of a block have an event; None where that is not known without a look at each.
+    /// How many processes of a block have an event; None if that is not known without a look at each.
     pub(crate) fn events_in(&self, b: usize) -> Option<u32>
         ensures { IfSome result (λ n. AreOwn n (block_of b (map process self.now.items))) }
     {

@@ -34,7 +34,7 @@ impl<R: Routine> Core<R> {
         self.units[u.0 as usize].outputs()
     }
 
-    /// Makes what the end of the next service of a unit needs, where a request waits for it. Where memory is short, nothing is
+    /// Makes what the end of the next service of a unit needs, if a request waits for it. If memory is short, nothing is
     /// changed; nor is a unit made ready that is out or has served.
     pub fn prepare(&mut self, u: UnitNo) -> Result<(), NoMemory>
         requires { IsSome (front u self.old.state.requests) }

@@ -11,7 +11,7 @@ pub record Quotas : Type 0 where
 abbrev pub has_left : Quotas → Need → Bool
 has_left q need = is_within (together q.used need) q.limits
 
--- the amount charged in each account, where that is within the limits, and else in none
+-- the amount charged in each account, if that is within the limits, and else in none
 abbrev pub charged : Quotas → Need → Quotas
 charged q need = if has_left q need then record q { used = together q.used need } else q
 

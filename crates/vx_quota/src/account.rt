@@ -37,7 +37,7 @@ impl Account {
         Account { used, limits }
     }
 
-    /// Charges an amount in each account and answers true; or changes nothing and answers false, where that much more
+    /// Charges an amount in each account and answers true; or changes nothing and answers false, if that much more
     /// is above a limit.
     pub fn charge(&mut self, need: Need) -> bool
         ensures done { result ≡ has_left self.old need }
@@ -75,7 +75,7 @@ impl Account {
     }
 }
 
-/// Two amounts of one account together, where that is within its limit.
+/// Two amounts of one account together, if that is within its limit.
 fn amount_within(used: u32, need: u32, limit: u32) -> Option<u32>
     ensures { result ≡ (if nat_le (used + need) limit then Some (used + need) else None) }
 {
@@ -87,7 +87,7 @@ fn amount_within(used: u32, need: u32, limit: u32) -> Option<u32>
     }
 }
 
-/// Two amounts together, in each account, where that is within the limits.
+/// Two amounts together, in each account, if that is within the limits.
 fn sum_within(used: Need, need: Need, limits: Need) -> Option<Need>
     ensures { result ≡ (if is_within (together used need) limits then Some (together used need) else None) }
 {

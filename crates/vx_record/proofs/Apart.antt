@@ -64,7 +64,7 @@ here_after s p l es t m k h = let kept = moves_keep s l es t m k h.base in recor
 pub part_then : {refs : Bool} (s : State) (p : Pid) (l m n : Option Loose) (a : Part) (f : State → Part) → Here s p → MovesBy refs s l a.effects a.after m → (Here a.after p → MovesBy refs a.after m (f a.after).effects (f a.after).after n) → MovesBy refs s l (and_then a f).effects (and_then a f).after n
 part_then s p l m n a f h k g = both s a.after (f a.after).after l m n a.effects (f a.after).effects k (g (here_after s p l a.effects a.after m k h))
 
--- the same where the state alone matters
+-- the same if the state alone matters
 pub based_then : {refs : Bool} (s : State) (a : Part) (f : State → Part) → Base s → PartBy refs s a → (Base a.after → PartBy refs a.after (f a.after)) → PartBy refs s (and_then a f)
 based_then s a f h k g = both s a.after (f a.after).after None None None a.effects (f a.after).effects k (g (moves_keep s None a.effects a.after None k h).base)
 
@@ -92,7 +92,7 @@ pub each_free : {refs : Bool} {A : Type 0} (f : State → A → Part) → ((t : 
 each_free f k [] s = none s None
 each_free f k (x ∷ xs) s = let a = f s x in both s a.after (each f xs a.after).after None None None a.effects (each f xs a.after).effects (k s x) (each_free f k xs a.after)
 
--- where each relies on what the others leave
+-- if each relies on what the others leave
 pub each_moves : {refs : Bool} {A : Type 0} (key : A → ℕ) (f : State → A → Part) (P : State → A → Type 0) → ((t : State) (x : A) → Base t → P t x → PartBy refs t (f t x)) → ((t : State) (x y : A) → P t x → key x + 1 ≤ key y → P t y → P (f t x).after y) → (low high : ℕ) (xs : List A) (s : State) → AreOrdered key low high xs → AllByRecursion (P s) xs → Base s → PartBy refs s (each f xs s)
 each_moves key f P go keep low high [] s o k h = none s None
 each_moves {A} key f P go keep low high (x ∷ xs) s o k h =
@@ -260,7 +260,7 @@ last_of : {A : Type 0} (P : A → Type 0) (xs : List A) (x : A) → AllByRecursi
 last_of P [] x k = k.0
 last_of P (y ∷ ys) x k = last_of P ys x k.1
 
--- what was appended last is found by its id, where all others have lesser ones
+-- what was appended last is found by its id, if all others have lesser ones
 newest : {A : Type 0} (key : A → ℕ) (low high : ℕ) (xs : List A) (x : A) → key x ≡ high → AreOrdered key low high xs → find (λ z. key z == key x) (xs ++ x ∷ []) ≡ Some x
 newest key low high xs x e h = last_of (λ y. find (λ z. key z == key y) (xs ++ x ∷ []) ≡ Some y) xs x (all_found key low (high + 1) (xs ++ x ∷ []) (ordered_more key low high xs x e h))
 
@@ -328,7 +328,7 @@ attention_on_moves s p q (device.Unit u) o h room ok = none s None
 attention_on_moves s p q (device.Mailbox b) None h room ok = none s None
 attention_on_moves s p q (device.Mailbox b) (Some tag) h room ok = attention_set_moves s p q b tag h room (ok b tag refl refl)
 
--- the room is as it was where neither lists nor limits change
+-- the room is as it was if neither lists nor limits change
 
 abbrev pub IsChargedAs : State → State → Pid → Type 0
 IsChargedAs s t p = (t.system ≡ s.system) × (charge t p ≡ charge s p) × (limits_of t p ≡ limits_of s p)

@@ -1,4 +1,4 @@
--- What stands where a request is accepted, and stays while its flag and its status block are cleared.
+-- What stands when a request is accepted, and stays while its flag and its status block are cleared.
 use Rattle.std.proofs.Common.{◌≡◌, ℕ, ◌-◌, ◌≤◌, Bool, true, not, ◌==◌, nat_lt, Option, Some, Ok, IfSome, refl, ◌∙◌, subst}
 use Rattle.std.proofs.lemmas.Bool.{ltb-false, or_parts}
 use Rattle.vx_base.specs.Channels.{is_channel_number, channel_at}

@@ -30,7 +30,7 @@ use Rattle.vx_record.specs.Events.{returned, run_on, run, started, delivered, do
 abbrev pub fixed : State → System × List DeviceUnit
 fixed s = (s.system, s.units)
 
--- what is chosen keeps it where both do
+-- what is chosen keeps it if both do
 both : {A : Type 0} (s : State) (b : Bool) (x y : Outcome A) → fixed x.after ≡ fixed s → fixed y.after ≡ fixed s → fixed (cond b x y).after ≡ fixed s
 both s true x y h k = h
 both s false x y h k = k
@@ -182,7 +182,7 @@ delivered_kept s p (Some q) = started_kept q.tag
     started_kept (entry.Exit code) = exited_kept (change s p (without_ast q.id)) p code
     started_kept tag = refl
 
--- the units after an event: where a service ends, its unit is another
+-- the units after an event: if a service ends, its unit is another
 abbrev units_served : State → UnitNo → Option Request → List DeviceUnit
 units_served s u None = s.units
 units_served s u (Some r) = (with_unit s u (settled (unit_at s u) r.req)).units

@@ -102,7 +102,7 @@ pub still_then : {s t u : State} → Still s t → Still t u → Still s u
 still_then {s} {t} {u} a b = record { sound = b.sound; keeps = keeps_more (ground s) (ground t) (ground u) a.keeps b.keeps }
 
 -- other processes, mailboxes and units
--- where what requests and attention entries refer to is shown of each
+-- if what requests and attention entries refer to is shown of each
 pub rebuilt : (s : State) (procs : List Process) (boxes : List (Option Mailbox)) (units : List DeviceUnit) → length units ≡ length s.units → Base (ground s) (ground (record s { procs = procs; boxes = boxes; units = units })) → AllByRecursion (ProcessStands (ground (record s { procs = procs; boxes = boxes; units = units }))) procs → AllByRecursion (RequestStands (ground (record s { procs = procs; boxes = boxes; units = units }))) s.requests → AllByRecursion (AttentionStands (ground (record s { procs = procs; boxes = boxes; units = units }))) s.attention → IsFirm s → IsFirm (record s { procs = procs; boxes = boxes; units = units })
 rebuilt s procs boxes units e b f r a h = grind (arith, all_weaker, association_moves, timer_moves)
 

@@ -89,11 +89,11 @@ abbrev pub IsOfTimer : Alarm → Type 0
 IsOfTimer (OfTimer efn reqid mode tag) = ⊤
 IsOfTimer (OfWake target repeat) = ⊥
 
--- What references ask of moves: where they are answered for, the premise holds in each state whose references stand.
+-- What references ask of moves: if they are answered for, the premise holds in each state whose references stand.
 abbrev pub Answers : Bool → State → Type 0 → Type 0
 Answers refs s P = refs ≡ true → IsFirm s → P
 
--- a change of a process that references are not on: it drains no more than before, it has no frame where it drains, and its
+-- a change of a process that references are not on: it drains no more than before, it has no frame if it drains, and its
 -- frames wait for status blocks that it has
 pub record IsCalm (x y : Process) : Type 0 where
   pub going : (m : Mode) → is_drained x.phase m ≡ false → is_drained y.phase m ≡ false
@@ -122,7 +122,7 @@ pub record IsSilent (refs : Bool) (s : State) (p : Pid) (f : Process → Process
   pub statuses : (f (process_at s p)).store.statuses ≡ (process_at s p).store.statuses
   pub tame : Answers refs s (IsTame s p f)
 
--- a channel is assigned where none was, to a device that stands; nothing hangs on one that is freed
+-- a channel is assigned if none was, to a device that stands; nothing hangs on one that is freed
 abbrev pub IsRow : State → Pid → ℕ → Option Channel → Type 0
 IsRow s p n None = IsProcess s p × (IsTrue (is_channel_number n) × IsClear s p n)
 IsRow s p n (Some ch) = (channel_at (process_at s p).channels n ≡ None) × DeviceStands (ground s) ch.device

@@ -65,7 +65,7 @@ pub record IsClear (s : State) (p : Pid) (n : ℕ) : Type 0 where
 number_above : (n : ℕ) → is_channel_number n ≡ true → 1 ≤ n
 number_above n e = leb-true 1 n (and_parts (nat_le 1 n) (nat_le n 64) e).0
 
--- a channel stays where it is not the one that goes
+-- a channel stays if it is not the one that goes
 channel_stays : (s : State) (p q : Pid) (n m : ℕ) (b : BoxNo) (mode : Mode) → IsProcess s p → IsProcess s q → is_channel_number n ≡ true → (is_same q p && (m == n)) ≡ false → HasChannel (ground s) q m b mode → HasChannel (ground (change s p (with_channel n None))) q m b mode
 channel_stays s p q n m b mode made also number other c =
     let ch : Channel = record { device = device.Mailbox b; mode = mode } in

@@ -1,4 +1,4 @@
--- References stand where one thing is added, changed or taken.
+-- References stand if one thing is added, changed or taken.
 use Rattle.std.proofs.Common.{◌≡◌, ℕ, [], ◌∷◌, ◌++◌, refl, List, Option, Some, None, IsTrue, is_some, arith, zero, suc, ◌<◌, length, replicate, get_or}
 use Rattle.vx_base.specs.Lists.{less}
 use Rattle.vx_record.specs.Types.{BoxNo, Handler, Id, Mailbox, Mode, Pid, Privs, Queued, Request, Timer}

@@ -33,7 +33,7 @@ tested_channel s p n ch e = grind (arith, usable_row)
 pub device_stands : (s : State) (p : Pid) (n : ℕ) (ch : Channel) → IsProcess s p → channel_at (process_at s p).channels n ≡ Some ch → IsFirm s → DeviceStands (ground s) ch.device
 device_stands s p n ch m e h = subst (ChannelStands (ground s)) e (all_get (ChannelStands (ground s)) (process_at s p).channels (n - 1) None tt (firm_at s p h m).channels)
 
--- What stands where a request is accepted.
+-- What stands when a request is accepted.
 
 pub rooted_new : (g : Ground) (p : Pid) (n : ℕ) (mode : Mode) (d : Device) → is_channel_number n ≡ true → channel_at (process_of g p).channels n ≡ Some (record { device = d; mode = mode }) → IsRooted g p n mode d
 rooted_new g p n mode (device.Unit u) a e = tt

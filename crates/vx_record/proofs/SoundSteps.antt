@@ -33,7 +33,7 @@ use Rattle.vx_record.proofs.Fixed.{step_keeps_system}
 
 -- By moves.
 
--- ids rise, and owners are there, where references stand
+-- ids rise, and owners are there, if references stand
 sound_base : (s : State) → IsSound s → Base s
 sound_base s h = grind (arith, all_weaker)
 

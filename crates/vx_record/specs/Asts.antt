@@ -40,7 +40,7 @@ abbrev pub deliverable_at : Process → List Frame → Option Queued
 deliverable_at pr [] = None
 deliverable_at pr (f ∷ fs) = deliverable pr.enables f.mode (active_mode (f ∷ fs)) pr.asts
 
--- the AST that may start: none where the process has no frame or is suspended
+-- the AST that may start: none if the process has no frame or is suspended
 abbrev pub deliverable_ast : State → Pid → Option Queued
 deliverable_ast s p = if (process_at s p).suspended then None else deliverable_at (process_at s p) (process_at s p).frames
 

@@ -31,7 +31,7 @@ withdraw s r (device.Mailbox b) = withdraw_from s r b
 abbrev pub cancelled_request : State → Request → Part
 cancelled_request s r = and_then (withdraw s r r.req.device) (λ a. finish a r (ending Cancel 0 0 []))
 
--- one in service gets its mark where it has none; any other is withdrawn where it is stored, and finishes
+-- one in service gets its mark if it has none; any other is withdrawn if it is stored, and finishes
 abbrev pub cancel_request : State → Request → Part
 cancel_request s r = if r.served then part_if (not r.marked) (mark_part s r) s else cancelled_request s r
 

@@ -132,7 +132,7 @@ delmbx_at s p ch = delmbx_on s p ch.device
 abbrev pub delmbx : State → Pid → ℕ → Outcome Cond
 delmbx s p n = at_channel s p n (delmbx_at s p)
 
--- Freeing a channel: its mailbox goes with the last channel to it, where it is temporary or marked; its messages are lost.
+-- Freeing a channel: its mailbox goes with the last channel to it, if it is temporary or marked; its messages are lost.
 
 abbrev pub has_channel_to : BoxNo → Process → Bool
 has_channel_to b pr = list_any (is_channel_to b) pr.channels

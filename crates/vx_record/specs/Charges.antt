@@ -86,7 +86,7 @@ charge s p = record {
 abbrev pub exceeds : State → Pid → Need → Bool
 exceeds s p need = not (is_within (together (charge s p) need) (limits_of s p))
 
--- an AST where there is one
+-- an AST if there is one
 abbrev pub ast_need : Bool → Need
 ast_need with_ast = record no_need { ast = if with_ast then 1 else 0 }
 

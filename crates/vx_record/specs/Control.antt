@@ -19,7 +19,7 @@ use Rattle.vx_record.specs.Asts.{open_part, que_part}
 use Rattle.vx_record.specs.declared.served.Served.{Served}
 use Rattle.vx_record.specs.declared.served.Served.TheVariants.{Answered, Waits}
 
--- Process test: 0 is the caller; NONEXPR for a process that was not made, is deleted or was named by $DELPRC; NOPRIV where
+-- Process test: 0 is the caller; NONEXPR for a process that was not made, is deleted or was named by $DELPRC; NOPRIV if
 -- the caller may not control it.
 
 abbrev pub is_deleted_phase : Phase → Bool
@@ -68,7 +68,7 @@ with_wake on pr = record pr { wake_pending = on }
 abbrev pub with_suspension : Bool → Process → Process
 with_suspension on pr = record pr { suspended = on }
 
--- $HIBER: a pending wake is used up; where none pends it waits
+-- $HIBER: a pending wake is used up; if none pends it waits
 abbrev pub hiber : State → Pid → Outcome Served
 hiber s p =
     if (process_at s p).wake_pending then answered (Answered Normal) (nothing (change s p (with_wake false))) else

@@ -118,7 +118,7 @@ resumed s p w c = answered (answer.Resume c) (nothing (change s p (resumed_with 
 abbrev pub moved_to : Storage → ℕ → Process → Process
 moved_to store place pr = record pr { store = store; frames = with_top (λ f. record f { pc = place }) pr.frames }
 
--- a call is served with the place behind it; R0 takes the condition last, and keeps its value where the service waits
+-- a call is served with the place behind it; R0 takes the condition last, and keeps its value if the service waits
 abbrev pub served_call : Pid → Call → Outcome Served → Served → Outcome Answer
 served_call p c o (Answered cond) = record { answer = answer.Service c cond; effects = o.effects; after = change o.after p (with_r0 (number_of cond)) }
 served_call p c o Waits = record { answer = answer.Wait c; effects = o.effects; after = o.after }

@@ -52,15 +52,15 @@ with_stored_status i status pr = record pr { store = with_status pr.store i stat
 abbrev pub put_status : State → Pid → ℕ → Status → Part
 put_status s p i status = tells (effect.Iosb p i status.cond status.count status.info) (change s p (with_stored_status i status))
 
--- the status block, where the call named one
+-- the status block, if the call named one
 abbrev pub iosb_part : State → Pid → ℕ → Status → Part
 iosb_part s p i status = part_if (not (i == 0)) (put_status s p i status) s
 
--- the event flag, where its number names a cell now
+-- the event flag, if its number names a cell now
 abbrev pub done_flag_part : State → Req → Part
 done_flag_part s r = flag_where_named s (cell s r.p r.efn) true
 
--- the AST, where there is one; it is charged until it starts
+-- the AST, if there is one; it is charged until it starts
 abbrev pub done_ast_part : State → Req → Option Promised → Part
 done_ast_part s r None = nothing s
 done_ast_part s r (Some ast) = que_part s r.p (charged_ast r.id ast.mode ast.tag)

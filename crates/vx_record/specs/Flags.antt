@@ -59,12 +59,12 @@ with_cell s (Common group name n) on = record s { common = record s.common { clu
 abbrev pub flag_part : State → Cell → Bool → Part
 flag_part s c on = tells (effect.Flag c on) (with_cell s c on)
 
--- a flag set or cleared where its number names a cell
+-- a flag set or cleared if its number names a cell
 abbrev pub flag_where_named : State → Option Cell → Bool → Part
 flag_where_named s None on = nothing s
 flag_where_named s (Some c) on = flag_part s c on
 
--- Flag test: ILLEFC above 127, UNASEFC where no cell is named.
+-- Flag test: ILLEFC above 127, UNASEFC if no cell is named.
 
 abbrev pub at_named : {A : Type 0} → (Cond → Outcome A) → (Cell → Outcome A) → Option Cell → Outcome A
 at_named refuse go None = refuse UnasEfc
@@ -116,7 +116,7 @@ where_named holds (Some c) = normal_if (holds c)
 abbrev pub is_synchronized : State → Pid → ℕ → Cell → Bool
 is_synchronized s p iosb c = is_set_in s c && ((iosb == 0) || is_filled (status_at (process_at s p).store iosb))
 
--- the condition with which a wait ends now, None where it is not satisfied
+-- the condition with which a wait ends now, None if it is not satisfied
 abbrev pub wait_condition : State → Pid → Wait → Option Cond
 wait_condition s p (wait.Flags efn mask all) = where_named (flags_hold s mask all) (cell s p efn)
 wait_condition s p (wait.Synch efn iosb) = where_named (is_synchronized s p iosb) (cell s p efn)
@@ -128,7 +128,7 @@ with_wait w pr = record pr { frames = with_top (λ f. record f { wait = w }) pr.
 abbrev pub refused_wait : State → Cond → Outcome Served
 refused_wait s c = answered (Answered c) (nothing s)
 
--- a service that waits answers at once where its wait is satisfied, and else leaves the wait in the top frame
+-- a service that waits answers at once if its wait is satisfied, and else leaves the wait in the top frame
 abbrev pub awaited_at : State → Pid → Wait → Option Cond → Outcome Served
 awaited_at s p w None = answered Waits (nothing (change s p (with_wait (Some w))))
 awaited_at s p w (Some c) = answered (Answered c) (nothing s)

@@ -123,7 +123,7 @@ abbrev pub take_message : State → BoxNo → Request → List Msg → Part
 take_message s b r [] = wait_for_message s b r
 take_message s b r (m ∷ ms) = and_then (received s b m r) (λ a. part_if m.held (write_done a m) a)
 
--- a read: it takes the oldest message, whose write finishes where it is held; or waits; or with NOW finds an end of file
+-- a read: it takes the oldest message, whose write finishes if it is held; or waits; or with NOW finds an end of file
 abbrev pub read_box : State → BoxNo → Request → Part
 read_box s b r = take_message s b r (mailbox_at s b).messages
 

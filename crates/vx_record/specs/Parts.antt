@@ -26,7 +26,7 @@ tells effect after = record { effects = effect ∷ []; after = after }
 abbrev pub and_then : Part → (State → Part) → Part
 and_then a f = record { effects = a.effects ++ (f a.after).effects; after = (f a.after).after }
 
--- a part where a test holds
+-- a part if a test holds
 abbrev pub part_if : Bool → Part → State → Part
 part_if test part s = if test then part else nothing s
 
@@ -46,7 +46,7 @@ refused s c = answered c (nothing s)
 abbrev pub refused_value : {A : Type 0} → State → Cond → Outcome (Result A Cond)
 refused_value s c = answered (Err c) (nothing s)
 
--- what is done with what a test found; where it refuses, its refusal alone
+-- what is done with what a test found; if it refuses, its refusal alone
 abbrev pub at_tested : {A : Type 0} → State → (A → Outcome Cond) → Result A Cond → Outcome Cond
 at_tested s go (Err c) = refused s c
 at_tested s go (Ok x) = go x

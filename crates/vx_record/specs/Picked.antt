@@ -10,7 +10,7 @@ abbrev pub next_place : List ℕ → ℕ
 next_place [] = 0
 next_place (p ∷ ps) = p
 
--- the rest of the run from a record on, where the event is there
+-- the rest of the run from a record on, if the event is there
 abbrev pub follow : State → List ℕ → Option Event → (State → List ℕ → Event → List Rec) → List Rec
 follow s ps None go = []
 follow s ps (Some e) go = go s (rest ps) e

@@ -73,7 +73,7 @@ abbrev pub on_cell : State → Pid → Asked → Option Cell → Result (Cell ×
 on_cell s p q None = Err UnasEfc
 on_cell s p q (Some c) = on_channel (device_test s p q c) (channel_test s p q.chan)
 
--- the cell of its flag and its channel, where a request is accepted
+-- the cell of its flag and its channel, if a request is accepted
 abbrev pub request_test : State → Pid → Asked → Result (Cell × Channel) Cond
 request_test s p q = if is_bad q then Err BadParam else (if nat_lt 127 q.efn then Err IllEfc else on_cell s p q (cell s p q.efn))
 
@@ -169,7 +169,7 @@ qiow_tested s p q (Ok to) = followed_by (accepted s p q to.0 to.1) (λ a. awaite
 abbrev pub qiow : State → Pid → Asked → Outcome Served
 qiow s p q = qiow_tested s p q (request_test s p q)
 
--- $SYNCH: the flag, and the status block where one is named
+-- $SYNCH: the flag, and the status block if one is named
 abbrev pub synch : State → Pid → ℕ → ℕ → Outcome Served
 synch s p efn iosb =
     if nat_lt 32 iosb then refused_wait s BadParam else at_flag s p efn (refused_wait s) (waits_on s p (wait.Synch efn iosb))

@@ -184,7 +184,7 @@ drop_all_handlers p s = drop_handlers s p any_handler
 abbrev pub gone : State → Pid → Outcome Answer
 gone s p = answered answer.Gone (and_then (and_then (drop_all_handlers p s) (drop_timers (is_wake_for p))) (gone_part p))
 
--- a mode is drained: where a request is outstanding, that is waited for; else its things are released, and what is next follows
+-- a mode is drained: if a request is outstanding, that is waited for; else its things are released, and what is next follows
 abbrev pub drain : Pid → Mode → (State → Outcome Answer) → State → Outcome Answer
 drain p m next s = if is_busy s p m then answered answer.Busy (nothing s) else followed_by (release s p m) next
 
@@ -194,7 +194,7 @@ draining p m s = change s p (in_phase (phase.Draining m))
 abbrev pub cancelled_in : State → Pid → Mode → Part
 cancelled_in s p m = and_then (cancel_modes s p m) (λ a. nothing (draining p m a))
 
--- the newest handler of the mode is entered; where there is none, the mode is cancelled and drained
+-- the newest handler of the mode is entered; if there is none, the mode is cancelled and drained
 abbrev pub run_handlers : State → Pid → Mode → (State → Outcome Answer) → Option Handler → Outcome Answer
 run_handlers s p m next None = followed_by (cancelled_in s p m) (drain p m next)
 run_handlers s p m next (Some h) = entered s p h

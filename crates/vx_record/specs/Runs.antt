@@ -89,7 +89,7 @@ record_of s e = record { event = e; answer = (step s e).answer; effects = (step 
 abbrev pub pick : ℕ → Event → List Event → Event
 pick x e es = slice_index_or (e ∷ es) (picked (next_seed x) (length (e ∷ es))) e
 
--- the rest of the run from a record on, where there are events
+-- the rest of the run from a record on, if there are events
 abbrev pub choose : State → ℕ → List Event → (State → ℕ → Event → List Rec) → List Rec
 choose s x [] go = []
 choose s x (e ∷ es) go = go s (next_seed x) (pick x e es)

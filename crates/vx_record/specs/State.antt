@@ -34,7 +34,7 @@ pub record Process : Type 0 where
 
 -- The whole: what the script says; the time, in ticks, and the next id; the processes in number order; the common event
 -- flag clusters with their associations; the outstanding requests in order of acceptance; timers and scheduled wakes, and
--- attention entries, each in id order; the mailboxes by number, from 0, None where there is none; the units.
+-- attention entries, each in id order; the mailboxes by number, from 0, None if there is none; the units.
 pub record State : Type 0 where
   pub system : System
   pub time : ℕ

@@ -54,7 +54,7 @@ setimr_at s p efn delta tag reqid c =
 abbrev pub setimr : State → Pid → ℕ → ℕ → Option Entry → ℕ → Outcome Cond
 setimr s p efn delta tag reqid = at_flag s p efn (refused s) (setimr_at s p efn delta tag reqid)
 
--- $CANTIM: the caller's timers of the mode or outer ones, of that identification or of any where it is 0
+-- $CANTIM: the caller's timers of the mode or outer ones, of that identification or of any if it is 0
 
 abbrev pub is_cancelled_alarm : ℕ → Mode → Alarm → Bool
 is_cancelled_alarm reqid m (OfTimer efn id mode tag) = reaches mode m && ((reqid == 0) || (id == reqid))
@@ -116,7 +116,7 @@ abbrev pub after_wake : State → Timer → ℕ → State
 after_wake s t repeat =
     if repeat == 0 then record s { timers = less (this_timer t.id) s.timers } else record s { timers = amend (this_timer t.id) (due_again repeat) s.timers }
 
--- a timer fires, sets its flag where the number names one now, and queues its AST; a wake fires and pends
+-- a timer fires, sets its flag if the number names one now, and queues its AST; a wake fires and pends
 abbrev pub fired : State → Timer → Alarm → Part
 fired s t (OfTimer efn reqid mode tag) = and_then (and_then (fire_timer s t) (λ a. flag_where_named a (cell a t.p efn) true)) (λ b. que_timer b t mode tag)
 fired s t (OfWake target repeat) = tells (effect.Fire t.id) (change (after_wake s t repeat) target (with_wake true))

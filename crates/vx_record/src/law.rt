@@ -15,13 +15,13 @@ pub fn references_stand_at_first()
 {}
 
 /// What the state names is there, and no two open things have one id, after a service that a process with a frame calls,
-/// where that held before it, and where the call's labels are labels of the process's image.
+/// if that held before it, and if the call's labels are labels of the process's image.
 pub fn references_stand_after_each_service()
     ensures { (s : State) (p : PidOf) (c : CallOf) → FitsImage (image_of s p) c → IsProcess s p → HasFrame s p → IsSound s →
         IsSound (service s p c).after }
 {}
 
-/// What the state names is there, and no two open things have one id, after each enabled event, where that held before it.
+/// What the state names is there, and no two open things have one id, after each enabled event, if that held before it.
 pub fn references_stand_after_each_step()
     ensures { (s : State) (e : EventOf) → IsWellFormed s.system → IsSound s → Contains (enabled s) e →
         IsSound (step s e).after }

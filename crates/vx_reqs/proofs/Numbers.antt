@@ -49,7 +49,7 @@ none_in p x xs e =
       | false ↦ λ is found. (is, found)
     ] refl e
 
--- where the unit serves none, any number will do
+-- if the unit serves none, any number will do
 pub keep_unserved : (u : UnitNo) (from served other : ℕ) (xs : List Place) → None ≡ find (holds (is_served_by u)) xs → AllKeep u from served xs → AllKeep u from other xs
 keep_unserved u from served other [] none h = tt
 keep_unserved u from served other (x ∷ xs) none h =

@@ -31,7 +31,7 @@ other_in id i (Some r) own differs = ne_eqb r.req.id.0 id.0 (λ e. differs (sym 
 pub is_other : (id : Id) (x : Place) → IsOwn x → x.id.0 ≢ id.0 → holds (this_request id) x ≡ false
 is_other id x own differs = other_in id x.id x.request own differs
 
--- where none passes before a place that does, it is the first
+-- if none passes before a place that does, it is the first
 pub place_first : {X : Type 0} (p : X → Bool) (xs : List X) (i : ℕ) (d : X) → i < length xs → ((k : ℕ) → k < i → p (get_or xs k d) ≡ false) → p (get_or xs i d) ≡ true → Some i ≡ position p xs
 place_first p xs i d within before here =
     let at : position_or_len p xs ≡ i = position_or_len_is p xs i d (omega arith) before (λ _. here) in

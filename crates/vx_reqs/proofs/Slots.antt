@@ -14,11 +14,11 @@ use Rattle.vx_reqs.specs.Slots.{AreHeld, AreKeys, IsOther, has_key, place_of, pl
 use Rattle.vx_reqs.specs.declared.slot.Slot.{Slot as SlotOf}
 use Rattle.vx_reqs.proofs.Live.{live_kept, live_put}
 
--- where the head has the key, no other place has it
+-- if the head has the key, no other place has it
 apart : (slab : Slab Request) (xs : List SlotOf) (o : Option ℕ) (key : ℕ) → o ≡ Some key → IfSome o (λ k. ContainsKey slab k × AllByRecursion (IsOther k) xs) → ContainsKey slab key × AllByRecursion (IsOther key) xs
 apart slab xs o key is keys = subst (λ (p : Option ℕ). IfSome p (λ k. ContainsKey slab k × AllByRecursion (IsOther k) xs)) is keys
 
--- where a place behind has the key, the head has another
+-- if a place behind has the key, the head has another
 differs_from : (slab : Slab Request) (xs : List SlotOf) (o : Option ℕ) (key at : ℕ) (d : SlotOf) → IfSome o (λ k. ContainsKey slab k × AllByRecursion (IsOther k) xs) → at < length xs → (get_or xs at d).key ≡ Some key → o ≢ Some key
 differs_from slab xs o key at d keys lt is = λ same. all_at (IsOther key) xs at d (apart slab xs o key same keys).1 lt is
 
@@ -297,7 +297,7 @@ module _ (slab : Slab Request) (slots : List SlotOf) (room space : ℕ) (kept : 
     pub put_places : places_of new (slots ++ record { id = i; key = Some key } ∷ []) ≡ places_of slab slots ++ record { id = i; request = Some r } ∷ []
     put_places = push_places slab new key (Some r) updates slots i r free refl kept.keys
 
--- the same where the empty places may have been taken out before
+-- the same if the empty places may have been taken out before
 module _ (slab : Slab Request) (slots : List SlotOf) (room space : ℕ) (kept : AreHeld slots slab room space) (others : List SlotOf) (same : (others ≡ slots) ⊎ (others ≡ filter has_key slots)) where
   pub either_held : AreHeld others slab room space
   either_held = elim same [

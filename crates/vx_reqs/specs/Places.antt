@@ -55,7 +55,7 @@ pub record IsOrdered (next : ℕ) (from served : List ℕ) (places : List Place)
   pub rises : Rises 0 places next
   pub units : (u : UnitNo) → u.0 < 32 → AllKeep u (get_or from u.0 0) (get_or served u.0 0) places
 
--- so it is where it is so said
+-- the same, if it is said to be so
 abbrev pub OrderedIf : Bool → ℕ → List ℕ → List ℕ → List Place → Type 0
 OrderedIf rising next from served places = IsTrue rising → IsOrdered next from served places
 

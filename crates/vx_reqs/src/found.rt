@@ -47,7 +47,7 @@ pub(crate) fn stands<R: Routine>(places: &Places<R>, at: usize, sought: Sought) 
     }
 }
 
-/// Where the first request of that kind stands, of those from a place on, where none stands before.
+/// Where the first request of that kind stands, of those from a place on, if none stands before.
 pub(crate) fn place_from<R: Routine>(
     places: &Places<R>,
     first: usize,
@@ -67,7 +67,7 @@ pub(crate) fn place_from<R: Routine>(
     None
 }
 
-/// Where the only request of that kind stands, among ids that rise, where only the one with that id may be of it.
+/// Where the only request of that kind stands, among ids that rise, if only the one with that id may be of it.
 pub(crate) fn place_among<R: Routine>(
     places: &Places<R>,
     next: u64,
@@ -87,7 +87,7 @@ pub(crate) fn place_among<R: Routine>(
     }
 }
 
-/// Where the request with an id stands. Where the ids rise, as from a counter, in the logarithm of the places.
+/// Where the request with an id stands. If the ids rise, as from a counter, in the logarithm of the places.
 pub(crate) fn place_of_id<R: Routine>(places: &Places<R>, order: &Order, id: Id) -> Option<usize>
     requires { OrderedIf order.now.rising order.now.next order.now.from order.now.served places.now.items }
     ensures place { result ≡ position (holds (this_request id)) places.now.items }

@@ -88,7 +88,7 @@ fn put(numbers: &mut [u64; 32], u: UnitNo, number: u64)
     }
 }
 
-// Puts the number of a device, where it is a unit with a greater one.
+// Puts the number of a device, if it is a unit with a greater one.
 fn lower(numbers: &mut [u64; 32], device: Device, number: u64)
     ensures here { (u : UnitNo) → u.0 < 32 → is_unit u device ≡ true → get_or numbers.new u.0 0 ≤ number }
     ensures all { (u : UnitNo) → get_or numbers.new u.0 0 ≤ get_or numbers.old u.0 0 }

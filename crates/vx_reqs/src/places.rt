@@ -213,7 +213,7 @@ impl<R: Routine> Places<R> {
         self.room = 0;
     }
 
-    /// Puts a request behind the others, and takes memory for it. Where there is none, nothing has changed.
+    /// Puts a request behind the others, and takes memory for it. If there is none, nothing has changed.
     pub(crate) fn push(&mut self, request: Outstanding<R>) -> Result<(), NoMemory>
         ensures after { OnOk result (self.new.items ≡ self.old.items ++ record { id = request.req.id; request = Some request } ∷ []) }
         ensures err { OnErr result (self.new.items ≡ self.old.items) }

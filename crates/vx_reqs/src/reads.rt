@@ -67,7 +67,7 @@ fn put(numbers: &mut [u64; 64], b: BoxNo, number: u64)
     }
 }
 
-// Puts the number of a device, where it is a mailbox with a greater one.
+// Puts the number of a device, if it is a mailbox with a greater one.
 fn lower(numbers: &mut [u64; 64], device: Device, number: u64)
     ensures here { (b : BoxNoOf) → b.0 < 64 → is_box b device ≡ true → get_or numbers.new b.0 0 ≤ number }
     ensures all { (b : BoxNoOf) → get_or numbers.new b.0 0 ≤ get_or numbers.old b.0 0 }
@@ -80,7 +80,7 @@ fn lower(numbers: &mut [u64; 64], device: Device, number: u64)
     }
 }
 
-/// Where the first read stands that waits at a mailbox. Where the ids rise, it is looked for from where it is known to be.
+/// Where the first read stands that waits at a mailbox. If the ids rise, it is looked for from where it is known to be.
 pub(crate) fn place_read<R: Routine>(
     places: &Places<R>,
     order: &Order,
@@ -100,7 +100,7 @@ pub(crate) fn place_read<R: Routine>(
     }
 }
 
-// Notes where the first read is that waits at a mailbox, where the ids rise.
+// Notes where the first read is that waits at a mailbox, if the ids rise.
 fn settle_box<R: Routine>(reads: &mut Reads, places: &Places<R>, order: &Order, b: BoxNo)
     requires order { OrderedIf order.now.rising order.now.next order.now.from order.now.served places.now.items }
     requires reads { AreFrom reads.old.from places.now.items }
@@ -112,7 +112,7 @@ fn settle_box<R: Routine>(reads: &mut Reads, places: &Places<R>, order: &Order, 
     }
 }
 
-/// Notes where the first read is that waits at a device, where it is a mailbox.
+/// Notes where the first read is that waits at a device, if it is a mailbox.
 pub(crate) fn settle_reads<R: Routine>(
     reads: &mut Reads,
     places: &Places<R>,

@@ -75,7 +75,7 @@ impl<R: Routine> Reqs<R> {
         self.reads.forget();
     }
 
-    /// Puts a request behind the others, where nothing is known of where they are, and takes memory for it.
+    /// Puts a request behind the others, if nothing is known of where they are, and takes memory for it.
     pub(crate) fn push(&mut self, request: Outstanding<R>) -> Result<(), NoMemory>
         ensures { OnOk result (self.new.items ≡ self.old.items ++ request ∷ []) }
     {

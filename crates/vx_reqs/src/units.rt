@@ -12,7 +12,7 @@ use crate::places::Places;
 use crate::sought::Sought;
 use vx_base::{Device, Routine, UnitNo};
 
-/// Where the first request stands that waits for a unit. Where the ids rise, it is looked for from where it is known to be.
+/// Where the first request stands that waits for a unit. If the ids rise, it is looked for from where it is known to be.
 pub(crate) fn place_waiting<R: Routine>(
     places: &Places<R>,
     order: &Order,
@@ -30,7 +30,7 @@ pub(crate) fn place_waiting<R: Routine>(
     }
 }
 
-/// Where the request stands that a unit serves. Where the ids rise, in the logarithm of the places.
+/// Where the request stands that a unit serves. If the ids rise, in the logarithm of the places.
 pub(crate) fn place_served<R: Routine>(
     places: &Places<R>,
     order: &Order,
@@ -98,7 +98,7 @@ pub(crate) fn settle_unit<R: Routine>(order: &mut Order, places: &Places<R>, u: 
     order.settle(u, id_at(places, place));
 }
 
-/// Notes where the first request is that waits for a device, where it is a unit.
+/// Notes where the first request is that waits for a device, if it is a unit.
 pub(crate) fn settle<R: Routine>(order: &mut Order, places: &Places<R>, device: Device)
     requires { OrderedIf order.old.rising order.old.next order.old.from order.old.served places.now.items }
     ensures { OrderedIf order.new.rising order.new.next order.new.from order.new.served places.now.items }

@@ -93,7 +93,7 @@ ready_label decls image place current l left stmts is r =
       all_named = r.all_named;
     }
 
--- what follows where no label stands here
+-- what follows if no label stands here
 abbrev Next : List (List ℕ) → Image → Parts → List (List ℕ) → List Stmt → ℕ → Type 0
 Next decls image parts rest stmts place = (line : ℕ) (current : DraftImage) (left : List Label) → Ready decls image place current left stmts → IsLater place left → Bodied line parts current (body_lines image.labels place left stmts ++ rest) rest image.labels stmts
 

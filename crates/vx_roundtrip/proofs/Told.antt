@@ -36,7 +36,7 @@ pub record Said : Type 0 where
 abbrev pub are_created : List (List ℕ) → List Creation → Type 0
 are_created names creations = list_all (λ c. is_among c.name names) creations ≡ true
 
--- the lines that were read say this, where the process declarations are to have these names
+-- the lines that were read say this, if the process declarations are to have these names
 pub record Told (names : List (List ℕ)) (parts : Parts) (said : Said) : Type 0 where
   pub units : parts.units ≡ said.units
   pub inputs : map plain_input parts.inputs ≡ said.inputs

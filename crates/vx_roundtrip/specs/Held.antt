@@ -40,7 +40,7 @@ IsHeldImage i = IsTrue (is_name i.name) × AllByRecursion IsHeldLabelOf i.labels
 abbrev pub IsHeldDecl : ProcDecl → Type 0
 IsHeldDecl d = IsTrue (is_name d.name)
 
--- Each unit, image and process declaration. The numbers of these that are not named here have limits where the system is well formed.
+-- Each unit, image and process declaration. The numbers of these that are not named here have limits if the system is well formed.
 pub record IsHeldSystem (s : System) : Type 0 where
   pub units : AllByRecursion IsHeldUnit s.units
   pub images : AllByRecursion IsHeldImage s.images

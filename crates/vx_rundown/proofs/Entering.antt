@@ -49,7 +49,7 @@ frame_same s p h made = rw (process_there s p out made) (ap (λ (pc : ℕ). let 
     at (entry.Exit code) = refl
     at (entry.Host prm) = refl
 
--- the state where it was taken out and is entered
+-- the state if it was taken out and is entered
 entered_state : (s : State) (p : Pid) (h : Handler) → IsProcess s p → find (is_handler_of h.mode) (process_at s p).handlers ≡ Some h → IsTrue (handlers_have_own_ids (process_at s p).handlers) → (let u = change s p (without_sought (Of h.mode)) in change u p (with_frame (handler_frame u p h)) ≡ (entered s p h).after)
 entered_state s p h made found own =
     let hs = (process_at s p).handlers in
@@ -59,7 +59,7 @@ entered_state s p h made found own =
     ∙ (change_again s p out (with_frame (handler_frame s p h)) made
     ∙ ap (λ (xs : List Handler). change s p (λ pr. record pr { handlers = xs; frames = handler_frame s p h ∷ pr.frames })) left)
 
--- Where one was taken out.
+-- If one was taken out.
 
 pub enter_leaving : (k n : KernelOf) (p : Pid) (m : Mode) (id : Id) (tag : Entry) → IsLeaving k p → Some (id, tag) ≡ option_map known (find (is_sought (Of m)) (process_at k.state p).handlers) → n ≡ changed k p (without_sought (Of m)) → IsLeaving n p
 enter_leaving k n p m id tag h found out =
@@ -76,12 +76,12 @@ enter_room k n p m id tag found out room = grind arith
 pub enter_done : (k n q : KernelOf) (p : Pid) (m : Mode) (id : Id) (tag : Entry) (x : Answer) → IsLeaving k p → Some (id, tag) ≡ option_map known (find (is_sought (Of m)) (process_at k.state p).handlers) → n ≡ changed k p (without_sought (Of m)) → Does (entered_as n.state p (record { id = id; mode = m; tag = tag })) x n q → Does (passed_on p m k.state) (Some x) k q
 enter_done k n q p m id tag x h found out did = grind (arith, handler_known, acted, entered_state, own_handlers_at)
 
--- Where there is none: the mode is cancelled and drained.
+-- If there is none: the mode is cancelled and drained.
 
 pub none_passed : (s : State) (p : Pid) (m : Mode) → None ≡ option_map known (find (is_sought (Of m)) (process_at s p).handlers) → passed_on p m s ≡ cancelled_and_drained p m s
 none_passed s p m found = ap (λ (o : Option Handler). passed_by p m o s) (none_known (find (is_handler_of m) (process_at s p).handlers) found)
 
--- the state where it is drained
+-- the state if it is drained
 pub drained_at : (k o r : KernelOf) (p : Pid) (m : Mode) → Acts (cancel_modes k.state p m) k o → r ≡ changed o p (in_phase (phase.Draining m)) → r ≡ acted k (cancelled_in k.state p m)
 drained_at k o r p m did drains = acts_both k o r (cancel_modes k.state p m) (λ a. nothing (draining p m a)) did (drains ∙ told_none (changed o p (in_phase (phase.Draining m))))
 

@@ -25,7 +25,7 @@ use Rattle.vx_rundown.specs.Leaving.{IsLeaving}
 use Rattle.vx_rundown.proofs.Standing.{base_of, sound_moved}
 use Rattle.vx_record.proofs.OwnIds.{tally_less}
 
--- The processes are those that were there, with their declarations and frames, and no more ASTs are owed to them; and where rows is
+-- The processes are those that were there, with their declarations and frames, and no more ASTs are owed to them; and if rows is
 -- true, the channels are those that were there.
 pub record Follows (rows : Bool) (s t : State) : Type 0 where
   pub system : t.system ≡ s.system

@@ -74,14 +74,14 @@ mode_is s p m ms made =
 pub then_few : (o : Outcome (Option Answer)) (next : State → Outcome Answer) → length o.effects ≤ length (then_on o next).effects
 then_few o next = grind (arith, length-append)
 
--- where a mode answers, that is the answer
+-- if a mode answers, that is the answer
 pub then_ends : (o : Outcome (Option Answer)) (next : State → Outcome Answer) (x : Answer) (k l : KernelOf) → Does o (Some x) k l → Does (then_on o next) x k l
 then_ends o next x k l did = subst (λ (y : Option Answer). Does (then_by y (part_of o) next) x k l) did.answers (record { answers = refl; leaves = did.leaves })
 
 pub then_goes : (o : Outcome (Option Answer)) (next : State → Outcome Answer) (k l : KernelOf) → Does o None k l → then_on o next ≡ followed_by (part_of o) next
 then_goes o next k l did = ap (λ (y : Option Answer). then_by y (part_of o) next) (sym did.answers)
 
--- The state where a mode was passed.
+-- The state if a mode was passed.
 
 drained_leaving : (p : Pid) (m : Mode) (k : KernelOf) → (process_at k.state p).phase ≡ phase.Draining m → IsLeaving k p → IsLeaving (with_state k (drained p m k.state).after) p
 drained_leaving p m k draining h =
@@ -120,7 +120,7 @@ running_at {p} {whole} {first} {k} n is h = subst (λ (x : Option Mode). IsRunni
 inner_next : (m : Mode) → modes_from (next_inner m) ≡ inner_modes m
 inner_next m = grind arith
 
--- the answer, where it is known
+-- the answer, if it is known
 pub does_as : {A : Type 0} {o : Outcome A} {x y : A} {k l : KernelOf} → x ≡ y → Does o x k l → Does o y k l
 does_as is h = record { answers = sym is ∙ h.answers; leaves = h.leaves }
 

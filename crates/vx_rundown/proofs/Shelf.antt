@@ -85,7 +85,7 @@ drop_more sh p test first k l n id h given there tells_it =
 pub drop_fewer : {A : Type 0} (sh : Shelf A) (p : Pid) (test : A → Bool) (k l : Kernel) (id : Id) → IsProcess k.state p → Some id ≡ option_map sh.id (find test (sh.get (process_at k.state p))) → l ≡ changed k p (without sh test) → length (sh.get (process_at l.state p)) < length (sh.get (process_at k.state p))
 drop_fewer sh p test k l id made given there = grind (arith, some_mapped, length-less, there_got)
 
--- nothing is taken out where none is found
+-- nothing is taken out if none is found
 still : {A : Type 0} (sh : Shelf A) (p : Pid) (test : A → Bool) (s : State) → find test (sh.get (process_at s p)) ≡ None → change s p (without sh test) ≡ s
 still sh p test s none = grind (arith, less_none, set-get_or)
 

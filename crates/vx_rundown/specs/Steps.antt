@@ -1,4 +1,4 @@
--- Rundown mode by mode: what a mode comes to, an answer, or none where the next mode follows.
+-- Rundown mode by mode: what a mode comes to, an answer, or none if the next mode follows.
 use Rattle.std.specs.Prelude.{List, [], ◌∷◌, Option, Some, None, if◌then◌else◌}
 use Rattle.std.specs.List.{find}
 use Rattle.vx_record.specs.Types.{Answer, Handler, Mode, Pid}
@@ -34,7 +34,7 @@ drained p m s = if is_busy s p m then answered (Some answer.Busy) (nothing s) el
 abbrev pub cancelled_and_drained : Pid → Mode → State → Outcome (Option Answer)
 cancelled_and_drained p m s = followed_by (cancelled_in s p m) (drained p m)
 
--- the newest handler of the mode is entered; where there is none, the mode is cancelled and drained
+-- the newest handler of the mode is entered; if there is none, the mode is cancelled and drained
 abbrev pub passed_by : Pid → Mode → Option Handler → State → Outcome (Option Answer)
 passed_by p m None s = cancelled_and_drained p m s
 passed_by p m (Some h) s = answered (Some (entered s p h).answer) (part_of (entered s p h))
@@ -46,7 +46,7 @@ passed_on p m s = passed_by p m (find (is_handler_of m) (process_at s p).handler
 abbrev pub passed : Pid → Mode → State → Outcome (Option Answer)
 passed p m s = passed_on p m (handling p m s)
 
--- where it answers, that is the answer; else the next follows
+-- if it answers, that is the answer; else the next follows
 abbrev pub then_by : Option Answer → Part → (State → Outcome Answer) → Outcome Answer
 then_by None a next = followed_by a next
 then_by (Some x) a next = answered x a

@@ -25,7 +25,7 @@ fn delete<R: Routine>(core: &mut Core<R>, q: Pid) -> Cond
 }
 
 /// $DELPRC: names for deletion the process that a number names, 0 for the caller: its frames go, its exit handlers end without being
-/// entered, and it is run down: NONEXPR where there is no such process, NOPRIV where the caller may not control it.
+/// entered, and it is run down: NONEXPR if there is no such process, NOPRIV if the caller may not control it.
 pub fn delprc<R: Routine>(core: &mut Core<R>, p: Pid, n: u32) -> Cond
     requires ready { IsReady core.old p }
     requires ids { (q : Pid) → IsProcess core.old.state q → IsTrue (handlers_have_own_ids (process_at core.old.state q).handlers) }

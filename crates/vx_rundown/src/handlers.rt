@@ -48,7 +48,7 @@ pub(crate) fn drop_handlers<R: Routine>(core: &mut Core<R>, p: Pid, which: Sough
     }
 }
 
-// The newest exit handler of a process of a mode and with a tag ends: NOHANDLER where there is none.
+// The newest exit handler of a process of a mode and with a tag ends: NOHANDLER if there is none.
 fn cancel_newest<R: Routine>(core: &mut Core<R>, p: Pid, mode: Mode, tag: Entry) -> Cond
     requires made { IsProcess core.old.state p }
     requires ids { IsTrue (handlers_have_own_ids (process_at core.old.state p).handlers) }
@@ -81,8 +81,8 @@ fn cancel_handlers<R: Routine>(core: &mut Core<R>, p: Pid, tag: Option<Entry>) -
     }
 }
 
-/// $CANEXH: the caller's newest exit handler with this routine ends, or all of its mode where none is named: IVSSRQ in kernel mode,
-/// NOHANDLER where the routine is of no handler of its mode.
+/// $CANEXH: the caller's newest exit handler with this routine ends, or all of its mode if none is named: IVSSRQ in kernel mode,
+/// NOHANDLER if the routine is of no handler of its mode.
 pub fn canexh<R: Routine>(core: &mut Core<R>, p: Pid, tag: Option<Entry>) -> Cond
     requires ready { IsReady core.old p }
     requires ids { IsTrue (handlers_have_own_ids (process_at core.old.state p).handlers) }

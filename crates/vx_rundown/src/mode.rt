@@ -90,7 +90,7 @@ fn enter<R: Routine>(core: &mut Core<R>, p: Pid, id: Id, mode: Mode, entry: Entr
     Answer::Handler
 }
 
-/// A mode that is drained is released, and the next may follow; where a request keeps it busy, that is the answer.
+/// A mode that is drained is released, and the next may follow; if a request keeps it busy, that is the answer.
 pub(crate) fn drain<R: Routine>(core: &mut Core<R>, p: Pid, mode: Mode) -> Option<Answer>
     requires leaving { IsLeaving core.old p }
     requires phase { (process_at core.old.state p).phase ≡ Draining mode }
@@ -115,7 +115,7 @@ fn cancel_and_drain<R: Routine>(core: &mut Core<R>, p: Pid, mode: Mode) -> Optio
     drain(core, p, mode)
 }
 
-// The newest handler of a mode is entered, which is the answer; where there is none, the mode is cancelled and drained.
+// The newest handler of a mode is entered, which is the answer; if there is none, the mode is cancelled and drained.
 fn pass_on<R: Routine>(core: &mut Core<R>, p: Pid, mode: Mode) -> Option<Answer>
     requires leaving { IsLeaving core.old p }
     requires room { Fits core.old (passed_on p mode core.old.state).effects }
@@ -127,7 +127,7 @@ fn pass_on<R: Routine>(core: &mut Core<R>, p: Pid, mode: Mode) -> Option<Answer>
     }
 }
 
-/// Rundown comes to a mode: its newest handler is entered, which is the answer; where there is none, the mode is cancelled and drained.
+/// Rundown comes to a mode: its newest handler is entered, which is the answer; if there is none, the mode is cancelled and drained.
 pub(crate) fn pass<R: Routine>(core: &mut Core<R>, p: Pid, mode: Mode) -> Option<Answer>
     requires leaving { IsLeaving core.old p }
     requires room { Fits core.old (passed p mode core.old.state).effects }

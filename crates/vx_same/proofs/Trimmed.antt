@@ -1,4 +1,4 @@
--- Lists of a fixed length without the end, where that is all alike.
+-- Lists of a fixed length without the end, if that is all alike.
 use Rattle.std.proofs.Common.{◌≡◌, ℕ, zero, suc, ◌+◌, ◌-◌, ◌<◌, ◌≤◌, List, [], ◌∷◌, ◌++◌, Option, Some, None, IsSome, is_some, drop, length, max, replicate, slice_index_or, slice_set, take, inl, inr, ap, append_assoc, refl, sym, ◌∙◌, arith}
 use Rattle.std.proofs.Math.Nat.{le-max_left, le-max_right}
 use Rattle.std.proofs.lemmas.Bool.{cases_lt, false≢true}

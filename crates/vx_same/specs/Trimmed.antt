@@ -1,4 +1,4 @@
--- Lists of a fixed length without the end, where that is all alike.
+-- Lists of a fixed length without the end, if that is all alike.
 use Rattle.std.specs.Prelude.{ℕ, ◌-◌, List, [], ◌∷◌, ◌++◌, Option, Some, None, drop, length, replicate}
 
 -- so many items: the given ones, and others behind them that are all alike
@@ -9,7 +9,7 @@ filled_to n rest items = items ++ replicate (n - length items) rest
 abbrev pub laid_over : {A : Type 0} → ℕ → A → List A → List A → List A
 laid_over used rest first items = first ++ drop (length first) (replicate used rest ++ drop used items)
 
--- a missing item in front of others, or nothing where no other is left
+-- a missing item in front of others, or nothing if no other is left
 abbrev pub none_before : {A : Type 0} → List (Option A) → List (Option A)
 none_before [] = []
 none_before (x ∷ xs) = None ∷ x ∷ xs

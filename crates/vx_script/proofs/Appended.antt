@@ -11,7 +11,7 @@ use Rattle.vx_image.specs.WellFormed.{is_among, are_distinct, falls_nowhere}
 pub all_both : {A : Type 0} (p : A → Bool) (xs ys : List A) → list_all p (xs ++ ys) ≡ true → (list_all p xs ≡ true) × (list_all p ys ≡ true)
 all_both p xs ys h = and_parts (list_all p xs) (list_all p ys) (sym (list_all-append p xs ys) ∙ h)
 
--- one more where fewer than so many are there
+-- one more if fewer than so many are there
 pub few_push : {A : Type 0} (most : ℕ) (xs : List A) (x : A) → nat_lt (length xs) most ≡ true → nat_le (length (xs ++ x ∷ [])) most ≡ true
 few_push most xs x h = le-leb _ _ (omega (arith, ltb-true (length xs) most h, length-append xs (x ∷ [])))
 

@@ -7,7 +7,7 @@ pub after : {A B E : Type 0} (r : Result A E) (f : A → Result B E) (Q : B → 
 after (Ok x) f Q k = k x refl
 after (Err e) f Q k = tt
 
--- the same, where something is known of what the first reading gives
+-- the same, if something is known of what the first reading gives
 pub after_by : {A B E : Type 0} (r : Result A E) (f : A → Result B E) (P : A → Type 0) (Q : B → Type 0) → IfOk r P
     → ((x : A) → P x → IfOk (f x) Q) → IfOk (r >>= f) Q
 after_by (Ok x) f P Q h k = k x h

@@ -17,7 +17,7 @@ one_more units u h new =
     any_map (bytes_eq u.name) name units ∙ no_position (λ (v : UnitDecl). bytes_eq u.name v.name) units new in
     ap are_distinct (map_push name units u) ∙ distinct_push (unit_names units) u.name h absent
 
--- one more, or none where memory ran out
+-- one more, or none if memory ran out
 pub still_distinct : {E : Type 0} (r : Result (Unit {0}) E) (old new : List UnitDecl) (u : UnitDecl) → are_distinct (unit_names old) ≡ true
     → unit_place u.name old ≡ None → OnOk r (new ≡ old ++ u ∷ []) → OnErr r (new ≡ old) → are_distinct (unit_names new) ≡ true
 still_distinct (Ok _) old new u h absent ok err = ap (λ (units : List UnitDecl). are_distinct (unit_names units)) ok ∙ one_more old u h absent

@@ -134,7 +134,7 @@ neither None b h = (refl, h)
 neither (Some a) None h = absurd (cc h)
 neither (Some a) (Some b) h = absurd (cc h)
 
--- few images, with different names, and well formed where each label and each process declaration is there
+-- few images, with different names, and well formed if each label and each process declaration is there
 pub record AreImages (images : List Image) (creations : List Creation) (unlabelled : Option ℕ) : Type 0 where
   pub few : nat_le (length images) 256 ≡ true
   pub names : are_distinct (map (λ i. i.name) images) ≡ true

@@ -1,4 +1,4 @@
--- The INPUT lines of a unit, which is a line unit where it has any.
+-- The INPUT lines of a unit, which is a line unit if it has any.
 use Rattle.std.proofs.Common.{◌≡◌, ◌∙◌, ℕ, Bool, true, false, not, ◌&&◌, ◌||◌, ◌==◌, nat_le, List, [], ◌∷◌, ◌++◌, length, map, bytes_eq, refl, sym, ap, drop, IfOk}
 use Rattle.std.specs.List.{list_all, list_any}
 use Rattle.std.proofs.lemmas.Bool.{and_parts, and_from, or_parts, or_from, or_right, and_left, not-true, not-false}
@@ -56,7 +56,7 @@ first_or_other name u us true alone rest h =
 first_or_other name u us false alone rest h =
     and_from ((u.blocks == 0) || true) (list_all (is_line_or_other name) us) (or_right (u.blocks == 0) true refl) (rest h)
 
--- where a line unit has the name, each unit of that name is one: names differ
+-- if a line unit has the name, each unit of that name is one: names differ
 the_line_unit : (name : List ℕ) (us : List UnitDecl) → are_distinct (map (λ u. u.name) us) ≡ true → list_any (is_line_unit name) us ≡ true
     → list_all (is_line_or_other name) us ≡ true
 the_line_unit name [] h k = refl

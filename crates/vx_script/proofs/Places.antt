@@ -13,7 +13,7 @@ some_from p i (x ∷ xs) = by (p x) (some_from p (i + 1) xs)
     by true h = refl
     by false h = h
 
--- there is a place where one passes
+-- there is a place if one passes
 pub has_place : {A : Type 0} (p : A → Bool) (xs : List A) → is_some (position p xs) ≡ list_any p xs
 has_place p xs = ap (λ (o : Option ℕ). is_some o) (position_from-zero p xs) ∙ some_from p 0 xs
 

@@ -1,4 +1,4 @@
--- The fields of a line, from the left. Each is the first of the tokens that are left; where none is left it is missing.
+-- The fields of a line, from the left. Each is the first of the tokens that are left; if none is left it is missing.
 use Rattle.std.specs.Prelude.{ℕ, ◌==◌, ◌&&◌, Bool, true, false, nat_le, nat_lt, List, [], ◌∷◌, length, drop, codes, Option, None, Result, Ok, Err, bytes_eq, if◌then◌else◌}
 use Rattle.std.specs.List.{find}
 use Rattle.vx_base.specs.declared.call.Operand.{Operand}

@@ -20,7 +20,7 @@ use Rattle.vx_script.specs.declared.parts.Reading.{Reading}
 
 -- A line between IMAGE and END.
 
--- a statement, where one stands
+-- a statement, if one stands
 abbrev pub with_stmt : ℕ → DraftImage → List Tok → Result DraftImage FaultKind
 with_stmt line image [] = Ok image
 with_stmt line image (t ∷ tokens) = stmt_of t tokens >>= λ d. room_for 10000 (length image.lines) >>= λ _. Ok (record image { lines = image.lines ++ record { line = line; draft = d } ∷ [] })
@@ -43,7 +43,7 @@ going_on parts image = image >>= λ i. Ok (goes_on parts i)
 abbrev pub ended : Parts → DraftImage → List Tok → Result Reading FaultKind
 ended parts image tokens = end_at tokens >>= λ _. Ok (record { parts = with_image parts image; current = None })
 
--- a line that begins with a word: it is a label where a colon follows, whatever the word
+-- a line that begins with a word: it is a label if a colon follows, whatever the word
 abbrev pub word_line : ℕ → Parts → DraftImage → List ℕ → List Tok → Result Reading FaultKind
 word_line line parts image word tokens =
     if begins_with_sign 58 (drop 1 tokens) then going_on parts (labelled line image word (drop 2 tokens)) else (

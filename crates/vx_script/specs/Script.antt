@@ -97,7 +97,7 @@ image_lines i = (codes "IMAGE " ++ i.name) ∷ (body_lines i.labels 0 i.labels i
 
 -- Processes.
 
--- a privilege's name, where it is held
+-- a privilege's name, if it is held
 abbrev pub held : Privs → Privilege → List (List ℕ)
 held privs p = if holds privs p then privilege_name p ∷ [] else []
 

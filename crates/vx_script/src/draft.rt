@@ -13,7 +13,7 @@ use vx_names::{Named, Register};
 pub enum Draft {
     /// Goes on at a label.
     Goto(Name),
-    /// Goes on at a label where two values compare so.
+    /// Goes on at a label if two values compare so.
     If(Operand, Rel, Operand, Name),
     /// Goes to no label.
     Plain(Stmt),
@@ -70,7 +70,7 @@ impl DraftLines {
         self.items.len() as u32
     }
 
-    /// Appends a statement, where there are fewer than 10,000.
+    /// Appends a statement, if there are fewer than 10,000.
     pub fn push(&mut self, line: DraftLine) -> Result<(), NoMemory>
         requires { length self.old < 10000 }
         ensures { OnOk result (self.new ≡ self.old ++ line ∷ []) }

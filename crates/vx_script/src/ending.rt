@@ -101,7 +101,7 @@ fn push_creations(lines: &[DraftLine], creations: &mut Sequence<Creation>) -> Re
     Ok(())
 }
 
-// Where a label stands; 0 where it is none, which is a fault.
+// Where a label stands; 0 if it is none, which is a fault.
 fn label_number(labels: &Register<Label>, label: Name) -> u32
     ensures { result ≡ unwrap_or (label_place label labels.now) 0 }
 {

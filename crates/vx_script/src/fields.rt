@@ -176,7 +176,7 @@ fn take_tok(token: &mut Token) -> Tok
     mem::replace(&mut token.tok, Tok::Num(0))
 }
 
-/// The text that stands first, of at most 2,048 bytes, where no token stands behind it. Its bytes move out of its token.
+/// The text that stands first, of at most 2,048 bytes, if no token stands behind it. Its bytes move out of its token.
 pub fn last_text(tokens: &mut [Token]) -> Result<Bytes, FaultKind>
     ensures { result ≡ spec.last_text (toks tokens.old) }
 {

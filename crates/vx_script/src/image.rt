@@ -18,7 +18,7 @@ use vx_base::Name;
 use vx_image::Label;
 use vx_text::{Tok, Token};
 
-// A statement, where one stands.
+// A statement, if one stands.
 fn with_stmt(
     services: &Services,
     line: u32,

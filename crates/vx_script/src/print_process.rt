@@ -10,7 +10,7 @@ use vx_image::{Image, ProcDecl};
 use vx_table::mode_name;
 use vx_text::print_num;
 
-/// The name of the image at a place, empty where there is none.
+/// The name of the image at a place, empty if there is none.
 fn image_name(images: &[Image], place: u32) -> &[u8]
     ensures { result.now ≡ (slice_index_or images.now place no_image).name }
 {
@@ -28,7 +28,7 @@ fn print_key(key: &[u8], n: u32, out: &mut Bytes) -> Result<(), NoMemory>
     print_num(out, u64::from(n))
 }
 
-/// Appends a privilege's name behind a plus, where it is held.
+/// Appends a privilege's name behind a plus, if it is held.
 fn print_held(is_held: bool, name: &[u8], out: &mut Bytes) -> Result<(), NoMemory>
     ensures { OnOk result (out.new ≡ out.old ++ and_names (if is_held then name.now ∷ [] else [])) }
 {

@@ -34,7 +34,7 @@ fn field_name(field: Field) -> &'static [u8]
     }
 }
 
-/// The name of the label at a place of the list, empty where there is none.
+/// The name of the label at a place of the list, empty if there is none.
 fn label_name(labels: &[Label], place: u32) -> &[u8]
     ensures { result.now ≡ spec.label_name labels.now place }
 {
@@ -152,7 +152,7 @@ fn print_words(labels: &[Label], stmt: &StmtRef<'_>, out: &mut Bytes) -> Result<
     }
 }
 
-/// Appends a statement's line, where the image has these labels.
+/// Appends a statement's line, if the image has these labels.
 pub fn print_stmt(labels: &[Label], stmt: &StmtRef<'_>, out: &mut Bytes) -> Result<(), NoMemory>
     ensures { OnOk result (out.new ≡ out.old ++ (spec.stmt_line labels.now (meant stmt.now) ++ 10 ∷ [])) }
 {

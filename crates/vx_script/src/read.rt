@@ -62,7 +62,7 @@ fn opened(alloc: Global, reading: &mut Reading, tokens: &[Token]) -> Result<(), 
     Ok(())
 }
 
-// A line that begins with a word, where nothing stands open; the tokens are those behind the word.
+// A line that begins with a word, if nothing stands open; the tokens are those behind the word.
 fn outer_line(
     alloc: Global,
     line: u32,
@@ -240,7 +240,7 @@ fn nothing_read(alloc: Global) -> Reading
     }
 }
 
-// Reads the lines of a text, where nothing was read before.
+// Reads the lines of a text, if nothing was read before.
 fn read_lines(alloc: Global, reading: &mut Reading, text: &[u8]) -> Result<System, ScriptFail>
     requires { length text.now < 4294967295 }
     ensures { ReadsScript result (spec.read_lines 1 reading.old (lines_of text.now)) }

@@ -96,7 +96,7 @@ fn first_unknown(parts: &Parts) -> Option<u32>
     least_line(parts.unlabelled, least_line(unknown_creation(parts), rest))
 }
 
-// Appends the number of a FAULT line, where it is one of the unit.
+// Appends the number of a FAULT line, if it is one of the unit.
 fn add_fault(name: Name, fault: &FaultLine, numbers: &mut Vec<u32>) -> Result<(), NoMemory>
     ensures { OnOk result (numbers.new.items ≡ numbers.old.items ++ spec.fault_if name fault.now) }
 {
@@ -199,7 +199,7 @@ fn decl_of(images: &Register<Image>, decl: &DeclLine) -> ProcDecl
     }
 }
 
-// Where an image stands; 0 where it is none, which is a fault.
+// Where an image stands; 0 if it is none, which is a fault.
 fn image_number(images: &Register<Image>, image: Name) -> u32
     ensures { result ≡ unwrap_or (image_place image images.now) 0 }
 {

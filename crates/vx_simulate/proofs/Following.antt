@@ -84,7 +84,7 @@ followed_more before now later places left next recs r e place so_far going at p
       rest = ap (λ (e : Executive). on e next r) becomes ∙ (ap (λ (ps : List ℕ). on then ps r) moves ∙ (ap (λ (q : Rec). on then (rest left) q) is ∙ (append_assoc recs (record_of s e ∷ []) (picked_from (now.limit - (now.taken + 1)) (step s e).after (rest left)) ∙ (ap (λ rs. recs ++ rs) (sym one) ∙ so_far.rest))));
     }
 
--- where the rest has no record, the run so far is the whole
+-- if the rest has no record, the run so far is the whole
 follows_all : (before now : Executive) (places left : List ℕ) (recs : List Rec) → Following before now places left recs → picked_from (now.limit - now.taken) now.state left ≡ [] → Follows before now places recs
 follows_all before now places left recs so_far none = record {
   takes = so_far.takes;

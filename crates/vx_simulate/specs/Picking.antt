@@ -19,7 +19,7 @@ pub record EndsPicked (before after : Executive) (places : List ℕ) (recs : Lis
   pub follows : Follows before after places recs
   pub ended : end_of after.limit after.taken after.state ≡ Some end
 
--- The run goes on, but record n, the next, has no event at its place, where m events are enabled.
+-- The run goes on, but record n, the next, has no event at its place, if m events are enabled.
 pub record StopsBefore (before after : Executive) (places : List ℕ) (n m : ℕ) : Type 0 where
   pub recs : List Rec
   pub follows : Follows before after places recs

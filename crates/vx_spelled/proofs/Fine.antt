@@ -165,7 +165,7 @@ common_number efn h =
     let high = leb-true efn 127 parts.1 in
     (omega (arith, low, high), omega (arith, low, high))
 
--- where a number is one of a common cluster
+-- if a number is one of a common cluster
 refused_unless : (b : Bool) (x y : Outcome Cond) → OutFine x → (b ≡ true → OutFine y) → OutFine (cond (not b) x y)
 refused_unless true x y h k = k refl
 refused_unless false x y h k = h

@@ -1,4 +1,4 @@
--- What an event comes to has a spelling, where the event is enabled.
+-- What an event comes to has a spelling, if the event is enabled.
 use Rattle.std.proofs.Common.{◌≡◌, ℕ, ◌+◌, ◌<◌, true, cond, List, [], ◌∷◌, ◌++◌, length, Option, Some, None, refl, subst, arith}
 use Rattle.std.specs.Prelude.{⊤, Contains}
 use Rattle.std.specs.List.{AllByRecursion}

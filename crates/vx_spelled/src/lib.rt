@@ -6,7 +6,7 @@
 
 ghost use Rattle.vx_spelled.specs.Law.{RunsAreSpelled};
 
-/// The records of a run of a well formed system have a spelling, where their numbers, names and bytes are such as the program's
+/// The records of a run of a well formed system have a spelling, if their numbers, names and bytes are such as the program's
 /// types hold.
 #[tactic(auto, using(crate::proofs::Runs::runs_spelled))]
 pub fn runs_are_spelled()

@@ -17,7 +17,7 @@ stays t = not (is_comma t.tok)
 abbrev pub left : ℕ → List Token → List (List Tok)
 left at tokens = if nat_lt (length tokens) at then [] else cut (toks (drop at tokens))
 
--- the arguments, where no piece is left
+-- the arguments, if no piece is left
 abbrev pub finish : List Arg → List (List Tok) → Result Args CallFail
 finish args [] = Ok (args_of args)
 finish args (piece ∷ more) = Err fail.Extra

@@ -92,7 +92,7 @@ abbrev pub arg_or : ℕ → Option Arg → Result Arg CallFail
 arg_or k (Some a) = Ok a
 arg_or k None = Err (fail.Argument k)
 
--- what stands for argument k where it is left out, if it may be
+-- what stands in the place of argument k, if it may be left out
 abbrev pub default_of : ℕ → Param → Result Arg CallFail
 default_of k (Required wanted) = Err (fail.Missing k)
 default_of k (Optional wanted default) = Ok default
@@ -114,7 +114,7 @@ abbrev pub cut : List Tok → List (List Tok)
 cut [] = [] ∷ []
 cut (t ∷ more) = if is_comma t then [] ∷ cut more else onto_first t (cut more)
 
--- the tokens of each argument; where there are no tokens there are no arguments
+-- the tokens of each argument; if there are no tokens there are no arguments
 abbrev pub pieces : List Tok → List (List Tok)
 pieces [] = []
 pieces (t ∷ more) = cut (t ∷ more)

@@ -111,7 +111,7 @@ fn word_arg(kind: Kind, word: Name) -> Option<Arg>
     }
 }
 
-/// The argument of a kind that a token is, and None where it is none of its kind.
+/// The argument of a kind that a token is, and None if it is none of its kind.
 pub fn token_arg(kind: Kind, tok: &Tok) -> Option<Arg>
     ensures { result ≡ spec.token_arg kind tok.now }
 {

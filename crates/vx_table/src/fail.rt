@@ -9,6 +9,6 @@ pub enum CallFail {
     Argument(u8),
     /// This argument is left out, and has no default.
     Missing(u8),
-    /// There are more arguments than the service takes. It comes where no argument has a fault.
+    /// There are more arguments than the service takes. It comes if no argument has a fault.
     Extra,
 }

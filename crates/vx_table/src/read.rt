@@ -90,7 +90,7 @@ fn after(tokens: &[Token], at: usize) -> usize
     at + piece_len(&tokens[at..]) + 1
 }
 
-// The place where the first argument begins: behind the last one, where there are no tokens.
+// The place where the first argument begins: behind the last one, if there are no tokens.
 fn first_place(tokens: &[Token]) -> usize
     ensures left { cutting.left result tokens.now ≡ spec.pieces (spec.toks tokens.now) }
     ensures within { result ≤ length tokens.now + 1 }
@@ -114,7 +114,7 @@ fn args_of(args: &[Arg; 9]) -> Args
     }
 }
 
-// The arguments, where no argument is left.
+// The arguments, if no argument is left.
 fn finish(args: &[Arg; 9], tokens: &[Token], at: usize) -> Result<Args, CallFail>
     ensures { result ≡ cutting.finish args.now (cutting.left at tokens.now) }
 {

@@ -5,17 +5,17 @@ ghost use Rattle.vx_table.specs.Rows.{param_of};
 
 use vx_base::{Arg, Kind, Mode, Operand, Param};
 
-/// An argument of a row: its kind, and what stands for it where it is left out, if it may be. It has no `Arg` in it, which would have
+/// An argument of a row: its kind, and what stands in its place, if it may be left out. It has no `Arg` in it, which would have
 /// room for a name: so a row is small.
 #[derive(Clone, Copy, Debug)]
 pub enum Slot {
     /// It must be there.
     Required(Kind),
-    /// A value; where it is left out, this number.
+    /// A value; if it is left out, this number.
     Number(u32),
-    /// A mode; where it is left out, kernel mode.
+    /// A mode; if it is left out, kernel mode.
     Mode,
-    /// A label; where it is left out, none.
+    /// A label; if it is left out, none.
     Label,
 }
 

@@ -1,4 +1,4 @@
--- What is written where an input is not read whole.
+-- What is written if an input is not read whole.
 use Rattle.std.specs.Prelude.{ℕ, List, Option}
 use Rattle.vx_host.specs.Causes.{Rose}
 use Rattle.vx_host.specs.Streams.{Takes, TakesAtMost}

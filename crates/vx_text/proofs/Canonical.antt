@@ -74,7 +74,7 @@ inside_read (b ∷ bytes) rest h =
 pub text_read : (bytes : List ℕ) → AreBytes bytes → quoted_text (inside_text bytes ++ 34 ∷ []) ≡ Some (record { bytes = bytes; len = length (inside_text bytes) + 1 })
 text_read bytes h = inside_read bytes [] h
 
--- a text stands first where its spelling does
+-- a text stands first if its spelling does
 pub first-quote : (bytes rest : List ℕ) → AreBytes bytes → first (quote_text bytes ++ rest) ≡ Found (tok.Quote bytes) (length (quote_text bytes))
 first-quote bytes rest h =
     let inside = inside_text bytes in

@@ -70,7 +70,7 @@ word_of-name name h =
     let short : nat_lt 31 (length name) ≡ false = le-ltb _ _ n.short in
     rw (short, no_cond name n.bytes, h) refl
 
--- a run of a word's bytes stands first where it does
+-- a run of a word's bytes stands first if it does
 word-run : (run rest : List ℕ) (t : Tok) → list_all is_word_byte run ≡ true → stops is_word_byte rest → map to_upper run ≡ run → word_of run ≡ Some t → word (run ++ rest) ≡ Found t (length run)
 word-run run rest t bytes s capitals is =
     let cut : take_while is_word_byte (run ++ rest) ≡ run = run_of is_word_byte run rest bytes s in
@@ -96,11 +96,11 @@ cond_word : (c : Cond) → word_of (cond_text c) ≡ Some (tok.Cond c)
 cond_word Normal = refl
 cond_word _ = refl
 
--- a condition stands first where its spelling does
+-- a condition stands first if its spelling does
 pub first-cond : (c : Cond) (rest : List ℕ) → stops is_word_byte rest → first ((codes "SS$_" ++ name_of c) ++ rest) ≡ Found (tok.Cond c) (length (codes "SS$_" ++ name_of c))
 first-cond c rest s = first-cons 83 ((codes "S$_" ++ name_of c) ++ rest) ∙ letter_leads 83 (cond_text c ++ rest) refl ∙ word-run (cond_text c) rest (tok.Cond c) (cond_bytes c) s (cond_capitals c) (cond_word c)
 
--- a name stands first where a name does
+-- a name stands first if a name does
 pub first-name : (name rest : List ℕ) → is_name name ≡ true → stops is_word_byte rest → first (name ++ rest) ≡ Found (tok.Word name) (length name)
 first-name [] rest h s = absurd (omega (arith, (named [] h).some))
 first-name (b ∷ bs) rest h s =
@@ -128,7 +128,7 @@ service-name name rest h short s =
     let fits : nat_lt 30 (length name) ≡ false = le-ltb _ _ short in
     rw (run_of is_service_byte name rest (all_weaker is_name_byte is_service_byte (λ b k. grind (arith, nat_tests, k)) name n.bytes) s, names_upper name n.bytes, fits, h) refl
 
--- a service stands first where '$' and its name do
+-- a service stands first if '$' and its name do
 pub first-service : (name rest : List ℕ) → is_name name ≡ true → length name ≤ 30 → stops is_service_byte rest → first (36 ∷ (name ++ rest)) ≡ Found (tok.Service name) (1 + length name)
 first-service name rest h short s = first-cons 36 (name ++ rest) ∙ service-name name rest h short s
 

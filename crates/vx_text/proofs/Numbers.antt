@@ -52,7 +52,7 @@ first-digits n (b ∷ bs) rest h s k =
 pub decimal_some : (n : ℕ) → n < 2 ^ 32 → 0 < length (decimal n)
 decimal_some n h = (spells n (omega arith)).some
 
--- a number stands first where its spelling does
+-- a number stands first if its spelling does
 pub first-number : (n : ℕ) (rest : List ℕ) → n < 2 ^ 32 → stops is_alphanumeric rest → first (decimal n ++ rest) ≡ Found (tok.Num n) (length (decimal n))
 first-number n rest h k = first-digits n (decimal n) rest h (spells n (omega arith)) k
 

@@ -25,7 +25,7 @@ by_step (Byte b) rest = behind (b ∷ []) 1 (rest Plain)
 by_step (Into at) rest = behind [] 1 (rest at)
 by_step Fault rest = None
 
--- the text that bytes spell up to the closing quote; none where a byte may not stand, or nothing closes it
+-- the text that bytes spell up to the closing quote; none if a byte may not stand, or nothing closes it
 abbrev pub quoted : Place → List ℕ → Option Text
 quoted at [] = None
 quoted at (b ∷ bytes) = by_step (step_of at b) (λ next. quoted next bytes)

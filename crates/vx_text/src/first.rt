@@ -130,7 +130,7 @@ fn quote(alloc: Global, bytes: &[u8]) -> Result<First, NoMemory>
     }
 }
 
-// What stands first, where it is no quoted text.
+// What stands first, if it is no quoted text.
 fn unquoted(b: u8, bytes: &[u8]) -> First
     requires { 0 < length bytes.now }
     ensures { result ≡ spec.unquoted b bytes.now }

@@ -62,7 +62,7 @@ fn step_of(place: Place, b: u8) -> Step
     }
 }
 
-/// The text behind an opening quote, and None where a byte may not stand in it or nothing closes it.
+/// The text behind an opening quote, and None if a byte may not stand in it or nothing closes it.
 pub fn quoted_text(alloc: Global, bytes: &[u8]) -> Result<Option<Text>, NoMemory>
     ensures text { IfOk result (λ text. text ≡ spec.quoted_text bytes.now) }
     ensures within { IfOk result (λ text. spec.EndsWithin bytes.now text) }

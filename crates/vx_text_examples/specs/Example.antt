@@ -27,7 +27,7 @@ use Rattle.vx_check.specs.declared.verdict.Verdict.TheVariants.{Bad, Complete, P
 abbrev pub calling : Service → Arg → Arg → Call
 calling service a b = record { service = service; args = record { a0 = a; a1 = b; a2 = Unused; a3 = Unused; a4 = Unused; a5 = Unused; a6 = Unused; a7 = Unused; a8 = Unused } }
 
--- the process P of image MAIN, with each key as it is where its line names none
+-- the process P of image MAIN, with each key as it is if its line names none
 abbrev pub usual_process : ProcDecl
 usual_process = record {
   name = codes "P";

@@ -36,7 +36,7 @@ first_there {A} p (Some b ∷ places) (suc i) a e passes before =
     let put : List A → List A = λ xs. b ∷ xs in
     record { found = rw fails rest.found; without = rw fails (ap put rest.without); changed = λ f. rw fails (ap put (rest.changed f)) }
 
--- where none passes, none is found
+-- if none passes, none is found
 pub record IsNowhere {A : Type 0} (p : A → Bool) (places : List (Option A)) : Type 0 where
   pub found : None ≡ find p (entries places)
   pub without : entries places ≡ less p (entries places)

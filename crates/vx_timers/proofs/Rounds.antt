@@ -26,7 +26,7 @@ lesser_assoc (Some a) (Some b) (Some c) = lesser_three a b c
 by_lesser_two : (now a b : ℕ) → is_by now (lesser_of (Some a) (Some b)) ≡ (nat_le a now || nat_le b now)
 by_lesser_two now a b = grind (arith, nat_tests)
 
--- the lesser of two has come where one of them has
+-- the lesser of two has come if one of them has
 by_lesser : (now : ℕ) (a b : Option ℕ) → is_by now (lesser_of a b) ≡ (is_by now a || is_by now b)
 by_lesser now None b = refl
 by_lesser now (Some a) None = sym (or-false (nat_le a now))
@@ -102,7 +102,7 @@ winners_set times i a h =
 
 -- The first that has come.
 
--- where neither of two has come, this one has not
+-- if neither of two has come, this one has not
 neither : (now : ℕ) (times : List (Option ℕ)) (k : ℕ) → is_by now (at (winners times) (k / 2)) ≡ false → is_by now (at times k) ≡ false
 neither now times k e =
     let h = k / 2 in
@@ -150,6 +150,6 @@ first_right now times h e left =
       | inr last ↦ let same : 2 * h ≡ k = omega (arith, last, before) in subst P same left
     ])
 
--- The next round, where there is one.
+-- The next round, if there is one.
 pub next_is : {X : Type 0} (times : List (Option ℕ)) (value : X → List (Option ℕ)) (o : Option X) (x : X) → o ≡ Some x → IfSome o (λ b. IsNext times (value b)) → IsNext times (value x)
 next_is {X} times value o x e h = let P : Option X → Type 0 = λ o. IfSome o (λ b. IsNext times (value b)) in subst P e h

@@ -1,7 +1,7 @@
 -- Times, each of which may be missing, and the lesser of each two.
 use Rattle.std.specs.Prelude.{ℕ, ◌≡◌, ◌<◌, Bool, false, Option, Some, None, List, [], ◌∷◌, length, nat_le, if◌then◌else◌}
 
--- the lesser of two times, where each may be missing
+-- the lesser of two times, if each may be missing
 abbrev pub lesser_of : Option ℕ → Option ℕ → Option ℕ
 lesser_of None b = b
 lesser_of (Some a) None = Some a

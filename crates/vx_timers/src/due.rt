@@ -12,7 +12,7 @@ use vx_base::{Duplicate, Id, Mode, NoMemory, Pid, Routine, Same};
 /// What happens when an entry falls due.
 #[derive(Drop)]
 pub enum What<R> {
-    /// A timer: its event flag, the identification that it can be cancelled by (0 where it has none), its mode, and its AST
+    /// A timer: its event flag, the identification that it can be cancelled by (0 if it has none), its mode, and its AST
     /// routine if it has one.
     Timer {
         efn: u32,
@@ -20,7 +20,7 @@ pub enum What<R> {
         mode: Mode,
         routine: Option<R>,
     },
-    /// A wake of a process, and again after so many ticks where these are not 0.
+    /// A wake of a process, and again after so many ticks if these are not 0.
     Wake {
         target: Pid,
         repeat: u32,
@@ -32,7 +32,7 @@ pub enum What<R> {
 pub enum Falls {
     /// A timer sets an event flag.
     Timer(u32),
-    /// A wake wakes a process, and again after so many ticks where these are not 0.
+    /// A wake wakes a process, and again after so many ticks if these are not 0.
     Wake(Pid, u32),
 }
 

@@ -53,7 +53,7 @@ module _ {E : Type 0} where
     pub spent : v.parts ≡ 0 → (v.own ≡ []) × (v.gathered ≡ [])
 
 module _ {T E : Type 0} (history : T → List E) where
-  -- the value at home has the history; where it is out, the head of the queue is inside
+  -- the value at home has the history; if it is out, the head of the queue is inside
   abbrev pub IsHome : List ℕ → List (View E) → List E → Place (Option T) → Type 0
   IsHome queue views log none = (i : ℕ) × (v : View E) × (t : ℕ) × (get_elem? queue 0 ≡ some i) × (get_elem? views i ≡ some v) × (v.stage ≡ Inside t)
   IsHome queue views log (some None) = ⊥

@@ -33,7 +33,7 @@ impl AnyUnit {
         }
     }
 
-    /// The same unit again, with its pending service, and ready where it was.
+    /// The same unit again, with its pending service, and ready if it was.
     pub fn duplicate(&self) -> Result<AnyUnit, NoMemory>
         ensures { IfOk result (λ copy. seen copy ≡ seen self.now) }
     {

@@ -65,7 +65,7 @@ impl BlockUnit {
         })
     }
 
-    /// The same unit again, with its pending service, and ready where it was.
+    /// The same unit again, with its pending service, and ready if it was.
     pub fn duplicate(&self) -> Result<BlockUnit, NoMemory>
         ensures { IfOk result (λ copy. copy ≡ self.now) }
     {

@@ -69,7 +69,7 @@ impl LineUnit {
         })
     }
 
-    /// The same unit again, with its pending service, and ready where it was. The lines that were read are not copied.
+    /// The same unit again, with its pending service, and ready if it was. The lines that were read are not copied.
     pub fn duplicate(&self) -> Result<LineUnit, NoMemory>
         ensures { IfOk result (λ copy. copy ≡ self.now) }
     {
@@ -135,7 +135,7 @@ pub fn is_in(numbers: &[u32], number: u32) -> bool
     numbers.iter().any(|n| *n == number)
 }
 
-/// Room for a transfer again, where there is some.
+/// Room for a transfer again, if there is some.
 pub(crate) fn duplicate_buffer(
     alloc: Global,
     buffer: &Option<Buffer>,

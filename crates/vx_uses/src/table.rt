@@ -18,7 +18,7 @@ fn begins_call(tokens: &[Token]) -> bool
     }
 }
 
-// The call of a line in full, and nothing where the line is none.
+// The call of a line in full, and nothing if the line is none.
 fn in_full(alloc: Global, line: &str) -> Result<Bytes, NoMemory> {
     let line = line.as_bytes();
     if line.len() > 1000 {

@@ -8,7 +8,7 @@ use Rattle.vx_words.specs.declared.crew.Crew.{Crew}
 abbrev pub cpus_option : Numbered
 cpus_option = record { name = codes "--cpus"; least = 1; most = 16; usual = 4 }
 
--- `run`: 4 threads and 10,000 records, where nothing else is given
+-- `run`: 4 threads and 10,000 records, if nothing else is given
 
 abbrev pub crew_with : ℕ × ℕ → Crew
 crew_with n = record { cpus = n.0; limit = n.1 }

@@ -19,7 +19,7 @@ limit_option usual = record { name = codes "--limit"; least = 1; most = 100000; 
 abbrev pub seed_option : Numbered
 seed_option = record { name = codes "--seed"; least = 0; most = 18446744073709551615; usual = 0 }
 
--- `sim`: seed 0 and 10,000 records, where nothing else is given
+-- `sim`: seed 0 and 10,000 records, if nothing else is given
 
 abbrev pub options_of : ℕ × ℕ → Options
 options_of n = record { seed = n.0; limit = n.1 }
@@ -49,7 +49,7 @@ picks_in _ = None
 abbrev pub states_option : Numbered
 states_option = record { name = codes "--states"; least = 1; most = 10000000; usual = 100000 }
 
--- `explore`: 30 records and 100,000 states, where nothing else is given
+-- `explore`: 30 records and 100,000 states, if nothing else is given
 
 abbrev pub scope_of : ℕ × ℕ → Scope
 scope_of n = record { limit = n.0; states = n.1 }
